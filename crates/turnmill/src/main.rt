@@ -1,0 +1,4 @@
+//! Checks the part programs of a multi-channel turn-mill machine for clashes.
+#![tactic(auto)]
+
+fn main() {}
