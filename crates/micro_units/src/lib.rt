@@ -45,6 +45,12 @@ impl Model for Um {
     ghost inverse = { λ z. record { micrometres = z } };
 }
 
+impl Default for Um {
+    fn default() -> Um {
+        Um { micrometres: 0 }
+    }
+}
+
 /// Why a number can't be had.
 #[derive(Clone, Copy, Debug, PartialEq, Eq, Error)]
 pub enum NumFault {
