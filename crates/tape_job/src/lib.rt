@@ -1,2 +1,12 @@
 //! The job list and the programs behind it, read from the bytes of the input.
 #![tactic(auto)]
+
+mod fault;
+mod ids;
+mod job;
+mod name;
+
+pub use fault::JobFault;
+pub use ids::{ChannelId, ZoneId};
+pub use job::{AxisLine, Block, ChannelLine, GeoLine, Job, Program, Side, Stmt, ZoneLine};
+pub use name::NameText;

@@ -1,0 +1,20 @@
+-- What a contract sees of a job and of a program.
+use Rattle.std.specs.Prelude.{ℕ, List}
+use Rattle.tape_job.specs.declared.job.ChannelLine.{ChannelLine}
+use Rattle.tape_job.specs.declared.job.AxisLine.{AxisLine}
+use Rattle.tape_job.specs.declared.job.GeoLine.{GeoLine}
+use Rattle.tape_job.specs.declared.job.ZoneLine.{ZoneLine}
+use Rattle.tape_job.specs.declared.job.Block.{Block}
+
+-- a program: the line of its header, and its blocks
+pub record ProgramView : Type 0 where
+  pub line : ℕ
+  pub blocks : List Block
+
+-- a job: what its lines declare, and its programs under their names, in the order of the input
+pub record JobView : Type 0 where
+  pub channels : List ChannelLine
+  pub axes : List AxisLine
+  pub geo : List GeoLine
+  pub zones : List ZoneLine
+  pub programs : List (List ℕ × ProgramView)

@@ -1,0 +1,144 @@
+//! A job: what its lines declare, and its programs.
+use crate::{ChannelId, NameText, ZoneId};
+use indexmap::IndexMap;
+use micro_units::Um;
+use std::marker::Model;
+use swept_boxes::AxisId;
+
+/// An accepted job: the lines of its job list in their order, and its library of programs in the order of the input.
+#[derive(Debug, Drop)]
+pub struct Job {
+    /// The channels.
+    pub channels: Vec<ChannelLine>,
+    /// The axes; an axis is named by its place here.
+    pub axes: Vec<AxisLine>,
+    /// The slots of the channels.
+    pub geo: Vec<GeoLine>,
+    /// The protection zones.
+    pub zones: Vec<ZoneLine>,
+    /// The programs by their names.
+    pub programs: IndexMap<NameText, Program>,
+}
+
+impl Model for Job {
+    ghost use Rattle.tape_job.specs.Job.{JobView};
+
+    ghost Value = { JobView };
+
+    ghost view = { λ j. record {
+      channels = j.channels.items;
+      axes = j.axes.items;
+      geo = j.geo.items;
+      zones = j.zones.items;
+      programs = j.programs.entries;
+    } };
+}
+
+/// A CHANNEL line.
+#[derive(Debug, Drop)]
+pub struct ChannelLine {
+    /// The line of the input, counted from 1.
+    pub line: u32,
+    /// The channel that it declares.
+    pub channel: ChannelId,
+    /// The name of the selected program, at most its first 32 bytes.
+    pub program: Option<NameText>,
+    /// Whether the channel starts running.
+    pub starts: bool,
+}
+
+/// An AXIS line.
+#[derive(Clone, Copy, Debug, PartialEq, Eq)]
+pub struct AxisLine {
+    /// The line of the input, counted from 1.
+    pub line: u32,
+    /// The letter of the axis' name, in upper case.
+    pub letter: u8,
+    /// The number of the axis' name, 1 to 99.
+    pub number: u8,
+    /// The channel that owns the axis at the start, or none.
+    pub owner: Option<ChannelId>,
+    /// The position at the start.
+    pub at: Um,
+}
+
+/// A GEO line: an axis stands in a slot of a channel.
+#[derive(Clone, Copy, Debug, PartialEq, Eq)]
+pub struct GeoLine {
+    /// The line of the input, counted from 1.
+    pub line: u32,
+    /// The channel.
+    pub channel: ChannelId,
+    /// The slot: 0 for X, 1 for Y, 2 for Z.
+    pub slot: u8,
+    /// The axis.
+    pub axis: AxisId,
+}
+
+/// A ZONE line.
+#[derive(Clone, Copy, Debug, PartialEq, Eq)]
+pub struct ZoneLine {
+    /// The line of the input, counted from 1.
+    pub line: u32,
+    /// The zone that it declares.
+    pub zone: ZoneId,
+    /// Its group, 1 to 32; zones of one group are not compared.
+    pub group: u8,
+    /// The channel that holds it, or none.
+    pub holder: Option<ChannelId>,
+    /// Whether it is on at the start.
+    pub on: bool,
+    /// Its three directions.
+    pub sides: [Side; 3],
+}
+
+/// A direction of a zone: a range that an axis carries, or that stands still.
+#[derive(Clone, Copy, Debug, PartialEq, Eq)]
+pub struct Side {
+    /// The axis that carries it, with true where it goes against the axis.
+    pub carrier: Option<(AxisId, bool)>,
+    /// The lower end, as seen from the carrier.
+    pub lo: Um,
+    /// The upper end.
+    pub hi: Um,
+}
+
+/// A program.
+#[derive(Debug, Drop)]
+pub struct Program {
+    /// The line of its header, counted from 1.
+    pub line: u32,
+    /// Its blocks.
+    pub blocks: Vec<Block>,
+}
+
+impl Model for Program {
+    ghost use Rattle.tape_job.specs.Job.{ProgramView};
+
+    ghost Value = { ProgramView };
+
+    ghost view = { λ p. record { line = p.line; blocks = p.blocks.items } };
+}
+
+/// A block of a program.
+#[derive(Clone, Copy, Debug, PartialEq, Eq)]
+pub struct Block {
+    /// The line of the input, counted from 1.
+    pub line: u32,
+    /// What it says.
+    pub stmt: Stmt,
+}
+
+/// What a block says.
+#[derive(Clone, Copy, Debug, PartialEq, Eq)]
+pub enum Stmt {
+    /// A move along a straight line, at rapid or at feed, to the given ends; a slot without an end keeps its position.
+    Move {
+        /// The end of slot X, in workpiece coordinates.
+        x: Option<Um>,
+        /// The end of slot Z.
+        z: Option<Um>,
+    },
+    /// The end of the program.
+    End,
+}
