@@ -1,4 +1,7 @@
 //! Checks the part programs of a multi-channel turn-mill machine for clashes.
 #![tactic(auto)]
 
+mod channels;
+mod stretches;
+
 fn main() {}
