@@ -113,7 +113,7 @@ start_beyond job axis beyond = rw (beyond_list job.axes axis beyond) refl
     beyond_list (line ∷ lines) (suc axis) h = beyond_list lines axis (omega arith)
 
 -- one number is not above another, or it is
-le_or_lt : (a b : ℕ) → (a ≤ b) ⊎ (b < a)
+pub le_or_lt : (a b : ℕ) → (a ≤ b) ⊎ (b < a)
 le_or_lt a b = grind arith
 
 -- a row of all axes, each where the job puts it
