@@ -50,7 +50,7 @@ pub struct Alarm {
     pub line: u32,
 }
 
-/// What the refusal of this code says.
+/// What the refusal of this code says. The codes are 1 to 12, 20 to 27 and 40 to 60.
 #[tactic(auto, unfolding(crate::specs::Texts::IsRefusalCode, crate::specs::Texts::refusal_text_of, crate::specs::Texts::refusal_texts))]
 pub fn refusal_text(code: u16) -> &'static str
     requires { IsRefusalCode code }
@@ -102,7 +102,7 @@ pub fn refusal_text(code: u16) -> &'static str
     }
 }
 
-/// What the alarm of this code says.
+/// What the alarm of this code says. The codes are 1 to 33.
 #[tactic(auto, unfolding(crate::specs::Texts::IsAlarmCode, crate::specs::Texts::alarm_text_of, crate::specs::Texts::alarm_texts))]
 pub fn alarm_text(code: u16) -> &'static str
     requires { IsAlarmCode code }
