@@ -2,3 +2,7 @@ pub mod Channels
 pub mod ZoneBoxes
 pub mod Stretches
 pub mod Clash
+pub mod SoundJob
+pub mod Paths
+pub mod SmallSteps
+pub mod Safety
