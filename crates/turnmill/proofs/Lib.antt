@@ -1,1 +1,3 @@
 pub mod SomeLemmas
+pub mod PositionLemmas
+pub mod BoxLemmas
