@@ -1,3 +1,5 @@
 pub mod SomeLemmas
 pub mod PositionLemmas
 pub mod BoxLemmas
+pub mod PieceLemmas
+pub mod ZoneLemmas
