@@ -3,3 +3,4 @@ pub mod PositionLemmas
 pub mod BoxLemmas
 pub mod PieceLemmas
 pub mod ZoneLemmas
+pub mod PairLemmas
