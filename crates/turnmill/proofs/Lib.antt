@@ -4,3 +4,4 @@ pub mod BoxLemmas
 pub mod PieceLemmas
 pub mod ZoneLemmas
 pub mod PairLemmas
+pub mod StateLemmas

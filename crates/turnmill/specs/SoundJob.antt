@@ -26,7 +26,6 @@ pub record IsSoundZone (job : JobView) (zone : ZoneLine) : Type 0 where
 
 pub record IsSoundJob (job : JobView) : Type 0 where
   pub zone_numbers : AllPairs (λ zone other. zone.zone ≢ other.zone) job.zones
-  pub one_zone_each : AllPairs (λ zone other. zone.holder ≢ other.holder) job.zones
   pub zones : All (IsSoundZone job) job.zones
   pub owners : All (λ line. IsSomeAnd line.owner (IsDeclared job)) job.axes
   pub slots : All (λ g. first_owner job g.axis ≡ Some g.channel) job.geo
