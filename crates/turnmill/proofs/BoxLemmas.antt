@@ -221,3 +221,9 @@ box_covers zone n at items joins (suc m) point there = by_item (slice_get items 
     by_item (Some item) found on =
         let some : 0 < point.under = fraction_of item.motion on.path in
         (some, at_motion zone n point some 1 (Waiting 0 at) at items joins (λ axis has. refl) (omega arith) m (suc m) (omega arith) item found on)
+
+-- the one box of a zone whose holder stands covers it
+pub standing_covers : (zone : ZoneLine) (at : ℕ → ℤ) (point : Point) → ((axis : ℕ) → has_axis zone axis ≡ true → StandsAt point axis (at axis))
+    → SomeOf (Covers zone 0 point) (boxes_of zone at [])
+unfolding boxes_of
+standing_covers zone at point stands = inl (record { from = omega arith; upto = omega arith; covered = stands })

@@ -5,3 +5,4 @@ pub mod PieceLemmas
 pub mod ZoneLemmas
 pub mod PairLemmas
 pub mod StateLemmas
+pub mod Soundness

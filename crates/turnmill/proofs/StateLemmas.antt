@@ -24,7 +24,7 @@ pub record IsPlaced (job : JobView) (channel : ℕ) (spot : Spot) : Type 0 where
 abbrev pub WellPlaced : JobView → State → Type 0
 WellPlaced job state = (channel : ℕ) → IfSome (state.spots channel) (IsPlaced job channel)
 
-not_ended : (job : JobView) (state : State) (channel : ℕ) → IsTrue (is_running job state channel) → has_ended state channel ≡ false
+pub not_ended : (job : JobView) (state : State) (channel : ℕ) → IsTrue (is_running job state channel) → has_ended state channel ≡ false
 unfolding is_running
 not_ended job state channel running = by_line (channel_line job channel) running
   where
@@ -36,19 +36,19 @@ not_ended job state channel running = by_line (channel_line job channel) running
     by_line None e = absurd cc
     by_line (Some line) e = by_ended line.starts (has_ended state channel) e
 
-first_span_of : (state : State) (channel : ℕ) → has_ended state channel ≡ false → span_of state channel ≡ 0
+pub first_span_of : (state : State) (channel : ℕ) → has_ended state channel ≡ false → span_of state channel ≡ 0
 unfolding has_ended
 first_span_of state channel e = let none = ltb-false 0 (span_of state channel) e in omega arith
 
-later_span_of : (state : State) (channel : ℕ) → has_ended state channel ≡ true → 0 < span_of state channel
+pub later_span_of : (state : State) (channel : ℕ) → has_ended state channel ≡ true → 0 < span_of state channel
 unfolding has_ended
 later_span_of state channel e = ltb-true 0 (span_of state channel) e
 
-board_first : (job : JobView) (state : State) (channel : ℕ) → has_ended state channel ≡ false → board_position job state channel ≡ start_position job
+pub board_first : (job : JobView) (state : State) (channel : ℕ) → has_ended state channel ≡ false → board_position job state channel ≡ start_position job
 unfolding board_position
 board_first job state channel e = rw e refl
 
-board_last : (job : JobView) (state : State) (channel : ℕ) → has_ended state channel ≡ true → board_position job state channel ≡ left_at (motions_of job channel) (start_position job)
+pub board_last : (job : JobView) (state : State) (channel : ℕ) → has_ended state channel ≡ true → board_position job state channel ≡ left_at (motions_of job channel) (start_position job)
 unfolding board_position
 board_last job state channel e = rw e refl
 
@@ -80,7 +80,7 @@ WellPlaced-opening job = λ channel. tt
 
 -- ---- where channels are
 
-one_under : (z : ℤ) → z ≡ z *ℤ pos 1
+pub one_under : (z : ℤ) → z ≡ z *ℤ pos 1
 one_under z = omega (arith, ints)
 
 -- a channel that has not ended is at a place of its run, and at a point there
