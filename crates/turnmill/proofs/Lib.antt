@@ -5,4 +5,6 @@ pub mod PieceLemmas
 pub mod ZoneLemmas
 pub mod PairLemmas
 pub mod StateLemmas
+pub mod OwnerLemmas
 pub mod Soundness
+pub mod NoJumps

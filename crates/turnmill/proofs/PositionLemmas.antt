@@ -59,7 +59,7 @@ left_at-cons item items at axis =
 -- ---- the ends of a block's motion
 
 -- the ends of the axes from `low` on, n in number, to which `end` gives an end
-abbrev ends_from : (ℕ → ℤ) → (ℕ → Option ℤ) → ℕ → ℕ → List (ℕ × ℤ × ℤ)
+abbrev pub ends_from : (ℕ → ℤ) → (ℕ → Option ℤ) → ℕ → ℕ → List (ℕ × ℤ × ℤ)
 ends_from start end low n = filter_map (λ axis. option_map (λ to. (axis, start axis, to)) (end axis)) (range_with_len low n)
 
 find_below : (start : ℕ → ℤ) (end : ℕ → Option ℤ) (low n axis : ℕ) → axis < low → find (λ e. e.0 == axis) (ends_from start end low n) ≡ None
@@ -87,7 +87,7 @@ find_within start end low (suc n) axis above within = by_order (cases_eq low axi
     by_order (inl same) rest = subst (λ a. find (λ e. e.0 == a) (ends_from start end low (suc n)) ≡ option_map (λ to. (a, start a, to)) (end a)) same (here (end low))
     by_order (inr other) rest = past (end low) other ∙ rest (omega arith) (omega arith)
 
-ends_all : (P : ℕ × ℤ × ℤ → Type 0) (start : ℕ → ℤ) (end : ℕ → Option ℤ) (low n : ℕ)
+pub ends_all : (P : ℕ × ℤ × ℤ → Type 0) (start : ℕ → ℤ) (end : ℕ → Option ℤ) (low n : ℕ)
     → ((axis : ℕ) (to : ℤ) → axis < low + n → end axis ≡ Some to → P (axis, start axis, to)) → All P (ends_from start end low n)
 ends_all P start end low zero each = All-nil P
 ends_all P start end low (suc n) each = by_end (end low) refl (ends_all P start end (low + 1) n (λ axis to within is. each axis to (omega arith) is))

@@ -15,6 +15,7 @@ use Rattle.tape_job.specs.declared.job.ChannelLine.{ChannelLine}
 use Rattle.tape_job.specs.declared.job.Side.{Side}
 use Rattle.tape_job.specs.declared.job.ZoneLine.{ZoneLine}
 use Rattle.turnmill.proofs.BoxLemmas.{Covers, box_covers, standing_covers}
+use Rattle.turnmill.proofs.OwnerLemmas.{one_owner}
 use Rattle.turnmill.proofs.PairLemmas.{is_in_order, some_zone_pair, IsCurrent, IsCut-own_clock, HasBox, some_box_pair, pair_is}
 use Rattle.turnmill.proofs.PieceLemmas.{AxesWithin, some_piece}
 use Rattle.turnmill.proofs.PositionLemmas.{AllJoin, AllJoin-items_after, left_at-items_after}
@@ -202,3 +203,13 @@ zones_meet_in_pair job sound state placed zone other in_job in_job' apart (point
     compared left right here there =
         some_box_pair own_clock (span_of state) (IsCut-own_clock (span_of state)) job left right (InPiece left) (InPiece right) (λ pair. pair_meets job pair ≡ true)
         (λ stretch later box next q r. pair_is job (record { zone = left; stretch = stretch; box = box }, record { zone = right; stretch = later; box = next }) point q r) here there
+
+-- at YES no two zones of different groups meet in any state that a list of small steps reaches, and each axis has one owner there
+pub sound_at_all_speeds : (job : JobView) → IsSoundJob job → verdict_of job ≡ Yes → SafeAlways job
+unfolding NoneMeet
+sound_at_all_speeds job sound says = record {
+  one_owner = λ steps lawful. one_owner job sound (reached opening steps);
+  none_meet = λ steps lawful zone other in_job in_job' apart on on' meet.
+      none_found (pair_meets job) (compared_pairs job) (no_pair_meets job says)
+      (zones_meet_in_pair job sound (reached opening steps) (well_placed job opening steps (WellPlaced-opening job) lawful) zone other in_job in_job' apart meet);
+}

@@ -1,0 +1,1 @@
+-- No axis jumps.
