@@ -5,7 +5,7 @@ use Rattle.std.specs.Prelude.{ℤ, pos, ◌-ℤ◌, ◌*ℤ◌, ◌≤ℤ◌, �
 use Rattle.number_laws.proofs.Integers.{≤ℤ_or, nonneg-pos, times_mono, times_cancel}
 use Rattle.number_laws.proofs.Ring.{num, var, minus, times, ring}
 use Rattle.number_laws.proofs.Orders.{some, given, both, by, all_of, refute}
-use Rattle.number_laws.specs.Fractions.{Fraction, IsAtMost, IsSame, IsIn}
+use Rattle.number_laws.specs.Fractions.{Fraction, IsAtMost, IsSame, IsIn, whole}
 
 pub at_most_refl : (p : Fraction) → IsAtMost p p
 at_most_refl p = omega (arith, ints)
@@ -66,12 +66,12 @@ swapped : (a b c : ℤ) → (a *ℤ b) *ℤ c ≡ (a *ℤ c) *ℤ b
 swapped a b c = ring (a ∷ b ∷ c ∷ []) (times (times (var 0) (var 1)) (var 2)) (times (times (var 0) (var 2)) (var 1)) tt
 
 -- a fraction that is the same as one within whole bounds is within them
-pub in_from_same : (low high top under : ℤ) (m n : ℕ) → 0 < m → top *ℤ pos n ≡ under *ℤ pos m → IsIn low high top m → IsIn low high under n
-in_from_same low high top under m n above same within =
+pub in_from_same : (low high top other : ℤ) (m n : ℕ) → 0 < m → top *ℤ pos n ≡ other *ℤ pos m → IsIn low high top m → IsIn low high other n
+in_from_same low high top other m n above same within =
     record {
-      above = times_cancel m (low *ℤ pos n) under above
+      above = times_cancel m (low *ℤ pos n) other above
           (omega (arith, ints, times_mono n (low *ℤ pos m) top within.above, swapped low (pos m) (pos n)));
-      below = times_cancel m under (high *ℤ pos n) above
+      below = times_cancel m other (high *ℤ pos n) above
           (omega (arith, ints, times_mono n top (high *ℤ pos m) within.below, swapped high (pos m) (pos n)));
     }
 
@@ -81,3 +81,8 @@ at_most_total p q = either (≤ℤ_or (p.top *ℤ pos q.under) (q.top *ℤ pos p
     either : IsAtMost p q ⊎ ((q.top *ℤ pos p.under) <ℤ (p.top *ℤ pos q.under)) → IsAtMost p q ⊎ IsAtMost q p
     either (inl h) = inl h
     either (inr less) = inr (omega (arith, ints))
+
+pub whole_through : (low high : ℤ) (p q : Fraction) → 0 < p.under → 0 < q.under
+    → IsAtMost (whole low) p → IsAtMost p q → IsAtMost q (whole high) → low ≤ℤ high
+whole_through low high p q some_p some_q l between h =
+    through low p.top q.top high (pos p.under) (pos q.under) (omega (arith, ints)) (omega (arith, ints)) (omega (arith, ints)) between (omega (arith, ints))

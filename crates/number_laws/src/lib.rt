@@ -5,7 +5,7 @@
 
 ghost use Rattle.std.specs.Prelude.{ℤ, ◌<◌, ◌⊎◌, ◌≤ℤ◌};
 ghost use Rattle.number_laws.specs.Floors.{floor_div, ceil_div};
-ghost use Rattle.number_laws.specs.Fractions.{Fraction, IsAtMost, IsSame, whole};
+ghost use Rattle.number_laws.specs.Fractions.{Fraction, IsAtMost, IsIn, IsSame, whole};
 
 /// Rounding down gives the greatest whole number that is at most the fraction, and rounding up the least that is at least it.
 pub fn rounding_is_tight()
@@ -23,4 +23,12 @@ pub fn fractions_are_ordered()
     ensures transitive { (p q r : Fraction) → 0 < q.under → IsAtMost p q → IsAtMost q r → IsAtMost p r }
     ensures antisymmetric { (p q : Fraction) → IsAtMost p q → IsAtMost q p → IsSame p q }
     ensures total { (p q : Fraction) → IsAtMost p q ⊎ IsAtMost q p }
+{}
+
+/// Whole bounds hold a fraction however it is written, and whole bounds that a row of fractions leads between are in order.
+pub fn whole_bounds_hold_fractions()
+    ensures same { (low high : ℤ) (p q : Fraction) → 0 < p.under → IsSame p q → IsIn low high p.top p.under
+        → IsIn low high q.top q.under }
+    ensures through { (low high : ℤ) (p q : Fraction) → 0 < p.under → 0 < q.under
+        → IsAtMost (whole low) p → IsAtMost p q → IsAtMost q (whole high) → low ≤ℤ high }
 {}
