@@ -5,4 +5,3 @@ pub mod Motions
 pub mod Path
 pub mod Pieces
 pub mod Ranges
-pub mod Pieces
