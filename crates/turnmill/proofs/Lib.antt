@@ -8,3 +8,5 @@ pub mod StateLemmas
 pub mod OwnerLemmas
 pub mod Soundness
 pub mod NoJumps
+pub mod Ranges
+pub mod Positions

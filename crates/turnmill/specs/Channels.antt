@@ -1,7 +1,8 @@
 -- What a channel does: the blocks that it executes, the motions that they make, and where its axes stand.
-use Rattle.std.specs.Prelude.{ℕ, ℤ, pos, ◌+◌, ◌==◌, ◌&&◌, Bool, true, false, if◌then◌else◌, List, [], ◌∷◌, ◌++◌, length, Option, None, Some, unwrap_or, find, slice_get}
+use Rattle.std.specs.Prelude.{◌≡◌, ◌<◌, ℕ, ℤ, pos, ◌==◌, ◌&&◌, Bool, true, false, if◌then◌else◌, List, [], ◌∷◌, ◌++◌, length, Option, None, Some, unwrap_or, find, slice_get, slice_index_or}
 use Rattle.std.specs.List.{filter_map, range_with_len, last_or, cons_option, list_any}
 use Rattle.std.specs.Option.{option_map, option_map_or, option_and_then}
+use Rattle.std.specs.Map.{lookup}
 use Rattle.std.specs.Str.{bytes_eq}
 use Rattle.swept_boxes.specs.declared.Motion.{Motion}
 use Rattle.swept_boxes.specs.declared.Motion.TheVariants.{Line}
@@ -14,7 +15,7 @@ use Rattle.turnmill.specs.declared.channels.Item.{Item}
 
 -- the program of this name
 abbrev pub program_named : JobView → List ℕ → Option ProgramView
-program_named job name = option_map (λ p. p.1) (find (λ p. bytes_eq p.0 name) job.programs)
+program_named job name = lookup (bytes_eq name) job.programs
 
 -- the blocks of the program that a CHANNEL line selects
 unfoldable pub blocks_of : JobView → ChannelLine → List Block
@@ -37,22 +38,31 @@ start_position job axis = option_map_or (λ line. line.at) (slice_get job.axes a
 unfoldable pub position_after : JobView → ℕ → List Block → ℕ → ℤ
 position_after job channel blocks axis = unwrap_or (last_or None (filter_map (λ block. programmed job channel block.stmt axis) blocks)) (start_position job axis)
 
--- the ends of the motion that a block makes after these blocks, in the order of the AXIS lines: each axis that it programs, from where it stands to the programmed position
-unfoldable pub ends_after : JobView → ℕ → List Block → Stmt → List (ℕ × ℤ × ℤ)
-ends_after job channel before stmt = filter_map (λ axis. option_map (λ end. (axis, position_after job channel before axis, end)) (programmed job channel stmt axis)) (range_with_len 0 (length job.axes))
+-- an axis that a statement programs, from where it stands to the programmed position
+unfoldable pub end_from : JobView → ℕ → (ℕ → ℤ) → Stmt → ℕ → Option (ℕ × ℤ × ℤ)
+end_from job channel at stmt axis = option_map (λ end. (axis, at axis, end)) (programmed job channel stmt axis)
 
--- the motion of a block after these blocks; the program end makes none
-unfoldable pub item_after : JobView → ℕ → List Block → Block → Option Item
-item_after job channel before block = item_by block.line (ends_after job channel before block.stmt) block.stmt
+-- a row of positions, one for each AXIS line, says where the axes stand after these blocks
+abbrev pub StandsAfter : JobView → ℕ → List Block → List ℤ → Type 0
+StandsAfter job channel blocks at = (axis : ℕ) → axis < length job.axes → slice_index_or at axis (pos 0) ≡ position_after job channel blocks axis
+
+-- the ends of the motion that a statement makes from where the axes stand, in the order of the AXIS lines
+unfoldable pub ends_from : JobView → ℕ → (ℕ → ℤ) → Stmt → List (ℕ × ℤ × ℤ)
+ends_from job channel at stmt = filter_map (end_from job channel at stmt) (range_with_len 0 (length job.axes))
+
+-- the motion that a block makes from where the axes stand; the program end makes none
+unfoldable pub item_from : JobView → ℕ → (ℕ → ℤ) → Block → Option Item
+item_from job channel at block = item_by block.line (ends_from job channel at block.stmt) block.stmt
   where
     item_by : ℕ → List (ℕ × ℤ × ℤ) → Stmt → Option Item
     item_by line ends (Move x z) = Some (record { line = line; motion = Line (record { axes = ends }) })
     item_by line ends End = None
 
--- the motions of the blocks, each after those before it
+-- the motions of the blocks, each from where the blocks before it leave the axes
 abbrev pub items_after : JobView → ℕ → List Block → List Block → List Item
 items_after job channel before [] = []
-items_after job channel before (block ∷ blocks) = cons_option (item_after job channel before block) (items_after job channel (before ++ block ∷ []) blocks)
+items_after job channel before (block ∷ blocks) =
+    cons_option (item_from job channel (position_after job channel before) block) (items_after job channel (before ++ block ∷ []) blocks)
 
 -- the motions of a channel, in the order in which it makes them
 unfoldable pub items_of : JobView → ChannelLine → List Item

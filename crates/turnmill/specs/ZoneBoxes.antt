@@ -19,22 +19,34 @@ axes_of (Line ends) = ends.axes
 unfoldable pub after : Item → (ℕ → ℤ) → ℕ → ℤ
 after item at axis = option_map_or (λ e. e.2) (find (λ e. e.0 == axis) (axes_of item.motion)) (at axis)
 
--- the low and the high bound of a side whose axes are within low and high; a minus exchanges the two
+-- a bound that an axis carries: added to its position, or where the zone goes against the axis less its position
+abbrev pub carried : ℤ → ℤ → Bool → ℤ
+carried bound position false = bound +ℤ position
+carried bound position true = bound -ℤ position
+
+-- the low and the high bound of a direction whose axes are within low and high; where the zone goes against the axis the two change places
 abbrev pub carried_low : Option (ℕ × Bool) → ℤ → (ℕ → ℤ) → (ℕ → ℤ) → ℤ
 carried_low None lo low high = lo
-carried_low (Some (axis, false)) lo low high = lo +ℤ low axis
-carried_low (Some (axis, true)) lo low high = lo -ℤ high axis
+carried_low (Some (axis, false)) lo low high = carried lo (low axis) false
+carried_low (Some (axis, true)) lo low high = carried lo (high axis) true
 
 abbrev pub carried_high : Option (ℕ × Bool) → ℤ → (ℕ → ℤ) → (ℕ → ℤ) → ℤ
 carried_high None hi low high = hi
-carried_high (Some (axis, false)) hi low high = hi +ℤ high axis
-carried_high (Some (axis, true)) hi low high = hi -ℤ low axis
+carried_high (Some (axis, false)) hi low high = carried hi (high axis) false
+carried_high (Some (axis, true)) hi low high = carried hi (low axis) true
+
+unfoldable pub side_low : (ℕ → ℤ) → (ℕ → ℤ) → Side → ℤ
+side_low low high side = carried_low side.carrier side.lo low high
+
+unfoldable pub side_high : (ℕ → ℤ) → (ℕ → ℤ) → Side → ℤ
+side_high low high side = carried_high side.carrier side.hi low high
 
 -- the box of a zone whose axes are within low and high
-unfoldable pub zone_box : ZoneLine → (ℕ → ℤ) → (ℕ → ℤ) → Box3
-zone_box zone low high = record {
-  lo = map (λ side. carried_low side.carrier side.lo low high) zone.sides;
-  hi = map (λ side. carried_high side.carrier side.hi low high) zone.sides }
+unfoldable pub box_of : List Side → (ℕ → ℤ) → (ℕ → ℤ) → Box3
+box_of sides low high = record { lo = map (side_low low high) sides; hi = map (side_high low high) sides }
+
+abbrev pub zone_box : ZoneLine → (ℕ → ℤ) → (ℕ → ℤ) → Box3
+zone_box zone low high = box_of zone.sides low high
 
 -- the zone has this axis: one of its directions is carried by it
 abbrev pub is_carrier : ℕ → Option (ℕ × Bool) → Bool

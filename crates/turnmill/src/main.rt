@@ -3,5 +3,6 @@
 
 mod channels;
 mod stretches;
+mod zone_boxes;
 
 fn main() {}
