@@ -9,7 +9,7 @@ use Rattle.swept_boxes.specs.declared.Motion.TheVariants.{Line}
 use Rattle.tape_job.specs.declared.job.ZoneLine.{ZoneLine}
 use Rattle.turnmill.proofs.PositionLemmas.{Joins, AllJoin, after_is, left_at-nil, left_at-cons}
 use Rattle.turnmill.proofs.SomeLemmas.{SomeOf, SomeOf-append_right}
-use Rattle.turnmill.specs.Paths.{Point, IsOnPath, IsOnLine, along}
+use Rattle.swept_boxes.specs.Path.{Point, IsOnPath, IsOnLine, along}
 use Rattle.turnmill.specs.SmallSteps.{end_in, left_at, StandsAt, IsStanding, IsAlong, IsAtPlace}
 use Rattle.turnmill.specs.ZoneBoxes.{axes_of, after, has_axis, moves_zone, PlaceBox, Opened, Waiting, Moving, close, closed, next_open, walk, boxes_of}
 use Rattle.turnmill.specs.declared.channels.Item.{Item}

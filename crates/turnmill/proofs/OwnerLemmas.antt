@@ -15,7 +15,7 @@ use Rattle.tape_job.specs.declared.job.Stmt.{Stmt}
 use Rattle.tape_job.specs.declared.job.Stmt.TheVariants.{Move, End}
 use Rattle.turnmill.proofs.PositionLemmas.{ends_all}
 use Rattle.turnmill.proofs.SomeLemmas.{SomeOf, some-list_any, found_passes}
-use Rattle.turnmill.specs.Channels.{is_slot, programmed, position_after, blocks_of, ends_after, item_after, items_after, items_of}
+use Rattle.turnmill.specs.Channels.{is_slot, programmed, position_after, blocks_of, end_from, ends_from, item_from, items_after, items_of}
 use Rattle.turnmill.specs.Safety.{owner_in, OneOwner}
 use Rattle.turnmill.specs.SmallSteps.{State, is_running, motions_of}
 use Rattle.turnmill.specs.SoundJob.{IsDeclared, first_owner, IsSoundJob}
@@ -67,14 +67,14 @@ module _ (job : JobView) (sound : IsSoundJob job) (channel : ℕ) where
   HasOwnAxes item = All (λ e. first_owner job e.0 ≡ Some channel) (axes_of item.motion)
 
   own_axes : (before blocks : List Block) → All HasOwnAxes (items_after job channel before blocks)
-  unfolding item_after ends_after
+  unfolding item_from end_from ends_from
   own_axes before [] = All-nil HasOwnAxes
   own_axes before (block ∷ blocks) = by_stmt block.line block.stmt (own_axes (before ++ block ∷ []) blocks)
     where
       by_stmt : (line : ℕ) (stmt : Stmt) → All HasOwnAxes (items_after job channel (before ++ block ∷ []) blocks)
-          → All HasOwnAxes (cons_option (item_after job channel before (record { line = line; stmt = stmt })) (items_after job channel (before ++ block ∷ []) blocks))
+          → All HasOwnAxes (cons_option (item_from job channel (position_after job channel before) (record { line = line; stmt = stmt })) (items_after job channel (before ++ block ∷ []) blocks))
       by_stmt line (Move x z) rest =
-          All-cons HasOwnAxes (record { line = line; motion = Line (record { axes = ends_after job channel before (Move x z) }) }) (items_after job channel (before ++ block ∷ []) blocks)
+          All-cons HasOwnAxes (record { line = line; motion = Line (record { axes = ends_from job channel (position_after job channel before) (Move x z) }) }) (items_after job channel (before ++ block ∷ []) blocks)
           (ends_all (λ e. first_owner job e.0 ≡ Some channel) (position_after job channel before) (programmed job channel (Move x z)) 0 (length job.axes)
               (λ axis to within is. programmed_owned (Move x z) axis to is)) rest
       by_stmt line End rest = rest

@@ -5,7 +5,7 @@ use Rattle.std.proofs.lemmas.Int.{ints}
 use Rattle.std.proofs.lemmas.List.Elements.{All-head, All-tail}
 use Rattle.std.specs.Option.{option_map_or}
 use Rattle.number_laws.specs.Fractions.{IsIn}
-use Rattle.swept_boxes.specs.Pieces.{pieces_of_lem}
+use Rattle.swept_boxes.specs.Pieces.{pieces_at}
 use Rattle.swept_boxes.specs.Ranges.{RangesView}
 use Rattle.swept_boxes.specs.declared.Box3.{Box3}
 use Rattle.swept_boxes.specs.declared.Motion.{Motion}
@@ -13,7 +13,7 @@ use Rattle.swept_boxes.specs.declared.Motion.TheVariants.{Line}
 use Rattle.tape_job.specs.declared.job.ZoneLine.{ZoneLine}
 use Rattle.turnmill.proofs.BoxLemmas.{Covers, IsCovered}
 use Rattle.turnmill.proofs.SomeLemmas.{SomeOf, SomeOf-weaker, SomeOf-map, found_passes, All-found}
-use Rattle.turnmill.specs.Paths.{Point, IsOnPath}
+use Rattle.swept_boxes.specs.Path.{Point, IsOnPath}
 use Rattle.turnmill.specs.SmallSteps.{end_in, StandsAt, IsAlong}
 use Rattle.turnmill.specs.ZoneBoxes.{axes_of, has_axis, PlaceBox, zone_box, low_in, high_in, piece_boxes}
 use Rattle.turnmill.specs.declared.channels.Item.{Item}
@@ -25,7 +25,7 @@ abbrev pub Hold : RangesView → Point → Type 0
 Hold ranges point = All (λ r. IsIn r.1 r.2 (point.top r.0) point.under) ranges.axes
 
 -- stand-in: Rattle.swept_boxes.proofs.PieceLaws.{covered}
-covered : (motion : Motion) (depth : ℕ) (point : Point) → IsOnPath motion point → Any (λ piece. Hold piece point) (pieces_of_lem motion depth)
+covered : (motion : Motion) (depth : ℕ) (point : Point) → IsOnPath motion point → Any (λ piece. Hold piece point) (pieces_at motion depth)
 covered motion depth point on = ?
 
 -- an axis that the ranges have not, the motion has not
@@ -33,7 +33,7 @@ abbrev HasAxesOf : Motion → RangesView → Type 0
 HasAxesOf motion ranges = (axis : ℕ) → find (λ r. r.0 == axis) ranges.axes ≡ None → find (λ e. e.0 == axis) (axes_of motion) ≡ None
 
 -- stand-in
-pieces_have_axes : (motion : Motion) (depth : ℕ) → All (HasAxesOf motion) (pieces_of_lem motion depth)
+pieces_have_axes : (motion : Motion) (depth : ℕ) → All (HasAxesOf motion) (pieces_at motion depth)
 pieces_have_axes motion depth = ?
 
 some_with_all : {X : Type 0} (P Q : X → Type 0) (xs : List X) → Any P xs → All Q xs → SomeOf (λ x. P x × Q x) xs
@@ -84,8 +84,8 @@ some_piece P zone depth place point box holds covers = by_motion box.motion cove
     by_motion : (o : Option Item) → IsCovered zone box.at o point → SomeOf P (piece_boxes zone depth (record box { motion = o }))
     by_motion None stands = inl (holds box.at box.at (λ axis has. in_itself (box.at axis) (point.top axis) point.under (stands axis has)))
     by_motion (Some item) (other, along, under, tops) =
-        SomeOf-map P (λ ranges. zone_box zone (low_in ranges box.at) (high_in ranges box.at)) (pieces_of_lem item.motion depth)
+        SomeOf-map P (λ ranges. zone_box zone (low_in ranges box.at) (high_in ranges box.at)) (pieces_at item.motion depth)
         (SomeOf-weaker (λ ranges. Hold ranges other × HasAxesOf item.motion ranges) (λ ranges. P (zone_box zone (low_in ranges box.at) (high_in ranges box.at)))
-            (λ ranges piece. of_other item other ranges along under tops piece) (pieces_of_lem item.motion depth)
-            (some_with_all (λ ranges. Hold ranges other) (HasAxesOf item.motion) (pieces_of_lem item.motion depth)
+            (λ ranges piece. of_other item other ranges along under tops piece) (pieces_at item.motion depth)
+            (some_with_all (λ ranges. Hold ranges other) (HasAxesOf item.motion) (pieces_at item.motion depth)
                 (covered item.motion depth other along.path) (pieces_have_axes item.motion depth)))

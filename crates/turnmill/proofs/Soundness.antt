@@ -24,7 +24,7 @@ use Rattle.turnmill.proofs.StateLemmas.{WellPlaced, well_placed, WellPlaced-open
 use Rattle.turnmill.proofs.ZoneLemmas.{FractionsWithin, in_zone_box}
 use Rattle.turnmill.specs.Channels.{start_position, position_after, blocks_of, items_of, items_after}
 use Rattle.turnmill.specs.Clash.{own_clock, zones_in_order, zone_pairs, BoxPlace, pairs_of_zones, compared_pairs, depth_of, pair_meets, verdict_of}
-use Rattle.turnmill.specs.Paths.{Point}
+use Rattle.swept_boxes.specs.Path.{Point}
 use Rattle.turnmill.specs.Safety.{owner_in, position_in, fraction_of, OneOwner, IsInZone, ZonesMeet, is_on, NoneMeet, SafeAlways}
 use Rattle.turnmill.specs.SmallSteps.{left_at, StandsAt, IsAtPlace, Spot, State, opening, span_of, has_ended, is_running, motions_of, board_position, beginning, present, SmallStep, AreLawful, reached}
 use Rattle.turnmill.specs.SoundJob.{IsDeclared, first_owner, IsCarriedBy, IsSoundZone, IsSoundJob}

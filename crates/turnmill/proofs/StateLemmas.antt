@@ -8,7 +8,7 @@ use Rattle.tape_job.specs.declared.job.ChannelLine.{ChannelLine}
 use Rattle.turnmill.proofs.PositionLemmas.{after_is, left_at-nil, left_at-cons}
 use Rattle.turnmill.proofs.SomeLemmas.{found_passes, All-found}
 use Rattle.turnmill.specs.Channels.{start_position}
-use Rattle.turnmill.specs.Paths.{Point}
+use Rattle.swept_boxes.specs.Path.{Point}
 use Rattle.turnmill.specs.SmallSteps.{end_in, left_at, StandsAt, IsStanding, IsAlong, IsEndOf, IsAtPlace, IsAtEnd, Spot, State, opening, span_of, has_ended, is_running, motions_of, board_position, beginning, present, SmallStep, Advance, Act, after_step, IsLawful, AreLawful, reached}
 use Rattle.turnmill.specs.Stretches.{channel_line}
 use Rattle.turnmill.specs.ZoneBoxes.{axes_of, after}

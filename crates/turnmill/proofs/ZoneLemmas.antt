@@ -11,7 +11,7 @@ use Rattle.swept_boxes.specs.Boxes.{SpacePoint, IsInBox, low_of, high_of}
 use Rattle.tape_job.specs.declared.job.Side.{Side}
 use Rattle.tape_job.specs.declared.job.ZoneLine.{ZoneLine}
 use Rattle.turnmill.specs.Safety.{IsInZone, bound_at, coordinate}
-use Rattle.turnmill.specs.ZoneBoxes.{carried_low, carried_high, zone_box, is_carrier, has_axis}
+use Rattle.turnmill.specs.ZoneBoxes.{carried_low, carried_high, side_low, side_high, box_of, zone_box, is_carrier, has_axis}
 
 -- (bound * u + t) * m ≤ x * u and low * u ≤ t give (bound + low) * m ≤ x
 above_plus : (bound low t x : ℤ) (u m : ℕ) → 0 < u → (low *ℤ pos u) ≤ℤ t → (((bound *ℤ pos u) +ℤ t) *ℤ pos m) ≤ℤ (x *ℤ pos u) → ((bound +ℤ low) *ℤ pos m) ≤ℤ x
@@ -135,15 +135,15 @@ any_at test (y ∷ ys) (suc i) x is passes = later (test y) (any_at test ys i x 
 -- a point of space in the zone is in the zone box of bounds that hold the zone's axes
 pub in_zone_box : (zone : ZoneLine) (low high : ℕ → ℤ) (position : ℕ → Fraction) → length zone.sides ≡ 3 → FractionsWithin zone low high position
     → (point : SpacePoint) → IsInZone position zone point → IsInBox (zone_box zone low high) point
-unfolding zone_box has_axis
+unfolding box_of side_low side_high has_axis
 in_zone_box zone low high position three within point is = record {
   fraction = is.fraction;
   above = λ direction in_space. let at = some_side zone.sides direction (omega arith) in
-      subst (λ (b : ℤ). (b *ℤ pos point.under) ≤ℤ point.top direction) (sym (get_or-map_at (λ side. carried_low side.carrier side.lo low high) zone.sides direction at.0 (pos 0) at.1))
+      subst (λ (b : ℤ). (b *ℤ pos point.under) ≤ℤ point.top direction) (sym (get_or-map_at (side_low low high) zone.sides direction at.0 (pos 0) at.1))
       (is_above zone low high position within at.0.carrier at.0.lo (point.top direction) point.under
           (λ axis carries. any_at (λ side. is_carrier axis side.carrier) zone.sides direction at.0 at.1 carries) (is.above direction at.0 at.1));
   below = λ direction in_space. let at = some_side zone.sides direction (omega arith) in
-      subst (λ (b : ℤ). point.top direction ≤ℤ (b *ℤ pos point.under)) (sym (get_or-map_at (λ side. carried_high side.carrier side.hi low high) zone.sides direction at.0 (pos 0) at.1))
+      subst (λ (b : ℤ). point.top direction ≤ℤ (b *ℤ pos point.under)) (sym (get_or-map_at (side_high low high) zone.sides direction at.0 (pos 0) at.1))
       (is_below zone low high position within at.0.carrier at.0.hi (point.top direction) point.under
           (λ axis carries. any_at (λ side. is_carrier axis side.carrier) zone.sides direction at.0 at.1 carries) (is.below direction at.0 at.1));
 }

@@ -3,6 +3,5 @@ pub mod ZoneBoxes
 pub mod Stretches
 pub mod Clash
 pub mod SoundJob
-pub mod Paths
 pub mod SmallSteps
 pub mod Safety

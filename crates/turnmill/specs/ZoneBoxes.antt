@@ -2,7 +2,7 @@
 use Rattle.std.specs.Prelude.{ℕ, ℤ, pos, ◌+ℤ◌, ◌-ℤ◌, ◌+◌, ◌-◌, ◌==◌, Bool, true, false, if◌then◌else◌, List, [], ◌∷◌, ◌++◌, map, length, Option, None, Some, find}
 use Rattle.std.specs.List.{list_any}
 use Rattle.std.specs.Option.{option_map, option_map_or}
-use Rattle.swept_boxes.specs.Pieces.{pieces_of_lem}
+use Rattle.swept_boxes.specs.Pieces.{pieces_at}
 use Rattle.swept_boxes.specs.Ranges.{RangesView}
 use Rattle.swept_boxes.specs.declared.Box3.{Box3}
 use Rattle.swept_boxes.specs.declared.Motion.{Motion}
@@ -113,4 +113,4 @@ piece_boxes zone depth box = piece_boxes_by box.motion
   where
     piece_boxes_by : Option Item → List Box3
     piece_boxes_by None = zone_box zone box.at box.at ∷ []
-    piece_boxes_by (Some item) = map (λ ranges. zone_box zone (low_in ranges box.at) (high_in ranges box.at)) (pieces_of_lem item.motion depth)
+    piece_boxes_by (Some item) = map (λ ranges. zone_box zone (low_in ranges box.at) (high_in ranges box.at)) (pieces_at item.motion depth)
