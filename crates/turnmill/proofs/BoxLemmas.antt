@@ -4,6 +4,7 @@ use Rattle.std.proofs.lemmas.Bool.{ne_eqb, cases_eq}
 use Rattle.std.proofs.lemmas.Int.{ints}
 use Rattle.std.proofs.lemmas.List.Elements.{All-weaker}
 use Rattle.std.specs.List.{list_any}
+use Rattle.swept_boxes.proofs.PathLaws.{start_on_line, end_on_line}
 use Rattle.swept_boxes.specs.declared.Motion.{Motion}
 use Rattle.swept_boxes.specs.declared.Motion.TheVariants.{Line}
 use Rattle.tape_job.specs.declared.job.ZoneLine.{ZoneLine}
@@ -20,15 +21,6 @@ use Rattle.turnmill.specs.declared.channels.Item.{Item}
 abbrev pub standing : (ℕ → ℤ) → ℕ → Point
 standing positions under = record { top = λ axis. positions axis *ℤ pos under; under = under }
 
-one_way : (t s e : ℤ) → (t *ℤ pos 1 ≡ t) × ((s *ℤ (pos 1 -ℤ pos 0)) +ℤ (e *ℤ pos 0) ≡ s) × ((s *ℤ (pos 1 -ℤ pos 1)) +ℤ (e *ℤ pos 1) ≡ e)
-one_way t s e = (omega (arith, ints), omega (arith, ints), omega (arith, ints))
-
-at_start : (t s e u : ℤ) → t ≡ s *ℤ u → t *ℤ pos 1 ≡ along s e 1 0 *ℤ u
-at_start t s e u is = (one_way t s e).0 ∙ is ∙ ap (λ x. x *ℤ u) (sym (one_way t s e).1)
-
-at_end : (t s e u : ℤ) → t ≡ e *ℤ u → t *ℤ pos 1 ≡ along s e 1 1 *ℤ u
-at_end t s e u is = (one_way t s e).0 ∙ is ∙ ap (λ x. x *ℤ u) (sym (one_way t s e).2)
-
 -- an axis that a motion has not stays
 stays_there : (item : Item) (at : ℕ → ℤ) (axis : ℕ) → IsNone (end_in axis item) → after item at axis ≡ at axis
 stays_there item at axis none = after_is item at axis ∙ by_end (end_in axis item) none
@@ -39,35 +31,22 @@ stays_there item at axis none = after_is item at axis ∙ by_end (end_in axis it
 
 -- the start and the end of a motion that joins are points of its path
 along_at_start : (n : ℕ) (at : ℕ → ℤ) (item : Item) (under : ℕ) → Joins n at item → 0 < under → IsAlong at item (standing at under)
-along_at_start n at item under joins some = by_motion item.line item.motion joins
+along_at_start n at item under joins some = record { path = by_motion item.motion starts; others = λ axis none. refl }
   where
-    by_motion : (line : ℕ) (motion : Motion) → Joins n at (record { line = line; motion = motion }) → IsAlong at (record { line = line; motion = motion }) (standing at under)
-    by_motion line (Line ends) joins = record {
-      path = record {
-        whole = 1; part = 0; above_none = omega arith; no_further = omega arith; fraction = some;
-        gone = All-weaker (λ e. (e.0 < n) × (e.1 ≡ at e.0) × (e.2 ≡ after (record { line = line; motion = Line ends }) at e.0))
-            (λ e. (at e.0 *ℤ pos under) *ℤ pos 1 ≡ along e.1 e.2 1 0 *ℤ pos under)
-            (λ e joined. at_start (at e.0 *ℤ pos under) e.1 e.2 (pos under) (ap (λ x. x *ℤ pos under) (sym joined.1))) ends.axes joins;
-      };
-      others = λ axis none. refl;
-    }
+    starts : All (λ e. at e.0 *ℤ pos under ≡ e.1 *ℤ pos under) (axes_of item.motion)
+    starts = All-weaker (λ e. (e.0 < n) × (e.1 ≡ at e.0) × (e.2 ≡ after item at e.0)) (λ e. at e.0 *ℤ pos under ≡ e.1 *ℤ pos under)
+        (λ e joined. ap (λ x. x *ℤ pos under) (sym joined.1)) (axes_of item.motion) joins
+    by_motion : (motion : Motion) → All (λ e. at e.0 *ℤ pos under ≡ e.1 *ℤ pos under) (axes_of motion) → IsOnPath motion (standing at under)
+    by_motion (Line ends) begun = start_on_line ends (standing at under) some begun
 
 along_at_end : (n : ℕ) (at : ℕ → ℤ) (item : Item) (under : ℕ) → Joins n at item → 0 < under → IsAlong at item (standing (after item at) under)
-along_at_end n at item under joins some = by_motion item.line item.motion joins
+along_at_end n at item under joins some = record { path = by_motion item.motion ends_there; others = λ axis none. ap (λ x. x *ℤ pos under) (stays_there item at axis none) }
   where
-    by_motion : (line : ℕ) (motion : Motion) → Joins n at (record { line = line; motion = motion })
-        → IsAlong at (record { line = line; motion = motion }) (standing (after (record { line = line; motion = motion }) at) under)
-    by_motion line (Line ends) joins =
-        let made : Item = record { line = line; motion = Line ends } in
-        record {
-          path = record {
-            whole = 1; part = 1; above_none = omega arith; no_further = omega arith; fraction = some;
-            gone = All-weaker (λ e. (e.0 < n) × (e.1 ≡ at e.0) × (e.2 ≡ after made at e.0))
-                (λ e. (after made at e.0 *ℤ pos under) *ℤ pos 1 ≡ along e.1 e.2 1 1 *ℤ pos under)
-                (λ e joined. at_end (after made at e.0 *ℤ pos under) e.1 e.2 (pos under) (ap (λ x. x *ℤ pos under) (sym joined.2))) ends.axes joins;
-          };
-          others = λ axis none. ap (λ x. x *ℤ pos under) (stays_there made at axis none);
-        }
+    ends_there : All (λ e. after item at e.0 *ℤ pos under ≡ e.2 *ℤ pos under) (axes_of item.motion)
+    ends_there = All-weaker (λ e. (e.0 < n) × (e.1 ≡ at e.0) × (e.2 ≡ after item at e.0)) (λ e. after item at e.0 *ℤ pos under ≡ e.2 *ℤ pos under)
+        (λ e joined. ap (λ x. x *ℤ pos under) (sym joined.2)) (axes_of item.motion) joins
+    by_motion : (motion : Motion) → All (λ e. after item at e.0 *ℤ pos under ≡ e.2 *ℤ pos under) (axes_of motion) → IsOnPath motion (standing (after item at) under)
+    by_motion (Line ends) ended = end_on_line ends (standing (after item at) under) some ended
 
 -- ---- boxes that cover a point
 

@@ -1,12 +1,14 @@
 -- A point that a box covers is in the zone box of one of its pieces.
-use Rattle.std.proofs.Common.{◌≡◌, ◌⊎◌, ◌∙◌, ℕ, zero, suc, ℤ, pos, ◌+ℤ◌, ◌-ℤ◌, ◌*ℤ◌, ◌≤ℤ◌, ◌<◌, Bool, true, false, cond, ◌==◌, List, [], ◌∷◌, map, length, get_or, find, Option, None, Some, option_map, All, Any, IsNone, inl, inr, refl, sym, ap, subst, arith}
+use Rattle.std.proofs.Common.{◌≡◌, ◌⊎◌, ◌∙◌, ℕ, zero, suc, ℤ, pos, ◌+ℤ◌, ◌-ℤ◌, ◌*ℤ◌, ◌≤ℤ◌, ◌<◌, ◌^◌, Bool, true, false, cond, ◌==◌, List, [], ◌∷◌, map, length, get_or, find, Option, None, Some, option_map, All, Any, IsNone, inl, inr, refl, sym, ap, subst, arith}
 use Rattle.std.proofs.lemmas.Bool.{eqb-true}
 use Rattle.std.proofs.lemmas.Int.{ints}
-use Rattle.std.proofs.lemmas.List.Elements.{All-head, All-tail}
+use Rattle.std.proofs.lemmas.List.Elements.{All-head, All-tail, All-map}
+use Rattle.std.specs.List.{range_with_len}
 use Rattle.std.specs.Option.{option_map_or}
 use Rattle.number_laws.specs.Fractions.{IsIn}
-use Rattle.swept_boxes.specs.Pieces.{pieces_at}
-use Rattle.swept_boxes.specs.Ranges.{RangesView}
+use Rattle.swept_boxes.proofs.PieceLaws.{covered}
+use Rattle.swept_boxes.specs.Pieces.{range_of_part, part_of_line, pieces_at}
+use Rattle.swept_boxes.specs.Ranges.{RangesView, Hold}
 use Rattle.swept_boxes.specs.declared.Box3.{Box3}
 use Rattle.swept_boxes.specs.declared.Motion.{Motion}
 use Rattle.swept_boxes.specs.declared.Motion.TheVariants.{Line}
@@ -20,21 +22,23 @@ use Rattle.turnmill.specs.declared.channels.Item.{Item}
 
 -- ---- the pieces of a motion
 
--- stand-in: Rattle.swept_boxes.specs.Ranges.{Hold}
-abbrev pub Hold : RangesView → Point → Type 0
-Hold ranges point = All (λ r. IsIn r.1 r.2 (point.top r.0) point.under) ranges.axes
-
--- stand-in: Rattle.swept_boxes.proofs.PieceLaws.{covered}
-covered : (motion : Motion) (depth : ℕ) (point : Point) → IsOnPath motion point → Any (λ piece. Hold piece point) (pieces_at motion depth)
-covered motion depth point on = ?
-
 -- an axis that the ranges have not, the motion has not
 abbrev HasAxesOf : Motion → RangesView → Type 0
 HasAxesOf motion ranges = (axis : ℕ) → find (λ r. r.0 == axis) ranges.axes ≡ None → find (λ e. e.0 == axis) (axes_of motion) ≡ None
 
--- stand-in
+part_has_axes : (parts part axis : ℕ) (ends : List (ℕ × ℤ × ℤ)) → find (λ r. r.0 == axis) (map (range_of_part parts part) ends) ≡ None → find (λ e. e.0 == axis) ends ≡ None
+part_has_axes parts part axis [] none = refl
+part_has_axes parts part axis (e ∷ ends) none = by_test (e.0 == axis) none (part_has_axes parts part axis ends)
+  where
+    by_test : (b : Bool) → cond b (Some (range_of_part parts part e)) (find (λ r. r.0 == axis) (map (range_of_part parts part) ends)) ≡ None
+        → (find (λ r. r.0 == axis) (map (range_of_part parts part) ends) ≡ None → find (λ f. f.0 == axis) ends ≡ None) → cond b (Some e) (find (λ f. f.0 == axis) ends) ≡ None
+    by_test true none rest = absurd cc
+    by_test false none rest = rest none
+
 pieces_have_axes : (motion : Motion) (depth : ℕ) → All (HasAxesOf motion) (pieces_at motion depth)
-pieces_have_axes motion depth = ?
+pieces_have_axes (Line ends) depth =
+    All-map (HasAxesOf (Line ends)) (part_of_line ends (2 ^ depth)) (range_with_len 0 (2 ^ depth))
+    (λ k d within axis none. part_has_axes (2 ^ depth) (get_or (range_with_len 0 (2 ^ depth)) k d) axis ends.axes none)
 
 some_with_all : {X : Type 0} (P Q : X → Type 0) (xs : List X) → Any P xs → All Q xs → SomeOf (λ x. P x × Q x) xs
 some_with_all {X = X} P Q xs (k, x, within, is, holds) all = go xs k within is all
