@@ -52,7 +52,7 @@ pub board_last : (job : JobView) (state : State) (channel : ℕ) → has_ended s
 unfolding board_position
 board_last job state channel e = rw e refl
 
-WellPlaced-step : (job : JobView) (state : State) (step : SmallStep) → WellPlaced job state → IsLawful job state step → WellPlaced job (after_step state step)
+pub WellPlaced-step : (job : JobView) (state : State) (step : SmallStep) → WellPlaced job state → IsLawful job state step → WellPlaced job (after_step state step)
 unfolding after_step IsLawful
 WellPlaced-step job state (Act channel) placed lawful = placed
 WellPlaced-step job state (Advance channel place point) placed lawful = λ other. by_channel other (cases_eq other channel)
