@@ -1,7 +1,6 @@
 -- Wherever a channel is in a span, some box of the zone covers the zone's axes there.
-use Rattle.std.proofs.Common.{◌≡◌, ◌⊎◌, ◌∙◌, ℕ, zero, suc, ℤ, pos, ◌+◌, ◌+ℤ◌, ◌-ℤ◌, ◌*ℤ◌, ◌<◌, ◌≤◌, Bool, true, false, cond, ◌||◌, ◌==◌, List, [], ◌∷◌, ◌++◌, length, take, find, Option, None, Some, option_map, unwrap_or, slice_get, All, IsSomeAnd, IsNone, inl, inr, refl, sym, ap, subst, arith}
+use Rattle.std.proofs.Common.{◌≡◌, ◌⊎◌, ◌∙◌, ℕ, zero, suc, ℤ, pos, ◌+◌, ◌*ℤ◌, ◌<◌, ◌≤◌, Bool, true, false, cond, ◌||◌, ◌==◌, List, [], ◌∷◌, ◌++◌, take, find, Option, None, Some, unwrap_or, slice_get, All, IsSomeAnd, IsNone, inl, inr, refl, sym, ap, subst, arith}
 use Rattle.std.proofs.lemmas.Bool.{ne_eqb, cases_eq}
-use Rattle.std.proofs.lemmas.Int.{ints}
 use Rattle.std.proofs.lemmas.List.Elements.{All-weaker}
 use Rattle.std.specs.List.{list_any}
 use Rattle.swept_boxes.proofs.PathLaws.{start_on_line, end_on_line}
@@ -9,9 +8,9 @@ use Rattle.swept_boxes.specs.declared.Motion.{Motion}
 use Rattle.swept_boxes.specs.declared.Motion.TheVariants.{Line}
 use Rattle.tape_job.specs.declared.job.ZoneLine.{ZoneLine}
 use Rattle.turnmill.proofs.PositionLemmas.{Joins, AllJoin, after_is, left_at-nil, left_at-cons}
-use Rattle.turnmill.proofs.SomeLemmas.{SomeOf, SomeOf-append_right}
-use Rattle.swept_boxes.specs.Path.{Point, IsOnPath, IsOnLine, along}
-use Rattle.turnmill.specs.SmallSteps.{end_in, left_at, StandsAt, IsStanding, IsAlong, IsAtPlace}
+use Rattle.turnmill.proofs.SomeLemmas.{SomeOf}
+use Rattle.swept_boxes.specs.Path.{Point, IsOnPath, along}
+use Rattle.turnmill.specs.SmallSteps.{end_in, left_at, StandsAt, IsAlong, IsAtPlace}
 use Rattle.turnmill.specs.ZoneBoxes.{axes_of, after, has_axis, moves_zone, PlaceBox, Opened, Waiting, Moving, close, closed, next_open, walk, boxes_of}
 use Rattle.turnmill.specs.declared.channels.Item.{Item}
 
@@ -36,6 +35,7 @@ along_at_start n at item under joins some = record { path = by_motion item.motio
     starts : All (λ e. at e.0 *ℤ pos under ≡ e.1 *ℤ pos under) (axes_of item.motion)
     starts = All-weaker (λ e. (e.0 < n) × (e.1 ≡ at e.0) × (e.2 ≡ after item at e.0)) (λ e. at e.0 *ℤ pos under ≡ e.1 *ℤ pos under)
         (λ e joined. ap (λ x. x *ℤ pos under) (sym joined.1)) (axes_of item.motion) joins
+
     by_motion : (motion : Motion) → All (λ e. at e.0 *ℤ pos under ≡ e.1 *ℤ pos under) (axes_of motion) → IsOnPath motion (standing at under)
     by_motion (Line ends) begun = start_on_line ends (standing at under) some begun
 
@@ -45,6 +45,7 @@ along_at_end n at item under joins some = record { path = by_motion item.motion 
     ends_there : All (λ e. after item at e.0 *ℤ pos under ≡ e.2 *ℤ pos under) (axes_of item.motion)
     ends_there = All-weaker (λ e. (e.0 < n) × (e.1 ≡ at e.0) × (e.2 ≡ after item at e.0)) (λ e. after item at e.0 *ℤ pos under ≡ e.2 *ℤ pos under)
         (λ e joined. ap (λ x. x *ℤ pos under) (sym joined.2)) (axes_of item.motion) joins
+
     by_motion : (motion : Motion) → All (λ e. after item at e.0 *ℤ pos under ≡ e.2 *ℤ pos under) (axes_of motion) → IsOnPath motion (standing (after item at) under)
     by_motion (Line ends) ended = end_on_line ends (standing (after item at) under) some ended
 
@@ -84,9 +85,12 @@ closes zone k point place (Moving from item began) low high covers = record { fr
 stand_covered : (zone : ZoneLine) (n : ℕ) (current : Opened) (at : ℕ → ℤ) (point : Point) → 0 < point.under → Fits zone n current at
     → ((axis : ℕ) → has_axis zone axis ≡ true → StandsAt point axis (at axis)) → OpenCovers zone current point
 stand_covered zone n (Waiting from began) at point some fits stands = λ axis has. stands axis has ∙ ap (λ x. x *ℤ pos point.under) (fits axis has)
-stand_covered zone n (Moving from item began) at point some fits stands =
-    (standing (after item began) point.under, along_at_end n began item point.under fits.0 some, refl,
-     λ axis has. sym (stands axis has ∙ ap (λ x. x *ℤ pos point.under) (fits.1 axis has)))
+stand_covered zone n (Moving from item began) at point some fits stands = (
+  standing (after item began) point.under,
+  along_at_end n began item point.under fits.0 some,
+  refl,
+  λ axis has. sym (stands axis has ∙ ap (λ x. x *ℤ pos point.under) (fits.1 axis has)),
+)
 
 start_covered : (zone : ZoneLine) (n : ℕ) (item : Item) (at : ℕ → ℤ) (point : Point) → 0 < point.under → Joins n at item
     → ((axis : ℕ) → has_axis zone axis ≡ true → StandsAt point axis (at axis)) → IsCovered zone at (Some item) point
@@ -119,7 +123,7 @@ not_moved : (zone : ZoneLine) (item : Item) (axis : ℕ) → moves_zone zone ite
 unfolding moves_zone end_in
 not_moved zone item axis none has =
     let nothing : find (λ (e : ℕ × ℤ × ℤ). e.0 == axis) (axes_of item.motion) ≡ None =
-        not_found (λ e. e.0 == axis) (axes_of item.motion) (apart_axes zone axis has (axes_of item.motion) none) in
+    not_found (λ e. e.0 == axis) (axes_of item.motion) (apart_axes zone axis has (axes_of item.motion) none) in
     rw nothing refl
 
 fits_on : (zone : ZoneLine) (n : ℕ) (current : Opened) (at : ℕ → ℤ) (item : Item) → moves_zone zone item ≡ false → Fits zone n current at → Fits zone n current (after item at)
@@ -140,6 +144,7 @@ kept zone n k point some place current at (item ∷ items) joins fits low high c
     Rest : Type 0
     Rest = (current' : Opened) → Fits zone n current' (after item at) → from_of current' ≤ k → OpenCovers zone current' point
         → SomeOf (Covers zone k point) (walk zone (place + 1) current' (after item at) items)
+
     by_moves : (b : Bool) → moves_zone zone item ≡ b → (current : Opened) → Fits zone n current at → from_of current ≤ k → OpenCovers zone current point → Rest
         → SomeOf (Covers zone k point) (cond b (closed place current ++ walk zone (place + 1) (next_open place at current item) (after item at) items) (walk zone (place + 1) current (after item at) items))
     by_moves true moves (Waiting from began) fits low covers rest =
@@ -173,10 +178,11 @@ at_motion zone n point some place current at (first ∷ items) joins fits low ze
 at_motion zone n point some place current at (first ∷ items) joins fits low (suc m) k is item found on =
     by_moves (moves_zone zone first) refl current fits low
     (λ current' fits' low'. at_motion zone n point some (place + 1) current' (after first at) items joins.1 fits' low' m k (omega arith) item found
-        (IsAlong-same (left_at (first ∷ take m items) at) (left_at (take m items) (after first at)) (left_at-cons first (take m items) at) item point on))
+    (IsAlong-same (left_at (first ∷ take m items) at) (left_at (take m items) (after first at)) (left_at-cons first (take m items) at) item point on))
   where
     Rest : Type 0
     Rest = (current' : Opened) → Fits zone n current' (after first at) → from_of current' ≤ place + 1 → SomeOf (Covers zone k point) (walk zone (place + 1) current' (after first at) items)
+
     by_moves : (b : Bool) → moves_zone zone first ≡ b → (current : Opened) → Fits zone n current at → from_of current ≤ place → Rest
         → SomeOf (Covers zone k point) (cond b (closed place current ++ walk zone (place + 1) (next_open place at current first) (after first at) items) (walk zone (place + 1) current (after first at) items))
     by_moves true moves (Waiting from began) fits low rest = rest (Moving from first at) (joins.0, λ axis has. refl) (omega arith)
@@ -187,13 +193,15 @@ at_motion zone n point some place current at (first ∷ items) joins fits low (s
 pub box_covers : (zone : ZoneLine) (n : ℕ) (at : ℕ → ℤ) (items : List Item) → AllJoin n at items → (place : ℕ) (point : Point) → IsAtPlace at items place point
     → (0 < point.under) × SomeOf (Covers zone place point) (boxes_of zone at items)
 unfolding boxes_of
-box_covers zone n at items joins zero point stands =
-    (stands.fraction,
-     kept zone n 0 point stands.fraction 1 (Waiting 0 at) at items joins (λ axis has. refl) (omega arith) (omega arith) (λ axis has. stands.stand axis))
+box_covers zone n at items joins zero point stands = (
+  stands.fraction,
+  kept zone n 0 point stands.fraction 1 (Waiting 0 at) at items joins (λ axis has. refl) (omega arith) (omega arith) (λ axis has. stands.stand axis),
+)
 box_covers zone n at items joins (suc m) point there = by_item (slice_get items m) refl there
   where
     fraction_of : (motion : Motion) → IsOnPath motion point → 0 < point.under
     fraction_of (Line ends) on = on.fraction
+
     by_item : (o : Option Item) → slice_get items m ≡ o → IsSomeAnd o (λ item. IsAlong (left_at (take m items) at) item point)
         → (0 < point.under) × SomeOf (Covers zone (suc m) point) (walk zone 1 (Waiting 0 at) at items)
     by_item None found none = absurd none

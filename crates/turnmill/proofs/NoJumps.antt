@@ -1,20 +1,19 @@
 -- No axis jumps: neither between two motions nor where a channel ends its program.
-use Rattle.std.proofs.Common.{◌≡◌, ◌≢◌, ◌⊎◌, ◌∙◌, ℕ, zero, suc, ℤ, pos, ◌+◌, ◌-◌, ◌*ℤ◌, ◌≤◌, ◌<◌, Bool, true, false, cond, ◌==◌, List, [], ◌∷◌, ◌++◌, length, take, find, count_by, nat_lt, Option, None, Some, option_map, unwrap_or, IfSome, IsSomeAnd, IsNone, IsTrue, slice_get, All, inl, inr, refl, sym, ap, subst, arith}
+use Rattle.std.proofs.Common.{◌≡◌, ◌⊎◌, ◌∙◌, ℕ, zero, suc, ℤ, pos, ◌+◌, ◌-◌, ◌*ℤ◌, true, cond, ◌==◌, List, [], ◌∷◌, length, take, find, nat_lt, Option, None, Some, option_map, unwrap_or, IfSome, IsSomeAnd, slice_get, All, inl, inr, refl, sym, ap, subst, arith}
 use Rattle.std.proofs.lemmas.Bool.{eqb-true, eq-eqb, ne_eqb, lt-ltb, cases_eq}
-use Rattle.std.proofs.lemmas.Int.{ints}
 use Rattle.std.proofs.lemmas.List.Sums.{sum_by_push}
 use Rattle.std.specs.Option.{option_map_or}
-use Rattle.number_laws.specs.Fractions.{Fraction, IsSame, whole}
+use Rattle.number_laws.specs.Fractions.{IsSame, whole}
 use Rattle.swept_boxes.specs.Path.{Point}
 use Rattle.tape_job.specs.Job.{JobView}
 use Rattle.tape_job.specs.declared.job.ChannelLine.{ChannelLine}
-use Rattle.turnmill.proofs.PositionLemmas.{AllJoin, begins_at_left, after_is, left_at-nil, left_at-cons}
+use Rattle.turnmill.proofs.PositionLemmas.{begins_at_left, after_is, left_at-nil, left_at-cons}
 use Rattle.turnmill.proofs.SomeLemmas.{found_passes, All-found}
 use Rattle.turnmill.proofs.Soundness.{motions_join}
 use Rattle.turnmill.proofs.StateLemmas.{WellPlaced, WellPlaced-step, well_placed, WellPlaced-opening, not_ended, run_place, board_last, end_place, one_under}
 use Rattle.turnmill.specs.Channels.{start_position, items_of}
 use Rattle.turnmill.specs.Safety.{owner_in, position_in, fraction_of, NoJump}
-use Rattle.turnmill.specs.SmallSteps.{end_in, left_at, StandsAt, IsStanding, IsAlong, IsEndOf, IsAtPlace, IsAtEnd, Spot, State, opening, span_of, has_ended, is_running, motions_of, board_position, beginning, present, SmallStep, Act, after_step, IsLawful, AreLawful, reached}
+use Rattle.turnmill.specs.SmallSteps.{end_in, left_at, StandsAt, IsAlong, IsEndOf, IsAtPlace, IsAtEnd, Spot, State, opening, span_of, has_ended, motions_of, board_position, beginning, present, Act, after_step, IsLawful, reached}
 use Rattle.turnmill.specs.Stretches.{channel_line}
 use Rattle.turnmill.specs.ZoneBoxes.{axes_of, after}
 use Rattle.turnmill.specs.declared.channels.Item.{Item}
@@ -98,8 +97,14 @@ has_acted state channel =
 -- where a channel is, by the number of its span and its spot
 abbrev place_by : JobView → ℕ → Option Spot → ℕ → Spot
 place_by job channel spot n =
-    let start : Spot = record { span = n; place = 0; point = record {
-        top = cond (nat_lt 0 n) (left_at (motions_of job channel) (start_position job)) (start_position job); under = 1 } } in
+    let start : Spot = record {
+      span = n;
+      place = 0;
+      point = record {
+        top = cond (nat_lt 0 n) (left_at (motions_of job channel) (start_position job)) (start_position job);
+        under = 1;
+      };
+    } in
     option_map_or (λ s. cond (s.span == n) s start) spot start
 
 -- an act changes where no other channel is
@@ -113,8 +118,8 @@ acts_in_place : (job : JobView) (state : State) → WellPlaced job state → (ch
 unfolding IsLawful beginning
 acts_in_place job state placed channel (running, end) axis =
     let before : StandsAt (present job state channel).point axis (left_at (motions_of job channel) (start_position job) axis) =
-        stands_at_end (motions_of job channel) (start_position job) (present job state channel).place (present job state channel).point
-        (run_place job state channel placed (not_ended job state channel running)) end axis in
+    stands_at_end (motions_of job channel) (start_position job) (present job state channel).place (present job state channel).point
+    (run_place job state channel placed (not_ended job state channel running)) end axis in
     let next = after_step state (Act channel) in
     let ended = has_acted state channel in
     let placed_next : WellPlaced job next = WellPlaced-step job state (Act channel) placed (running, end) in
@@ -135,6 +140,7 @@ jumps_nowhere job state placed channel lawful axis = by_owner (owner_in job stat
         (acts_in_place job state placed channel lawful axis)
     by_channel owner (inr apart) =
         subst (λ (s : Spot). IsSame (fraction_of (present job state owner).point axis) (fraction_of s.point axis)) (sym (other_stays job state channel owner apart)) refl
+
     by_owner : (o : Option ℕ) → IsSame (option_map_or (λ owner. fraction_of (present job state owner).point axis) o (whole (start_position job axis)))
         (option_map_or (λ owner. fraction_of (present job (after_step state (Act channel)) owner).point axis) o (whole (start_position job axis)))
     by_owner None = refl

@@ -1,9 +1,9 @@
 -- Each axis has one owner, and the motions of a channel have only axes that it owns.
-use Rattle.std.proofs.Common.{◌≡◌, ◌⊎◌, ◌∙◌, ℕ, zero, suc, ℤ, pos, ◌+◌, ◌≤◌, ◌<◌, Bool, true, false, cond, ◌&&◌, ◌||◌, ◌==◌, List, [], ◌∷◌, ◌++◌, length, get_or, Option, None, Some, option_map, option_and_then, IfSome, IsSomeAnd, IsTrue, slice_get, All, Any, inl, inr, refl, sym, ap, subst, arith}
+use Rattle.std.proofs.Common.{◌≡◌, ℕ, ℤ, Bool, true, false, cond, ◌&&◌, ◌==◌, List, [], ◌∷◌, ◌++◌, length, Option, None, Some, option_and_then, IfSome, IsSomeAnd, slice_get, All, inl, inr, refl, sym, subst}
 use Rattle.std.proofs.lemmas.Bool.{eqb-true, and_parts}
 use Rattle.std.proofs.lemmas.List.Elements.{All-nil, All-cons, All-head, All-tail}
 use Rattle.std.proofs.lemmas.Option.{slice_get_within, get_or_from_slice_get}
-use Rattle.std.specs.List.{list_any, cons_option}
+use Rattle.std.specs.List.{cons_option}
 use Rattle.std.specs.Option.{option_map_or}
 use Rattle.swept_boxes.specs.declared.Motion.TheVariants.{Line}
 use Rattle.tape_job.specs.Job.{JobView}
@@ -17,7 +17,7 @@ use Rattle.turnmill.proofs.PositionLemmas.{ends_all}
 use Rattle.turnmill.proofs.SomeLemmas.{SomeOf, some-list_any, found_passes}
 use Rattle.turnmill.specs.Channels.{is_slot, programmed, position_after, blocks_of, end_from, ends_from, item_from, items_after, items_of}
 use Rattle.turnmill.specs.Safety.{owner_in, OneOwner}
-use Rattle.turnmill.specs.SmallSteps.{State, is_running, motions_of}
+use Rattle.turnmill.specs.SmallSteps.{State, motions_of}
 use Rattle.turnmill.specs.SoundJob.{IsDeclared, first_owner, IsSoundJob}
 use Rattle.turnmill.specs.Stretches.{channel_line}
 use Rattle.turnmill.specs.ZoneBoxes.{axes_of}
@@ -42,7 +42,7 @@ module _ (job : JobView) (sound : IsSoundJob job) (channel : ℕ) where
   unfolding is_slot
   slot_owned slot axis is = by_line
       (some-All (λ g. first_owner job g.axis ≡ Some g.channel) (λ g. g.channel == channel && (g.slot == slot && g.axis == axis)) job.geo sound.slots
-          (some-list_any (λ g. g.channel == channel && (g.slot == slot && g.axis == axis)) job.geo is))
+      (some-list_any (λ g. g.channel == channel && (g.slot == slot && g.axis == axis)) job.geo is))
     where
       by_line : (g : GeoLine) × (first_owner job g.axis ≡ Some g.channel) × ((g.channel == channel && (g.slot == slot && g.axis == axis)) ≡ true) → first_owner job axis ≡ Some channel
       by_line (g, owned, passes) =
@@ -76,7 +76,7 @@ module _ (job : JobView) (sound : IsSoundJob job) (channel : ℕ) where
       by_stmt line (Move x z) rest =
           All-cons HasOwnAxes (record { line = line; motion = Line (record { axes = ends_from job channel (position_after job channel before) (Move x z) }) }) (items_after job channel (before ++ block ∷ []) blocks)
           (ends_all (λ e. first_owner job e.0 ≡ Some channel) (position_after job channel before) (programmed job channel (Move x z)) 0 (length job.axes)
-              (λ axis to within is. programmed_owned (Move x z) axis to is)) rest
+          (λ axis to within is. programmed_owned (Move x z) axis to is)) rest
       by_stmt line End rest = rest
 
 -- ---- the owners in a state
@@ -88,6 +88,7 @@ owned_by_one job sound state axis = by_line (slice_get job.axes axis) refl
     by_owner : (o : Option ℕ) → IsSomeAnd o (IsDeclared job) → IfSome o (IsDeclared job)
     by_owner None declared = absurd declared
     by_owner (Some channel) declared = declared
+
     by_line : (o : Option AxisLine) → slice_get job.axes axis ≡ o → IfSome (option_and_then (λ line. line.owner) o) (IsDeclared job)
     by_line None is = tt
     by_line (Some line) is = by_owner line.owner (All-at (λ l. IsSomeAnd l.owner (IsDeclared job)) job.axes axis line sound.owners is)

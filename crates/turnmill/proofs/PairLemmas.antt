@@ -1,15 +1,15 @@
 -- Which pairs of boxes are compared, and when a pair meets.
-use Rattle.std.proofs.Common.{◌≡◌, ◌≢◌, ◌⊎◌, ◌∙◌, ℕ, zero, suc, ℤ, pos, ◌+◌, ◌≤◌, ◌<◌, ◌≤ℤ◌, Bool, true, false, cond, not, ◌&&◌, ◌==◌, nat_lt, List, [], ◌∷◌, ◌++◌, map, length, get_or, filter, find, filter_map, flat_map, Option, None, Some, IfSome, AllPairs, Contains, inl, inr, refl, sym, ap, subst, arith}
-use Rattle.std.proofs.lemmas.Bool.{eqb-true, eq-eqb, ne_eqb, lt-ltb, cases_eq}
+use Rattle.std.proofs.Common.{◌≡◌, ◌≢◌, ◌⊎◌, ◌∙◌, ℕ, zero, suc, ◌+◌, ◌≤◌, ◌<◌, true, cond, not, ◌==◌, List, [], ◌∷◌, map, length, get_or, filter, find, filter_map, flat_map, Option, None, Some, IfSome, AllPairs, Contains, inl, inr, refl, sym, ap, subst, arith}
+use Rattle.std.proofs.lemmas.Bool.{eq-eqb, ne_eqb, lt-ltb, cases_eq}
 use Rattle.std.proofs.lemmas.Int.{ints}
 use Rattle.std.specs.List.{cons_option, range_with_len, list_any}
 use Rattle.swept_boxes.proofs.Meeting.{touch-from_meet}
-use Rattle.swept_boxes.specs.Boxes.{SpacePoint, IsInBox, DoMeet, TouchIn, TouchInAll}
+use Rattle.swept_boxes.specs.Boxes.{SpacePoint, IsInBox, DoMeet, TouchIn}
 use Rattle.swept_boxes.specs.declared.Box3.{Box3}
 use Rattle.tape_job.specs.Job.{JobView}
 use Rattle.tape_job.specs.declared.job.ZoneLine.{ZoneLine}
 use Rattle.turnmill.proofs.SomeLemmas.{SomeOf, SomeOf-weaker, SomeOf-append_left, SomeOf-append_right, SomeOf-map, SomeOf-flat_map, SomeOf-filter, list_any-some}
-use Rattle.turnmill.specs.Clash.{Clock, own_clock, is_open_at, may_overlap, zones_in_order, pairs_by_group, zone_pairs, BoxPlace, box_pairs, stretch_pairs, pairs_of_zones, do_touch, boxes_meet, depth_of, pair_meets}
+use Rattle.turnmill.specs.Clash.{Clock, own_clock, is_open_at, may_overlap, zones_in_order, pairs_by_group, BoxPlace, box_pairs, stretch_pairs, pairs_of_zones, do_touch, boxes_meet, depth_of, pair_meets}
 use Rattle.turnmill.specs.Stretches.{Event, Stretch, stretches_of}
 use Rattle.turnmill.specs.ZoneBoxes.{PlaceBox, piece_boxes}
 
@@ -32,6 +32,7 @@ some_in_range {X = X} h x low (suc n) number above below is = by_order (cases_eq
     past : (o : Option X) → SomeOf (λ y. y ≡ x) (filter_map h (range_with_len (low + 1) n)) → SomeOf (λ y. y ≡ x) (cons_option o (filter_map h (range_with_len (low + 1) n)))
     past None some = some
     past (Some y) some = inr some
+
     by_order : (low ≡ number) ⊎ (low ≡ number → ⊥) → (low + 1 ≤ number → number < low + 1 + n → SomeOf (λ y. y ≡ x) (filter_map h (range_with_len (low + 1) n)))
         → SomeOf (λ y. y ≡ x) (filter_map h (range_with_len low (suc n)))
     by_order (inl same) rest = let here : h low ≡ Some x = ap h same ∙ is in rw here (inl refl)
@@ -50,9 +51,9 @@ with_later : (P : ZoneLine × ZoneLine → Type 0) (first later : ZoneLine) (zon
 with_later P first later zones apart holds some =
     SomeOf-map P (λ other. (first, other)) (filter (λ other. not (first.group == other.group)) zones)
     (SomeOf-filter (λ other. P (first, other)) (λ other. not (first.group == other.group)) zones
-        (SomeOf-weaker (λ z. z ≡ later) (λ z. (not (first.group == z.group) ≡ true) × P (first, z))
-            (λ z same. subst (λ y. (not (first.group == y.group) ≡ true) × P (first, y)) (sym same) (ap not (ne_eqb first.group later.group apart), holds))
-            zones some))
+    (SomeOf-weaker (λ z. z ≡ later) (λ z. (not (first.group == z.group) ≡ true) × P (first, z))
+    (λ z same. subst (λ y. (not (first.group == y.group) ≡ true) × P (first, y)) (sym same) (ap not (ne_eqb first.group later.group apart), holds))
+    zones some))
 
 pub some_zone_pair : (P : ZoneLine × ZoneLine → Type 0) (zone other : ZoneLine) → zone.group ≢ other.group → P (zone, other) → P (other, zone) → (zones : List ZoneLine)
     → SomeOf (λ z. z ≡ zone) zones → SomeOf (λ z. z ≡ other) zones → SomeOf P (pairs_by_group zones)
@@ -112,19 +113,20 @@ unfolding pairs_of_zones
 some_box_pair clock counts cut job zone other Q R P holds left right =
     SomeOf-flat_map P (λ stretch. flat_map (λ later. stretch_pairs clock zone stretch other later) (stretches_of job other)) (stretches_of job zone)
     (SomeOf-weaker (λ stretch. IsCurrent counts stretch × SomeOf Q stretch.boxes) (λ stretch. SomeOf P (flat_map (λ later. stretch_pairs clock zone stretch other later) (stretches_of job other)))
-        (λ stretch here. SomeOf-flat_map P (λ later. stretch_pairs clock zone stretch other later) (stretches_of job other)
-            (SomeOf-weaker (λ later. IsCurrent counts later × SomeOf R later.boxes) (λ later. SomeOf P (stretch_pairs clock zone stretch other later))
-                (λ later there. both stretch later here there) (stretches_of job other) right))
-        (stretches_of job zone) left)
+    (λ stretch here. SomeOf-flat_map P (λ later. stretch_pairs clock zone stretch other later) (stretches_of job other)
+    (SomeOf-weaker (λ later. IsCurrent counts later × SomeOf R later.boxes) (λ later. SomeOf P (stretch_pairs clock zone stretch other later))
+    (λ later there. both stretch later here there) (stretches_of job other) right))
+    (stretches_of job zone) left)
   where
     boxes : (stretch later : Stretch) → SomeOf Q stretch.boxes → SomeOf R later.boxes → SomeOf P (box_pairs zone stretch other later)
     boxes stretch later some some' =
         SomeOf-flat_map P (λ box. map (λ next. (record { zone = zone; stretch = stretch; box = box }, record { zone = other; stretch = later; box = next })) later.boxes) stretch.boxes
         (SomeOf-weaker Q (λ box. SomeOf P (map (λ next. (record { zone = zone; stretch = stretch; box = box }, record { zone = other; stretch = later; box = next })) later.boxes))
-            (λ box q. SomeOf-map P (λ next. (record { zone = zone; stretch = stretch; box = box }, record { zone = other; stretch = later; box = next })) later.boxes
-                (SomeOf-weaker R (λ next. P (record { zone = zone; stretch = stretch; box = box }, record { zone = other; stretch = later; box = next }))
-                    (λ next r. holds stretch later box next q r) later.boxes some'))
-            stretch.boxes some)
+        (λ box q. SomeOf-map P (λ next. (record { zone = zone; stretch = stretch; box = box }, record { zone = other; stretch = later; box = next })) later.boxes
+        (SomeOf-weaker R (λ next. P (record { zone = zone; stretch = stretch; box = box }, record { zone = other; stretch = later; box = next }))
+        (λ next r. holds stretch later box next q r) later.boxes some'))
+        stretch.boxes some)
+
     both : (stretch later : Stretch) → IsCurrent counts stretch × SomeOf Q stretch.boxes → IsCurrent counts later × SomeOf R later.boxes → SomeOf P (stretch_pairs clock zone stretch other later)
     both stretch later here there = rw (current_overlap clock counts cut stretch later here.0 there.0) (boxes stretch later here.1 there.1)
 
@@ -147,7 +149,7 @@ unfolding pair_meets
 pair_is job pair point left right =
     list_any-some (λ l. list_any (λ r. boxes_meet l r) (piece_boxes pair.1.zone (depth_of job) pair.1.box)) (piece_boxes pair.0.zone (depth_of job) pair.0.box)
     (SomeOf-weaker (λ piece. IsInBox piece point) (λ l. list_any (λ r. boxes_meet l r) (piece_boxes pair.1.zone (depth_of job) pair.1.box) ≡ true)
-        (λ l in_left. list_any-some (λ r. boxes_meet l r) (piece_boxes pair.1.zone (depth_of job) pair.1.box)
-            (SomeOf-weaker (λ piece. IsInBox piece point) (λ r. boxes_meet l r ≡ true) (λ r in_right. meet_is l r (point, in_left, in_right))
-                (piece_boxes pair.1.zone (depth_of job) pair.1.box) right))
-        (piece_boxes pair.0.zone (depth_of job) pair.0.box) left)
+    (λ l in_left. list_any-some (λ r. boxes_meet l r) (piece_boxes pair.1.zone (depth_of job) pair.1.box)
+    (SomeOf-weaker (λ piece. IsInBox piece point) (λ r. boxes_meet l r ≡ true) (λ r in_right. meet_is l r (point, in_left, in_right))
+    (piece_boxes pair.1.zone (depth_of job) pair.1.box) right))
+    (piece_boxes pair.0.zone (depth_of job) pair.0.box) left)

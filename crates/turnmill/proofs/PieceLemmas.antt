@@ -1,5 +1,5 @@
 -- A point that a box covers is in the zone box of one of its pieces.
-use Rattle.std.proofs.Common.{◌≡◌, ◌⊎◌, ◌∙◌, ℕ, zero, suc, ℤ, pos, ◌+ℤ◌, ◌-ℤ◌, ◌*ℤ◌, ◌≤ℤ◌, ◌<◌, ◌^◌, Bool, true, false, cond, ◌==◌, List, [], ◌∷◌, map, length, get_or, find, Option, None, Some, option_map, All, Any, IsNone, inl, inr, refl, sym, ap, subst, arith}
+use Rattle.std.proofs.Common.{◌≡◌, ℕ, zero, suc, ℤ, pos, ◌*ℤ◌, ◌<◌, ◌^◌, Bool, true, false, cond, ◌==◌, List, [], ◌∷◌, map, length, get_or, find, Option, None, Some, All, Any, inl, inr, refl, sym, subst, arith}
 use Rattle.std.proofs.lemmas.Bool.{eqb-true}
 use Rattle.std.proofs.lemmas.Int.{ints}
 use Rattle.std.proofs.lemmas.List.Elements.{All-head, All-tail, All-map}
@@ -15,7 +15,7 @@ use Rattle.swept_boxes.specs.declared.Motion.TheVariants.{Line}
 use Rattle.tape_job.specs.declared.job.ZoneLine.{ZoneLine}
 use Rattle.turnmill.proofs.BoxLemmas.{Covers, IsCovered}
 use Rattle.turnmill.proofs.SomeLemmas.{SomeOf, SomeOf-weaker, SomeOf-map, found_passes, All-found}
-use Rattle.swept_boxes.specs.Path.{Point, IsOnPath}
+use Rattle.swept_boxes.specs.Path.{Point}
 use Rattle.turnmill.specs.SmallSteps.{end_in, StandsAt, IsAlong}
 use Rattle.turnmill.specs.ZoneBoxes.{axes_of, has_axis, PlaceBox, zone_box, low_in, high_in, piece_boxes}
 use Rattle.turnmill.specs.declared.channels.Item.{Item}
@@ -83,13 +83,14 @@ some_piece P zone depth place point box holds covers = by_motion box.motion cove
         → P (zone_box zone (low_in ranges box.at) (high_in ranges box.at))
     of_other item other ranges along under tops piece = holds (low_in ranges box.at) (high_in ranges box.at)
         (λ axis has. subst (λ n. IsIn (low_in ranges box.at axis) (high_in ranges box.at axis) (point.top axis) n) under
-            (subst (λ t. IsIn (low_in ranges box.at axis) (high_in ranges box.at axis) t other.under) (tops axis has)
-                (within_piece box.at item other ranges along piece.0 piece.1 axis)))
+        (subst (λ t. IsIn (low_in ranges box.at axis) (high_in ranges box.at axis) t other.under) (tops axis has)
+        (within_piece box.at item other ranges along piece.0 piece.1 axis)))
+
     by_motion : (o : Option Item) → IsCovered zone box.at o point → SomeOf P (piece_boxes zone depth (record box { motion = o }))
     by_motion None stands = inl (holds box.at box.at (λ axis has. in_itself (box.at axis) (point.top axis) point.under (stands axis has)))
     by_motion (Some item) (other, along, under, tops) =
         SomeOf-map P (λ ranges. zone_box zone (low_in ranges box.at) (high_in ranges box.at)) (pieces_at item.motion depth)
         (SomeOf-weaker (λ ranges. Hold ranges other × HasAxesOf item.motion ranges) (λ ranges. P (zone_box zone (low_in ranges box.at) (high_in ranges box.at)))
-            (λ ranges piece. of_other item other ranges along under tops piece) (pieces_at item.motion depth)
-            (some_with_all (λ ranges. Hold ranges other) (HasAxesOf item.motion) (pieces_at item.motion depth)
-                (covered item.motion depth other along.path) (pieces_have_axes item.motion depth)))
+        (λ ranges piece. of_other item other ranges along under tops piece) (pieces_at item.motion depth)
+        (some_with_all (λ ranges. Hold ranges other) (HasAxesOf item.motion) (pieces_at item.motion depth)
+        (covered item.motion depth other along.path) (pieces_have_axes item.motion depth)))

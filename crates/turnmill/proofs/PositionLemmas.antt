@@ -1,14 +1,13 @@
 -- Where motions leave the axes of a channel: the rule over motions, the rule over blocks, and one motion after another say the same.
-use Rattle.std.proofs.Common.{◌≡◌, ◌≢◌, ◌⊎◌, ◌∙◌, ℕ, zero, suc, ℤ, pos, ◌+◌, ◌<◌, ◌≤◌, Bool, true, false, cond, ◌==◌, List, [], ◌∷◌, ◌++◌, length, take, filter_map, find, Option, None, Some, option_map, option_and_then, unwrap_or, slice_get, All, inl, inr, refl, sym, ap, subst, arith}
-use Rattle.std.proofs.lemmas.Bool.{false≢true, eqb-true, eq-eqb, ne_eqb, cases_eq}
-use Rattle.std.proofs.lemmas.List.Elements.{All-nil, All-cons, All-head, All-tail, All-weaker, filter_map-append}
+use Rattle.std.proofs.Common.{◌≡◌, ◌⊎◌, ◌∙◌, ℕ, zero, suc, ℤ, ◌+◌, ◌<◌, ◌≤◌, ◌==◌, List, [], ◌∷◌, ◌++◌, length, take, filter_map, find, Option, None, Some, option_map, option_and_then, unwrap_or, slice_get, All, inl, inr, refl, sym, ap, subst, arith}
+use Rattle.std.proofs.lemmas.Bool.{eq-eqb, ne_eqb, cases_eq}
+use Rattle.std.proofs.lemmas.List.Elements.{All-nil, All-cons, All-weaker, filter_map-append}
 use Rattle.std.specs.Prelude.{⊤}
 use Rattle.std.specs.List.{last_or, cons_option, range_with_len}
 use Rattle.std.specs.Option.{option_map_or}
 use Rattle.swept_boxes.specs.declared.Motion.TheVariants.{Line}
 use Rattle.tape_job.specs.Job.{JobView}
 use Rattle.tape_job.specs.declared.job.Block.{Block}
-use Rattle.tape_job.specs.declared.job.ChannelLine.{ChannelLine}
 use Rattle.tape_job.specs.declared.job.Stmt.{Stmt}
 use Rattle.tape_job.specs.declared.job.Stmt.TheVariants.{Move, End}
 use Rattle.turnmill.specs.Channels.{programmed, start_position, position_after, end_from, ends_from, item_from, items_after}
@@ -79,9 +78,11 @@ find_within start end low (suc n) axis above within = by_order (cases_eq low axi
     here : (o : Option ℤ) → find (λ e. e.0 == low) (cons_option (option_map (λ to. (low, start low, to)) o) (ends_between start end (low + 1) n)) ≡ option_map (λ to. (low, start low, to)) o
     here None = find_below start end (low + 1) n low (omega arith)
     here (Some to) = rw (eq-eqb low low refl) refl
+
     past : (o : Option ℤ) → (low ≡ axis → ⊥) → find (λ e. e.0 == axis) (cons_option (option_map (λ to. (low, start low, to)) o) (ends_between start end (low + 1) n)) ≡ find (λ e. e.0 == axis) (ends_between start end (low + 1) n)
     past None other = refl
     past (Some to) other = rw (ne_eqb low axis other) refl
+
     by_order : (low ≡ axis) ⊎ (low ≡ axis → ⊥) → (low + 1 ≤ axis → axis < low + 1 + n → find (λ e. e.0 == axis) (ends_between start end (low + 1) n) ≡ option_map (λ to. (axis, start axis, to)) (end axis))
         → find (λ e. e.0 == axis) (ends_between start end low (suc n)) ≡ option_map (λ to. (axis, start axis, to)) (end axis)
     by_order (inl same) rest = subst (λ a. find (λ e. e.0 == a) (ends_between start end low (suc n)) ≡ option_map (λ to. (a, start a, to)) (end a)) same (here (end low))
@@ -108,6 +109,7 @@ module _ (job : JobView) (channel : ℕ) where
       ends_to : (o : Option ℤ) → option_map (λ (e : ℕ × ℤ × ℤ). e.2) (option_map (λ (to : ℤ). (axis, position_after job channel before axis, to)) o) ≡ o
       ends_to None = refl
       ends_to (Some to) = refl
+
       by_stmt : (line : ℕ) (stmt : Stmt) → option_and_then (λ item. end_in axis item) (item_from job channel (position_after job channel before) (record { line = line; stmt = stmt })) ≡ programmed job channel stmt axis
       by_stmt line (Move x z) =
           ap (option_map (λ (e : ℕ × ℤ × ℤ). e.2)) (find_within (position_after job channel before) (programmed job channel (Move x z)) 0 (length job.axes) axis (omega arith) (omega arith))
@@ -170,10 +172,11 @@ module _ (job : JobView) (channel : ℕ) where
       let block : Block = record { line = line; stmt = Move x z } in
       let item : Item = record { line = line; motion = Line (record { axes = ends_from job channel (position_after job channel before) (Move x z) }) } in
       let left : (axis : ℕ) → axis < length job.axes → after item at axis ≡ unwrap_or (programmed job channel (Move x z) axis) (at axis) =
-          λ axis within. after_is item at axis ∙ ap (λ o. unwrap_or o (at axis)) (item_end job channel before block axis within) in
-      (ends_all (λ e. (e.0 < length job.axes) × (e.1 ≡ at e.0) × (e.2 ≡ after item at e.0)) (position_after job channel before) (programmed job channel (Move x z)) 0 (length job.axes)
-          (λ axis to within is. (omega arith, sym (same axis (omega arith)), sym (left axis (omega arith) ∙ ap (λ o. unwrap_or o (at axis)) is))),
-       rest (after item at) (λ axis within. left axis within ∙ ap (unwrap_or (programmed job channel (Move x z) axis)) (same axis within) ∙ sym (position_after-push job channel before block axis)))
+      λ axis within. after_is item at axis ∙ ap (λ o. unwrap_or o (at axis)) (item_end job channel before block axis within) in (
+        ends_all (λ e. (e.0 < length job.axes) × (e.1 ≡ at e.0) × (e.2 ≡ after item at e.0)) (position_after job channel before) (programmed job channel (Move x z)) 0 (length job.axes)
+            (λ axis to within is. (omega arith, sym (same axis (omega arith)), sym (left axis (omega arith) ∙ ap (λ o. unwrap_or o (at axis)) is))),
+        rest (after item at) (λ axis within. left axis within ∙ ap (unwrap_or (programmed job channel (Move x z) axis)) (same axis within) ∙ sym (position_after-push job channel before block axis)),
+      )
   join_step before blocks line End rest at same =
       rest at (λ axis within. same axis within ∙ sym (position_after-push job channel before (record { line = line; stmt = End }) axis))
 

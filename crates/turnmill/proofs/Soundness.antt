@@ -1,14 +1,11 @@
 -- The verdict YES is sound at all speeds.
-use Rattle.std.proofs.Common.{◌≡◌, ◌≢◌, ◌⊎◌, ◌∙◌, ℕ, zero, suc, ℤ, pos, ◌+◌, ◌-◌, ◌*ℤ◌, ◌≤◌, ◌<◌, Bool, true, false, cond, ◌&&◌, ◌||◌, ◌==◌, List, [], ◌∷◌, ◌++◌, length, get_or, take, find, Option, None, Some, option_map, option_and_then, unwrap_or, IfSome, IsSomeAnd, IsTrue, slice_get, All, Any, Contains, inl, inr, refl, sym, ap, subst, arith}
-use Rattle.std.proofs.lemmas.Bool.{false≢true, eqb-true, eq-eqb, cases_eq, cases_Bool}
-use Rattle.std.proofs.lemmas.Int.{ints}
+use Rattle.std.proofs.Common.{◌≡◌, ◌≢◌, ◌⊎◌, ◌∙◌, ℕ, zero, suc, ℤ, pos, ◌*ℤ◌, ◌<◌, Bool, true, false, cond, ◌||◌, ◌==◌, List, [], ◌∷◌, length, get_or, find, Option, None, Some, option_and_then, IfSome, IsSomeAnd, slice_get, All, Contains, inl, inr, refl, sym, ap, subst, arith}
+use Rattle.std.proofs.lemmas.Bool.{false≢true, eqb-true, eq-eqb, cases_Bool}
 use Rattle.std.proofs.lemmas.List.Elements.{All-head, All-tail, All-contains}
 use Rattle.std.proofs.lemmas.Option.{slice_get_within}
-use Rattle.std.specs.List.{list_any, flat_map}
-use Rattle.std.specs.Option.{option_map_or}
-use Rattle.number_laws.specs.Fractions.{Fraction, IsIn, whole}
+use Rattle.std.specs.List.{list_any}
+use Rattle.number_laws.specs.Fractions.{Fraction, IsIn}
 use Rattle.swept_boxes.specs.Boxes.{SpacePoint, IsInBox}
-use Rattle.swept_boxes.specs.declared.Box3.{Box3}
 use Rattle.tape_job.specs.Job.{JobView}
 use Rattle.tape_job.specs.declared.job.AxisLine.{AxisLine}
 use Rattle.tape_job.specs.declared.job.ChannelLine.{ChannelLine}
@@ -22,14 +19,13 @@ use Rattle.turnmill.proofs.PositionLemmas.{AllJoin, AllJoin-items_after, left_at
 use Rattle.turnmill.proofs.SomeLemmas.{SomeOf, SomeOf-weaker, SomeOf-flat_map, none_found, found_passes}
 use Rattle.turnmill.proofs.StateLemmas.{WellPlaced, well_placed, WellPlaced-opening, run_place, end_place, first_span_of, later_span_of, board_last, one_under}
 use Rattle.turnmill.proofs.ZoneLemmas.{FractionsWithin, in_zone_box}
-use Rattle.turnmill.specs.Channels.{start_position, position_after, blocks_of, items_of, items_after}
+use Rattle.turnmill.specs.Channels.{start_position, position_after, blocks_of, items_of}
 use Rattle.turnmill.specs.Clash.{own_clock, zones_in_order, zone_pairs, BoxPlace, pairs_of_zones, compared_pairs, depth_of, pair_meets, verdict_of}
-use Rattle.swept_boxes.specs.Path.{Point}
-use Rattle.turnmill.specs.Safety.{owner_in, position_in, fraction_of, OneOwner, IsInZone, ZonesMeet, is_on, NoneMeet, SafeAlways}
-use Rattle.turnmill.specs.SmallSteps.{left_at, StandsAt, IsAtPlace, Spot, State, opening, span_of, has_ended, is_running, motions_of, board_position, beginning, present, SmallStep, AreLawful, reached}
+use Rattle.turnmill.specs.Safety.{owner_in, position_in, fraction_of, IsInZone, ZonesMeet, NoneMeet, SafeAlways}
+use Rattle.turnmill.specs.SmallSteps.{left_at, StandsAt, IsAtPlace, Spot, State, opening, span_of, has_ended, motions_of, board_position, beginning, present, reached}
 use Rattle.turnmill.specs.SoundJob.{IsDeclared, first_owner, IsCarriedBy, IsSoundZone, IsSoundJob}
 use Rattle.turnmill.specs.Stretches.{Stretch, channel_line, spans_of, stretches_from, stretches_of}
-use Rattle.turnmill.specs.ZoneBoxes.{is_carrier, has_axis, PlaceBox, boxes_of, zone_box, piece_boxes}
+use Rattle.turnmill.specs.ZoneBoxes.{is_carrier, has_axis, PlaceBox, boxes_of, piece_boxes}
 use Rattle.turnmill.specs.declared.channels.Item.{Item}
 use Rattle.turnmill.specs.declared.stretches.Verdict.TheVariants.{Yes}
 
@@ -77,6 +73,7 @@ carrier_owned job zone sound axis has = by_side (carried_side (IsCarriedBy job z
     by_carrier : (o : Option (ℕ × Bool)) → IfSome o (λ carrier. first_owner job carrier.0 ≡ zone.holder) → is_carrier axis o ≡ true → first_owner job axis ≡ zone.holder
     by_carrier None owned is = absurd (false≢true is)
     by_carrier (Some carrier) owned is = subst (λ a. first_owner job a ≡ zone.holder) (eqb-true carrier.0 axis is) owned
+
     by_side : (side : Side) × IsCarriedBy job zone.holder side × (is_carrier axis side.carrier ≡ true) → first_owner job axis ≡ zone.holder
     by_side (side, owned, is) = by_carrier side.carrier owned is
 
@@ -114,26 +111,33 @@ zone_has_box job state placed zone sound channel held line is = by_ended (cases_
   where
     spot : Spot
     spot = present job state channel
+
     Goal : List Stretch → Type 0
     Goal stretches = (0 < spot.point.under) × SomeOf (λ stretch. IsCurrent (span_of state) stretch × SomeOf (Covers zone spot.place spot.point) stretch.boxes) stretches
+
     running : has_ended state channel ≡ false → Goal (stretches_from zone channel 0 (spans_of job line))
     running e =
         let motions = motions_are job channel line is in
         let covered = box_covers zone (length job.axes) (start_position job) (items_of job line) (motions_join job line) spot.place spot.point
-            (subst (λ (items : List Item). IsAtPlace (start_position job) items spot.place spot.point) motions (run_place job state channel placed e)) in
+        (subst (λ (items : List Item). IsAtPlace (start_position job) items spot.place spot.point) motions (run_place job state channel placed e)) in
         let first = first_span_of state channel e in
         (covered.0, inl (record { begun = tt; not_over = omega arith }, covered.1))
+
     ended : has_ended state channel ≡ true → Goal (stretches_from zone channel 0 (spans_of job line))
     ended e =
         let here = end_place job state channel placed e in
         let later = later_span_of state channel e in
         let at = position_after job line.channel (blocks_of job line) in
         let stands : (axis : ℕ) → has_axis zone axis ≡ true → StandsAt (record { top = board_position job state channel; under = 1 }) axis (at axis) =
-            λ axis has. ended_position job state channel line is e axis (owned_within job axis channel (carrier_owned job zone sound axis has ∙ held)) in
-        (subst (λ (s : Spot). 0 < s.point.under) (sym here) (omega arith),
-         inr (inl (record { begun = omega arith; not_over = tt },
+        λ axis has. ended_position job state channel line is e axis (owned_within job axis channel (carrier_owned job zone sound axis has ∙ held)) in (
+          subst (λ (s : Spot). 0 < s.point.under) (sym here) (omega arith),
+          inr (inl (
+            record { begun = omega arith; not_over = tt },
             subst (λ (s : Spot). SomeOf (Covers zone s.place s.point) (boxes_of zone at [])) (sym here)
-            (standing_covers zone at (record { top = board_position job state channel; under = 1 }) stands))))
+                (standing_covers zone at (record { top = board_position job state channel; under = 1 }) stands),
+          )),
+        )
+
     by_ended : (has_ended state channel ≡ true) ⊎ (has_ended state channel ≡ false) → Goal (stretches_of job zone)
     by_ended (inl e) = subst Goal (sym (stretches_are job zone channel line held is)) (ended e)
     by_ended (inr e) = subst Goal (sym (stretches_are job zone channel line held is)) (running e)
@@ -163,11 +167,15 @@ zone_in_pieces job state placed zone sound point in_zone = by_holder zone.holder
         let spot = present job state channel in
         SomeOf-weaker (λ stretch. IsCurrent (span_of state) stretch × SomeOf (Covers zone spot.place spot.point) stretch.boxes)
         (λ stretch. IsCurrent (span_of state) stretch × SomeOf (λ box. SomeOf (λ piece. IsInBox piece point) (piece_boxes zone (depth_of job) box)) stretch.boxes)
-        (λ stretch here. (here.0, SomeOf-weaker (Covers zone spot.place spot.point) (λ box. SomeOf (λ piece. IsInBox piece point) (piece_boxes zone (depth_of job) box))
-            (λ box covers. some_piece (λ piece. IsInBox piece point) zone (depth_of job) spot.place spot.point box
-                (λ low high within. in_zone_box zone low high (position_in job state) sound.directions (fractions_within job state zone sound channel held has.0 low high within) point in_zone) covers)
-            stretch.boxes here.1))
+        (λ stretch here. (
+          here.0,
+          SomeOf-weaker (Covers zone spot.place spot.point) (λ box. SomeOf (λ piece. IsInBox piece point) (piece_boxes zone (depth_of job) box))
+              (λ box covers. some_piece (λ piece. IsInBox piece point) zone (depth_of job) spot.place spot.point box
+              (λ low high within. in_zone_box zone low high (position_in job state) sound.directions (fractions_within job state zone sound channel held has.0 low high within) point in_zone) covers)
+              stretch.boxes here.1,
+        ))
         (stretches_of job zone) has.1
+
     by_holder : (o : Option ℕ) → zone.holder ≡ o → IsSomeAnd o (IsDeclared job) → HasBox job (span_of state) zone (λ box. SomeOf (λ piece. IsInBox piece point) (piece_boxes zone (depth_of job) box))
     by_holder None held declared = absurd declared
     by_holder (Some channel) held declared = of_line channel held (declared_line job channel declared)
@@ -193,11 +201,12 @@ zones_meet_in_pair job sound state placed zone other in_job in_job' apart (point
     let there = zone_in_pieces job state placed other o point in_other in
     SomeOf-flat_map (λ pair. pair_meets job pair ≡ true) (λ pair. pairs_of_zones own_clock job pair.0 pair.1) (zone_pairs job)
     (some_zone_pair (λ pair. SomeOf (λ p. pair_meets job p ≡ true) (pairs_of_zones own_clock job pair.0 pair.1)) zone other apart
-        (compared zone other here there) (compared other zone there here) (zones_in_order job)
-        (is_in_order job sound.zone_numbers zone z.low_number z.high_number in_job) (is_in_order job sound.zone_numbers other o.low_number o.high_number in_job'))
+    (compared zone other here there) (compared other zone there here) (zones_in_order job)
+    (is_in_order job sound.zone_numbers zone z.low_number z.high_number in_job) (is_in_order job sound.zone_numbers other o.low_number o.high_number in_job'))
   where
     InPiece : ZoneLine → PlaceBox → Type 0
     InPiece z box = SomeOf (λ piece. IsInBox piece point) (piece_boxes z (depth_of job) box)
+
     compared : (left right : ZoneLine) → HasBox job (span_of state) left (InPiece left) → HasBox job (span_of state) right (InPiece right)
         → SomeOf (λ pair. pair_meets job pair ≡ true) (pairs_of_zones own_clock job left right)
     compared left right here there =

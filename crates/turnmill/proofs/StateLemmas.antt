@@ -1,18 +1,13 @@
 -- What holds in every state that lawful small steps reach.
-use Rattle.std.proofs.Common.{◌≡◌, ◌≢◌, ◌⊎◌, ◌∙◌, ℕ, zero, suc, ℤ, pos, ◌+◌, ◌-◌, ◌*ℤ◌, ◌≤◌, ◌<◌, Bool, true, false, cond, not, ◌&&◌, ◌==◌, nat_lt, List, [], ◌∷◌, ◌++◌, length, take, find, count_by, Option, None, Some, option_map, unwrap_or, IfSome, IsSomeAnd, IsNone, IsTrue, slice_get, All, inl, inr, refl, sym, ap, subst, arith}
-use Rattle.std.proofs.lemmas.Bool.{false≢true, eqb-true, eq-eqb, ne_eqb, ltb-true, ltb-false, lt-ltb, le-ltb, cases_eq}
+use Rattle.std.proofs.Common.{◌≡◌, ◌⊎◌, ◌∙◌, ℕ, ℤ, pos, ◌*ℤ◌, ◌<◌, Bool, true, false, cond, not, ◌&&◌, ◌==◌, List, [], ◌∷◌, Option, None, Some, IfSome, IsTrue, inl, inr, refl, sym, ap, subst, arith}
+use Rattle.std.proofs.lemmas.Bool.{eq-eqb, ne_eqb, ltb-true, ltb-false, cases_eq}
 use Rattle.std.proofs.lemmas.Int.{ints}
 use Rattle.std.specs.Option.{option_map_or}
 use Rattle.tape_job.specs.Job.{JobView}
 use Rattle.tape_job.specs.declared.job.ChannelLine.{ChannelLine}
-use Rattle.turnmill.proofs.PositionLemmas.{after_is, left_at-nil, left_at-cons}
-use Rattle.turnmill.proofs.SomeLemmas.{found_passes, All-found}
 use Rattle.turnmill.specs.Channels.{start_position}
-use Rattle.swept_boxes.specs.Path.{Point}
-use Rattle.turnmill.specs.SmallSteps.{end_in, left_at, StandsAt, IsStanding, IsAlong, IsEndOf, IsAtPlace, IsAtEnd, Spot, State, opening, span_of, has_ended, is_running, motions_of, board_position, beginning, present, SmallStep, Advance, Act, after_step, IsLawful, AreLawful, reached}
+use Rattle.turnmill.specs.SmallSteps.{left_at, IsAtPlace, Spot, State, opening, span_of, has_ended, is_running, motions_of, board_position, beginning, present, SmallStep, Advance, Act, after_step, IsLawful, AreLawful, reached}
 use Rattle.turnmill.specs.Stretches.{channel_line}
-use Rattle.turnmill.specs.ZoneBoxes.{axes_of, after}
-use Rattle.turnmill.specs.declared.channels.Item.{Item}
 
 -- ---- spots
 
@@ -32,6 +27,7 @@ not_ended job state channel running = by_line (channel_line job channel) running
     by_ended true true e = absurd cc
     by_ended true false e = refl
     by_ended false ended e = absurd cc
+
     by_line : (o : Option ChannelLine) → option_map_or (λ line. line.starts && not (has_ended state channel)) o false ≡ true → has_ended state channel ≡ false
     by_line None e = absurd cc
     by_line (Some line) e = by_ended line.starts (has_ended state channel) e
@@ -59,11 +55,13 @@ WellPlaced-step job state (Advance channel place point) placed lawful = λ other
   where
     running : has_ended state channel ≡ false
     running = not_ended job state channel lawful.0
+
     here : IsPlaced job channel (record { span = span_of state channel; place = place; point = point })
     here = record {
       first_span = first_span_of state channel running;
       at_place = subst (λ (p : ℕ → ℤ). IsAtPlace p (motions_of job channel) place point) (board_first job state channel running) lawful.2;
     }
+
     by_channel : (other : ℕ) → (other ≡ channel) ⊎ (other ≡ channel → ⊥)
         → IfSome (cond (other == channel) (Some (record { span = span_of state channel; place = place; point = point })) (state.spots other)) (IsPlaced job other)
     by_channel other (inl same) = rw (eq-eqb other channel same) (subst (λ c. IsPlaced job c (record { span = span_of state channel; place = place; point = point })) (sym same) here)
@@ -91,9 +89,10 @@ run_place job state channel placed e = by_spot (state.spots channel) (placed cha
   where
     begins : IsAtPlace (start_position job) (motions_of job channel) 0 (record { top = board_position job state channel; under = 1 })
     begins = record { fraction = omega arith; stand = λ axis. ap (λ (p : ℕ → ℤ). p axis) (board_first job state channel e) ∙ one_under (start_position job axis) }
+
     by_spot : (o : Option Spot) → IfSome o (IsPlaced job channel)
         → IsAtPlace (start_position job) (motions_of job channel) (option_map_or (λ spot. cond (spot.span == span_of state channel) spot (beginning job state channel)) o (beginning job state channel)).place
-            (option_map_or (λ spot. cond (spot.span == span_of state channel) spot (beginning job state channel)) o (beginning job state channel)).point
+        (option_map_or (λ spot. cond (spot.span == span_of state channel) spot (beginning job state channel)) o (beginning job state channel)).point
     by_spot None placed = begins
     by_spot (Some spot) placed = rw (eq-eqb spot.span (span_of state channel) (placed.first_span ∙ sym (first_span_of state channel e))) placed.at_place
 

@@ -1,5 +1,5 @@
 -- A zone at a state lies in the zone box of bounds that hold its axes.
-use Rattle.std.proofs.Common.{◌≡◌, ◌∙◌, ℕ, zero, suc, ℤ, pos, ◌+ℤ◌, ◌-ℤ◌, ◌*ℤ◌, ◌≤ℤ◌, ◌<◌, Bool, true, false, cond, ◌||◌, ◌==◌, List, [], ◌∷◌, map, length, get_or, Option, None, Some, slice_get, refl, sym, ap, subst, arith}
+use Rattle.std.proofs.Common.{◌≡◌, ℕ, zero, suc, ℤ, pos, ◌+ℤ◌, ◌-ℤ◌, ◌*ℤ◌, ◌≤ℤ◌, ◌<◌, Bool, true, false, ◌||◌, List, [], ◌∷◌, map, length, get_or, Option, None, Some, slice_get, refl, sym, ap, subst, arith}
 use Rattle.std.proofs.lemmas.Bool.{eq-eqb}
 use Rattle.std.proofs.lemmas.Int.{ints}
 use Rattle.std.specs.List.{list_any}
@@ -7,10 +7,9 @@ use Rattle.number_laws.proofs.Integers.{nonneg-pos}
 use Rattle.number_laws.proofs.Orders.{some, given, both, by, all_of, refute}
 use Rattle.number_laws.proofs.Ring.{num, var, plus, minus, times}
 use Rattle.number_laws.specs.Fractions.{Fraction, IsAtMost, IsIn}
-use Rattle.swept_boxes.specs.Boxes.{SpacePoint, IsInBox, low_of, high_of}
-use Rattle.tape_job.specs.declared.job.Side.{Side}
+use Rattle.swept_boxes.specs.Boxes.{SpacePoint, IsInBox}
 use Rattle.tape_job.specs.declared.job.ZoneLine.{ZoneLine}
-use Rattle.turnmill.specs.Safety.{IsInZone, bound_at, coordinate}
+use Rattle.turnmill.specs.Safety.{IsInZone, bound_at}
 use Rattle.turnmill.specs.ZoneBoxes.{carried_low, carried_high, side_low, side_high, box_of, zone_box, is_carrier, has_axis}
 
 -- (bound * u + t) * m ≤ x * u and low * u ≤ t give (bound + low) * m ≤ x
@@ -141,9 +140,9 @@ in_zone_box zone low high position three within point is = record {
   above = λ direction in_space. let at = some_side zone.sides direction (omega arith) in
       subst (λ (b : ℤ). (b *ℤ pos point.under) ≤ℤ point.top direction) (sym (get_or-map_at (side_low low high) zone.sides direction at.0 (pos 0) at.1))
       (is_above zone low high position within at.0.carrier at.0.lo (point.top direction) point.under
-          (λ axis carries. any_at (λ side. is_carrier axis side.carrier) zone.sides direction at.0 at.1 carries) (is.above direction at.0 at.1));
+      (λ axis carries. any_at (λ side. is_carrier axis side.carrier) zone.sides direction at.0 at.1 carries) (is.above direction at.0 at.1));
   below = λ direction in_space. let at = some_side zone.sides direction (omega arith) in
       subst (λ (b : ℤ). point.top direction ≤ℤ (b *ℤ pos point.under)) (sym (get_or-map_at (side_high low high) zone.sides direction at.0 (pos 0) at.1))
       (is_below zone low high position within at.0.carrier at.0.hi (point.top direction) point.under
-          (λ axis carries. any_at (λ side. is_carrier axis side.carrier) zone.sides direction at.0 at.1 carries) (is.below direction at.0 at.1));
+      (λ axis carries. any_at (λ side. is_carrier axis side.carrier) zone.sides direction at.0 at.1 carries) (is.below direction at.0 at.1));
 }
