@@ -29,7 +29,7 @@ stays_there item at axis none = after_is item at axis ∙ by_end (end_in axis it
     by_end (Some to) none = absurd cc
 
 -- the start and the end of a motion that joins are points of its path
-along_at_start : (n : ℕ) (at : ℕ → ℤ) (item : Item) (under : ℕ) → Joins n at item → 0 < under → IsAlong at item (standing at under)
+pub along_at_start : (n : ℕ) (at : ℕ → ℤ) (item : Item) (under : ℕ) → Joins n at item → 0 < under → IsAlong at item (standing at under)
 along_at_start n at item under joins some = record { path = by_motion item.motion starts; others = λ axis none. refl }
   where
     starts : All (λ e. at e.0 *ℤ pos under ≡ e.1 *ℤ pos under) (axes_of item.motion)
@@ -39,7 +39,7 @@ along_at_start n at item under joins some = record { path = by_motion item.motio
     by_motion : (motion : Motion) → All (λ e. at e.0 *ℤ pos under ≡ e.1 *ℤ pos under) (axes_of motion) → IsOnPath motion (standing at under)
     by_motion (Line ends) begun = start_on_line ends (standing at under) some begun
 
-along_at_end : (n : ℕ) (at : ℕ → ℤ) (item : Item) (under : ℕ) → Joins n at item → 0 < under → IsAlong at item (standing (after item at) under)
+pub along_at_end : (n : ℕ) (at : ℕ → ℤ) (item : Item) (under : ℕ) → Joins n at item → 0 < under → IsAlong at item (standing (after item at) under)
 along_at_end n at item under joins some = record { path = by_motion item.motion ends_there; others = λ axis none. ap (λ x. x *ℤ pos under) (stays_there item at axis none) }
   where
     ends_there : All (λ e. after item at e.0 *ℤ pos under ≡ e.2 *ℤ pos under) (axes_of item.motion)

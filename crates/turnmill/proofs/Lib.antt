@@ -8,5 +8,6 @@ pub mod StateLemmas
 pub mod OwnerLemmas
 pub mod Soundness
 pub mod NoJumps
+pub mod Ends
 pub mod Ranges
 pub mod Positions

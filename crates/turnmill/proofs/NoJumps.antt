@@ -20,7 +20,7 @@ use Rattle.turnmill.specs.declared.channels.Item.{Item}
 
 -- ---- between motions
 
-begins_there : (job : JobView) (channel place : ℕ) (item : Item) → slice_get (motions_of job channel) place ≡ Some item
+pub begins_there : (job : JobView) (channel place : ℕ) (item : Item) → slice_get (motions_of job channel) place ≡ Some item
     → All (λ e. e.1 ≡ left_at (take place (motions_of job channel)) (start_position job) e.0) (axes_of item.motion)
 unfolding motions_of
 begins_there job channel place item is = by_line (channel_line job channel) is
@@ -88,7 +88,7 @@ span_stays state channel other apart =
     let none : cond {A = ℕ} (channel == other) 1 0 ≡ 0 = rw (ne_eqb channel other (λ same. apart (sym same))) refl in
     omega (arith, counts_act state channel other)
 
-has_acted : (state : State) (channel : ℕ) → has_ended (after_step state (Act channel)) channel ≡ true
+pub has_acted : (state : State) (channel : ℕ) → has_ended (after_step state (Act channel)) channel ≡ true
 unfolding has_ended
 has_acted state channel =
     let one : cond {A = ℕ} (channel == channel) 1 0 ≡ 1 = rw (eq-eqb channel channel refl) refl in

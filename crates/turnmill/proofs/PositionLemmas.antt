@@ -185,15 +185,26 @@ module _ (job : JobView) (channel : ℕ) where
   AllJoin-items_after before [] at same = tt
   AllJoin-items_after before (block ∷ blocks) at same = join_step before blocks block.line block.stmt (AllJoin-items_after (before ++ block ∷ []) blocks) at same
 
--- each of them begins where those before it left the axes
+Joins-same : (n : ℕ) (p q : ℕ → ℤ) → ((axis : ℕ) → p axis ≡ q axis) → (item : Item) → Joins n p item → Joins n q item
+Joins-same n p q same item joins =
+    All-weaker (λ e. (e.0 < n) × (e.1 ≡ p e.0) × (e.2 ≡ after item p e.0)) (λ e. (e.0 < n) × (e.1 ≡ q e.0) × (e.2 ≡ after item q e.0))
+    (λ e joined. (joined.0, joined.1 ∙ same e.0, joined.2 ∙ after_is item p e.0 ∙ ap (unwrap_or (end_in e.0 item)) (same e.0) ∙ sym (after_is item q e.0)))
+    (axes_of item.motion) joins
+
+-- each of them joins onto those before it
+pub joins_at : (n : ℕ) (at : ℕ → ℤ) (items : List Item) → AllJoin n at items → (place : ℕ) (item : Item) → slice_get items place ≡ Some item
+    → Joins n (left_at (take place items) at) item
+joins_at n at [] joins place item is = absurd cc
+joins_at n at (first ∷ items) joins zero item is =
+    let same : first ≡ item = cc in
+    subst (λ i. Joins n (left_at [] at) i) same (Joins-same n at (left_at [] at) (λ axis. sym (left_at-nil at axis)) first joins.0)
+joins_at n at (first ∷ items) joins (suc place) item is =
+    Joins-same n (left_at (take place items) (after first at)) (left_at (first ∷ take place items) at)
+    (λ axis. sym (left_at-cons first (take place items) at axis)) item (joins_at n (after first at) items joins.1 place item is)
+
+-- and begins where they left the axes
 pub begins_at_left : (n : ℕ) (at : ℕ → ℤ) (items : List Item) → AllJoin n at items → (place : ℕ) (item : Item) → slice_get items place ≡ Some item
     → All (λ e. e.1 ≡ left_at (take place items) at e.0) (axes_of item.motion)
-begins_at_left n at [] joins place item is = absurd cc
-begins_at_left n at (first ∷ items) joins zero item is =
-    let same : first ≡ item = cc in
-    subst (λ i. All (λ e. e.1 ≡ left_at [] at e.0) (axes_of i.motion)) same
-    (All-weaker (λ e. (e.0 < n) × (e.1 ≡ at e.0) × (e.2 ≡ after first at e.0)) (λ e. e.1 ≡ left_at [] at e.0) (λ e joined. joined.1 ∙ sym (left_at-nil at e.0)) (axes_of first.motion) joins.0)
-begins_at_left n at (first ∷ items) joins (suc place) item is =
-    All-weaker (λ e. e.1 ≡ left_at (take place items) (after first at) e.0) (λ e. e.1 ≡ left_at (first ∷ take place items) at e.0)
-    (λ e begins. begins ∙ sym (left_at-cons first (take place items) at e.0)) (axes_of item.motion)
-    (begins_at_left n (after first at) items joins.1 place item is)
+begins_at_left n at items joins place item is =
+    All-weaker (λ e. (e.0 < n) × (e.1 ≡ left_at (take place items) at e.0) × (e.2 ≡ after item (left_at (take place items) at) e.0))
+    (λ e. e.1 ≡ left_at (take place items) at e.0) (λ e joined. joined.1) (axes_of item.motion) (joins_at n at items joins place item is)

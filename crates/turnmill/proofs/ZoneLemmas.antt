@@ -112,10 +112,10 @@ module _ (zone : ZoneLine) (low high : ℕ → ℤ) (position : ℕ → Fraction
 
 -- ---- the zone
 
-some_side : {X : Type 0} (xs : List X) (i : ℕ) → i < length xs → (x : X) × (slice_get xs i ≡ Some x)
-some_side [] i within = absurd (omega arith)
-some_side (x ∷ xs) zero within = (x, refl)
-some_side (x ∷ xs) (suc i) within = some_side xs i (omega arith)
+pub some_at : {X : Type 0} (xs : List X) (i : ℕ) → i < length xs → (x : X) × (slice_get xs i ≡ Some x)
+some_at [] i within = absurd (omega arith)
+some_at (x ∷ xs) zero within = (x, refl)
+some_at (x ∷ xs) (suc i) within = some_at xs i (omega arith)
 
 get_or-map_at : {X Y : Type 0} (f : X → Y) (xs : List X) (i : ℕ) (x : X) (d : Y) → slice_get xs i ≡ Some x → get_or (map f xs) i d ≡ f x
 get_or-map_at f [] i x d is = absurd cc
@@ -137,11 +137,11 @@ pub in_zone_box : (zone : ZoneLine) (low high : ℕ → ℤ) (position : ℕ →
 unfolding box_of side_low side_high has_axis
 in_zone_box zone low high position three within point is = record {
   fraction = is.fraction;
-  above = λ direction in_space. let at = some_side zone.sides direction (omega arith) in
+  above = λ direction in_space. let at = some_at zone.sides direction (omega arith) in
       subst (λ (b : ℤ). (b *ℤ pos point.under) ≤ℤ point.top direction) (sym (get_or-map_at (side_low low high) zone.sides direction at.0 (pos 0) at.1))
       (is_above zone low high position within at.0.carrier at.0.lo (point.top direction) point.under
       (λ axis carries. any_at (λ side. is_carrier axis side.carrier) zone.sides direction at.0 at.1 carries) (is.above direction at.0 at.1));
-  below = λ direction in_space. let at = some_side zone.sides direction (omega arith) in
+  below = λ direction in_space. let at = some_at zone.sides direction (omega arith) in
       subst (λ (b : ℤ). point.top direction ≤ℤ (b *ℤ pos point.under)) (sym (get_or-map_at (side_high low high) zone.sides direction at.0 (pos 0) at.1))
       (is_below zone low high position within at.0.carrier at.0.hi (point.top direction) point.under
       (λ axis carries. any_at (λ side. is_carrier axis side.carrier) zone.sides direction at.0 at.1 carries) (is.below direction at.0 at.1));
