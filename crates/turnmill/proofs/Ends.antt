@@ -6,7 +6,7 @@ use Rattle.std.specs.Option.{option_map_or}
 use Rattle.swept_boxes.specs.Path.{Point}
 use Rattle.tape_job.specs.Job.{JobView}
 use Rattle.tape_job.specs.declared.job.ChannelLine.{ChannelLine}
-use Rattle.turnmill.proofs.BoxLemmas.{standing, along_at_end}
+use Rattle.turnmill.proofs.CoverLemmas.{standing, along_at_end}
 use Rattle.turnmill.proofs.NoJumps.{has_acted}
 use Rattle.turnmill.proofs.PositionLemmas.{Joins, AllJoin, joins_at}
 use Rattle.turnmill.proofs.Soundness.{motions_join}

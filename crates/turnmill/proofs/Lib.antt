@@ -1,6 +1,6 @@
 pub mod SomeLemmas
 pub mod PositionLemmas
-pub mod BoxLemmas
+pub mod CoverLemmas
 pub mod PieceLemmas
 pub mod ZoneLemmas
 pub mod PairLemmas

@@ -13,7 +13,7 @@ use Rattle.swept_boxes.specs.declared.Box3.{Box3}
 use Rattle.swept_boxes.specs.declared.Motion.{Motion}
 use Rattle.swept_boxes.specs.declared.Motion.TheVariants.{Line}
 use Rattle.tape_job.specs.declared.job.ZoneLine.{ZoneLine}
-use Rattle.turnmill.proofs.BoxLemmas.{Covers, IsCovered}
+use Rattle.turnmill.proofs.CoverLemmas.{Covers, IsCovered}
 use Rattle.turnmill.proofs.SomeLemmas.{SomeOf, SomeOf-weaker, SomeOf-map, found_passes, All-found}
 use Rattle.swept_boxes.specs.Path.{Point}
 use Rattle.turnmill.specs.SmallSteps.{end_in, StandsAt, IsAlong}

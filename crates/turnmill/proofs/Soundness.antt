@@ -11,7 +11,7 @@ use Rattle.tape_job.specs.declared.job.AxisLine.{AxisLine}
 use Rattle.tape_job.specs.declared.job.ChannelLine.{ChannelLine}
 use Rattle.tape_job.specs.declared.job.Side.{Side}
 use Rattle.tape_job.specs.declared.job.ZoneLine.{ZoneLine}
-use Rattle.turnmill.proofs.BoxLemmas.{Covers, box_covers, standing_covers}
+use Rattle.turnmill.proofs.CoverLemmas.{Covers, box_covers, standing_covers}
 use Rattle.turnmill.proofs.OwnerLemmas.{one_owner}
 use Rattle.turnmill.proofs.PairLemmas.{is_in_order, some_zone_pair, IsCurrent, IsCut-own_clock, HasBox, some_box_pair, pair_is}
 use Rattle.turnmill.proofs.PieceLemmas.{AxesWithin, some_piece}
