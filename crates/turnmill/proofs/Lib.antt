@@ -11,3 +11,4 @@ pub mod NoJumps
 pub mod Ends
 pub mod Ranges
 pub mod Positions
+pub mod BoxLemmas

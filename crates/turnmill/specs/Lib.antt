@@ -1,4 +1,5 @@
 pub mod Channels
+pub mod ChannelRun
 pub mod ZoneBoxes
 pub mod Stretches
 pub mod Clash
