@@ -13,3 +13,5 @@ pub mod Ranges
 pub mod Positions
 pub mod BoxLemmas
 pub mod MeetLemmas
+pub mod JudgeLemmas
+pub mod FitLemmas

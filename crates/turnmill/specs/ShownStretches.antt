@@ -1,5 +1,5 @@
 -- The stretches of a zone as the comparison takes them, and the first two boxes that meet.
-use Rattle.std.specs.Prelude.{ℕ, ℤ, ◌==◌, ◌||◌, not, Bool, true, false, if◌then◌else◌, List, [], ◌∷◌, map, Option, None, Some, find}
+use Rattle.std.specs.Prelude.{ℕ, ℤ, ◌==◌, ◌||◌, not, Bool, true, false, if◌then◌else◌, List, [], ◌∷◌, map, Option, None, Some, find, unwrap_or}
 use Rattle.std.specs.Option.{option_map, option_or}
 use Rattle.tape_job.specs.Job.{JobView}
 use Rattle.tape_job.specs.declared.job.ZoneLine.{ZoneLine}
@@ -7,6 +7,7 @@ use Rattle.turnmill.specs.ChannelRun.{RunView}
 use Rattle.turnmill.specs.Channels.{start_position}
 use Rattle.turnmill.specs.Clash.{boxes_meet}
 use Rattle.turnmill.specs.StretchView.{StretchView}
+use Rattle.turnmill.specs.Stretches.{Stretch, stretches_of}
 use Rattle.turnmill.specs.ZoneBoxes.{boxes_of, shown_box}
 use Rattle.turnmill.specs.declared.stretches.PlaceName.{PlaceName}
 use Rattle.turnmill.specs.declared.stretches.StretchKind.{StretchKind}
@@ -22,10 +23,18 @@ run_stretch job zone run = record { kind = Run; channel = run.channel; boxes = m
 unfoldable pub end_stretch : ZoneLine → RunView → (ℕ → ℤ) → StretchView
 end_stretch zone run at = record { kind = End; channel = run.channel; boxes = map (shown_box zone run.end_line) (boxes_of zone at []) }
 
+-- a stretch as the comparison takes it
+unfoldable pub shown_stretch : ZoneLine → Stretch → StretchView
+shown_stretch zone stretch = record { kind = stretch.kind; channel = unwrap_or stretch.channel 0; boxes = map (shown_box zone stretch.line) stretch.boxes }
+
 -- a zone with its stretches
 pub record HeldView : Type 0 where
   pub zone : ZoneLine
   pub stretches : List StretchView
+
+-- a zone of the job with its stretches
+unfoldable pub held_zone : JobView → ZoneLine → HeldView
+held_zone job zone = record { zone = zone; stretches = map (shown_stretch zone) (stretches_of job zone) }
 
 abbrev pub is_run : StretchKind → Bool
 is_run Run = true

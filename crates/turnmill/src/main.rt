@@ -3,6 +3,7 @@
 
 mod channels;
 mod clash;
+mod judge;
 mod stretches;
 mod zone_boxes;
 
