@@ -115,3 +115,6 @@ impl Box3 {
         low <= high
     }
 }
+
+#[cfg(test)]
+mod tests;
