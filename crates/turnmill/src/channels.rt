@@ -2,7 +2,7 @@
 ghost use Rattle.std.specs.Prelude.{◌≡◌, ℕ, ◌<◌, ◌≤◌, [], ◌++◌, length, IfOk, OnOk, find, unwrap_or};
 ghost use Rattle.std.specs.Option.{option_to_list};
 ghost use Rattle.turnmill.specs.Channels as model;
-ghost use Rattle.turnmill.specs.ChannelRun.{IsRunOf};
+ghost use Rattle.turnmill.specs.ChannelRun.{run_of};
 
 use arrayvec::ArrayVec;
 use micro_units::Um;
@@ -196,8 +196,6 @@ pub struct ChannelRun {
     pub items: Vec<Item>,
     /// The line of the block that ends its program.
     pub end_line: u32,
-    /// Where its axes stand at the end.
-    pub at: Positions,
 }
 
 impl Model for ChannelRun {
@@ -205,7 +203,7 @@ impl Model for ChannelRun {
 
     ghost Value = { RunView };
 
-    ghost view = { λ run. record { channel = run.channel; items = run.items.items; end_line = run.end_line; at = run.at } };
+    ghost view = { λ run. record { channel = run.channel; items = run.items.items; end_line = run.end_line } };
 }
 
 /// Whether a statement ends the program.
@@ -236,18 +234,23 @@ fn end_line_in(blocks: &[Block]) -> u32
     }
 }
 
-/// Runs the program that a CHANNEL line selects.
-pub fn run_channel(alloc: Global, job: &Job, line: &ChannelLine) -> Result<ChannelRun, AllocError>
+/// Runs the program that a CHANNEL line selects, and answers where the axes stand at its end, too.
+pub fn run_channel(
+    alloc: Global,
+    job: &Job,
+    line: &ChannelLine,
+) -> Result<(ChannelRun, Positions), AllocError>
     requires { model.HasFewAxes job.now }
-    ensures { IfOk result (λ run. IsRunOf job.now line.now run) }
+    ensures run { IfOk result (λ answer. answer.0 ≡ run_of job.now line.now) }
+    ensures stands { IfOk result (λ answer. model.StandsAfter job.now line.now.channel (model.blocks_of job.now line.now) answer.1) }
 {
     let blocks = blocks_of(job, line);
     let mut at = start_positions(job);
     let items = make_items(alloc, job, line.channel, blocks, &mut at)?;
-    Ok(ChannelRun {
+    let run = ChannelRun {
         channel: line.channel,
         items,
         end_line: end_line_in(blocks),
-        at,
-    })
+    };
+    Ok((run, at))
 }
