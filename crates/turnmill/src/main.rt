@@ -3,6 +3,7 @@
 
 mod channels;
 mod clash;
+mod report;
 mod stretches;
 mod zone_boxes;
 
