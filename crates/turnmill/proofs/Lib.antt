@@ -13,3 +13,4 @@ pub mod Ranges
 pub mod Positions
 pub mod BoxLemmas
 pub mod MeetLemmas
+pub mod ReportLemmas
