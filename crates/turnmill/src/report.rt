@@ -1,5 +1,5 @@
 //! The text of the report.
-ghost use Rattle.std.specs.Prelude.{◌≡◌, ℕ, ◌<◌, ◌≤◌, ◌++◌, codes, encode_utf8, IfOk, OnOk, string_bytes, unwrap_or};
+ghost use Rattle.std.specs.Prelude.{◌≡◌, ◌++◌, IfOk, OnOk, string_bytes, unwrap_or};
 ghost use Rattle.std.specs.List.{flat_map};
 ghost use Rattle.std.specs.Option.{option_copied};
 ghost use Rattle.nc_faults.specs.Texts.{IsRefusalCode};
@@ -237,4 +237,57 @@ pub fn refusal_line(alloc: Global, refusal: &Refusal) -> Result<String, AllocErr
     let line = refusal.line;
     let text = refusal_text(code);
     format!(in alloc; "REFUSED {code} {line} {text}\n")
+}
+
+#[cfg(test)]
+mod tests {
+    use super::*;
+    use std::test::Fail;
+    use tape_job::ZoneId;
+
+    #[test]
+    fn positions(rt: HostRuntime) -> Result<(), Fail> {
+        let mut out = String::new(rt.alloc());
+        push_position(&mut out, Um { micrometres: 0 })?;
+        push_position(&mut out, Um { micrometres: -800 })?;
+        push_position(
+            &mut out,
+            Um {
+                micrometres: 120_012,
+            },
+        )?;
+        assert_eq!(rt; out.as_str(), "0.000-0.800120.012");
+        Ok(())
+    }
+
+    #[test]
+    fn named_clash(rt: HostRuntime) -> Result<(), Fail> {
+        let place = PlaceName {
+            zone: ZoneId { number: 1 },
+            channel: Some(ChannelId { number: 1 }),
+            kind: StretchKind::Run,
+            line: 15,
+        };
+        let other = PlaceName {
+            zone: ZoneId { number: 32 },
+            channel: None,
+            kind: StretchKind::End,
+            line: 0,
+        };
+        let mut out = String::new(rt.alloc());
+        push_verdict_line(&mut out, &Verdict::No(place, other))?;
+        assert_eq!(rt;
+            out.as_str(),
+            "VERDICT NO ZONE 1 CHANNEL 1 RUN 15 ZONE 32 CHANNEL 0 END 0\n"
+        );
+        Ok(())
+    }
+
+    #[test]
+    fn refusals(rt: HostRuntime) -> Result<(), Fail> {
+        let refusal = Refusal { code: 1, line: 1 };
+        let line = refusal_line(rt.alloc(), &refusal)?;
+        assert_eq!(rt; line.as_str(), "REFUSED 1 1 no job line\n");
+        Ok(())
+    }
 }
