@@ -15,3 +15,4 @@ pub mod BoxLemmas
 pub mod MeetLemmas
 pub mod JudgeLemmas
 pub mod FitLemmas
+pub mod ReportLemmas

@@ -8,3 +8,4 @@ pub mod Clash
 pub mod SoundJob
 pub mod SmallSteps
 pub mod Safety
+pub mod Report

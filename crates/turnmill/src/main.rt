@@ -4,6 +4,7 @@
 mod channels;
 mod clash;
 mod judge;
+mod report;
 mod stretches;
 mod zone_boxes;
 
