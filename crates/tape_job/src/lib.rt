@@ -1,9 +1,11 @@
 //! The job list and the programs behind it, read from the bytes of the input.
 #![tactic(auto)]
 
+mod code;
 mod fault;
 mod ids;
 mod job;
+mod lines;
 mod name;
 
 pub use fault::JobFault;
