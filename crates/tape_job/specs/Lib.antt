@@ -1,3 +1,6 @@
 pub mod Code
+pub mod Item
 pub mod Job
+pub mod Length
 pub mod Lines
+pub mod Numbers

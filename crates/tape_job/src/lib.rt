@@ -4,9 +4,12 @@
 mod code;
 mod fault;
 mod ids;
+mod item;
 mod job;
+mod length;
 mod lines;
 mod name;
+mod numbers;
 
 pub use fault::JobFault;
 pub use ids::{ChannelId, ZoneId};
