@@ -1,4 +1,5 @@
 pub mod Code
+pub mod Header
 pub mod Item
 pub mod Job
 pub mod Length

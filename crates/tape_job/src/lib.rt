@@ -3,6 +3,7 @@
 
 mod code;
 mod fault;
+mod header;
 mod ids;
 mod item;
 mod job;
