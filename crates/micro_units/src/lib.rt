@@ -1,9 +1,18 @@
 //! Numbers of part programs: whole millionths, and positions in whole micrometres.
 #![tactic(auto)]
 
-ghost use Rattle.std.specs.Prelude.{ℤ, ◌<◌, ◌≤◌, ◌^◌};
+ghost use Rattle.std.specs.Prelude.{◌≡◌, ◌≢◌, ◌<◌, ◌≤◌, ◌*◌, ◌^◌, pos, ◌+ℤ◌, ◌-ℤ◌, ◌<ℤ◌, ◌≤ℤ◌, MatchOption, MatchResult, IfOk, Err};
 ghost use Rattle.std.specs.Int.RustNames.{unsigned_abs};
 
+mod digits;
+mod roots;
+mod rounding;
+
+use digits::{Digits, digits_in};
+use roots::root_of_millionths;
+pub use roots::{isqrt_ceil, isqrt_floor};
+use rounding::rounded;
+pub use rounding::rounding_is_nearest;
 use std::marker::Model;
 use thiserror::Error;
 
@@ -17,6 +26,9 @@ pub struct Num {
 }
 
 impl Model for Num {
+    ghost use Rattle.std.specs.Prelude.{ℤ, ◌<◌, ◌^◌};
+    ghost use Rattle.std.specs.Int.RustNames.{unsigned_abs};
+
     ghost Value = { ℤ };
 
     ghost view = { λ n. n.millionths };
@@ -36,6 +48,9 @@ pub struct Um {
 }
 
 impl Model for Um {
+    ghost use Rattle.std.specs.Prelude.{ℤ, ◌≤◌};
+    ghost use Rattle.std.specs.Int.RustNames.{unsigned_abs};
+
     ghost Value = { ℤ };
 
     ghost view = { λ u. u.micrometres };
@@ -60,4 +75,217 @@ pub enum NumFault {
     /// The root of a negative number.
     #[error("root of a negative number")]
     NegativeRoot,
+}
+
+impl Default for Num {
+    ghost is_default = { λ n. n ≡ pos 0 };
+
+    fn default() -> Self {
+        Num { millionths: 0 }
+    }
+}
+
+impl Default for Um {
+    ghost is_default = { λ n. n ≡ pos 0 };
+
+    fn default() -> Self {
+        Um { micrometres: 0 }
+    }
+}
+
+impl Num {
+    ghost use Rattle.micro_units.specs.Num.{GivesNum, GivesUm, GivesQuotient};
+    ghost use Rattle.micro_units.specs.Arithmetic.{product, quotient, rounded_ratio, whole_quotient, remainder, whole_part, nearest_whole, square_root, IsGreatestRoot};
+    ghost use Rattle.micro_units.specs.NumberText.{number_of};
+    ghost use Rattle.micro_units.specs.Rounding.{half_away};
+
+    /// The number of so many millionths.
+    fn from_millionths(millionths: i128) -> Result<Num, NumFault>
+        ensures { GivesNum millionths result }
+    {
+        if millionths.unsigned_abs() < 100_000_000_000_000 {
+            Ok(Num {
+                millionths: millionths as i64,
+            })
+        } else {
+            Err(NumFault::TooLarge)
+        }
+    }
+
+    /// The number nearest to so many millionths, given as a fraction; half away from zero.
+    fn from_fraction(numerator: i128, denominator: u64) -> Result<Num, NumFault>
+        requires small { unsigned_abs numerator < 2 ^ 120 }
+        requires divides { 0 < denominator }
+        ensures { GivesNum (half_away numerator denominator) result }
+    {
+        Num::from_millionths(rounded(numerator, denominator))
+    }
+
+    /// The number that these digits write, rounded half away from zero.
+    #[tactic(auto, using(crate::proofs::Decimals::power_least))]
+    fn from_digits(digits: Digits) -> Result<Num, NumFault>
+        ensures { GivesNum (half_away (pos (digits.number * 1000000)) (10 ^ digits.decimals)) result }
+    {
+        let power = 10u64.pow(digits.decimals);
+        Num::from_fraction(i128::from(digits.number) * 1_000_000, power)
+    }
+
+    /// Reads digits with at most one point among, before or after them, and no sign;
+    /// what stands after the sixth decimal is rounded half away from zero.
+    pub fn parse(text: &[u8]) -> Result<Num, NumFault>
+        ensures { MatchOption (number_of text.now) (result ≡ Err NumFault.NotANumber) (λ v. GivesNum v result) }
+    {
+        match digits_in(text) {
+            Some(digits) => Num::from_digits(digits),
+            None => Err(NumFault::NotANumber),
+        }
+    }
+
+    /// The sum.
+    pub fn add(self, other: Num) -> Result<Num, NumFault>
+        ensures { GivesNum (self +ℤ other) result }
+    {
+        Num::from_millionths(i128::from(self.millionths) + i128::from(other.millionths))
+    }
+
+    /// The difference.
+    pub fn sub(self, other: Num) -> Result<Num, NumFault>
+        ensures { GivesNum (self -ℤ other) result }
+    {
+        Num::from_millionths(i128::from(self.millionths) - i128::from(other.millionths))
+    }
+
+    /// The product, rounded once, half away from zero.
+    #[tactic(auto, unfolding(crate::specs::Arithmetic::product))]
+    pub fn mul(self, other: Num) -> Result<Num, NumFault>
+        ensures { GivesNum (product self other) result }
+    {
+        Num::from_fraction(
+            i128::from(self.millionths) * i128::from(other.millionths),
+            1_000_000,
+        )
+    }
+
+    /// The quotient, rounded once, half away from zero.
+    #[tactic(auto, unfolding(crate::specs::Arithmetic::quotient))]
+    pub fn div(self, other: Num) -> Result<Num, NumFault>
+        ensures { GivesQuotient other (quotient self other) result }
+    {
+        if other.millionths == 0 {
+            return Err(NumFault::DivideByZero);
+        }
+        Num::from_ratio(i128::from(self.millionths) * 1_000_000, other.millionths)
+    }
+
+    /// The fraction with a divisor of either sign, rounded half away from zero.
+    #[tactic(auto, unfolding(crate::specs::Arithmetic::rounded_ratio))]
+    fn from_ratio(numerator: i128, divisor: i64) -> Result<Num, NumFault>
+        requires small { unsigned_abs numerator < 2 ^ 120 }
+        requires divides { divisor ≢ pos 0 }
+        ensures { GivesNum (rounded_ratio numerator divisor) result }
+    {
+        if divisor > 0 {
+            Num::from_fraction(numerator, divisor.unsigned_abs())
+        } else {
+            Num::from_fraction(-numerator, divisor.unsigned_abs())
+        }
+    }
+
+    /// The whole part of the quotient, towards zero.
+    #[tactic(auto, unfolding(crate::specs::Arithmetic::whole_quotient))]
+    pub fn whole_div(self, other: Num) -> Result<Num, NumFault>
+        ensures { GivesQuotient other (whole_quotient self other) result }
+    {
+        if other.millionths == 0 {
+            return Err(NumFault::DivideByZero);
+        }
+        Num::from_millionths(i128::from(self.millionths / other.millionths) * 1_000_000)
+    }
+
+    /// What is left of this number when `other` is taken away as often as `whole_div` says;
+    /// it has the sign of this number.
+    #[tactic(auto, unfolding(crate::specs::Arithmetic::remainder))]
+    pub fn modulo(self, other: Num) -> Result<Num, NumFault>
+        ensures { MatchResult result (λ n. (other ≢ pos 0) × (n ≡ remainder self other)) (λ e. (e ≡ NumFault.DivideByZero) × (other ≡ pos 0)) }
+    {
+        if other.millionths == 0 {
+            return Err(NumFault::DivideByZero);
+        }
+        Ok(Num {
+            millionths: self.millionths % other.millionths,
+        })
+    }
+
+    /// The root, rounded down to millionths.
+    pub fn sqrt(self) -> Result<Num, NumFault>
+        ensures value { MatchResult result (λ r. (pos 0 ≤ℤ self) × (r ≡ square_root self)) (λ e. (e ≡ NumFault.NegativeRoot) × (self <ℤ pos 0)) }
+        ensures greatest { IfOk result (λ r. IsGreatestRoot self r) }
+    {
+        if self.millionths < 0 {
+            return Err(NumFault::NegativeRoot);
+        }
+        Ok(self.root())
+    }
+
+    /// The root of a number that is not below zero.
+    fn root(self) -> Num
+        requires { pos 0 ≤ℤ self }
+        ensures value { result ≡ square_root self }
+        ensures greatest { IsGreatestRoot self result }
+    {
+        let root = root_of_millionths(self.millionths.unsigned_abs());
+        Num {
+            millionths: root as i64,
+        }
+    }
+
+    /// The nearest whole number, half away from zero.
+    #[tactic(auto, unfolding(crate::specs::Arithmetic::nearest_whole))]
+    pub fn round(self) -> Result<Num, NumFault>
+        ensures { GivesNum (nearest_whole self) result }
+    {
+        Num::from_millionths(rounded(i128::from(self.millionths), 1_000_000) * 1_000_000)
+    }
+
+    /// The whole part, towards zero.
+    #[tactic(auto, unfolding(crate::specs::Arithmetic::whole_part))]
+    pub fn trunc(self) -> Num
+        ensures { result ≡ whole_part self }
+    {
+        Num {
+            millionths: self.millionths / 1_000_000 * 1_000_000,
+        }
+    }
+
+    /// This number of millimetres in whole micrometres, rounded half away from zero.
+    pub fn to_um(self) -> Result<Um, NumFault>
+        ensures { GivesUm (half_away self 1000) result }
+    {
+        Um::from_micrometres(rounded(i128::from(self.millionths), 1000))
+    }
+
+    /// Half of this number of millimetres in whole micrometres, as of a diameter; rounded once,
+    /// half away from zero.
+    pub fn half_to_um(self) -> Result<Um, NumFault>
+        ensures { GivesUm (half_away self 2000) result }
+    {
+        Um::from_micrometres(rounded(i128::from(self.millionths), 2000))
+    }
+}
+
+impl Um {
+    ghost use Rattle.micro_units.specs.Num.{GivesUm};
+
+    /// The length of so many micrometres.
+    fn from_micrometres(micrometres: i128) -> Result<Um, NumFault>
+        ensures { GivesUm micrometres result }
+    {
+        if micrometres.unsigned_abs() <= 20_000_000 {
+            Ok(Um {
+                micrometres: micrometres as i32,
+            })
+        } else {
+            Err(NumFault::TooLarge)
+        }
+    }
 }

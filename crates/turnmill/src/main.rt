@@ -1,4 +1,8 @@
 //! Checks the part programs of a multi-channel turn-mill machine for clashes.
 #![tactic(auto)]
 
+mod channels;
+mod stretches;
+mod zone_boxes;
+
 fn main() {}

@@ -1,0 +1,5 @@
+pub mod Arithmetic
+pub mod Num
+pub mod NumberText
+pub mod Root
+pub mod Rounding

@@ -1,0 +1,29 @@
+-- Numbers and lengths, and where they are in range.
+use Rattle.std.specs.Prelude.{◌≡◌, ◌≢◌, ◌<◌, ◌≤◌, ◌^◌, ℤ, pos, Result, Ok, Err, MatchResult}
+use Rattle.std.specs.Int.RustNames.{unsigned_abs}
+use Rattle.micro_units.specs.declared.Num.{Num}
+use Rattle.micro_units.specs.declared.Um.{Um}
+use Rattle.micro_units.specs.declared.NumFault.{NumFault}
+use Rattle.micro_units.specs.declared.NumFault.TheVariants.{NotANumber, TooLarge, DivideByZero, NegativeRoot}
+
+-- a count of millionths that a `Num` can hold, and of micrometres that a `Um` can
+abbrev pub FitsNum : ℤ → Type 0
+FitsNum millionths = unsigned_abs millionths < 10 ^ 14
+
+abbrev pub FitsUm : ℤ → Type 0
+FitsUm micrometres = unsigned_abs micrometres ≤ 20000000
+
+-- the answer has this value, or is TooLarge exactly where the value is out of range
+abbrev pub GivesNum : ℤ → Result Num NumFault → Type 0
+GivesNum value answer = MatchResult answer (λ n. (n ≡ value) × FitsNum value) (λ e. (e ≡ TooLarge) × ¬ (FitsNum value))
+
+abbrev pub GivesUm : ℤ → Result Um NumFault → Type 0
+GivesUm value answer = MatchResult answer (λ n. (n ≡ value) × FitsUm value) (λ e. (e ≡ TooLarge) × ¬ (FitsUm value))
+
+-- the answer of a division: DivideByZero exactly where the divisor is 0
+abbrev pub GivesQuotient : ℤ → ℤ → Result Num NumFault → Type 0
+GivesQuotient divisor value (Ok n) = (divisor ≢ pos 0) × (n ≡ value)
+GivesQuotient divisor value (Err DivideByZero) = divisor ≡ pos 0
+GivesQuotient divisor value (Err TooLarge) = (divisor ≢ pos 0) × ¬ (FitsNum value)
+GivesQuotient divisor value (Err NotANumber) = ⊥
+GivesQuotient divisor value (Err NegativeRoot) = ⊥

@@ -1,0 +1,36 @@
+-- When two boxes meet.
+use Rattle.std.specs.Prelude.{ℕ, ℤ, pos, ◌<◌, ◌*ℤ◌, ◌≤ℤ◌}
+use Rattle.std.specs.Int.{int_max, int_min}
+use Rattle.std.specs.List.{slice_index_or}
+use Rattle.swept_boxes.specs.declared.Box3.{Box3}
+
+-- a point of space: in each direction a fraction of micrometres, all over one denominator
+pub record SpacePoint : Type 0 where
+  pub top : ℕ → ℤ
+  pub under : ℕ
+
+-- the bounds of a box in a direction
+abbrev pub low_of : Box3 → ℕ → ℤ
+low_of box direction = slice_index_or box.lo direction (pos 0)
+
+abbrev pub high_of : Box3 → ℕ → ℤ
+high_of box direction = slice_index_or box.hi direction (pos 0)
+
+-- the point is in the box: in no direction below its low bound or above its high bound
+pub record IsInBox (box : Box3) (point : SpacePoint) : Type 0 where
+  pub fraction : 0 < point.under
+  pub above : (direction : ℕ) → direction < 3 → (low_of box direction *ℤ pos point.under) ≤ℤ point.top direction
+  pub below : (direction : ℕ) → direction < 3 → point.top direction ≤ℤ (high_of box direction *ℤ pos point.under)
+
+-- two boxes meet where they share a point
+abbrev pub DoMeet : Box3 → Box3 → Type 0
+DoMeet left right = (point : SpacePoint) × IsInBox left point × IsInBox right point
+
+-- in this direction the greater low bound is not above the lesser high bound
+abbrev pub TouchIn : Box3 → Box3 → ℕ → Type 0
+TouchIn left right direction =
+    int_max (low_of left direction) (low_of right direction) ≤ℤ int_min (high_of left direction) (high_of right direction)
+
+-- the same by the bounds: so it is in all three directions
+abbrev pub TouchInAll : Box3 → Box3 → Type 0
+TouchInAll left right = (direction : ℕ) → direction < 3 → TouchIn left right direction

@@ -1,0 +1,4 @@
+pub mod Boxes
+pub mod Ends
+pub mod Ranges
+pub mod Pieces

@@ -1,0 +1,4 @@
+pub mod Channels
+pub mod ZoneBoxes
+pub mod Stretches
+pub mod Clash
