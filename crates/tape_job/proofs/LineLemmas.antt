@@ -33,11 +33,11 @@ no_cut x (y ∷ ys) within =
     let at = no_cut_at_head (is_feed x) (position_or_len is_feed (y ∷ ys)) x (y ∷ ys) (omega arith) in
     rw at.0 (ap (onto_first x) (no_cut y ys at.1))
 
-place : (b : Bool) (p n i : ℕ) → nat_lt p n ≡ b → cond b (Some p) None ≡ Some i → (p < n) × (p ≡ i)
+pub place : (b : Bool) (p n i : ℕ) → nat_lt p n ≡ b → cond b (Some p) None ≡ Some i → (p < n) × (p ≡ i)
 place true p n i is e = (search (rules, is), cc)
 place false p n i is e = absurd cc
 
-no_place : (b : Bool) (p n : ℕ) → nat_lt p n ≡ b → cond b (Some p) None ≡ None → n ≤ p
+pub no_place : (b : Bool) (p n : ℕ) → nat_lt p n ≡ b → cond b (Some p) None ≡ None → n ≤ p
 no_place true p n is e = absurd cc
 no_place false p n is e = search (rules, is)
 

@@ -1,5 +1,6 @@
 -- The codes of refusals.
-use Rattle.std.specs.Prelude.{◌≡◌, ℕ, Result, Ok, Err, Option, Some, None}
+use Rattle.std.specs.Prelude.{◌≡◌, ℕ, List, Result, Ok, Err, Option, Some, None}
+use Rattle.std.specs.Global.{Vec}
 use Rattle.nc_faults.specs.declared.Refusal.{Refusal}
 use Rattle.tape_job.specs.declared.code.Code.{Code}
 use Rattle.tape_job.specs.declared.code.Code.TheVariants.{NoJobLine}
@@ -30,3 +31,9 @@ abbrev pub Gives : {A : Type 0} → Result A LineFault → Result A Code → Typ
 Gives (Ok a) read = read ≡ Ok a
 Gives (Err (Broken code)) read = read ≡ Err code
 Gives (Err NoMemory) read = Unit {0}
+
+-- the same of a list
+abbrev pub GivesItems : {A : Type 0} → Result (Vec A) LineFault → Result (List A) Code → Type 0
+GivesItems (Ok v) read = read ≡ Ok v.items
+GivesItems (Err (Broken code)) read = read ≡ Err code
+GivesItems (Err NoMemory) read = Unit {0}

@@ -1,3 +1,4 @@
+pub mod Block
 pub mod Code
 pub mod Header
 pub mod Item

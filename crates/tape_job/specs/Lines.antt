@@ -38,9 +38,13 @@ up_to (Some place) text = take place text
 unfoldable pub before_comment : List ℕ → List ℕ
 before_comment text = up_to (position is_semicolon text) text
 
+-- something other than blanks stands in the text
+abbrev pub is_visible : List ℕ → Bool
+is_visible text = list_any (λ byte. not (is_blank byte)) text
+
 -- something other than blanks stands before the comment
 unfoldable pub has_token : List ℕ → Bool
-has_token raw = list_any (λ byte. not (is_blank byte)) (before_comment (text_of raw))
+has_token raw = is_visible (before_comment (text_of raw))
 
 -- 37 is '%'
 unfoldable pub begins_with_percent : List ℕ → Bool

@@ -8,6 +8,10 @@ use Rattle.std.specs.Char.{is_ascii_digit}
 abbrev pub decimal : List ℕ → ℕ
 decimal digits = fold (λ number digit. number * 10 + (digit - 48)) 0 digits
 
+-- from low to high digits and nothing else
+unfoldable pub is_digits : ℕ → ℕ → List ℕ → Bool
+is_digits low high text = nat_le low (length text) && nat_le (length text) high && list_all is_ascii_digit text
+
 abbrev pub has_leading_zero : List ℕ → Bool
 has_leading_zero word = nat_lt 1 (length word) && (slice_index word 0 == 48)
 

@@ -1,6 +1,6 @@
 //! Lines of bytes, their texts and their words.
 ghost use Rattle.std.specs.Prelude.{◌≡◌, ◌∷◌, ◌<◌, IfOk, map, length, position};
-ghost use Rattle.tape_job.specs.Lines.{is_feed, is_blank, is_semicolon, raw_lines, text_of, before_comment, words, has_token, begins_with_percent};
+ghost use Rattle.tape_job.specs.Lines.{is_feed, is_blank, is_semicolon, raw_lines, text_of, before_comment, words, is_visible, has_token, begins_with_percent};
 
 use std::alloc::{AllocError, Global};
 
@@ -63,14 +63,19 @@ pub(crate) fn before_comment(text: &[u8]) -> &[u8]
     }
 }
 
+/// Whether something other than blanks stands in the text.
+pub(crate) fn is_visible(text: &[u8]) -> bool
+    ensures { result ≡ is_visible text.now }
+{
+    text.iter().any(|byte| !is_blank(*byte))
+}
+
 /// Whether something other than blanks stands before the comment of a line.
 #[tactic(auto, unfolding(crate::specs::Lines::has_token))]
 pub(crate) fn has_token(raw: &[u8]) -> bool
     ensures { result ≡ has_token raw.now }
 {
-    before_comment(text_in(raw))
-        .iter()
-        .any(|byte| !is_blank(*byte))
+    is_visible(before_comment(text_in(raw)))
 }
 
 /// Whether a line begins with `%`.

@@ -2,7 +2,7 @@
 ghost use Rattle.std.specs.Prelude.{◌≡◌, ◌^◌, ◌<◌, ◌≤◌, true, length, IfSome};
 ghost use Rattle.std.specs.List.{list_all};
 ghost use Rattle.std.specs.Char.{is_ascii_digit};
-ghost use Rattle.tape_job.specs.Numbers.{decimal, has_leading_zero, is_whole, whole_of, number_within};
+ghost use Rattle.tape_job.specs.Numbers.{decimal, is_digits, has_leading_zero, is_whole, whole_of, number_within};
 
 /// The number that the digits write.
 fn decimal(digits: &[u8]) -> u32
@@ -22,6 +22,17 @@ fn has_digits_only(word: &[u8]) -> bool
     ensures { result ≡ list_all is_ascii_digit word.now }
 {
     word.iter().all(|byte| byte.is_ascii_digit())
+}
+
+/// Whether the text is so many digits and nothing else.
+#[tactic(auto, unfolding(crate::specs::Numbers::is_digits))]
+pub(crate) fn is_digits(low: usize, high: usize, text: &[u8]) -> bool
+    ensures { result ≡ is_digits low high text.now }
+{
+    if text.len() < low || text.len() > high {
+        return false;
+    }
+    has_digits_only(text)
 }
 
 /// Whether the word begins with a zero and goes on.
