@@ -6,3 +6,4 @@ pub mod Job
 pub mod Length
 pub mod Lines
 pub mod Numbers
+pub mod Reading

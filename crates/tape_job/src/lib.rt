@@ -13,6 +13,7 @@ mod length;
 mod lines;
 mod name;
 mod numbers;
+mod reading;
 
 pub use fault::JobFault;
 pub use ids::{ChannelId, ZoneId};
