@@ -7,3 +7,4 @@ pub mod Length
 pub mod Lines
 pub mod Numbers
 pub mod Reading
+pub mod Rules

@@ -14,6 +14,7 @@ mod lines;
 mod name;
 mod numbers;
 mod reading;
+mod rules;
 
 pub use fault::JobFault;
 pub use ids::{ChannelId, ZoneId};
