@@ -16,7 +16,7 @@ CutsAt n x xs = cut_at_letters (x ∷ xs) ≡ (x ∷ take n xs) ∷ cut_at_lette
 
 cut_at_head : (letter : Bool) (n : ℕ) (x y : ℕ) (ys : List ℕ) → (n < length ys → CutsAt n y ys) → cond (not letter) (1 + n) 0 < 1 + length ys
     → cond letter ((x ∷ []) ∷ cut_at_letters (y ∷ ys)) (onto_first x (cut_at_letters (y ∷ ys)))
-      ≡ (x ∷ take (cond (not letter) (1 + n) 0) (y ∷ ys)) ∷ cut_at_letters (drop (cond (not letter) (1 + n) 0) (y ∷ ys))
+    ≡ (x ∷ take (cond (not letter) (1 + n) 0) (y ∷ ys)) ∷ cut_at_letters (drop (cond (not letter) (1 + n) 0) (y ∷ ys))
 cut_at_head true n x y ys cut within = refl
 cut_at_head false n x y ys cut within =
     let next : suc n ≡ 1 + n = omega arith in

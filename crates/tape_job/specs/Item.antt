@@ -132,7 +132,7 @@ job_line args = Err UnknownJobLine
 unfoldable pub is_later_kind : List ℕ → Bool
 is_later_kind kind =
     list_any (bytes_eq kind)
-      (codes "OFFSET" ∷ codes "MARGIN" ∷ codes "DEPTH" ∷ codes "BUDGET" ∷ codes "COMPENSATION" ∷ codes "SKIP" ∷ [])
+    (codes "OFFSET" ∷ codes "MARGIN" ∷ codes "DEPTH" ∷ codes "BUDGET" ∷ codes "COMPENSATION" ∷ codes "SKIP" ∷ [])
 
 -- what a job line says: its first word, and the others
 unfoldable pub item_of : List ℕ → List (List ℕ) → Result Item Code

@@ -2,6 +2,7 @@
 use Rattle.std.specs.Prelude.{ℕ, ℤ, ◌-◌, Bool, true, false, not, ◌&&◌, ◌||◌, if◌then◌else◌, ◌==◌, nat_lt, nat_le, List, [], ◌∷◌, length, slice_get, position, find, Result, Ok, Err, Option, Some, None}
 use Rattle.std.specs.List.{list_any, list_all}
 use Rattle.std.specs.Option.{option_and_then, option_map}
+use Rattle.std.specs.Map.{keys_of}
 use Rattle.std.specs.Str.{bytes_eq}
 use Rattle.nc_faults.specs.declared.Refusal.{Refusal}
 use Rattle.tape_job.specs.declared.code.Code.{Code}
@@ -136,8 +137,9 @@ item_rule job (Axis name owner at) = axis_rule job name owner
 item_rule job (Geo channel slot axis) = slot_rule job channel slot (axis_of job axis)
 item_rule job (Zone zone group holder x y z) = zone_rule job zone holder (side_of job x) (side_of job y) (side_of job z)
 
+-- a program in the library has this name
 unfoldable pub has_program : List (List ℕ × ProgramView) → List ℕ → Bool
-has_program programs name = list_any (λ program. bytes_eq program.0 name) programs
+has_program programs name = list_any (λ other. bytes_eq other name) (keys_of programs)
 
 -- what a header breaks
 unfoldable pub header_rule : JobView → List ℕ → Option Code

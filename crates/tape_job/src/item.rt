@@ -233,7 +233,21 @@ fn state_in(word: &[u8]) -> Result<bool, Code>
 
 /// A zone.
 #[tactic(auto, unfolding(crate::specs::Item::zone_item_of))]
-fn zone_item_in(zone: &[u8], group: &[u8], holder: &[u8], state: &[u8], cx: &[u8], lx: &[u8], hx: &[u8], cy: &[u8], ly: &[u8], hy: &[u8], cz: &[u8], lz: &[u8], hz: &[u8]) -> Result<Item, Code>
+fn zone_item_in(
+    zone: &[u8],
+    group: &[u8],
+    holder: &[u8],
+    state: &[u8],
+    cx: &[u8],
+    lx: &[u8],
+    hx: &[u8],
+    cy: &[u8],
+    ly: &[u8],
+    hy: &[u8],
+    cz: &[u8],
+    lz: &[u8],
+    hz: &[u8],
+) -> Result<Item, Code>
     ensures { result ≡ zone_item_of zone.now group.now holder.now state.now cx.now lx.now hx.now cy.now ly.now hy.now cz.now lz.now hz.now }
 {
     let _on = state_in(state)?;
@@ -252,7 +266,23 @@ fn zone_line_in(args: &[&[u8]]) -> Result<Item, Code>
     ensures { result ≡ zone_line (map (λ word. word.now) args.now) }
 {
     match args {
-        [zone, group, holder, state, cx, lx, hx, cy, ly, hy, cz, lz, hz] => zone_item_in(zone, group, holder, state, cx, lx, hx, cy, ly, hy, cz, lz, hz),
+        [
+            zone,
+            group,
+            holder,
+            state,
+            cx,
+            lx,
+            hx,
+            cy,
+            ly,
+            hy,
+            cz,
+            lz,
+            hz,
+        ] => zone_item_in(
+            zone, group, holder, state, cx, lx, hx, cy, ly, hy, cz, lz, hz,
+        ),
         _ => Err(Code::UnknownJobLine),
     }
 }

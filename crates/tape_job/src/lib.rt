@@ -10,6 +10,7 @@ mod ids;
 mod item;
 mod job;
 mod length;
+mod library;
 mod lines;
 mod name;
 mod numbers;

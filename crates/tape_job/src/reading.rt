@@ -187,7 +187,13 @@ fn token_reading_in(
     if !has_token(raw) {
         return Ok(Reading::Blank);
     }
-    form_in(alloc, seen, in_programs, begins_with_percent(raw), text_in(raw))
+    form_in(
+        alloc,
+        seen,
+        in_programs,
+        begins_with_percent(raw),
+        text_in(raw),
+    )
 }
 
 /// What a line says, where a line before it has a token or not, and the programs have begun or not.

@@ -108,7 +108,7 @@ impl Job {
 
     /// Whether the channel has the slot.
     #[tactic(auto, unfolding(crate::specs::Rules::has_slot))]
-    fn has_slot(&self, channel: ChannelId, slot: u8) -> bool
+    pub(crate) fn has_slot(&self, channel: ChannelId, slot: u8) -> bool
         ensures { result ≡ has_slot self.now channel slot }
     {
         self.geo
@@ -147,7 +147,9 @@ impl Job {
     fn holds_zone(&self, channel: ChannelId) -> bool
         ensures { result ≡ holds_zone self.now channel }
     {
-        self.zones.iter().any(|line| is_channel(channel, line.holder))
+        self.zones
+            .iter()
+            .any(|line| is_channel(channel, line.holder))
     }
 
     /// What a CHANNEL line breaks.
