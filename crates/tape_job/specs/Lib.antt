@@ -6,5 +6,8 @@ pub mod Job
 pub mod Length
 pub mod Lines
 pub mod Numbers
+pub mod Read
 pub mod Reading
 pub mod Rules
+pub mod Steps
+pub mod Told

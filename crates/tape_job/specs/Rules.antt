@@ -36,8 +36,8 @@ abbrev pub axis_at : ℕ → Option ℕ
 axis_at place = if nat_lt place 16 then Some place else None
 
 -- the axis with this name
-unfoldable pub axis_of : JobView → AxisName → Option ℕ
-axis_of job name = option_and_then axis_at (position (is_named name) job.axes)
+unfoldable pub axis_of : List AxisLine → AxisName → Option ℕ
+axis_of axes name = option_and_then axis_at (position (is_named name) axes)
 
 unfoldable pub has_axis : JobView → AxisName → Bool
 has_axis job name = list_any (is_named name) job.axes
@@ -89,12 +89,12 @@ slot_rule job channel slot (Some axis) =
 abbrev pub side_with : NamedSide → Option (ℕ × Bool) → Side
 side_with side carrier = record { carrier = carrier; lo = side.lo; hi = side.hi }
 
-abbrev pub carried_side : JobView → NamedSide → Option (AxisName × Bool) → Option Side
-carried_side job side None = Some (side_with side None)
-carried_side job side (Some (name, minus)) = option_map (λ axis. side_with side (Some (axis, minus))) (axis_of job name)
+abbrev pub carried_side : List AxisLine → NamedSide → Option (AxisName × Bool) → Option Side
+carried_side axes side None = Some (side_with side None)
+carried_side axes side (Some (name, minus)) = option_map (λ axis. side_with side (Some (axis, minus))) (axis_of axes name)
 
-unfoldable pub side_of : JobView → NamedSide → Option Side
-side_of job side = carried_side job side side.carrier
+unfoldable pub side_of : List AxisLine → NamedSide → Option Side
+side_of axes side = carried_side axes side side.carrier
 
 abbrev pub is_carrier : ℕ → Option (ℕ × Bool) → Bool
 is_carrier axis None = false
@@ -134,8 +134,8 @@ zone_rule job zone holder x y z = Some NotDeclared
 unfoldable pub item_rule : JobView → Item → Option Code
 item_rule job (Channel channel program) = channel_rule job channel
 item_rule job (Axis name owner at) = axis_rule job name owner
-item_rule job (Geo channel slot axis) = slot_rule job channel slot (axis_of job axis)
-item_rule job (Zone zone group holder x y z) = zone_rule job zone holder (side_of job x) (side_of job y) (side_of job z)
+item_rule job (Geo channel slot axis) = slot_rule job channel slot (axis_of job.axes axis)
+item_rule job (Zone zone group holder x y z) = zone_rule job zone holder (side_of job.axes x) (side_of job.axes y) (side_of job.axes z)
 
 -- a program in the library has this name
 unfoldable pub has_program : List (List ℕ × ProgramView) → List ℕ → Bool

@@ -90,7 +90,7 @@ impl Job {
     /// The axis with this name.
     #[tactic(auto, unfolding(crate::specs::Rules::axis_of))]
     pub(crate) fn axis_of(&self, name: AxisName) -> Option<AxisId>
-        ensures { result ≡ axis_of self.now name }
+        ensures { result ≡ axis_of self.now.axes name }
     {
         match place_in(name, self.axes.as_slice()) {
             Some(place) => axis_at(place),
@@ -202,7 +202,7 @@ impl Job {
     /// A direction with the axis that its name names.
     #[tactic(auto, unfolding(crate::specs::Rules::side_of))]
     pub(crate) fn side_of(&self, side: NamedSide) -> Option<Side>
-        ensures { result ≡ side_of self.now side }
+        ensures { result ≡ side_of self.now.axes side }
     {
         match side.carrier {
             Some((name, minus)) => match self.axis_of(name) {
