@@ -139,7 +139,7 @@ item_rule job (Zone zone group holder x y z) = zone_rule job zone holder (side_o
 
 -- a program in the library has this name
 unfoldable pub has_program : List (List ℕ × ProgramView) → List ℕ → Bool
-has_program programs name = list_any (λ other. bytes_eq other name) (keys_of programs)
+has_program programs name = list_any (bytes_eq name) (keys_of programs)
 
 -- what a header breaks
 unfoldable pub header_rule : JobView → List ℕ → Option Code
@@ -150,7 +150,7 @@ header_rule job name =
 
 abbrev pub is_name : List ℕ → Option (List ℕ) → Bool
 is_name name None = false
-is_name name (Some other) = bytes_eq other name
+is_name name (Some other) = bytes_eq name other
 
 -- each channel that has the program has the slot
 unfoldable pub all_have_slot : JobView → List ℕ → ℕ → Bool

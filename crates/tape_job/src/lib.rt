@@ -2,6 +2,7 @@
 //! The job list and the programs behind it, read from the bytes of the input.
 #![tactic(auto)]
 
+mod adding;
 mod block;
 mod code;
 mod fault;

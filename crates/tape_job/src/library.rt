@@ -71,7 +71,7 @@ impl Job {
     fn has_program(&self, name: &NameText) -> bool
         ensures { result ≡ has_program self.now.programs name.now }
     {
-        self.programs.keys().any(|key| is_same(key, name))
+        self.programs.keys().any(|key| is_same(name, key))
     }
 
     /// What a header breaks.
@@ -196,7 +196,7 @@ fn is_name(name: &NameText, program: &Option<NameText>) -> bool
     ensures { result ≡ is_name name.now program.now }
 {
     match program {
-        Some(other) => is_same(other, name),
+        Some(other) => is_same(name, other),
         None => false,
     }
 }
