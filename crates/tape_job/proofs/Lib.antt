@@ -1,3 +1,4 @@
 pub mod BlockLemmas
 pub mod LibraryLemmas
 pub mod LineLemmas
+pub mod ReaderLemmas

@@ -4,13 +4,15 @@ use Rattle.nc_faults.specs.declared.Refusal.{Refusal}
 use Rattle.tape_job.specs.declared.code.Code.{Code}
 use Rattle.tape_job.specs.declared.fault.JobFault.{JobFault}
 use Rattle.tape_job.specs.declared.fault.JobFault.TheVariants.{Refused, NoMemory}
+use Rattle.tape_job.specs.declared.job.Job.{Job}
 use Rattle.tape_job.specs.declared.job.Block.{Block}
 use Rattle.tape_job.specs.declared.reading.Reading.{Reading}
 use Rattle.tape_job.specs.Job.{JobView, ProgramView}
 use Rattle.tape_job.specs.Lines.{Line, has_token}
 use Rattle.tape_job.specs.Reading.{reading_of}
 use Rattle.tape_job.specs.Told.{Told, begins_program, channel_from, axis_from, geo_from, zone_from, block_from, name_from}
-use Rattle.tape_job.specs.Read.{trial, end_trial, answer}
+use Rattle.tape_job.specs.Read.{trial, line_refusal, end_trial, answer}
+use Rattle.tape_job.specs.Rules.{rule_of}
 
 -- a list with one more at its end, if there is one
 abbrev pub with_entry : {A : Type 0} → List A → Option A → List A
@@ -58,9 +60,15 @@ unfoldable pub finish : Result Told Refusal → Result JobView Refusal
 finish (Ok told) = answer (end_trial told) told.job
 finish (Err refused) = Err refused
 
--- the line is admitted with what it says, or is refused; the call may want memory at any time
+-- the call gives what a line says, or its refusal; it may want memory at any time
+abbrev pub Reads : Told → Line → Result Reading JobFault → Type 0
+Reads told line (Ok reading) = (reading_of told.seen told.in_programs line.1 ≡ Ok reading) × (rule_of told.job reading ≡ None)
+Reads told line (Err (Refused refused)) = line_refusal told line ≡ Some refused
+Reads told line (Err NoMemory) = Unit {0}
+
+-- the same, and what is tried before it
 abbrev pub Admits : Told → Line → Result Reading JobFault → Type 0
-Admits told line (Ok reading) = (trial told line ≡ None) × (reading_of told.seen told.in_programs line.1 ≡ Ok reading)
+Admits told line (Ok reading) = (trial told line ≡ None) × (reading_of told.seen told.in_programs line.1 ≡ Ok reading) × (rule_of told.job reading ≡ None)
 Admits told line (Err (Refused refused)) = trial told line ≡ Some refused
 Admits told line (Err NoMemory) = Unit {0}
 
@@ -69,3 +77,8 @@ abbrev pub Tells : Told → Line → Result (Unit {0}) JobFault → Told → Typ
 Tells told line (Ok done) new = (trial told line ≡ None) × (new ≡ tell told line)
 Tells told line (Err (Refused refused)) new = trial told line ≡ Some refused
 Tells told line (Err NoMemory) new = Unit {0}
+
+-- the call gives this job or this refusal
+abbrev pub GivesJob : Result Job Refusal → Result JobView Refusal → Type 0
+GivesJob (Ok job) read = read ≡ Ok job
+GivesJob (Err refused) read = read ≡ Err refused

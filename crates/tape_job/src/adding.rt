@@ -202,4 +202,23 @@ impl Job {
     {
         push_block(&mut self.programs, line, stmt)
     }
+
+    /// Adds what a line says that breaks no rule.
+    #[tactic(auto, unfolding(crate::specs::Steps::with_line, crate::specs::Rules::rule_of, crate::specs::Rules::header_rule))]
+    pub(crate) fn add(
+        &mut self,
+        alloc: Global,
+        line: u32,
+        reading: Reading,
+    ) -> Result<(), AllocError>
+        requires { rule_of self.old reading ≡ None }
+        ensures { OnOk result (self.new ≡ with_line self.old line (Ok reading)) }
+    {
+        match reading {
+            Reading::Blank | Reading::First => Ok(()),
+            Reading::Entry(item) => self.add_item(line, item),
+            Reading::Header(name) => self.add_program(alloc, line, name),
+            Reading::Step(stmt) => self.add_block(line, stmt),
+        }
+    }
 }

@@ -15,6 +15,7 @@ mod library;
 mod lines;
 mod name;
 mod numbers;
+mod reader;
 mod reading;
 mod rules;
 
