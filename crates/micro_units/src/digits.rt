@@ -56,7 +56,8 @@ fn point_in(text: &[u8]) -> Option<usize>
 
 /// Whether these are at least one digit, and digits alone.
 fn is_number(whole: &[u8], decimals: &[u8]) -> bool
-    ensures { result ≡ (list_all is_ascii_digit (whole.now ++ decimals.now) && nat_lt 0 (length (whole.now ++ decimals.now))) }
+    ensures { let digits = whole.now ++ decimals.now in
+        result ≡ (list_all is_ascii_digit digits && nat_lt 0 (length digits)) }
 {
     let is_empty = whole.is_empty() && decimals.is_empty();
     !is_empty && are_digits(whole) && are_digits(decimals)

@@ -1,7 +1,7 @@
 //! Numbers of part programs: whole millionths, and positions in whole micrometres.
 #![tactic(auto)]
 
-ghost use Rattle.std.specs.Prelude.{◌≡◌, ◌≢◌, ◌<◌, ◌≤◌, ◌*◌, ◌^◌, pos, ◌+ℤ◌, ◌-ℤ◌, ◌<ℤ◌, ◌≤ℤ◌, MatchOption, MatchResult, IfOk, Err};
+ghost use Rattle.std.specs.Prelude.{◌≡◌, ◌≢◌, ◌<◌, ◌≤◌, ◌*◌, ◌^◌, pos, ◌+ℤ◌, ◌-ℤ◌, ◌≤ℤ◌, MatchOption, IfOk, Err};
 ghost use Rattle.std.specs.Int.RustNames.{unsigned_abs};
 
 mod digits;
@@ -94,8 +94,9 @@ impl Default for Um {
 }
 
 impl Num {
-    ghost use Rattle.micro_units.specs.Num.{GivesNum, GivesUm, GivesQuotient};
-    ghost use Rattle.micro_units.specs.Arithmetic.{product, quotient, rounded_ratio, whole_quotient, remainder, whole_part, nearest_whole, square_root, IsGreatestRoot};
+    ghost use Rattle.micro_units.specs.Num.{GivesNum, GivesUm, GivesQuotient, GivesRemainder, GivesRoot};
+    ghost use Rattle.micro_units.specs.Arithmetic.{product, rounded_ratio, quotient, whole_quotient, remainder};
+    ghost use Rattle.micro_units.specs.Arithmetic.{square_root, IsGreatestRoot, whole_part, nearest_whole};
     ghost use Rattle.micro_units.specs.NumberText.{number_of};
     ghost use Rattle.micro_units.specs.Rounding.{half_away};
 
@@ -130,10 +131,12 @@ impl Num {
         Num::from_fraction(i128::from(digits.number) * 1_000_000, power)
     }
 
-    /// Reads digits with at most one point among, before or after them, and no sign;
-    /// what stands after the sixth decimal is rounded half away from zero.
+    /// Reads digits with at most one point among, before or after them, and no sign, rounded once
+    /// to millionths. Any other text is `NotANumber`; a number out of range is `TooLarge`.
     pub fn parse(text: &[u8]) -> Result<Num, NumFault>
-        ensures { MatchOption (number_of text.now) (result ≡ Err NumFault.NotANumber) (λ v. GivesNum v result) }
+        ensures { MatchOption (number_of text.now)
+            (result ≡ Err NumFault.NotANumber)
+            (λ value. GivesNum value result) }
     {
         match digits_in(text) {
             Some(digits) => Num::from_digits(digits),
@@ -141,21 +144,21 @@ impl Num {
         }
     }
 
-    /// The sum.
+    /// The sum, or `TooLarge` where it is out of range.
     pub fn add(self, other: Num) -> Result<Num, NumFault>
         ensures { GivesNum (self +ℤ other) result }
     {
         Num::from_millionths(i128::from(self.millionths) + i128::from(other.millionths))
     }
 
-    /// The difference.
+    /// The difference, or `TooLarge` where it is out of range.
     pub fn sub(self, other: Num) -> Result<Num, NumFault>
         ensures { GivesNum (self -ℤ other) result }
     {
         Num::from_millionths(i128::from(self.millionths) - i128::from(other.millionths))
     }
 
-    /// The product, rounded once, half away from zero.
+    /// The product, rounded once to millionths, or `TooLarge` where it is out of range.
     #[tactic(auto, unfolding(crate::specs::Arithmetic::product))]
     pub fn mul(self, other: Num) -> Result<Num, NumFault>
         ensures { GivesNum (product self other) result }
@@ -166,59 +169,57 @@ impl Num {
         )
     }
 
-    /// The quotient, rounded once, half away from zero.
+    /// The quotient, rounded once to millionths: `DivideByZero` where `other` is 0, `TooLarge`
+    /// where the quotient is out of range.
     #[tactic(auto, unfolding(crate::specs::Arithmetic::quotient))]
     pub fn div(self, other: Num) -> Result<Num, NumFault>
         ensures { GivesQuotient other (quotient self other) result }
     {
-        if other.millionths == 0 {
-            return Err(NumFault::DivideByZero);
-        }
         Num::from_ratio(i128::from(self.millionths) * 1_000_000, other.millionths)
     }
 
-    /// The fraction with a divisor of either sign, rounded half away from zero.
+    /// The number nearest to so many millionths, given as a fraction with any divisor.
     #[tactic(auto, unfolding(crate::specs::Arithmetic::rounded_ratio))]
     fn from_ratio(numerator: i128, divisor: i64) -> Result<Num, NumFault>
-        requires small { unsigned_abs numerator < 2 ^ 120 }
-        requires divides { divisor ≢ pos 0 }
-        ensures { GivesNum (rounded_ratio numerator divisor) result }
+        requires { unsigned_abs numerator < 2 ^ 120 }
+        ensures { GivesQuotient divisor (rounded_ratio numerator divisor) result }
     {
         if divisor > 0 {
             Num::from_fraction(numerator, divisor.unsigned_abs())
-        } else {
+        } else if divisor < 0 {
             Num::from_fraction(-numerator, divisor.unsigned_abs())
+        } else {
+            Err(NumFault::DivideByZero)
         }
     }
 
-    /// The whole part of the quotient, towards zero.
+    /// The whole part of the quotient, towards zero: `DivideByZero` where `other` is 0, `TooLarge`
+    /// where it is out of range.
     #[tactic(auto, unfolding(crate::specs::Arithmetic::whole_quotient))]
     pub fn whole_div(self, other: Num) -> Result<Num, NumFault>
         ensures { GivesQuotient other (whole_quotient self other) result }
     {
-        if other.millionths == 0 {
-            return Err(NumFault::DivideByZero);
+        match self.millionths.checked_div(other.millionths) {
+            Some(quotient) => Num::from_millionths(i128::from(quotient) * 1_000_000),
+            None => Err(NumFault::DivideByZero),
         }
-        Num::from_millionths(i128::from(self.millionths / other.millionths) * 1_000_000)
     }
 
-    /// What is left of this number when `other` is taken away as often as `whole_div` says;
-    /// it has the sign of this number.
+    /// What is left over by the whole part of the quotient, also where that is out of range; it has
+    /// the sign of this number. `DivideByZero` where `other` is 0.
     #[tactic(auto, unfolding(crate::specs::Arithmetic::remainder))]
     pub fn modulo(self, other: Num) -> Result<Num, NumFault>
-        ensures { MatchResult result (λ n. (other ≢ pos 0) × (n ≡ remainder self other)) (λ e. (e ≡ NumFault.DivideByZero) × (other ≡ pos 0)) }
+        ensures { GivesRemainder other (remainder self other) result }
     {
-        if other.millionths == 0 {
-            return Err(NumFault::DivideByZero);
+        match self.millionths.checked_rem(other.millionths) {
+            Some(millionths) => Ok(Num { millionths }),
+            None => Err(NumFault::DivideByZero),
         }
-        Ok(Num {
-            millionths: self.millionths % other.millionths,
-        })
     }
 
-    /// The root, rounded down to millionths.
+    /// The root, rounded down to millionths, or `NegativeRoot` where this number is below 0.
     pub fn sqrt(self) -> Result<Num, NumFault>
-        ensures value { MatchResult result (λ r. (pos 0 ≤ℤ self) × (r ≡ square_root self)) (λ e. (e ≡ NumFault.NegativeRoot) × (self <ℤ pos 0)) }
+        ensures value { GivesRoot self (square_root self) result }
         ensures greatest { IfOk result (λ r. IsGreatestRoot self r) }
     {
         if self.millionths < 0 {
@@ -239,7 +240,7 @@ impl Num {
         }
     }
 
-    /// The nearest whole number, half away from zero.
+    /// The nearest whole number, half away from zero, or `TooLarge` where it is out of range.
     #[tactic(auto, unfolding(crate::specs::Arithmetic::nearest_whole))]
     pub fn round(self) -> Result<Num, NumFault>
         ensures { GivesNum (nearest_whole self) result }
@@ -257,15 +258,16 @@ impl Num {
         }
     }
 
-    /// This number of millimetres in whole micrometres, rounded half away from zero.
+    /// This number of millimetres, rounded once to whole micrometres, or `TooLarge` where that is
+    /// more than 20,000,000 in size.
     pub fn to_um(self) -> Result<Um, NumFault>
         ensures { GivesUm (half_away self 1000) result }
     {
         Um::from_micrometres(rounded(i128::from(self.millionths), 1000))
     }
 
-    /// Half of this number of millimetres in whole micrometres, as of a diameter; rounded once,
-    /// half away from zero.
+    /// Half of this number of millimetres, as of a diameter, rounded once to whole micrometres, or
+    /// `TooLarge` where that is more than 20,000,000 in size.
     pub fn half_to_um(self) -> Result<Um, NumFault>
         ensures { GivesUm (half_away self 2000) result }
     {
@@ -289,3 +291,6 @@ impl Um {
         }
     }
 }
+
+#[cfg(test)]
+mod tests;

@@ -1,12 +1,36 @@
 //! The refusals and alarms of the control, with their printed texts.
 #![tactic(auto)]
 
+ghost use Rattle.std.specs.Prelude.{◌≡◌};
+ghost use Rattle.nc_faults.specs.NoMemory.{no_memory};
+ghost use Rattle.nc_faults.specs.Texts.{IsRefusalCode, refusal_text_of, IsAlarmCode, alarm_text_of};
+
+#[cfg(test)]
+mod tests;
+
+use std::alloc::{AllocError, AllocFailed};
 use thiserror::Error;
 
 /// Memory was wanted and not found.
 #[derive(Clone, Copy, Debug, PartialEq, Eq, Error)]
 #[error("out of memory")]
 pub struct NoMemory;
+
+impl From<AllocError> for NoMemory {
+    ghost from_gives = { λ _ fault. fault ≡ no_memory };
+
+    fn from(_: AllocError) -> NoMemory {
+        NoMemory
+    }
+}
+
+impl<T: Drop> From<AllocFailed<T>> for NoMemory {
+    ghost from_gives = { λ _ fault. fault ≡ no_memory };
+
+    fn from(_: AllocFailed<T>) -> NoMemory {
+        NoMemory
+    }
+}
 
 /// A refused input: the code of the rule that it breaks, and the line of the input, counted from 1.
 #[derive(Clone, Copy, Debug, PartialEq, Eq)]
@@ -24,4 +48,100 @@ pub struct Alarm {
     pub code: u16,
     /// The line of the block, counted from 1.
     pub line: u32,
+}
+
+/// What the refusal of this code says. The codes are 1 to 12, 20 to 27 and 40 to 60.
+#[tactic(auto, unfolding(crate::specs::Texts::IsRefusalCode, crate::specs::Texts::refusal_text_of, crate::specs::Texts::refusal_texts))]
+pub fn refusal_text(code: u16) -> &'static str
+    requires { IsRefusalCode code }
+    ensures { result.now ≡ refusal_text_of code }
+{
+    match code {
+        1 => "no job line",
+        2 => "line too long",
+        3 => "byte not allowed",
+        4 => "unknown job line",
+        5 => "number out of range",
+        6 => "declared twice",
+        7 => "not declared",
+        8 => "owner differs",
+        9 => "program name repeated",
+        10 => "bad program header",
+        11 => "too many",
+        12 => "program not in library",
+        20 => "text not closed",
+        21 => "number too large",
+        22 => "block not readable",
+        23 => "comparison beside AND, OR, XOR or NOT",
+        24 => "statement not alone",
+        25 => "structure not matched",
+        26 => "nested too deep",
+        27 => "unknown address",
+        40 => "synchronised action not supported",
+        41 => "measuring not supported",
+        42 => "cycle not supported",
+        43 => "variable definition not supported",
+        44 => "system variable not supported",
+        45 => "function not supported",
+        46 => "inch dimension not supported",
+        47 => "path form not supported",
+        48 => "contour element not supported",
+        49 => "fixed point not supported",
+        50 => "transformation not supported",
+        51 => "coupling not supported",
+        52 => "zone definition not supported",
+        53 => "interrupt not supported",
+        54 => "SAVE not supported",
+        55 => "GETD not supported",
+        56 => "tool radius compensation not supported",
+        57 => "word not supported",
+        58 => "call with arguments not supported",
+        59 => "skip level not supported",
+        60 => "form not built yet",
+        _ => unreachable!(),
+    }
+}
+
+/// What the alarm of this code says. The codes are 1 to 33.
+#[tactic(auto, unfolding(crate::specs::Texts::IsAlarmCode, crate::specs::Texts::alarm_text_of, crate::specs::Texts::alarm_texts))]
+pub fn alarm_text(code: u16) -> &'static str
+    requires { IsAlarmCode code }
+    ensures { result.now ≡ alarm_text_of code }
+{
+    match code {
+        1 => "number too large",
+        2 => "division by zero",
+        3 => "root of a negative number",
+        4 => "parameter index",
+        5 => "jump target missing",
+        6 => "too many program levels",
+        7 => "no such program",
+        8 => "block limit",
+        9 => "no program end",
+        10 => "two words of one group",
+        11 => "scale not allowed",
+        12 => "quarter turns only",
+        13 => "out of range",
+        14 => "no such axis",
+        15 => "axis not owned",
+        16 => "geometry axis by name",
+        17 => "address twice",
+        18 => "arc words",
+        19 => "centre outside the plane",
+        20 => "radius differs",
+        21 => "arc degenerate",
+        22 => "radius too small",
+        23 => "arc scale",
+        24 => "no such channel",
+        25 => "no such mark",
+        26 => "own mark stands",
+        27 => "channel not idle",
+        28 => "no program selected",
+        29 => "zone not held",
+        30 => "zone state",
+        31 => "zone split",
+        32 => "too many repetitions",
+        33 => "repetition count",
+        _ => unreachable!(),
+    }
 }

@@ -1,12 +1,11 @@
 -- Two boxes share a point exactly where their bounds touch in all three directions.
-use Rattle.std.proofs.Common.{◌≡◌, ◌+◌, ◌<◌, ◌≤◌, ◌↔◌, ℕ, IsTrue, arith, w32}
-use Rattle.std.proofs.Math.Nat.{mul-le-mul_right}
+use Rattle.std.proofs.Common.{◌≡◌, ◌<◌, ◌↔◌, ℕ, IsTrue, arith, w32}
 use Rattle.std.specs.Prelude.{ℤ, pos, ◌*ℤ◌, ◌≤ℤ◌}
 use Rattle.std.specs.Int.{int_max, int_min}
-use Rattle.std.proofs.lemmas.Int.{ints, clamps, to_z-of_z, by_lt_z}
+use Rattle.std.proofs.lemmas.Int.{ints, clamps, to_z-of_z}
+use Rattle.number_laws.proofs.Integers.{≤ℤ_trans, times_cancel}
 use Rattle.swept_boxes.specs.declared.Box3.{Box3}
 use Rattle.swept_boxes.specs.Boxes.{low_of, high_of, DoMeet, TouchInAll}
-use borrow.Author.Differences.{up, down, product_is}
 use mir.Val.{SFits, of_z, to_z}
 use lib.Signed.{le_z}
 
@@ -16,11 +15,7 @@ pub test_is : (l h low high : ℤ) → l ≡ low → h ≡ high → SFits w32 l 
 test_is l h low high e f p q = grind (arith, ints, to_z-of_z)
 
 between : (a b t : ℤ) (n : ℕ) → 0 < n → (a *ℤ pos n) ≤ℤ t → t ≤ℤ (b *ℤ pos n) → a ≤ℤ b
-between a b t n some low high =
-    by_lt_z b a
-    (λ less. let more : (up b + down a) + 1 ≤ up a + down b = omega (arith, ints) in
-    absurd (omega (arith, ints, product_is a (pos n), product_is b (pos n), mul-le-mul_right n more)))
-    (λ le. le)
+between a b t n some low high = times_cancel n a b some (≤ℤ_trans low high)
 
 touch_from : (a b c d : ℤ) → a ≤ℤ c → a ≤ℤ d → b ≤ℤ c → b ≤ℤ d → int_max a b ≤ℤ int_min c d
 touch_from a b c d p q r s = omega (arith, ints, clamps)

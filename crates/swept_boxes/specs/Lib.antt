@@ -1,4 +1,7 @@
 pub mod Boxes
+pub mod Cover
 pub mod Ends
-pub mod Ranges
+pub mod Motions
+pub mod Path
 pub mod Pieces
+pub mod Ranges

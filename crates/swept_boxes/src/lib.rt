@@ -3,9 +3,13 @@
 
 ghost use Rattle.std.specs.Prelude.{◌<◌};
 
+mod lines;
+mod sweeps;
+
 use arrayvec::ArrayVec;
 use micro_units::Um;
 use std::marker::Model;
+pub use sweeps::{Pieces, cover, pieces_of};
 
 /// An axis of a job: its place among the AXIS lines, counted from 0, below 16.
 ///

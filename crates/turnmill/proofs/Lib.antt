@@ -1,2 +1,14 @@
+pub mod SomeLemmas
+pub mod PositionLemmas
+pub mod CoverLemmas
+pub mod PieceLemmas
+pub mod ZoneLemmas
+pub mod PairLemmas
+pub mod StateLemmas
+pub mod OwnerLemmas
+pub mod Soundness
+pub mod NoJumps
+pub mod Ends
 pub mod Ranges
 pub mod Positions
+pub mod BoxLemmas

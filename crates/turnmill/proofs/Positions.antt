@@ -1,16 +1,20 @@
 -- Laws of where a channel's axes stand, and of the motions that it makes from there.
-use Rattle.std.proofs.Common.{◌≡◌, ℕ, ℤ, pos, zero, suc, ◌+◌, ◌<◌, ◌≤◌, List, [], ◌∷◌, ◌++◌, refl, ap, sym, ◌∙◌, add-one, zero-add, append-nil, append_assoc, arith, Option, None, Some, map, length, slice_index_or, slice_get, unwrap_or, get_or}
-use Rattle.std.specs.List.{filter_map, range_with_len, last_or, cons_option}
-use Rattle.std.specs.Option.{option_to_list, option_map, option_map_or}
+use Rattle.std.proofs.Common.{◌≡◌, ℕ, ℤ, pos, zero, suc, ◌+◌, ◌<◌, ◌≤◌, ◌==◌, ◌&&◌, Bool, true, false, inl, inr, ◌⊎◌, All, List, [], ◌∷◌, ◌++◌, refl, ap, sym, ◌∙◌, append-nil, append_assoc, arith, Option, None, Some, length, unwrap_or, get_or, slice_get}
+use mathlib.Core.Path.{fun_ext}
+use Rattle.std.proofs.lemmas.Bool.Decides.{eqb_tells}
+use Rattle.std.proofs.lemmas.List.Folds.{list_any_none}
+use Rattle.std.specs.List.{filter_map, last_or, cons_option, list_any}
+use Rattle.std.specs.Option.{option_to_list}
 use Rattle.std.proofs.lemmas.List.Elements.{filter_map-append}
+use Rattle.std.proofs.Math.ListN.{get_or-eq_default}
 use Rattle.tape_job.specs.Job.{JobView}
 use Rattle.tape_job.specs.declared.job.AxisLine.{AxisLine}
+use Rattle.tape_job.specs.declared.job.GeoLine.{GeoLine}
 use Rattle.tape_job.specs.declared.job.Block.{Block}
 use Rattle.tape_job.specs.declared.job.Stmt.{Stmt}
 use Rattle.tape_job.specs.declared.job.Stmt.TheVariants.{Move, End}
-use Rattle.turnmill.specs.Channels.{position_after, programmed, start_position, end_from, ends_from, item_from, items_after, StandsAfter}
+use Rattle.turnmill.specs.Channels.{position_after, programmed, start_position, is_slot, item_from, items_after, StandsAfter, positions_in, HasFewAxes}
 use Rattle.turnmill.specs.declared.channels.Item.{Item}
-use Rattle.turnmill.proofs.Ranges.{range_with_len-push, filter_map-range_push}
 
 -- the last of a list with one more, if there is one more
 pub last_or-push : {A : Type 0} (o : Option A) (xs : List A) (r : Option A) (d : A) → unwrap_or (last_or o (xs ++ option_to_list r)) d ≡ unwrap_or r (unwrap_or (last_or o xs) d)
@@ -31,42 +35,46 @@ position_after-push job channel blocks block axis =
     rw (filter_map-append h blocks (block ∷ []), filter_map-one h block (h block) refl)
       (last_or-push None (filter_map h blocks) (h block) (start_position job axis))
 
--- the positions of the AXIS lines are where the axes stand before the first block
-pub stands_at_start : (job : JobView) (channel : ℕ) (at : List ℤ) → at ≡ map (λ line. line.at) job.axes → StandsAfter job channel [] at
-unfolding position_after start_position
-stands_at_start job channel at e axis within = rw e (at_line job.axes axis)
-  where
-    at_line : (lines : List AxisLine) (axis : ℕ) → slice_index_or (map (λ line. line.at) lines) axis (pos 0) ≡ option_map_or (λ line. line.at) (slice_get lines axis) (pos 0)
-    at_line [] axis = refl
-    at_line (line ∷ lines) zero = refl
-    at_line (line ∷ lines) (suc axis) = at_line lines axis
+and_false : (a b : Bool) → (a && (b && false)) ≡ false
+and_false true true = refl
+and_false true false = refl
+and_false false b = refl
+
+other_axis : (a b : Bool) (x axis n : ℕ) → x < n → n ≤ axis → (a && (b && (x == axis))) ≡ false
+other_axis a b x axis n low high = elim (eqb_tells x axis) [
+  | inl h ↦ let e : x ≡ axis = h.1 in absurd (omega arith)
+  | inr h ↦ rw h.0 (and_false a b)
+]
+
+-- a slot is an axis of the job, so nothing is programmed for what is none
+slot_within : (channel slot axis n : ℕ) (geo : List GeoLine) → All (λ g. g.axis < n) geo → n ≤ axis → list_any (λ g. g.channel == channel && (g.slot == slot && g.axis == axis)) geo ≡ false
+slot_within channel slot axis n geo within beyond =
+    list_any_none (λ g. g.channel == channel && (g.slot == slot && g.axis == axis)) geo
+      (λ k d h. other_axis ((get_or geo k d).channel == channel) ((get_or geo k d).slot == slot) (get_or geo k d).axis axis n (within k d h) beyond)
+
+pub programmed_beyond : (job : JobView) (channel : ℕ) (stmt : Stmt) (axis : ℕ) → HasFewAxes job → length job.axes ≤ axis → programmed job channel stmt axis ≡ None
+unfolding programmed is_slot
+programmed_beyond job channel (Move x z) axis h beyond =
+    rw (slot_within channel 0 axis (length job.axes) job.geo h.slots beyond, slot_within channel 2 axis (length job.axes) job.geo h.slots beyond) refl
+programmed_beyond job channel End axis h beyond = refl
+
+-- before the first block the axes are where the job puts them
+pub stands_at_start : (job : JobView) (channel : ℕ) (at : List ℤ) → ((axis : ℕ) → positions_in at axis ≡ start_position job axis) → StandsAfter job channel [] at
+unfolding position_after
+stands_at_start job channel at e axis = e axis
 
 -- one block more
 pub stands_more : (job : JobView) (channel : ℕ) (blocks : List Block) (block : Block) (old new : List ℤ)
-    → StandsAfter job channel blocks old → length old ≡ length job.axes
-    → ((axis : ℕ) → axis < length old → slice_index_or new axis (pos 0) ≡ unwrap_or (programmed job channel block.stmt axis) (slice_index_or old axis (pos 0)))
+    → StandsAfter job channel blocks old
+    → ((axis : ℕ) → positions_in new axis ≡ unwrap_or (programmed job channel block.stmt axis) (positions_in old axis))
     → StandsAfter job channel (blocks ++ block ∷ []) new
-stands_more job channel blocks block old new stands all moved axis within =
-    let within' : axis < length old = rw all within in
-    moved axis within' ∙ ap (λ (z : ℤ). unwrap_or (programmed job channel block.stmt axis) z) (stands axis within)
+stands_more job channel blocks block old new stands moved axis =
+    moved axis ∙ ap (λ (z : ℤ). unwrap_or (programmed job channel block.stmt axis) z) (stands axis)
       ∙ sym (position_after-push job channel blocks block axis)
 
--- two tests that agree on a row of numbers
-range_agrees : {Y : Type 0} (f g : ℕ → Option Y) (a n : ℕ) → ((k : ℕ) → a ≤ k → k < a + n → f k ≡ g k) → filter_map f (range_with_len a n) ≡ filter_map g (range_with_len a n)
-range_agrees f g a zero same = refl
-range_agrees f g a (suc n) same =
-    let first : f a ≡ g a = same a (omega arith) (omega arith) in
-    let others : filter_map f (range_with_len (a + 1) n) ≡ filter_map g (range_with_len (a + 1) n) = range_agrees f g (a + 1) n (λ k low high. same k (omega arith) (omega arith)) in
-    rw (first, others) refl
-
--- positions that agree at each axis of the job give the same motion
-pub item_from-agrees : (job : JobView) (channel : ℕ) (f g : ℕ → ℤ) (block : Block) → ((axis : ℕ) → axis < length job.axes → f axis ≡ g axis) → item_from job channel f block ≡ item_from job channel g block
-unfolding item_from ends_from end_from
-item_from-agrees job channel f g block same =
-    let ends : ends_from job channel f block.stmt ≡ ends_from job channel g block.stmt =
-          range_agrees (end_from job channel f block.stmt) (end_from job channel g block.stmt) 0 (length job.axes)
-            (λ axis low within. ap (λ (z : ℤ). option_map (λ end. (axis, z, end)) (programmed job channel block.stmt axis)) (same axis (rw zero-add at within))) in
-    rw ends refl
+-- positions that agree give the same motion
+pub item_from-agrees : (job : JobView) (channel : ℕ) (f g : ℕ → ℤ) (block : Block) → ((axis : ℕ) → f axis ≡ g axis) → item_from job channel f block ≡ item_from job channel g block
+item_from-agrees job channel f g block same = ap (λ (at : ℕ → ℤ). item_from job channel at block) (fun_ext same)
 
 alone : {A : Type 0} (r : Option A) → cons_option r [] ≡ option_to_list r
 alone None = refl
@@ -89,7 +97,29 @@ items_after-push job channel before (b ∷ blocks) block =
 -- the motions made so far, with that of the next block
 pub made_more : (job : JobView) (channel : ℕ) (before : List Block) (block : Block) (at : List ℤ) (items : List Item) (made : Option Item)
     → items ≡ items_after job channel [] before → StandsAfter job channel before at
-    → made ≡ item_from job channel (λ axis. slice_index_or at axis (pos 0)) block
+    → made ≡ item_from job channel (positions_in at) block
     → items ++ option_to_list made ≡ items_after job channel [] (before ++ block ∷ [])
 made_more job channel before block at items made e stands m =
-    rw (items_after-push job channel [] before block, e, m, item_from-agrees job channel (λ axis. slice_index_or at axis (pos 0)) (position_after job channel before) block stands) refl
+    rw (items_after-push job channel [] before block, e, m, item_from-agrees job channel (positions_in at) (position_after job channel before) block stands) refl
+
+-- beyond the AXIS lines there is no axis
+pub start_beyond : (job : JobView) (axis : ℕ) → length job.axes ≤ axis → start_position job axis ≡ pos 0
+unfolding start_position
+start_beyond job axis beyond = rw (beyond_list job.axes axis beyond) refl
+  where
+    beyond_list : (lines : List AxisLine) (axis : ℕ) → length lines ≤ axis → slice_get lines axis ≡ None
+    beyond_list [] axis h = refl
+    beyond_list (line ∷ lines) zero h = absurd (omega arith)
+    beyond_list (line ∷ lines) (suc axis) h = beyond_list lines axis (omega arith)
+
+-- one number is not above another, or it is
+pub le_or_lt : (a b : ℕ) → (a ≤ b) ⊎ (b < a)
+le_or_lt a b = grind arith
+
+-- a row of all axes, each where the job puts it
+pub all_start : (job : JobView) (at : List ℤ) → length job.axes ≤ 16 → length at ≡ 16 → ((k : ℕ) → k < 16 → positions_in at k ≡ start_position job k)
+    → (k : ℕ) → positions_in at k ≡ start_position job k
+all_start job at few long put k = elim (le_or_lt 16 k) [
+  | inl beyond ↦ get_or-eq_default at (pos 0) (omega arith) ∙ sym (start_beyond job k (omega arith))
+  | inr within ↦ put k within
+]

@@ -1,5 +1,5 @@
 -- What a channel does: the blocks that it executes, the motions that they make, and where its axes stand.
-use Rattle.std.specs.Prelude.{◌≡◌, ◌<◌, ℕ, ℤ, pos, ◌==◌, ◌&&◌, Bool, true, false, if◌then◌else◌, List, [], ◌∷◌, ◌++◌, length, Option, None, Some, unwrap_or, find, slice_get, slice_index_or}
+use Rattle.std.specs.Prelude.{◌≡◌, ◌<◌, ◌≤◌, All, ℕ, ℤ, pos, ◌==◌, ◌&&◌, Bool, true, false, if◌then◌else◌, List, [], ◌∷◌, ◌++◌, length, Option, None, Some, unwrap_or, find, slice_get, slice_index_or}
 use Rattle.std.specs.List.{filter_map, range_with_len, last_or, cons_option, list_any}
 use Rattle.std.specs.Option.{option_map, option_map_or, option_and_then}
 use Rattle.std.specs.Map.{lookup}
@@ -38,13 +38,22 @@ start_position job axis = option_map_or (λ line. line.at) (slice_get job.axes a
 unfoldable pub position_after : JobView → ℕ → List Block → ℕ → ℤ
 position_after job channel blocks axis = unwrap_or (last_or None (filter_map (λ block. programmed job channel block.stmt axis) blocks)) (start_position job axis)
 
+-- the job names few axes, and the slots of its channels are axes that it names
+pub record HasFewAxes (job : JobView) : Type 0 where
+  pub few : length job.axes ≤ 16
+  pub slots : All (λ g. g.axis < length job.axes) job.geo
+
+-- a row of positions says where each axis is; beyond the row it is at 0
+abbrev pub positions_in : List ℤ → ℕ → ℤ
+positions_in at axis = slice_index_or at axis (pos 0)
+
+-- a row of positions says where the axes stand after these blocks
+abbrev pub StandsAfter : JobView → ℕ → List Block → List ℤ → Type 0
+StandsAfter job channel blocks at = (axis : ℕ) → positions_in at axis ≡ position_after job channel blocks axis
+
 -- an axis that a statement programs, from where it stands to the programmed position
 unfoldable pub end_from : JobView → ℕ → (ℕ → ℤ) → Stmt → ℕ → Option (ℕ × ℤ × ℤ)
 end_from job channel at stmt axis = option_map (λ end. (axis, at axis, end)) (programmed job channel stmt axis)
-
--- a row of positions, one for each AXIS line, says where the axes stand after these blocks
-abbrev pub StandsAfter : JobView → ℕ → List Block → List ℤ → Type 0
-StandsAfter job channel blocks at = (axis : ℕ) → axis < length job.axes → slice_index_or at axis (pos 0) ≡ position_after job channel blocks axis
 
 -- the ends of the motion that a statement makes from where the axes stand, in the order of the AXIS lines
 unfoldable pub ends_from : JobView → ℕ → (ℕ → ℤ) → Stmt → List (ℕ × ℤ × ℤ)
@@ -73,5 +82,8 @@ abbrev pub is_end : Stmt → Bool
 is_end (Move x z) = false
 is_end End = true
 
-unfoldable pub end_line : JobView → ChannelLine → ℕ
-end_line job line = option_map_or (λ block. block.line) (find (λ block. is_end block.stmt) (blocks_of job line)) 0
+unfoldable pub end_line_in : List Block → ℕ
+end_line_in blocks = option_map_or (λ block. block.line) (find (λ block. is_end block.stmt) blocks) 0
+
+abbrev pub end_line : JobView → ChannelLine → ℕ
+end_line job line = end_line_in (blocks_of job line)

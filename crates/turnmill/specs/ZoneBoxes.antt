@@ -1,8 +1,10 @@
 -- The boxes of a zone: where its sides stand, and the boxes that a channel's motions give it.
-use Rattle.std.specs.Prelude.{ℕ, ℤ, pos, ◌+ℤ◌, ◌-ℤ◌, ◌+◌, ◌-◌, ◌==◌, Bool, true, false, if◌then◌else◌, List, [], ◌∷◌, ◌++◌, map, length, Option, None, Some, find}
+use Rattle.std.specs.Prelude.{◌<◌, All, ℕ, ℤ, ◌+ℤ◌, ◌-ℤ◌, ◌+◌, ◌==◌, Bool, true, false, if◌then◌else◌, List, [], ◌∷◌, ◌++◌, map, length, Option, None, Some, find}
 use Rattle.std.specs.List.{list_any}
 use Rattle.std.specs.Option.{option_map, option_map_or}
-use Rattle.swept_boxes.specs.Pieces.{pieces_of_lem}
+use Rattle.swept_boxes.specs.Cover.{cover_of}
+use Rattle.swept_boxes.specs.Motions.{IsSound}
+use Rattle.swept_boxes.specs.Pieces.{pieces_at}
 use Rattle.swept_boxes.specs.Ranges.{RangesView}
 use Rattle.swept_boxes.specs.declared.Box3.{Box3}
 use Rattle.swept_boxes.specs.declared.Motion.{Motion}
@@ -10,6 +12,7 @@ use Rattle.swept_boxes.specs.declared.Motion.TheVariants.{Line}
 use Rattle.tape_job.specs.declared.job.Side.{Side}
 use Rattle.tape_job.specs.declared.job.ZoneLine.{ZoneLine}
 use Rattle.turnmill.specs.declared.channels.Item.{Item}
+use Rattle.turnmill.specs.declared.zone_boxes.ZoneBox.{ZoneBox}
 
 -- the axes of a motion, each with its start and its end
 abbrev pub axes_of : Motion → List (ℕ × ℤ × ℤ)
@@ -113,4 +116,27 @@ piece_boxes zone depth box = piece_boxes_by box.motion
   where
     piece_boxes_by : Option Item → List Box3
     piece_boxes_by None = zone_box zone box.at box.at ∷ []
-    piece_boxes_by (Some item) = map (λ ranges. zone_box zone (low_in ranges box.at) (high_in ranges box.at)) (pieces_of_lem item.motion depth)
+    piece_boxes_by (Some item) = map (λ ranges. zone_box zone (low_in ranges box.at) (high_in ranges box.at)) (pieces_at item.motion depth)
+
+-- a motion is sound, and moves axes of the row of positions
+pub record IsFit (item : Item) : Type 0 where
+  pub sound : IsSound item.motion
+  pub within : All (λ e. e.0 < 16) (axes_of item.motion)
+
+-- the boxes as they are compared where motions are not cut: the line that names it, and the zone box of the cover of its motion, or where it stands
+unfoldable pub moving_box : ZoneLine → Item → (ℕ → ℤ) → ZoneBox
+moving_box zone item at = record { line = item.line; cover = zone_box zone (low_in (cover_of item.motion) at) (high_in (cover_of item.motion) at) }
+
+unfoldable pub standing_box : ZoneLine → ℕ → (ℕ → ℤ) → ZoneBox
+standing_box zone line at = record { line = line; cover = zone_box zone at at }
+
+unfoldable pub shown_box : ZoneLine → ℕ → PlaceBox → ZoneBox
+shown_box zone line box = option_map_or (λ item. moving_box zone item box.at) box.motion (standing_box zone line box.at)
+
+-- the boxes of the motions that have an axis of the zone
+unfoldable pub boxes_during : ZoneLine → Item → (ℕ → ℤ) → List ZoneBox
+boxes_during zone item at = if moves_zone zone item then moving_box zone item at ∷ [] else []
+
+abbrev pub moving_boxes : ZoneLine → (ℕ → ℤ) → List Item → List ZoneBox
+moving_boxes zone at [] = []
+moving_boxes zone at (item ∷ items) = boxes_during zone item at ++ moving_boxes zone (after item at) items

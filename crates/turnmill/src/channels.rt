@@ -1,13 +1,18 @@
 //! What each channel does: the motions of its program, and where they leave its axes.
-ghost use Rattle.std.specs.Prelude.{◌≡◌, ℕ, pos, ◌<◌, ◌≤◌, [], ◌∷◌, ◌++◌, length, IfOk, OnOk, map, slice_index_or, unwrap_or};
+ghost use Rattle.std.specs.Prelude.{◌≡◌, ℕ, ◌<◌, ◌≤◌, [], ◌++◌, length, IfOk, OnOk, find, unwrap_or};
 ghost use Rattle.std.specs.Option.{option_to_list};
 ghost use Rattle.turnmill.specs.Channels as model;
+ghost use Rattle.turnmill.specs.ChannelRun.{run_of};
 
 use arrayvec::ArrayVec;
 use micro_units::Um;
 use std::alloc::{AllocError, Global};
+use std::marker::Model;
 use swept_boxes::{AxisId, Ends, Motion};
 use tape_job::{Block, ChannelId, ChannelLine, Job, Stmt};
+
+/// Where each axis is, by its place among the AXIS lines.
+pub type Positions = [Um; 16];
 
 /// A motion of a channel, with the line of its block.
 #[derive(Clone, Debug, PartialEq, Eq, Drop)]
@@ -66,13 +71,12 @@ fn programmed(job: &Job, channel: ChannelId, stmt: &Stmt, axis: AxisId) -> Optio
 fn end_from(
     job: &Job,
     channel: ChannelId,
-    at: &[Um],
+    at: &Positions,
     stmt: &Stmt,
     index: usize,
 ) -> Option<(AxisId, Um, Um)>
-    requires within { index < length at.now }
-    requires few { index < 16 }
-    ensures { result ≡ model.end_from job.now channel (λ axis. slice_index_or at.now axis (pos 0)) stmt.now index }
+    requires { index < 16 }
+    ensures { result ≡ model.end_from job.now channel (model.positions_in at.now) stmt.now index }
 {
     let axis = AxisId { index: index as u8 };
     match programmed(job, channel, stmt, axis) {
@@ -83,13 +87,12 @@ fn end_from(
 
 /// The ends of the motion that a statement makes from where the axes stand, in the order of the AXIS lines.
 #[tactic(auto, unfolding(crate::specs::Channels::ends_from))]
-fn ends_from(job: &Job, channel: ChannelId, at: &[Um], stmt: &Stmt) -> Ends
-    requires all { length at.now ≡ length job.now.axes }
-    requires few { length at.now ≤ 16 }
-    ensures { result.axes ≡ model.ends_from job.now channel (λ axis. slice_index_or at.now axis (pos 0)) stmt.now }
+fn ends_from(job: &Job, channel: ChannelId, at: &Positions, stmt: &Stmt) -> Ends
+    requires { length job.now.axes ≤ 16 }
+    ensures { result.axes ≡ model.ends_from job.now channel (model.positions_in at.now) stmt.now }
 {
     let mut axes = ArrayVec::new();
-    for index in 0..at.len() {
+    for index in 0..job.axes.len() {
         if let Some(end) = end_from(job, channel, at, stmt, index) {
             axes.push(end);
         }
@@ -98,11 +101,12 @@ fn ends_from(job: &Job, channel: ChannelId, at: &[Um], stmt: &Stmt) -> Ends
 }
 
 /// Puts the axes where a statement leaves them.
-fn advance(job: &Job, channel: ChannelId, stmt: &Stmt, at: &mut [Um])
-    requires { length at.old ≤ 16 }
-    ensures { (axis : ℕ) → axis < length at.old → slice_index_or at.new axis (pos 0) ≡ unwrap_or (model.programmed job.now channel stmt.now axis) (slice_index_or at.old axis (pos 0)) }
+#[tactic(auto, using(crate::proofs::Positions::programmed_beyond))]
+fn advance(job: &Job, channel: ChannelId, stmt: &Stmt, at: &mut Positions)
+    requires { model.HasFewAxes job.now }
+    ensures { (axis : ℕ) → model.positions_in at.new axis ≡ unwrap_or (model.programmed job.now channel stmt.now axis) (model.positions_in at.old axis) }
 {
-    for index in 0..at.len() {
+    for index in 0..job.axes.len() {
         let axis = AxisId { index: index as u8 };
         if let Some(end) = programmed(job, channel, stmt, axis) {
             at[index] = end;
@@ -112,10 +116,9 @@ fn advance(job: &Job, channel: ChannelId, stmt: &Stmt, at: &mut [Um])
 
 /// The motion that a block makes from where the axes stand; the program end makes none.
 #[tactic(auto, unfolding(crate::specs::Channels::item_from))]
-fn item_from(job: &Job, channel: ChannelId, at: &[Um], block: &Block) -> Option<Item>
-    requires all { length at.now ≡ length job.now.axes }
-    requires few { length at.now ≤ 16 }
-    ensures { result ≡ model.item_from job.now channel (λ axis. slice_index_or at.now axis (pos 0)) block.now }
+fn item_from(job: &Job, channel: ChannelId, at: &Positions, block: &Block) -> Option<Item>
+    requires { length job.now.axes ≤ 16 }
+    ensures { result ≡ model.item_from job.now channel (model.positions_in at.now) block.now }
 {
     match block.stmt {
         Stmt::Move { .. } => {
@@ -129,11 +132,27 @@ fn item_from(job: &Job, channel: ChannelId, at: &[Um], block: &Block) -> Option<
     }
 }
 
-/// Where the job puts its axes.
-fn start_positions(alloc: Global, job: &Job) -> Result<Vec<Um>, AllocError>
-    ensures { IfOk result (λ at. at.items ≡ map (λ line. line.at) job.now.axes) }
+/// Where the job puts an axis.
+#[tactic(auto, unfolding(crate::specs::Channels::start_position))]
+fn start_position(job: &Job, index: usize) -> Um
+    ensures { result ≡ model.start_position job.now index }
 {
-    job.axes.iter().map(|line| line.at).collect(alloc)
+    match job.axes.get(index) {
+        Some(line) => line.at,
+        None => Um { micrometres: 0 },
+    }
+}
+
+/// Where the job puts its axes.
+pub fn start_positions(job: &Job) -> Positions
+    requires { length job.now.axes ≤ 16 }
+    ensures { (axis : ℕ) → model.positions_in result axis ≡ model.start_position job.now axis }
+{
+    let mut at = [Um { micrometres: 0 }; 16];
+    for index in 0..16 {
+        at[index] = start_position(job, index);
+    }
+    at
 }
 
 /// Adds the item, if there is one.
@@ -152,10 +171,9 @@ fn make_items(
     job: &Job,
     channel: ChannelId,
     blocks: &[Block],
-    at: &mut [Um],
+    at: &mut Positions,
 ) -> Result<Vec<Item>, AllocError>
-    requires all { length at.old ≡ length job.now.axes }
-    requires few { length at.old ≤ 16 }
+    requires axes { model.HasFewAxes job.now }
     requires start { model.StandsAfter job.now channel [] at.old }
     ensures items { IfOk result (λ items. items.items ≡ model.items_after job.now channel [] blocks.now) }
     ensures stands { OnOk result (model.StandsAfter job.now channel blocks.now at.new) }
@@ -167,4 +185,72 @@ fn make_items(
         advance(job, channel, &block.stmt, at);
     }
     Ok(items)
+}
+
+/// What a channel does from its start to its program end.
+#[derive(Debug, Drop)]
+pub struct ChannelRun {
+    /// The channel.
+    pub channel: ChannelId,
+    /// Its motions, in the order in which it makes them.
+    pub items: Vec<Item>,
+    /// The line of the block that ends its program.
+    pub end_line: u32,
+}
+
+impl Model for ChannelRun {
+    ghost use Rattle.turnmill.specs.ChannelRun.{RunView};
+
+    ghost Value = { RunView };
+
+    ghost view = { λ run. record { channel = run.channel; items = run.items.items; end_line = run.end_line } };
+}
+
+/// Whether a statement ends the program.
+fn is_end(stmt: &Stmt) -> bool
+    ensures { result ≡ model.is_end stmt.now }
+{
+    match stmt {
+        Stmt::Move { .. } => false,
+        Stmt::End => true,
+    }
+}
+
+/// The block that ends a program.
+fn program_end(blocks: &[Block]) -> Option<Block>
+    ensures { result ≡ find (λ block. model.is_end block.stmt) blocks.now }
+{
+    blocks.iter().copied().find(|block| is_end(&block.stmt))
+}
+
+/// The line of the block that ends a program.
+#[tactic(auto, unfolding(crate::specs::Channels::end_line_in))]
+fn end_line_in(blocks: &[Block]) -> u32
+    ensures { result ≡ model.end_line_in blocks.now }
+{
+    match program_end(blocks) {
+        Some(block) => block.line,
+        None => 0,
+    }
+}
+
+/// Runs the program that a CHANNEL line selects, and answers where the axes stand at its end, too.
+pub fn run_channel(
+    alloc: Global,
+    job: &Job,
+    line: &ChannelLine,
+) -> Result<(ChannelRun, Positions), AllocError>
+    requires { model.HasFewAxes job.now }
+    ensures run { IfOk result (λ answer. answer.0 ≡ run_of job.now line.now) }
+    ensures stands { IfOk result (λ answer. model.StandsAfter job.now line.now.channel (model.blocks_of job.now line.now) answer.1) }
+{
+    let blocks = blocks_of(job, line);
+    let mut at = start_positions(job);
+    let items = make_items(alloc, job, line.channel, blocks, &mut at)?;
+    let run = ChannelRun {
+        channel: line.channel,
+        items,
+        end_line: end_line_in(blocks),
+    };
+    Ok((run, at))
 }

@@ -1,16 +1,21 @@
 //! The boxes of a zone, from where its axes are.
-ghost use Rattle.std.specs.Prelude.{◌≡◌, ◌==◌, pos, find, slice_index_or};
+ghost use Rattle.std.specs.Prelude.{◌≡◌, ◌==◌, ◌<◌, ℕ, ◌++◌, All, IfOk, OnOk, find, map};
+ghost use Rattle.swept_boxes.specs.Motions.{IsSound};
+ghost use Rattle.turnmill.specs.Channels.{positions_in};
 ghost use Rattle.turnmill.specs.ZoneBoxes as model;
 
+use crate::channels::{Item, Positions};
+use arrayvec::ArrayVec;
 use micro_units::Um;
-use swept_boxes::{AxisId, Box3, Ranges};
+use std::alloc::{AllocError, Global};
+use swept_boxes::{AxisId, Box3, Motion, Ranges, cover};
 use tape_job::{Side, ZoneLine};
 
 /// Where an axis stands.
-fn standing(at: &[Um], axis: AxisId) -> Um
-    ensures { result ≡ slice_index_or at.now axis (pos 0) }
+fn standing(at: &Positions, axis: AxisId) -> Um
+    ensures { result ≡ positions_in at.now axis }
 {
-    at.get(usize::from(axis.index)).copied().unwrap_or(Um { micrometres: 0 })
+    at[usize::from(axis.index)]
 }
 
 /// The range that is named for an axis.
@@ -22,9 +27,9 @@ fn range_of(ranges: &[(AxisId, Um, Um)], axis: AxisId) -> Option<(AxisId, Um, Um
 
 /// The lowest and the highest position of an axis within ranges; an axis that they do not name stands.
 #[tactic(auto, unfolding(crate::specs::ZoneBoxes::low_in, crate::specs::ZoneBoxes::high_in))]
-fn span_of(ranges: &Ranges, at: &[Um], axis: AxisId) -> (Um, Um)
-    ensures low { result.0 ≡ model.low_in ranges.now (λ a. slice_index_or at.now a (pos 0)) axis }
-    ensures high { result.1 ≡ model.high_in ranges.now (λ a. slice_index_or at.now a (pos 0)) axis }
+fn span_of(ranges: &Ranges, at: &Positions, axis: AxisId) -> (Um, Um)
+    ensures low { result.0 ≡ model.low_in ranges.now (positions_in at.now) axis }
+    ensures high { result.1 ≡ model.high_in ranges.now (positions_in at.now) axis }
 {
     match range_of(&ranges.axes, axis) {
         Some(range) => (range.1, range.2),
@@ -48,9 +53,9 @@ fn carried(bound: Um, position: Um, minus: bool) -> i32
 
 #[tactic(auto, unfolding(crate::specs::ZoneBoxes::side_low, crate::specs::ZoneBoxes::side_high))]
 /// The bounds of a direction of a zone whose axes are within ranges.
-fn bounds_of(side: &Side, ranges: &Ranges, at: &[Um]) -> (i32, i32)
-    ensures low { result.0 ≡ model.side_low (model.low_in ranges.now (λ a. slice_index_or at.now a (pos 0))) (model.high_in ranges.now (λ a. slice_index_or at.now a (pos 0))) side.now }
-    ensures high { result.1 ≡ model.side_high (model.low_in ranges.now (λ a. slice_index_or at.now a (pos 0))) (model.high_in ranges.now (λ a. slice_index_or at.now a (pos 0))) side.now }
+fn bounds_of(side: &Side, ranges: &Ranges, at: &Positions) -> (i32, i32)
+    ensures low { result.0 ≡ model.side_low (model.low_in ranges.now (positions_in at.now)) (model.high_in ranges.now (positions_in at.now)) side.now }
+    ensures high { result.1 ≡ model.side_high (model.low_in ranges.now (positions_in at.now)) (model.high_in ranges.now (positions_in at.now)) side.now }
 {
     match side.carrier {
         None => (side.lo.micrometres, side.hi.micrometres),
@@ -66,8 +71,8 @@ fn bounds_of(side: &Side, ranges: &Ranges, at: &[Um]) -> (i32, i32)
 }
 
 /// The box whose directions have these bounds.
-fn box_of(sides: &[Side; 3], ranges: &Ranges, at: &[Um]) -> Box3
-    ensures { result ≡ model.box_of sides.now (model.low_in ranges.now (λ a. slice_index_or at.now a (pos 0))) (model.high_in ranges.now (λ a. slice_index_or at.now a (pos 0))) }
+fn box_of(sides: &[Side; 3], ranges: &Ranges, at: &Positions) -> Box3
+    ensures { result ≡ model.box_of sides.now (model.low_in ranges.now (positions_in at.now)) (model.high_in ranges.now (positions_in at.now)) }
 {
     let x = bounds_of(&sides[0], ranges, at);
     let y = bounds_of(&sides[1], ranges, at);
@@ -79,8 +84,157 @@ fn box_of(sides: &[Side; 3], ranges: &Ranges, at: &[Um]) -> Box3
 }
 
 /// The box of a zone whose axes are within ranges, and elsewhere stand.
-pub fn zone_box(zone: &ZoneLine, ranges: &Ranges, at: &[Um]) -> Box3
-    ensures { result ≡ model.zone_box zone.now (model.low_in ranges.now (λ a. slice_index_or at.now a (pos 0))) (model.high_in ranges.now (λ a. slice_index_or at.now a (pos 0))) }
+pub fn zone_box(zone: &ZoneLine, ranges: &Ranges, at: &Positions) -> Box3
+    ensures { result ≡ model.zone_box zone.now (model.low_in ranges.now (positions_in at.now)) (model.high_in ranges.now (positions_in at.now)) }
 {
     box_of(&zone.sides, ranges, at)
+}
+
+/// Whether a direction is carried by this axis.
+fn is_carrier(axis: AxisId, carrier: Option<(AxisId, bool)>) -> bool
+    ensures { result ≡ model.is_carrier axis carrier }
+{
+    match carrier {
+        Some((other, _)) => other == axis,
+        None => false,
+    }
+}
+
+/// Whether one of the zone's directions is carried by this axis.
+#[tactic(auto, unfolding(crate::specs::ZoneBoxes::has_axis))]
+fn has_axis(zone: &ZoneLine, axis: AxisId) -> bool
+    ensures { result ≡ model.has_axis zone.now axis }
+{
+    zone.sides.iter().any(|side| is_carrier(axis, side.carrier))
+}
+
+/// Whether an axis of the zone is among the axes of the motion.
+#[tactic(auto, unfolding(crate::specs::ZoneBoxes::moves_zone))]
+fn moves_zone(zone: &ZoneLine, item: &Item) -> bool
+    ensures { result ≡ model.moves_zone zone.now item.now }
+{
+    match &item.motion {
+        Motion::Line(ends) => ends.axes.iter().any(|end| has_axis(zone, end.0)),
+    }
+}
+
+/// The end that is named for an axis.
+fn end_of(ends: &[(AxisId, Um, Um)], axis: AxisId) -> Option<(AxisId, Um, Um)>
+    ensures { result ≡ find (λ e. e.0 == axis) ends.now }
+{
+    ends.iter().copied().find(|end| end.0 == axis)
+}
+
+/// Where a motion leaves an axis.
+#[tactic(auto, unfolding(crate::specs::ZoneBoxes::after))]
+fn after(item: &Item, at: &Positions, index: usize) -> Um
+    requires { index < 16 }
+    ensures { result ≡ model.after item.now (positions_in at.now) index }
+{
+    let axis = AxisId { index: index as u8 };
+    let Motion::Line(ends) = &item.motion;
+    match end_of(&ends.axes, axis) {
+        Some(end) => end.2,
+        None => at[index],
+    }
+}
+
+/// Puts the axes where a motion leaves them.
+fn settle(item: &Item, at: &mut Positions)
+    requires { All (λ e. e.0 < 16) (model.axes_of item.now.motion) }
+    ensures { (axis : ℕ) → positions_in at.new axis ≡ model.after item.now (positions_in at.old) axis }
+{
+    let before = *at;
+    for index in 0..16 {
+        at[index] = after(item, &before, index);
+    }
+}
+
+/// A box of a stretch: the line that names it, and what its zone sweeps.
+#[derive(Clone, Copy, Debug, PartialEq, Eq)]
+pub struct ZoneBox {
+    /// The line of its motion, or where it stands that of its stretch.
+    pub line: u32,
+    /// The zone box of the ranges that the motion covers.
+    pub cover: Box3,
+}
+
+/// The box of a zone during a motion that begins with its axes at these positions.
+#[tactic(auto, unfolding(crate::specs::ZoneBoxes::moving_box))]
+fn moving_box(zone: &ZoneLine, item: &Item, at: &Positions) -> ZoneBox
+    requires { IsSound item.now.motion }
+    ensures { result ≡ model.moving_box zone.now item.now (positions_in at.now) }
+{
+    ZoneBox {
+        line: item.line,
+        cover: zone_box(zone, &cover(&item.motion), at),
+    }
+}
+
+/// The box of a zone that stands.
+#[tactic(auto, unfolding(crate::specs::ZoneBoxes::standing_box))]
+fn standing_box(zone: &ZoneLine, line: u32, at: &Positions) -> ZoneBox
+    ensures { result ≡ model.standing_box zone.now line (positions_in at.now) }
+{
+    let nothing = Ranges {
+        axes: ArrayVec::new(),
+    };
+    ZoneBox {
+        line,
+        cover: zone_box(zone, &nothing, at),
+    }
+}
+
+/// Adds the box of a motion, where an axis of the zone is among its axes.
+#[tactic(auto, unfolding(crate::specs::ZoneBoxes::boxes_during))]
+fn add_box(
+    boxes: &mut Vec<ZoneBox>,
+    zone: &ZoneLine,
+    item: &Item,
+    at: &Positions,
+) -> Result<(), AllocError>
+    requires { IsSound item.now.motion }
+    ensures { OnOk result (boxes.new.items ≡ boxes.old.items ++ model.boxes_during zone.now item.now (positions_in at.now)) }
+{
+    if moves_zone(zone, item) {
+        boxes.push(moving_box(zone, item, at))?;
+    }
+    Ok(())
+}
+
+/// The boxes of the motions that have an axis of the zone.
+fn moving_boxes(
+    alloc: Global,
+    zone: &ZoneLine,
+    start: &Positions,
+    items: &[Item],
+) -> Result<Vec<ZoneBox>, AllocError>
+    requires { All model.IsFit items.now }
+    ensures { IfOk result (λ boxes. boxes.items ≡ model.moving_boxes zone.now (positions_in start.now) items.now) }
+{
+    let mut boxes = Vec::new(alloc);
+    let mut at = *start;
+    for item in items {
+        add_box(&mut boxes, zone, item, &at)?;
+        settle(item, &mut at);
+    }
+    Ok(boxes)
+}
+
+/// The boxes of a zone while its holder makes these motions, or the one where it stands.
+pub fn boxes_of(
+    alloc: Global,
+    zone: &ZoneLine,
+    line: u32,
+    start: &Positions,
+    items: &[Item],
+) -> Result<Vec<ZoneBox>, AllocError>
+    requires { All model.IsFit items.now }
+    ensures { IfOk result (λ boxes. boxes.items ≡ map (model.shown_box zone.now line) (model.boxes_of zone.now (positions_in start.now) items.now)) }
+{
+    let mut boxes = moving_boxes(alloc, zone, start, items)?;
+    if boxes.is_empty() {
+        boxes.push(standing_box(zone, line, start))?;
+    }
+    Ok(boxes)
 }

@@ -1,7 +1,7 @@
 use Rattle.std.proofs.Common.{◌≡◌, pos, sym, subst, ◌∙◌, arith, to_z, w64, ℤ}
 use Rattle.std.specs.Int.RustNames.{unsigned_abs}
 use Rattle.std.proofs.lemmas.Int.{ints, to_z-of_z}
-use Rattle.micro_units.specs.Arithmetic.{square_root, IsGreatestRoot}
+use Rattle.micro_units.specs.Arithmetic.{IsGreatestRoot}
 use Rattle.micro_units.proofs.SquareRoots.{square_root_is, square_root-greatest}
 use Rattle.micro_units.proofs.Num.root.Goals as goal
 

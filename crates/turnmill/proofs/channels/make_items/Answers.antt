@@ -12,4 +12,4 @@ loop-block-preserved c =
           take_more c.args.blocks.now c.loop-block.block-index block c.loop-block-test.true ∙ ap (λ (b : Block). done ++ b ∷ []) (sym c.block-item.is) in
     record {
       items = rw (next, c.in_ok-push_some.ensures) (made_more c.args.job.now c.args.channel done block c.loop-block.at c.loop-block.items.items c.item_from-item.result c.loop-block.invariant.items c.loop-block.invariant.stands c.item_from-item.ensures);
-      stands = rw next (stands_more c.args.job.now c.args.channel done block c.loop-block.at _ c.loop-block.invariant.stands (omega arith) c.advance.ensures) }
+      stands = rw next (stands_more c.args.job.now c.args.channel done block c.loop-block.at _ c.loop-block.invariant.stands c.advance.ensures) }

@@ -1,0 +1,6 @@
+-- The want of memory.
+use Rattle.nc_faults.specs.declared.NoMemory.{NoMemory}
+
+-- the one value of its type
+abbrev pub no_memory : NoMemory
+no_memory = record {}

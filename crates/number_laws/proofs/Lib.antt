@@ -1,0 +1,6 @@
+pub mod FloorLaws
+pub mod FractionLaws
+pub mod Integers
+pub mod Naturals
+pub mod Orders
+pub mod Ring

@@ -1,0 +1,8 @@
+use Rattle.swept_boxes.proofs.PieceLaws.{covered, in_cover}
+use Rattle.swept_boxes.proofs.sweeps.pieces_of.Goals as goal
+
+pub returns-clause-covers : goal.returns-clause-covers
+returns-clause-covers c = λ point on. covered c.args.motion.now c.args.depth point on
+
+pub returns-clause-in_cover : goal.returns-clause-in_cover
+returns-clause-in_cover c = in_cover c.args.motion.now c.args.depth

@@ -1,0 +1,142 @@
+//! The equal parts of a straight line.
+ghost use Rattle.std.specs.Prelude.{◌≡◌, ℤ, pos, ◌*◌, ◌<◌, ◌≤◌, ◌*ℤ◌};
+ghost use Rattle.std.specs.Int.RustNames.{unsigned_abs};
+ghost use Rattle.number_laws.specs.Floors.{floor_div, ceil_div};
+ghost use Rattle.std.specs.Int.{int_max, int_min};
+ghost use Rattle.swept_boxes.specs.Cover.{cover_of_line};
+ghost use Rattle.swept_boxes.specs.Path.{along};
+ghost use Rattle.swept_boxes.specs.Pieces.{low_of_part, high_of_part, part_of_line};
+
+use crate::{Ends, Ranges};
+use arrayvec::ArrayVec;
+use micro_units::Um;
+
+fn scaled(position: i32, by: u8) -> i64
+    requires few { by ≤ 16 }
+    requires near { unsigned_abs position ≤ 20000000 }
+    ensures value { result ≡ position *ℤ pos by }
+    ensures small { unsigned_abs result ≤ 320000000 }
+{
+    position as i64 * by as i64
+}
+
+// The position at this part of the way, times the number of parts.
+fn mark(start: i32, end: i32, parts: u8, part: u8) -> i64
+    requires few { parts ≤ 16 }
+    requires within { part ≤ parts }
+    requires start_near { unsigned_abs start ≤ 20000000 }
+    requires end_near { unsigned_abs end ≤ 20000000 }
+    ensures value { result ≡ along start end parts part }
+    ensures near { unsigned_abs result ≤ 640000000 }
+{
+    scaled(start, parts - part) + scaled(end, part)
+}
+
+fn rounded_down(top: i64, under: u8) -> i64
+    requires some { 0 < under }
+    requires near { unsigned_abs top ≤ 640000000 }
+    ensures { result ≡ floor_div top under }
+{
+    top.div_euclid(under as i64)
+}
+
+fn rounded_up(top: i64, under: u8) -> i64
+    requires some { 0 < under }
+    requires near { unsigned_abs top ≤ 640000000 }
+    ensures { result ≡ ceil_div top under }
+{
+    -(-top).div_euclid(under as i64)
+}
+
+fn floor_at(start: i32, end: i32, parts: u8, part: u8) -> i64
+    requires some { 0 < parts }
+    requires few { parts ≤ 16 }
+    requires within { part ≤ parts }
+    requires start_near { unsigned_abs start ≤ 20000000 }
+    requires end_near { unsigned_abs end ≤ 20000000 }
+    ensures value { result ≡ floor_div (along start end parts part) parts }
+    ensures near { unsigned_abs result ≤ 20000000 }
+{
+    rounded_down(mark(start, end, parts, part), parts)
+}
+
+fn ceil_at(start: i32, end: i32, parts: u8, part: u8) -> i64
+    requires some { 0 < parts }
+    requires few { parts ≤ 16 }
+    requires within { part ≤ parts }
+    requires start_near { unsigned_abs start ≤ 20000000 }
+    requires end_near { unsigned_abs end ≤ 20000000 }
+    ensures value { result ≡ ceil_div (along start end parts part) parts }
+    ensures near { unsigned_abs result ≤ 20000000 }
+{
+    rounded_up(mark(start, end, parts, part), parts)
+}
+
+// The least whole micrometre in this part of the way, and the greatest.
+fn part_low(start: Um, end: Um, parts: u8, part: u8) -> Um
+    requires few { parts ≤ 16 }
+    requires within { part < parts }
+    ensures { result ≡ low_of_part start end parts part }
+{
+    let (start, end) = (start.micrometres, end.micrometres);
+    let low = floor_at(start, end, parts, part).min(floor_at(start, end, parts, part + 1));
+    Um {
+        micrometres: low as i32,
+    }
+}
+
+fn part_high(start: Um, end: Um, parts: u8, part: u8) -> Um
+    requires few { parts ≤ 16 }
+    requires within { part < parts }
+    ensures { result ≡ high_of_part start end parts part }
+{
+    let (start, end) = (start.micrometres, end.micrometres);
+    let high = ceil_at(start, end, parts, part).max(ceil_at(start, end, parts, part + 1));
+    Um {
+        micrometres: high as i32,
+    }
+}
+
+/// The ranges of one of the equal parts of the line between these ends.
+pub(crate) fn line_part(ends: &Ends, parts: u8, part: u8) -> Ranges
+    requires few { parts ≤ 16 }
+    requires within { part < parts }
+    ensures { result ≡ part_of_line ends.now parts part }
+{
+    let mut axes = ArrayVec::new();
+    for (axis, start, end) in ends.axes.as_slice() {
+        axes.push((
+            *axis,
+            part_low(*start, *end, parts, part),
+            part_high(*start, *end, parts, part),
+        ));
+    }
+    Ranges { axes }
+}
+
+/// Each axis from the lesser to the greater of its start and its end.
+pub(crate) fn line_cover(ends: &Ends) -> Ranges
+    ensures { result ≡ cover_of_line ends.now }
+{
+    let mut axes = ArrayVec::new();
+    for (axis, start, end) in ends.axes.as_slice() {
+        axes.push((*axis, lesser(*start, *end), greater(*start, *end)));
+    }
+    Ranges { axes }
+}
+
+fn lesser(a: Um, b: Um) -> Um
+    ensures { result ≡ int_min a b }
+{
+    Um {
+        micrometres: a.micrometres.min(b.micrometres),
+    }
+}
+
+fn greater(a: Um, b: Um) -> Um
+    ensures { result ≡ int_max a b }
+{
+    Um {
+        micrometres: a.micrometres.max(b.micrometres),
+    }
+}

@@ -1,0 +1,9 @@
+use Rattle.std.proofs.Common.{◌≡◌, ℕ, pos, ◌<◌, ◌≤◌, length}
+use Rattle.turnmill.specs.Channels as model
+use Rattle.turnmill.proofs.channels.start_positions.Given as goal
+
+abbrev pub invariant-loop-index : goal.invariant-loop-index
+invariant-loop-index l = record {
+  put : (k : ℕ) → k < l.index → model.positions_in l.at k ≡ model.start_position l.job k;
+  long : length l.at ≡ 16;
+}
