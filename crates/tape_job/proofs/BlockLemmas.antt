@@ -1,11 +1,10 @@
 -- Where the first part of a block ends.
-use Rattle.std.proofs.Common.{◌≡◌, ℕ, suc, ◌+◌, ◌-◌, ◌<◌, ◌≤◌, List, [], ◌∷◌, ◌++◌, append_assoc, append-nil, Result, Ok, Err, length, take, drop, Option, Some, None, Bool, true, false, cond, not, position, nat_lt, refl, ap, sym, ◌∙◌, arith, rules}
+use Rattle.std.proofs.Common.{◌≡◌, ℕ, suc, ◌+◌, ◌-◌, ◌<◌, ◌≤◌, List, [], ◌∷◌, ◌++◌, append_assoc, append-nil, Result, Ok, Err, length, take, drop, Some, None, Bool, true, false, cond, not, position, nat_lt, refl, ap, sym, ◌∙◌, arith}
 use Rattle.std.proofs.Math.Seq.{take-length, drop-length}
 use Rattle.std.proofs.lemmas.List.{take_rest}
 use Rattle.std.specs.List.{position_or_len, onto_first}
 use Rattle.tape_job.specs.declared.code.Code.{Code}
 use Rattle.tape_job.specs.declared.block.Address.{Address}
-use Rattle.tape_job.specs.Code.{◌>>=◌}
 use Rattle.tape_job.specs.Lines.{is_visible}
 use Rattle.tape_job.specs.Block.{is_letter, cut_at_letters, address_of, addresses_of, with_first}
 use Rattle.tape_job.proofs.LineLemmas.{place, no_place}

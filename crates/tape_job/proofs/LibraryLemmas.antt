@@ -1,5 +1,5 @@
 -- What becomes of the library by a new program and by a block of its last one.
-use Rattle.std.proofs.Common.{◌≡◌, ℕ, suc, ◌-◌, List, [], ◌∷◌, ◌++◌, Bool, true, false, ◌||◌, length, slice_get, Option, Some, None, refl, ap, if◌then◌else◌, arith}
+use Rattle.std.proofs.Common.{◌≡◌, ℕ, suc, ◌-◌, List, [], ◌∷◌, ◌++◌, Bool, true, false, ◌||◌, length, slice_get, Some, refl, ap, if◌then◌else◌, arith}
 use Rattle.std.specs.List.{list_any}
 use Rattle.std.specs.Map.{keys_of, values_of}
 use Rattle.std.specs.Str.{bytes_eq}
@@ -8,7 +8,6 @@ use Rattle.tape_job.specs.Rules.{has_program}
 use Rattle.tape_job.specs.Job.{ProgramView}
 use Rattle.tape_job.specs.Steps.{with_block}
 use Rattle.tape_job.specs.declared.job.Block.{Block}
-
 
 new_behind : (here : Bool) (entry : List ℕ × ProgramView) (entries : List (List ℕ × ProgramView)) (name : List ℕ) (program : ProgramView) (rest : Bool)
     → (rest ≡ false → insert_entry bytes_eq entries name program ≡ entries ++ (name, program) ∷ []) → here || rest ≡ false

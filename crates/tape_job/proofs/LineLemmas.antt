@@ -1,5 +1,5 @@
 -- Where the first line of an input ends.
-use Rattle.std.proofs.Common.{◌≡◌, ℕ, zero, suc, ◌+◌, ◌<◌, ◌≤◌, List, [], ◌∷◌, length, take, drop, Option, Some, None, Bool, true, false, cond, not, position, nat_lt, refl, ap, sym, ◌∙◌, arith, add-one, rules}
+use Rattle.std.proofs.Common.{◌≡◌, ℕ, suc, ◌+◌, ◌<◌, ◌≤◌, List, [], ◌∷◌, length, take, drop, Some, None, Bool, true, false, cond, not, position, nat_lt, refl, ap, ◌∙◌, arith, rules}
 use Rattle.std.proofs.Math.Seq.{take-length, drop-length}
 use Rattle.std.specs.List.{position_or_len, onto_first}
 use Rattle.tape_job.specs.Lines.{is_feed, raw_lines}

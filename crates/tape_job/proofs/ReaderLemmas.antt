@@ -1,12 +1,9 @@
 -- What the reader's calls say together.
-use Rattle.std.proofs.Common.{◌≡◌, ◌∙◌, Result, Ok, Err, Option, Some, None, refl, ap}
-use Rattle.std.specs.Option.{option_map}
+use Rattle.std.proofs.Common.{◌≡◌, Result, Ok, Err, None, refl}
 use Rattle.tape_job.specs.declared.fault.JobFault.{JobFault}
 use Rattle.tape_job.specs.declared.fault.JobFault.TheVariants.{Refused, NoMemory}
 use Rattle.tape_job.specs.declared.reading.Reading.{Reading}
-use Rattle.tape_job.specs.Code.{refusal}
 use Rattle.tape_job.specs.Lines.{Line}
-use Rattle.tape_job.specs.Rules.{code_by}
 use Rattle.tape_job.specs.Told.{Told}
 use Rattle.tape_job.specs.Read.{opening, program_before, line_refusal, trial}
 use Rattle.tape_job.specs.Steps.{Reads, Admits}

@@ -1,5 +1,5 @@
 -- What a job line says by itself. The number of words and the options come before the forms.
-use Rattle.std.specs.Prelude.{ℕ, ℤ, Bool, true, false, ◌&&◌, ◌||◌, if◌then◌else◌, ◌==◌, nat_le, int_le, codes, List, [], ◌∷◌, take, Result, Ok, Err, Option, Some, None}
+use Rattle.std.specs.Prelude.{ℕ, Bool, true, false, if◌then◌else◌, ◌==◌, nat_le, int_le, codes, List, [], ◌∷◌, take, Result, Ok, Err, Option, Some, None}
 use Rattle.std.specs.List.{list_any}
 use Rattle.std.specs.Str.{bytes_eq}
 use Rattle.tape_job.specs.declared.code.Code.{Code}

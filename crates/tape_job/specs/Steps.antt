@@ -40,13 +40,15 @@ with_line job number reading = record {
   axes = with_entry job.axes (axis_from number reading);
   geo = with_entry job.geo (geo_from job.axes number reading);
   zones = with_entry job.zones (zone_from job.axes number reading);
-  programs = with_header (with_block_of job.programs (block_from number reading)) number (name_from reading) }
+  programs = with_header (with_block_of job.programs (block_from number reading)) number (name_from reading);
+}
 
 unfoldable pub tell : Told → Line → Told
 tell told line = record {
   seen = told.seen || has_token line.1;
   in_programs = told.in_programs || begins_program line.1;
-  job = with_line told.job line.0 (reading_of told.seen told.in_programs line.1) }
+  job = with_line told.job line.0 (reading_of told.seen told.in_programs line.1);
+}
 
 abbrev pub unless_refused : Option Refusal → Result Told Refusal → Result Told Refusal
 unless_refused None next = next

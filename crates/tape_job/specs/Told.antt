@@ -88,7 +88,7 @@ abbrev pub programs_in : List Line → List Line → List (List ℕ × ProgramVi
 programs_in before [] = []
 programs_in before (line ∷ lines) =
     with_program (name_from (reading_after before line.1)) (record { line = line.0; blocks = blocks_in (before ++ line ∷ []) lines })
-      (programs_in (before ++ line ∷ []) lines)
+    (programs_in (before ++ line ∷ []) lines)
 
 abbrev pub axes_in : List Line → List AxisLine
 axes_in lines = entries (λ before line. axis_from line.0 (reading_after before line.1)) [] lines
@@ -102,4 +102,6 @@ told lines = record {
     axes = axes_in lines;
     geo = entries (λ before line. geo_from (axes_in before) line.0 (reading_after before line.1)) [] lines;
     zones = entries (λ before line. zone_from (axes_in before) line.0 (reading_after before line.1)) [] lines;
-    programs = programs_in [] lines } }
+    programs = programs_in [] lines;
+  };
+}

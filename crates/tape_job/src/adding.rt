@@ -5,7 +5,10 @@ ghost use Rattle.tape_job.specs.Rules.{has_program};
 
 use crate::item::{AxisName, Item, NamedSide};
 use crate::reading::Reading;
-use crate::{AxisLine, Block, ChannelId, ChannelLine, GeoLine, Job, NameText, Program, Stmt, ZoneId, ZoneLine};
+use crate::{
+    AxisLine, Block, ChannelId, ChannelLine, GeoLine, Job, NameText, Program, Stmt, ZoneId,
+    ZoneLine,
+};
 use indexmap::IndexMap;
 use micro_units::Um;
 use std::alloc::{AllocError, Global};
@@ -87,8 +90,10 @@ impl Job {
         channel: ChannelId,
         program: NameText,
     ) -> Result<(), AllocError>
-        ensures { OnOk result (self.new ≡ record self.old { channels = self.old.channels
-            ++ record { line = line; channel = channel; program = Some program; starts = true } ∷ [] }) }
+        ensures { OnOk result (self.new ≡ record self.old {
+          channels = self.old.channels
+              ++ record { line = line; channel = channel; program = Some program; starts = true } ∷ [];
+        }) }
     {
         self.channels.push(ChannelLine {
             line,
@@ -107,8 +112,10 @@ impl Job {
         owner: ChannelId,
         at: Um,
     ) -> Result<(), AllocError>
-        ensures { OnOk result (self.new ≡ record self.old { axes = self.old.axes
-            ++ record { line = line; letter = name.letter; number = name.number; owner = Some owner; at = at } ∷ [] }) }
+        ensures { OnOk result (self.new ≡ record self.old {
+          axes = self.old.axes
+              ++ record { line = line; letter = name.letter; number = name.number; owner = Some owner; at = at } ∷ [];
+        }) }
     {
         self.axes.push(AxisLine {
             line,
@@ -128,8 +135,10 @@ impl Job {
         slot: u8,
         axis: AxisName,
     ) -> Result<(), AllocError>
-        ensures { OnOk result (self.new ≡ record self.old { geo = with_entry self.old.geo
-            (geo_line line channel slot (axis_of self.old.axes axis)) }) }
+        ensures { OnOk result (self.new ≡ record self.old {
+          geo = with_entry self.old.geo
+              (geo_line line channel slot (axis_of self.old.axes axis));
+        }) }
     {
         if let Some(axis) = self.axis_of(axis) {
             self.geo.push(GeoLine {
@@ -151,8 +160,10 @@ impl Job {
         holder: ChannelId,
         sides: (NamedSide, NamedSide, NamedSide),
     ) -> Result<(), AllocError>
-        ensures { OnOk result (self.new ≡ record self.old { zones = with_entry self.old.zones
-            (zone_line line zone group holder (side_of self.old.axes sides.0) (side_of self.old.axes sides.1) (side_of self.old.axes sides.2)) }) }
+        ensures { OnOk result (self.new ≡ record self.old {
+          zones = with_entry self.old.zones
+              (zone_line line zone group holder (side_of self.old.axes sides.0) (side_of self.old.axes sides.1) (side_of self.old.axes sides.2));
+        }) }
     {
         if let (Some(x), Some(y), Some(z)) = (
             self.side_of(sides.0),
@@ -189,16 +200,20 @@ impl Job {
     /// Adds a program without blocks, whose name is new.
     fn add_program(&mut self, alloc: Global, line: u32, name: NameText) -> Result<(), AllocError>
         requires { has_program self.old.programs name ≡ false }
-        ensures { OnOk result (self.new ≡ record self.old { programs = self.old.programs
-            ++ (name, record { line = line; blocks = [] }) ∷ [] }) }
+        ensures { OnOk result (self.new ≡ record self.old {
+          programs = self.old.programs
+              ++ (name, record { line = line; blocks = [] }) ∷ [];
+        }) }
     {
         insert_program(&mut self.programs, name, Program::new(alloc, line))
     }
 
     /// Adds a block to the last program, if there is one.
     fn add_block(&mut self, line: u32, stmt: Stmt) -> Result<(), AllocError>
-        ensures { OnOk result (self.new ≡ record self.old { programs = with_block self.old.programs
-            (record { line = line; stmt = stmt }) }) }
+        ensures { OnOk result (self.new ≡ record self.old {
+          programs = with_block self.old.programs
+              (record { line = line; stmt = stmt });
+        }) }
     {
         push_block(&mut self.programs, line, stmt)
     }

@@ -56,7 +56,12 @@ impl Job {
 
 /// The refusal of a first line with a token that is not the job line.
 #[tactic(auto, unfolding(crate::specs::Read::opening))]
-fn opening(alloc: Global, seen: bool, number: u32, raw: &[u8]) -> Result<Option<Refusal>, AllocError>
+fn opening(
+    alloc: Global,
+    seen: bool,
+    number: u32,
+    raw: &[u8],
+) -> Result<Option<Refusal>, AllocError>
     ensures { IfOk result (λ refused. refused ≡ opening seen (number, raw.now)) }
 {
     if seen || !has_token(raw) || is_job_line(alloc, raw)? {
@@ -151,7 +156,11 @@ impl Reader {
     pub(crate) fn finish(self) -> Result<Job, Refusal>
         ensures { GivesJob result (answer (end_trial self) self.job) }
     {
-        let Reader { seen, in_programs: _, job } = self;
+        let Reader {
+            seen,
+            in_programs: _,
+            job,
+        } = self;
         if let Some(refused) = job.closing() {
             return Err(refused);
         }

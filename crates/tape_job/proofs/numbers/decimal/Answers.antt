@@ -1,5 +1,5 @@
 -- Of at most nine digits, fewer than nine are read when the next one comes.
-use Rattle.std.proofs.Common.{◌≡◌, ℕ, ◌<◌, ◌≤◌, ◌^◌, arith, Fits, w32}
+use Rattle.std.proofs.Common.{ℕ, ◌<◌, ◌≤◌, ◌^◌, arith}
 use Rattle.std.proofs.Math.Nat.{pow-le-pow_right}
 use Rattle.tape_job.proofs.numbers.decimal.Goals as goal
 

@@ -1,5 +1,5 @@
 -- The number is that of the digits read so far, and has no more digits than these.
-use Rattle.std.proofs.Common.{◌≡◌, ◌<◌, ◌^◌, take, true}
+use Rattle.std.proofs.Common.{◌≡◌, ◌<◌, ◌^◌, take}
 use Rattle.tape_job.specs.Numbers.{decimal}
 use Rattle.tape_job.proofs.numbers.decimal.Given as goal
 
