@@ -22,7 +22,7 @@ use Rattle.turnmill.specs.Clash.{own_clock, is_open_at, may_overlap, zones_in_or
 use Rattle.turnmill.specs.ShownStretches.{run_stretch, end_stretch, shown_stretch, held_zone, HeldView, is_run, same_kind, do_overlap, first_some, first_touched, first_lines, named, first_in_stretches, first_against, first_of_zones, first_meeting, verdict_by}
 use Rattle.turnmill.specs.Stretches.{Event, Stretch, spans_of, stretches_from, channel_line, stretches_of}
 use Rattle.turnmill.specs.StretchView.{StretchView}
-use Rattle.turnmill.specs.ZoneBoxes.{PlaceBox, boxes_of, shown_box, moving_box, standing_box, piece_boxes, zone_box, low_in, high_in}
+use Rattle.turnmill.specs.ZoneBoxes.{PlaceBox, boxes_of, shown_box, moving_box, standing_box, piece_boxes, moves_zone, has_axis}
 use Rattle.turnmill.specs.declared.channels.Item.{Item}
 use Rattle.turnmill.specs.declared.stretches.PlaceName.{PlaceName}
 use Rattle.turnmill.specs.declared.stretches.StretchKind.{StretchKind}
@@ -249,7 +249,7 @@ first_some-held f g same [] all = refl
 first_some-held f g same (s ∷ ss) all = rw (same s all.0, first_some-held f g same ss all.1) refl
 
 all_held : (job : JobView) (zone : ZoneLine) → AllHeld (stretches_of job zone)
-unfolding stretches_of spans_of
+unfolding stretches_of spans_of boxes_of moves_zone has_axis
 all_held job zone = by_holder zone.holder refl
   where
     by_line : (c : ℕ) (o : Option ChannelLine) → AllHeld (option_map_or (λ line. stretches_from zone c 0 (spans_of job line)) o [])
@@ -292,7 +292,7 @@ of_pair job pair = option_map names_of (find (pair_meets job) (pairs_of_zones ow
 
 -- the names of the first two boxes of any two zones that meet
 groups_by_covers : (job : JobView) (zones : List ZoneLine) → first_some (of_pair job) (pairs_by_group zones) ≡ first_meeting (map (held_zone job) zones)
-unfolding of_pair first_of_zones
+unfolding of_pair first_of_zones held_zone
 groups_by_covers job [] = refl
 groups_by_covers job (zone ∷ zones) =
     first_some-append (of_pair job) (map (λ (other : ZoneLine). (zone, other)) (filter (λ other. not (zone.group == other.group)) zones)) (pairs_by_group zones)
