@@ -3,4 +3,5 @@ pub mod LengthLemmas
 pub mod LibraryLemmas
 pub mod LineLemmas
 pub mod ReaderLemmas
+pub mod SoundReadings
 pub mod TellingLemmas
