@@ -12,3 +12,4 @@ pub mod Ends
 pub mod Ranges
 pub mod Positions
 pub mod BoxLemmas
+pub mod CheckLemmas

@@ -6,3 +6,5 @@ pub mod Clash
 pub mod SoundJob
 pub mod SmallSteps
 pub mod Safety
+pub mod Output
+pub mod Input

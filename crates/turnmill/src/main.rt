@@ -2,6 +2,7 @@
 #![tactic(auto)]
 
 mod channels;
+mod check;
 mod stretches;
 mod zone_boxes;
 
