@@ -258,3 +258,6 @@ few_parts (suc (suc zero)) h = omega arith
 few_parts (suc (suc (suc zero))) h = omega arith
 few_parts (suc (suc (suc (suc zero)))) h = omega arith
 few_parts (suc (suc (suc (suc (suc n))))) h = absurd (omega arith)
+
+pub few_pieces : (motion : Motion) (depth : ℕ) → depth ≤ 4 → length (pieces_at motion depth) ≤ 16
+few_pieces (Line ends) depth h = rw length-map-range_with_len (few_parts depth h)

@@ -1,8 +1,6 @@
 //! Motions along straight lines, the ranges that they sweep, and boxes that meet.
 #![tactic(auto)]
 
-ghost use Rattle.std.specs.Prelude.{◌<◌};
-
 mod lines;
 mod sweeps;
 
@@ -33,6 +31,10 @@ impl Model for AxisId {
 }
 
 impl Default for AxisId {
+    ghost use Rattle.std.specs.Prelude.{◌≡◌};
+
+    ghost is_default = { λ axis. axis ≡ 0 };
+
     fn default() -> AxisId {
         AxisId { index: 0 }
     }
@@ -115,3 +117,6 @@ impl Box3 {
         low <= high
     }
 }
+
+#[cfg(test)]
+mod tests;

@@ -1,8 +1,8 @@
 //! The equal parts of a straight line.
 ghost use Rattle.std.specs.Prelude.{◌≡◌, ℤ, pos, ◌*◌, ◌<◌, ◌≤◌, ◌*ℤ◌};
+ghost use Rattle.std.specs.Int.{int_max, int_min};
 ghost use Rattle.std.specs.Int.RustNames.{unsigned_abs};
 ghost use Rattle.number_laws.specs.Floors.{floor_div, ceil_div};
-ghost use Rattle.std.specs.Int.{int_max, int_min};
 ghost use Rattle.swept_boxes.specs.Cover.{cover_of_line};
 ghost use Rattle.swept_boxes.specs.Path.{along};
 ghost use Rattle.swept_boxes.specs.Pieces.{low_of_part, high_of_part, part_of_line};
@@ -72,7 +72,7 @@ fn ceil_at(start: i32, end: i32, parts: u8, part: u8) -> i64
     rounded_up(mark(start, end, parts, part), parts)
 }
 
-// The least whole micrometre in this part of the way, and the greatest.
+// The least position in this part of the way, rounded down.
 fn part_low(start: Um, end: Um, parts: u8, part: u8) -> Um
     requires few { parts ≤ 16 }
     requires within { part < parts }
@@ -85,6 +85,7 @@ fn part_low(start: Um, end: Um, parts: u8, part: u8) -> Um
     }
 }
 
+// The greatest position in this part of the way, rounded up.
 fn part_high(start: Um, end: Um, parts: u8, part: u8) -> Um
     requires few { parts ≤ 16 }
     requires within { part < parts }

@@ -1,5 +1,5 @@
 //! The pieces of a motion, and its cover.
-ghost use Rattle.std.specs.Prelude.{◌≡◌, ◌<◌, ◌≤◌, ◌^◌};
+ghost use Rattle.std.specs.Prelude.{◌≡◌, ◌<◌, ◌≤◌, ◌^◌, length};
 ghost use Rattle.std.specs.List.{All, Any};
 ghost use Rattle.swept_boxes.specs.Cover.{cover_of, AreSmallest};
 ghost use Rattle.swept_boxes.specs.Motions.{IsSound};
@@ -52,7 +52,7 @@ impl<'a> Iterator for Pieces<'a> {
     }
 }
 
-// The number of equal parts into which each level of the depth cuts in two.
+// The number of parts at a depth, each level of which cuts every part in two.
 fn parts_at(depth: u8) -> u8
     requires { depth ≤ 4 }
     ensures value { result ≡ 2 ^ depth }
@@ -61,6 +61,7 @@ fn parts_at(depth: u8) -> u8
     1 << depth
 }
 
+// One of the equal parts of a motion.
 fn part_of(motion: &Motion, parts: u8, part: u8) -> Ranges
     requires few { parts ≤ 16 }
     requires within { part < parts }
@@ -71,13 +72,17 @@ fn part_of(motion: &Motion, parts: u8, part: u8) -> Ranges
     }
 }
 
-/// The pieces of a motion at a depth, in order: a straight line is cut into 2 to the power of the depth equal parts, and each part gives the range of every axis, rounded outwards to whole micrometres.
+/// The pieces of a motion at a depth, in order, each as a range in micrometres for every axis of the motion.
+///
+/// A straight line is cut into equal parts, one at depth 0 and twice as many at each further depth, up to 16 at depth 4.
+/// The bounds of a part are rounded outwards to whole micrometres.
 pub fn pieces_of(motion: &Motion, depth: u8) -> Pieces<'_>
     requires sound { IsSound motion.now }
     requires deep { depth ≤ 4 }
     ensures pieces { result ≡ pieces_at motion.now depth }
     ensures covers { (point : Point) → IsOnPath motion.now point → Any (λ piece. Hold piece point) result }
     ensures in_cover { All (λ piece. LieIn piece (cover_of motion.now)) result }
+    ensures few { length result ≤ 16 }
 {
     Pieces {
         motion,
@@ -86,7 +91,7 @@ pub fn pieces_of(motion: &Motion, depth: u8) -> Pieces<'_>
     }
 }
 
-/// The smallest ranges that hold all pieces of the motion at depth 0. They hold its pieces at every depth.
+/// The smallest ranges in micrometres that hold all pieces of the motion at depth 0. They hold its pieces at every depth.
 pub fn cover(motion: &Motion) -> Ranges
     requires { IsSound motion.now }
     ensures cover { result ≡ cover_of motion.now }

@@ -47,13 +47,16 @@ last_end n at items joins place long = of_item (some_at items place (omega arith
     of_item (item, is) =
         let before = left_at (take place items) at in
         let joined = joins_at n at items joins place item is in
-        let less : suc place - 1 ≡ place = omega arith in
-        (standing (after item before) 1,
-         subst (λ (o : Option Item). IsSomeAnd o (λ i. IsAlong before i (standing (after item before) 1))) (sym is) (along_at_end n before item 1 joined (omega arith)),
-         (sym long,
-          subst (λ (o : Option Item). IfSome o (λ i. IsEndOf i (standing (after item before) 1))) (sym (ap (slice_get items) less ∙ is))
-          (All-weaker (λ e. (e.0 < n) × (e.1 ≡ before e.0) × (e.2 ≡ after item before e.0)) (λ e. after item before e.0 *ℤ pos 1 ≡ e.2 *ℤ pos 1)
-              (λ e at_end. ap (λ x. x *ℤ pos 1) (sym at_end.2)) (axes_of item.motion) joined)))
+        let less : suc place - 1 ≡ place = omega arith in (
+          standing (after item before) 1,
+          subst (λ (o : Option Item). IsSomeAnd o (λ i. IsAlong before i (standing (after item before) 1))) (sym is) (along_at_end n before item 1 joined (omega arith)),
+          (
+            sym long,
+            subst (λ (o : Option Item). IfSome o (λ i. IsEndOf i (standing (after item before) 1))) (sym (ap (slice_get items) less ∙ is))
+                (All-weaker (λ e. (e.0 < n) × (e.1 ≡ before e.0) × (e.2 ≡ after item before e.0)) (λ e. after item before e.0 *ℤ pos 1 ≡ e.2 *ℤ pos 1)
+                (λ e at_end. ap (λ x. x *ℤ pos 1) (sym at_end.2)) (axes_of item.motion) joined),
+          ),
+        )
 
 -- ---- steps
 
@@ -86,9 +89,9 @@ advances job state placed channel running place point on there end =
     let step : SmallStep = Advance channel place point in
     let next : State = after_step state step in
     let lawful : IsAtPlace (board_position job state channel) (motions_of job channel) place point =
-        subst (λ (p : ℕ → ℤ). IsAtPlace p (motions_of job channel) place point) (sym (board_first job state channel (not_ended job state channel running))) there in
+    subst (λ (p : ℕ → ℤ). IsAtPlace p (motions_of job channel) place point) (sym (board_first job state channel (not_ended job state channel running))) there in
     let rest : CanEndFrom job next channel = acts job next channel (runs_on job state channel place point running)
-        (subst (λ (s : Spot). IsAtEnd (motions_of job channel) s.place s.point) (sym (is_there job state channel place point)) end) in
+    (subst (λ (s : Spot). IsAtEnd (motions_of job channel) s.place s.point) (sym (is_there job state channel place point)) end) in
     (step ∷ rest.0, ((running, on, lawful), rest.1), rest.2)
 
 goes_on : (job : JobView) (state : State) → WellPlaced job state → (channel : ℕ) → IsTrue (is_running job state channel) → CanEndFrom job state channel
@@ -96,8 +99,10 @@ goes_on job state placed channel running = by_length (length (motions_of job cha
   where
     here : IsAtPlace (start_position job) (motions_of job channel) (present job state channel).place (present job state channel).point
     here = run_place job state channel placed (not_ended job state channel running)
+
     within : (present job state channel).place ≤ length (motions_of job channel)
     within = place_within (start_position job) (motions_of job channel) (present job state channel).place (present job state channel).point here
+
     by_length : (n : ℕ) → length (motions_of job channel) ≡ n → CanEndFrom job state channel
     by_length zero none = advances job state placed channel running (present job state channel).place (present job state channel).point (omega arith) here
         (omega (arith, within), no_last (motions_of job channel) none ((present job state channel).place - 1))

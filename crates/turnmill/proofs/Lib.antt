@@ -13,3 +13,6 @@ pub mod Ranges
 pub mod Positions
 pub mod BoxLemmas
 pub mod CheckLemmas
+pub mod MeetLemmas
+pub mod JudgeLemmas
+pub mod FitLemmas

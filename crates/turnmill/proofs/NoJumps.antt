@@ -12,7 +12,7 @@ use Rattle.turnmill.proofs.SomeLemmas.{found_passes, All-found}
 use Rattle.turnmill.proofs.Soundness.{motions_join}
 use Rattle.turnmill.proofs.StateLemmas.{WellPlaced, WellPlaced-step, well_placed, WellPlaced-opening, not_ended, run_place, board_last, end_place, one_under}
 use Rattle.turnmill.specs.Channels.{start_position, items_of}
-use Rattle.turnmill.specs.Safety.{owner_in, position_in, fraction_of, NoJump}
+use Rattle.turnmill.specs.Safety.{axis_owner, axis_position, fraction_of, NoJump}
 use Rattle.turnmill.specs.SmallSteps.{end_in, left_at, StandsAt, IsAlong, IsEndOf, IsAtPlace, IsAtEnd, Spot, State, opening, span_of, has_ended, motions_of, board_position, beginning, present, Act, after_step, IsLawful, reached}
 use Rattle.turnmill.specs.Stretches.{channel_line}
 use Rattle.turnmill.specs.ZoneBoxes.{axes_of, after}
@@ -129,9 +129,9 @@ acts_in_place job state placed channel (running, end) axis =
     (sym (one_under ((present job state channel).point.top axis)) ∙ before ∙ ap (λ (p : ℕ → ℤ). p axis *ℤ pos u) (sym (board_last job next channel ended)))
 
 jumps_nowhere : (job : JobView) (state : State) → WellPlaced job state → (channel : ℕ) → IsLawful job state (Act channel) → (axis : ℕ)
-    → IsSame (position_in job state axis) (position_in job (after_step state (Act channel)) axis)
-unfolding position_in owner_in
-jumps_nowhere job state placed channel lawful axis = by_owner (owner_in job state axis)
+    → IsSame (axis_position job state axis) (axis_position job (after_step state (Act channel)) axis)
+unfolding axis_position axis_owner
+jumps_nowhere job state placed channel lawful axis = by_owner (axis_owner job state axis)
   where
     by_channel : (owner : ℕ) → (owner ≡ channel) ⊎ (owner ≡ channel → ⊥)
         → IsSame (fraction_of (present job state owner).point axis) (fraction_of (present job (after_step state (Act channel)) owner).point axis)

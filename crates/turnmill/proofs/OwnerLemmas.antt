@@ -16,15 +16,15 @@ use Rattle.tape_job.specs.declared.job.Stmt.TheVariants.{Move, End}
 use Rattle.turnmill.proofs.PositionLemmas.{ends_all}
 use Rattle.turnmill.proofs.SomeLemmas.{SomeOf, some-list_any, found_passes}
 use Rattle.turnmill.specs.Channels.{is_slot, programmed, position_after, blocks_of, end_from, ends_from, item_from, items_after, items_of}
-use Rattle.turnmill.specs.Safety.{owner_in, OneOwner}
+use Rattle.turnmill.specs.Safety.{axis_owner, OneOwner}
 use Rattle.turnmill.specs.SmallSteps.{State, motions_of}
 use Rattle.turnmill.specs.SoundJob.{IsDeclared, first_owner, IsSoundJob}
 use Rattle.turnmill.specs.Stretches.{channel_line}
 use Rattle.turnmill.specs.ZoneBoxes.{axes_of}
 use Rattle.turnmill.specs.declared.channels.Item.{Item}
 
-owner_is_first : (job : JobView) (state : State) (axis : ℕ) → owner_in job state axis ≡ first_owner job axis
-unfolding owner_in first_owner
+owner_is_first : (job : JobView) (state : State) (axis : ℕ) → axis_owner job state axis ≡ first_owner job axis
+unfolding axis_owner first_owner
 owner_is_first job state axis = refl
 
 All-at : {X : Type 0} (P : X → Type 0) (xs : List X) (i : ℕ) (x : X) → All P xs → slice_get xs i ≡ Some x → P x
@@ -81,8 +81,8 @@ module _ (job : JobView) (sound : IsSoundJob job) (channel : ℕ) where
 
 -- ---- the owners in a state
 
-owned_by_one : (job : JobView) → IsSoundJob job → (state : State) (axis : ℕ) → IfSome (owner_in job state axis) (IsDeclared job)
-unfolding owner_in
+owned_by_one : (job : JobView) → IsSoundJob job → (state : State) (axis : ℕ) → IfSome (axis_owner job state axis) (IsDeclared job)
+unfolding axis_owner
 owned_by_one job sound state axis = by_line (slice_get job.axes axis) refl
   where
     by_owner : (o : Option ℕ) → IsSomeAnd o (IsDeclared job) → IfSome o (IsDeclared job)
@@ -93,8 +93,8 @@ owned_by_one job sound state axis = by_line (slice_get job.axes axis) refl
     by_line None is = tt
     by_line (Some line) is = by_owner line.owner (All-at (λ l. IsSomeAnd l.owner (IsDeclared job)) job.axes axis line sound.owners is)
 
-moves_own : (job : JobView) → IsSoundJob job → (state : State) (channel : ℕ) → All (λ item. All (λ e. owner_in job state e.0 ≡ Some channel) (axes_of item.motion)) (motions_of job channel)
-unfolding motions_of items_of owner_in first_owner
+moves_own : (job : JobView) → IsSoundJob job → (state : State) (channel : ℕ) → All (λ item. All (λ e. axis_owner job state e.0 ≡ Some channel) (axes_of item.motion)) (motions_of job channel)
+unfolding motions_of items_of axis_owner first_owner
 moves_own job sound state channel = by_line (channel_line job channel) refl
   where
     by_line : (o : Option ChannelLine) → channel_line job channel ≡ o → All (HasOwnAxes job sound channel) (option_map_or (items_of job) o [])

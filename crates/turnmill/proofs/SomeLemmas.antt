@@ -1,4 +1,4 @@
--- Some element of a list, by recursion on the list, and what `find` and `list_any` say of it.
+-- Some element of a list, by recursion on the list; what `find` and `list_any` say of it.
 use Rattle.std.proofs.Common.{◌≡◌, ◌⊎◌, Bool, true, false, cond, ◌||◌, List, [], ◌∷◌, ◌++◌, map, filter, find, flat_map, None, Some, All, inl, inr, refl, subst}
 use Rattle.std.proofs.lemmas.Bool.{false≢true}
 use Rattle.std.proofs.lemmas.List.Elements.{All-head, All-tail}
@@ -10,7 +10,7 @@ SomeOf P [] = ⊥
 SomeOf P (x ∷ xs) = P x ⊎ SomeOf P xs
 
 pub SomeOf-weaker : {X : Type 0} (P Q : X → Type 0) → ((x : X) → P x → Q x) → (xs : List X) → SomeOf P xs → SomeOf Q xs
-SomeOf-weaker P Q weaker [] some = some
+SomeOf-weaker P Q weaker [] none = none
 SomeOf-weaker P Q weaker (x ∷ xs) (inl here) = inl (weaker x here)
 SomeOf-weaker P Q weaker (x ∷ xs) (inr there) = inr (SomeOf-weaker P Q weaker xs there)
 

@@ -3,6 +3,7 @@ use Rattle.std.proofs.Common.{◌≡◌, ◌≢◌, ◌⊎◌, ◌∙◌, ℕ, z
 use Rattle.std.proofs.lemmas.Bool.{false≢true, eqb-true, eq-eqb, cases_Bool}
 use Rattle.std.proofs.lemmas.List.Elements.{All-head, All-tail, All-contains}
 use Rattle.std.proofs.lemmas.Option.{slice_get_within}
+use Rattle.std.specs.Prelude.{Result, Ok, Err, IfOk}
 use Rattle.std.specs.List.{list_any}
 use Rattle.number_laws.specs.Fractions.{Fraction, IsIn}
 use Rattle.swept_boxes.specs.Boxes.{SpacePoint, IsInBox}
@@ -21,7 +22,7 @@ use Rattle.turnmill.proofs.StateLemmas.{WellPlaced, well_placed, WellPlaced-open
 use Rattle.turnmill.proofs.ZoneLemmas.{FractionsWithin, in_zone_box}
 use Rattle.turnmill.specs.Channels.{start_position, position_after, blocks_of, items_of}
 use Rattle.turnmill.specs.Clash.{own_clock, zones_in_order, zone_pairs, BoxPlace, pairs_of_zones, compared_pairs, depth_of, pair_meets, verdict_of}
-use Rattle.turnmill.specs.Safety.{owner_in, position_in, fraction_of, IsInZone, ZonesMeet, NoneMeet, SafeAlways}
+use Rattle.turnmill.specs.Safety.{axis_owner, axis_position, fraction_of, IsInZone, ZonesMeet, NoneMeet, SafeAlways}
 use Rattle.turnmill.specs.SmallSteps.{left_at, StandsAt, IsAtPlace, Spot, State, opening, span_of, has_ended, motions_of, board_position, beginning, present, reached}
 use Rattle.turnmill.specs.SoundJob.{IsDeclared, first_owner, IsCarriedBy, IsSoundZone, IsSoundJob}
 use Rattle.turnmill.specs.Stretches.{Stretch, channel_line, spans_of, stretches_from, stretches_of}
@@ -144,19 +145,19 @@ zone_has_box job state placed zone sound channel held line is = by_ended (cases_
 
 -- ---- the zone and its pieces
 
-position_is : (job : JobView) (state : State) (axis channel : ℕ) → first_owner job axis ≡ Some channel → position_in job state axis ≡ fraction_of (present job state channel).point axis
-unfolding position_in owner_in first_owner
+position_is : (job : JobView) (state : State) (axis channel : ℕ) → first_owner job axis ≡ Some channel → axis_position job state axis ≡ fraction_of (present job state channel).point axis
+unfolding axis_position axis_owner first_owner
 position_is job state axis channel owned = rw owned refl
 
 fractions_within : (job : JobView) (state : State) (zone : ZoneLine) → IsSoundZone job zone → (channel : ℕ) → zone.holder ≡ Some channel → 0 < (present job state channel).point.under
-    → (low high : ℕ → ℤ) → AxesWithin zone low high (present job state channel).point → FractionsWithin zone low high (position_in job state)
+    → (low high : ℕ → ℤ) → AxesWithin zone low high (present job state channel).point → FractionsWithin zone low high (axis_position job state)
 fractions_within job state zone sound channel held some low high within = λ axis has.
     subst (λ (f : Fraction). (0 < f.under) × IsIn (low axis) (high axis) f.top f.under)
     (sym (position_is job state axis channel (carrier_owned job zone sound axis has ∙ held)))
     (some, within axis has)
 
 -- a point of space in the zone is in a piece of a box of a current stretch
-zone_in_pieces : (job : JobView) (state : State) → WellPlaced job state → (zone : ZoneLine) → IsSoundZone job zone → (point : SpacePoint) → IsInZone (position_in job state) zone point
+zone_in_pieces : (job : JobView) (state : State) → WellPlaced job state → (zone : ZoneLine) → IsSoundZone job zone → (point : SpacePoint) → IsInZone (axis_position job state) zone point
     → HasBox job (span_of state) zone (λ box. SomeOf (λ piece. IsInBox piece point) (piece_boxes zone (depth_of job) box))
 zone_in_pieces job state placed zone sound point in_zone = by_holder zone.holder refl sound.held
   where
@@ -171,7 +172,7 @@ zone_in_pieces job state placed zone sound point in_zone = by_holder zone.holder
           here.0,
           SomeOf-weaker (Covers zone spot.place spot.point) (λ box. SomeOf (λ piece. IsInBox piece point) (piece_boxes zone (depth_of job) box))
               (λ box covers. some_piece (λ piece. IsInBox piece point) zone (depth_of job) spot.place spot.point box
-              (λ low high within. in_zone_box zone low high (position_in job state) sound.directions (fractions_within job state zone sound channel held has.0 low high within) point in_zone) covers)
+              (λ low high within. in_zone_box zone low high (axis_position job state) sound.directions (fractions_within job state zone sound channel held has.0 low high within) point in_zone) covers)
               stretch.boxes here.1,
         ))
         (stretches_of job zone) has.1
@@ -222,3 +223,9 @@ sound_at_all_speeds job sound says = record {
       none_found (pair_meets job) (compared_pairs job) (no_pair_meets job says)
       (zones_meet_in_pair job sound (reached opening steps) (well_placed job opening steps (WellPlaced-opening job) lawful) zone other in_job in_job' apart meet);
 }
+
+-- the same of what is read of an input
+pub safe_when_read : {E : Type 0} (read : Result JobView E) → ((job : JobView) → read ≡ Ok job → IsSoundJob job) → ((job : JobView) → read ≡ Ok job → verdict_of job ≡ Yes)
+    → IfOk read SafeAlways
+safe_when_read (Ok job) sound says = sound_at_all_speeds job (sound job refl) (says job refl)
+safe_when_read (Err refused) sound says = tt

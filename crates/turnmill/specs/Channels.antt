@@ -1,9 +1,10 @@
 -- What a channel does: the blocks that it executes, the motions that they make, and where its axes stand.
-use Rattle.std.specs.Prelude.{◌≡◌, ◌<◌, ◌≤◌, All, ℕ, ℤ, pos, ◌==◌, ◌&&◌, Bool, true, false, if◌then◌else◌, List, [], ◌∷◌, ◌++◌, length, Option, None, Some, unwrap_or, find, slice_get, slice_index_or}
+use Rattle.std.specs.Prelude.{◌≡◌, ◌<◌, ◌≤◌, ⊤, All, IfSome, ℕ, ℤ, pos, ◌==◌, ◌&&◌, Bool, true, false, if◌then◌else◌, List, [], ◌∷◌, ◌++◌, length, Option, None, Some, unwrap_or, find, slice_get, slice_index_or}
 use Rattle.std.specs.List.{filter_map, range_with_len, last_or, cons_option, list_any}
 use Rattle.std.specs.Option.{option_map, option_map_or, option_and_then}
 use Rattle.std.specs.Map.{lookup}
 use Rattle.std.specs.Str.{bytes_eq}
+use Rattle.swept_boxes.specs.Motions.{IsInRange}
 use Rattle.swept_boxes.specs.declared.Motion.{Motion}
 use Rattle.swept_boxes.specs.declared.Motion.TheVariants.{Line}
 use Rattle.tape_job.specs.Job.{JobView, ProgramView}
@@ -42,6 +43,17 @@ position_after job channel blocks axis = unwrap_or (last_or None (filter_map (λ
 pub record HasFewAxes (job : JobView) : Type 0 where
   pub few : length job.axes ≤ 16
   pub slots : All (λ g. g.axis < length job.axes) job.geo
+
+-- a statement programs positions in range
+abbrev pub IsInReach : Stmt → Type 0
+IsInReach (Move x z) = IfSome x IsInRange × IfSome z IsInRange
+IsInReach End = ⊤
+
+-- the job can be run: its axes start in range, and its blocks program positions in range
+pub record IsRunnable (job : JobView) : Type 0 where
+  pub axes : HasFewAxes job
+  pub starts : All (λ line. IsInRange line.at) job.axes
+  pub values : All (λ program. All (λ block. IsInReach block.stmt) program.1.blocks) job.programs
 
 -- a row of positions says where each axis is; beyond the row it is at 0
 abbrev pub positions_in : List ℤ → ℕ → ℤ

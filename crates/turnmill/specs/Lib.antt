@@ -2,6 +2,8 @@ pub mod Channels
 pub mod ChannelRun
 pub mod ZoneBoxes
 pub mod Stretches
+pub mod StretchView
+pub mod ShownStretches
 pub mod Clash
 pub mod SoundJob
 pub mod SmallSteps

@@ -3,6 +3,8 @@
 
 mod channels;
 mod check;
+mod clash;
+mod judge;
 mod stretches;
 mod zone_boxes;
 

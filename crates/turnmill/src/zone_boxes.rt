@@ -233,7 +233,7 @@ pub fn boxes_of(
     ensures { IfOk result (λ boxes. boxes.items ≡ map (model.shown_box zone.now line) (model.boxes_of zone.now (positions_in start.now) items.now)) }
 {
     let mut boxes = moving_boxes(alloc, zone, start, items)?;
-    if boxes.is_empty() {
+    if boxes.as_slice().is_empty() {
         boxes.push(standing_box(zone, line, start))?;
     }
     Ok(boxes)

@@ -1,0 +1,11 @@
+use Rattle.std.proofs.Common.{◌≡◌, ℕ, ℤ, refl}
+use mathlib.Core.Path.{fun_ext}
+use Rattle.turnmill.specs.Channels.{positions_in, start_position}
+use Rattle.turnmill.specs.ShownStretches.{run_stretch}
+use Rattle.turnmill.proofs.stretches.run_stretch.Goals as goal
+
+pub returns : goal.returns
+unfolding run_stretch
+returns c =
+    let start : positions_in c.start_positions-start.result ≡ start_position c.args.job.now = fun_ext c.start_positions-start.ensures in
+    rw (← c.run.view_is, ← start, c.in_ok-boxes_of.ensures, c.deref.ensures.value) refl
