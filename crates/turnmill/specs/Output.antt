@@ -51,3 +51,9 @@ IsReadWhole ends.Yes = ⊤
 IsReadWhole ends.No = ⊤
 IsReadWhole ends.Refused = ⊤
 IsReadWhole status = ⊥
+
+-- the status and the bytes are those of the output, which is that of an input which was read whole
+pub record Makes (status : Status) (bytes : List ℕ) (output : Output) : Type 0 where
+  pub status_is : status ≡ output.status
+  pub bytes_are : bytes ≡ output.bytes
+  pub whole : IsReadWhole status

@@ -1,13 +1,20 @@
 //! The check of an input, from the words of the call to the bytes of the answer.
-ghost use Rattle.std.specs.Prelude.{◌≡◌, ◌↔◌, ◌⊎◌, ℕ, ◌-◌, ◌^◌, ◌<◌, ◌≤◌, Bool, true, false, [], length, map, IfSome, IfOk, IsErr, IsErrAnd, Some, string_bytes};
+ghost use Rattle.std.specs.Prelude.{◌≡◌, ◌↔◌, ◌⊎◌, ℕ, ◌-◌, ◌^◌, ◌<◌, ◌≤◌, Bool, true, false, [], length, map, IfSome, IfOk, IsErr, IsErrAnd, Some, Ok, Err, string_bytes};
 ghost use Rattle.edge_io.specs.Moves.{Grows, GrowsByFront};
 ghost use Rattle.tape_job.specs.Read.{read_of};
 ghost use Rattle.turnmill.specs.Input.{is_check, ReadsInput, TakesTooMany};
-ghost use Rattle.turnmill.specs.Output.{output_of, Answers, IsVerdict, IsReadWhole};
+ghost use Rattle.turnmill.specs.Output.{output_of, output_by, status_of, Answers, IsVerdict, Makes};
+ghost use Rattle.turnmill.specs.Channels.{IsRunnable};
+ghost use Rattle.nc_faults.specs.Texts.{IsRefusalCode};
 ghost use Rattle.turnmill.specs.Report.{refusal_bytes};
 
+use crate::judge::check_job;
+use crate::report::{refusal_line, report_text};
+use crate::stretches::Verdict;
 use edge_io::{Failed, Sink, Source, put_all};
+use nc_faults::Refusal;
 use std::alloc::{AllocError, Global};
+use tape_job::{Job, JobFault, read_job};
 
 /// How a call ends. `status as u8` is the number that the program ends with.
 #[derive(Clone, Copy, Debug, PartialEq, Eq)]
@@ -112,14 +119,53 @@ struct MadeOutput {
     text: String,
 }
 
+/// The status of a verdict.
+fn status_of(verdict: &Verdict) -> Status
+    ensures { result ≡ status_of verdict.now }
+{
+    match verdict {
+        Verdict::No(_, _) => Status::No,
+        Verdict::Yes => Status::Yes,
+    }
+}
+
+/// Makes the output of a job.
+#[tactic(auto, unfolding(crate::specs::Output::output_by))]
+fn job_output(alloc: Global, job: &Job) -> Result<MadeOutput, AllocError>
+    requires { IsRunnable job.now }
+    ensures { IfOk result (λ made. Makes made.status (string_bytes made.text) (output_by (Ok job.now))) }
+{
+    let (runs, verdict) = check_job(alloc, job)?;
+    let text = report_text(alloc, job, &runs, &verdict)?;
+    Ok(MadeOutput {
+        status: status_of(&verdict),
+        text,
+    })
+}
+
+/// Makes the output of a refused input.
+#[tactic(auto, unfolding(crate::specs::Output::output_by))]
+fn refusal_output(alloc: Global, refusal: &Refusal) -> Result<MadeOutput, AllocError>
+    requires { IsRefusalCode refusal.now.code }
+    ensures { IfOk result (λ made. Makes made.status (string_bytes made.text) (output_by (Err refusal.now))) }
+{
+    let text = refusal_line(alloc, refusal)?;
+    Ok(MadeOutput {
+        status: Status::Refused,
+        text,
+    })
+}
+
 /// Makes the output that an input calls for.
 fn make_output(alloc: Global, bytes: &[u8]) -> Result<MadeOutput, AllocError>
     requires { length bytes.now ≤ 8388608 }
-    ensures status { IfOk result (λ made. made.status ≡ (output_of bytes.now).status) }
-    ensures text { IfOk result (λ made. string_bytes made.text ≡ (output_of bytes.now).bytes) }
-    ensures whole { IfOk result (λ made. IsReadWhole made.status) }
+    ensures { IfOk result (λ made. Makes made.status (string_bytes made.text) (output_of bytes.now)) }
 {
-    Err(AllocError)
+    match read_job(alloc, bytes) {
+        Ok(job) => job_output(alloc, &job),
+        Err(JobFault::Refused(refusal)) => refusal_output(alloc, &refusal),
+        Err(JobFault::NoMemory) => Err(AllocError),
+    }
 }
 
 /// Checks the input of the source and writes what it calls for to the sink. The words are those of
