@@ -219,7 +219,7 @@ map-same : {X Y : Type 0} (f g : X → Y) → ((x : X) → f x ≡ g x) → (xs 
 map-same f g h [] = refl
 map-same f g h (x ∷ xs) = ap (λ y. y ∷ map f xs) (h x) ∙ ap (λ ys. g x ∷ ys) (map-same f g h xs)
 
-whole_line : (ends : EndsView) → part_of_line ends 1 0 ≡ cover_of_line ends
+pub whole_line : (ends : EndsView) → part_of_line ends 1 0 ≡ cover_of_line ends
 whole_line ends =
     ap (λ (axes : List (AxisId × Um × Um)). record { axes = axes }) (map-same (range_of_part 1 0) range_between whole_range ends.axes)
 

@@ -1,1 +1,13 @@
+pub mod Block
+pub mod Code
+pub mod Header
+pub mod Item
 pub mod Job
+pub mod Length
+pub mod Lines
+pub mod Numbers
+pub mod Read
+pub mod Reading
+pub mod Rules
+pub mod Steps
+pub mod Told

@@ -1,12 +1,27 @@
+// FOUNDER NOTE (03:38): micro_units is merged into your clone; read READ_ME_CHANGE_FROM_FOUNDER.md at the top of your clone. Remove this line.
 //! The job list and the programs behind it, read from the bytes of the input.
 #![tactic(auto)]
 
+mod adding;
+mod block;
+mod code;
 mod fault;
+mod header;
 mod ids;
+mod item;
 mod job;
+mod length;
+mod library;
+mod lines;
 mod name;
+mod numbers;
+mod read;
+mod reader;
+mod reading;
+mod rules;
 
 pub use fault::JobFault;
 pub use ids::{ChannelId, ZoneId};
 pub use job::{AxisLine, Block, ChannelLine, GeoLine, Job, Program, Side, Stmt, ZoneLine};
 pub use name::NameText;
+pub use read::read_job;

@@ -23,7 +23,8 @@ impl NameText {
 
     /// The name that has the bytes of the word, or its first 32 where it is longer.
     pub(crate) fn of_word(word: &[u8]) -> NameText
-        ensures { result ≡ take 32 word.now }
+        ensures front { result ≡ take 32 word.now }
+        ensures whole { length word.now ≤ 32 → result ≡ word.now }
     {
         let mut bytes = ArrayVec::new();
         for byte in &word[..word.len().min(32)] {

@@ -16,3 +16,4 @@ pub mod CheckLemmas
 pub mod MeetLemmas
 pub mod JudgeLemmas
 pub mod FitLemmas
+pub mod ReportLemmas

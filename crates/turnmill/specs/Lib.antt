@@ -10,3 +10,4 @@ pub mod SmallSteps
 pub mod Safety
 pub mod Output
 pub mod Input
+pub mod Report

@@ -8,5 +8,8 @@ front at cut word is reached =
     let other : cut ≡ min 32 (length word) = omega arith in
     take_all at (take cut word) reached ∙ (ap (λ n. take n word) other ∙ take_min 32 word)
 
-pub returns : goal.returns
-returns c = rw c.loop-byte.invariant (front c.loop-byte.byte-index c.min.result c.args.word.now c.min.ensures c.loop-byte-test.false)
+pub returns-clause-front : goal.returns-clause-front
+returns-clause-front c = rw c.loop-byte.invariant (front c.loop-byte.byte-index c.min.result c.args.word.now c.min.ensures c.loop-byte-test.false)
+
+pub returns-clause-whole : goal.returns-clause-whole
+returns-clause-whole c = λ short. rw c.loop-byte.invariant (front c.loop-byte.byte-index c.min.result c.args.word.now c.min.ensures c.loop-byte-test.false ∙ take_all 32 c.args.word.now short)

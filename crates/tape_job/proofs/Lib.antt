@@ -1,0 +1,6 @@
+pub mod BlockLemmas
+pub mod LengthLemmas
+pub mod LibraryLemmas
+pub mod LineLemmas
+pub mod ReaderLemmas
+pub mod TellingLemmas

@@ -1,0 +1,170 @@
+-- One line more: what lines tell together, and what is told line by line, are the same.
+use Rattle.std.proofs.Common.{◌≡◌, ◌∙◌, ℕ, Bool, true, false, ◌||◌, List, [], ◌∷◌, ◌++◌, Result, Ok, Err, Option, Some, None, refl, sym, ap, append_assoc, append-nil, ◌+◌, length, arith}
+use Rattle.std.specs.List.{list_any, cons_option, enumerate_from}
+use Rattle.std.specs.Option.{option_or}
+use Rattle.nc_faults.specs.declared.Refusal.{Refusal}
+use Rattle.tape_job.specs.declared.code.Code.{Code}
+use Rattle.tape_job.specs.declared.job.Block.{Block}
+use Rattle.tape_job.specs.declared.reading.Reading.{Reading}
+use Rattle.tape_job.specs.declared.reading.Reading.TheVariants.{Header, Step}
+use Rattle.tape_job.specs.declared.fault.JobFault.{JobFault}
+use Rattle.tape_job.specs.declared.fault.JobFault.TheVariants.{Refused, NoMemory}
+use Rattle.tape_job.specs.Job.{JobView, ProgramView}
+use Rattle.tape_job.specs.Lines.{Line, has_token, raw_lines}
+use Rattle.tape_job.specs.Told.{Told, told, begins_program, reading_after, entries, axes_in, channel_from, axis_from, geo_from, zone_from, block_from, name_from, until_header, blocks_in, with_program, programs_in}
+use Rattle.tape_job.specs.Read.{trial, first_trial, end_trial, answer, read_of, GivesRead}
+use Rattle.tape_job.specs.Steps.{with_entry, with_block_of, with_header, with_line, tell, unless_refused, run, finish, Tells}
+
+-- a test of a list with one more
+or_false : (b : Bool) → b || false ≡ b
+or_false true = refl
+or_false false = refl
+
+or_assoc : (a b c : Bool) → a || (b || c) ≡ (a || b) || c
+or_assoc true b c = refl
+or_assoc false b c = refl
+
+any_push : {A : Type 0} (test : A → Bool) (xs : List A) (x : A) → list_any test (xs ++ x ∷ []) ≡ list_any test xs || test x
+any_push test [] x = or_false (test x)
+any_push test (y ∷ ys) x = ap (λ b. test y || b) (any_push test ys x) ∙ or_assoc (test y) (list_any test ys) (test x)
+
+-- the entries of lines with one more
+cons_with_entry : {A : Type 0} (first : Option A) (xs : List A) (last : Option A) → cons_option first (with_entry xs last) ≡ with_entry (cons_option first xs) last
+cons_with_entry None xs last = refl
+cons_with_entry (Some x) xs None = refl
+cons_with_entry (Some x) xs (Some y) = refl
+
+one_entry : {A : Type 0} (only : Option A) → cons_option only [] ≡ with_entry [] only
+one_entry None = refl
+one_entry (Some x) = refl
+
+entries_push : {A : Type 0} (give : List Line → Line → Option A) (before lines : List Line) (line : Line)
+    → entries give before (lines ++ line ∷ []) ≡ with_entry (entries give before lines) (give (before ++ lines) line)
+entries_push give before [] line = one_entry (give before line) ∙ ap (λ b. with_entry [] (give b line)) (sym (append-nil before))
+entries_push give before (next ∷ lines) line =
+    ap (cons_option (give before next)) (entries_push give (before ++ next ∷ []) lines line)
+    ∙ cons_with_entry (give before next) (entries give (before ++ next ∷ []) lines) (give ((before ++ next ∷ []) ++ lines) line)
+    ∙ ap (λ b. with_entry (cons_option (give before next) (entries give (before ++ next ∷ []) lines)) (give b line)) (append_assoc before (next ∷ []) lines)
+
+-- the blocks of a program go on where no header follows
+abbrev extended : List (List ℕ × ProgramView) → ℕ → Result Reading Code → List Block → List Block
+extended [] number reading blocks = with_entry blocks (block_from number reading)
+extended (program ∷ programs) number reading blocks = blocks
+
+one_block : (number : ℕ) (reading : Result Reading Code) → until_header (name_from reading) (block_from number reading) [] ≡ with_entry [] (block_from number reading)
+one_block number (Ok (Header name)) = refl
+one_block number (Ok (Step stmt)) = refl
+one_block number reading = refl
+
+cons_extended : (first : Option Block) (programs : List (List ℕ × ProgramView)) (number : ℕ) (reading : Result Reading Code) (blocks : List Block)
+    → cons_option first (extended programs number reading blocks) ≡ extended programs number reading (cons_option first blocks)
+cons_extended first [] number reading blocks = cons_with_entry first blocks (block_from number reading)
+cons_extended first (program ∷ programs) number reading blocks = refl
+
+block_behind : (name : Option (List ℕ)) (first : Option Block) (program : ProgramView) (programs : List (List ℕ × ProgramView)) (number : ℕ) (reading : Result Reading Code) (blocks : List Block)
+    → until_header name first (extended programs number reading blocks) ≡ extended (with_program name program programs) number reading (until_header name first blocks)
+block_behind None first program programs number reading blocks = cons_extended first programs number reading blocks
+block_behind (Some name) first program programs number reading blocks = refl
+
+blocks_push : (before lines : List Line) (line : Line)
+    → blocks_in before (lines ++ line ∷ []) ≡ extended (programs_in before lines) line.0 (reading_after (before ++ lines) line.1) (blocks_in before lines)
+blocks_push before [] line = one_block line.0 (reading_after before line.1) ∙ ap (λ b. with_entry [] (block_from line.0 (reading_after b line.1))) (sym (append-nil before))
+blocks_push before (next ∷ lines) line =
+    ap (until_header (name_from (reading_after before next.1)) (block_from next.0 (reading_after before next.1))) (blocks_push (before ++ next ∷ []) lines line)
+    ∙ block_behind (name_from (reading_after before next.1)) (block_from next.0 (reading_after before next.1))
+    (record { line = next.0; blocks = blocks_in (before ++ next ∷ []) lines }) (programs_in (before ++ next ∷ []) lines)
+    line.0 (reading_after ((before ++ next ∷ []) ++ lines) line.1) (blocks_in (before ++ next ∷ []) lines)
+    ∙ ap (λ b. extended (programs_in before (next ∷ lines)) line.0 (reading_after b line.1) (blocks_in before (next ∷ lines))) (append_assoc before (next ∷ []) lines)
+
+-- the programs of lines with one more
+abbrev grown : List (List ℕ × ProgramView) → ℕ → Result Reading Code → List (List ℕ × ProgramView)
+grown programs number reading = with_header (with_block_of programs (block_from number reading)) number (name_from reading)
+
+one_program : (number : ℕ) (reading : Result Reading Code) → with_program (name_from reading) (record { line = number; blocks = [] }) [] ≡ grown [] number reading
+one_program number (Ok (Header name)) = refl
+one_program number (Ok (Step stmt)) = refl
+one_program number reading = refl
+
+grown_behind : (name : List ℕ) (header : ℕ) (blocks : List Block) (programs : List (List ℕ × ProgramView)) (number : ℕ) (reading : Result Reading Code)
+    → (name, record { line = header; blocks = extended programs number reading blocks }) ∷ grown programs number reading
+    ≡ grown ((name, record { line = header; blocks = blocks }) ∷ programs) number reading
+grown_behind name header blocks [] number (Ok (Header other)) = refl
+grown_behind name header blocks [] number (Ok (Step stmt)) = refl
+grown_behind name header blocks [] number reading = refl
+grown_behind name header blocks (program ∷ programs) number (Ok (Header other)) = refl
+grown_behind name header blocks (program ∷ programs) number (Ok (Step stmt)) = refl
+grown_behind name header blocks (program ∷ programs) number reading = refl
+
+program_behind : (name : Option (List ℕ)) (header : ℕ) (blocks : List Block) (programs : List (List ℕ × ProgramView)) (number : ℕ) (reading : Result Reading Code)
+    → with_program name (record { line = header; blocks = extended programs number reading blocks }) (grown programs number reading)
+    ≡ grown (with_program name (record { line = header; blocks = blocks }) programs) number reading
+program_behind None header blocks programs number reading = refl
+program_behind (Some name) header blocks programs number reading = grown_behind name header blocks programs number reading
+
+programs_push : (before lines : List Line) (line : Line)
+    → programs_in before (lines ++ line ∷ []) ≡ grown (programs_in before lines) line.0 (reading_after (before ++ lines) line.1)
+programs_push before [] line = one_program line.0 (reading_after before line.1) ∙ ap (λ b. grown [] line.0 (reading_after b line.1)) (sym (append-nil before))
+programs_push before (next ∷ lines) line =
+    ap (λ blocks. with_program (name_from (reading_after before next.1)) (record { line = next.0; blocks = blocks }) (programs_in (before ++ next ∷ []) (lines ++ line ∷ [])))
+    (blocks_push (before ++ next ∷ []) lines line)
+    ∙ ap (with_program (name_from (reading_after before next.1)) (record { line = next.0; blocks = extended (programs_in (before ++ next ∷ []) lines) line.0 (reading_after ((before ++ next ∷ []) ++ lines) line.1) (blocks_in (before ++ next ∷ []) lines) }))
+    (programs_push (before ++ next ∷ []) lines line)
+    ∙ program_behind (name_from (reading_after before next.1)) next.0 (blocks_in (before ++ next ∷ []) lines) (programs_in (before ++ next ∷ []) lines)
+    line.0 (reading_after ((before ++ next ∷ []) ++ lines) line.1)
+    ∙ ap (λ b. grown (programs_in before (next ∷ lines)) line.0 (reading_after b line.1)) (append_assoc before (next ∷ []) lines)
+
+pub told-push : (lines : List Line) (line : Line) → told (lines ++ line ∷ []) ≡ tell (told lines) line
+unfolding told tell with_line
+told-push lines line =
+    rw (
+      any_push (λ (l : Line). has_token l.1) lines line,
+      any_push (λ (l : Line). begins_program l.1) lines line,
+      entries_push (λ before (l : Line). channel_from l.0 (reading_after before l.1)) [] lines line,
+      entries_push (λ before (l : Line). axis_from l.0 (reading_after before l.1)) [] lines line,
+      entries_push (λ before (l : Line). geo_from (axes_in before) l.0 (reading_after before l.1)) [] lines line,
+      entries_push (λ before (l : Line). zone_from (axes_in before) l.0 (reading_after before l.1)) [] lines line,
+      programs_push [] lines line,
+    )
+    refl
+
+-- the first line that is refused, and the run that stops there
+step : (refused : Option Refusal) (now : Told) (more : Option Refusal) (rest : Result Told Refusal) (job : JobView)
+    → answer (option_or more (end_trial now)) job ≡ finish rest
+    → answer (option_or (option_or refused more) (end_trial now)) job ≡ finish (unless_refused refused rest)
+unfolding finish
+step None now more rest job same = same
+step (Some refused) now more rest job same = refl
+
+read_lines_is : (before lines : List Line)
+    → answer (option_or (first_trial before lines) (end_trial (told (before ++ lines)))) (told (before ++ lines)).job ≡ finish (run (told before) lines)
+unfolding finish
+read_lines_is before [] = rw (append-nil before) refl
+read_lines_is before (line ∷ lines) =
+    let behind : answer (option_or (first_trial (before ++ line ∷ []) lines) (end_trial (told (before ++ line ∷ lines)))) (told (before ++ line ∷ lines)).job
+    ≡ finish (run (tell (told before) line) lines) =
+    ap (λ all. answer (option_or (first_trial (before ++ line ∷ []) lines) (end_trial (told all))) (told all).job) (sym (append_assoc before (line ∷ []) lines))
+    ∙ read_lines_is (before ++ line ∷ []) lines
+    ∙ ap (λ now. finish (run now lines)) (told-push before line) in
+    step (trial (told before) line) (told (before ++ line ∷ lines)) (first_trial (before ++ line ∷ []) lines) (run (tell (told before) line) lines) (told (before ++ line ∷ lines)).job behind
+
+pub read_of_is : (bytes : List ℕ) → read_of bytes ≡ finish (run (told []) (enumerate_from 1 (raw_lines bytes)))
+unfolding read_of
+read_of_is bytes = read_lines_is [] (enumerate_from 1 (raw_lines bytes))
+
+-- where a line is refused, so is the input
+pub read_refused : (bytes rest raw after : List ℕ) (reader new : Told) (number : ℕ) (fault : JobFault)
+    → run reader (enumerate_from (number + 1) (raw_lines rest)) ≡ run (told []) (enumerate_from 1 (raw_lines bytes))
+    → raw_lines rest ≡ raw ∷ raw_lines after → Tells reader (number + 1, raw) (Err fault) new → GivesRead (Err fault) (read_of bytes)
+unfolding finish
+read_refused bytes rest raw after reader new number (Refused refused) same lines tells =
+    let here : run reader (enumerate_from (number + 1) (raw_lines rest)) ≡ Err refused = rw (lines, tells) refl in
+    read_of_is bytes ∙ ap finish (sym same ∙ here)
+read_refused bytes rest raw after reader new number NoMemory same lines tells = tt
+
+-- where no line is left, the input is what is tried at the end
+pub read_finished : (bytes rest : List ℕ) (reader : Told) (number : ℕ)
+    → run reader (enumerate_from (number + 1) (raw_lines rest)) ≡ run (told []) (enumerate_from 1 (raw_lines bytes))
+    → length rest ≡ 0 → read_of bytes ≡ answer (end_trial reader) reader.job
+unfolding finish
+read_finished bytes [] reader number same empty = read_of_is bytes ∙ ap finish (sym same)
+read_finished bytes (byte ∷ rest) reader number same empty = absurd (omega arith)

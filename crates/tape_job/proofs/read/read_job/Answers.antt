@@ -1,0 +1,21 @@
+-- A line that is refused refuses the input, and behind the last line the end is tried.
+use Rattle.std.proofs.Common.{◌≡◌, ◌∙◌, length, rules, tests, arith}
+use Rattle.std.proofs.lemmas.Result.{err_from_is_err_and}
+use Rattle.tape_job.proofs.TellingLemmas.{read_refused, read_finished}
+use Rattle.tape_job.proofs.read.read_job.Goals as goal
+
+pub returns-in_err-line : goal.returns-in_err-line
+returns-in_err-line c =
+    let p = err_from_is_err_and c.from_residual.result c.from_residual.ensures.1 in
+    rw (p.1, p.2) (read_refused c.args.bytes.now c.loop-rest.rest.now c.first_line.result.0.now c.first_line.result.1.now c.loop-rest.reader c.line.new.self c.loop-rest.number
+    c.in_err-line.field-0.0 c.loop-rest.invariant.rest c.first_line.ensures.lines c.in_err-line.ensures)
+
+pub returns-in-Ok : goal.returns-in-Ok
+returns-in-Ok c =
+    let none : length c.loop-rest.rest.now ≡ 0 = grind (arith, tests) in
+    read_finished c.args.bytes.now c.loop-rest.rest.now c.loop-rest.reader c.loop-rest.number c.loop-rest.invariant.rest none ∙ c.in-Ok.ensures
+
+pub returns-in-Err : goal.returns-in-Err
+returns-in-Err c =
+    let none : length c.loop-rest.rest.now ≡ 0 = search (rules, tests) in
+    read_finished c.args.bytes.now c.loop-rest.rest.now c.loop-rest.reader c.loop-rest.number c.loop-rest.invariant.rest none ∙ c.in-Err.ensures

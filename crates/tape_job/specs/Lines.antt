@@ -1,0 +1,55 @@
+-- The lines of an input, and what stands in a line.
+use Rattle.std.specs.Prelude.{ℕ, ◌-◌, Bool, not, ◌||◌, List, [], ◌∷◌, if◌then◌else◌, ◌==◌, slice_index, take, length, filter, position, Option, Some, None}
+use Rattle.std.specs.List.{list_any, slice_split, onto_first, enumerate_from}
+use Rattle.std.specs.Str.Lines.{strip_carriage_return}
+
+-- a line's number, from 1, and its bytes with the line end
+abbrev pub Line : Type 0
+Line = ℕ × List ℕ
+
+-- line feed, blank and tab, ';' and '%'
+abbrev pub is_feed : ℕ → Bool
+is_feed byte = byte == 10
+
+abbrev pub is_blank : ℕ → Bool
+is_blank byte = (byte == 32) || (byte == 9)
+
+abbrev pub is_semicolon : ℕ → Bool
+is_semicolon byte = byte == 59
+
+-- the lines, each with its line end; the last may lack it
+abbrev pub raw_lines : List ℕ → List (List ℕ)
+raw_lines [] = []
+raw_lines (byte ∷ bytes) = if is_feed byte then (byte ∷ []) ∷ raw_lines bytes else onto_first byte (raw_lines bytes)
+
+abbrev pub numbered : List ℕ → List Line
+numbered bytes = enumerate_from 1 (raw_lines bytes)
+
+-- a line without its line feed and a carriage return before that
+unfoldable pub text_of : List ℕ → List ℕ
+text_of raw = if slice_index raw (length raw - 1) == 10 then strip_carriage_return (take (length raw - 1) raw) else raw
+
+-- a text up to a place, or all of it where there is no place
+abbrev pub up_to : Option ℕ → List ℕ → List ℕ
+up_to None text = text
+up_to (Some place) text = take place text
+
+-- a ';' begins a comment
+unfoldable pub before_comment : List ℕ → List ℕ
+before_comment text = up_to (position is_semicolon text) text
+
+-- something other than blanks stands in the text
+abbrev pub is_visible : List ℕ → Bool
+is_visible text = list_any (λ byte. not (is_blank byte)) text
+
+-- something other than blanks stands before the comment
+unfoldable pub has_token : List ℕ → Bool
+has_token raw = is_visible (before_comment (text_of raw))
+
+-- 37 is '%'
+unfoldable pub begins_with_percent : List ℕ → Bool
+begins_with_percent raw = slice_index raw 0 == 37
+
+-- the words of a text, which blanks and tabs separate
+abbrev pub words : List ℕ → List (List ℕ)
+words text = filter (λ word. not (length word == 0)) (slice_split is_blank text)

@@ -1,0 +1,217 @@
+-- What a line breaks against what the lines before it told.
+use Rattle.std.specs.Prelude.{ℕ, ℤ, ◌-◌, Bool, true, false, not, ◌&&◌, ◌||◌, if◌then◌else◌, ◌==◌, nat_lt, nat_le, List, length, slice_get, position, find, Result, Ok, Err, Option, Some, None}
+use Rattle.std.specs.List.{list_any, list_all}
+use Rattle.std.specs.Option.{option_and_then, option_map}
+use Rattle.std.specs.Map.{keys_of}
+use Rattle.std.specs.Str.{bytes_eq}
+use Rattle.nc_faults.specs.declared.Refusal.{Refusal}
+use Rattle.tape_job.specs.declared.code.Code.{Code}
+use Rattle.tape_job.specs.declared.code.Code.TheVariants.{NotDeclared, DeclaredTwice, OwnerDiffers, TooMany, NameRepeated, NotInLibrary, NotBuilt}
+use Rattle.tape_job.specs.declared.item.AxisName.{AxisName}
+use Rattle.tape_job.specs.declared.item.NamedSide.{NamedSide}
+use Rattle.tape_job.specs.declared.item.Item.{Item}
+use Rattle.tape_job.specs.declared.item.Item.TheVariants.{Channel, Axis, Geo, Zone}
+use Rattle.tape_job.specs.declared.reading.Reading.{Reading}
+use Rattle.tape_job.specs.declared.reading.Reading.TheVariants.{Blank, First, Entry, Header, Step}
+use Rattle.tape_job.specs.declared.job.AxisLine.{AxisLine}
+use Rattle.tape_job.specs.declared.job.Side.{Side}
+use Rattle.tape_job.specs.declared.job.Block.{Block}
+use Rattle.tape_job.specs.declared.job.Stmt.{Stmt}
+use Rattle.tape_job.specs.declared.job.Stmt.TheVariants.{Move, End}
+use Rattle.tape_job.specs.Code.{refusal}
+use Rattle.tape_job.specs.Job.{JobView, ProgramView}
+
+-- the last of a list
+abbrev pub last : {A : Type 0} → List A → Option A
+last xs = slice_get xs (length xs - 1)
+
+unfoldable pub has_channel : JobView → ℕ → Bool
+has_channel job channel = list_any (λ line. line.channel == channel) job.channels
+
+abbrev pub is_named : AxisName → AxisLine → Bool
+is_named name line = (line.letter == name.letter) && (line.number == name.number)
+
+-- an axis is named by its place in the list, below 16
+abbrev pub axis_at : ℕ → Option ℕ
+axis_at place = if nat_lt place 16 then Some place else None
+
+-- the axis with this name
+unfoldable pub axis_of : List AxisLine → AxisName → Option ℕ
+axis_of axes name = option_and_then axis_at (position (is_named name) axes)
+
+unfoldable pub has_axis : JobView → AxisName → Bool
+has_axis job name = list_any (is_named name) job.axes
+
+unfoldable pub has_slot : JobView → ℕ → ℕ → Bool
+has_slot job channel slot = list_any (λ line. (line.channel == channel) && (line.slot == slot)) job.geo
+
+unfoldable pub has_slot_axis : JobView → ℕ → ℕ → Bool
+has_slot_axis job channel axis = list_any (λ line. (line.channel == channel) && (line.axis == axis)) job.geo
+
+abbrev pub is_channel : ℕ → Option ℕ → Bool
+is_channel channel None = false
+is_channel channel (Some other) = other == channel
+
+abbrev pub is_owned_line : ℕ → Option AxisLine → Bool
+is_owned_line channel None = false
+is_owned_line channel (Some line) = is_channel channel line.owner
+
+-- the channel owns the axis
+unfoldable pub owns : JobView → ℕ → ℕ → Bool
+owns job channel axis = is_owned_line channel (slice_get job.axes axis)
+
+unfoldable pub has_zone : JobView → ℕ → Bool
+has_zone job zone = list_any (λ line. line.zone == zone) job.zones
+
+unfoldable pub holds_zone : JobView → ℕ → Bool
+holds_zone job channel = list_any (λ line. is_channel channel line.holder) job.zones
+
+unfoldable pub channel_rule : JobView → ℕ → Option Code
+channel_rule job channel = if has_channel job channel then Some DeclaredTwice else None
+
+unfoldable pub axis_rule : JobView → AxisName → ℕ → Option Code
+axis_rule job name owner =
+    if not (has_channel job owner) then Some NotDeclared
+    else if has_axis job name then Some DeclaredTwice
+    else if nat_le 16 (length job.axes) then Some TooMany
+    else None
+
+-- a slot with an axis that its channel does not own is not built yet
+unfoldable pub slot_rule : JobView → ℕ → ℕ → Option ℕ → Option Code
+slot_rule job channel slot None = Some NotDeclared
+slot_rule job channel slot (Some axis) =
+    if not (has_channel job channel) then Some NotDeclared
+    else if has_slot job channel slot || has_slot_axis job channel axis then Some DeclaredTwice
+    else if not (owns job channel axis) then Some NotBuilt
+    else None
+
+-- a direction with its axis for the axis' name
+abbrev pub side_with : NamedSide → Option (ℕ × Bool) → Side
+side_with side carrier = record { carrier = carrier; lo = side.lo; hi = side.hi }
+
+abbrev pub carried_side : List AxisLine → NamedSide → Option (AxisName × Bool) → Option Side
+carried_side axes side None = Some (side_with side None)
+carried_side axes side (Some (name, minus)) = option_map (λ axis. side_with side (Some (axis, minus))) (axis_of axes name)
+
+unfoldable pub side_of : List AxisLine → NamedSide → Option Side
+side_of axes side = carried_side axes side side.carrier
+
+abbrev pub is_carrier : ℕ → Option (ℕ × Bool) → Bool
+is_carrier axis None = false
+is_carrier axis (Some (other, minus)) = other == axis
+
+abbrev pub same_carrier : Option (ℕ × Bool) → Option (ℕ × Bool) → Bool
+same_carrier None other = false
+same_carrier (Some (axis, minus)) other = is_carrier axis other
+
+-- one axis carries both
+unfoldable pub same_axis : Side → Side → Bool
+same_axis a b = same_carrier a.carrier b.carrier
+
+abbrev pub is_owned_carrier : JobView → ℕ → Option (ℕ × Bool) → Bool
+is_owned_carrier job holder None = true
+is_owned_carrier job holder (Some (axis, minus)) = owns job holder axis
+
+unfoldable pub owns_carrier : JobView → ℕ → Side → Bool
+owns_carrier job holder side = is_owned_carrier job holder side.carrier
+
+-- a zone's directions; a second zone of a channel is not built yet
+unfoldable pub sides_rule : JobView → ℕ → Side → Side → Side → Option Code
+sides_rule job holder x y z =
+    if same_axis x y || same_axis x z || same_axis y z then Some DeclaredTwice
+    else if not (owns_carrier job holder x && owns_carrier job holder y && owns_carrier job holder z) then Some OwnerDiffers
+    else if holds_zone job holder then Some NotBuilt
+    else None
+
+unfoldable pub zone_rule : JobView → ℕ → ℕ → Option Side → Option Side → Option Side → Option Code
+zone_rule job zone holder (Some x) (Some y) (Some z) =
+    if not (has_channel job holder) then Some NotDeclared
+    else if has_zone job zone then Some DeclaredTwice
+    else sides_rule job holder x y z
+zone_rule job zone holder x y z = Some NotDeclared
+
+-- what a job line breaks
+unfoldable pub item_rule : JobView → Item → Option Code
+item_rule job (Channel channel program) = channel_rule job channel
+item_rule job (Axis name owner at) = axis_rule job name owner
+item_rule job (Geo channel slot axis) = slot_rule job channel slot (axis_of job.axes axis)
+item_rule job (Zone zone group holder x y z) = zone_rule job zone holder (side_of job.axes x) (side_of job.axes y) (side_of job.axes z)
+
+-- a program in the library has this name
+unfoldable pub has_program : List (List ℕ × ProgramView) → List ℕ → Bool
+has_program programs name = list_any (bytes_eq name) (keys_of programs)
+
+-- what a header breaks
+unfoldable pub header_rule : JobView → List ℕ → Option Code
+header_rule job name =
+    if has_program job.programs name then Some NameRepeated
+    else if nat_le 256 (length job.programs) then Some TooMany
+    else None
+
+abbrev pub is_name : List ℕ → Option (List ℕ) → Bool
+is_name name None = false
+is_name name (Some other) = bytes_eq name other
+
+-- each channel that has the program has the slot
+unfoldable pub all_have_slot : JobView → List ℕ → ℕ → Bool
+all_have_slot job name slot = list_all (λ line. not (is_name name line.program) || has_slot job line.channel slot) job.channels
+
+abbrev pub lacks_slot : JobView → List ℕ → ℕ → Option ℤ → Bool
+lacks_slot job name slot None = false
+lacks_slot job name slot (Some end) = not (all_have_slot job name slot)
+
+-- an end without a slot, 0 for X and 2 for Z
+unfoldable pub lacks_slots : JobView → List ℕ → Stmt → Bool
+lacks_slots job name (Move x z) = lacks_slot job name 0 x || lacks_slot job name 2 z
+lacks_slots job name End = false
+
+-- what a block breaks: a 901st block and an end without a slot are not built yet
+unfoldable pub block_rule : JobView → Stmt → Option (List ℕ × ProgramView) → Option Code
+block_rule job stmt None = None
+block_rule job stmt (Some (name, program)) =
+    if nat_le 900 (length program.blocks) || lacks_slots job name stmt then Some NotBuilt else None
+
+-- what a line breaks
+unfoldable pub rule_of : JobView → Reading → Option Code
+rule_of job Blank = None
+rule_of job First = None
+rule_of job (Entry item) = item_rule job item
+rule_of job (Header name) = header_rule job name
+rule_of job (Step stmt) = block_rule job stmt (last job.programs)
+
+abbrev pub code_by : JobView → Result Reading Code → Option Code
+code_by job (Ok reading) = rule_of job reading
+code_by job (Err code) = Some code
+
+abbrev pub is_end : Stmt → Bool
+is_end End = true
+is_end (Move x z) = false
+
+-- what is tried at the end of a program: it has a block, else its header is refused, and its last block is the end, else that block
+abbrev pub open_line : ℕ → Option Block → Option ℕ
+open_line header None = Some header
+open_line header (Some block) = if is_end block.stmt then None else Some block.line
+
+-- the line of a program's end, where its last block so far is one
+abbrev pub ended_line : Option Block → Option ℕ
+ended_line None = None
+ended_line (Some block) = if is_end block.stmt then Some block.line else None
+
+abbrev pub refused_line : Option ℕ → Option Refusal
+refused_line line = option_map (refusal NotBuilt) line
+
+-- the refusal where the last program ends here
+unfoldable pub closing : List (List ℕ × ProgramView) → Option Refusal
+closing programs = option_and_then (λ program. refused_line (open_line program.1.line (last program.1.blocks))) (last programs)
+
+-- the refusal where the last program goes on here
+unfoldable pub going_on : List (List ℕ × ProgramView) → Option Refusal
+going_on programs = option_and_then (λ program. refused_line (ended_line (last program.1.blocks))) (last programs)
+
+abbrev pub is_known : List (List ℕ × ProgramView) → Option (List ℕ) → Bool
+is_known programs None = true
+is_known programs (Some name) = has_program programs name
+
+-- the first channel whose program is not in the library
+unfoldable pub missing : JobView → Option Refusal
+missing job = option_map (λ line. refusal NotInLibrary line.line) (find (λ line. not (is_known job.programs line.program)) job.channels)

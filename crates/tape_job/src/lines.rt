@@ -1,0 +1,96 @@
+//! Lines of bytes, their texts and their words.
+ghost use Rattle.std.specs.Prelude.{◌≡◌, ◌∷◌, ◌<◌, IfOk, map, length, position};
+ghost use Rattle.tape_job.specs.Lines.{is_feed, is_blank, is_semicolon, raw_lines, text_of, before_comment, words, is_visible, has_token, begins_with_percent};
+
+use std::alloc::{AllocError, Global};
+
+/// Whether the byte separates words.
+pub(crate) fn is_blank(byte: u8) -> bool
+    ensures { result ≡ is_blank byte }
+{
+    byte == b' ' || byte == b'\t'
+}
+
+/// The place of the first line feed.
+fn feed_in(bytes: &[u8]) -> Option<usize>
+    ensures { result ≡ position is_feed bytes.now }
+{
+    bytes.iter().position(|byte| *byte == b'\n')
+}
+
+/// The first line with its line end, and what follows it.
+#[tactic(auto, using(crate::proofs::LineLemmas::raw_lines_found, crate::proofs::LineLemmas::raw_lines_none))]
+pub(crate) fn first_line(bytes: &[u8]) -> (&[u8], &[u8])
+    requires { 0 < length bytes.now }
+    ensures lines { raw_lines bytes.now ≡ result.0.now ∷ raw_lines result.1.now }
+    ensures shorter { length result.1.now < length bytes.now }
+{
+    match feed_in(bytes) {
+        Some(at) => bytes.split_at(at + 1),
+        None => bytes.split_at(bytes.len()),
+    }
+}
+
+/// The text of a line, without its line end.
+#[tactic(auto, unfolding(crate::specs::Lines::text_of))]
+pub(crate) fn text_in(raw: &[u8]) -> &[u8]
+    ensures { result.now ≡ text_of raw.now }
+{
+    match raw {
+        [front @ .., b'\n'] => match front {
+            [text @ .., b'\r'] => text,
+            _ => front,
+        },
+        _ => raw,
+    }
+}
+
+/// The place of the first `;`.
+fn semicolon_in(text: &[u8]) -> Option<usize>
+    ensures { result ≡ position is_semicolon text.now }
+{
+    text.iter().position(|byte| *byte == b';')
+}
+
+/// What stands before the comment of a text, or all of it where it has none.
+#[tactic(auto, unfolding(crate::specs::Lines::before_comment))]
+pub(crate) fn before_comment(text: &[u8]) -> &[u8]
+    ensures { result.now ≡ before_comment text.now }
+{
+    match semicolon_in(text) {
+        Some(at) => &text[..at],
+        None => text,
+    }
+}
+
+/// Whether something other than blanks stands in the text.
+pub(crate) fn is_visible(text: &[u8]) -> bool
+    ensures { result ≡ is_visible text.now }
+{
+    text.iter().any(|byte| !is_blank(*byte))
+}
+
+/// Whether something other than blanks stands before the comment of a line.
+#[tactic(auto, unfolding(crate::specs::Lines::has_token))]
+pub(crate) fn has_token(raw: &[u8]) -> bool
+    ensures { result ≡ has_token raw.now }
+{
+    is_visible(before_comment(text_in(raw)))
+}
+
+/// Whether a line begins with `%`.
+#[tactic(auto, unfolding(crate::specs::Lines::begins_with_percent))]
+pub(crate) fn begins_with_percent(raw: &[u8]) -> bool
+    ensures { result ≡ begins_with_percent raw.now }
+{
+    raw.first() == Some(&b'%')
+}
+
+/// The words of a text.
+pub(crate) fn words_of(alloc: Global, text: &[u8]) -> Result<Vec<&[u8]>, AllocError>
+    ensures { IfOk result (λ v. map (λ word. word.now) v.items ≡ words text.now) }
+{
+    text.split(|byte| is_blank(*byte))
+        .filter(|word| !word.is_empty())
+        .collect(alloc)
+}

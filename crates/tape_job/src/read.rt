@@ -1,0 +1,29 @@
+//! An input, read whole.
+ghost use Rattle.std.specs.Prelude.{◌≤◌, length};
+ghost use Rattle.tape_job.specs.Read.{read_of, GivesRead};
+
+use crate::lines::first_line;
+use crate::reader::Reader;
+use crate::{Job, JobFault};
+use std::alloc::Global;
+
+/// Reads an input: its job, or the first refusal of a line that is tried and broken.
+
+pub fn read_job(alloc: Global, bytes: &[u8]) -> Result<Job, JobFault>
+    requires { length bytes.now ≤ 8388609 }
+    ensures { GivesRead result (read_of bytes.now) }
+{
+    let mut reader = Reader::new(alloc);
+    let mut rest = bytes;
+    let mut number = 0;
+    while !rest.is_empty() {
+        let (raw, after) = first_line(rest);
+        number += 1;
+        reader.line(alloc, number, raw)?;
+        rest = after;
+    }
+    match reader.finish() {
+        Ok(job) => Ok(job),
+        Err(refused) => Err(JobFault::Refused(refused)),
+    }
+}

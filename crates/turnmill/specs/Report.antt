@@ -1,0 +1,84 @@
+-- The report of a job, and the line of a refused input. Each line ends with a line feed, and its words are separated by one blank.
+use Rattle.std.specs.Prelude.{ℕ, ℤ, pos, negsuc, suc, ◌==◌, ◌/◌, ◌%◌, List, [], ◌++◌, Option, unwrap_or, find, slice_get, codes, encode_utf8}
+use Rattle.std.specs.Fmt.{decimal}
+use Rattle.std.specs.List.{flat_map, range_with_len}
+use Rattle.std.specs.Option.{option_map_or}
+use Rattle.nc_faults.specs.Texts.{refusal_text_of}
+use Rattle.nc_faults.specs.declared.Refusal.{Refusal}
+use Rattle.swept_boxes.specs.declared.Motion.{Motion}
+use Rattle.swept_boxes.specs.declared.Motion.TheVariants.{Line}
+use Rattle.tape_job.specs.Job.{JobView}
+use Rattle.turnmill.specs.ChannelRun.{RunView}
+use Rattle.turnmill.specs.declared.channels.Item.{Item}
+use Rattle.turnmill.specs.declared.stretches.PlaceName.{PlaceName}
+use Rattle.turnmill.specs.declared.stretches.StretchKind.{StretchKind}
+use Rattle.turnmill.specs.declared.stretches.StretchKind.TheVariants.{Run, End}
+use Rattle.turnmill.specs.declared.stretches.Verdict.{Verdict}
+use Rattle.turnmill.specs.declared.stretches.Verdict.TheVariants.{Yes, No}
+
+-- so many micrometres, as millimetres with three decimals
+unfoldable pub millimetres_text : ℕ → List ℕ
+millimetres_text size = decimal (size / 1000) ++ (codes "." ++ (decimal (size / 100 % 10) ++ (decimal (size / 10 % 10) ++ decimal (size % 10))))
+
+-- a position in micrometres, as millimetres with a sign where it is negative
+unfoldable pub position_text : ℤ → List ℕ
+position_text (pos n) = millimetres_text n
+position_text (negsuc n) = codes "-" ++ millimetres_text (suc n)
+
+-- the name of an axis: its letter and its number; the job names no axis beyond its AXIS lines
+unfoldable pub axis_name : JobView → ℕ → List ℕ
+axis_name job axis = option_map_or (λ line. encode_utf8 line.letter ++ decimal line.number) (slice_get job.axes axis) []
+
+-- an axis of a motion with the position at the motion's end
+unfoldable pub end_text : JobView → ℕ × ℤ × ℤ → List ℕ
+end_text job end = codes " " ++ (axis_name job end.0 ++ (codes "=" ++ position_text end.2))
+
+-- what a motion is, and where it ends
+unfoldable pub motion_text : JobView → Motion → List ℕ
+motion_text job (Line ends) = codes "LINE" ++ flat_map (end_text job) ends.axes
+
+-- the trace line of a motion
+unfoldable pub motion_line : JobView → Item → List ℕ
+motion_line job item = decimal item.line ++ (codes " " ++ (motion_text job item.motion ++ codes "\n"))
+
+-- the trace line of the program end at this line of the input, and the state of its channel
+unfoldable pub end_lines : ℕ → List ℕ
+end_lines line = decimal line ++ (codes " END\nSTATE ENDED " ++ (decimal line ++ codes "\n"))
+
+-- the lines of a channel
+unfoldable pub channel_lines : JobView → RunView → List ℕ
+channel_lines job run = codes "CHANNEL " ++ (decimal run.channel ++ (codes "\n" ++ (flat_map (motion_line job) run.items ++ end_lines run.end_line)))
+
+-- the run of a channel
+unfoldable pub run_in : List RunView → ℕ → Option RunView
+run_in runs channel = find (λ run. run.channel == channel) runs
+
+-- the lines of the channel of this number, if the job has it
+unfoldable pub lines_of : JobView → List RunView → ℕ → List ℕ
+lines_of job runs channel = option_map_or (channel_lines job) (run_in runs channel) []
+
+-- the lines of all channels, in ascending order
+unfoldable pub all_lines : JobView → List RunView → List ℕ
+all_lines job runs = flat_map (lines_of job runs) (range_with_len 1 8)
+
+-- the name of a kind of stretch
+unfoldable pub kind_text : StretchKind → List ℕ
+kind_text Run = codes "RUN"
+kind_text End = codes "END"
+
+-- a place as the verdict names it; channel 0 is none
+unfoldable pub place_text : PlaceName → List ℕ
+place_text place = codes "ZONE " ++ (decimal place.zone ++ (codes " CHANNEL " ++ (decimal (unwrap_or place.channel 0) ++ (codes " " ++ (kind_text place.kind ++ (codes " " ++ decimal place.line))))))
+
+-- the verdict line
+unfoldable pub verdict_line : Verdict → List ℕ
+verdict_line Yes = codes "VERDICT YES\n"
+verdict_line (No place other) = codes "VERDICT NO " ++ (place_text place ++ (codes " " ++ (place_text other ++ codes "\n")))
+
+-- the report of a job
+unfoldable pub report_bytes : JobView → List RunView → Verdict → List ℕ
+report_bytes job runs verdict = codes "TURNMILL 1\n" ++ (all_lines job runs ++ verdict_line verdict)
+
+-- the line of a refused input
+unfoldable pub refusal_bytes : Refusal → List ℕ
+refusal_bytes refusal = codes "REFUSED " ++ (decimal refusal.code ++ (codes " " ++ (decimal refusal.line ++ (codes " " ++ (refusal_text_of refusal.code ++ codes "\n")))))

@@ -1,0 +1,293 @@
+//! The text of the report.
+ghost use Rattle.std.specs.Prelude.{◌≡◌, ◌++◌, IfOk, OnOk, string_bytes, unwrap_or};
+ghost use Rattle.std.specs.List.{flat_map};
+ghost use Rattle.std.specs.Option.{option_copied};
+ghost use Rattle.nc_faults.specs.Texts.{IsRefusalCode};
+ghost use Rattle.turnmill.specs.Report as model;
+
+use crate::channels::{ChannelRun, Item};
+use crate::stretches::{PlaceName, StretchKind, Verdict};
+use micro_units::Um;
+use nc_faults::{Refusal, refusal_text};
+use std::alloc::{AllocError, Global};
+use swept_boxes::{AxisId, Ends, Motion};
+use tape_job::{ChannelId, Job};
+
+/// Writes so many micrometres as millimetres with three decimals.
+#[tactic(auto, unfolding(crate::specs::Report::millimetres_text))]
+fn push_millimetres(out: &mut String, size: u32) -> Result<(), AllocError>
+    ensures { OnOk result (string_bytes out.new ≡ string_bytes out.old ++ model.millimetres_text size) }
+{
+    let whole = size / 1000;
+    let tenths = size / 100 % 10;
+    let hundredths = size / 10 % 10;
+    let thousandths = size % 10;
+    write!(out, "{whole}.{tenths}{hundredths}{thousandths}")
+}
+
+/// Writes a position as millimetres.
+#[tactic(auto, unfolding(crate::specs::Report::position_text))]
+fn push_position(out: &mut String, at: Um) -> Result<(), AllocError>
+    ensures { OnOk result (string_bytes out.new ≡ string_bytes out.old ++ model.position_text at) }
+{
+    if at.micrometres < 0 {
+        out.push_str("-")?;
+    }
+    push_millimetres(out, at.micrometres.unsigned_abs())
+}
+
+/// Writes the name of an axis.
+#[tactic(auto, unfolding(crate::specs::Report::axis_name))]
+fn push_axis_name(out: &mut String, job: &Job, axis: AxisId) -> Result<(), AllocError>
+    ensures { OnOk result (string_bytes out.new ≡ string_bytes out.old ++ model.axis_name job.now axis) }
+{
+    let Some(line) = job.axes.get(usize::from(axis.index)) else {
+        return Ok(());
+    };
+    let letter = char::from(line.letter);
+    let number = line.number;
+    write!(out, "{letter}{number}")
+}
+
+/// Writes an axis of a motion with the position at the motion's end.
+#[tactic(auto, unfolding(crate::specs::Report::end_text))]
+fn push_end(out: &mut String, job: &Job, end: &(AxisId, Um, Um)) -> Result<(), AllocError>
+    ensures { OnOk result (string_bytes out.new ≡ string_bytes out.old ++ model.end_text job.now end.now) }
+{
+    out.push_str(" ")?;
+    push_axis_name(out, job, end.0)?;
+    out.push_str("=")?;
+    push_position(out, end.2)
+}
+
+/// Writes the axes of a motion with its ends.
+fn push_ends(out: &mut String, job: &Job, ends: &Ends) -> Result<(), AllocError>
+    ensures { OnOk result (string_bytes out.new ≡ string_bytes out.old ++ flat_map (model.end_text job.now) ends.now.axes) }
+{
+    for end in ends.axes.iter() {
+        push_end(out, job, end)?;
+    }
+    Ok(())
+}
+
+/// Writes what a motion is, and where it ends.
+#[tactic(auto, unfolding(crate::specs::Report::motion_text))]
+fn push_motion(out: &mut String, job: &Job, motion: &Motion) -> Result<(), AllocError>
+    ensures { OnOk result (string_bytes out.new ≡ string_bytes out.old ++ model.motion_text job.now motion.now) }
+{
+    match motion {
+        Motion::Line(ends) => {
+            out.push_str("LINE")?;
+            push_ends(out, job, ends)
+        }
+    }
+}
+
+/// Writes the trace line of a motion.
+#[tactic(auto, unfolding(crate::specs::Report::motion_line))]
+fn push_motion_line(out: &mut String, job: &Job, item: &Item) -> Result<(), AllocError>
+    ensures { OnOk result (string_bytes out.new ≡ string_bytes out.old ++ model.motion_line job.now item.now) }
+{
+    let line = item.line;
+    write!(out, "{line} ")?;
+    push_motion(out, job, &item.motion)?;
+    out.push_str("\n")
+}
+
+/// Writes the trace lines of the motions of a channel.
+fn push_motion_lines(out: &mut String, job: &Job, items: &[Item]) -> Result<(), AllocError>
+    ensures { OnOk result (string_bytes out.new ≡ string_bytes out.old ++ flat_map (model.motion_line job.now) items.now) }
+{
+    for item in items {
+        push_motion_line(out, job, item)?;
+    }
+    Ok(())
+}
+
+/// Writes the trace line of the program end, and the state of its channel.
+#[tactic(auto, unfolding(crate::specs::Report::end_lines))]
+fn push_end_lines(out: &mut String, line: u32) -> Result<(), AllocError>
+    ensures { OnOk result (string_bytes out.new ≡ string_bytes out.old ++ model.end_lines line) }
+{
+    write!(out, "{line} END\nSTATE ENDED {line}\n")
+}
+
+/// Writes the lines of a channel.
+#[tactic(auto, unfolding(crate::specs::Report::channel_lines))]
+fn push_channel_lines(out: &mut String, job: &Job, run: &ChannelRun) -> Result<(), AllocError>
+    ensures { OnOk result (string_bytes out.new ≡ string_bytes out.old ++ model.channel_lines job.now run.now) }
+{
+    let channel = run.channel.number;
+    write!(out, "CHANNEL {channel}\n")?;
+    push_motion_lines(out, job, run.items.as_slice())?;
+    push_end_lines(out, run.end_line)
+}
+
+/// The run of a channel.
+#[tactic(auto, unfolding(crate::specs::Report::run_in))]
+fn run_in(runs: &[ChannelRun], channel: ChannelId) -> Option<&ChannelRun>
+    ensures { option_copied result ≡ model.run_in runs.now channel }
+{
+    runs.iter().find(|run| {
+        let run: &ChannelRun = run;
+        run.channel == channel
+    })
+}
+
+/// Writes the lines of a channel, if the job has it.
+#[tactic(auto, unfolding(crate::specs::Report::lines_of))]
+fn push_lines_of(
+    out: &mut String,
+    job: &Job,
+    runs: &[ChannelRun],
+    channel: ChannelId,
+) -> Result<(), AllocError>
+    ensures { OnOk result (string_bytes out.new ≡ string_bytes out.old ++ model.lines_of job.now runs.now channel) }
+{
+    match run_in(runs, channel) {
+        Some(run) => push_channel_lines(out, job, run),
+        None => Ok(()),
+    }
+}
+
+/// Writes the lines of all channels, in ascending order.
+#[tactic(auto, unfolding(crate::specs::Report::all_lines))]
+fn push_all_lines(out: &mut String, job: &Job, runs: &[ChannelRun]) -> Result<(), AllocError>
+    ensures { OnOk result (string_bytes out.new ≡ string_bytes out.old ++ model.all_lines job.now runs.now) }
+{
+    for number in 1..9 {
+        push_lines_of(out, job, runs, ChannelId { number })?;
+    }
+    Ok(())
+}
+
+/// The name of a kind of stretch.
+#[tactic(auto, unfolding(crate::specs::Report::kind_text))]
+fn kind_text(kind: StretchKind) -> &'static str
+    ensures { result.now ≡ model.kind_text kind }
+{
+    match kind {
+        StretchKind::Run => "RUN",
+        StretchKind::End => "END",
+    }
+}
+
+/// The number of the channel, or 0 for none.
+fn channel_number(channel: Option<ChannelId>) -> u8
+    ensures { result ≡ unwrap_or channel 0 }
+{
+    match channel {
+        Some(channel) => channel.number,
+        None => 0,
+    }
+}
+
+/// Writes a place as the verdict names it.
+#[tactic(auto, unfolding(crate::specs::Report::place_text))]
+fn push_place(out: &mut String, place: &PlaceName) -> Result<(), AllocError>
+    ensures { OnOk result (string_bytes out.new ≡ string_bytes out.old ++ model.place_text place.now) }
+{
+    let zone = place.zone.number;
+    let channel = channel_number(place.channel);
+    let kind = kind_text(place.kind);
+    let line = place.line;
+    write!(out, "ZONE {zone} CHANNEL {channel} {kind} {line}")
+}
+
+/// Writes the verdict line.
+#[tactic(auto, unfolding(crate::specs::Report::verdict_line))]
+fn push_verdict_line(out: &mut String, verdict: &Verdict) -> Result<(), AllocError>
+    ensures { OnOk result (string_bytes out.new ≡ string_bytes out.old ++ model.verdict_line verdict.now) }
+{
+    match verdict {
+        Verdict::Yes => out.push_str("VERDICT YES\n"),
+        Verdict::No(place, other) => {
+            out.push_str("VERDICT NO ")?;
+            push_place(out, place)?;
+            out.push_str(" ")?;
+            push_place(out, other)?;
+            out.push_str("\n")
+        }
+    }
+}
+
+/// The report of a job, from the runs of its channels and the verdict.
+#[tactic(auto, unfolding(crate::specs::Report::report_bytes))]
+pub fn report_text(
+    alloc: Global,
+    job: &Job,
+    runs: &[ChannelRun],
+    verdict: &Verdict,
+) -> Result<String, AllocError>
+    ensures { IfOk result (λ text. string_bytes text ≡ model.report_bytes job.now runs.now verdict.now) }
+{
+    let mut out = String::from_str(alloc, "TURNMILL 1\n")?;
+    push_all_lines(&mut out, job, runs)?;
+    push_verdict_line(&mut out, verdict)?;
+    Ok(out)
+}
+
+/// The line of a refused input.
+#[tactic(auto, unfolding(crate::specs::Report::refusal_bytes))]
+pub fn refusal_line(alloc: Global, refusal: &Refusal) -> Result<String, AllocError>
+    requires { IsRefusalCode refusal.now.code }
+    ensures { IfOk result (λ text. string_bytes text ≡ model.refusal_bytes refusal.now) }
+{
+    let code = refusal.code;
+    let line = refusal.line;
+    let text = refusal_text(code);
+    format!(in alloc; "REFUSED {code} {line} {text}\n")
+}
+
+#[cfg(test)]
+mod tests {
+    use super::*;
+    use std::test::Fail;
+    use tape_job::ZoneId;
+
+    #[test]
+    fn positions(rt: HostRuntime) -> Result<(), Fail> {
+        let mut out = String::new(rt.alloc());
+        push_position(&mut out, Um { micrometres: 0 })?;
+        push_position(&mut out, Um { micrometres: -800 })?;
+        push_position(
+            &mut out,
+            Um {
+                micrometres: 120_012,
+            },
+        )?;
+        assert_eq!(rt; out.as_str(), "0.000-0.800120.012");
+        Ok(())
+    }
+
+    #[test]
+    fn named_clash(rt: HostRuntime) -> Result<(), Fail> {
+        let place = PlaceName {
+            zone: ZoneId { number: 1 },
+            channel: Some(ChannelId { number: 1 }),
+            kind: StretchKind::Run,
+            line: 15,
+        };
+        let other = PlaceName {
+            zone: ZoneId { number: 32 },
+            channel: None,
+            kind: StretchKind::End,
+            line: 0,
+        };
+        let mut out = String::new(rt.alloc());
+        push_verdict_line(&mut out, &Verdict::No(place, other))?;
+        assert_eq!(rt;
+            out.as_str(),
+            "VERDICT NO ZONE 1 CHANNEL 1 RUN 15 ZONE 32 CHANNEL 0 END 0\n"
+        );
+        Ok(())
+    }
+
+    #[test]
+    fn refusals(rt: HostRuntime) -> Result<(), Fail> {
+        let refusal = Refusal { code: 1, line: 1 };
+        let line = refusal_line(rt.alloc(), &refusal)?;
+        assert_eq!(rt; line.as_str(), "REFUSED 1 1 no job line\n");
+        Ok(())
+    }
+}
