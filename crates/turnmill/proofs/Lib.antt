@@ -12,6 +12,7 @@ pub mod Ends
 pub mod Ranges
 pub mod Positions
 pub mod BoxLemmas
+pub mod CheckLemmas
 pub mod MeetLemmas
 pub mod JudgeLemmas
 pub mod FitLemmas

@@ -7,4 +7,6 @@ pub mod ShownStretches
 pub mod Clash
 pub mod SmallSteps
 pub mod Safety
+pub mod Output
+pub mod Input
 pub mod Report

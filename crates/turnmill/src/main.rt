@@ -2,6 +2,7 @@
 #![tactic(auto)]
 
 mod channels;
+mod check;
 mod clash;
 mod judge;
 mod report;

@@ -1,0 +1,59 @@
+-- What an input calls for: how the call ends, and the bytes that it writes.
+use Rattle.std.specs.Prelude.{◌≡◌, ℕ, nat_le, if◌then◌else◌, List, [], length, Option, Result, Ok, Err, ⊤}
+use Rattle.edge_io.specs.Moves.{Grows}
+use Rattle.nc_faults.specs.declared.Refusal.{Refusal}
+use Rattle.tape_job.specs.Job.{JobView}
+use Rattle.tape_job.specs.Read.{read_of}
+use Rattle.turnmill.specs.ChannelRun.{runs_of}
+use Rattle.turnmill.specs.Clash.{verdict_of}
+use Rattle.turnmill.specs.Report.{report_bytes, refusal_bytes}
+use Rattle.turnmill.specs.declared.check.Status.{Status}
+use Rattle.turnmill.specs.declared.check.Status.TheVariants as ends
+use Rattle.turnmill.specs.declared.stretches.Verdict.{Verdict}
+use Rattle.turnmill.specs.declared.stretches.Verdict.TheVariants.{Yes, No}
+
+pub record Output : Type 0 where
+  pub status : Status
+  pub bytes : List ℕ
+
+-- the status of a verdict
+abbrev pub status_of : Verdict → Status
+status_of Yes = ends.Yes
+status_of (No first second) = ends.No
+
+-- a job calls for its report, a refusal for its line
+unfoldable pub output_by : Result JobView Refusal → Output
+output_by (Ok job) = record { status = status_of (verdict_of job); bytes = report_bytes job (runs_of job) (verdict_of job) }
+output_by (Err refusal) = record { status = ends.Refused; bytes = refusal_bytes refusal }
+
+-- an input of more than 8,388,608 bytes calls for no bytes, whatever it says
+unfoldable pub output_of : List ℕ → Output
+output_of input = if nat_le 8388609 (length input) then record { status = ends.TooLong; bytes = [] } else output_by (read_of input)
+
+-- the call ends as the input calls for, and what is written has grown by the bytes that it calls for
+pub record Answers (input : List ℕ) (status : Status) (old new : Option (List ℕ)) : Type 0 where
+  pub status_is : status ≡ (output_of input).status
+  pub bytes : Grows old new (output_of input).bytes
+
+-- the status is that of a verdict
+abbrev pub IsVerdict : Status → Type 0
+IsVerdict ends.Yes = ⊤
+IsVerdict ends.No = ⊤
+IsVerdict ends.Race = ⊤
+IsVerdict ends.Stuck = ⊤
+IsVerdict ends.Alarm = ⊤
+IsVerdict ends.Undecided = ⊤
+IsVerdict status = ⊥
+
+-- the status is that of an input which was read whole: it has a verdict, or it is refused
+abbrev pub IsReadWhole : Status → Type 0
+IsReadWhole ends.Yes = ⊤
+IsReadWhole ends.No = ⊤
+IsReadWhole ends.Refused = ⊤
+IsReadWhole status = ⊥
+
+-- the status and the bytes are those of the output, which is that of an input which was read whole
+pub record Makes (status : Status) (bytes : List ℕ) (output : Output) : Type 0 where
+  pub status_is : status ≡ output.status
+  pub bytes_are : bytes ≡ output.bytes
+  pub whole : IsReadWhole status
