@@ -4,3 +4,4 @@ pub mod LibraryLemmas
 pub mod LineLemmas
 pub mod ReaderLemmas
 pub mod TellingLemmas
+pub mod RefusalLemmas

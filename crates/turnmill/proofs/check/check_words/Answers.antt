@@ -9,9 +9,9 @@ returns-in-Err-TooLong-clause-exact g c = Answers-long _ _ _ _ _ _ _ (rw c.in-Er
 pub returns-in-Ok-put_all-clause-refused : goal.returns-in-Ok-put_all-clause-refused
 returns-in-Ok-put_all-clause-refused g c = λ is.
     refused_wrote _ _ _ _ _ c.in-Ok.ensures.2
-    (rw (c.as_bytes.ensures.value, c.in-Ok-make_output.ensures.text, c.deref.ensures.value) at c.in-Ok-put_all.ensures.whole)
-    (rw c.deref.ensures.value at (sym c.in-Ok-make_output.ensures.status ∙ is))
+    (rw (c.as_bytes.ensures.value, c.in-Ok-make_output.ensures.bytes_are, c.deref.ensures.value) at c.in-Ok-put_all.ensures.whole)
+    (rw c.deref.ensures.value at (sym c.in-Ok-make_output.ensures.status_is ∙ is))
 
 pub returns-in-Ok-put_all-clause-refused_comes : goal.returns-in-Ok-put_all-clause-refused_comes
 returns-in-Ok-put_all-clause-refused_comes g c =
-    refused_ends _ _ _ _ _ _ _ _ c.in-Ok.ensures.2 (rw c.deref.ensures.value at c.in-Ok-make_output.ensures.status)
+    refused_ends _ _ _ _ _ _ _ _ c.in-Ok.ensures.2 (rw c.deref.ensures.value at c.in-Ok-make_output.ensures.status_is)
