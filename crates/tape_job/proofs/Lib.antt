@@ -3,5 +3,6 @@ pub mod LengthLemmas
 pub mod LibraryLemmas
 pub mod LineLemmas
 pub mod ReaderLemmas
+pub mod SoundReadings
 pub mod TellingLemmas
 pub mod RefusalLemmas

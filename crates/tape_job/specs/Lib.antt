@@ -9,5 +9,7 @@ pub mod Numbers
 pub mod Read
 pub mod Reading
 pub mod Rules
+pub mod SoundJob
 pub mod Steps
 pub mod Told
+pub mod SoundJob

@@ -1,5 +1,5 @@
 -- The motions of a job that can be run are sound.
-use Rattle.std.proofs.Common.{◌≡◌, ◌≢◌, ℕ, ℤ, pos, zero, suc, ◌+◌, ◌<◌, ◌≤◌, Bool, true, false, cond, All, AllPairs, List, [], ◌∷◌, ◌++◌, arith, Option, None, Some, length, unwrap_or, IfSome, slice_get}
+use Rattle.std.proofs.Common.{◌≢◌, ℕ, ℤ, pos, zero, suc, ◌+◌, ◌<◌, ◌≤◌, Bool, true, false, cond, All, AllPairs, List, [], ◌∷◌, ◌++◌, arith, Option, None, Some, length, unwrap_or, IfSome, slice_get}
 use Rattle.std.specs.List.{filter_map, last_or, cons_option}
 use Rattle.std.specs.Option.{option_map, option_map_or, option_and_then}
 use Rattle.std.specs.Map.{lookup}
@@ -7,14 +7,14 @@ use Rattle.std.specs.Str.{bytes_eq}
 use Rattle.std.proofs.lemmas.List.Elements.{All-head, All-tail, All-cons, All-nil, All-push, All-weaker}
 use Rattle.std.proofs.lemmas.List.Kept.{AllPairs-cons}
 use Rattle.std.proofs.lemmas.Map.Entries.{All-lookup}
-use Rattle.swept_boxes.specs.Motions.{IsInRange, AreSound}
+use Rattle.swept_boxes.specs.Motions.{IsInRange}
 use Rattle.tape_job.specs.Job.{JobView, ProgramView}
 use Rattle.tape_job.specs.declared.job.AxisLine.{AxisLine}
 use Rattle.tape_job.specs.declared.job.Block.{Block}
 use Rattle.tape_job.specs.declared.job.ChannelLine.{ChannelLine}
 use Rattle.tape_job.specs.declared.job.Stmt.{Stmt}
 use Rattle.tape_job.specs.declared.job.Stmt.TheVariants.{Move, End}
-use Rattle.turnmill.specs.Channels.{position_after, programmed, start_position, is_slot, end_from, ends_from, item_from, items_after, items_of, blocks_of, program_named, IsInReach, IsRunnable, HasFewAxes}
+use Rattle.turnmill.specs.Channels.{position_after, programmed, start_position, is_slot, end_from, ends_from, item_from, items_after, items_of, blocks_of, program_named, IsInReach, IsRunnable}
 use Rattle.turnmill.specs.ZoneBoxes.{IsFit}
 use Rattle.turnmill.specs.declared.channels.Item.{Item}
 use Rattle.turnmill.proofs.PositionLemmas.{ends_between}
@@ -35,7 +35,7 @@ programmed_reach job channel End axis h = tt
 -- what holds of all that is kept holds of the last
 last_kept : {X Y : Type 0} (P : Y → Type 0) (h : X → Option Y) (o : Option Y) (xs : List X) → IfSome o P → All (λ x. IfSome (h x) P) xs → IfSome (last_or o (filter_map h xs)) P
 last_kept P h o [] first all = first
-last_kept P h o (x ∷ xs) first all =
+last_kept {Y = Y} P h o (x ∷ xs) first all =
     by_kept (h x) (All-head (λ y. IfSome (h y) P) x xs all) (λ p here. last_kept P h p xs here (All-tail (λ y. IfSome (h y) P) x xs all))
   where
     by_kept : (r : Option Y) → IfSome r P → ((p : Option Y) → IfSome p P → IfSome (last_or p (filter_map h xs)) P) → IfSome (last_or o (cons_option r (filter_map h xs))) P

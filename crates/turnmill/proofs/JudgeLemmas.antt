@@ -15,13 +15,14 @@ use Rattle.swept_boxes.proofs.PieceLaws.{whole_line}
 use Rattle.tape_job.specs.Job.{JobView}
 use Rattle.tape_job.specs.declared.job.ChannelLine.{ChannelLine}
 use Rattle.tape_job.specs.declared.job.ZoneLine.{ZoneLine}
+use Rattle.turnmill.proofs.SomeLemmas.{found_passes}
 use Rattle.turnmill.specs.ChannelRun.{run_of}
 use Rattle.turnmill.specs.Channels.{positions_in, position_after, blocks_of, StandsAfter}
 use Rattle.turnmill.specs.Clash.{own_clock, is_open_at, may_overlap, zones_in_order, pairs_by_group, zone_pairs, BoxPlace, box_pairs, stretch_pairs, pairs_of_zones, compared_pairs, boxes_meet, depth_of, pair_meets, name_of, verdict_of}
 use Rattle.turnmill.specs.ShownStretches.{run_stretch, end_stretch, shown_stretch, held_zone, HeldView, is_run, same_kind, do_overlap, first_some, first_touched, first_lines, named, first_in_stretches, first_against, first_of_zones, first_meeting, verdict_by}
 use Rattle.turnmill.specs.Stretches.{Event, Stretch, spans_of, stretches_from, channel_line, stretches_of}
 use Rattle.turnmill.specs.StretchView.{StretchView}
-use Rattle.turnmill.specs.ZoneBoxes.{PlaceBox, boxes_of, shown_box, moving_box, standing_box, piece_boxes, zone_box, low_in, high_in}
+use Rattle.turnmill.specs.ZoneBoxes.{PlaceBox, boxes_of, shown_box, moving_box, standing_box, piece_boxes, moves_zone, has_axis}
 use Rattle.turnmill.specs.declared.channels.Item.{Item}
 use Rattle.turnmill.specs.declared.stretches.PlaceName.{PlaceName}
 use Rattle.turnmill.specs.declared.stretches.StretchKind.{StretchKind}
@@ -115,53 +116,72 @@ name_by_line zone s c box e = go box.motion refl
     go None k = rw (k, e) refl
     go (Some item) k = rw (k, e) refl
 
+-- the names of two boxes of these stretches with these lines
+abbrev named_by : ZoneLine → Stretch → ZoneLine → Stretch → ℕ × ℕ → PlaceName × PlaceName
+named_by zone s other t lines = (named zone (shown_stretch zone s) lines.0, named other (shown_stretch other t) lines.1)
+
+abbrev pair_of : ZoneLine → Stretch → PlaceBox → ZoneLine → Stretch → PlaceBox → BoxPlace × BoxPlace
+pair_of zone s l other t r = (record { zone = zone; stretch = s; box = l }, record { zone = other; stretch = t; box = r })
+
+names_by_lines : (zone other : ZoneLine) (s t : Stretch) (c d : ℕ) → s.channel ≡ Some c → t.channel ≡ Some d → (l r : PlaceBox)
+    → names_of (pair_of zone s l other t r) ≡ named_by zone s other t ((shown_box zone s.line l).line, (shown_box other t.line r).line)
+names_by_lines zone other s t c d e k l r = rw (name_by_line zone s c l e, name_by_line other t d r k) refl
+
+found_step : (b : Bool) (names : PlaceName × PlaceName) (pair : BoxPlace × BoxPlace) (rest : Option (BoxPlace × BoxPlace)) (name : ZoneBox → PlaceName × PlaceName) (box : ZoneBox) (boxes : Option ZoneBox)
+    → names_of pair ≡ name box → option_map names_of rest ≡ option_map name boxes
+    → option_map names_of (cond b (Some pair) rest) ≡ option_map name (cond b (Some box) boxes)
+found_step true names pair rest name box boxes h k = ap (λ (n : PlaceName × PlaceName). Some n) h
+found_step false names pair rest name box boxes h k = k
+
 -- the first of some boxes that meets a box, and how the two are named
-touched_by_covers : (job : JobView) (zone other : ZoneLine) (s t : Stretch) (c d : ℕ) → s.channel ≡ Some c → t.channel ≡ Some d → (rs : List PlaceBox) (l : PlaceBox)
-    → option_map names_of (find (pair_meets job) (map (λ r. let pair : BoxPlace × BoxPlace = (record { zone = zone; stretch = s; box = l }, record { zone = other; stretch = t; box = r }) in pair) rs))
-      ≡ option_map (λ lines. (named zone (shown_stretch zone s) lines.0, named other (shown_stretch other t) lines.1)) (first_touched (map (shown_box other t.line) rs) (shown_box zone s.line l))
-unfolding first_touched
-touched_by_covers job zone other s t c d e k [] l = refl
-touched_by_covers job zone other s t c d e k (r ∷ rs) l =
+touched_by_covers : (job : JobView) (zone other : ZoneLine) (s t : Stretch) (c d : ℕ) → s.channel ≡ Some c → t.channel ≡ Some d → (l : PlaceBox) (rs : List PlaceBox)
+    → option_map names_of (find (pair_meets job) (map (pair_of zone s l other t) rs))
+      ≡ option_map (λ (box : ZoneBox). named_by zone s other t ((shown_box zone s.line l).line, box.line)) (find (λ box. boxes_meet (shown_box zone s.line l).cover box.cover) (map (shown_box other t.line) rs))
+touched_by_covers job zone other s t c d e k l [] = refl
+touched_by_covers job zone other s t c d e k l (r ∷ rs) =
     rw (pair_by_covers job zone other s t l r)
-      (step (boxes_meet (shown_box zone s.line l).cover (shown_box other t.line r).cover)
-        (ap (λ name. let pair : PlaceName × PlaceName = (name, name_of (record { zone = other; stretch = t; box = r })) in Some pair) (name_by_line zone s c l e)
-          ∙ ap (λ name. let pair : PlaceName × PlaceName = (named zone (shown_stretch zone s) (shown_box zone s.line l).line, name) in Some pair) (name_by_line other t d r k))
-        (touched_by_covers job zone other s t c d e k rs l))
-  where
-    step : (b : Bool) {rest : Option (BoxPlace × BoxPlace)} {lines : Option ZoneBox}
-        → option_map names_of (Some (record { zone = zone; stretch = s; box = l }, record { zone = other; stretch = t; box = r }))
-          ≡ Some (named zone (shown_stretch zone s) (shown_box zone s.line l).line, named other (shown_stretch other t) (shown_box other t.line r).line)
-        → option_map names_of rest ≡ option_map (λ lines. (named zone (shown_stretch zone s) lines.0, named other (shown_stretch other t) lines.1)) (option_map (λ other. ((shown_box zone s.line l).line, other.line)) lines)
-        → option_map names_of (cond b (Some (record { zone = zone; stretch = s; box = l }, record { zone = other; stretch = t; box = r })) rest)
-          ≡ option_map (λ lines. (named zone (shown_stretch zone s) lines.0, named other (shown_stretch other t) lines.1)) (option_map (λ other. ((shown_box zone s.line l).line, other.line)) (cond b (Some (shown_box other t.line r)) lines))
-    step true h k = h
-    step false h k = k
+      (found_step (boxes_meet (shown_box zone s.line l).cover (shown_box other t.line r).cover) (names_of (pair_of zone s l other t r)) (pair_of zone s l other t r) _
+        (λ (box : ZoneBox). named_by zone s other t ((shown_box zone s.line l).line, box.line)) (shown_box other t.line r) _
+        (names_by_lines zone other s t c d e k l r) (touched_by_covers job zone other s t c d e k l rs))
+
+touched_by_lines : (job : JobView) (zone other : ZoneLine) (s t : Stretch) (c d : ℕ) → s.channel ≡ Some c → t.channel ≡ Some d → (l : PlaceBox)
+    → option_map names_of (find (pair_meets job) (map (pair_of zone s l other t) t.boxes))
+      ≡ option_map (named_by zone s other t) (first_touched (map (shown_box other t.line) t.boxes) (shown_box zone s.line l))
+unfolding first_touched
+touched_by_lines job zone other s t c d e k l =
+    touched_by_covers job zone other s t c d e k l t.boxes
+      ∙ sym (option_map-map (named_by zone s other t) (λ (box : ZoneBox). let lines : ℕ × ℕ = ((shown_box zone s.line l).line, box.line) in lines)
+          (find (λ box. boxes_meet (shown_box zone s.line l).cover box.cover) (map (shown_box other t.line) t.boxes)))
 
 -- the first two boxes of two stretches that meet
 first_by_covers : (job : JobView) (zone other : ZoneLine) (s t : Stretch) (c d : ℕ) → s.channel ≡ Some c → t.channel ≡ Some d
     → option_map names_of (find (pair_meets job) (box_pairs zone s other t))
-      ≡ option_map (λ lines. (named zone (shown_stretch zone s) lines.0, named other (shown_stretch other t) lines.1)) (first_lines (map (shown_box zone s.line) s.boxes) (map (shown_box other t.line) t.boxes))
+      ≡ option_map (named_by zone s other t) (first_lines (map (shown_box zone s.line) s.boxes) (map (shown_box other t.line) t.boxes))
 unfolding first_lines
 first_by_covers job zone other s t c d e k =
-    let name : ℕ × ℕ → PlaceName × PlaceName = λ lines. (named zone (shown_stretch zone s) lines.0, named other (shown_stretch other t) lines.1) in
     let boxes : List ZoneBox = map (shown_box other t.line) t.boxes in
-    find-flat_map names_of (pair_meets job) _ s.boxes
-      ∙ first_some-same _ (λ l. option_map name (first_touched boxes (shown_box zone s.line l))) (touched_by_covers job zone other s t c d e k t.boxes) s.boxes
-      ∙ sym (first_some-map (λ box. option_map name (first_touched boxes box)) (shown_box zone s.line) s.boxes)
-      ∙ sym (map-first_some name (first_touched boxes) (map (shown_box zone s.line) s.boxes))
+    find-flat_map names_of (pair_meets job) (λ (l : PlaceBox). map (pair_of zone s l other t) t.boxes) s.boxes
+      ∙ first_some-same (λ (l : PlaceBox). option_map names_of (find (pair_meets job) (map (pair_of zone s l other t) t.boxes))) (λ (l : PlaceBox). option_map (named_by zone s other t) (first_touched boxes (shown_box zone s.line l))) (touched_by_lines job zone other s t c d e k) s.boxes
+      ∙ sym (first_some-map (λ (box : ZoneBox). option_map (named_by zone s other t) (first_touched boxes box)) (shown_box zone s.line) s.boxes)
+      ∙ sym (map-first_some (named_by zone s other t) (first_touched boxes) (map (shown_box zone s.line) s.boxes))
 
 -- ---- stretches that may overlap
 
 -- with no coordination a channel runs up to its first event, and stands after it
-abbrev Bounds : ℕ → StretchKind → Option Event → Option Event → Type 0
-Bounds c Run first last = (first ≡ None) × (last ≡ Some (record { channel = c; place = 1 }))
-Bounds c End first last = (first ≡ Some (record { channel = c; place = 1 })) × (last ≡ None)
+abbrev first_of : ℕ → StretchKind → Option Event
+first_of c Run = None
+first_of c End = Some (record { channel = c; place = 1 })
+
+abbrev last_of : ℕ → StretchKind → Option Event
+last_of c Run = Some (record { channel = c; place = 1 })
+last_of c End = None
 
 -- the stretch of a channel
 record IsHeld (s : Stretch) : Type 0 where
   channel : ℕ
   held : s.channel ≡ Some channel
-  bounds : Bounds channel s.kind s.first s.last
+  begins : s.first ≡ first_of channel s.kind
+  ends : s.last ≡ last_of channel s.kind
 
 or_true : (b : Bool) → (b || true) ≡ true
 or_true true = refl
@@ -176,36 +196,149 @@ apart : (b : Bool) → nat_lt (cond {A = ℕ} b 1 0) 1 ≡ not b
 apart true = refl
 apart false = refl
 
+eqb_itself : (n : ℕ) → (n == n) ≡ true
+eqb_itself n = elim (eqb_tells n n) [ inl k ↦ k.0 | inr k ↦ absurd (k.1 refl) ]
+
 eqb-turned : (a b : ℕ) → (a == b) ≡ (b == a)
 eqb-turned a b = elim (eqb_tells a b) [
-  | inl h ↦ h.0 ∙ sym (rw h.1 (same b))
+  | inl h ↦ rw h.1 refl
   | inr h ↦ h.0 ∙ sym (elim (eqb_tells b a) [ inl k ↦ absurd (h.1 (sym k.1)) | inr k ↦ k.0 ])
 ]
-  where
-    same : (n : ℕ) → (n == n) ≡ true
-    same n = elim (eqb_tells n n) [ inl k ↦ k.0 | inr k ↦ absurd (k.1 refl) ]
 
-overlap_by : (c d : ℕ) (k m : StretchKind) (f l g h : Option Event) → Bounds c k f l → Bounds d m g h
-    → (is_open_at own_clock l g && is_open_at own_clock h f) ≡ (not (c == d) || same_kind k m)
-overlap_by c d Run Run f l g h p q = rw (p.0, p.1, q.0, q.1) (sym (or_true (not (c == d))))
-overlap_by c d Run End f l g h p q = rw (p.0, p.1, q.0, q.1) (and_true (nat_lt (cond {A = ℕ} (c == d) 1 0) 1) ∙ apart (c == d) ∙ sym (or_false (not (c == d))))
-overlap_by c d End Run f l g h p q = rw (p.0, p.1, q.0, q.1) (apart (d == c) ∙ ap not (eqb-turned d c) ∙ sym (or_false (not (c == d))))
-overlap_by c d End End f l g h p q = rw (p.0, p.1, q.0, q.1) (sym (or_true (not (c == d))))
+abbrev open_at : Option Event → Option Event → Option Event → Option Event → Bool
+open_at l g h f = is_open_at own_clock l g && is_open_at own_clock h f
+
+overlap_at : (c d : ℕ) (k m : StretchKind) → open_at (last_of c k) (first_of d m) (last_of d m) (first_of c k) ≡ (not (c == d) || same_kind k m)
+overlap_at c d Run Run = sym (or_true (not (c == d)))
+overlap_at c d Run End = and_true (nat_lt (cond {A = ℕ} (c == d) 1 0) 1) ∙ apart (c == d) ∙ sym (or_false (not (c == d)))
+overlap_at c d End Run = apart (d == c) ∙ ap not (eqb-turned d c) ∙ sym (or_false (not (c == d)))
+overlap_at c d End End = sym (or_true (not (c == d)))
 
 overlap_is : (zone other : ZoneLine) (s t : Stretch) → IsHeld s → IsHeld t → may_overlap own_clock s t ≡ do_overlap (shown_stretch zone s) (shown_stretch other t)
 unfolding may_overlap do_overlap shown_stretch
-overlap_is zone other s t p q = rw (p.held, q.held) (overlap_by p.channel q.channel s.kind t.kind s.first s.last t.first t.last p.bounds q.bounds)
+overlap_is zone other s t p q =
+    ap (λ (l : Option Event). open_at l t.first t.last s.first) p.ends
+      ∙ ap (λ (g : Option Event). open_at (last_of p.channel s.kind) g t.last s.first) q.begins
+      ∙ ap (λ (h : Option Event). open_at (last_of p.channel s.kind) (first_of q.channel t.kind) h s.first) q.ends
+      ∙ ap (λ (f : Option Event). open_at (last_of p.channel s.kind) (first_of q.channel t.kind) (last_of q.channel t.kind) f) p.begins
+      ∙ overlap_at p.channel q.channel s.kind t.kind
+      ∙ ap (λ (c : ℕ). not (c == q.channel) || same_kind s.kind t.kind) (sym (ap (λ (o : Option ℕ). unwrap_or o 0) p.held))
+      ∙ ap (λ (d : ℕ). not (unwrap_or s.channel 0 == d) || same_kind s.kind t.kind) (sym (ap (λ (o : Option ℕ). unwrap_or o 0) q.held))
+
+open_step : (job : JobView) (b : Bool) (pairs : List (BoxPlace × BoxPlace)) (r : Option (PlaceName × PlaceName))
+    → option_map names_of (find (pair_meets job) pairs) ≡ r → option_map names_of (find (pair_meets job) (cond b pairs [])) ≡ cond b r None
+open_step job true pairs r h = h
+open_step job false pairs r h = refl
 
 -- the names of the first two boxes of two stretches that meet
 stretches_by_covers : (job : JobView) (zone other : ZoneLine) (s t : Stretch) → IsHeld s → IsHeld t
     → option_map names_of (find (pair_meets job) (stretch_pairs own_clock zone s other t)) ≡ first_in_stretches zone other (shown_stretch zone s) (shown_stretch other t)
-unfolding first_in_stretches
+unfolding first_in_stretches shown_stretch
 stretches_by_covers job zone other s t p q =
-    rw (overlap_is zone other s t p q) (step (do_overlap (shown_stretch zone s) (shown_stretch other t)) (first_by_covers job zone other s t p.channel q.channel p.held q.held ∙ boxes_shown))
+    rw (overlap_is zone other s t p q)
+      (open_step job (do_overlap (shown_stretch zone s) (shown_stretch other t)) (box_pairs zone s other t) _ (first_by_covers job zone other s t p.channel q.channel p.held q.held))
+
+-- ---- zones
+
+abbrev AllHeld : List Stretch → Type 0
+AllHeld [] = Unit {0}
+AllHeld (s ∷ ss) = IsHeld s × AllHeld ss
+
+first_some-held : {Y : Type 0} (f g : Stretch → Option Y) → ((s : Stretch) → IsHeld s → f s ≡ g s) → (ss : List Stretch) → AllHeld ss → first_some f ss ≡ first_some g ss
+first_some-held f g same [] all = refl
+first_some-held f g same (s ∷ ss) all = rw (same s all.0, first_some-held f g same ss all.1) refl
+
+all_held : (job : JobView) (zone : ZoneLine) → AllHeld (stretches_of job zone)
+unfolding stretches_of spans_of boxes_of moves_zone has_axis
+all_held job zone = by_holder zone.holder refl
   where
-    step : (b : Bool) {ps : List (BoxPlace × BoxPlace)} {r : Option (PlaceName × PlaceName)} → option_map names_of (find (pair_meets job) ps) ≡ r → option_map names_of (find (pair_meets job) (cond b ps [])) ≡ cond b r None
-    step true h = h
-    step false h = refl
-    boxes_shown : option_map (λ lines. (named zone (shown_stretch zone s) lines.0, named other (shown_stretch other t) lines.1)) (first_lines (map (shown_box zone s.line) s.boxes) (map (shown_box other t.line) t.boxes))
-        ≡ option_map (λ lines. (named zone (shown_stretch zone s) lines.0, named other (shown_stretch other t) lines.1)) (first_lines (shown_stretch zone s).boxes (shown_stretch other t).boxes)
-    boxes_shown = ?
+    by_line : (c : ℕ) (o : Option ChannelLine) → AllHeld (option_map_or (λ line. stretches_from zone c 0 (spans_of job line)) o [])
+    by_line c None = tt
+    by_line c (Some line) = (record { channel = c; held = refl; begins = refl; ends = refl }, (record { channel = c; held = refl; begins = refl; ends = refl }, tt))
+    by_holder : (h : Option ℕ) → zone.holder ≡ h → AllHeld (stretches_of job zone)
+    by_holder None e = rw e tt
+    by_holder (Some c) e = rw e (by_line c (channel_line job c))
+
+-- the names of the first two boxes of two zones that meet
+zones_by_covers : (job : JobView) (zone other : ZoneLine)
+    → option_map names_of (find (pair_meets job) (pairs_of_zones own_clock job zone other)) ≡ first_some (first_against zone (held_zone job other)) (held_zone job zone).stretches
+unfolding pairs_of_zones held_zone first_against
+zones_by_covers job zone other =
+    let given : Stretch → Stretch → Option (PlaceName × PlaceName) = λ s t. option_map names_of (find (pair_meets job) (stretch_pairs own_clock zone s other t)) in
+    let found : Stretch → Stretch → Option (PlaceName × PlaceName) = λ s t. first_in_stretches zone other (shown_stretch zone s) (shown_stretch other t) in
+    find-flat_map names_of (pair_meets job) (λ (s : Stretch). flat_map (λ (t : Stretch). stretch_pairs own_clock zone s other t) (stretches_of job other)) (stretches_of job zone)
+      ∙ first_some-held (λ (s : Stretch). option_map names_of (find (pair_meets job) (flat_map (λ (t : Stretch). stretch_pairs own_clock zone s other t) (stretches_of job other))))
+          (λ (s : Stretch). first_some (first_in_stretches zone other (shown_stretch zone s)) (map (shown_stretch other) (stretches_of job other)))
+          (λ s held. find-flat_map names_of (pair_meets job) (λ (t : Stretch). stretch_pairs own_clock zone s other t) (stretches_of job other)
+            ∙ first_some-held (given s) (found s) (λ t later. stretches_by_covers job zone other s t held later) (stretches_of job other) (all_held job other)
+            ∙ sym (first_some-map (first_in_stretches zone other (shown_stretch zone s)) (shown_stretch other) (stretches_of job other)))
+          (stretches_of job zone) (all_held job zone)
+      ∙ sym (first_some-map (λ (view : StretchView). first_some (first_in_stretches zone other view) (map (shown_stretch other) (stretches_of job other))) (shown_stretch zone) (stretches_of job zone))
+
+filter_step : {X Y : Type 0} (f : X → Option Y) (b : Bool) (x : X) (xs : List X) → first_some f (cond b (x ∷ xs) xs) ≡ option_or (cond b (f x) None) (first_some f xs)
+filter_step f true x xs = refl
+filter_step f false x xs = refl
+
+first_some-filter : {X Y : Type 0} (f : X → Option Y) (test : X → Bool) (xs : List X) → first_some f (filter test xs) ≡ first_some (λ x. cond (test x) (f x) None) xs
+first_some-filter f test [] = refl
+first_some-filter f test (x ∷ xs) = filter_step f (test x) x (filter test xs) ∙ ap (λ r. option_or (cond (test x) (f x) None) r) (first_some-filter f test xs)
+
+unless : {Y : Type 0} (b : Bool) (r s : Option Y) → r ≡ s → cond (not b) r None ≡ cond b None s
+unless true r s e = refl
+unless false r s e = e
+
+of_pair : JobView → ZoneLine × ZoneLine → Option (PlaceName × PlaceName)
+of_pair job pair = option_map names_of (find (pair_meets job) (pairs_of_zones own_clock job pair.0 pair.1))
+
+-- the names of the first two boxes of any two zones that meet
+groups_by_covers : (job : JobView) (zones : List ZoneLine) → first_some (of_pair job) (pairs_by_group zones) ≡ first_meeting (map (held_zone job) zones)
+unfolding of_pair first_of_zones held_zone
+groups_by_covers job [] = refl
+groups_by_covers job (zone ∷ zones) =
+    first_some-append (of_pair job) (map (λ (other : ZoneLine). (zone, other)) (filter (λ other. not (zone.group == other.group)) zones)) (pairs_by_group zones)
+      ∙ ap (λ (r : Option (PlaceName × PlaceName)). option_or r (first_some (of_pair job) (pairs_by_group zones)))
+          (first_some-map (of_pair job) (λ (other : ZoneLine). (zone, other)) (filter (λ other. not (zone.group == other.group)) zones)
+            ∙ first_some-filter (λ (other : ZoneLine). of_pair job (zone, other)) (λ other. not (zone.group == other.group)) zones
+            ∙ first_some-same (λ (other : ZoneLine). cond (not (zone.group == other.group)) (of_pair job (zone, other)) None) (λ (other : ZoneLine). first_of_zones (held_zone job zone) (held_zone job other)) (with_other zone) zones
+            ∙ sym (first_some-map (first_of_zones (held_zone job zone)) (held_zone job) zones))
+      ∙ ap (λ (r : Option (PlaceName × PlaceName)). option_or (first_some (first_of_zones (held_zone job zone)) (map (held_zone job) zones)) r) (groups_by_covers job zones)
+  where
+    with_other : (zone other : ZoneLine) → cond (not (zone.group == other.group)) (of_pair job (zone, other)) None ≡ first_of_zones (held_zone job zone) (held_zone job other)
+    with_other zone other = unless (zone.group == other.group) _ _ (zones_by_covers job zone other)
+
+-- the verdict on the zones with their stretches is that of the definition
+pub verdict_is : (job : JobView) → verdict_by (first_meeting (map (held_zone job) (zones_in_order job))) ≡ verdict_of job
+unfolding verdict_of compared_pairs zone_pairs of_pair
+verdict_is job =
+    ap verdict_by (sym (find-flat_map names_of (pair_meets job) (λ (pair : ZoneLine × ZoneLine). pairs_of_zones own_clock job pair.0 pair.1) (pairs_by_group (zones_in_order job)) ∙ groups_by_covers job (zones_in_order job)))
+      ∙ by_found (find (pair_meets job) (compared_pairs job)) refl
+  where
+    by_found : (o : Option (BoxPlace × BoxPlace)) → find (pair_meets job) (compared_pairs job) ≡ o → verdict_by (option_map names_of (find (pair_meets job) (compared_pairs job))) ≡ verdict_of job
+    by_found None e = rw e refl
+    by_found (Some pair) e = rw e refl
+
+-- ---- the stretches of a zone whose channel was run
+
+-- the stretches of a zone come from the run of its holder
+pub run_stretches : (job : JobView) (zone : ZoneLine) (line : ChannelLine) (at : List ℤ) → option_and_then (channel_line job) zone.holder ≡ Some line
+    → StandsAfter job line.channel (blocks_of job line) at
+    → run_stretch job zone (run_of job line) ∷ end_stretch zone (run_of job line) (positions_in at) ∷ [] ≡ map (shown_stretch zone) (stretches_of job zone)
+unfolding stretches_of spans_of shown_stretch run_stretch end_stretch run_of
+run_stretches job zone line at found stands = by_holder zone.holder refl found
+  where
+    ends : positions_in at ≡ position_after job line.channel (blocks_of job line)
+    ends = fun_ext stands
+    by_holder : (h : Option ℕ) → zone.holder ≡ h → option_and_then (channel_line job) h ≡ Some line
+        → run_stretch job zone (run_of job line) ∷ end_stretch zone (run_of job line) (positions_in at) ∷ [] ≡ map (shown_stretch zone) (stretches_of job zone)
+    by_holder None e k = cc
+    by_holder (Some c) e k =
+        let same : line.channel ≡ c = eqb-true line.channel c (found_passes (λ other. other.channel == c) job.channels line k) in
+        rw (e, k, ends, ← same) refl
+
+pub no_stretches : (job : JobView) (zone : ZoneLine) → option_and_then (channel_line job) zone.holder ≡ None → [] ≡ map (shown_stretch zone) (stretches_of job zone)
+unfolding stretches_of
+no_stretches job zone none = by_holder zone.holder refl none
+  where
+    by_holder : (h : Option ℕ) → zone.holder ≡ h → option_and_then (channel_line job) h ≡ None → [] ≡ map (shown_stretch zone) (stretches_of job zone)
+    by_holder None e k = rw e refl
+    by_holder (Some c) e k = rw (e, k) refl

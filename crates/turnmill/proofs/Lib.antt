@@ -17,3 +17,4 @@ pub mod MeetLemmas
 pub mod JudgeLemmas
 pub mod FitLemmas
 pub mod ReportLemmas
+pub mod RunnableLemmas

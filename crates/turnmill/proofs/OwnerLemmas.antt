@@ -18,7 +18,7 @@ use Rattle.turnmill.proofs.SomeLemmas.{SomeOf, some-list_any, found_passes}
 use Rattle.turnmill.specs.Channels.{is_slot, programmed, position_after, blocks_of, end_from, ends_from, item_from, items_after, items_of}
 use Rattle.turnmill.specs.Safety.{axis_owner, OneOwner}
 use Rattle.turnmill.specs.SmallSteps.{State, motions_of}
-use Rattle.turnmill.specs.SoundJob.{IsDeclared, first_owner, IsSoundJob}
+use Rattle.tape_job.specs.SoundJob.{IsDeclared, first_owner, IsSoundJob}
 use Rattle.turnmill.specs.Stretches.{channel_line}
 use Rattle.turnmill.specs.ZoneBoxes.{axes_of}
 use Rattle.turnmill.specs.declared.channels.Item.{Item}

@@ -15,16 +15,13 @@ use Rattle.tape_job.specs.declared.job.Stmt.{Stmt}
 use Rattle.tape_job.specs.declared.job.Stmt.TheVariants.{Move, End}
 use Rattle.turnmill.specs.Channels.{position_after, programmed, start_position, is_slot, item_from, items_after, StandsAfter, positions_in, HasFewAxes}
 use Rattle.turnmill.specs.declared.channels.Item.{Item}
+use Rattle.turnmill.proofs.Ranges.{filter_map-one}
 
 -- the last of a list with one more, if there is one more
 pub last_or-push : {A : Type 0} (o : Option A) (xs : List A) (r : Option A) (d : A) → unwrap_or (last_or o (xs ++ option_to_list r)) d ≡ unwrap_or r (unwrap_or (last_or o xs) d)
 last_or-push o [] None d = refl
 last_or-push o [] (Some y) d = refl
 last_or-push o (x ∷ xs) r d = last_or-push (Some x) xs r d
-
-filter_map-one : {X Y : Type 0} (h : X → Option Y) (x : X) (r : Option Y) → h x ≡ r → filter_map h (x ∷ []) ≡ option_to_list r
-filter_map-one h x None e = rw e refl
-filter_map-one h x (Some y) e = rw e refl
 
 -- a block more puts an axis where it programs it, and leaves it elsewhere
 pub position_after-push : (job : JobView) (channel : ℕ) (blocks : List Block) (block : Block) (axis : ℕ)

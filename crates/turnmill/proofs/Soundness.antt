@@ -24,7 +24,7 @@ use Rattle.turnmill.specs.Channels.{start_position, position_after, blocks_of, i
 use Rattle.turnmill.specs.Clash.{own_clock, zones_in_order, zone_pairs, BoxPlace, pairs_of_zones, compared_pairs, depth_of, pair_meets, verdict_of}
 use Rattle.turnmill.specs.Safety.{axis_owner, axis_position, fraction_of, IsInZone, ZonesMeet, NoneMeet, SafeAlways}
 use Rattle.turnmill.specs.SmallSteps.{left_at, StandsAt, IsAtPlace, Spot, State, opening, span_of, has_ended, motions_of, board_position, beginning, present, reached}
-use Rattle.turnmill.specs.SoundJob.{IsDeclared, first_owner, IsCarriedBy, IsSoundZone, IsSoundJob}
+use Rattle.tape_job.specs.SoundJob.{IsDeclared, first_owner, IsCarriedBy, IsSoundZone, IsSoundJob}
 use Rattle.turnmill.specs.Stretches.{Stretch, channel_line, spans_of, stretches_from, stretches_of}
 use Rattle.turnmill.specs.ZoneBoxes.{is_carrier, has_axis, PlaceBox, boxes_of, piece_boxes}
 use Rattle.turnmill.specs.declared.channels.Item.{Item}

@@ -5,7 +5,6 @@ pub mod Stretches
 pub mod StretchView
 pub mod ShownStretches
 pub mod Clash
-pub mod SoundJob
 pub mod SmallSteps
 pub mod Safety
 pub mod Output

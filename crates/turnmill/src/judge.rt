@@ -10,14 +10,23 @@ use crate::channels::{ChannelRun, run_channel};
 use crate::clash::{HeldZone, verdict_on};
 use crate::stretches::{Stretch, Verdict, stretches_of_run};
 use std::alloc::{AllocError, Global};
-use tape_job::{ChannelLine, Job, ZoneLine};
+use tape_job::{ChannelId, ChannelLine, Job, ZoneLine};
+
+/// The CHANNEL line of a channel.
+fn line_of(job: &Job, channel: ChannelId) -> Option<&ChannelLine>
+    ensures { option_copied result ≡ channel_line job.now channel }
+{
+    job.channels.iter().find(|line| line.channel == channel)
+}
 
 /// The CHANNEL line of the channel that holds a zone.
 fn holder_line<'a>(job: &'a Job, zone: &ZoneLine) -> Option<&'a ChannelLine>
     ensures { option_copied result ≡ option_and_then (channel_line job.now) zone.now.holder }
 {
-    let holder = zone.holder?;
-    job.channels.iter().find(|line| line.channel == holder)
+    match zone.holder {
+        Some(holder) => line_of(job, holder),
+        None => None,
+    }
 }
 
 /// The stretches of a zone, from a run of the channel that holds it.

@@ -1,0 +1,343 @@
+-- What holds of all that a line can say by itself.
+use Rattle.std.specs.Bool.{⊤}
+use Rattle.std.proofs.Common.{◌≡◌, ◌∙◌, ℕ, zero, suc, ◌<◌, ◌≤◌, ℤ, pos, negsuc, ◌≤ℤ◌, neg_ℤ, unsigned_abs, Bool, true, false, ◌&&◌, cond, not, if◌then◌else◌, nat_le, nat_lt, int_le, length, ◌||◌, ◌==◌, codes, List, [], ◌∷◌, Result, Ok, Err, IfOk, Option, Some, None, IfSome, refl, sym, ap, rules, arith}
+use Rattle.std.specs.List.{list_any, AllByRecursion}
+use Rattle.std.specs.Option.{option_and_then, option_map}
+use Rattle.std.specs.Str.{bytes_eq}
+use Rattle.std.proofs.lemmas.Bool.{leb-true}
+use Rattle.micro_units.specs.Rounding.{half_away}
+use Rattle.micro_units.specs.NumberText.{number_of}
+use Rattle.tape_job.specs.declared.code.Code.{Code}
+use Rattle.tape_job.specs.declared.code.Code.TheVariants.{OutOfRange, NotBuilt, UnknownJobLine}
+use Rattle.tape_job.specs.declared.block.Address.{Address}
+use Rattle.tape_job.specs.declared.block.Address.TheVariants.{Number, Line, X, Z, Feed}
+use Rattle.tape_job.specs.declared.block.Address.TheVariants as address
+use Rattle.tape_job.specs.declared.item.AxisName.{AxisName}
+use Rattle.tape_job.specs.declared.item.NamedSide.{NamedSide}
+use Rattle.tape_job.specs.declared.item.Item.{Item}
+use Rattle.tape_job.specs.declared.item.Item.TheVariants.{Channel, Axis, Geo, Zone}
+use Rattle.tape_job.specs.declared.job.Stmt.{Stmt}
+use Rattle.tape_job.specs.declared.job.Stmt.TheVariants.{Move, End}
+use Rattle.tape_job.specs.declared.reading.Reading.{Reading}
+use Rattle.tape_job.specs.declared.reading.Reading.TheVariants.{Blank, First, Entry, Header, Step}
+use Rattle.tape_job.specs.Code.{◌>>=◌, or_code}
+use Rattle.tape_job.specs.Numbers.{is_digits, whole_of, within, number_within}
+use Rattle.tape_job.specs.Length.{in_reach, size_of, is_size, signed_size_of, length_of}
+use Rattle.tape_job.specs.Lines.{words, is_visible, has_token, begins_with_percent, text_of}
+use Rattle.tape_job.specs.Item as item
+use Rattle.tape_job.specs.Block as block
+use Rattle.tape_job.specs.Header.{header_of}
+use Rattle.tape_job.specs.Reading as reading
+use Rattle.tape_job.specs.SoundJob.{IsInReach, IsSoundRange}
+
+-- what holds of each result of a reading holds of the next reading's
+then_ok : {A B : Type 0} (P : A → Type 0) (Q : B → Type 0) (read : Result A Code) (next : A → Result B Code)
+    → IfOk read P → ((a : A) → P a → IfOk (next a) Q) → IfOk (read >>= next) Q
+then_ok P Q (Ok a) next holds goes = goes a holds
+then_ok P Q (Err code) next holds goes = tt
+
+then_any : {A B : Type 0} (Q : B → Type 0) (read : Result A Code) (next : A → Result B Code) → ((a : A) → IfOk (next a) Q) → IfOk (read >>= next) Q
+then_any Q (Ok a) next goes = goes a
+then_any Q (Err code) next goes = tt
+
+if_ok : {A : Type 0} (P : A → Type 0) (test : Bool) (first second : Result A Code) → (test ≡ true → IfOk first P) → IfOk second P → IfOk (if test then first else second) P
+if_ok P true first second holds fails = holds refl
+if_ok P false first second holds fails = fails
+
+or_ok : {A : Type 0} (P : A → Type 0) (code : Code) (found : Option A) → IfSome found P → IfOk (or_code code found) P
+or_ok P code None holds = tt
+or_ok P code (Some a) holds = holds
+
+-- numbers
+abbrev pub IsWithin : ℕ → ℕ → ℕ → Type 0
+IsWithin low high number = (low ≤ number) × (number ≤ high)
+
+within_sound : (above below : Bool) (low high number : ℕ) → nat_le low number ≡ above → nat_le number high ≡ below
+    → IfSome (if above && below then Some number else None) (IsWithin low high)
+within_sound true true low high number above below = (leb-true low number above, leb-true number high below)
+within_sound true false low high number above below = tt
+within_sound false right low high number above below = tt
+
+found_within : (low high : ℕ) (found : Option ℕ) → IfSome (option_and_then (within low high) found) (IsWithin low high)
+found_within low high None = tt
+found_within low high (Some number) = within_sound (nat_le low number) (nat_le number high) low high number refl refl
+
+number_sound : (low high : ℕ) (word : List ℕ) → IfSome (number_within low high word) (IsWithin low high)
+unfolding number_within
+number_sound low high word = found_within low high (whole_of word)
+
+built_sound : (small : Bool) (number : ℕ) → nat_le number 2 ≡ small → IsWithin 1 8 number → IfOk (if small then Ok number else Err NotBuilt) (IsWithin 1 2)
+built_sound true number small range = (range.0, leb-true number 2 small)
+built_sound false number small range = tt
+
+channel_sound : (word : List ℕ) → IfOk (item.channel_of word) (IsWithin 1 2)
+unfolding item.channel_of
+channel_sound word =
+    then_ok (IsWithin 1 8) (IsWithin 1 2) (or_code OutOfRange (number_within 1 8 word)) item.built_channel
+      (or_ok (IsWithin 1 8) OutOfRange (number_within 1 8 word) (number_sound 1 8 word))
+      (λ number range. built_sound (nat_le number 2) number refl range)
+
+zone_sound : (word : List ℕ) → IfOk (item.zone_of word) (IsWithin 1 32)
+unfolding item.zone_of
+zone_sound word = or_ok (IsWithin 1 32) OutOfRange (number_within 1 32 word) (number_sound 1 32 word)
+
+-- lengths
+reach_by : (near : Bool) (z : ℤ) → nat_le (unsigned_abs z) 10000000 ≡ near → IfSome (if near then Some z else None) IsInReach
+reach_by true z near = leb-true (unsigned_abs z) 10000000 near
+reach_by false z near = tt
+
+reach_of : (millionths : Option ℤ) → IfSome (option_and_then (λ m. in_reach (half_away m 1000)) millionths) IsInReach
+unfolding in_reach
+reach_of None = tt
+reach_of (Some m) = reach_by (nat_le (unsigned_abs (half_away m 1000)) 10000000) (half_away m 1000) refl
+
+size_by : (size : Bool) (text : List ℕ) → IfSome (if size then option_and_then (λ m. in_reach (half_away m 1000)) (number_of text) else None) IsInReach
+size_by true text = reach_of (number_of text)
+size_by false text = tt
+
+size_sound : (text : List ℕ) → IfSome (size_of text) IsInReach
+unfolding size_of
+size_sound text = size_by (is_size text) text
+
+abs_neg : (z : ℤ) → unsigned_abs (neg_ℤ z) ≡ unsigned_abs z
+abs_neg (pos zero) = refl
+abs_neg (pos (suc n)) = refl
+abs_neg (negsuc n) = refl
+
+negative_sound : (size : Option ℤ) → IfSome size IsInReach → IfSome (option_map neg_ℤ size) IsInReach
+negative_sound None near = tt
+negative_sound (Some z) near = rw (abs_neg z) near
+
+signed_by : (minus plus : Bool) (sign : ℕ) (text : List ℕ)
+    → IfSome (if minus then option_map neg_ℤ (size_of text) else if plus then size_of text else size_of (sign ∷ text)) IsInReach
+signed_by true plus sign text = negative_sound (size_of text) (size_sound text)
+signed_by false true sign text = size_sound text
+signed_by false false sign text = size_sound (sign ∷ text)
+
+signed_sound : (word : List ℕ) → IfSome (signed_size_of word) IsInReach
+unfolding signed_size_of
+signed_sound [] = size_sound []
+signed_sound (sign ∷ text) = signed_by (sign == 45) (sign == 43) sign text
+
+length_sound : (word : List ℕ) → IfOk (length_of word) IsInReach
+unfolding length_of
+length_sound word = or_ok IsInReach OutOfRange (signed_size_of word) (signed_sound word)
+
+-- job lines
+abbrev pub IsSoundSide : NamedSide → Type 0
+IsSoundSide side = IsSoundRange side.lo side.hi
+
+range_by : (ordered : Bool) (carrier : Option (AxisName × Bool)) (lo hi : ℤ) → int_le lo hi ≡ ordered → IsInReach lo → IsInReach hi
+    → IfOk (if ordered then Ok (record { carrier = carrier; lo = lo; hi = hi }) else Err OutOfRange) IsSoundSide
+range_by true carrier lo hi ordered low high = record { ordered = search (rules, ordered); low = low; high = high }
+range_by false carrier lo hi ordered low high = tt
+
+side_sound : (carrier lo hi : List ℕ) → IfOk (item.named_side_of carrier lo hi) IsSoundSide
+unfolding item.named_side_of
+side_sound carrier lo hi =
+    then_any IsSoundSide (item.carrier_of carrier) _ (λ c.
+      then_ok IsInReach IsSoundSide (length_of lo) _ (length_sound lo) (λ l low.
+        then_ok IsInReach IsSoundSide (length_of hi) _ (length_sound hi) (λ h high. range_by (int_le l h) c l h refl low high)))
+
+-- what holds of a job line
+abbrev pub IsSoundItem : Item → Type 0
+IsSoundItem (Channel channel program) = IsWithin 1 2 channel
+IsSoundItem (Axis name owner at) = IsInReach at
+IsSoundItem (Geo channel slot axis) = ⊤
+IsSoundItem (Zone zone group holder x y z) = IsWithin 1 32 zone × IsWithin 1 32 group × IsSoundSide x × IsSoundSide y × IsSoundSide z
+
+channel_item_sound : (channel program start : List ℕ) → IfOk (item.channel_item_of channel program start) IsSoundItem
+unfolding item.channel_item_of
+channel_item_sound channel program start =
+    if_ok IsSoundItem (bytes_eq start (codes "START")) _ _
+      (λ _. then_ok (IsWithin 1 2) IsSoundItem (item.channel_of channel) _ (channel_sound channel) (λ number range. range)) tt
+
+channel_line_sound : (args : List (List ℕ)) → IfOk (item.channel_line args) IsSoundItem
+unfolding item.channel_line
+channel_line_sound (channel ∷ program ∷ start ∷ []) = channel_item_sound channel program start
+channel_line_sound args = tt
+
+axis_item_sound : (name owner at : List ℕ) → IfOk (item.axis_item_of name owner at) IsSoundItem
+unfolding item.axis_item_of
+axis_item_sound name owner at =
+    then_any IsSoundItem (item.axis_name_of name) _ (λ n. then_any IsSoundItem (item.owner_of owner) _ (λ o.
+      then_ok IsInReach IsSoundItem (length_of at) _ (length_sound at) (λ z near. near)))
+
+axis_line_sound : (args : List (List ℕ)) → IfOk (item.axis_line args) IsSoundItem
+unfolding item.axis_line
+axis_line_sound (name ∷ owner ∷ at ∷ []) = axis_item_sound name owner at
+axis_line_sound args = tt
+
+geo_item_sound : (channel slot axis : List ℕ) → IfOk (item.geo_item_of channel slot axis) IsSoundItem
+unfolding item.geo_item_of
+geo_item_sound channel slot axis =
+    then_any IsSoundItem (item.channel_of channel) _ (λ c. then_any IsSoundItem (item.slot_of slot) _ (λ s.
+      then_any IsSoundItem (item.axis_name_of axis) _ (λ a. tt)))
+
+geo_line_sound : (args : List (List ℕ)) → IfOk (item.geo_line args) IsSoundItem
+unfolding item.geo_line
+geo_line_sound (channel ∷ slot ∷ axis ∷ []) = geo_item_sound channel slot axis
+geo_line_sound args = tt
+
+zone_item_sound : (zone group holder state cx lx hx cy ly hy cz lz hz : List ℕ)
+    → IfOk (item.zone_item_of zone group holder state cx lx hx cy ly hy cz lz hz) IsSoundItem
+unfolding item.zone_item_of
+zone_item_sound zone group holder state cx lx hx cy ly hy cz lz hz =
+    then_any IsSoundItem (item.state_of state) _ (λ on.
+      then_ok (IsWithin 1 32) IsSoundItem (item.zone_of zone) _ (zone_sound zone) (λ z zone_range.
+      then_ok (IsWithin 1 32) IsSoundItem (item.zone_of group) _ (zone_sound group) (λ g group_range.
+      then_any IsSoundItem (item.owner_of holder) _ (λ h.
+      then_ok IsSoundSide IsSoundItem (item.named_side_of cx lx hx) _ (side_sound cx lx hx) (λ x x_range.
+      then_ok IsSoundSide IsSoundItem (item.named_side_of cy ly hy) _ (side_sound cy ly hy) (λ y y_range.
+      then_ok IsSoundSide IsSoundItem (item.named_side_of cz lz hz) _ (side_sound cz lz hz) (λ w w_range.
+        (zone_range, group_range, x_range, y_range, w_range))))))))
+
+zone_line_sound : (args : List (List ℕ)) → IfOk (item.zone_line args) IsSoundItem
+unfolding item.zone_line
+zone_line_sound (zone ∷ group ∷ holder ∷ state ∷ cx ∷ lx ∷ hx ∷ cy ∷ ly ∷ hy ∷ cz ∷ lz ∷ hz ∷ []) = zone_item_sound zone group holder state cx lx hx cy ly hy cz lz hz
+zone_line_sound args = tt
+
+job_line_sound : (args : List (List ℕ)) → IfOk (item.job_line args) IsSoundItem
+unfolding item.job_line
+job_line_sound (version ∷ []) = tt
+job_line_sound args = tt
+
+item_sound : (kind : List ℕ) (args : List (List ℕ)) → IfOk (item.item_of kind args) IsSoundItem
+unfolding item.item_of
+item_sound kind args =
+    if_ok IsSoundItem (bytes_eq kind (codes "CHANNEL")) _ _ (λ _. channel_line_sound args)
+      (if_ok IsSoundItem (bytes_eq kind (codes "AXIS")) _ _ (λ _. axis_line_sound args)
+      (if_ok IsSoundItem (bytes_eq kind (codes "GEO")) _ _ (λ _. geo_line_sound args)
+      (if_ok IsSoundItem (bytes_eq kind (codes "ZONE")) _ _ (λ _. zone_line_sound args)
+      (if_ok IsSoundItem (bytes_eq kind (codes "JOB")) _ _ (λ _. job_line_sound args)
+      (if_ok IsSoundItem (item.is_later_kind kind) _ _ (λ _. tt) tt)))))
+
+-- blocks
+abbrev pub IsSoundAddress : Address → Type 0
+IsSoundAddress (X x) = IsInReach x
+IsSoundAddress (Z z) = IsInReach z
+IsSoundAddress other = ⊤
+
+-- the ends of a block are in reach
+abbrev pub IsNear : Stmt → Type 0
+IsNear (Move x z) = IfSome x IsInReach × IfSome z IsInReach
+IsNear End = ⊤
+
+value_sound : (apart : Bool) (value : List ℕ) → IfOk (block.value_of apart value) IsInReach
+unfolding block.value_of
+value_sound true value = tt
+value_sound false value = length_sound value
+
+number_address_sound : (value : List ℕ) → IfOk (block.number_address value) IsSoundAddress
+unfolding block.number_address
+number_address_sound value = if_ok IsSoundAddress (is_digits 1 8 value) _ _ (λ _. tt) tt
+
+end_address_sound : (value : List ℕ) → IfOk (block.end_address value) IsSoundAddress
+unfolding block.end_address
+end_address_sound value = if_ok IsSoundAddress (bytes_eq value (codes "30")) _ _ (λ _. tt) tt
+
+line_address_sound : (value : List ℕ) → IfOk (block.line_address value) IsSoundAddress
+unfolding block.line_address
+line_address_sound value = if_ok IsSoundAddress (bytes_eq value (codes "0") || bytes_eq value (codes "1")) _ _ (λ _. tt) tt
+
+address_by_sound : (letter : ℕ) (apart : Bool) (value : List ℕ) → IfOk (block.address_by letter apart value) IsSoundAddress
+unfolding block.address_by
+address_by_sound letter apart value =
+    if_ok IsSoundAddress (letter == 78) _ _ (λ _. number_address_sound value)
+      (if_ok IsSoundAddress (letter == 77) _ _ (λ _. end_address_sound value)
+      (if_ok IsSoundAddress (letter == 71) _ _ (λ _. line_address_sound value)
+      (if_ok IsSoundAddress (letter == 88) _ _ (λ _. then_ok IsInReach IsSoundAddress (block.value_of apart value) _ (value_sound apart value) (λ x near. near))
+      (if_ok IsSoundAddress (letter == 90) _ _ (λ _. then_ok IsInReach IsSoundAddress (block.value_of apart value) _ (value_sound apart value) (λ z near. near))
+      (if_ok IsSoundAddress (letter == 70) _ _ (λ _. then_any IsSoundAddress (block.value_of apart value) _ (λ f. tt)) tt)))))
+
+address_from_sound : (letter : ℕ) (apart : Bool) (words : List (List ℕ)) → IfOk (block.address_from letter apart words) IsSoundAddress
+unfolding block.address_from
+address_from_sound letter apart (value ∷ []) = address_by_sound letter apart value
+address_from_sound letter apart words = tt
+
+address_sound : (part : List ℕ) → IfOk (block.address_of part) IsSoundAddress
+unfolding block.address_of
+address_sound [] = tt
+address_sound (letter ∷ behind) = address_from_sound letter (block.begins_blank behind) (words behind)
+
+abbrev AllSound : List Address → Type 0
+AllSound addresses = AllByRecursion IsSoundAddress addresses
+
+with_first_sound : (address : Address) (more : Result (List Address) Code) → IsSoundAddress address → IfOk more AllSound → IfOk (block.with_first address more) AllSound
+with_first_sound address (Ok addresses) near rest = (near, rest)
+with_first_sound address (Err code) near rest = tt
+
+addresses_sound : (parts : List (List ℕ)) → IfOk (block.addresses_of parts) AllSound
+addresses_sound [] = tt
+addresses_sound (part ∷ parts) =
+    if_ok AllSound (is_visible part) _ _
+      (λ _. then_ok IsSoundAddress AllSound (block.address_of part) _ (address_sound part) (λ a near. with_first_sound a (block.addresses_of parts) near (addresses_sound parts)))
+      (addresses_sound parts)
+
+motion_sound : (addresses : List Address) → AllSound addresses → IfOk (block.motion_of addresses) IsNear
+unfolding block.motion_of
+motion_sound (X x ∷ []) near = (near.0, tt)
+motion_sound (X x ∷ Feed ∷ []) near = (near.0, tt)
+motion_sound (Z z ∷ []) near = (tt, near.0)
+motion_sound (Z z ∷ Feed ∷ []) near = (tt, near.0)
+motion_sound (X x ∷ Z z ∷ []) near = (near.0, near.1.0)
+motion_sound (X x ∷ Z z ∷ Feed ∷ []) near = (near.0, near.1.0)
+motion_sound addresses near = tt
+
+body_sound : (addresses : List Address) → AllSound addresses → IfOk (block.body_of addresses) IsNear
+unfolding block.body_of
+body_sound (address.End ∷ []) near = tt
+body_sound (Line ∷ ends) near = motion_sound ends near.1
+body_sound addresses near = tt
+
+statement_sound : (addresses : List Address) → AllSound addresses → IfOk (block.statement_of addresses) IsNear
+unfolding block.statement_of
+statement_sound (Number ∷ body) near = body_sound body near.1
+statement_sound body near = body_sound body near
+
+block_sound : (text : List ℕ) → IfOk (block.block_of text) IsNear
+unfolding block.block_of
+block_sound text =
+    then_ok AllSound IsNear (block.addresses_of (block.cut_at_letters text)) block.statement_of (addresses_sound (block.cut_at_letters text)) statement_sound
+
+-- what holds of what a line says: a job line stands before the programs
+abbrev pub IsSoundReading : Bool → Reading → Type 0
+IsSoundReading in_programs (Entry item) = (in_programs ≡ false) × IsSoundItem item
+IsSoundReading in_programs (Step stmt) = IsNear stmt
+IsSoundReading in_programs other = ⊤
+
+entry_sound : (seen : Bool) (words : List (List ℕ)) → IfOk (reading.entry_of seen words) (IsSoundReading false)
+unfolding reading.entry_of
+entry_sound false words = tt
+entry_sound true [] = tt
+entry_sound true (kind ∷ args) = then_ok IsSoundItem (IsSoundReading false) (item.item_of kind args) _ (item_sound kind args) (λ i sound. (refl, sound))
+
+header_sound : (in_programs : Bool) (text : List ℕ) → IfOk (reading.header_reading text) (IsSoundReading in_programs)
+unfolding reading.header_reading
+header_sound in_programs text = then_any (IsSoundReading in_programs) (header_of (words text)) _ (λ name. tt)
+
+step_sound : (in_programs : Bool) (text : List ℕ) → IfOk (reading.step_reading text) (IsSoundReading in_programs)
+unfolding reading.step_reading
+step_sound in_programs text = then_ok IsNear (IsSoundReading in_programs) (block.block_of text) _ (block_sound text) (λ stmt near. near)
+
+form_sound : (seen in_programs percent : Bool) (text : List ℕ) → IfOk (reading.form_of seen in_programs percent text) (IsSoundReading in_programs)
+unfolding reading.form_of reading.entry_reading
+form_sound seen in_programs true text = header_sound in_programs text
+form_sound seen true false text = step_sound true text
+form_sound seen false false text = entry_sound seen (words text)
+
+token_sound : (seen in_programs : Bool) (raw : List ℕ) → IfOk (reading.token_reading seen in_programs raw) (IsSoundReading in_programs)
+unfolding reading.token_reading
+token_sound seen in_programs raw =
+    if_ok (IsSoundReading in_programs) (has_token raw) _ _ (λ _. form_sound seen in_programs (begins_with_percent raw) (text_of raw)) tt
+
+unless_sound : (in_programs : Bool) (broken : Option Code) (read : Result Reading Code) → IfOk read (IsSoundReading in_programs)
+    → IfOk (reading.unless_broken broken read) (IsSoundReading in_programs)
+unless_sound in_programs None read sound = sound
+unless_sound in_programs (Some code) read sound = tt
+
+pub reading_sound : (seen in_programs : Bool) (raw : List ℕ) → IfOk (reading.reading_of seen in_programs raw) (IsSoundReading in_programs)
+unfolding reading.reading_of
+reading_sound seen in_programs raw =
+    if_ok (IsSoundReading in_programs) (nat_lt 512 (length raw)) _ _ (λ _. tt)
+      (unless_sound in_programs (reading.byte_rule (text_of raw)) (reading.token_reading seen in_programs raw) (token_sound seen in_programs raw))

@@ -1,0 +1,105 @@
+-- What holds of every accepted job.
+use Rattle.std.specs.Prelude.{◌≡◌, ◌≢◌, ℕ, ◌<◌, ◌≤◌, ℤ, ◌≤ℤ◌, unsigned_abs, true, ⊤, List, [], ◌∷◌, ◌++◌, length, slice_get, Option, Some, None, IfSome, IsSomeAnd}
+use Rattle.std.specs.List.{All, Any, AllPairs}
+use Rattle.std.specs.Option.{option_and_then}
+use Rattle.tape_job.specs.declared.job.AxisLine.{AxisLine}
+use Rattle.tape_job.specs.declared.job.Block.{Block}
+use Rattle.tape_job.specs.declared.job.ChannelLine.{ChannelLine}
+use Rattle.tape_job.specs.declared.job.GeoLine.{GeoLine}
+use Rattle.tape_job.specs.declared.job.Side.{Side}
+use Rattle.tape_job.specs.declared.job.Stmt.{Stmt}
+use Rattle.tape_job.specs.declared.job.Stmt.TheVariants.{Move, End}
+use Rattle.tape_job.specs.declared.job.ZoneLine.{ZoneLine}
+use Rattle.tape_job.specs.Job.{JobView, ProgramView}
+
+-- at most 10,000 millimetres in size
+abbrev pub IsInReach : ℤ → Type 0
+IsInReach at = unsigned_abs at ≤ 10000000
+
+-- the channel has a CHANNEL line
+abbrev pub IsDeclared : JobView → ℕ → Type 0
+IsDeclared job channel = Any (λ line. line.channel ≡ channel) job.channels
+
+-- the channel that owns an axis at the start, or none where there is no such axis or it is free
+unfoldable pub first_owner : JobView → ℕ → Option ℕ
+first_owner job axis = option_and_then (λ line. line.owner) (slice_get job.axes axis)
+
+abbrev pub HaveOtherNames : AxisLine → AxisLine → Type 0
+HaveOtherNames line other = line.letter ≡ other.letter → line.number ≢ other.number
+
+-- two lines of one channel have other slots and other axes
+abbrev pub HaveOtherSlots : GeoLine → GeoLine → Type 0
+HaveOtherSlots line other = line.channel ≡ other.channel → (line.slot ≢ other.slot) × (line.axis ≢ other.axis)
+
+-- a side stands still, or an axis of this owner carries it
+abbrev pub IsCarriedBy : JobView → Option ℕ → Side → Type 0
+IsCarriedBy job owner side = IfSome side.carrier (λ carrier. first_owner job carrier.0 ≡ owner)
+
+-- no axis carries both sides
+abbrev pub HaveOtherCarriers : Side → Side → Type 0
+HaveOtherCarriers side other = IfSome side.carrier (λ carrier. IfSome other.carrier (λ second. carrier.0 ≢ second.0))
+
+-- the range of a side
+pub record IsSoundRange (lo hi : ℤ) : Type 0 where
+  pub ordered : lo ≤ℤ hi
+  pub low : IsInReach lo
+  pub high : IsInReach hi
+
+-- a zone that is on, with a number and a group from 1 to 32, and three directions, carried by different axes of its holder
+pub record IsSoundZone (job : JobView) (zone : ZoneLine) : Type 0 where
+  pub low_number : 1 ≤ zone.zone
+  pub high_number : zone.zone ≤ 32
+  pub low_group : 1 ≤ zone.group
+  pub high_group : zone.group ≤ 32
+  pub active : zone.on ≡ true
+  pub held : IsSomeAnd zone.holder (IsDeclared job)
+  pub directions : length zone.sides ≡ 3
+  pub carried : All (IsCarriedBy job zone.holder) zone.sides
+  pub carriers : AllPairs HaveOtherCarriers zone.sides
+  pub ranges : All (λ side. IsSoundRange side.lo side.hi) zone.sides
+
+-- each channel that has the program has the slot
+abbrev pub HasSlot : JobView → List ℕ → ℕ → Type 0
+HasSlot job name slot = All (λ line. line.program ≡ Some name → Any (λ g. (g.channel ≡ line.channel) × (g.slot ≡ slot)) job.geo) job.channels
+
+-- an end in reach, in a slot that each channel with the program has
+abbrev pub IsSoundEnd : JobView → List ℕ → ℕ → ℤ → Type 0
+IsSoundEnd job name slot at = IsInReach at × HasSlot job name slot
+
+abbrev pub IsSoundStatement : JobView → List ℕ → Stmt → Type 0
+IsSoundStatement job name (Move x z) = IfSome x (IsSoundEnd job name 0) × IfSome z (IsSoundEnd job name 2)
+IsSoundStatement job name End = ⊤
+
+-- the last block and no other is the program end
+pub record EndsOnce (blocks : List Block) : Type 0 where
+  pub motions : List Block
+  pub end : Block
+  pub all : blocks ≡ motions ++ end ∷ []
+  pub is_end : end.stmt ≡ End
+  pub moves : All (λ block. block.stmt ≢ End) motions
+
+-- a program of 1 to 900 blocks
+pub record IsSoundProgram (job : JobView) (name : List ℕ) (program : ProgramView) : Type 0 where
+  pub few : length program.blocks ≤ 900
+  pub ends : EndsOnce program.blocks
+  pub statements : All (λ block. IsSoundStatement job name block.stmt) program.blocks
+
+pub record IsSoundJob (job : JobView) : Type 0 where
+  pub channel_numbers : AllPairs (λ line other. line.channel ≢ other.channel) job.channels
+  pub low_channels : All (λ line. 1 ≤ line.channel) job.channels
+  pub high_channels : All (λ line. line.channel ≤ 2) job.channels
+  pub starting : All (λ line. line.starts ≡ true) job.channels
+  pub selected : All (λ line. IsSomeAnd line.program (λ name. Any (λ program. program.0 ≡ name) job.programs)) job.channels
+  pub few_axes : length job.axes ≤ 16
+  pub axis_names : AllPairs HaveOtherNames job.axes
+  pub owners : All (λ line. IsSomeAnd line.owner (IsDeclared job)) job.axes
+  pub positions : All (λ line. IsInReach line.at) job.axes
+  pub slot_numbers : AllPairs HaveOtherSlots job.geo
+  pub slot_axes : All (λ g. g.axis < length job.axes) job.geo
+  pub slots : All (λ g. first_owner job g.axis ≡ Some g.channel) job.geo
+  pub zone_numbers : AllPairs (λ zone other. zone.zone ≢ other.zone) job.zones
+  pub zone_holders : AllPairs (λ zone other. zone.holder ≢ other.holder) job.zones
+  pub zones : All (IsSoundZone job) job.zones
+  pub few_programs : length job.programs ≤ 256
+  pub program_names : AllPairs (λ program other. program.0 ≢ other.0) job.programs
+  pub programs : All (λ program. IsSoundProgram job program.0 program.1) job.programs

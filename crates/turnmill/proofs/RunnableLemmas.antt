@@ -1,0 +1,22 @@
+-- An accepted job can be run.
+use Rattle.std.proofs.Common.{◌≡◌, ℕ, ℤ, ◌<◌, All, List, [], ◌∷◌, Option, None, Some, IfSome, length}
+use Rattle.tape_job.specs.Job.{JobView, ProgramView}
+use Rattle.tape_job.specs.SoundJob.{IsSoundJob, IsSoundProgram, IsSoundStatement, IsSoundEnd}
+use Rattle.tape_job.specs.declared.job.Stmt.{Stmt}
+use Rattle.tape_job.specs.declared.job.Stmt.TheVariants.{Move, End}
+use Rattle.swept_boxes.specs.Motions.{IsInRange}
+use Rattle.turnmill.specs.Channels.{HasFewAxes, IsInReach, IsRunnable}
+
+end_in_range : (job : JobView) (name : List ℕ) (slot : ℕ) (o : Option ℤ) → IfSome o (IsSoundEnd job name slot) → IfSome o IsInRange
+end_in_range job name slot None h = tt
+end_in_range job name slot (Some at) h = h.0
+
+statement_in_reach : (job : JobView) (name : List ℕ) (stmt : Stmt) → IsSoundStatement job name stmt → IsInReach stmt
+statement_in_reach job name (Move x z) h = (end_in_range job name 0 x h.0, end_in_range job name 2 z h.1)
+statement_in_reach job name End h = tt
+
+pub runnable : (job : JobView) → IsSoundJob job → IsRunnable job
+runnable job sound = record {
+  axes = record { few = sound.few_axes; slots = sound.slot_axes };
+  starts = sound.positions;
+  values = λ k program within j block inside. statement_in_reach job _ _ ((sound.programs k program within).statements j block inside) }
