@@ -1,5 +1,5 @@
 -- The refusals of an input have codes of the table.
-use Rattle.std.proofs.Common.{ℕ, Bool, true, false, if◌then◌else◌, List, [], ◌∷◌, ◌++◌, Option, None, Some, IfSome, IfErr}
+use Rattle.std.proofs.Common.{ℕ, Bool, true, false, if◌then◌else◌, List, [], ◌∷◌, ◌++◌, Option, None, Some, IfSome, IfErr, refl}
 use Rattle.std.specs.Option.{option_map, option_or, option_and_then}
 use Rattle.nc_faults.specs.Texts.{IsRefusalCode, refusal_texts}
 use Rattle.nc_faults.specs.declared.Refusal.{Refusal}
@@ -19,8 +19,8 @@ HasCode refused = IfSome refused (λ refusal. IsRefusalCode refusal.code)
 
 code_shown : (code : Code) (line : ℕ) → IsRefusalCode (refusal code line).code
 unfolding refusal shown IsRefusalCode refusal_texts
-code_shown NoJobLine line = tt
-code_shown _ line = tt
+code_shown NoJobLine line = refl
+code_shown _ line = refl
 
 code_map : {A : Type 0} (code : A → Code) (line : A → ℕ) (o : Option A) → HasCode (option_map (λ a. refusal (code a) (line a)) o)
 unfolding HasCode
@@ -37,9 +37,9 @@ unfolding HasCode
 code_then next has None = tt
 code_then next has (Some a) = has a
 
-code_if : (test : Bool) (yes no : Option Refusal) → HasCode yes → HasCode no → HasCode (if test then yes else no)
-code_if true yes no has has' = has
-code_if false yes no has has' = has'
+code_if : (test : Bool) (first second : Option Refusal) → HasCode first → HasCode second → HasCode (if test then first else second)
+code_if true first second has has' = has
+code_if false first second has has' = has'
 
 code_none : HasCode None
 unfolding HasCode

@@ -12,4 +12,3 @@ pub mod Rules
 pub mod SoundJob
 pub mod Steps
 pub mod Told
-pub mod SoundJob
