@@ -62,8 +62,8 @@ unfolding shown_box boxes_during
 shown_moving zone line place from item began at [] = refl
 shown_moving zone line place from item began at (next ∷ items) =
     after_moving (moves_zone zone next) (shown_box zone line) _ _ (moving_box zone item began) (moving_box zone next at) (moving_boxes zone (after next at) items)
-      (ap (λ (boxes : List ZoneBox). moving_box zone item began ∷ boxes) (shown_moving zone line (place + 1) place next at (after next at) items))
-      (shown_moving zone line (place + 1) from item began (after next at) items)
+    (ap (λ (boxes : List ZoneBox). moving_box zone item began ∷ boxes) (shown_moving zone line (place + 1) place next at (after next at) items))
+    (shown_moving zone line (place + 1) from item began (after next at) items)
 
 shown_waiting : (zone : ZoneLine) (line place from : ℕ) (began at : ℕ → ℤ) (items : List Item)
     → map (shown_box zone line) (walk zone place (Waiting from began) at items) ≡ or_standing (moving_boxes zone at items) (standing_box zone line began)
@@ -71,8 +71,8 @@ unfolding shown_box boxes_during
 shown_waiting zone line place from began at [] = refl
 shown_waiting zone line place from began at (next ∷ items) =
     after_waiting (moves_zone zone next) (shown_box zone line) _ _ (moving_box zone next at) (standing_box zone line began) (moving_boxes zone (after next at) items)
-      (shown_moving zone line (place + 1) from next at (after next at) items)
-      (shown_waiting zone line (place + 1) from began (after next at) items)
+    (shown_moving zone line (place + 1) from next at (after next at) items)
+    (shown_waiting zone line (place + 1) from began (after next at) items)
 
 -- a list that is not empty, and one that is
 pub filled : (xs : List ZoneBox) (box : ZoneBox) → (length xs == 0) ≡ false → xs ≡ or_standing xs box

@@ -64,9 +64,9 @@ position_reach : (job : JobView) (channel : ℕ) (blocks : List Block) (axis : �
 unfolding position_after
 position_reach job channel blocks axis runnable reach =
     unwrap_kept IsInRange (last_or None (filter_map (λ block. programmed job channel block.stmt axis) blocks)) (start_position job axis)
-      (last_kept IsInRange (λ block. programmed job channel block.stmt axis) None blocks tt
-        (All-weaker (λ block. IsInReach block.stmt) (λ block. IfSome (programmed job channel block.stmt axis) IsInRange) (λ block here. programmed_reach job channel block.stmt axis here) blocks reach))
-      (start_reach job axis runnable)
+    (last_kept IsInRange (λ block. programmed job channel block.stmt axis) None blocks tt
+    (All-weaker (λ block. IsInReach block.stmt) (λ block. IfSome (programmed job channel block.stmt axis) IsInRange) (λ block here. programmed_reach job channel block.stmt axis here) blocks reach))
+    (start_reach job axis runnable)
 
 -- ---- the ends of a motion
 
@@ -78,7 +78,7 @@ are_ends : (start : ℕ → ℤ) (end : ℕ → Option ℤ) (low n : ℕ) → ((
 are_ends start end low zero starts ends = All-nil (IsEnd low (low + 0))
 are_ends start end low (suc n) starts ends =
     by_end (end low) (ends low)
-      (All-weaker (IsEnd (low + 1) (low + 1 + n)) (IsEnd low (low + suc n)) (λ e here. (omega arith, omega arith, here.2, here.3)) (ends_between start end (low + 1) n) (are_ends start end (low + 1) n starts ends))
+    (All-weaker (IsEnd (low + 1) (low + 1 + n)) (IsEnd low (low + suc n)) (λ e here. (omega arith, omega arith, here.2, here.3)) (ends_between start end (low + 1) n) (are_ends start end (low + 1) n starts ends))
   where
     by_end : (o : Option ℤ) → IfSome o IsInRange → All (IsEnd low (low + suc n)) (ends_between start end (low + 1) n)
         → All (IsEnd low (low + suc n)) (cons_option (option_map (λ to. (low, start low, to)) o) (ends_between start end (low + 1) n))
@@ -98,7 +98,7 @@ ends_once start end low (suc n) starts ends = by_end (end low) (are_ends start e
     by_end None later rest = rest
     by_end (Some to) later rest =
         AllPairs-cons Differ (low, start low, to) (ends_between start end (low + 1) n)
-          (All-weaker (IsEnd (low + 1) (low + 1 + n)) (Differ (low, start low, to)) (λ e here. λ same. absurd (omega arith)) (ends_between start end (low + 1) n) later) rest
+        (All-weaker (IsEnd (low + 1) (low + 1 + n)) (Differ (low, start low, to)) (λ e here. λ same. absurd (omega arith)) (ends_between start end (low + 1) n) later) rest
 
 -- ---- the motions
 
@@ -133,8 +133,8 @@ items_after_fit job channel before [] runnable reach rest = All-nil IsFit
 items_after_fit job channel before (block ∷ blocks) runnable reach rest =
     let here : IsInReach block.stmt = All-head (λ b. IsInReach b.stmt) block blocks rest in
     cons_fit (item_from job channel (position_after job channel before) block) (items_after job channel (before ++ block ∷ []) blocks)
-      (item_fit job channel before block runnable reach here)
-      (items_after_fit job channel (before ++ block ∷ []) blocks runnable (All-push (λ b. IsInReach b.stmt) before block reach here) (All-tail (λ b. IsInReach b.stmt) block blocks rest))
+    (item_fit job channel before block runnable reach here)
+    (items_after_fit job channel (before ++ block ∷ []) blocks runnable (All-push (λ b. IsInReach b.stmt) before block reach here) (All-tail (λ b. IsInReach b.stmt) block blocks rest))
 
 -- the blocks that a channel executes are in reach
 blocks_reach : (job : JobView) (line : ChannelLine) → IsRunnable job → AreInReach (blocks_of job line)

@@ -66,7 +66,7 @@ find-flat_map : {X Y Z : Type 0} (g : Y → Z) (test : Y → Bool) (f : X → Li
 find-flat_map g test f [] = refl
 find-flat_map g test f (x ∷ xs) =
     ap (λ r. option_map g r) (find-append test (f x) (flat_map f xs)) ∙ option_map-or g (find test (f x)) (find test (flat_map f xs))
-      ∙ ap (λ r. option_or (option_map g (find test (f x))) r) (find-flat_map g test f xs)
+    ∙ ap (λ r. option_or (option_map g (find test (f x))) r) (find-flat_map g test f xs)
 
 cond-map : {X Y : Type 0} (b : Bool) (g : X → Y) (x : X) (r : Option X) → option_map g (cond b (Some x) r) ≡ cond b (Some (g x)) (option_map g r)
 cond-map true g x r = refl
@@ -104,7 +104,7 @@ pair_by_covers : (job : JobView) (zone other : ZoneLine) (s t : Stretch) (l r : 
 unfolding pair_meets
 pair_by_covers job zone other s t l r =
     rw (one_piece zone s.line l, one_piece other t.line r)
-      (or_false (boxes_meet (shown_box zone s.line l).cover (shown_box other t.line r).cover || false) ∙ or_false (boxes_meet (shown_box zone s.line l).cover (shown_box other t.line r).cover))
+    (or_false (boxes_meet (shown_box zone s.line l).cover (shown_box other t.line r).cover || false) ∙ or_false (boxes_meet (shown_box zone s.line l).cover (shown_box other t.line r).cover))
 
 -- and named by the lines that they show
 name_by_line : (zone : ZoneLine) (s : Stretch) (c : ℕ) (box : PlaceBox) → s.channel ≡ Some c
@@ -136,34 +136,34 @@ found_step false names pair rest name box boxes h k = k
 -- the first of some boxes that meets a box, and how the two are named
 touched_by_covers : (job : JobView) (zone other : ZoneLine) (s t : Stretch) (c d : ℕ) → s.channel ≡ Some c → t.channel ≡ Some d → (l : PlaceBox) (rs : List PlaceBox)
     → option_map names_of (find (pair_meets job) (map (pair_of zone s l other t) rs))
-      ≡ option_map (λ (box : ZoneBox). named_by zone s other t ((shown_box zone s.line l).line, box.line)) (find (λ box. boxes_meet (shown_box zone s.line l).cover box.cover) (map (shown_box other t.line) rs))
+    ≡ option_map (λ (box : ZoneBox). named_by zone s other t ((shown_box zone s.line l).line, box.line)) (find (λ box. boxes_meet (shown_box zone s.line l).cover box.cover) (map (shown_box other t.line) rs))
 touched_by_covers job zone other s t c d e k l [] = refl
 touched_by_covers job zone other s t c d e k l (r ∷ rs) =
     rw (pair_by_covers job zone other s t l r)
-      (found_step (boxes_meet (shown_box zone s.line l).cover (shown_box other t.line r).cover) (names_of (pair_of zone s l other t r)) (pair_of zone s l other t r) _
-        (λ (box : ZoneBox). named_by zone s other t ((shown_box zone s.line l).line, box.line)) (shown_box other t.line r) _
-        (names_by_lines zone other s t c d e k l r) (touched_by_covers job zone other s t c d e k l rs))
+    (found_step (boxes_meet (shown_box zone s.line l).cover (shown_box other t.line r).cover) (names_of (pair_of zone s l other t r)) (pair_of zone s l other t r) _
+    (λ (box : ZoneBox). named_by zone s other t ((shown_box zone s.line l).line, box.line)) (shown_box other t.line r) _
+    (names_by_lines zone other s t c d e k l r) (touched_by_covers job zone other s t c d e k l rs))
 
 touched_by_lines : (job : JobView) (zone other : ZoneLine) (s t : Stretch) (c d : ℕ) → s.channel ≡ Some c → t.channel ≡ Some d → (l : PlaceBox)
     → option_map names_of (find (pair_meets job) (map (pair_of zone s l other t) t.boxes))
-      ≡ option_map (named_by zone s other t) (first_touched (map (shown_box other t.line) t.boxes) (shown_box zone s.line l))
+    ≡ option_map (named_by zone s other t) (first_touched (map (shown_box other t.line) t.boxes) (shown_box zone s.line l))
 unfolding first_touched
 touched_by_lines job zone other s t c d e k l =
     touched_by_covers job zone other s t c d e k l t.boxes
-      ∙ sym (option_map-map (named_by zone s other t) (λ (box : ZoneBox). let lines : ℕ × ℕ = ((shown_box zone s.line l).line, box.line) in lines)
-          (find (λ box. boxes_meet (shown_box zone s.line l).cover box.cover) (map (shown_box other t.line) t.boxes)))
+    ∙ sym (option_map-map (named_by zone s other t) (λ (box : ZoneBox). let lines : ℕ × ℕ = ((shown_box zone s.line l).line, box.line) in lines)
+    (find (λ box. boxes_meet (shown_box zone s.line l).cover box.cover) (map (shown_box other t.line) t.boxes)))
 
 -- the first two boxes of two stretches that meet
 first_by_covers : (job : JobView) (zone other : ZoneLine) (s t : Stretch) (c d : ℕ) → s.channel ≡ Some c → t.channel ≡ Some d
     → option_map names_of (find (pair_meets job) (box_pairs zone s other t))
-      ≡ option_map (named_by zone s other t) (first_lines (map (shown_box zone s.line) s.boxes) (map (shown_box other t.line) t.boxes))
+    ≡ option_map (named_by zone s other t) (first_lines (map (shown_box zone s.line) s.boxes) (map (shown_box other t.line) t.boxes))
 unfolding first_lines
 first_by_covers job zone other s t c d e k =
     let boxes : List ZoneBox = map (shown_box other t.line) t.boxes in
     find-flat_map names_of (pair_meets job) (λ (l : PlaceBox). map (pair_of zone s l other t) t.boxes) s.boxes
-      ∙ first_some-same (λ (l : PlaceBox). option_map names_of (find (pair_meets job) (map (pair_of zone s l other t) t.boxes))) (λ (l : PlaceBox). option_map (named_by zone s other t) (first_touched boxes (shown_box zone s.line l))) (touched_by_lines job zone other s t c d e k) s.boxes
-      ∙ sym (first_some-map (λ (box : ZoneBox). option_map (named_by zone s other t) (first_touched boxes box)) (shown_box zone s.line) s.boxes)
-      ∙ sym (map-first_some (named_by zone s other t) (first_touched boxes) (map (shown_box zone s.line) s.boxes))
+    ∙ first_some-same (λ (l : PlaceBox). option_map names_of (find (pair_meets job) (map (pair_of zone s l other t) t.boxes))) (λ (l : PlaceBox). option_map (named_by zone s other t) (first_touched boxes (shown_box zone s.line l))) (touched_by_lines job zone other s t c d e k) s.boxes
+    ∙ sym (first_some-map (λ (box : ZoneBox). option_map (named_by zone s other t) (first_touched boxes box)) (shown_box zone s.line) s.boxes)
+    ∙ sym (map-first_some (named_by zone s other t) (first_touched boxes) (map (shown_box zone s.line) s.boxes))
 
 -- ---- stretches that may overlap
 
@@ -218,12 +218,12 @@ overlap_is : (zone other : ZoneLine) (s t : Stretch) → IsHeld s → IsHeld t �
 unfolding may_overlap do_overlap shown_stretch
 overlap_is zone other s t p q =
     ap (λ (l : Option Event). open_at l t.first t.last s.first) p.ends
-      ∙ ap (λ (g : Option Event). open_at (last_of p.channel s.kind) g t.last s.first) q.begins
-      ∙ ap (λ (h : Option Event). open_at (last_of p.channel s.kind) (first_of q.channel t.kind) h s.first) q.ends
-      ∙ ap (λ (f : Option Event). open_at (last_of p.channel s.kind) (first_of q.channel t.kind) (last_of q.channel t.kind) f) p.begins
-      ∙ overlap_at p.channel q.channel s.kind t.kind
-      ∙ ap (λ (c : ℕ). not (c == q.channel) || same_kind s.kind t.kind) (sym (ap (λ (o : Option ℕ). unwrap_or o 0) p.held))
-      ∙ ap (λ (d : ℕ). not (unwrap_or s.channel 0 == d) || same_kind s.kind t.kind) (sym (ap (λ (o : Option ℕ). unwrap_or o 0) q.held))
+    ∙ ap (λ (g : Option Event). open_at (last_of p.channel s.kind) g t.last s.first) q.begins
+    ∙ ap (λ (h : Option Event). open_at (last_of p.channel s.kind) (first_of q.channel t.kind) h s.first) q.ends
+    ∙ ap (λ (f : Option Event). open_at (last_of p.channel s.kind) (first_of q.channel t.kind) (last_of q.channel t.kind) f) p.begins
+    ∙ overlap_at p.channel q.channel s.kind t.kind
+    ∙ ap (λ (c : ℕ). not (c == q.channel) || same_kind s.kind t.kind) (sym (ap (λ (o : Option ℕ). unwrap_or o 0) p.held))
+    ∙ ap (λ (d : ℕ). not (unwrap_or s.channel 0 == d) || same_kind s.kind t.kind) (sym (ap (λ (o : Option ℕ). unwrap_or o 0) q.held))
 
 open_step : (job : JobView) (b : Bool) (pairs : List (BoxPlace × BoxPlace)) (r : Option (PlaceName × PlaceName))
     → option_map names_of (find (pair_meets job) pairs) ≡ r → option_map names_of (find (pair_meets job) (cond b pairs [])) ≡ cond b r None
@@ -236,7 +236,7 @@ stretches_by_covers : (job : JobView) (zone other : ZoneLine) (s t : Stretch) �
 unfolding first_in_stretches shown_stretch
 stretches_by_covers job zone other s t p q =
     rw (overlap_is zone other s t p q)
-      (open_step job (do_overlap (shown_stretch zone s) (shown_stretch other t)) (box_pairs zone s other t) _ (first_by_covers job zone other s t p.channel q.channel p.held q.held))
+    (open_step job (do_overlap (shown_stretch zone s) (shown_stretch other t)) (box_pairs zone s other t) _ (first_by_covers job zone other s t p.channel q.channel p.held q.held))
 
 -- ---- zones
 
@@ -255,6 +255,7 @@ all_held job zone = by_holder zone.holder refl
     by_line : (c : ℕ) (o : Option ChannelLine) → AllHeld (option_map_or (λ line. stretches_from zone c 0 (spans_of job line)) o [])
     by_line c None = tt
     by_line c (Some line) = (record { channel = c; held = refl; begins = refl; ends = refl }, (record { channel = c; held = refl; begins = refl; ends = refl }, tt))
+
     by_holder : (h : Option ℕ) → zone.holder ≡ h → AllHeld (stretches_of job zone)
     by_holder None e = rw e tt
     by_holder (Some c) e = rw e (by_line c (channel_line job c))
@@ -267,13 +268,13 @@ zones_by_covers job zone other =
     let given : Stretch → Stretch → Option (PlaceName × PlaceName) = λ s t. option_map names_of (find (pair_meets job) (stretch_pairs own_clock zone s other t)) in
     let found : Stretch → Stretch → Option (PlaceName × PlaceName) = λ s t. first_in_stretches zone other (shown_stretch zone s) (shown_stretch other t) in
     find-flat_map names_of (pair_meets job) (λ (s : Stretch). flat_map (λ (t : Stretch). stretch_pairs own_clock zone s other t) (stretches_of job other)) (stretches_of job zone)
-      ∙ first_some-held (λ (s : Stretch). option_map names_of (find (pair_meets job) (flat_map (λ (t : Stretch). stretch_pairs own_clock zone s other t) (stretches_of job other))))
-          (λ (s : Stretch). first_some (first_in_stretches zone other (shown_stretch zone s)) (map (shown_stretch other) (stretches_of job other)))
-          (λ s held. find-flat_map names_of (pair_meets job) (λ (t : Stretch). stretch_pairs own_clock zone s other t) (stretches_of job other)
-            ∙ first_some-held (given s) (found s) (λ t later. stretches_by_covers job zone other s t held later) (stretches_of job other) (all_held job other)
-            ∙ sym (first_some-map (first_in_stretches zone other (shown_stretch zone s)) (shown_stretch other) (stretches_of job other)))
-          (stretches_of job zone) (all_held job zone)
-      ∙ sym (first_some-map (λ (view : StretchView). first_some (first_in_stretches zone other view) (map (shown_stretch other) (stretches_of job other))) (shown_stretch zone) (stretches_of job zone))
+    ∙ first_some-held (λ (s : Stretch). option_map names_of (find (pair_meets job) (flat_map (λ (t : Stretch). stretch_pairs own_clock zone s other t) (stretches_of job other))))
+    (λ (s : Stretch). first_some (first_in_stretches zone other (shown_stretch zone s)) (map (shown_stretch other) (stretches_of job other)))
+    (λ s held. find-flat_map names_of (pair_meets job) (λ (t : Stretch). stretch_pairs own_clock zone s other t) (stretches_of job other)
+    ∙ first_some-held (given s) (found s) (λ t later. stretches_by_covers job zone other s t held later) (stretches_of job other) (all_held job other)
+    ∙ sym (first_some-map (first_in_stretches zone other (shown_stretch zone s)) (shown_stretch other) (stretches_of job other)))
+    (stretches_of job zone) (all_held job zone)
+    ∙ sym (first_some-map (λ (view : StretchView). first_some (first_in_stretches zone other view) (map (shown_stretch other) (stretches_of job other))) (shown_stretch zone) (stretches_of job zone))
 
 filter_step : {X Y : Type 0} (f : X → Option Y) (b : Bool) (x : X) (xs : List X) → first_some f (cond b (x ∷ xs) xs) ≡ option_or (cond b (f x) None) (first_some f xs)
 filter_step f true x xs = refl
@@ -296,12 +297,12 @@ unfolding of_pair first_of_zones held_zone
 groups_by_covers job [] = refl
 groups_by_covers job (zone ∷ zones) =
     first_some-append (of_pair job) (map (λ (other : ZoneLine). (zone, other)) (filter (λ other. not (zone.group == other.group)) zones)) (pairs_by_group zones)
-      ∙ ap (λ (r : Option (PlaceName × PlaceName)). option_or r (first_some (of_pair job) (pairs_by_group zones)))
-          (first_some-map (of_pair job) (λ (other : ZoneLine). (zone, other)) (filter (λ other. not (zone.group == other.group)) zones)
-            ∙ first_some-filter (λ (other : ZoneLine). of_pair job (zone, other)) (λ other. not (zone.group == other.group)) zones
-            ∙ first_some-same (λ (other : ZoneLine). cond (not (zone.group == other.group)) (of_pair job (zone, other)) None) (λ (other : ZoneLine). first_of_zones (held_zone job zone) (held_zone job other)) (with_other zone) zones
-            ∙ sym (first_some-map (first_of_zones (held_zone job zone)) (held_zone job) zones))
-      ∙ ap (λ (r : Option (PlaceName × PlaceName)). option_or (first_some (first_of_zones (held_zone job zone)) (map (held_zone job) zones)) r) (groups_by_covers job zones)
+    ∙ ap (λ (r : Option (PlaceName × PlaceName)). option_or r (first_some (of_pair job) (pairs_by_group zones)))
+    (first_some-map (of_pair job) (λ (other : ZoneLine). (zone, other)) (filter (λ other. not (zone.group == other.group)) zones)
+    ∙ first_some-filter (λ (other : ZoneLine). of_pair job (zone, other)) (λ other. not (zone.group == other.group)) zones
+    ∙ first_some-same (λ (other : ZoneLine). cond (not (zone.group == other.group)) (of_pair job (zone, other)) None) (λ (other : ZoneLine). first_of_zones (held_zone job zone) (held_zone job other)) (with_other zone) zones
+    ∙ sym (first_some-map (first_of_zones (held_zone job zone)) (held_zone job) zones))
+    ∙ ap (λ (r : Option (PlaceName × PlaceName)). option_or (first_some (first_of_zones (held_zone job zone)) (map (held_zone job) zones)) r) (groups_by_covers job zones)
   where
     with_other : (zone other : ZoneLine) → cond (not (zone.group == other.group)) (of_pair job (zone, other)) None ≡ first_of_zones (held_zone job zone) (held_zone job other)
     with_other zone other = unless (zone.group == other.group) _ _ (zones_by_covers job zone other)
@@ -311,7 +312,7 @@ pub verdict_is : (job : JobView) → verdict_by (first_meeting (map (held_zone j
 unfolding verdict_of compared_pairs zone_pairs of_pair
 verdict_is job =
     ap verdict_by (sym (find-flat_map names_of (pair_meets job) (λ (pair : ZoneLine × ZoneLine). pairs_of_zones own_clock job pair.0 pair.1) (pairs_by_group (zones_in_order job)) ∙ groups_by_covers job (zones_in_order job)))
-      ∙ by_found (find (pair_meets job) (compared_pairs job)) refl
+    ∙ by_found (find (pair_meets job) (compared_pairs job)) refl
   where
     by_found : (o : Option (BoxPlace × BoxPlace)) → find (pair_meets job) (compared_pairs job) ≡ o → verdict_by (option_map names_of (find (pair_meets job) (compared_pairs job))) ≡ verdict_of job
     by_found None e = rw e refl
@@ -328,6 +329,7 @@ run_stretches job zone line at found stands = by_holder zone.holder refl found
   where
     ends : positions_in at ≡ position_after job line.channel (blocks_of job line)
     ends = fun_ext stands
+
     by_holder : (h : Option ℕ) → zone.holder ≡ h → option_and_then (channel_line job) h ≡ Some line
         → run_stretch job zone (run_of job line) ∷ end_stretch zone (run_of job line) (positions_in at) ∷ [] ≡ map (shown_stretch zone) (stretches_of job zone)
     by_holder None e k = cc

@@ -30,7 +30,7 @@ unfolding position_after
 position_after-push job channel blocks block axis =
     let h : Block → Option ℤ = λ b. programmed job channel b.stmt axis in
     rw (filter_map-append h blocks (block ∷ []), filter_map-one h block (h block) refl)
-      (last_or-push None (filter_map h blocks) (h block) (start_position job axis))
+    (last_or-push None (filter_map h blocks) (h block) (start_position job axis))
 
 and_false : (a b : Bool) → (a && (b && false)) ≡ false
 and_false true true = refl
@@ -47,7 +47,7 @@ other_axis a b x axis n low high = elim (eqb_tells x axis) [
 slot_within : (channel slot axis n : ℕ) (geo : List GeoLine) → All (λ g. g.axis < n) geo → n ≤ axis → list_any (λ g. g.channel == channel && (g.slot == slot && g.axis == axis)) geo ≡ false
 slot_within channel slot axis n geo within beyond =
     list_any_none (λ g. g.channel == channel && (g.slot == slot && g.axis == axis)) geo
-      (λ k d h. other_axis ((get_or geo k d).channel == channel) ((get_or geo k d).slot == slot) (get_or geo k d).axis axis n (within k d h) beyond)
+    (λ k d h. other_axis ((get_or geo k d).channel == channel) ((get_or geo k d).slot == slot) (get_or geo k d).axis axis n (within k d h) beyond)
 
 pub programmed_beyond : (job : JobView) (channel : ℕ) (stmt : Stmt) (axis : ℕ) → HasFewAxes job → length job.axes ≤ axis → programmed job channel stmt axis ≡ None
 unfolding programmed is_slot
@@ -67,7 +67,7 @@ pub stands_more : (job : JobView) (channel : ℕ) (blocks : List Block) (block :
     → StandsAfter job channel (blocks ++ block ∷ []) new
 stands_more job channel blocks block old new stands moved axis =
     moved axis ∙ ap (λ (z : ℤ). unwrap_or (programmed job channel block.stmt axis) z) (stands axis)
-      ∙ sym (position_after-push job channel blocks block axis)
+    ∙ sym (position_after-push job channel blocks block axis)
 
 -- positions that agree give the same motion
 pub item_from-agrees : (job : JobView) (channel : ℕ) (f g : ℕ → ℤ) (block : Block) → ((axis : ℕ) → f axis ≡ g axis) → item_from job channel f block ≡ item_from job channel g block
@@ -88,7 +88,7 @@ items_after-push job channel before [] block =
     rw (append-nil before) (alone (item_from job channel (position_after job channel before) block))
 items_after-push job channel before (b ∷ blocks) block =
     let tail : items_after job channel (before ++ b ∷ []) (blocks ++ block ∷ []) ≡ items_after job channel (before ++ b ∷ []) blocks ++ option_to_list (item_from job channel (position_after job channel (before ++ b ∷ blocks)) block)
-          = rw (← append_assoc before (b ∷ []) blocks) (items_after-push job channel (before ++ b ∷ []) blocks block) in
+    = rw (← append_assoc before (b ∷ []) blocks) (items_after-push job channel (before ++ b ∷ []) blocks block) in
     rw tail (onto (item_from job channel (position_after job channel before) b) (items_after job channel (before ++ b ∷ []) blocks) (option_to_list (item_from job channel (position_after job channel (before ++ b ∷ blocks)) block)))
 
 -- the motions made so far, with that of the next block

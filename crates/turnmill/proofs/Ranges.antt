@@ -33,7 +33,7 @@ map-range_some {X = X} f h a n x ys e s =
     let at : h (a + n) ≡ Some x = ap h (add_comm a n) ∙ s in
     let row : range_with_len a (n + 1) ≡ range_with_len a n ++ (a + n) ∷ [] = rw add-one (range_with_len-push a n) in
     let more : filter_map h (range_with_len a (n + 1)) ≡ filter_map h (range_with_len a n) ++ x ∷ [] =
-          ap (filter_map h) row ∙ filter_map-append h (range_with_len a n) ((a + n) ∷ []) ∙ ap (λ (ys : List X). filter_map h (range_with_len a n) ++ ys) (filter_map-one h (a + n) (Some x) at) in
+    ap (filter_map h) row ∙ filter_map-append h (range_with_len a n) ((a + n) ∷ []) ∙ ap (λ (ys : List X). filter_map h (range_with_len a n) ++ ys) (filter_map-one h (a + n) (Some x) at) in
     rw (more, map-append f (filter_map h (range_with_len a n)) (x ∷ []), e) refl
 
 pub map-range_none : {X Y : Type 0} (f : X → Y) (h : ℕ → Option X) (a n : ℕ) (ys : List Y) → ys ≡ map f (filter_map h (range_with_len a n)) → h (n + a) ≡ None
@@ -42,8 +42,8 @@ map-range_none {X = X} f h a n ys e s =
     let at : h (a + n) ≡ None = ap h (add_comm a n) ∙ s in
     let row : range_with_len a (n + 1) ≡ range_with_len a n ++ (a + n) ∷ [] = rw add-one (range_with_len-push a n) in
     let more : filter_map h (range_with_len a (n + 1)) ≡ filter_map h (range_with_len a n) =
-          ap (filter_map h) row ∙ filter_map-append h (range_with_len a n) ((a + n) ∷ []) ∙ ap (λ (ys : List X). filter_map h (range_with_len a n) ++ ys) (filter_map-one h (a + n) None at)
-            ∙ append-nil (filter_map h (range_with_len a n)) in
+    ap (filter_map h) row ∙ filter_map-append h (range_with_len a n) ((a + n) ∷ []) ∙ ap (λ (ys : List X). filter_map h (range_with_len a n) ++ ys) (filter_map-one h (a + n) None at)
+    ∙ append-nil (filter_map h (range_with_len a n)) in
     rw more e
 
 pub filter_map-range_some : {Y : Type 0} (h : ℕ → Option Y) (n : ℕ) (y : Y) (xs : List Y) → xs ≡ filter_map h (range_with_len 0 n) → h n ≡ Some y → xs ++ y ∷ [] ≡ filter_map h (range_with_len 0 (n + 1))

@@ -19,4 +19,5 @@ pub runnable : (job : JobView) → IsSoundJob job → IsRunnable job
 runnable job sound = record {
   axes = record { few = sound.few_axes; slots = sound.slot_axes };
   starts = sound.positions;
-  values = λ k program within j block inside. statement_in_reach job _ _ ((sound.programs k program within).statements j block inside) }
+  values = λ k program within j block inside. statement_in_reach job _ _ ((sound.programs k program within).statements j block inside);
+}

@@ -42,9 +42,7 @@ fn blocks_of<'a>(job: &'a Job, line: &ChannelLine) -> &'a [Block]
 fn is_slot(job: &Job, channel: ChannelId, slot: u8, axis: AxisId) -> bool
     ensures { result ≡ model.is_slot job.now channel slot axis }
 {
-    job.geo
-        .iter()
-        .any(|line| line.channel == channel && line.slot == slot && line.axis == axis)
+    job.geo.iter().any(|line| line.channel == channel && line.slot == slot && line.axis == axis)
 }
 
 /// The position that a statement of a channel programs for an axis.

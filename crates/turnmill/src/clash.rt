@@ -63,7 +63,10 @@ fn do_overlap(left: &Stretch, right: &Stretch) -> bool
 fn touched(others: &[ZoneBox], cover: Box3) -> Option<ZoneBox>
     ensures { result ≡ find (λ other. model.boxes_meet cover other.cover) others.now }
 {
-    others.iter().copied().find(|other| do_meet(&cover, &other.cover))
+    others
+        .iter()
+        .copied()
+        .find(|other| do_meet(&cover, &other.cover))
 }
 
 /// The lines of this box and of the first of the others that meets it.

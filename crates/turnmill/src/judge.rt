@@ -60,7 +60,10 @@ fn held_zone(alloc: Global, job: &Job, zone: &ZoneLine) -> Result<HeldZone, Allo
 fn zone_numbered(job: &Job, number: u8) -> Option<ZoneLine>
     ensures { result ≡ find (λ zone. zone.zone == number) job.now.zones }
 {
-    job.zones.iter().copied().find(|zone| zone.zone.number == number)
+    job.zones
+        .iter()
+        .copied()
+        .find(|zone| zone.zone.number == number)
 }
 
 /// The zones with their stretches, in ascending order of their numbers.

@@ -5,6 +5,7 @@ mod channels;
 mod check;
 mod clash;
 mod judge;
+mod laws;
 mod report;
 mod stretches;
 #[cfg(test)]

@@ -8,9 +8,12 @@ pub loop-index-preserved : goal.loop-index-preserved
 loop-index-preserved c =
     let end : ℕ → Option (ℕ × ℤ × ℤ) = model.end_from c.args.job.now c.args.channel (model.positions_in c.args.at.now) c.args.stmt.now in
     elim c.match-end_from.branch [
-      in-Some w ↦ record {
+      | in-Some w ↦ record {
         ends = rw (w.axes-is, w.push.ensures.items) (filter_map-range_some end c.loop-index.index w.in-Some.end _ c.loop-index.invariant.ends (sym c.end_from.ensures ∙ w.in-Some.is));
-        short = rw (w.axes-is, w.push.ensures.items, length-append) (omega (arith, c.loop-index.invariant.short)) }
-    | in_default w ↦ record {
+        short = rw (w.axes-is, w.push.ensures.items, length-append) (omega (arith, c.loop-index.invariant.short));
+      }
+      | in_default w ↦ record {
         ends = rw w.axes-is (filter_map-range_none end c.loop-index.index _ c.loop-index.invariant.ends (sym c.end_from.ensures ∙ w.in_default.is));
-        short = rw w.axes-is (omega (arith, c.loop-index.invariant.short)) } ]
+        short = rw w.axes-is (omega (arith, c.loop-index.invariant.short));
+      }
+    ]

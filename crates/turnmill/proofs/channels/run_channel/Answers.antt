@@ -11,4 +11,5 @@ pub returns : goal.returns
 unfolding run_of items_of
 returns c = record {
   run = rw (← c.blocks_of-blocks.ensures, ← c.in_ok-items.ensures.items, ← c.end_line_in.ensures) refl;
-  stands = rw (← c.blocks_of-blocks.ensures) c.in_ok-items.ensures.stands }
+  stands = rw (← c.blocks_of-blocks.ensures) c.in_ok-items.ensures.stands;
+}

@@ -21,5 +21,7 @@ returns c =
     let y_high : to_z w32 (of_z w32 c.bounds_of-y.result.1) ≡ side_high low high (get_or c.args.sides.now 1 c.index-sides-1.result) = stored _ _ fits_y_high c.bounds_of-y.ensures.high in
     let fits_z_high : SFits w32 c.bounds_of-z.result.1 = search rules in
     let z_high : to_z w32 (of_z w32 c.bounds_of-z.result.1) ≡ side_high low high (get_or c.args.sides.now 2 c.index-sides-2.result) = stored _ _ fits_z_high c.bounds_of-z.ensures.high in
-    rw (map-three (side_low low high) c.args.sides.now c.index-sides-0.result c.index-sides-1.result c.index-sides-2.result c.type_inv.sides,
-        map-three (side_high low high) c.args.sides.now c.index-sides-0.result c.index-sides-1.result c.index-sides-2.result c.type_inv.sides) (rw (x_low, y_low, z_low, x_high, y_high, z_high) refl)
+    rw (
+      map-three (side_low low high) c.args.sides.now c.index-sides-0.result c.index-sides-1.result c.index-sides-2.result c.type_inv.sides,
+      map-three (side_high low high) c.args.sides.now c.index-sides-0.result c.index-sides-1.result c.index-sides-2.result c.type_inv.sides,
+    ) (rw (x_low, y_low, z_low, x_high, y_high, z_high) refl)
