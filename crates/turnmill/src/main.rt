@@ -35,7 +35,11 @@ fn check_command_line(rt: HostRuntime) -> Status {
     let Ok(args) = args.skip(1).collect::<Vec<String>>(alloc) else {
         return Status::NoMemory;
     };
-    let Ok(words) = args.iter().map(|word| word.as_str()).collect::<Vec<&str>>(alloc) else {
+    let Ok(words) = args
+        .iter()
+        .map(|word| word.as_str())
+        .collect::<Vec<&str>>(alloc)
+    else {
         return Status::NoMemory;
     };
     let mut source = StdSource::new(rt.stdin());

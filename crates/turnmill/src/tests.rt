@@ -35,6 +35,7 @@ const MOVES: &str = "N10 G0 X20 Z5
 N20 G1 Z-30 F0.2
 N30 M30
 ";
+
 const MOVES_OUTPUT: &str = "TURNMILL 1
 CHANNEL 1
 9 LINE X1=20.000 Z1=5.000
@@ -45,7 +46,13 @@ VERDICT YES
 ";
 
 // A source of a job's beginning with these blocks.
-fn job_source(alloc: Global, head: &str, blocks: &str, piece: usize, fails: &[u32]) -> Result<MemSource, AllocError>
+fn job_source(
+    alloc: Global,
+    head: &str,
+    blocks: &str,
+    piece: usize,
+    fails: &[u32],
+) -> Result<MemSource, AllocError>
     requires { 0 < piece }
 {
     let mut bytes = head.as_bytes().to_vec(alloc)?;
@@ -58,7 +65,12 @@ fn answers_inputs(rt: HostRuntime) -> Result<(), Fail> {
     let alloc = rt.alloc();
     let rows: [(&str, &str, Status, &str); 6] = [
         ("", "", Status::Refused, "REFUSED 1 1 no job line\n"),
-        (ONE, "N10 M30\n", Status::Yes, "TURNMILL 1\nCHANNEL 1\n9 END\nSTATE ENDED 9\nVERDICT YES\n"),
+        (
+            ONE,
+            "N10 M30\n",
+            Status::Yes,
+            "TURNMILL 1\nCHANNEL 1\n9 END\nSTATE ENDED 9\nVERDICT YES\n",
+        ),
         (ONE, MOVES, Status::Yes, MOVES_OUTPUT),
         (
             TWO,
@@ -82,7 +94,10 @@ fn answers_inputs(rt: HostRuntime) -> Result<(), Fail> {
     for (head, blocks, status, output) in rows {
         let mut source = job_source(alloc, head, blocks, 1000, &[])?;
         let mut sink = MemSink::new(alloc, 1000, Vec::new(alloc));
-        assert_eq!(rt; check_words(alloc, &["check"], &mut source, &mut sink), status);
+        assert_eq!(rt;
+            check_words(alloc, &["check"], &mut source, &mut sink),
+            status
+        );
         assert_eq!(rt; sink.bytes(), output.as_bytes());
     }
     Ok(())
@@ -96,7 +111,10 @@ fn takes_check_alone(rt: HostRuntime) -> Result<(), Fail> {
         // The first read and the first write fail, so each of them would show.
         let mut source = job_source(alloc, ONE, MOVES, 1000, &[0])?;
         let mut sink = MemSink::new(alloc, 1000, [0].to_vec(alloc)?);
-        assert_eq!(rt; check_words(alloc, words, &mut source, &mut sink), Status::Usage);
+        assert_eq!(rt;
+            check_words(alloc, words, &mut source, &mut sink),
+            Status::Usage
+        );
         assert!(rt; sink.bytes().is_empty());
     }
     Ok(())
@@ -108,7 +126,10 @@ fn takes_no_input_that_is_too_long(rt: HostRuntime) -> Result<(), Fail> {
     let blanks = vec![in alloc; b' '; 8_388_609]?;
     let mut source = MemSource::new(blanks, 1_000_000, Vec::new(alloc));
     let mut sink = MemSink::new(alloc, 1000, Vec::new(alloc));
-    assert_eq!(rt; check_words(alloc, &["check"], &mut source, &mut sink), Status::TooLong);
+    assert_eq!(rt;
+        check_words(alloc, &["check"], &mut source, &mut sink),
+        Status::TooLong
+    );
     assert!(rt; sink.bytes().is_empty());
     Ok(())
 }
@@ -120,7 +141,11 @@ fn stops_at_each_read_that_fails(rt: HostRuntime) -> Result<(), Fail> {
     for failing in 0..12 {
         let mut source = job_source(alloc, ONE, MOVES, 16, &[failing])?;
         let mut sink = MemSink::new(alloc, 1000, Vec::new(alloc));
-        assert_eq!(rt; check_words(alloc, &["check"], &mut source, &mut sink), Status::ReadFault, "read {failing}");
+        assert_eq!(rt;
+            check_words(alloc, &["check"], &mut source, &mut sink),
+            Status::ReadFault,
+            "read {failing}"
+        );
         assert!(rt; sink.bytes().is_empty(), "read {failing}");
     }
     Ok(())
@@ -132,9 +157,16 @@ fn stops_at_each_write_that_fails(rt: HostRuntime) -> Result<(), Fail> {
     for failing in 0..13 {
         let mut source = job_source(alloc, ONE, MOVES, 1000, &[])?;
         let mut sink = MemSink::new(alloc, 8, [failing].to_vec(alloc)?);
-        assert_eq!(rt; check_words(alloc, &["check"], &mut source, &mut sink), Status::WriteFault, "write {failing}");
+        assert_eq!(rt;
+            check_words(alloc, &["check"], &mut source, &mut sink),
+            Status::WriteFault,
+            "write {failing}"
+        );
         assert_eq!(rt; sink.bytes().len(), 8 * failing as usize, "write {failing}");
-        assert!(rt; MOVES_OUTPUT.as_bytes().starts_with(sink.bytes()), "write {failing}");
+        assert!(rt;
+            MOVES_OUTPUT.as_bytes().starts_with(sink.bytes()),
+            "write {failing}"
+        );
     }
     Ok(())
 }
