@@ -5,3 +5,4 @@ pub mod LineLemmas
 pub mod ReaderLemmas
 pub mod SoundReadings
 pub mod TellingLemmas
+pub mod RefusalLemmas
