@@ -3,5 +3,7 @@ pub mod LengthLemmas
 pub mod LibraryLemmas
 pub mod LineLemmas
 pub mod ReaderLemmas
+pub mod SoundJobLines
+pub mod SoundLists
 pub mod SoundReadings
 pub mod TellingLemmas
