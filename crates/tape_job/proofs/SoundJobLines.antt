@@ -1,6 +1,6 @@
 -- What job lines tell that break no rule is sound.
 use Rattle.std.specs.Prelude.{IsSomeAnd}
-use Rattle.std.proofs.Common.{◌≡◌, ◌≢◌, ◌∙◌, ℕ, ◌+◌, ◌<◌, ◌≤◌, ℤ, Bool, true, false, ◌&&◌, ◌||◌, not, ◌==◌, nat_le, List, [], ◌∷◌, ◌++◌, length, slice_get, Option, Some, None, IfSome, IsSome, refl, sym, ap, arith, length-append, rules}
+use Rattle.std.proofs.Common.{◌≡◌, ◌≢◌, ◌∙◌, ℕ, ◌+◌, ◌<◌, ◌≤◌, ℤ, Bool, true, false, ◌&&◌, ◌||◌, not, ◌==◌, nat_le, List, [], ◌∷◌, ◌++◌, length, slice_get, Option, Some, None, IfSome, IsSome, get_or, subst, refl, sym, ap, arith, length-append, rules}
 use Rattle.std.specs.List.{All, Any, AllPairs}
 use Rattle.std.specs.Option.{option_and_then, option_map}
 use Rattle.std.proofs.lemmas.Bool.{eqb-true, eqb-false, leb-true}
@@ -203,3 +203,156 @@ axis_told job number name owner at facts none near =
       zones = record {
         numbers = facts.zones.numbers; holders = facts.zones.holders;
         zones = All-weaker (IsSoundZone job) (IsSoundZone new) (zone_extends job new extends) job.zones facts.zones.zones } }
+
+-- a GEO line
+abbrev pub with_geo : JobView → GeoLine → JobView
+with_geo job line = record { channels = job.channels; axes = job.axes; geo = job.geo ++ line ∷ []; zones = job.zones; programs = job.programs }
+
+geo_extends : (job : JobView) (line : GeoLine) → Extends job (with_geo job line)
+unfolding first_owner
+geo_extends job line = record { declared = λ channel declared. declared; owned = λ axis channel owned. owned; more = omega arith }
+
+slot_differs : (job : JobView) (channel slot axis : ℕ) → rule.has_slot job channel slot ≡ false → rule.has_slot_axis job channel axis ≡ false
+    → (line : GeoLine) → line.channel ≡ channel → line.slot ≡ slot → line.axis ≡ axis → (k : ℕ) (d : GeoLine) → k < length job.geo → HaveOtherSlots (get_or job.geo k d) line
+unfolding rule.has_slot rule.has_slot_axis
+slot_differs job channel slot axis slots axes line is_channel is_slot is_axis k d within same =
+    let other : GeoLine = get_or job.geo k d in
+    let equal : other.channel ≡ channel = same ∙ is_channel in
+    let no_slot = none_pass (λ (l : GeoLine). (l.channel == channel) && (l.slot == slot)) job.geo slots k d within in
+    let no_axis = none_pass (λ (l : GeoLine). (l.channel == channel) && (l.axis == axis)) job.geo axes k d within in
+    (λ also. differs other.channel channel other.slot slot no_slot equal (also ∙ is_slot),
+     λ also. differs other.channel channel other.axis axis no_axis equal (also ∙ is_axis))
+
+pub geo_told : (job : JobView) (number channel slot axis : ℕ) → ListFacts job → rule.slot_rule job channel slot (Some axis) ≡ None
+    → ListFacts (with_geo job (record { line = number; channel = channel; slot = slot; axis = axis }))
+unfolding rule.slot_rule
+geo_told job number channel slot axis facts none =
+    let line : GeoLine = record { line = number; channel = channel; slot = slot; axis = axis } in
+    let new : JobView = with_geo job line in
+    let extends : Extends job new = geo_extends job line in
+    let first = unbroken (not (rule.has_channel job channel)) NotDeclared _ none in
+    let second = unbroken (rule.has_slot job channel slot || rule.has_slot_axis job channel axis) DeclaredTwice _ first.1 in
+    let free = or_fails (rule.has_slot job channel slot) (rule.has_slot_axis job channel axis) second.0 in
+    let third = unbroken (not (rule.owns job channel axis)) NotBuilt None second.1 in
+    let owned = not_false (rule.owns job channel axis) third.0 in
+    record {
+      channels = record {
+        numbers = facts.channels.numbers; low = facts.channels.low; high = facts.channels.high; starting = facts.channels.starting; named = facts.channels.named };
+      axes = record { few = facts.axes.few; names = facts.axes.names; owners = facts.axes.owners; positions = facts.axes.positions };
+      slots = record {
+        numbers = all_pairs_push HaveOtherSlots job.geo line facts.slots.numbers (slot_differs job channel slot axis free.0 free.1 line refl refl refl);
+        axes = All-push (λ (g : GeoLine). g.axis < length job.axes) job.geo line facts.slots.axes (owns_within job channel axis owned);
+        owners = All-weaker (λ (g : GeoLine). first_owner job g.axis ≡ Some g.channel) (λ (g : GeoLine). first_owner new g.axis ≡ Some g.channel)
+          (λ g. extends.owned g.axis g.channel) new.geo
+          (All-push (λ (g : GeoLine). first_owner job g.axis ≡ Some g.channel) job.geo line facts.slots.owners (owns_first job channel axis owned)) };
+      zones = record {
+        numbers = facts.zones.numbers; holders = facts.zones.holders;
+        zones = All-weaker (IsSoundZone job) (IsSoundZone new) (zone_extends job new extends) job.zones facts.zones.zones } }
+
+-- a ZONE line
+abbrev pub with_zone : JobView → ZoneLine → JobView
+with_zone job line = record { channels = job.channels; axes = job.axes; geo = job.geo; zones = job.zones ++ line ∷ []; programs = job.programs }
+
+zone_added : (job : JobView) (line : ZoneLine) → Extends job (with_zone job line)
+unfolding first_owner
+zone_added job line = record { declared = λ channel declared. declared; owned = λ axis channel owned. owned; more = omega arith }
+
+carrier_owned : (job : JobView) (holder : ℕ) (carrier : Option (ℕ × Bool)) → rule.is_owned_carrier job holder carrier ≡ true
+    → IfSome carrier (λ c. first_owner job c.0 ≡ Some holder)
+carrier_owned job holder None owned = tt
+carrier_owned job holder (Some c) owned = owns_first job holder c.0 owned
+
+side_owned : (job : JobView) (holder : ℕ) (side : Side) → rule.owns_carrier job holder side ≡ true → IsCarriedBy job (Some holder) side
+unfolding rule.owns_carrier
+side_owned job holder side owned = carrier_owned job holder side.carrier owned
+
+carriers_differ : (a b : Option (ℕ × Bool)) → rule.same_carrier a b ≡ false → IfSome a (λ c. IfSome b (λ d. c.0 ≢ d.0))
+carriers_differ None b differ = tt
+carriers_differ (Some c) None differ = tt
+carriers_differ (Some c) (Some d) differ = λ same. eqb-false d.0 c.0 differ (sym same)
+
+sides_differ : (a b : Side) → rule.same_axis a b ≡ false → HaveOtherCarriers a b
+unfolding rule.same_axis
+sides_differ a b differ = carriers_differ a.carrier b.carrier differ
+
+All-three : {A : Type 0} (P : A → Type 0) (x y z : A) → P x → P y → P z → All P (x ∷ y ∷ z ∷ [])
+All-three P x y z px py pz = All-cons P x (y ∷ z ∷ []) px (All-cons P y (z ∷ []) py (All-cons P z [] pz (All-nil P)))
+
+no_pairs : {A : Type 0} (R : A → A → Type 0) → AllPairs R []
+no_pairs R i j d before within = absurd (omega arith)
+
+AllPairs-three : {A : Type 0} (R : A → A → Type 0) (x y z : A) → R x y → R x z → R y z → AllPairs R (x ∷ y ∷ z ∷ [])
+AllPairs-three R x y z xy xz yz =
+    AllPairs-cons R x (y ∷ z ∷ []) (All-cons (R x) y (z ∷ []) xy (All-cons (R x) z [] xz (All-nil (R x))))
+      (AllPairs-cons R y (z ∷ []) (All-cons (R y) z [] yz (All-nil (R y)))
+      (AllPairs-cons R z [] (All-nil (R z)) (no_pairs R)))
+
+-- a named side keeps its range
+abbrev pub HasRange : NamedSide → Side → Type 0
+HasRange named side = (named.lo ≡ side.lo) × (named.hi ≡ side.hi)
+
+named_range : (side : NamedSide) (minus : Bool) (axis : Option ℕ) → IfSome (option_map (λ a. rule.side_with side (Some (a, minus))) axis) (HasRange side)
+named_range side minus None = tt
+named_range side minus (Some a) = (refl, refl)
+
+carried_range : (axes : List AxisLine) (side : NamedSide) (carrier : Option (AxisName × Bool)) → IfSome (rule.carried_side axes side carrier) (HasRange side)
+unfolding rule.side_of
+carried_range axes side None = (refl, refl)
+carried_range axes side (Some (name, minus)) = named_range side minus (rule.axis_of axes name)
+
+pub side_range : (axes : List AxisLine) (side : NamedSide) → IfSome (rule.side_of axes side) (HasRange side)
+unfolding rule.side_of
+side_range axes side = carried_range axes side side.carrier
+
+sound_range : (named : NamedSide) (side : Side) → HasRange named side → IsSoundRange named.lo named.hi → IsSoundRange side.lo side.hi
+sound_range named side same sound = subst (λ lo. IsSoundRange lo side.hi) same.0 (subst (λ hi. IsSoundRange named.lo hi) same.1 sound)
+
+zone_differs : (job : JobView) (zone : ℕ) → rule.has_zone job zone ≡ false → (line : ZoneLine) → line.zone ≡ zone → (k : ℕ) (d : ZoneLine) → k < length job.zones
+    → (get_or job.zones k d).zone ≢ line.zone
+unfolding rule.has_zone
+zone_differs job zone none line is_zone k d within same =
+    eqb-false (get_or job.zones k d).zone zone (none_pass (λ (l : ZoneLine). l.zone == zone) job.zones none k d within) (same ∙ is_zone)
+
+holder_differs : (job : JobView) (holder : ℕ) → rule.holds_zone job holder ≡ false → (line : ZoneLine) → line.holder ≡ Some holder → (k : ℕ) (d : ZoneLine) → k < length job.zones
+    → (get_or job.zones k d).holder ≢ line.holder
+unfolding rule.holds_zone
+holder_differs job holder none line is_holder k d within same =
+    owner_not holder (get_or job.zones k d).holder (none_pass (λ (l : ZoneLine). rule.is_channel holder l.holder) job.zones none k d within) (same ∙ is_holder)
+
+pub zone_told : (job : JobView) (number zone group holder : ℕ) (x y z : Side) → ListFacts job → rule.zone_rule job zone holder (Some x) (Some y) (Some z) ≡ None
+    → (1 ≤ zone) × (zone ≤ 32) → (1 ≤ group) × (group ≤ 32) → IsSoundRange x.lo x.hi → IsSoundRange y.lo y.hi → IsSoundRange z.lo z.hi
+    → ListFacts (with_zone job (record { line = number; zone = zone; group = group; holder = Some holder; on = true; sides = x ∷ y ∷ z ∷ [] }))
+unfolding rule.zone_rule rule.sides_rule
+zone_told job number zone group holder x y z facts none zone_range group_range x_range y_range z_range =
+    let line : ZoneLine = record { line = number; zone = zone; group = group; holder = Some holder; on = true; sides = x ∷ y ∷ z ∷ [] } in
+    let new : JobView = with_zone job line in
+    let extends : Extends job new = zone_added job line in
+    let first = unbroken (not (rule.has_channel job holder)) NotDeclared _ none in
+    let second = unbroken (rule.has_zone job zone) DeclaredTwice _ first.1 in
+    let third = unbroken (rule.same_axis x y || rule.same_axis x z || rule.same_axis y z) DeclaredTwice _ second.1 in
+    let apart = or_fails (rule.same_axis x y || rule.same_axis x z) (rule.same_axis y z) third.0 in
+    let apart_x = or_fails (rule.same_axis x y) (rule.same_axis x z) apart.0 in
+    let fourth = unbroken (not (rule.owns_carrier job holder x && rule.owns_carrier job holder y && rule.owns_carrier job holder z)) OwnerDiffers _ third.1 in
+    let owned = not_false (rule.owns_carrier job holder x && rule.owns_carrier job holder y && rule.owns_carrier job holder z) fourth.0 in
+    let owned_z = and_holds (rule.owns_carrier job holder x && rule.owns_carrier job holder y) (rule.owns_carrier job holder z) owned in
+    let owned_xy = and_holds (rule.owns_carrier job holder x) (rule.owns_carrier job holder y) owned_z.0 in
+    let fifth = unbroken (rule.holds_zone job holder) NotBuilt None fourth.1 in
+    let sound : IsSoundZone job line = record {
+      low_number = zone_range.0; high_number = zone_range.1; low_group = group_range.0; high_group = group_range.1; active = refl;
+      held = declared_from job holder (not_false (rule.has_channel job holder) first.0); directions = refl;
+      carried = All-three (IsCarriedBy job (Some holder)) x y z (side_owned job holder x owned_xy.0) (side_owned job holder y owned_xy.1) (side_owned job holder z owned_z.1);
+      carriers = AllPairs-three HaveOtherCarriers x y z (sides_differ x y apart_x.0) (sides_differ x z apart_x.1) (sides_differ y z apart.1);
+      ranges = All-three (λ (side : Side). IsSoundRange side.lo side.hi) x y z x_range y_range z_range } in
+    record {
+      channels = record {
+        numbers = facts.channels.numbers; low = facts.channels.low; high = facts.channels.high; starting = facts.channels.starting; named = facts.channels.named };
+      axes = record { few = facts.axes.few; names = facts.axes.names; owners = facts.axes.owners; positions = facts.axes.positions };
+      slots = record {
+        numbers = facts.slots.numbers; axes = facts.slots.axes;
+        owners = All-weaker (λ (g : GeoLine). first_owner job g.axis ≡ Some g.channel) (λ (g : GeoLine). first_owner new g.axis ≡ Some g.channel)
+          (λ g. extends.owned g.axis g.channel) job.geo facts.slots.owners };
+      zones = record {
+        numbers = all_pairs_push (λ (l other : ZoneLine). l.zone ≢ other.zone) job.zones line facts.zones.numbers (zone_differs job zone second.0 line refl);
+        holders = all_pairs_push (λ (l other : ZoneLine). l.holder ≢ other.holder) job.zones line facts.zones.holders (holder_differs job holder fifth.0 line refl);
+        zones = All-push (IsSoundZone new) job.zones line
+          (All-weaker (IsSoundZone job) (IsSoundZone new) (zone_extends job new extends) job.zones facts.zones.zones) (zone_extends job new extends line sound) } }
