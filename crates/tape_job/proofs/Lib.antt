@@ -5,5 +5,6 @@ pub mod LineLemmas
 pub mod ReaderLemmas
 pub mod SoundJobLines
 pub mod SoundLists
+pub mod SoundPrograms
 pub mod SoundReadings
 pub mod TellingLemmas

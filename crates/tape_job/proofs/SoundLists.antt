@@ -34,6 +34,12 @@ module _ {A : Type 0} (test : A → Bool) where
       let both = or_fails (test x) (list_any test xs) none in
       All-cons (λ y. test y ≡ false) x xs both.0 (none_pass xs both.1)
 
+  pub all_pass : (xs : List A) → list_all test xs ≡ true → All (λ x. test x ≡ true) xs
+  all_pass [] all = All-nil (λ x. test x ≡ true)
+  all_pass (x ∷ xs) all =
+      let both = and_holds (test x) (list_all test xs) all in
+      All-cons (λ y. test y ≡ true) x xs both.0 (all_pass xs both.1)
+
 module _ {A : Type 0} (P : A → Type 0) where
   pub Any-here : (x : A) (xs : List A) → P x → Any P (x ∷ xs)
   Any-here x xs holds = (0, x, omega arith, refl, holds)
