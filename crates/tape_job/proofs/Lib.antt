@@ -4,6 +4,7 @@ pub mod LibraryLemmas
 pub mod LineLemmas
 pub mod ReaderLemmas
 pub mod SoundJobLines
+pub mod SoundJobs
 pub mod SoundLists
 pub mod SoundPrograms
 pub mod SoundReadings

@@ -17,7 +17,7 @@ use Rattle.tape_job.specs.declared.job.ChannelLine.{ChannelLine}
 use Rattle.tape_job.specs.declared.job.GeoLine.{GeoLine}
 use Rattle.tape_job.specs.declared.job.Side.{Side}
 use Rattle.tape_job.specs.declared.job.ZoneLine.{ZoneLine}
-use Rattle.tape_job.specs.Job.{JobView}
+use Rattle.tape_job.specs.Job.{JobView, ProgramView}
 use Rattle.tape_job.specs.Rules as rule
 use Rattle.tape_job.specs.SoundJob.{IsInReach, IsDeclared, first_owner, HaveOtherNames, HaveOtherSlots, IsCarriedBy, HaveOtherCarriers, IsSoundRange, IsSoundZone}
 use Rattle.tape_job.proofs.SoundLists.{unbroken, not_false, or_fails, and_holds, differs, none_pass, Any-more, found, slice_get-more}
@@ -278,7 +278,7 @@ sides_differ a b differ = carriers_differ a.carrier b.carrier differ
 All-three : {A : Type 0} (P : A → Type 0) (x y z : A) → P x → P y → P z → All P (x ∷ y ∷ z ∷ [])
 All-three P x y z px py pz = All-cons P x (y ∷ z ∷ []) px (All-cons P y (z ∷ []) py (All-cons P z [] pz (All-nil P)))
 
-no_pairs : {A : Type 0} (R : A → A → Type 0) → AllPairs R []
+pub no_pairs : {A : Type 0} (R : A → A → Type 0) → AllPairs R []
 no_pairs R i j d before within = absurd (omega arith)
 
 AllPairs-three : {A : Type 0} (R : A → A → Type 0) (x y z : A) → R x y → R x z → R y z → AllPairs R (x ∷ y ∷ z ∷ [])
@@ -304,7 +304,7 @@ pub side_range : (axes : List AxisLine) (side : NamedSide) → IfSome (rule.side
 unfolding rule.side_of
 side_range axes side = carried_range axes side side.carrier
 
-sound_range : (named : NamedSide) (side : Side) → HasRange named side → IsSoundRange named.lo named.hi → IsSoundRange side.lo side.hi
+pub sound_range : (named : NamedSide) (side : Side) → HasRange named side → IsSoundRange named.lo named.hi → IsSoundRange side.lo side.hi
 sound_range named side same sound = subst (λ lo. IsSoundRange lo side.hi) same.0 (subst (λ hi. IsSoundRange named.lo hi) same.1 sound)
 
 zone_differs : (job : JobView) (zone : ℕ) → rule.has_zone job zone ≡ false → (line : ZoneLine) → line.zone ≡ zone → (k : ℕ) (d : ZoneLine) → k < length job.zones
@@ -356,3 +356,42 @@ zone_told job number zone group holder x y z facts none zone_range group_range x
         holders = all_pairs_push (λ (l other : ZoneLine). l.holder ≢ other.holder) job.zones line facts.zones.holders (holder_differs job holder fifth.0 line refl);
         zones = All-push (IsSoundZone new) job.zones line
           (All-weaker (IsSoundZone job) (IsSoundZone new) (zone_extends job new extends) job.zones facts.zones.zones) (zone_extends job new extends line sound) } }
+
+-- other programs
+abbrev pub with_programs : JobView → List (List ℕ × ProgramView) → JobView
+with_programs job programs = record { channels = job.channels; axes = job.axes; geo = job.geo; zones = job.zones; programs = programs }
+
+programs_extend : (job : JobView) (programs : List (List ℕ × ProgramView)) → Extends job (with_programs job programs)
+unfolding first_owner
+programs_extend job programs = record { declared = λ channel declared. declared; owned = λ axis channel owned. owned; more = omega arith }
+
+pub list_kept : (job : JobView) (programs : List (List ℕ × ProgramView)) → ListFacts job → ListFacts (with_programs job programs)
+list_kept job programs facts =
+    let new : JobView = with_programs job programs in
+    let extends : Extends job new = programs_extend job programs in
+    record {
+      channels = record {
+        numbers = facts.channels.numbers; low = facts.channels.low; high = facts.channels.high; starting = facts.channels.starting; named = facts.channels.named };
+      axes = record { few = facts.axes.few; names = facts.axes.names; owners = facts.axes.owners; positions = facts.axes.positions };
+      slots = record {
+        numbers = facts.slots.numbers; axes = facts.slots.axes;
+        owners = All-weaker (λ (g : GeoLine). first_owner job g.axis ≡ Some g.channel) (λ (g : GeoLine). first_owner new g.axis ≡ Some g.channel)
+          (λ g. extends.owned g.axis g.channel) job.geo facts.slots.owners };
+      zones = record {
+        numbers = facts.zones.numbers; holders = facts.zones.holders;
+        zones = All-weaker (IsSoundZone job) (IsSoundZone new) (zone_extends job new extends) job.zones facts.zones.zones } }
+
+-- of nothing
+pub nothing_listed : (programs : List (List ℕ × ProgramView)) → ListFacts (record { channels = []; axes = []; geo = []; zones = []; programs = programs })
+nothing_listed programs =
+    let none : JobView = record { channels = []; axes = []; geo = []; zones = []; programs = programs } in
+    record {
+      channels = record {
+        numbers = no_pairs (λ (l other : ChannelLine). l.channel ≢ other.channel); low = All-nil (λ (l : ChannelLine). 1 ≤ l.channel);
+        high = All-nil (λ (l : ChannelLine). l.channel ≤ 2); starting = All-nil (λ (l : ChannelLine). l.starts ≡ true); named = All-nil (λ (l : ChannelLine). IsSome l.program) };
+      axes = record {
+        few = omega arith; names = no_pairs HaveOtherNames; owners = All-nil (λ (l : AxisLine). IsSomeAnd l.owner (IsDeclared none)); positions = All-nil (λ (l : AxisLine). IsInReach l.at) };
+      slots = record {
+        numbers = no_pairs HaveOtherSlots; axes = All-nil (λ (g : GeoLine). g.axis < 0); owners = All-nil (λ (g : GeoLine). first_owner none g.axis ≡ Some g.channel) };
+      zones = record {
+        numbers = no_pairs (λ (z other : ZoneLine). z.zone ≢ other.zone); holders = no_pairs (λ (z other : ZoneLine). z.holder ≢ other.holder); zones = All-nil (IsSoundZone none) } }

@@ -1,5 +1,5 @@
 -- Tests of lists as facts, and facts of a list with one more.
-use Rattle.std.proofs.Common.{◌≡◌, ◌≢◌, ◌∙◌, ℕ, zero, suc, ◌+◌, ◌-◌, ◌<◌, ◌≤◌, Bool, true, false, ◌&&◌, ◌||◌, not, if◌then◌else◌, ◌==◌, List, [], ◌∷◌, ◌++◌, length, slice_get, Option, Some, None, true≢false, length-append, refl, sym, ap, arith}
+use Rattle.std.proofs.Common.{◌≡◌, ◌≢◌, ◌∙◌, ℕ, zero, suc, ◌+◌, ◌-◌, ◌<◌, ◌≤◌, Bool, true, false, ◌&&◌, ◌||◌, not, if◌then◌else◌, ◌==◌, List, [], ◌∷◌, ◌++◌, length, slice_get, find, Option, Some, None, true≢false, length-append, refl, sym, ap, arith}
 use Rattle.std.specs.List.{All, Any, list_any, list_all}
 use Rattle.std.proofs.lemmas.Bool.{eq-eqb}
 use Rattle.std.proofs.lemmas.List.{get_or_append_left}
@@ -33,6 +33,12 @@ module _ {A : Type 0} (test : A → Bool) where
   none_pass (x ∷ xs) none =
       let both = or_fails (test x) (list_any test xs) none in
       All-cons (λ y. test y ≡ false) x xs both.0 (none_pass xs both.1)
+
+  pub none_found : (xs : List A) → find test xs ≡ None → All (λ x. test x ≡ false) xs
+  none_found [] none = All-nil (λ x. test x ≡ false)
+  none_found (x ∷ xs) none =
+      let both = unbroken (test x) x (find test xs) none in
+      All-cons (λ y. test y ≡ false) x xs both.0 (none_found xs both.1)
 
   pub all_pass : (xs : List A) → list_all test xs ≡ true → All (λ x. test x ≡ true) xs
   all_pass [] all = All-nil (λ x. test x ≡ true)

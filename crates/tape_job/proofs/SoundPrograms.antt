@@ -1,7 +1,7 @@
 -- What headers and blocks tell that break no rule is sound.
 use Rattle.std.specs.Bool.{⊤}
 use Rattle.std.specs.Prelude.{IsSomeAnd}
-use Rattle.std.proofs.Common.{◌≡◌, ◌≢◌, ◌∙◌, ℕ, ℤ, ◌+◌, ◌<◌, ◌≤◌, Bool, true, false, true≢false, ◌&&◌, ◌||◌, not, if◌then◌else◌, ◌==◌, nat_le, List, [], ◌∷◌, ◌++◌, length, Option, Some, None, IfSome, refl, sym, ap, arith, length-append, rules}
+use Rattle.std.proofs.Common.{◌≡◌, ◌≢◌, ◌∙◌, ℕ, suc, ℤ, ◌+◌, ◌<◌, ◌≤◌, Bool, true, false, true≢false, ◌&&◌, ◌||◌, not, if◌then◌else◌, ◌==◌, nat_le, List, [], ◌∷◌, ◌++◌, length, Option, Some, None, IfSome, refl, sym, ap, arith, length-append, rules}
 use Rattle.std.specs.List.{All, Any, AllPairs, list_any, list_all}
 use Rattle.std.specs.Map.{keys_of}
 use Rattle.std.specs.Option.{option_and_then, option_map}
@@ -24,6 +24,7 @@ use Rattle.tape_job.specs.Steps.{with_block, with_header}
 use Rattle.tape_job.specs.SoundJob.{IsInReach, HasSlot, IsSoundEnd, IsSoundStatement, EndsOnce, IsSoundProgram}
 use Rattle.tape_job.proofs.SoundLists.{unbroken, not_false, or_fails, and_holds, none_pass, all_pass, found, last-cons}
 use Rattle.tape_job.proofs.SoundReadings.{IsNear}
+use Rattle.tape_job.proofs.SoundJobLines.{with_programs}
 
 -- no block but the last is a program end
 abbrev pub OnlyLastEnds : List Block → Type 0
@@ -170,6 +171,11 @@ keys-with_block [] block = refl
 keys-with_block (program ∷ []) block = refl
 keys-with_block (program ∷ next ∷ programs) block = ap (λ names. program.0 ∷ names) (keys-with_block (next ∷ programs) block)
 
+pub length-with_block : (programs : List (List ℕ × ProgramView)) (block : Block) → length (with_block programs block) ≡ length programs
+length-with_block [] block = refl
+length-with_block (program ∷ []) block = refl
+length-with_block (program ∷ next ∷ programs) block = ap suc (length-with_block (next ∷ programs) block)
+
 pub keys-push : (programs : List (List ℕ × ProgramView)) (program : List ℕ × ProgramView) → keys_of (programs ++ program ∷ []) ≡ keys_of programs ++ program.0 ∷ []
 keys-push [] program = refl
 keys-push (first ∷ programs) program = ap (λ names. first.0 ∷ names) (keys-push programs program)
@@ -192,3 +198,15 @@ unfolding rule.has_program
 program_found programs name has =
     found (λ (p : List ℕ × ProgramView). p.0 ≡ name) (λ p. bytes_eq name p.0) (λ p same. sym ((bytes_eq-Decides name p.0).0 same)) programs
       (sym (any_key programs (bytes_eq name)) ∙ has)
+
+-- the same programs in a job that has other programs besides
+open_kept : (job : JobView) (all : List (List ℕ × ProgramView)) (name : List ℕ) (program : ProgramView) → IsOpenProgram job name program → IsOpenProgram (with_programs job all) name program
+open_kept job all name program ongoing = record { few = ongoing.few; only = ongoing.only; statements = ongoing.statements }
+
+sound_kept : (job : JobView) (all : List (List ℕ × ProgramView)) (name : List ℕ) (program : ProgramView) → IsSoundProgram job name program → IsSoundProgram (with_programs job all) name program
+sound_kept job all name program sound = record { few = sound.few; ends = sound.ends; statements = sound.statements }
+
+pub library_kept : (job : JobView) (all programs : List (List ℕ × ProgramView)) → Library job programs → Library (with_programs job all) programs
+library_kept job all [] library = tt
+library_kept job all (program ∷ []) library = open_kept job all program.0 program.1 library
+library_kept job all (program ∷ next ∷ programs) library = (sound_kept job all program.0 program.1 library.0, library_kept job all (next ∷ programs) library.1)
