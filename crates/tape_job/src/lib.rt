@@ -1,4 +1,3 @@
-// FOUNDER NOTE (03:38): micro_units is merged into your clone; read READ_ME_CHANGE_FROM_FOUNDER.md at the top of your clone. Remove this line.
 //! The job list and the programs behind it, read from the bytes of the input.
 #![tactic(auto)]
 
