@@ -1,4 +1,5 @@
 pub mod BlockLemmas
+pub mod FirstRefusalLemmas
 pub mod LengthLemmas
 pub mod LibraryLemmas
 pub mod LineLemmas

@@ -1,14 +1,13 @@
 -- What job lines tell that break no rule is sound.
 use Rattle.std.specs.Prelude.{IsSomeAnd}
-use Rattle.std.proofs.Common.{◌≡◌, ◌≢◌, ◌∙◌, ℕ, ◌+◌, ◌<◌, ◌≤◌, ℤ, Bool, true, false, ◌&&◌, ◌||◌, not, ◌==◌, nat_le, List, [], ◌∷◌, ◌++◌, length, slice_get, Option, Some, None, IfSome, IsSome, get_or, subst, refl, sym, ap, arith, length-append, rules}
-use Rattle.std.specs.List.{All, Any, AllPairs}
+use Rattle.std.proofs.Common.{◌≡◌, ◌≢◌, ◌∙◌, ℕ, ◌<◌, ◌≤◌, ℤ, Bool, true, false, ◌&&◌, ◌||◌, not, ◌==◌, nat_le, List, [], ◌∷◌, ◌++◌, length, slice_get, Option, Some, None, IfSome, IsSome, get_or, subst, refl, sym, ap, arith, length-append, rules}
+use Rattle.std.specs.List.{All, AllPairs}
 use Rattle.std.specs.Option.{option_and_then, option_map}
-use Rattle.std.proofs.lemmas.Bool.{eqb-true, eqb-false, leb-true}
+use Rattle.std.proofs.lemmas.Bool.{eqb-true, eqb-false}
 use Rattle.std.proofs.lemmas.Option.{slice_get_within}
 use Rattle.std.proofs.lemmas.List.Elements.{All-nil, All-cons, All-push, All-weaker}
 use Rattle.std.proofs.lemmas.List.Kept.{AllPairs-cons}
-use Rattle.std.proofs.lemmas.List.Quantifiers.{all_pairs_push, Any-push}
-use Rattle.tape_job.specs.declared.code.Code.{Code}
+use Rattle.std.proofs.lemmas.List.Quantifiers.{all_pairs_push}
 use Rattle.tape_job.specs.declared.code.Code.TheVariants.{NotDeclared, DeclaredTwice, OwnerDiffers, TooMany, NotBuilt}
 use Rattle.tape_job.specs.declared.item.AxisName.{AxisName}
 use Rattle.tape_job.specs.declared.item.NamedSide.{NamedSide}
@@ -75,9 +74,17 @@ carried_extends old new extends (Some holder) held sides carried =
 
 zone_extends : (old new : JobView) → Extends old new → (zone : ZoneLine) → IsSoundZone old zone → IsSoundZone new zone
 zone_extends old new extends zone sound = record {
-  low_number = sound.low_number; high_number = sound.high_number; low_group = sound.low_group; high_group = sound.high_group; active = sound.active;
-  held = declared_by_one old new extends zone.holder sound.held; directions = sound.directions;
-  carried = carried_extends old new extends zone.holder sound.held zone.sides sound.carried; carriers = sound.carriers; ranges = sound.ranges }
+  low_number = sound.low_number;
+  high_number = sound.high_number;
+  low_group = sound.low_group;
+  high_group = sound.high_group;
+  active = sound.active;
+  held = declared_by_one old new extends zone.holder sound.held;
+  directions = sound.directions;
+  carried = carried_extends old new extends zone.holder sound.held zone.sides sound.carried;
+  carriers = sound.carriers;
+  ranges = sound.ranges;
+}
 
 -- the owner of an axis
 owner_is : (channel : ℕ) (owner : Option ℕ) → rule.is_channel channel owner ≡ true → owner ≡ Some channel
@@ -115,14 +122,17 @@ with_channel job line = record { channels = job.channels ++ line ∷ []; axes = 
 channel_extends : (job : JobView) (line : ChannelLine) → Extends job (with_channel job line)
 unfolding first_owner
 channel_extends job line = record {
-  declared = λ channel. Any-more (λ l. l.channel ≡ channel) job.channels line; owned = λ axis channel owned. owned; more = omega arith }
+  declared = λ channel. Any-more (λ l. l.channel ≡ channel) job.channels line;
+  owned = λ axis channel owned. owned;
+  more = omega arith;
+}
 
 channel_differs : (job : JobView) (channel : ℕ) → rule.channel_rule job channel ≡ None → All (λ line. line.channel ≢ channel) job.channels
 unfolding rule.channel_rule rule.has_channel
 channel_differs job channel none =
     let new = unbroken (rule.has_channel job channel) DeclaredTwice None none in
     All-weaker (λ line. (line.channel == channel) ≡ false) (λ line. line.channel ≢ channel) (λ line. eqb-false line.channel channel) job.channels
-      (none_pass (λ line. line.channel == channel) job.channels new.0)
+    (none_pass (λ line. line.channel == channel) job.channels new.0)
 
 pub channel_told : (job : JobView) (number channel : ℕ) (program : List ℕ) → ListFacts job → rule.channel_rule job channel ≡ None → (1 ≤ channel) × (channel ≤ 2)
     → ListFacts (with_channel job (record { line = number; channel = channel; program = Some program; starts = true }))
@@ -136,19 +146,27 @@ channel_told job number channel program facts none range =
         low = All-push (λ (l : ChannelLine). 1 ≤ l.channel) job.channels line facts.channels.low range.0;
         high = All-push (λ (l : ChannelLine). l.channel ≤ 2) job.channels line facts.channels.high range.1;
         starting = All-push (λ (l : ChannelLine). l.starts ≡ true) job.channels line facts.channels.starting refl;
-        named = All-push (λ (l : ChannelLine). IsSome l.program) job.channels line facts.channels.named refl };
+        named = All-push (λ (l : ChannelLine). IsSome l.program) job.channels line facts.channels.named refl;
+      };
       axes = record {
-        few = facts.axes.few; names = facts.axes.names;
+        few = facts.axes.few;
+        names = facts.axes.names;
         owners = All-weaker (λ (l : AxisLine). IsSomeAnd l.owner (IsDeclared job)) (λ (l : AxisLine). IsSomeAnd l.owner (IsDeclared new))
-          (λ l. declared_by_one job new extends l.owner) job.axes facts.axes.owners;
-        positions = facts.axes.positions };
+            (λ l. declared_by_one job new extends l.owner) job.axes facts.axes.owners;
+        positions = facts.axes.positions;
+      };
       slots = record {
-        numbers = facts.slots.numbers; axes = facts.slots.axes;
+        numbers = facts.slots.numbers;
+        axes = facts.slots.axes;
         owners = All-weaker (λ (g : GeoLine). first_owner job g.axis ≡ Some g.channel) (λ (g : GeoLine). first_owner new g.axis ≡ Some g.channel)
-          (λ g. extends.owned g.axis g.channel) job.geo facts.slots.owners };
+            (λ g. extends.owned g.axis g.channel) job.geo facts.slots.owners;
+      };
       zones = record {
-        numbers = facts.zones.numbers; holders = facts.zones.holders;
-        zones = All-weaker (IsSoundZone job) (IsSoundZone new) (zone_extends job new extends) job.zones facts.zones.zones } }
+        numbers = facts.zones.numbers;
+        holders = facts.zones.holders;
+        zones = All-weaker (IsSoundZone job) (IsSoundZone new) (zone_extends job new extends) job.zones facts.zones.zones;
+      };
+    }
 
 -- an AXIS line
 abbrev pub with_axis : JobView → AxisLine → JobView
@@ -164,16 +182,17 @@ unfolding first_owner
 axis_extends job line = record {
   declared = λ channel declared. declared;
   owned = λ axis channel. owner_more job.axes line axis channel (slice_get job.axes axis) refl;
-  more = let further = length-append job.axes (line ∷ []) in omega arith }
+  more = let further = length-append job.axes (line ∷ []) in omega arith;
+}
 
 axis_differs : (job : JobView) (name : AxisName) → rule.has_axis job name ≡ false → (line : AxisLine) → line.letter ≡ name.letter → line.number ≡ name.number
     → All (λ other. HaveOtherNames other line) job.axes
 unfolding rule.has_axis
 axis_differs job name none line letter number =
     All-weaker (λ other. rule.is_named name other ≡ false) (λ other. HaveOtherNames other line)
-      (λ other fails same. let equal : other.letter ≡ name.letter = same ∙ letter in
-        (λ also. differs other.letter name.letter other.number name.number fails equal (also ∙ number)))
-      job.axes (none_pass (rule.is_named name) job.axes none)
+    (λ other fails same. let equal : other.letter ≡ name.letter = same ∙ letter in
+    (λ also. differs other.letter name.letter other.number name.number fails equal (also ∙ number)))
+    job.axes (none_pass (rule.is_named name) job.axes none)
 
 pub axis_told : (job : JobView) (number : ℕ) (name : AxisName) (owner : ℕ) (at : ℤ) → ListFacts job → rule.axis_rule job name owner ≡ None → IsInReach at
     → ListFacts (with_axis job (record { line = number; letter = name.letter; number = name.number; owner = Some owner; at = at }))
@@ -189,20 +208,30 @@ axis_told job number name owner at facts none near =
     let further = length-append job.axes (line ∷ []) in
     record {
       channels = record {
-        numbers = facts.channels.numbers; low = facts.channels.low; high = facts.channels.high; starting = facts.channels.starting; named = facts.channels.named };
+        numbers = facts.channels.numbers;
+        low = facts.channels.low;
+        high = facts.channels.high;
+        starting = facts.channels.starting;
+        named = facts.channels.named;
+      };
       axes = record {
         few = omega arith;
         names = all_pairs_push HaveOtherNames job.axes line facts.axes.names (axis_differs job name second.0 line refl refl);
         owners = All-push (λ (l : AxisLine). IsSomeAnd l.owner (IsDeclared job)) job.axes line facts.axes.owners (declared_from job owner (not_false (rule.has_channel job owner) first.0));
-        positions = All-push (λ (l : AxisLine). IsInReach l.at) job.axes line facts.axes.positions near };
+        positions = All-push (λ (l : AxisLine). IsInReach l.at) job.axes line facts.axes.positions near;
+      };
       slots = record {
         numbers = facts.slots.numbers;
         axes = All-weaker (λ (g : GeoLine). g.axis < length job.axes) (λ (g : GeoLine). g.axis < length new.axes) (λ g within. omega (arith, extends.more)) job.geo facts.slots.axes;
         owners = All-weaker (λ (g : GeoLine). first_owner job g.axis ≡ Some g.channel) (λ (g : GeoLine). first_owner new g.axis ≡ Some g.channel)
-          (λ g. extends.owned g.axis g.channel) job.geo facts.slots.owners };
+            (λ g. extends.owned g.axis g.channel) job.geo facts.slots.owners;
+      };
       zones = record {
-        numbers = facts.zones.numbers; holders = facts.zones.holders;
-        zones = All-weaker (IsSoundZone job) (IsSoundZone new) (zone_extends job new extends) job.zones facts.zones.zones } }
+        numbers = facts.zones.numbers;
+        holders = facts.zones.holders;
+        zones = All-weaker (IsSoundZone job) (IsSoundZone new) (zone_extends job new extends) job.zones facts.zones.zones;
+      };
+    }
 
 -- a GEO line
 abbrev pub with_geo : JobView → GeoLine → JobView
@@ -219,9 +248,10 @@ slot_differs job channel slot axis slots axes line is_channel is_slot is_axis k 
     let other : GeoLine = get_or job.geo k d in
     let equal : other.channel ≡ channel = same ∙ is_channel in
     let no_slot = none_pass (λ (l : GeoLine). (l.channel == channel) && (l.slot == slot)) job.geo slots k d within in
-    let no_axis = none_pass (λ (l : GeoLine). (l.channel == channel) && (l.axis == axis)) job.geo axes k d within in
-    (λ also. differs other.channel channel other.slot slot no_slot equal (also ∙ is_slot),
-     λ also. differs other.channel channel other.axis axis no_axis equal (also ∙ is_axis))
+    let no_axis = none_pass (λ (l : GeoLine). (l.channel == channel) && (l.axis == axis)) job.geo axes k d within in (
+      λ also. differs other.channel channel other.slot slot no_slot equal (also ∙ is_slot),
+      λ also. differs other.channel channel other.axis axis no_axis equal (also ∙ is_axis),
+    )
 
 pub geo_told : (job : JobView) (number channel slot axis : ℕ) → ListFacts job → rule.slot_rule job channel slot (Some axis) ≡ None
     → ListFacts (with_geo job (record { line = number; channel = channel; slot = slot; axis = axis }))
@@ -237,17 +267,26 @@ geo_told job number channel slot axis facts none =
     let owned = not_false (rule.owns job channel axis) third.0 in
     record {
       channels = record {
-        numbers = facts.channels.numbers; low = facts.channels.low; high = facts.channels.high; starting = facts.channels.starting; named = facts.channels.named };
+        numbers = facts.channels.numbers;
+        low = facts.channels.low;
+        high = facts.channels.high;
+        starting = facts.channels.starting;
+        named = facts.channels.named;
+      };
       axes = record { few = facts.axes.few; names = facts.axes.names; owners = facts.axes.owners; positions = facts.axes.positions };
       slots = record {
         numbers = all_pairs_push HaveOtherSlots job.geo line facts.slots.numbers (slot_differs job channel slot axis free.0 free.1 line refl refl refl);
         axes = All-push (λ (g : GeoLine). g.axis < length job.axes) job.geo line facts.slots.axes (owns_within job channel axis owned);
         owners = All-weaker (λ (g : GeoLine). first_owner job g.axis ≡ Some g.channel) (λ (g : GeoLine). first_owner new g.axis ≡ Some g.channel)
-          (λ g. extends.owned g.axis g.channel) new.geo
-          (All-push (λ (g : GeoLine). first_owner job g.axis ≡ Some g.channel) job.geo line facts.slots.owners (owns_first job channel axis owned)) };
+            (λ g. extends.owned g.axis g.channel) new.geo
+            (All-push (λ (g : GeoLine). first_owner job g.axis ≡ Some g.channel) job.geo line facts.slots.owners (owns_first job channel axis owned));
+      };
       zones = record {
-        numbers = facts.zones.numbers; holders = facts.zones.holders;
-        zones = All-weaker (IsSoundZone job) (IsSoundZone new) (zone_extends job new extends) job.zones facts.zones.zones } }
+        numbers = facts.zones.numbers;
+        holders = facts.zones.holders;
+        zones = All-weaker (IsSoundZone job) (IsSoundZone new) (zone_extends job new extends) job.zones facts.zones.zones;
+      };
+    }
 
 -- a ZONE line
 abbrev pub with_zone : JobView → ZoneLine → JobView
@@ -284,8 +323,8 @@ no_pairs R i j d before within = absurd (omega arith)
 AllPairs-three : {A : Type 0} (R : A → A → Type 0) (x y z : A) → R x y → R x z → R y z → AllPairs R (x ∷ y ∷ z ∷ [])
 AllPairs-three R x y z xy xz yz =
     AllPairs-cons R x (y ∷ z ∷ []) (All-cons (R x) y (z ∷ []) xy (All-cons (R x) z [] xz (All-nil (R x))))
-      (AllPairs-cons R y (z ∷ []) (All-cons (R y) z [] yz (All-nil (R y)))
-      (AllPairs-cons R z [] (All-nil (R z)) (no_pairs R)))
+    (AllPairs-cons R y (z ∷ []) (All-cons (R y) z [] yz (All-nil (R y)))
+    (AllPairs-cons R z [] (All-nil (R z)) (no_pairs R)))
 
 -- a named side keeps its range
 abbrev pub HasRange : NamedSide → Side → Type 0
@@ -338,24 +377,39 @@ zone_told job number zone group holder x y z facts none zone_range group_range x
     let owned_xy = and_holds (rule.owns_carrier job holder x) (rule.owns_carrier job holder y) owned_z.0 in
     let fifth = unbroken (rule.holds_zone job holder) NotBuilt None fourth.1 in
     let sound : IsSoundZone job line = record {
-      low_number = zone_range.0; high_number = zone_range.1; low_group = group_range.0; high_group = group_range.1; active = refl;
-      held = declared_from job holder (not_false (rule.has_channel job holder) first.0); directions = refl;
+      low_number = zone_range.0;
+      high_number = zone_range.1;
+      low_group = group_range.0;
+      high_group = group_range.1;
+      active = refl;
+      held = declared_from job holder (not_false (rule.has_channel job holder) first.0);
+      directions = refl;
       carried = All-three (IsCarriedBy job (Some holder)) x y z (side_owned job holder x owned_xy.0) (side_owned job holder y owned_xy.1) (side_owned job holder z owned_z.1);
       carriers = AllPairs-three HaveOtherCarriers x y z (sides_differ x y apart_x.0) (sides_differ x z apart_x.1) (sides_differ y z apart.1);
-      ranges = All-three (λ (side : Side). IsSoundRange side.lo side.hi) x y z x_range y_range z_range } in
+      ranges = All-three (λ (side : Side). IsSoundRange side.lo side.hi) x y z x_range y_range z_range;
+    } in
     record {
       channels = record {
-        numbers = facts.channels.numbers; low = facts.channels.low; high = facts.channels.high; starting = facts.channels.starting; named = facts.channels.named };
+        numbers = facts.channels.numbers;
+        low = facts.channels.low;
+        high = facts.channels.high;
+        starting = facts.channels.starting;
+        named = facts.channels.named;
+      };
       axes = record { few = facts.axes.few; names = facts.axes.names; owners = facts.axes.owners; positions = facts.axes.positions };
       slots = record {
-        numbers = facts.slots.numbers; axes = facts.slots.axes;
+        numbers = facts.slots.numbers;
+        axes = facts.slots.axes;
         owners = All-weaker (λ (g : GeoLine). first_owner job g.axis ≡ Some g.channel) (λ (g : GeoLine). first_owner new g.axis ≡ Some g.channel)
-          (λ g. extends.owned g.axis g.channel) job.geo facts.slots.owners };
+            (λ g. extends.owned g.axis g.channel) job.geo facts.slots.owners;
+      };
       zones = record {
         numbers = all_pairs_push (λ (l other : ZoneLine). l.zone ≢ other.zone) job.zones line facts.zones.numbers (zone_differs job zone second.0 line refl);
         holders = all_pairs_push (λ (l other : ZoneLine). l.holder ≢ other.holder) job.zones line facts.zones.holders (holder_differs job holder fifth.0 line refl);
         zones = All-push (IsSoundZone new) job.zones line
-          (All-weaker (IsSoundZone job) (IsSoundZone new) (zone_extends job new extends) job.zones facts.zones.zones) (zone_extends job new extends line sound) } }
+            (All-weaker (IsSoundZone job) (IsSoundZone new) (zone_extends job new extends) job.zones facts.zones.zones) (zone_extends job new extends line sound);
+      };
+    }
 
 -- other programs
 abbrev pub with_programs : JobView → List (List ℕ × ProgramView) → JobView
@@ -371,15 +425,25 @@ list_kept job programs facts =
     let extends : Extends job new = programs_extend job programs in
     record {
       channels = record {
-        numbers = facts.channels.numbers; low = facts.channels.low; high = facts.channels.high; starting = facts.channels.starting; named = facts.channels.named };
+        numbers = facts.channels.numbers;
+        low = facts.channels.low;
+        high = facts.channels.high;
+        starting = facts.channels.starting;
+        named = facts.channels.named;
+      };
       axes = record { few = facts.axes.few; names = facts.axes.names; owners = facts.axes.owners; positions = facts.axes.positions };
       slots = record {
-        numbers = facts.slots.numbers; axes = facts.slots.axes;
+        numbers = facts.slots.numbers;
+        axes = facts.slots.axes;
         owners = All-weaker (λ (g : GeoLine). first_owner job g.axis ≡ Some g.channel) (λ (g : GeoLine). first_owner new g.axis ≡ Some g.channel)
-          (λ g. extends.owned g.axis g.channel) job.geo facts.slots.owners };
+            (λ g. extends.owned g.axis g.channel) job.geo facts.slots.owners;
+      };
       zones = record {
-        numbers = facts.zones.numbers; holders = facts.zones.holders;
-        zones = All-weaker (IsSoundZone job) (IsSoundZone new) (zone_extends job new extends) job.zones facts.zones.zones } }
+        numbers = facts.zones.numbers;
+        holders = facts.zones.holders;
+        zones = All-weaker (IsSoundZone job) (IsSoundZone new) (zone_extends job new extends) job.zones facts.zones.zones;
+      };
+    }
 
 -- of nothing
 pub nothing_listed : (programs : List (List ℕ × ProgramView)) → ListFacts (record { channels = []; axes = []; geo = []; zones = []; programs = programs })
@@ -387,11 +451,26 @@ nothing_listed programs =
     let none : JobView = record { channels = []; axes = []; geo = []; zones = []; programs = programs } in
     record {
       channels = record {
-        numbers = no_pairs (λ (l other : ChannelLine). l.channel ≢ other.channel); low = All-nil (λ (l : ChannelLine). 1 ≤ l.channel);
-        high = All-nil (λ (l : ChannelLine). l.channel ≤ 2); starting = All-nil (λ (l : ChannelLine). l.starts ≡ true); named = All-nil (λ (l : ChannelLine). IsSome l.program) };
+        numbers = no_pairs (λ (l other : ChannelLine). l.channel ≢ other.channel);
+        low = All-nil (λ (l : ChannelLine). 1 ≤ l.channel);
+        high = All-nil (λ (l : ChannelLine). l.channel ≤ 2);
+        starting = All-nil (λ (l : ChannelLine). l.starts ≡ true);
+        named = All-nil (λ (l : ChannelLine). IsSome l.program);
+      };
       axes = record {
-        few = omega arith; names = no_pairs HaveOtherNames; owners = All-nil (λ (l : AxisLine). IsSomeAnd l.owner (IsDeclared none)); positions = All-nil (λ (l : AxisLine). IsInReach l.at) };
+        few = omega arith;
+        names = no_pairs HaveOtherNames;
+        owners = All-nil (λ (l : AxisLine). IsSomeAnd l.owner (IsDeclared none));
+        positions = All-nil (λ (l : AxisLine). IsInReach l.at);
+      };
       slots = record {
-        numbers = no_pairs HaveOtherSlots; axes = All-nil (λ (g : GeoLine). g.axis < 0); owners = All-nil (λ (g : GeoLine). first_owner none g.axis ≡ Some g.channel) };
+        numbers = no_pairs HaveOtherSlots;
+        axes = All-nil (λ (g : GeoLine). g.axis < 0);
+        owners = All-nil (λ (g : GeoLine). first_owner none g.axis ≡ Some g.channel);
+      };
       zones = record {
-        numbers = no_pairs (λ (z other : ZoneLine). z.zone ≢ other.zone); holders = no_pairs (λ (z other : ZoneLine). z.holder ≢ other.holder); zones = All-nil (IsSoundZone none) } }
+        numbers = no_pairs (λ (z other : ZoneLine). z.zone ≢ other.zone);
+        holders = no_pairs (λ (z other : ZoneLine). z.holder ≢ other.holder);
+        zones = All-nil (IsSoundZone none);
+      };
+    }

@@ -1,28 +1,22 @@
 -- Every accepted job is sound.
-use Rattle.std.specs.Bool.{⊤}
 use Rattle.std.specs.Prelude.{IsSomeAnd}
-use Rattle.std.proofs.Common.{◌≡◌, ◌≢◌, ◌∙◌, ℕ, ◌+◌, ◌≤◌, ◌<◌, Bool, true, false, true≢false, ◌||◌, not, if◌then◌else◌, nat_le, List, [], ◌∷◌, ◌++◌, length, Result, Ok, Err, IfOk, Option, Some, None, IfSome, IsSome, find, get_or, subst, refl, sym, ap, arith, length-append, rules}
+use Rattle.std.proofs.Common.{◌≡◌, ◌≢◌, ◌∙◌, ℕ, ◌≤◌, ◌<◌, Bool, true, false, true≢false, ◌||◌, not, nat_le, List, [], ◌∷◌, ◌++◌, length, Result, Ok, Err, IfOk, Option, Some, None, IfSome, IsSome, find, get_or, subst, refl, sym, arith, length-append, rules}
 use Rattle.std.specs.List.{All, Any, AllPairs, enumerate_from}
 use Rattle.std.specs.Map.{keys_of}
 use Rattle.std.specs.Option.{option_map, option_or}
 use Rattle.std.proofs.Math.ListN.{get_or-map}
 use Rattle.std.proofs.lemmas.List.{length-map}
-use Rattle.std.proofs.lemmas.List.Elements.{All-nil, All-cons, All-weaker}
 use Rattle.std.proofs.lemmas.List.Quantifiers.{all_pairs_push}
 use Rattle.nc_faults.specs.declared.Refusal.{Refusal}
 use Rattle.tape_job.specs.declared.code.Code.{Code}
 use Rattle.tape_job.specs.declared.code.Code.TheVariants.{NameRepeated, TooMany, NotInLibrary}
-use Rattle.tape_job.specs.declared.item.AxisName.{AxisName}
 use Rattle.tape_job.specs.declared.item.Item.{Item}
 use Rattle.tape_job.specs.declared.item.Item.TheVariants.{Channel, Axis, Geo, Zone}
 use Rattle.tape_job.specs.declared.item.NamedSide.{NamedSide}
 use Rattle.tape_job.specs.declared.job.Block.{Block}
 use Rattle.tape_job.specs.declared.job.Stmt.{Stmt}
-use Rattle.tape_job.specs.declared.job.AxisLine.{AxisLine}
 use Rattle.tape_job.specs.declared.job.ChannelLine.{ChannelLine}
-use Rattle.tape_job.specs.declared.job.GeoLine.{GeoLine}
 use Rattle.tape_job.specs.declared.job.Side.{Side}
-use Rattle.tape_job.specs.declared.job.ZoneLine.{ZoneLine}
 use Rattle.tape_job.specs.declared.reading.Reading.{Reading}
 use Rattle.tape_job.specs.declared.reading.Reading.TheVariants.{Blank, First, Entry, Header, Step}
 use Rattle.tape_job.specs.Code.{refusal}
@@ -34,10 +28,10 @@ use Rattle.tape_job.specs.Rules.{last}
 use Rattle.tape_job.specs.Told.{Told, told, begins_program, geo_line, zone_line}
 use Rattle.tape_job.specs.Read.{opening, program_before, line_refusal, trial, end_trial, answer, read_of}
 use Rattle.tape_job.specs.Steps.{with_entry, with_line, with_block, tell, unless_refused, run, finish}
-use Rattle.tape_job.specs.SoundJob.{IsSoundRange, IsSoundProgram, IsSoundJob}
+use Rattle.tape_job.specs.SoundJob.{IsSoundJob}
 use Rattle.tape_job.proofs.SoundLists.{unbroken, not_false, none_found}
-use Rattle.tape_job.proofs.SoundReadings.{IsNear, IsWithin, IsSoundSide, IsSoundItem, IsSoundReading, reading_sound}
-use Rattle.tape_job.proofs.SoundJobLines.{ChannelFacts, AxisFacts, SlotFacts, ZoneFacts, ListFacts, HasRange, no_pairs, list_kept, nothing_listed, side_range, sound_range, channel_told, axis_told, geo_told, zone_told}
+use Rattle.tape_job.proofs.SoundReadings.{IsNear, IsSoundItem, IsSoundReading, reading_sound}
+use Rattle.tape_job.proofs.SoundJobLines.{ListFacts, HasRange, no_pairs, list_kept, nothing_listed, side_range, sound_range, channel_told, axis_told, geo_told, zone_told}
 use Rattle.tape_job.proofs.SoundPrograms.{Library, block_told, header_told, programs_sound, keys-with_block, length-with_block, keys-push, library_kept, names_differ, program_found}
 use Rattle.tape_job.proofs.TellingLemmas.{read_of_is}
 
@@ -74,7 +68,7 @@ item_told job number (Axis name owner at) facts none sound = axis_told job numbe
 item_told job number (Geo channel slot axis) facts none sound = geo_item_told job number channel slot (rule.axis_of job.axes axis) facts none
 item_told job number (Zone zone group holder x y z) facts none sound =
     zone_item_told job number zone group holder x y z (rule.side_of job.axes x) (rule.side_of job.axes y) (rule.side_of job.axes z) facts none sound
-      (side_range job.axes x) (side_range job.axes y) (side_range job.axes z)
+    (side_range job.axes x) (side_range job.axes y) (side_range job.axes z)
 
 -- where neither of two gives a refusal
 neither : {A : Type 0} (a b : Option A) → option_or a b ≡ None → (a ≡ None) × (b ≡ None)
@@ -113,7 +107,8 @@ entry_told told number seen begins item sound early none fits =
       list = item_told told.job number item sound.list none fits;
       library = subst (λ programs. Library (with_item told.job number item) programs) (sym (kept number told.job item ∙ empty)) tt;
       names = subst (λ programs. AllPairs (λ name other. name ≢ other) (keys_of programs)) (sym (kept number told.job item)) sound.names;
-      few = subst (λ programs. length programs ≤ 256) (sym (kept number told.job item)) sound.few }
+      few = subst (λ programs. length programs ≤ 256) (sym (kept number told.job item)) sound.few;
+    }
   where
     kept : (number : ℕ) (job : JobView) (item : Item) → (with_item job number item).programs ≡ job.programs
     kept number job (Channel channel program) = refl
@@ -137,8 +132,9 @@ header_line_told told number seen begins name sound begin closed none =
       list = list_kept told.job all sound.list;
       library = library_kept told.job all all (header_told told.job told.job.programs number name sound.library closed);
       names = subst (AllPairs (λ name other. name ≢ other)) (sym (keys-push told.job.programs program))
-        (all_pairs_push (λ name other. name ≢ other) (keys_of told.job.programs) name sound.names (names_differ told.job.programs name first.0));
-      few = omega arith }
+          (all_pairs_push (λ name other. name ≢ other) (keys_of told.job.programs) name sound.names (names_differ told.job.programs name first.0));
+      few = omega arith;
+    }
 
 -- a block
 block_line_told : (told : Told) (number : ℕ) (seen begins : Bool) (stmt : Stmt) → Sound told → told.in_programs ≡ true → rule.going_on told.job.programs ≡ None
@@ -152,7 +148,8 @@ block_line_told told number seen begins stmt sound late goes none near =
       list = list_kept told.job all sound.list;
       library = library_kept told.job all all (block_told told.job told.job.programs number stmt sound.library none goes near);
       names = subst (AllPairs (λ name other. name ≢ other)) (sym (keys-with_block told.job.programs block)) sound.names;
-      few = subst (λ n. n ≤ 256) (sym (length-with_block told.job.programs block)) sound.few }
+      few = subst (λ n. n ≤ 256) (sym (length-with_block told.job.programs block)) sound.few;
+    }
 
 line_told : (told : Told) (number : ℕ) (raw : List ℕ) (seen : Bool) (read : Result Reading Code) → Sound told → program_before told.job raw ≡ None → rule.code_by told.job read ≡ None
     → IfOk read (IsSoundReading told.in_programs (begins_program raw) (has_token raw))
@@ -160,9 +157,19 @@ line_told : (told : Told) (number : ℕ) (raw : List ℕ) (seen : Bool) (read : 
 unfolding with_line rule.rule_of
 line_told told number raw seen (Err code) sound before none fits = absurd cc
 line_told told number raw seen (Ok Blank) sound before none fits = record {
-  early = λ none. sound.early (or_false told.in_programs (begins_program raw) none); list = sound.list; library = sound.library; names = sound.names; few = sound.few }
+  early = λ none. sound.early (or_false told.in_programs (begins_program raw) none);
+  list = sound.list;
+  library = sound.library;
+  names = sound.names;
+  few = sound.few;
+}
 line_told told number raw seen (Ok First) sound before none fits = record {
-  early = λ none. sound.early (or_false told.in_programs (begins_program raw) none); list = sound.list; library = sound.library; names = sound.names; few = sound.few }
+  early = λ none. sound.early (or_false told.in_programs (begins_program raw) none);
+  list = sound.list;
+  library = sound.library;
+  names = sound.names;
+  few = sound.few;
+}
 line_told told number raw seen (Ok (Entry item)) sound before none fits =
     entry_told told number seen (begins_program raw) item sound fits.0 none fits.2
 line_told told number raw seen (Ok (Header name)) sound before none fits =
@@ -177,21 +184,26 @@ tell_sound told line sound none =
     let second = neither (program_before told.job line.1) _ first.1 in
     let unbroken_line = unmapped (λ code. refusal code line.0) (rule.code_by told.job (reading_of told.seen told.in_programs line.1)) second.1 in
     line_told told line.0 line.1 (told.seen || has_token line.1) (reading_of told.seen told.in_programs line.1) sound second.0 unbroken_line
-      (reading_sound told.seen told.in_programs line.1)
+    (reading_sound told.seen told.in_programs line.1)
 
 run_sound : (now : Told) (lines : List Line) (end : Told) → Sound now → run now lines ≡ Ok end → Sound end
 run_sound now [] end sound ran = let same : now ≡ end = cc in subst Sound same sound
 run_sound now (line ∷ lines) end sound ran = by (trial now line) refl (λ none. run_sound (tell now line) lines end (tell_sound now line sound none)) ran
   where
     by : (refused : Option Refusal) → trial now line ≡ refused → (trial now line ≡ None → run (tell now line) lines ≡ Ok end → Sound end)
-      → unless_refused refused (run (tell now line) lines) ≡ Ok end → Sound end
+        → unless_refused refused (run (tell now line) lines) ≡ Ok end → Sound end
     by None none goes ran = goes none ran
     by (Some refused) some goes ran = absurd cc
 
 nothing_told : Sound (told [])
 unfolding told
 nothing_told = record {
-  early = λ _. refl; list = nothing_listed []; library = tt; names = no_pairs (λ (name other : List ℕ). name ≢ other); few = omega arith }
+  early = λ _. refl;
+  list = nothing_listed [];
+  library = tt;
+  names = no_pairs (λ (name other : List ℕ). name ≢ other);
+  few = omega arith;
+}
 
 -- each channel's program is in the library
 known_program : (programs : List (List ℕ × ProgramView)) (program : Option (List ℕ)) → rule.is_known programs program ≡ true → IsSome program
@@ -204,8 +216,8 @@ selected : (job : JobView) (channels : List ChannelLine) → find (λ line. not 
 selected job channels none there k d within =
     let line : ChannelLine = get_or channels k d in
     known_program job.programs line.program
-      (not_false (rule.is_known job.programs line.program) (none_found (λ (l : ChannelLine). not (rule.is_known job.programs l.program)) channels none k d within))
-      (there k d within)
+    (not_false (rule.is_known job.programs line.program) (none_found (λ (l : ChannelLine). not (rule.is_known job.programs l.program)) channels none k d within))
+    (there k d within)
 
 -- names of programs as pairs
 program_names : (programs : List (List ℕ × ProgramView)) → AllPairs (λ name other. name ≢ other) (keys_of programs)
@@ -223,13 +235,25 @@ told_sound now sound none =
     let second = neither (rule.missing now.job) _ first.1 in
     let all_known = unmapped (λ (l : ChannelLine). refusal NotInLibrary l.line) _ second.0 in
     record {
-      channel_numbers = sound.list.channels.numbers; low_channels = sound.list.channels.low; high_channels = sound.list.channels.high; starting = sound.list.channels.starting;
+      channel_numbers = sound.list.channels.numbers;
+      low_channels = sound.list.channels.low;
+      high_channels = sound.list.channels.high;
+      starting = sound.list.channels.starting;
       selected = selected now.job now.job.channels all_known sound.list.channels.named;
-      few_axes = sound.list.axes.few; axis_names = sound.list.axes.names; owners = sound.list.axes.owners; positions = sound.list.axes.positions;
-      slot_numbers = sound.list.slots.numbers; slot_axes = sound.list.slots.axes; slots = sound.list.slots.owners;
-      zone_numbers = sound.list.zones.numbers; zone_holders = sound.list.zones.holders; zones = sound.list.zones.zones;
-      few_programs = sound.few; program_names = program_names now.job.programs sound.names;
-      programs = programs_sound now.job now.job.programs sound.library first.0 }
+      few_axes = sound.list.axes.few;
+      axis_names = sound.list.axes.names;
+      owners = sound.list.axes.owners;
+      positions = sound.list.axes.positions;
+      slot_numbers = sound.list.slots.numbers;
+      slot_axes = sound.list.slots.axes;
+      slots = sound.list.slots.owners;
+      zone_numbers = sound.list.zones.numbers;
+      zone_holders = sound.list.zones.holders;
+      zones = sound.list.zones.zones;
+      few_programs = sound.few;
+      program_names = program_names now.job.programs sound.names;
+      programs = programs_sound now.job now.job.programs sound.library first.0;
+    }
 
 answered : (refused : Option Refusal) (told job : JobView) → answer refused told ≡ Ok job → (refused ≡ None) × (told ≡ job)
 answered None told job same = (refl, cc)

@@ -1,17 +1,15 @@
 -- What headers and blocks tell that break no rule is sound.
 use Rattle.std.specs.Bool.{⊤}
-use Rattle.std.specs.Prelude.{IsSomeAnd}
-use Rattle.std.proofs.Common.{◌≡◌, ◌≢◌, ◌∙◌, ℕ, suc, ℤ, ◌+◌, ◌<◌, ◌≤◌, Bool, true, false, true≢false, ◌&&◌, ◌||◌, not, if◌then◌else◌, ◌==◌, nat_le, List, [], ◌∷◌, ◌++◌, length, Option, Some, None, IfSome, refl, sym, ap, arith, length-append, rules}
-use Rattle.std.specs.List.{All, Any, AllPairs, list_any, list_all}
+use Rattle.std.proofs.Common.{◌≡◌, ◌≢◌, ◌∙◌, ℕ, suc, ℤ, ◌<◌, ◌≤◌, Bool, true, false, true≢false, ◌&&◌, ◌||◌, not, if◌then◌else◌, ◌==◌, nat_le, List, [], ◌∷◌, ◌++◌, length, Option, Some, None, IfSome, refl, sym, ap, arith, length-append, rules}
+use Rattle.std.specs.List.{All, Any, list_any}
 use Rattle.std.specs.Map.{keys_of}
-use Rattle.std.specs.Option.{option_and_then, option_map}
+use Rattle.std.specs.Option.{option_and_then}
 use Rattle.std.specs.Str.{bytes_eq}
 use Rattle.std.proofs.lemmas.Bool.{eqb-true}
 use Rattle.std.proofs.lemmas.Slice.Eq.{bytes_eq-Decides}
 use Rattle.std.proofs.lemmas.List.Elements.{All-nil, All-cons, All-push, All-weaker}
-use Rattle.std.proofs.lemmas.List.Quantifiers.{all_pairs_push}
 use Rattle.nc_faults.specs.declared.Refusal.{Refusal}
-use Rattle.tape_job.specs.declared.code.Code.TheVariants.{NameRepeated, TooMany, NotBuilt}
+use Rattle.tape_job.specs.declared.code.Code.TheVariants.{NotBuilt}
 use Rattle.tape_job.specs.declared.job.Block.{Block}
 use Rattle.tape_job.specs.declared.job.ChannelLine.{ChannelLine}
 use Rattle.tape_job.specs.declared.job.GeoLine.{GeoLine}
@@ -20,7 +18,7 @@ use Rattle.tape_job.specs.declared.job.Stmt.TheVariants.{Move, End}
 use Rattle.tape_job.specs.Job.{JobView, ProgramView}
 use Rattle.tape_job.specs.Rules as rule
 use Rattle.tape_job.specs.Rules.{last}
-use Rattle.tape_job.specs.Steps.{with_block, with_header}
+use Rattle.tape_job.specs.Steps.{with_block}
 use Rattle.tape_job.specs.SoundJob.{IsInReach, HasSlot, IsSoundEnd, IsSoundStatement, EndsOnce, IsSoundProgram}
 use Rattle.tape_job.proofs.SoundLists.{unbroken, not_false, or_fails, and_holds, none_pass, all_pass, found, last-cons}
 use Rattle.tape_job.proofs.SoundReadings.{IsNear}
@@ -49,12 +47,21 @@ only_push (first ∷ next ∷ blocks) block only unended =
 ends_once : (header : ℕ) (blocks : List Block) → OnlyLastEnds blocks → rule.open_line header (last blocks) ≡ None → EndsOnce blocks
 ends_once header [] only closed = absurd cc
 ends_once header (block ∷ []) only closed = record {
-  motions = []; end = block; all = refl; is_end = is_ended block.line block.stmt closed; moves = All-nil (λ b. b.stmt ≢ End) }
+  motions = [];
+  end = block;
+  all = refl;
+  is_end = is_ended block.line block.stmt closed;
+  moves = All-nil (λ b. b.stmt ≢ End);
+}
 ends_once header (block ∷ next ∷ blocks) only closed =
     let rest = ends_once header (next ∷ blocks) only.1 (ap (rule.open_line header) (sym (last-cons block next blocks)) ∙ closed) in
     record {
-      motions = block ∷ rest.motions; end = rest.end; all = ap (λ bs. block ∷ bs) rest.all; is_end = rest.is_end;
-      moves = All-cons (λ b. b.stmt ≢ End) block rest.motions only.0 rest.moves }
+      motions = block ∷ rest.motions;
+      end = rest.end;
+      all = ap (λ bs. block ∷ bs) rest.all;
+      is_end = rest.is_end;
+      moves = All-cons (λ b. b.stmt ≢ End) block rest.motions only.0 rest.moves;
+    }
 
 -- a program that goes on
 pub record IsOpenProgram (job : JobView) (name : List ℕ) (program : ProgramView) : Type 0 where
@@ -69,8 +76,10 @@ no_refusal (Some line) none = absurd cc
 closed_program : (job : JobView) (name : List ℕ) (program : ProgramView) → IsOpenProgram job name program
     → rule.refused_line (rule.open_line program.line (last program.blocks)) ≡ None → IsSoundProgram job name program
 closed_program job name program ongoing none = record {
-  few = ongoing.few; ends = ends_once program.line program.blocks ongoing.only (no_refusal (rule.open_line program.line (last program.blocks)) none);
-  statements = ongoing.statements }
+  few = ongoing.few;
+  ends = ends_once program.line program.blocks ongoing.only (no_refusal (rule.open_line program.line (last program.blocks)) none);
+  statements = ongoing.statements;
+}
 
 -- the programs so far: all but the last are closed
 abbrev pub Library : JobView → List (List ℕ × ProgramView) → Type 0
@@ -89,15 +98,15 @@ slot_of_line job name slot channel program has selects =
     let selected : rule.is_name name program ≡ true = rw selects (name_is_own name) in
     let there : rule.has_slot job channel slot ≡ true = sym (rw selected refl) ∙ has in
     found (λ (g : GeoLine). (g.channel ≡ channel) × (g.slot ≡ slot)) (λ g. (g.channel == channel) && (g.slot == slot))
-      (λ g both. let each = and_holds (g.channel == channel) (g.slot == slot) both in (eqb-true g.channel channel each.0, eqb-true g.slot slot each.1)) job.geo there
+    (λ g both. let each = and_holds (g.channel == channel) (g.slot == slot) both in (eqb-true g.channel channel each.0, eqb-true g.slot slot each.1)) job.geo there
 
 slot_has : (job : JobView) (name : List ℕ) (slot : ℕ) → rule.all_have_slot job name slot ≡ true → HasSlot job name slot
 unfolding rule.all_have_slot rule.has_slot
 slot_has job name slot has =
     All-weaker (λ (line : ChannelLine). not (rule.is_name name line.program) || rule.has_slot job line.channel slot ≡ true)
-      (λ (line : ChannelLine). line.program ≡ Some name → Any (λ g. (g.channel ≡ line.channel) × (g.slot ≡ slot)) job.geo)
-      (λ line. slot_of_line job name slot line.channel line.program) job.channels
-      (all_pass (λ (line : ChannelLine). not (rule.is_name name line.program) || rule.has_slot job line.channel slot) job.channels has)
+    (λ (line : ChannelLine). line.program ≡ Some name → Any (λ g. (g.channel ≡ line.channel) × (g.slot ≡ slot)) job.geo)
+    (λ line. slot_of_line job name slot line.channel line.program) job.channels
+    (all_pass (λ (line : ChannelLine). not (rule.is_name name line.program) || rule.has_slot job line.channel slot) job.channels has)
 
 end_sound : (job : JobView) (name : List ℕ) (slot : ℕ) (end : Option ℤ) → rule.lacks_slot job name slot end ≡ false → IfSome end IsInReach → IfSome end (IsSoundEnd job name slot)
 end_sound job name slot None has near = tt
@@ -124,7 +133,8 @@ block_more job name program number stmt ongoing none goes near =
     record {
       few = omega arith;
       only = only_push program.blocks block ongoing.only (no_refusal (rule.ended_line (last program.blocks)) goes);
-      statements = All-push (λ (b : Block). IsSoundStatement job name b.stmt) program.blocks block ongoing.statements (statement_sound job name stmt both.1 near) }
+      statements = All-push (λ (b : Block). IsSoundStatement job name b.stmt) program.blocks block ongoing.statements (statement_sound job name stmt both.1 near);
+    }
 
 abbrev last_goes_on : Option (List ℕ × ProgramView) → Option Refusal
 last_goes_on program = option_and_then (λ (p : List ℕ × ProgramView). rule.refused_line (rule.ended_line (last p.1.blocks))) program
@@ -134,12 +144,16 @@ pub block_told : (job : JobView) (programs : List (List ℕ × ProgramView)) (nu
 unfolding rule.going_on
 block_told job [] number stmt library none goes near = tt
 block_told job (program ∷ []) number stmt library none goes near = block_more job program.0 program.1 number stmt library none goes near
-block_told job (program ∷ next ∷ []) number stmt library none goes near =
-    (library.0, block_told job (next ∷ []) number stmt library.1 (ap (rule.block_rule job stmt) (sym (last-cons program next [])) ∙ none)
-      (ap last_goes_on (sym (last-cons program next [])) ∙ goes) near)
-block_told job (program ∷ next ∷ further ∷ programs) number stmt library none goes near =
-    (library.0, block_told job (next ∷ further ∷ programs) number stmt library.1 (ap (rule.block_rule job stmt) (sym (last-cons program next (further ∷ programs))) ∙ none)
-      (ap last_goes_on (sym (last-cons program next (further ∷ programs))) ∙ goes) near)
+block_told job (program ∷ next ∷ []) number stmt library none goes near = (
+  library.0,
+  block_told job (next ∷ []) number stmt library.1 (ap (rule.block_rule job stmt) (sym (last-cons program next [])) ∙ none)
+      (ap last_goes_on (sym (last-cons program next [])) ∙ goes) near,
+)
+block_told job (program ∷ next ∷ further ∷ programs) number stmt library none goes near = (
+  library.0,
+  block_told job (next ∷ further ∷ programs) number stmt library.1 (ap (rule.block_rule job stmt) (sym (last-cons program next (further ∷ programs))) ∙ none)
+      (ap last_goes_on (sym (last-cons program next (further ∷ programs))) ∙ goes) near,
+)
 
 -- one header more
 abbrev last_closes : Option (List ℕ × ProgramView) → Option Refusal
@@ -163,7 +177,7 @@ programs_sound job (program ∷ []) library none =
     All-cons (λ program. IsSoundProgram job program.0 program.1) program [] (closed_program job program.0 program.1 library none) (All-nil (λ program. IsSoundProgram job program.0 program.1))
 programs_sound job (program ∷ next ∷ programs) library none =
     All-cons (λ program. IsSoundProgram job program.0 program.1) program (next ∷ programs) library.0
-      (programs_sound job (next ∷ programs) library.1 (ap last_closes (sym (last-cons program next programs)) ∙ none))
+    (programs_sound job (next ∷ programs) library.1 (ap last_closes (sym (last-cons program next programs)) ∙ none))
 
 -- the names of the programs
 pub keys-with_block : (programs : List (List ℕ × ProgramView)) (block : Block) → keys_of (with_block programs block) ≡ keys_of programs
@@ -197,7 +211,7 @@ pub program_found : (programs : List (List ℕ × ProgramView)) (name : List ℕ
 unfolding rule.has_program
 program_found programs name has =
     found (λ (p : List ℕ × ProgramView). p.0 ≡ name) (λ p. bytes_eq name p.0) (λ p same. sym ((bytes_eq-Decides name p.0).0 same)) programs
-      (sym (any_key programs (bytes_eq name)) ∙ has)
+    (sym (any_key programs (bytes_eq name)) ∙ has)
 
 -- the same programs in a job that has other programs besides
 open_kept : (job : JobView) (all : List (List ℕ × ProgramView)) (name : List ℕ) (program : ProgramView) → IsOpenProgram job name program → IsOpenProgram (with_programs job all) name program
