@@ -7,6 +7,8 @@ mod clash;
 mod judge;
 mod laws;
 mod report;
+#[cfg(test)]
+mod state_search;
 mod stretches;
 #[cfg(test)]
 mod tests;
