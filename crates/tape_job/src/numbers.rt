@@ -1,4 +1,4 @@
-//! Whole numbers and lengths, read from words.
+//! Whole numbers, read from words.
 ghost use Rattle.std.specs.Prelude.{◌≡◌, ◌^◌, ◌<◌, ◌≤◌, true, length, IfSome};
 ghost use Rattle.std.specs.List.{list_all};
 ghost use Rattle.std.specs.Char.{is_ascii_digit};

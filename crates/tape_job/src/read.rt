@@ -8,7 +8,6 @@ use crate::{Job, JobFault};
 use std::alloc::Global;
 
 /// Reads an input: its job, or the first refusal of a line that is tried and broken.
-
 pub fn read_job(alloc: Global, bytes: &[u8]) -> Result<Job, JobFault>
     requires { length bytes.now ≤ 8388609 }
     ensures { GivesRead result (read_of bytes.now) }
