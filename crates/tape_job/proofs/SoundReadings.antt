@@ -1,6 +1,6 @@
 -- What holds of all that a line can say by itself.
 use Rattle.std.specs.Bool.{⊤}
-use Rattle.std.proofs.Common.{◌≡◌, ◌∙◌, ℕ, zero, suc, ◌<◌, ◌≤◌, ℤ, pos, negsuc, ◌≤ℤ◌, neg_ℤ, unsigned_abs, Bool, true, false, ◌&&◌, cond, not, if◌then◌else◌, nat_le, nat_lt, int_le, length, ◌||◌, ◌==◌, codes, List, [], ◌∷◌, Result, Ok, Err, IfOk, Option, Some, None, IfSome, refl, sym, ap, rules, arith}
+use Rattle.std.proofs.Common.{◌≡◌, ◌∙◌, ℕ, zero, suc, ◌<◌, ◌≤◌, ℤ, pos, negsuc, ◌≤ℤ◌, neg_ℤ, unsigned_abs, Bool, true, false, ◌&&◌, cond, not, if◌then◌else◌, nat_le, nat_lt, int_le, length, ◌||◌, ◌==◌, codes, List, [], ◌∷◌, Result, Ok, Err, IfOk, Option, Some, None, IfSome, subst, refl, sym, ap, rules, arith}
 use Rattle.std.specs.List.{list_any, AllByRecursion}
 use Rattle.std.specs.Option.{option_and_then, option_map}
 use Rattle.std.specs.Str.{bytes_eq}
@@ -28,6 +28,7 @@ use Rattle.tape_job.specs.Item as item
 use Rattle.tape_job.specs.Block as block
 use Rattle.tape_job.specs.Header.{header_of}
 use Rattle.tape_job.specs.Reading as reading
+use Rattle.tape_job.specs.Told.{begins_program}
 use Rattle.tape_job.specs.SoundJob.{IsInReach, IsSoundRange}
 
 -- what holds of each result of a reading holds of the next reading's
@@ -300,44 +301,53 @@ unfolding block.block_of
 block_sound text =
     then_ok AllSound IsNear (block.addresses_of (block.cut_at_letters text)) block.statement_of (addresses_sound (block.cut_at_letters text)) statement_sound
 
--- what holds of what a line says: a job line stands before the programs
-abbrev pub IsSoundReading : Bool → Reading → Type 0
-IsSoundReading in_programs (Entry item) = (in_programs ≡ false) × IsSoundItem item
-IsSoundReading in_programs (Step stmt) = IsNear stmt
-IsSoundReading in_programs other = ⊤
+-- what holds of what a line says, by whether the programs have begun, whether it begins one and whether it has a token:
+-- a job line stands before the programs and begins none, a header begins one, and a block stands in one
+abbrev pub IsSoundReading : Bool → Bool → Bool → Reading → Type 0
+IsSoundReading in_programs begins token (Entry item) = (in_programs ≡ false) × (begins ≡ false) × IsSoundItem item
+IsSoundReading in_programs begins token (Header name) = begins ≡ true
+IsSoundReading in_programs begins token (Step stmt) = (in_programs ≡ true) × (begins ≡ false) × (token ≡ true) × IsNear stmt
+IsSoundReading in_programs begins token other = ⊤
 
-entry_sound : (seen : Bool) (words : List (List ℕ)) → IfOk (reading.entry_of seen words) (IsSoundReading false)
+entry_sound : (seen : Bool) (words : List (List ℕ)) → IfOk (reading.entry_of seen words) (IsSoundReading false false true)
 unfolding reading.entry_of
 entry_sound false words = tt
 entry_sound true [] = tt
-entry_sound true (kind ∷ args) = then_ok IsSoundItem (IsSoundReading false) (item.item_of kind args) _ (item_sound kind args) (λ i sound. (refl, sound))
+entry_sound true (kind ∷ args) = then_ok IsSoundItem (IsSoundReading false false true) (item.item_of kind args) _ (item_sound kind args) (λ i sound. (refl, refl, sound))
 
-header_sound : (in_programs : Bool) (text : List ℕ) → IfOk (reading.header_reading text) (IsSoundReading in_programs)
+header_sound : (in_programs : Bool) (text : List ℕ) → IfOk (reading.header_reading text) (IsSoundReading in_programs true true)
 unfolding reading.header_reading
-header_sound in_programs text = then_any (IsSoundReading in_programs) (header_of (words text)) _ (λ name. tt)
+header_sound in_programs text = then_any (IsSoundReading in_programs true true) (header_of (words text)) _ (λ name. refl)
 
-step_sound : (in_programs : Bool) (text : List ℕ) → IfOk (reading.step_reading text) (IsSoundReading in_programs)
+step_sound : (text : List ℕ) → IfOk (reading.step_reading text) (IsSoundReading true false true)
 unfolding reading.step_reading
-step_sound in_programs text = then_ok IsNear (IsSoundReading in_programs) (block.block_of text) _ (block_sound text) (λ stmt near. near)
+step_sound text = then_ok IsNear (IsSoundReading true false true) (block.block_of text) _ (block_sound text) (λ stmt near. (refl, refl, refl, near))
 
-form_sound : (seen in_programs percent : Bool) (text : List ℕ) → IfOk (reading.form_of seen in_programs percent text) (IsSoundReading in_programs)
+form_sound : (seen in_programs percent : Bool) (text : List ℕ) → IfOk (reading.form_of seen in_programs percent text) (IsSoundReading in_programs percent true)
 unfolding reading.form_of reading.entry_reading
 form_sound seen in_programs true text = header_sound in_programs text
-form_sound seen true false text = step_sound true text
+form_sound seen true false text = step_sound text
 form_sound seen false false text = entry_sound seen (words text)
 
-token_sound : (seen in_programs : Bool) (raw : List ℕ) → IfOk (reading.token_reading seen in_programs raw) (IsSoundReading in_programs)
-unfolding reading.token_reading
+with_token : (percent token : Bool) → token ≡ true → percent ≡ percent && token
+with_token true token is = sym is
+with_token false token is = refl
+
+token_sound : (seen in_programs : Bool) (raw : List ℕ) → IfOk (reading.token_reading seen in_programs raw) (IsSoundReading in_programs (begins_program raw) (has_token raw))
+unfolding reading.token_reading begins_program
 token_sound seen in_programs raw =
-    if_ok (IsSoundReading in_programs) (has_token raw) _ _ (λ _. form_sound seen in_programs (begins_with_percent raw) (text_of raw)) tt
+    if_ok (IsSoundReading in_programs (begins_with_percent raw && has_token raw) (has_token raw)) (has_token raw) _ _
+      (λ token. subst (λ begins. IfOk (reading.form_of seen in_programs (begins_with_percent raw) (text_of raw)) (IsSoundReading in_programs begins (has_token raw)))
+        (with_token (begins_with_percent raw) (has_token raw) token)
+        (subst (λ t. IfOk (reading.form_of seen in_programs (begins_with_percent raw) (text_of raw)) (IsSoundReading in_programs (begins_with_percent raw) t)) (sym token)
+          (form_sound seen in_programs (begins_with_percent raw) (text_of raw)))) tt
 
-unless_sound : (in_programs : Bool) (broken : Option Code) (read : Result Reading Code) → IfOk read (IsSoundReading in_programs)
-    → IfOk (reading.unless_broken broken read) (IsSoundReading in_programs)
-unless_sound in_programs None read sound = sound
-unless_sound in_programs (Some code) read sound = tt
+unless_sound : (P : Reading → Type 0) (broken : Option Code) (read : Result Reading Code) → IfOk read P → IfOk (reading.unless_broken broken read) P
+unless_sound P None read sound = sound
+unless_sound P (Some code) read sound = tt
 
-pub reading_sound : (seen in_programs : Bool) (raw : List ℕ) → IfOk (reading.reading_of seen in_programs raw) (IsSoundReading in_programs)
+pub reading_sound : (seen in_programs : Bool) (raw : List ℕ) → IfOk (reading.reading_of seen in_programs raw) (IsSoundReading in_programs (begins_program raw) (has_token raw))
 unfolding reading.reading_of
 reading_sound seen in_programs raw =
-    if_ok (IsSoundReading in_programs) (nat_lt 512 (length raw)) _ _ (λ _. tt)
-      (unless_sound in_programs (reading.byte_rule (text_of raw)) (reading.token_reading seen in_programs raw) (token_sound seen in_programs raw))
+    if_ok (IsSoundReading in_programs (begins_program raw) (has_token raw)) (nat_lt 512 (length raw)) _ _ (λ _. tt)
+      (unless_sound (IsSoundReading in_programs (begins_program raw) (has_token raw)) (reading.byte_rule (text_of raw)) (reading.token_reading seen in_programs raw) (token_sound seen in_programs raw))
