@@ -7,7 +7,7 @@ use Rattle.edge_io.specs.Moves.{Loses, Grows}
 use Rattle.nc_faults.specs.declared.Refusal.{Refusal}
 use Rattle.tape_job.specs.Job.{JobView}
 use Rattle.tape_job.specs.Read.{read_of}
-use Rattle.tape_job.specs.SoundJob.{IsSoundJob}
+use Rattle.tape_job.proofs.SoundJobs.{accepted_sound}
 use Rattle.turnmill.specs.Clash.{verdict_of}
 use Rattle.turnmill.specs.Report.{refusal_bytes}
 use Rattle.turnmill.specs.Input.{ReadsAll, TakesTooMany}
@@ -125,11 +125,11 @@ refused_ends A B C N (Some input) after bytes status reads is = λ _ _ _ short r
     inr (is ∙ refused_comes bytes (rw reads.0 at short) (rw reads.0 at refused))
 
 -- at YES the job that was read is safe at all speeds
-safe_by : (read : Result JobView Refusal) → IfOk read IsSoundJob → IsOkAnd read (λ job. verdict_of job ≡ Yes) → IsOkAnd read SafeAlways
-safe_by (Ok job) sound says = sound_at_all_speeds job sound says
-safe_by (Err refusal) sound says = says
+safe_by : (input : List ℕ) (read : Result JobView Refusal) → read_of input ≡ read → IsOkAnd read (λ job. verdict_of job ≡ Yes) → IsOkAnd read SafeAlways
+safe_by input (Ok job) is says = sound_at_all_speeds job (accepted_sound input job is) says
+safe_by input (Err refusal) is says = says
 
-pub safe_at_yes : (left after : Option (List ℕ)) (bytes : List ℕ) → IfOk (read_of bytes) IsSoundJob → ReadsAll left after bytes → (output_of bytes).status ≡ ends.Yes
+pub safe_at_yes : (left after : Option (List ℕ)) (bytes : List ℕ) → ReadsAll left after bytes → (output_of bytes).status ≡ ends.Yes
     → IfSome left (λ input. IsOkAnd (read_of input) SafeAlways)
-safe_at_yes None after bytes sound reads is = tt
-safe_at_yes (Some input) after bytes sound reads is = rw reads.0 (safe_by (read_of bytes) sound (yes_is bytes is))
+safe_at_yes None after bytes reads is = tt
+safe_at_yes (Some input) after bytes reads is = rw reads.0 (safe_by bytes (read_of bytes) refl (yes_is bytes is))

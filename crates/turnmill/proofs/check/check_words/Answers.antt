@@ -18,4 +18,4 @@ returns-in-Ok-put_all-clause-refused_comes g c =
 
 pub returns-in-Ok-put_all-clause-speeds : goal.returns-in-Ok-put_all-clause-speeds
 returns-in-Ok-put_all-clause-speeds g c = λ is.
-    safe_at_yes _ _ _ ? c.in-Ok.ensures.2 (rw c.deref.ensures.value at (sym c.in-Ok-make_output.ensures.status_is ∙ is))
+    safe_at_yes _ _ _ c.in-Ok.ensures.2 (rw c.deref.ensures.value at (sym c.in-Ok-make_output.ensures.status_is ∙ is))

@@ -1,10 +1,12 @@
--- An input that is not too long calls for what it is read as.
+-- An input that is not too long calls for what it is read as, and an accepted job can be run.
+use Rattle.tape_job.proofs.SoundJobs.{accepted_sound}
 use Rattle.tape_job.proofs.RefusalLemmas.{refusal_in_table}
 use Rattle.turnmill.proofs.CheckLemmas.{output_of-short}
+use Rattle.turnmill.proofs.RunnableLemmas.{runnable}
 use Rattle.turnmill.proofs.check.make_output.Goals as goal
 
 pub job_output-requires : goal.job_output-requires
-job_output-requires c = ?
+job_output-requires c = runnable _ (accepted_sound c.args.bytes.now _ c.in-Ok.ensures)
 
 pub refusal_output-requires : goal.refusal_output-requires
 refusal_output-requires c =
