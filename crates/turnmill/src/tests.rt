@@ -1,4 +1,6 @@
 //! Whole calls over a source and a sink in memory.
+ghost use Rattle.std.specs.Prelude.{◌≡◌, ◌<◌, IfOk};
+
 use crate::check::{Status, check_words};
 use edge_io::{MemSink, MemSource};
 use std::alloc::{AllocError, Global};
@@ -54,6 +56,7 @@ fn job_source(
     fails: &[u32],
 ) -> Result<MemSource, AllocError>
     requires { 0 < piece }
+    ensures { IfOk result (λ source. source.faults ≡ 0) }
 {
     let mut bytes = head.as_bytes().to_vec(alloc)?;
     bytes.extend_from_slice(blocks.as_bytes())?;
