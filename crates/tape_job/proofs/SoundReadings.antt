@@ -1,14 +1,14 @@
 -- What holds of all that a line can say by itself.
 use Rattle.std.specs.Bool.{⊤}
-use Rattle.std.proofs.Common.{◌≡◌, ◌∙◌, ℕ, zero, suc, ◌<◌, ◌≤◌, ℤ, pos, negsuc, ◌≤ℤ◌, neg_ℤ, unsigned_abs, Bool, true, false, ◌&&◌, cond, not, if◌then◌else◌, nat_le, nat_lt, int_le, length, ◌||◌, ◌==◌, codes, List, [], ◌∷◌, Result, Ok, Err, IfOk, Option, Some, None, IfSome, refl, sym, ap, rules, arith}
-use Rattle.std.specs.List.{list_any, AllByRecursion}
+use Rattle.std.proofs.Common.{◌≡◌, ℕ, zero, suc, ◌≤◌, ℤ, pos, negsuc, neg_ℤ, unsigned_abs, Bool, true, false, ◌&&◌, if◌then◌else◌, nat_le, nat_lt, int_le, length, ◌||◌, ◌==◌, codes, List, [], ◌∷◌, Result, Ok, Err, IfOk, Option, Some, None, IfSome, subst, refl, sym, rules}
+use Rattle.std.specs.List.{AllByRecursion}
 use Rattle.std.specs.Option.{option_and_then, option_map}
 use Rattle.std.specs.Str.{bytes_eq}
 use Rattle.std.proofs.lemmas.Bool.{leb-true}
 use Rattle.micro_units.specs.Rounding.{half_away}
 use Rattle.micro_units.specs.NumberText.{number_of}
 use Rattle.tape_job.specs.declared.code.Code.{Code}
-use Rattle.tape_job.specs.declared.code.Code.TheVariants.{OutOfRange, NotBuilt, UnknownJobLine}
+use Rattle.tape_job.specs.declared.code.Code.TheVariants.{OutOfRange, NotBuilt}
 use Rattle.tape_job.specs.declared.block.Address.{Address}
 use Rattle.tape_job.specs.declared.block.Address.TheVariants.{Number, Line, X, Z, Feed}
 use Rattle.tape_job.specs.declared.block.Address.TheVariants as address
@@ -19,7 +19,7 @@ use Rattle.tape_job.specs.declared.item.Item.TheVariants.{Channel, Axis, Geo, Zo
 use Rattle.tape_job.specs.declared.job.Stmt.{Stmt}
 use Rattle.tape_job.specs.declared.job.Stmt.TheVariants.{Move, End}
 use Rattle.tape_job.specs.declared.reading.Reading.{Reading}
-use Rattle.tape_job.specs.declared.reading.Reading.TheVariants.{Blank, First, Entry, Header, Step}
+use Rattle.tape_job.specs.declared.reading.Reading.TheVariants.{Entry, Header, Step}
 use Rattle.tape_job.specs.Code.{◌>>=◌, or_code}
 use Rattle.tape_job.specs.Numbers.{is_digits, whole_of, within, number_within}
 use Rattle.tape_job.specs.Length.{in_reach, size_of, is_size, signed_size_of, length_of}
@@ -28,6 +28,7 @@ use Rattle.tape_job.specs.Item as item
 use Rattle.tape_job.specs.Block as block
 use Rattle.tape_job.specs.Header.{header_of}
 use Rattle.tape_job.specs.Reading as reading
+use Rattle.tape_job.specs.Told.{begins_program}
 use Rattle.tape_job.specs.SoundJob.{IsInReach, IsSoundRange}
 
 -- what holds of each result of a reading holds of the next reading's
@@ -74,8 +75,8 @@ channel_sound : (word : List ℕ) → IfOk (item.channel_of word) (IsWithin 1 2)
 unfolding item.channel_of
 channel_sound word =
     then_ok (IsWithin 1 8) (IsWithin 1 2) (or_code OutOfRange (number_within 1 8 word)) item.built_channel
-      (or_ok (IsWithin 1 8) OutOfRange (number_within 1 8 word) (number_sound 1 8 word))
-      (λ number range. built_sound (nat_le number 2) number refl range)
+    (or_ok (IsWithin 1 8) OutOfRange (number_within 1 8 word) (number_sound 1 8 word))
+    (λ number range. built_sound (nat_le number 2) number refl range)
 
 zone_sound : (word : List ℕ) → IfOk (item.zone_of word) (IsWithin 1 32)
 unfolding item.zone_of
@@ -136,8 +137,8 @@ side_sound : (carrier lo hi : List ℕ) → IfOk (item.named_side_of carrier lo 
 unfolding item.named_side_of
 side_sound carrier lo hi =
     then_any IsSoundSide (item.carrier_of carrier) _ (λ c.
-      then_ok IsInReach IsSoundSide (length_of lo) _ (length_sound lo) (λ l low.
-        then_ok IsInReach IsSoundSide (length_of hi) _ (length_sound hi) (λ h high. range_by (int_le l h) c l h refl low high)))
+    then_ok IsInReach IsSoundSide (length_of lo) _ (length_sound lo) (λ l low.
+    then_ok IsInReach IsSoundSide (length_of hi) _ (length_sound hi) (λ h high. range_by (int_le l h) c l h refl low high)))
 
 -- what holds of a job line
 abbrev pub IsSoundItem : Item → Type 0
@@ -150,7 +151,7 @@ channel_item_sound : (channel program start : List ℕ) → IfOk (item.channel_i
 unfolding item.channel_item_of
 channel_item_sound channel program start =
     if_ok IsSoundItem (bytes_eq start (codes "START")) _ _
-      (λ _. then_ok (IsWithin 1 2) IsSoundItem (item.channel_of channel) _ (channel_sound channel) (λ number range. range)) tt
+    (λ _. then_ok (IsWithin 1 2) IsSoundItem (item.channel_of channel) _ (channel_sound channel) (λ number range. range)) tt
 
 channel_line_sound : (args : List (List ℕ)) → IfOk (item.channel_line args) IsSoundItem
 unfolding item.channel_line
@@ -161,7 +162,7 @@ axis_item_sound : (name owner at : List ℕ) → IfOk (item.axis_item_of name ow
 unfolding item.axis_item_of
 axis_item_sound name owner at =
     then_any IsSoundItem (item.axis_name_of name) _ (λ n. then_any IsSoundItem (item.owner_of owner) _ (λ o.
-      then_ok IsInReach IsSoundItem (length_of at) _ (length_sound at) (λ z near. near)))
+    then_ok IsInReach IsSoundItem (length_of at) _ (length_sound at) (λ z near. near)))
 
 axis_line_sound : (args : List (List ℕ)) → IfOk (item.axis_line args) IsSoundItem
 unfolding item.axis_line
@@ -172,7 +173,7 @@ geo_item_sound : (channel slot axis : List ℕ) → IfOk (item.geo_item_of chann
 unfolding item.geo_item_of
 geo_item_sound channel slot axis =
     then_any IsSoundItem (item.channel_of channel) _ (λ c. then_any IsSoundItem (item.slot_of slot) _ (λ s.
-      then_any IsSoundItem (item.axis_name_of axis) _ (λ a. tt)))
+    then_any IsSoundItem (item.axis_name_of axis) _ (λ a. tt)))
 
 geo_line_sound : (args : List (List ℕ)) → IfOk (item.geo_line args) IsSoundItem
 unfolding item.geo_line
@@ -184,13 +185,13 @@ zone_item_sound : (zone group holder state cx lx hx cy ly hy cz lz hz : List ℕ
 unfolding item.zone_item_of
 zone_item_sound zone group holder state cx lx hx cy ly hy cz lz hz =
     then_any IsSoundItem (item.state_of state) _ (λ on.
-      then_ok (IsWithin 1 32) IsSoundItem (item.zone_of zone) _ (zone_sound zone) (λ z zone_range.
-      then_ok (IsWithin 1 32) IsSoundItem (item.zone_of group) _ (zone_sound group) (λ g group_range.
-      then_any IsSoundItem (item.owner_of holder) _ (λ h.
-      then_ok IsSoundSide IsSoundItem (item.named_side_of cx lx hx) _ (side_sound cx lx hx) (λ x x_range.
-      then_ok IsSoundSide IsSoundItem (item.named_side_of cy ly hy) _ (side_sound cy ly hy) (λ y y_range.
-      then_ok IsSoundSide IsSoundItem (item.named_side_of cz lz hz) _ (side_sound cz lz hz) (λ w w_range.
-        (zone_range, group_range, x_range, y_range, w_range))))))))
+    then_ok (IsWithin 1 32) IsSoundItem (item.zone_of zone) _ (zone_sound zone) (λ z zone_range.
+    then_ok (IsWithin 1 32) IsSoundItem (item.zone_of group) _ (zone_sound group) (λ g group_range.
+    then_any IsSoundItem (item.owner_of holder) _ (λ h.
+    then_ok IsSoundSide IsSoundItem (item.named_side_of cx lx hx) _ (side_sound cx lx hx) (λ x x_range.
+    then_ok IsSoundSide IsSoundItem (item.named_side_of cy ly hy) _ (side_sound cy ly hy) (λ y y_range.
+    then_ok IsSoundSide IsSoundItem (item.named_side_of cz lz hz) _ (side_sound cz lz hz) (λ w w_range.
+    (zone_range, group_range, x_range, y_range, w_range))))))))
 
 zone_line_sound : (args : List (List ℕ)) → IfOk (item.zone_line args) IsSoundItem
 unfolding item.zone_line
@@ -206,11 +207,11 @@ item_sound : (kind : List ℕ) (args : List (List ℕ)) → IfOk (item.item_of k
 unfolding item.item_of
 item_sound kind args =
     if_ok IsSoundItem (bytes_eq kind (codes "CHANNEL")) _ _ (λ _. channel_line_sound args)
-      (if_ok IsSoundItem (bytes_eq kind (codes "AXIS")) _ _ (λ _. axis_line_sound args)
-      (if_ok IsSoundItem (bytes_eq kind (codes "GEO")) _ _ (λ _. geo_line_sound args)
-      (if_ok IsSoundItem (bytes_eq kind (codes "ZONE")) _ _ (λ _. zone_line_sound args)
-      (if_ok IsSoundItem (bytes_eq kind (codes "JOB")) _ _ (λ _. job_line_sound args)
-      (if_ok IsSoundItem (item.is_later_kind kind) _ _ (λ _. tt) tt)))))
+    (if_ok IsSoundItem (bytes_eq kind (codes "AXIS")) _ _ (λ _. axis_line_sound args)
+    (if_ok IsSoundItem (bytes_eq kind (codes "GEO")) _ _ (λ _. geo_line_sound args)
+    (if_ok IsSoundItem (bytes_eq kind (codes "ZONE")) _ _ (λ _. zone_line_sound args)
+    (if_ok IsSoundItem (bytes_eq kind (codes "JOB")) _ _ (λ _. job_line_sound args)
+    (if_ok IsSoundItem (item.is_later_kind kind) _ _ (λ _. tt) tt)))))
 
 -- blocks
 abbrev pub IsSoundAddress : Address → Type 0
@@ -244,11 +245,11 @@ address_by_sound : (letter : ℕ) (apart : Bool) (value : List ℕ) → IfOk (bl
 unfolding block.address_by
 address_by_sound letter apart value =
     if_ok IsSoundAddress (letter == 78) _ _ (λ _. number_address_sound value)
-      (if_ok IsSoundAddress (letter == 77) _ _ (λ _. end_address_sound value)
-      (if_ok IsSoundAddress (letter == 71) _ _ (λ _. line_address_sound value)
-      (if_ok IsSoundAddress (letter == 88) _ _ (λ _. then_ok IsInReach IsSoundAddress (block.value_of apart value) _ (value_sound apart value) (λ x near. near))
-      (if_ok IsSoundAddress (letter == 90) _ _ (λ _. then_ok IsInReach IsSoundAddress (block.value_of apart value) _ (value_sound apart value) (λ z near. near))
-      (if_ok IsSoundAddress (letter == 70) _ _ (λ _. then_any IsSoundAddress (block.value_of apart value) _ (λ f. tt)) tt)))))
+    (if_ok IsSoundAddress (letter == 77) _ _ (λ _. end_address_sound value)
+    (if_ok IsSoundAddress (letter == 71) _ _ (λ _. line_address_sound value)
+    (if_ok IsSoundAddress (letter == 88) _ _ (λ _. then_ok IsInReach IsSoundAddress (block.value_of apart value) _ (value_sound apart value) (λ x near. near))
+    (if_ok IsSoundAddress (letter == 90) _ _ (λ _. then_ok IsInReach IsSoundAddress (block.value_of apart value) _ (value_sound apart value) (λ z near. near))
+    (if_ok IsSoundAddress (letter == 70) _ _ (λ _. then_any IsSoundAddress (block.value_of apart value) _ (λ f. tt)) tt)))))
 
 address_from_sound : (letter : ℕ) (apart : Bool) (words : List (List ℕ)) → IfOk (block.address_from letter apart words) IsSoundAddress
 unfolding block.address_from
@@ -271,8 +272,8 @@ addresses_sound : (parts : List (List ℕ)) → IfOk (block.addresses_of parts) 
 addresses_sound [] = tt
 addresses_sound (part ∷ parts) =
     if_ok AllSound (is_visible part) _ _
-      (λ _. then_ok IsSoundAddress AllSound (block.address_of part) _ (address_sound part) (λ a near. with_first_sound a (block.addresses_of parts) near (addresses_sound parts)))
-      (addresses_sound parts)
+    (λ _. then_ok IsSoundAddress AllSound (block.address_of part) _ (address_sound part) (λ a near. with_first_sound a (block.addresses_of parts) near (addresses_sound parts)))
+    (addresses_sound parts)
 
 motion_sound : (addresses : List Address) → AllSound addresses → IfOk (block.motion_of addresses) IsNear
 unfolding block.motion_of
@@ -300,44 +301,53 @@ unfolding block.block_of
 block_sound text =
     then_ok AllSound IsNear (block.addresses_of (block.cut_at_letters text)) block.statement_of (addresses_sound (block.cut_at_letters text)) statement_sound
 
--- what holds of what a line says: a job line stands before the programs
-abbrev pub IsSoundReading : Bool → Reading → Type 0
-IsSoundReading in_programs (Entry item) = (in_programs ≡ false) × IsSoundItem item
-IsSoundReading in_programs (Step stmt) = IsNear stmt
-IsSoundReading in_programs other = ⊤
+-- what holds of what a line says, by whether the programs have begun, whether it begins one and whether it has a token:
+-- a job line stands before the programs and begins none, a header begins one, and a block stands in one
+abbrev pub IsSoundReading : Bool → Bool → Bool → Reading → Type 0
+IsSoundReading in_programs begins token (Entry item) = (in_programs ≡ false) × (begins ≡ false) × IsSoundItem item
+IsSoundReading in_programs begins token (Header name) = begins ≡ true
+IsSoundReading in_programs begins token (Step stmt) = (in_programs ≡ true) × (begins ≡ false) × (token ≡ true) × IsNear stmt
+IsSoundReading in_programs begins token other = ⊤
 
-entry_sound : (seen : Bool) (words : List (List ℕ)) → IfOk (reading.entry_of seen words) (IsSoundReading false)
+entry_sound : (seen : Bool) (words : List (List ℕ)) → IfOk (reading.entry_of seen words) (IsSoundReading false false true)
 unfolding reading.entry_of
 entry_sound false words = tt
 entry_sound true [] = tt
-entry_sound true (kind ∷ args) = then_ok IsSoundItem (IsSoundReading false) (item.item_of kind args) _ (item_sound kind args) (λ i sound. (refl, sound))
+entry_sound true (kind ∷ args) = then_ok IsSoundItem (IsSoundReading false false true) (item.item_of kind args) _ (item_sound kind args) (λ i sound. (refl, refl, sound))
 
-header_sound : (in_programs : Bool) (text : List ℕ) → IfOk (reading.header_reading text) (IsSoundReading in_programs)
+header_sound : (in_programs : Bool) (text : List ℕ) → IfOk (reading.header_reading text) (IsSoundReading in_programs true true)
 unfolding reading.header_reading
-header_sound in_programs text = then_any (IsSoundReading in_programs) (header_of (words text)) _ (λ name. tt)
+header_sound in_programs text = then_any (IsSoundReading in_programs true true) (header_of (words text)) _ (λ name. refl)
 
-step_sound : (in_programs : Bool) (text : List ℕ) → IfOk (reading.step_reading text) (IsSoundReading in_programs)
+step_sound : (text : List ℕ) → IfOk (reading.step_reading text) (IsSoundReading true false true)
 unfolding reading.step_reading
-step_sound in_programs text = then_ok IsNear (IsSoundReading in_programs) (block.block_of text) _ (block_sound text) (λ stmt near. near)
+step_sound text = then_ok IsNear (IsSoundReading true false true) (block.block_of text) _ (block_sound text) (λ stmt near. (refl, refl, refl, near))
 
-form_sound : (seen in_programs percent : Bool) (text : List ℕ) → IfOk (reading.form_of seen in_programs percent text) (IsSoundReading in_programs)
+form_sound : (seen in_programs percent : Bool) (text : List ℕ) → IfOk (reading.form_of seen in_programs percent text) (IsSoundReading in_programs percent true)
 unfolding reading.form_of reading.entry_reading
 form_sound seen in_programs true text = header_sound in_programs text
-form_sound seen true false text = step_sound true text
+form_sound seen true false text = step_sound text
 form_sound seen false false text = entry_sound seen (words text)
 
-token_sound : (seen in_programs : Bool) (raw : List ℕ) → IfOk (reading.token_reading seen in_programs raw) (IsSoundReading in_programs)
-unfolding reading.token_reading
+with_token : (percent token : Bool) → token ≡ true → percent ≡ percent && token
+with_token true token is = sym is
+with_token false token is = refl
+
+token_sound : (seen in_programs : Bool) (raw : List ℕ) → IfOk (reading.token_reading seen in_programs raw) (IsSoundReading in_programs (begins_program raw) (has_token raw))
+unfolding reading.token_reading begins_program
 token_sound seen in_programs raw =
-    if_ok (IsSoundReading in_programs) (has_token raw) _ _ (λ _. form_sound seen in_programs (begins_with_percent raw) (text_of raw)) tt
+    if_ok (IsSoundReading in_programs (begins_with_percent raw && has_token raw) (has_token raw)) (has_token raw) _ _
+    (λ token. subst (λ begins. IfOk (reading.form_of seen in_programs (begins_with_percent raw) (text_of raw)) (IsSoundReading in_programs begins (has_token raw)))
+    (with_token (begins_with_percent raw) (has_token raw) token)
+    (subst (λ t. IfOk (reading.form_of seen in_programs (begins_with_percent raw) (text_of raw)) (IsSoundReading in_programs (begins_with_percent raw) t)) (sym token)
+    (form_sound seen in_programs (begins_with_percent raw) (text_of raw)))) tt
 
-unless_sound : (in_programs : Bool) (broken : Option Code) (read : Result Reading Code) → IfOk read (IsSoundReading in_programs)
-    → IfOk (reading.unless_broken broken read) (IsSoundReading in_programs)
-unless_sound in_programs None read sound = sound
-unless_sound in_programs (Some code) read sound = tt
+unless_sound : (P : Reading → Type 0) (broken : Option Code) (read : Result Reading Code) → IfOk read P → IfOk (reading.unless_broken broken read) P
+unless_sound P None read sound = sound
+unless_sound P (Some code) read sound = tt
 
-pub reading_sound : (seen in_programs : Bool) (raw : List ℕ) → IfOk (reading.reading_of seen in_programs raw) (IsSoundReading in_programs)
+pub reading_sound : (seen in_programs : Bool) (raw : List ℕ) → IfOk (reading.reading_of seen in_programs raw) (IsSoundReading in_programs (begins_program raw) (has_token raw))
 unfolding reading.reading_of
 reading_sound seen in_programs raw =
-    if_ok (IsSoundReading in_programs) (nat_lt 512 (length raw)) _ _ (λ _. tt)
-      (unless_sound in_programs (reading.byte_rule (text_of raw)) (reading.token_reading seen in_programs raw) (token_sound seen in_programs raw))
+    if_ok (IsSoundReading in_programs (begins_program raw) (has_token raw)) (nat_lt 512 (length raw)) _ _ (λ _. tt)
+    (unless_sound (IsSoundReading in_programs (begins_program raw) (has_token raw)) (reading.byte_rule (text_of raw)) (reading.token_reading seen in_programs raw) (token_sound seen in_programs raw))

@@ -1,5 +1,6 @@
 pub mod Block
 pub mod Code
+pub mod FirstRefusal
 pub mod Header
 pub mod Item
 pub mod Job

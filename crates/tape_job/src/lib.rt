@@ -1,4 +1,3 @@
-// FOUNDER NOTE (03:38): micro_units is merged into your clone; read READ_ME_CHANGE_FROM_FOUNDER.md at the top of your clone. Remove this line.
 //! The job list and the programs behind it, read from the bytes of the input.
 #![tactic(auto)]
 
@@ -10,6 +9,7 @@ mod header;
 mod ids;
 mod item;
 mod job;
+mod laws;
 mod length;
 mod library;
 mod lines;
@@ -23,5 +23,6 @@ mod rules;
 pub use fault::JobFault;
 pub use ids::{ChannelId, ZoneId};
 pub use job::{AxisLine, Block, ChannelLine, GeoLine, Job, Program, Side, Stmt, ZoneLine};
+pub use laws::{accepted_jobs_are_sound, refusals_are_first};
 pub use name::NameText;
 pub use read::read_job;

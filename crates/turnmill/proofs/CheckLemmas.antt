@@ -1,5 +1,5 @@
 -- What an input calls for, by how it was read.
-use Rattle.std.proofs.Common.{◌≡◌, ℕ, ◌+◌, ◌<◌, ◌≤◌, nat_le, Bool, true, false, if◌then◌else◌, List, [], ◌∷◌, ◌++◌, length, drop, Option, None, Some, Result, Ok, Err, IfSome, IsErr, IsErrAnd, IsOkAnd, refl, ap, sym, ◌∙◌, ◌⊎◌, inr, arith, length-append}
+use Rattle.std.proofs.Common.{◌≡◌, ℕ, ◌+◌, ◌<◌, ◌≤◌, nat_le, Bool, true, false, if◌then◌else◌, List, [], ◌∷◌, ◌++◌, length, drop, Option, None, Some, Result, Ok, Err, IfSome, IfOk, IsErr, IsErrAnd, IsOkAnd, refl, ap, sym, ◌∙◌, ◌⊎◌, inr, arith, length-append}
 use Rattle.std.proofs.Math.Seq.{drop-append_seam}
 use Rattle.std.proofs.lemmas.List.{append-nil}
 use Rattle.std.proofs.lemmas.Bool.{le-leb, leb-true}
@@ -7,12 +7,15 @@ use Rattle.edge_io.specs.Moves.{Loses, Grows}
 use Rattle.nc_faults.specs.declared.Refusal.{Refusal}
 use Rattle.tape_job.specs.Job.{JobView}
 use Rattle.tape_job.specs.Read.{read_of}
+use Rattle.tape_job.specs.SoundJob.{IsSoundJob}
 use Rattle.turnmill.specs.Clash.{verdict_of}
 use Rattle.turnmill.specs.Report.{refusal_bytes}
 use Rattle.turnmill.specs.Input.{ReadsAll, TakesTooMany}
+use Rattle.turnmill.specs.Safety.{SafeAlways}
 use Rattle.turnmill.specs.Output.{Output, output_of, output_by, status_of, Answers}
 use Rattle.turnmill.specs.declared.check.Status.{Status}
 use Rattle.turnmill.specs.declared.check.Status.TheVariants as ends
+use Rattle.turnmill.proofs.Soundness.{sound_at_all_speeds}
 use Rattle.turnmill.specs.declared.stretches.Verdict.{Verdict}
 use Rattle.turnmill.specs.declared.stretches.Verdict.TheVariants.{Yes, No}
 
@@ -60,7 +63,7 @@ yes_chosen : (long : Bool) (input : List ℕ) → (chosen long input).status ≡
 yes_chosen true input is = absurd cc
 yes_chosen false input is = yes_by (read_of input) is
 
-pub yes_is : (input : List ℕ) → (output_of input).status ≡ ends.Yes → IsOkAnd (read_of input) (λ job. verdict_of job ≡ Yes)
+yes_is : (input : List ℕ) → (output_of input).status ≡ ends.Yes → IsOkAnd (read_of input) (λ job. verdict_of job ≡ Yes)
 unfolding output_of
 yes_is input is = yes_chosen (nat_le 8388609 (length input)) input is
 
@@ -120,3 +123,13 @@ pub refused_ends : (A B C N : Type 0) (left after : Option (List ℕ)) (bytes : 
 refused_ends A B C N None after bytes status reads is = tt
 refused_ends A B C N (Some input) after bytes status reads is = λ _ _ _ short refused.
     inr (is ∙ refused_comes bytes (rw reads.0 at short) (rw reads.0 at refused))
+
+-- at YES the job that was read is safe at all speeds
+safe_by : (read : Result JobView Refusal) → IfOk read IsSoundJob → IsOkAnd read (λ job. verdict_of job ≡ Yes) → IsOkAnd read SafeAlways
+safe_by (Ok job) sound says = sound_at_all_speeds job sound says
+safe_by (Err refusal) sound says = says
+
+pub safe_at_yes : (left after : Option (List ℕ)) (bytes : List ℕ) → IfOk (read_of bytes) IsSoundJob → ReadsAll left after bytes → (output_of bytes).status ≡ ends.Yes
+    → IfSome left (λ input. IsOkAnd (read_of input) SafeAlways)
+safe_at_yes None after bytes sound reads is = tt
+safe_at_yes (Some input) after bytes sound reads is = rw reads.0 (safe_by (read_of bytes) sound (yes_is bytes is))

@@ -1,7 +1,10 @@
 -- An accepted job can be run.
-use Rattle.std.proofs.Common.{◌≡◌, ℕ, ℤ, ◌<◌, All, List, [], ◌∷◌, Option, None, Some, IfSome, length}
-use Rattle.tape_job.specs.Job.{JobView, ProgramView}
-use Rattle.tape_job.specs.SoundJob.{IsSoundJob, IsSoundProgram, IsSoundStatement, IsSoundEnd}
+use Rattle.std.proofs.Common.{◌≡◌, ℕ, ℤ, ◌<◌, All, List, [], ◌∷◌, Option, None, Some, IfSome, IfOk, Result, Ok, Err, refl}
+use Rattle.nc_faults.specs.declared.Refusal.{Refusal}
+use Rattle.tape_job.proofs.SoundJobs.{accepted_sound}
+use Rattle.tape_job.specs.Job.{JobView}
+use Rattle.tape_job.specs.Read.{read_of}
+use Rattle.tape_job.specs.SoundJob.{IsSoundJob, IsSoundStatement, IsSoundEnd}
 use Rattle.tape_job.specs.declared.job.Stmt.{Stmt}
 use Rattle.tape_job.specs.declared.job.Stmt.TheVariants.{Move, End}
 use Rattle.swept_boxes.specs.Motions.{IsInRange}
@@ -21,3 +24,11 @@ runnable job sound = record {
   starts = sound.positions;
   values = λ k program within j block inside. statement_in_reach job _ _ ((sound.programs k program within).statements j block inside);
 }
+
+-- what an input is read as is a job in which all this holds, or no job
+pub read_sound : (input : List ℕ) → IfOk (read_of input) IsSoundJob
+read_sound input = by_answer (read_of input) refl
+  where
+    by_answer : (read : Result JobView Refusal) → read_of input ≡ read → IfOk (read_of input) IsSoundJob
+    by_answer (Ok job) e = rw e (accepted_sound input job e)
+    by_answer (Err refused) e = rw e tt

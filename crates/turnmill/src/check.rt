@@ -1,5 +1,5 @@
 //! The check of an input, from the words of the call to the bytes of the answer.
-ghost use Rattle.std.specs.Prelude.{◌≡◌, ◌↔◌, ◌⊎◌, ℕ, ◌-◌, ◌^◌, ◌<◌, ◌≤◌, Bool, true, false, [], length, map, IfSome, IfOk, IsErr, IsErrAnd, Some, Ok, Err, string_bytes};
+ghost use Rattle.std.specs.Prelude.{◌≡◌, ◌↔◌, ◌⊎◌, ℕ, ◌-◌, ◌^◌, ◌<◌, ◌≤◌, Bool, true, false, [], length, map, IfSome, IfOk, IsOkAnd, IsErr, IsErrAnd, Some, Ok, Err, string_bytes};
 ghost use Rattle.edge_io.specs.Moves.{Grows, GrowsByFront};
 ghost use Rattle.tape_job.specs.Read.{read_of};
 ghost use Rattle.turnmill.specs.Input.{is_check, ReadsInput, TakesTooMany};
@@ -7,6 +7,7 @@ ghost use Rattle.turnmill.specs.Output.{output_of, output_by, status_of, Answers
 ghost use Rattle.turnmill.specs.Channels.{IsRunnable};
 ghost use Rattle.nc_faults.specs.Texts.{IsRefusalCode};
 ghost use Rattle.turnmill.specs.Report.{refusal_bytes};
+ghost use Rattle.turnmill.specs.Safety.{SafeAlways};
 
 use crate::judge::check_job;
 use crate::report::{refusal_line, report_text};
@@ -189,6 +190,10 @@ pub fn check_words<S: Source, K: Sink>(
     // A verdict comes with its whole report, and no byte of the input is left.
     ensures verdict { IsVerdict result → IfSome (S.left source.old) (λ input.
         Answers input result (K.written sink.old) (K.written sink.new) × (S.left source.new ≡ Some [])) }
+
+    // At YES the input is a job in which, whatever the feed overrides, no axis has two owners and no
+    // two zones of different groups meet.
+    ensures speeds { result ≡ Status.Yes → IfSome (S.left source.old) (λ input. IsOkAnd (read_of input) SafeAlways) }
 
     // A refusal comes with its whole line, and no byte of the input is left.
     ensures refused { result ≡ Status.Refused → IfSome (S.left source.old) (λ input.

@@ -71,11 +71,11 @@ fn touched(others: &[ZoneBox], cover: Box3) -> Option<ZoneBox>
 
 /// The lines of this box and of the first of the others that meets it.
 #[tactic(auto, unfolding(crate::specs::ShownStretches::first_touched))]
-fn first_touched(others: &[ZoneBox], box_: &ZoneBox) -> Option<(u32, u32)>
-    ensures { result ≡ shown.first_touched others.now box_.now }
+fn first_touched(others: &[ZoneBox], own: &ZoneBox) -> Option<(u32, u32)>
+    ensures { result ≡ shown.first_touched others.now own.now }
 {
-    match touched(others, box_.cover) {
-        Some(other) => Some((box_.line, other.line)),
+    match touched(others, own.cover) {
+        Some(other) => Some((own.line, other.line)),
         None => None,
     }
 }
@@ -85,8 +85,8 @@ fn first_touched(others: &[ZoneBox], box_: &ZoneBox) -> Option<(u32, u32)>
 fn first_lines(left: &[ZoneBox], right: &[ZoneBox]) -> Option<(u32, u32)>
     ensures { result ≡ shown.first_lines left.now right.now }
 {
-    for box_ in left {
-        if let Some(lines) = first_touched(right, box_) {
+    for own in left {
+        if let Some(lines) = first_touched(right, own) {
             return Some(lines);
         }
     }

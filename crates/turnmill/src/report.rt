@@ -283,6 +283,7 @@ mod tests {
         Ok(())
     }
 
+    #[tactic(auto, unfolding(nc_faults::specs::Texts::IsRefusalCode, nc_faults::specs::Texts::refusal_texts))]
     #[test]
     fn refusals(rt: HostRuntime) -> Result<(), Fail> {
         let refusal = Refusal { code: 1, line: 1 };

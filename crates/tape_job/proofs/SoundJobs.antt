@@ -1,0 +1,272 @@
+-- Every accepted job is sound.
+use Rattle.std.specs.Prelude.{IsSomeAnd}
+use Rattle.std.proofs.Common.{◌≡◌, ◌≢◌, ◌∙◌, ℕ, ◌≤◌, ◌<◌, Bool, true, false, true≢false, ◌||◌, not, nat_le, List, [], ◌∷◌, ◌++◌, length, Result, Ok, Err, IfOk, Option, Some, None, IfSome, IsSome, find, get_or, subst, refl, sym, arith, length-append, rules}
+use Rattle.std.specs.List.{All, Any, AllPairs, enumerate_from}
+use Rattle.std.specs.Map.{keys_of}
+use Rattle.std.specs.Option.{option_map, option_or}
+use Rattle.std.proofs.Math.ListN.{get_or-map}
+use Rattle.std.proofs.lemmas.List.{length-map}
+use Rattle.std.proofs.lemmas.List.Quantifiers.{all_pairs_push}
+use Rattle.nc_faults.specs.declared.Refusal.{Refusal}
+use Rattle.tape_job.specs.declared.code.Code.{Code}
+use Rattle.tape_job.specs.declared.code.Code.TheVariants.{NameRepeated, TooMany, NotInLibrary}
+use Rattle.tape_job.specs.declared.item.Item.{Item}
+use Rattle.tape_job.specs.declared.item.Item.TheVariants.{Channel, Axis, Geo, Zone}
+use Rattle.tape_job.specs.declared.item.NamedSide.{NamedSide}
+use Rattle.tape_job.specs.declared.job.Block.{Block}
+use Rattle.tape_job.specs.declared.job.Stmt.{Stmt}
+use Rattle.tape_job.specs.declared.job.ChannelLine.{ChannelLine}
+use Rattle.tape_job.specs.declared.job.Side.{Side}
+use Rattle.tape_job.specs.declared.reading.Reading.{Reading}
+use Rattle.tape_job.specs.declared.reading.Reading.TheVariants.{Blank, First, Entry, Header, Step}
+use Rattle.tape_job.specs.Code.{refusal}
+use Rattle.tape_job.specs.Job.{JobView, ProgramView}
+use Rattle.tape_job.specs.Lines.{Line, has_token, raw_lines}
+use Rattle.tape_job.specs.Reading.{reading_of}
+use Rattle.tape_job.specs.Rules as rule
+use Rattle.tape_job.specs.Rules.{last}
+use Rattle.tape_job.specs.Told.{Told, told, begins_program, geo_line, zone_line}
+use Rattle.tape_job.specs.Read.{opening, program_before, line_refusal, trial, end_trial, answer, read_of}
+use Rattle.tape_job.specs.Steps.{with_entry, with_line, with_block, tell, unless_refused, run, finish}
+use Rattle.tape_job.specs.SoundJob.{IsSoundJob}
+use Rattle.tape_job.proofs.SoundLists.{unbroken, not_false, none_found}
+use Rattle.tape_job.proofs.SoundReadings.{IsNear, IsSoundItem, IsSoundReading, reading_sound}
+use Rattle.tape_job.proofs.SoundJobLines.{ListFacts, HasRange, no_pairs, list_kept, nothing_listed, side_range, sound_range, channel_told, axis_told, geo_told, zone_told}
+use Rattle.tape_job.proofs.SoundPrograms.{Library, block_told, header_told, programs_sound, keys-with_block, length-with_block, keys-push, library_kept, names_differ, program_found}
+use Rattle.tape_job.proofs.TellingLemmas.{read_of_is}
+
+-- what holds of all that lines told
+record Sound (told : Told) : Type 0 where
+  early : told.in_programs ≡ false → told.job.programs ≡ []
+  list : ListFacts told.job
+  library : Library told.job told.job.programs
+  names : AllPairs (λ name other. name ≢ other) (keys_of told.job.programs)
+  few : length told.job.programs ≤ 256
+
+-- a job line
+abbrev with_item : JobView → ℕ → Item → JobView
+with_item job number item = with_line job number (Ok (Entry item))
+
+geo_item_told : (job : JobView) (number channel slot : ℕ) (axis : Option ℕ) → ListFacts job → rule.slot_rule job channel slot axis ≡ None
+    → ListFacts (record { channels = job.channels; axes = job.axes; geo = with_entry job.geo (geo_line number channel slot axis); zones = job.zones; programs = job.programs })
+unfolding rule.slot_rule
+geo_item_told job number channel slot None facts none = absurd cc
+geo_item_told job number channel slot (Some axis) facts none = geo_told job number channel slot axis facts none
+
+zone_item_told : (job : JobView) (number zone group holder : ℕ) (x y z : NamedSide) (a b c : Option Side) → ListFacts job → rule.zone_rule job zone holder a b c ≡ None
+    → IsSoundItem (Zone zone group holder x y z) → IfSome a (HasRange x) → IfSome b (HasRange y) → IfSome c (HasRange z)
+    → ListFacts (record { channels = job.channels; axes = job.axes; geo = job.geo; zones = with_entry job.zones (zone_line number zone group holder a b c); programs = job.programs })
+unfolding rule.zone_rule
+zone_item_told job number zone group holder x y z (Some a) (Some b) (Some c) facts none sound is_x is_y is_z =
+    zone_told job number zone group holder a b c facts none sound.0 sound.1 (sound_range x a is_x sound.2) (sound_range y b is_y sound.3) (sound_range z c is_z sound.4)
+zone_item_told job number zone group holder x y z a b c facts none sound is_x is_y is_z = absurd cc
+
+item_told : (job : JobView) (number : ℕ) (item : Item) → ListFacts job → rule.item_rule job item ≡ None → IsSoundItem item → ListFacts (with_item job number item)
+unfolding rule.item_rule with_line
+item_told job number (Channel channel program) facts none sound = channel_told job number channel program facts none sound
+item_told job number (Axis name owner at) facts none sound = axis_told job number name owner at facts none sound
+item_told job number (Geo channel slot axis) facts none sound = geo_item_told job number channel slot (rule.axis_of job.axes axis) facts none
+item_told job number (Zone zone group holder x y z) facts none sound =
+    zone_item_told job number zone group holder x y z (rule.side_of job.axes x) (rule.side_of job.axes y) (rule.side_of job.axes z) facts none sound
+    (side_range job.axes x) (side_range job.axes y) (side_range job.axes z)
+
+-- where neither of two gives a refusal
+neither : {A : Type 0} (a b : Option A) → option_or a b ≡ None → (a ≡ None) × (b ≡ None)
+neither None b none = (refl, none)
+neither (Some a) b none = absurd cc
+
+unmapped : {A B : Type 0} (f : A → B) (a : Option A) → option_map f a ≡ None → a ≡ None
+unmapped f None none = refl
+unmapped f (Some a) none = absurd cc
+
+or_false : (a b : Bool) → a || b ≡ false → a ≡ false
+or_false true b e = absurd cc
+or_false false b e = refl
+
+holds_both : (a b : Bool) → b ≡ true → a || b ≡ false → ⊥
+holds_both true b e none = true≢false none
+holds_both false b e none = true≢false (sym e ∙ none)
+
+-- the program before the line is closed where the line begins one, and else goes on
+closed_before : (job : JobView) (raw : List ℕ) → program_before job raw ≡ None → begins_program raw ≡ true → rule.closing job.programs ≡ None
+unfolding program_before
+closed_before job raw none begins = sym (rw begins refl) ∙ none
+
+goes_before : (job : JobView) (raw : List ℕ) → program_before job raw ≡ None → begins_program raw ≡ false → has_token raw ≡ true → rule.going_on job.programs ≡ None
+unfolding program_before
+goes_before job raw none begins token = sym (rw (begins, token) refl) ∙ none
+
+-- a job line, before any program
+entry_told : (told : Told) (number : ℕ) (seen begins : Bool) (item : Item) → Sound told → told.in_programs ≡ false → rule.item_rule told.job item ≡ None → IsSoundItem item
+    → Sound (record { seen = seen; in_programs = told.in_programs || begins; job = with_item told.job number item })
+unfolding with_line
+entry_told told number seen begins item sound early none fits =
+    let empty : told.job.programs ≡ [] = sound.early early in
+    record {
+      early = λ _. kept number told.job item ∙ empty;
+      list = item_told told.job number item sound.list none fits;
+      library = subst (λ programs. Library (with_item told.job number item) programs) (sym (kept number told.job item ∙ empty)) tt;
+      names = subst (λ programs. AllPairs (λ name other. name ≢ other) (keys_of programs)) (sym (kept number told.job item)) sound.names;
+      few = subst (λ programs. length programs ≤ 256) (sym (kept number told.job item)) sound.few;
+    }
+  where
+    kept : (number : ℕ) (job : JobView) (item : Item) → (with_item job number item).programs ≡ job.programs
+    kept number job (Channel channel program) = refl
+    kept number job (Axis name owner at) = refl
+    kept number job (Geo channel slot axis) = refl
+    kept number job (Zone zone group holder x y z) = refl
+
+-- a header
+header_line_told : (told : Told) (number : ℕ) (seen begins : Bool) (name : List ℕ) → Sound told → begins ≡ true → rule.closing told.job.programs ≡ None
+    → rule.header_rule told.job name ≡ None → Sound (record { seen = seen; in_programs = told.in_programs || begins; job = with_line told.job number (Ok (Header name)) })
+unfolding rule.header_rule with_line
+header_line_told told number seen begins name sound begin closed none =
+    let program : List ℕ × ProgramView = (name, record { line = number; blocks = [] }) in
+    let first = unbroken (rule.has_program told.job.programs name) NameRepeated _ none in
+    let second = unbroken (nat_le 256 (length told.job.programs)) TooMany None first.1 in
+    let below : length told.job.programs < 256 = search (rules, second.0) in
+    let further = length-append told.job.programs (program ∷ []) in
+    let all : List (List ℕ × ProgramView) = told.job.programs ++ program ∷ [] in
+    record {
+      early = λ none. absurd (holds_both told.in_programs begins begin none);
+      list = list_kept told.job all sound.list;
+      library = library_kept told.job all all (header_told told.job told.job.programs number name sound.library closed);
+      names = subst (AllPairs (λ name other. name ≢ other)) (sym (keys-push told.job.programs program))
+          (all_pairs_push (λ name other. name ≢ other) (keys_of told.job.programs) name sound.names (names_differ told.job.programs name first.0));
+      few = omega arith;
+    }
+
+-- a block
+block_line_told : (told : Told) (number : ℕ) (seen begins : Bool) (stmt : Stmt) → Sound told → told.in_programs ≡ true → rule.going_on told.job.programs ≡ None
+    → rule.block_rule told.job stmt (last told.job.programs) ≡ None → IsNear stmt → Sound (record { seen = seen; in_programs = told.in_programs || begins; job = with_line told.job number (Ok (Step stmt)) })
+unfolding with_line
+block_line_told told number seen begins stmt sound late goes none near =
+    let block : Block = record { line = number; stmt = stmt } in
+    let all : List (List ℕ × ProgramView) = with_block told.job.programs block in
+    record {
+      early = λ none. absurd (true≢false (sym late ∙ or_false told.in_programs begins none));
+      list = list_kept told.job all sound.list;
+      library = library_kept told.job all all (block_told told.job told.job.programs number stmt sound.library none goes near);
+      names = subst (AllPairs (λ name other. name ≢ other)) (sym (keys-with_block told.job.programs block)) sound.names;
+      few = subst (λ n. n ≤ 256) (sym (length-with_block told.job.programs block)) sound.few;
+    }
+
+line_told : (told : Told) (number : ℕ) (raw : List ℕ) (seen : Bool) (read : Result Reading Code) → Sound told → program_before told.job raw ≡ None → rule.code_by told.job read ≡ None
+    → IfOk read (IsSoundReading told.in_programs (begins_program raw) (has_token raw))
+    → Sound (record { seen = seen; in_programs = told.in_programs || begins_program raw; job = with_line told.job number read })
+unfolding with_line rule.rule_of
+line_told told number raw seen (Err code) sound before none fits = absurd cc
+line_told told number raw seen (Ok Blank) sound before none fits = record {
+  early = λ none. sound.early (or_false told.in_programs (begins_program raw) none);
+  list = sound.list;
+  library = sound.library;
+  names = sound.names;
+  few = sound.few;
+}
+line_told told number raw seen (Ok First) sound before none fits = record {
+  early = λ none. sound.early (or_false told.in_programs (begins_program raw) none);
+  list = sound.list;
+  library = sound.library;
+  names = sound.names;
+  few = sound.few;
+}
+line_told told number raw seen (Ok (Entry item)) sound before none fits =
+    entry_told told number seen (begins_program raw) item sound fits.0 none fits.2
+line_told told number raw seen (Ok (Header name)) sound before none fits =
+    header_line_told told number seen (begins_program raw) name sound fits (closed_before told.job raw before fits) none
+line_told told number raw seen (Ok (Step stmt)) sound before none fits =
+    block_line_told told number seen (begins_program raw) stmt sound fits.0 (goes_before told.job raw before fits.1 fits.2) none fits.3
+
+tell_sound : (told : Told) (line : Line) → Sound told → trial told line ≡ None → Sound (tell told line)
+unfolding trial line_refusal tell
+tell_sound told line sound none =
+    let first = neither (opening told.seen line) _ none in
+    let second = neither (program_before told.job line.1) _ first.1 in
+    let unbroken_line = unmapped (λ code. refusal code line.0) (rule.code_by told.job (reading_of told.seen told.in_programs line.1)) second.1 in
+    line_told told line.0 line.1 (told.seen || has_token line.1) (reading_of told.seen told.in_programs line.1) sound second.0 unbroken_line
+    (reading_sound told.seen told.in_programs line.1)
+
+run_sound : (now : Told) (lines : List Line) (end : Told) → Sound now → run now lines ≡ Ok end → Sound end
+run_sound now [] end sound ran = let same : now ≡ end = cc in subst Sound same sound
+run_sound now (line ∷ lines) end sound ran = by (trial now line) refl (λ none. run_sound (tell now line) lines end (tell_sound now line sound none)) ran
+  where
+    by : (refused : Option Refusal) → trial now line ≡ refused → (trial now line ≡ None → run (tell now line) lines ≡ Ok end → Sound end)
+        → unless_refused refused (run (tell now line) lines) ≡ Ok end → Sound end
+    by None none goes ran = goes none ran
+    by (Some refused) some goes ran = absurd cc
+
+nothing_told : Sound (told [])
+unfolding told
+nothing_told = record {
+  early = λ _. refl;
+  list = nothing_listed [];
+  library = tt;
+  names = no_pairs (λ (name other : List ℕ). name ≢ other);
+  few = omega arith;
+}
+
+-- each channel's program is in the library
+known_program : (programs : List (List ℕ × ProgramView)) (program : Option (List ℕ)) → rule.is_known programs program ≡ true → IsSome program
+    → IsSomeAnd program (λ name. Any (λ (p : List ℕ × ProgramView). p.0 ≡ name) programs)
+known_program programs None known there = absurd cc
+known_program programs (Some name) known there = program_found programs name known
+
+selected : (job : JobView) (channels : List ChannelLine) → find (λ line. not (rule.is_known job.programs line.program)) channels ≡ None → All (λ (l : ChannelLine). IsSome l.program) channels
+    → All (λ (l : ChannelLine). IsSomeAnd l.program (λ name. Any (λ (p : List ℕ × ProgramView). p.0 ≡ name) job.programs)) channels
+selected job channels none there k d within =
+    let line : ChannelLine = get_or channels k d in
+    known_program job.programs line.program
+    (not_false (rule.is_known job.programs line.program) (none_found (λ (l : ChannelLine). not (rule.is_known job.programs l.program)) channels none k d within))
+    (there k d within)
+
+-- names of programs as pairs
+program_names : (programs : List (List ℕ × ProgramView)) → AllPairs (λ name other. name ≢ other) (keys_of programs)
+    → AllPairs (λ (p other : List ℕ × ProgramView). p.0 ≢ other.0) programs
+program_names programs names i j d before within same =
+    let name : List ℕ × ProgramView → List ℕ = λ p. p.0 in
+    let short : length (keys_of programs) ≡ length programs = length-map programs name in
+    names i j d.0 before (omega arith) (get_or-map name programs i d ∙ same ∙ sym (get_or-map name programs j d))
+
+-- what is told is sound at the end
+told_sound : (now : Told) → Sound now → end_trial now ≡ None → IsSoundJob now.job
+unfolding end_trial rule.missing
+told_sound now sound none =
+    let first = neither (rule.closing now.job.programs) _ none in
+    let second = neither (rule.missing now.job) _ first.1 in
+    let all_known = unmapped (λ (l : ChannelLine). refusal NotInLibrary l.line) _ second.0 in
+    record {
+      channel_numbers = sound.list.channels.numbers;
+      low_channels = sound.list.channels.low;
+      high_channels = sound.list.channels.high;
+      starting = sound.list.channels.starting;
+      selected = selected now.job now.job.channels all_known sound.list.channels.named;
+      few_axes = sound.list.axes.few;
+      axis_names = sound.list.axes.names;
+      owners = sound.list.axes.owners;
+      positions = sound.list.axes.positions;
+      slot_numbers = sound.list.slots.numbers;
+      slot_axes = sound.list.slots.axes;
+      slots = sound.list.slots.owners;
+      zone_numbers = sound.list.zones.numbers;
+      zone_holders = sound.list.zones.holders;
+      zones = sound.list.zones.zones;
+      few_programs = sound.few;
+      program_names = program_names now.job.programs sound.names;
+      programs = programs_sound now.job now.job.programs sound.library first.0;
+    }
+
+answered : (refused : Option Refusal) (told job : JobView) → answer refused told ≡ Ok job → (refused ≡ None) × (told ≡ job)
+answered None told job same = (refl, cc)
+answered (Some refused) told job same = absurd cc
+
+finished_sound : (ran : Result Told Refusal) (lines : List Line) (job : JobView) → run (told []) lines ≡ ran → finish ran ≡ Ok job → IsSoundJob job
+unfolding finish
+finished_sound (Err refused) lines job ran same = absurd cc
+finished_sound (Ok now) lines job ran same =
+    let end = answered (end_trial now) now.job job same in
+    subst IsSoundJob end.1 (told_sound now (run_sound (told []) lines now nothing_told ran) end.0)
+
+pub accepted_sound : (input : List ℕ) (job : JobView) → read_of input ≡ Ok job → IsSoundJob job
+accepted_sound input job accepted =
+    let lines : List Line = enumerate_from 1 (raw_lines input) in
+    finished_sound (run (told []) lines) lines job refl (sym (read_of_is input) ∙ accepted)
