@@ -26,3 +26,6 @@ pub use job::{AxisLine, Block, ChannelLine, GeoLine, Job, Program, Side, Stmt, Z
 pub use laws::{accepted_jobs_are_sound, refusals_are_first};
 pub use name::NameText;
 pub use read::read_job;
+
+#[cfg(test)]
+mod tests;
