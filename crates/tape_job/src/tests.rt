@@ -1,3 +1,4 @@
+//! Whole jobs, and each refusal, read from texts.
 use crate::*;
 use micro_units::Um;
 use std::alloc::Global;
