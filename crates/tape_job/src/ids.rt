@@ -21,6 +21,10 @@ impl Model for ChannelId {
 }
 
 impl Default for ChannelId {
+    ghost use Rattle.std.specs.Prelude.{◌≡◌};
+
+    ghost is_default = { λ c. c ≡ 1 };
+
     fn default() -> ChannelId {
         ChannelId { number: 1 }
     }
@@ -46,6 +50,10 @@ impl Model for ZoneId {
 }
 
 impl Default for ZoneId {
+    ghost use Rattle.std.specs.Prelude.{◌≡◌};
+
+    ghost is_default = { λ z. z ≡ 1 };
+
     fn default() -> ZoneId {
         ZoneId { number: 1 }
     }
