@@ -1,7 +1,7 @@
 //! The tokens of a line of a part program.
 #![tactic(auto)]
 
-ghost use Rattle.std.specs.Prelude.{◌≡◌, ◌<◌, length, slice_range};
+ghost use Rattle.std.specs.Prelude.{◌≡◌, ◌<◌, length, slice_index_or};
 
 mod beginnings;
 mod bytes;
@@ -94,8 +94,18 @@ pub struct Words<'a> {
 }
 
 impl Words<'_> {
-    ghost use Rattle.block_scanner.specs.Scanned.{IsTokenOf};
+    ghost use Rattle.block_scanner.specs.Scanned.{IsScanned, IsTokenOf};
     ghost use Rattle.block_scanner.specs.Texts.{text_of};
+
+    /// The token with this number, counted from 0.
+    pub fn token(&self, index: usize) -> Token
+        requires scanned { IsScanned self.now }
+        requires within { index < length self.now.tokens.items }
+        ensures read { result ≡ slice_index_or self.now.tokens.items index result }
+        ensures stands { IsTokenOf self.now.line.now result }
+    {
+        self.tokens[index]
+    }
 
     /// The bytes of a token of this line.
     pub fn text(&self, token: &Token) -> &[u8]
