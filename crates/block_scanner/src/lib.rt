@@ -5,11 +5,13 @@ ghost use Rattle.std.specs.Prelude.{◌≡◌, ◌<◌, length, slice_index_or};
 
 mod beginnings;
 mod bytes;
+mod laws;
 mod numbers;
 mod scanning;
 mod signs;
 
 pub use bytes::{is_blank, is_name_part, is_name_start};
+pub use laws::lines_say_one_thing;
 pub use scanning::scan;
 use smallvec::SmallVec;
 use std::alloc::AllocFailed;
