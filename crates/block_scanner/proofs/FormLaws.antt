@@ -48,6 +48,7 @@ text_sound bs = by (cut no_quote bs).behind (cut no_quote bs).joined (cut no_quo
   where
     c : Cut no_quote bs
     c = cut no_quote bs
+
     by : (rest : List ℕ) → bs ≡ (cut no_quote bs).front ++ rest → prefix_len no_quote rest ≡ 0 → Sound 34 bs (text_front (position is_quote bs))
     by [] joined stops =
         let c = cut no_quote bs in
@@ -60,7 +61,7 @@ text_sound bs = by (cut no_quote bs).behind (cut no_quote bs).joined (cut no_quo
         let long : length bs ≡ length c.front + suc (length rest) = ap length joined ∙ length-append c.front (q ∷ rest) in
         let quote : q ≡ 34 = eqb-true q 34 (not-false (is_quote q) (stops_at no_quote q rest stops)) in
         let text : take (length c.front + 1) bs ≡ c.front ++ 34 ∷ [] =
-            ap (take (length c.front + 1)) joined ∙ take-append-more c.front (q ∷ rest) 1 ∙ ap (λ x. c.front ++ x ∷ []) quote in
+        ap (take (length c.front + 1)) joined ∙ take-append-more c.front (q ∷ rest) 1 ∙ ap (λ x. c.front ++ x ∷ []) quote in
         subst (λ (f : Front). Sound 34 bs f) (sym (ap text_front (position_some bs (length c.front) c.long (omega arith))))
         (omega arith, (c.front, ap (λ l. 34 ∷ l) text, c.holds))
 
@@ -119,15 +120,15 @@ number_of_cut b ws (c ∷ cs) digit digits =
     let long = length-append ws (c ∷ cs) in
     cond_both (is_point c) (length ws + 1 + d) (length ws) (λ (n : ℕ). Sound b (ws ++ c ∷ cs) (Stands kind.Number n))
     (λ point.
-      let same : length ws + 1 + d ≡ length ws + suc d = omega arith in
-      let text : take (length ws + 1 + d) (ws ++ c ∷ cs) ≡ ws ++ 46 ∷ take d cs =
-          ap (λ n. take n (ws ++ c ∷ cs)) same ∙ take-append-more ws (c ∷ cs) (suc d) ∙ ap (λ x. ws ++ x ∷ take d cs) (eqb-true c 46 point) in
-      let fits : length ws + 1 + d ≤ length (ws ++ c ∷ cs) = omega (arith, long, prefix_len-le-length is_ascii_digit cs) in
-      (fits, inr (b ∷ ws, take d cs, ap (λ l. b ∷ l) text, all, list_all-take_prefix is_ascii_digit cs, omega arith)))
+    let same : length ws + 1 + d ≡ length ws + suc d = omega arith in
+    let text : take (length ws + 1 + d) (ws ++ c ∷ cs) ≡ ws ++ 46 ∷ take d cs =
+    ap (λ n. take n (ws ++ c ∷ cs)) same ∙ take-append-more ws (c ∷ cs) (suc d) ∙ ap (λ x. ws ++ x ∷ take d cs) (eqb-true c 46 point) in
+    let fits : length ws + 1 + d ≤ length (ws ++ c ∷ cs) = omega (arith, long, prefix_len-le-length is_ascii_digit cs) in
+    (fits, inr (b ∷ ws, take d cs, ap (λ l. b ∷ l) text, all, list_all-take_prefix is_ascii_digit cs, omega arith)))
     (λ none.
-      let text : take (length ws) (ws ++ c ∷ cs) ≡ ws = take_at ws (c ∷ cs) (length ws) refl in
-      let fits : length ws ≤ length (ws ++ c ∷ cs) = omega (arith, long) in
-      (fits, subst (λ (l : List ℕ). IsNumber (b ∷ l)) (sym text) (inl (all, omega arith))))
+    let text : take (length ws) (ws ++ c ∷ cs) ≡ ws = take_at ws (c ∷ cs) (length ws) refl in
+    let fits : length ws ≤ length (ws ++ c ∷ cs) = omega (arith, long) in
+    (fits, subst (λ (l : List ℕ). IsNumber (b ∷ l)) (sym text) (inl (all, omega arith))))
 
 number_sound : (b : ℕ) (bs : List ℕ) → is_ascii_digit b ≡ true → Sound b bs (Stands kind.Number (number_more bs))
 number_sound b bs digit =

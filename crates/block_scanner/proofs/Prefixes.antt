@@ -20,7 +20,7 @@ module _ (p : ℕ → Bool) where
       let P = λ (n : ℕ). list_all p (take n (x ∷ xs)) ≡ true in
       cond_both (p x) (1 + prefix_len p xs) 0 P
       (λ yes_. let one : suc (prefix_len p xs) ≡ 1 + prefix_len p xs = omega arith in
-          subst P one (and_from (p x) (list_all p (take (prefix_len p xs) xs)) yes_ (list_all-take_prefix xs)))
+      subst P one (and_from (p x) (list_all p (take (prefix_len p xs) xs)) yes_ (list_all-take_prefix xs)))
       (λ no_. refl)
 
   pub prefix_len-drop_prefix : (xs : List ℕ) → prefix_len p (drop (prefix_len p xs) xs) ≡ 0
@@ -42,13 +42,13 @@ module _ (p : ℕ → Bool) where
 
   pub cut : (xs : List ℕ) → Cut xs
   cut xs = record {
-      front = take (prefix_len p xs) xs;
-      behind = drop (prefix_len p xs) xs;
-      joined = sym (take-append-drop (prefix_len p xs) xs);
-      holds = list_all-take_prefix xs;
-      long = sym (length-take-le (prefix_len p xs) xs (prefix_len-le-length p xs));
-      stops = prefix_len-drop_prefix xs
-    }
+    front = take (prefix_len p xs) xs;
+    behind = drop (prefix_len p xs) xs;
+    joined = sym (take-append-drop (prefix_len p xs) xs);
+    holds = list_all-take_prefix xs;
+    long = sym (length-take-le (prefix_len p xs) xs (prefix_len-le-length p xs));
+    stops = prefix_len-drop_prefix xs;
+  }
 
   -- a byte at which the test stops
   pub stops_at : (x : ℕ) (xs : List ℕ) → prefix_len p (x ∷ xs) ≡ 0 → p x ≡ false

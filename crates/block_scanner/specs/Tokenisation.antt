@@ -22,7 +22,7 @@ HasNoQuote bytes = IsTrue (list_all (λ byte. not (is_quote byte)) bytes)
 abbrev pub IsNumber : List ℕ → Type 0
 IsNumber text = (AreDigits text × (0 < length text))
     ⊎ ((whole : List ℕ) × (decimals : List ℕ) × (text ≡ whole ++ 46 ∷ decimals) × AreDigits whole × AreDigits decimals
-       × (0 < length whole + length decimals))
+    × (0 < length whole + length decimals))
 
 -- two letters or underscores, and behind them letters, digits and underscores
 abbrev pub IsName : List ℕ → Type 0
