@@ -1,21 +1,19 @@
 -- What stands at a byte has the form of its kind.
-use Rattle.std.proofs.Common.{◌≡◌, ◌≢◌, ℕ, zero, suc, ◌+◌, ◌<◌, ◌≤◌, Bool, true, false, not, cond, ◌&&◌, ◌||◌, ◌==◌, nat_lt, ◌⊎◌, inl, inr, List, [], ◌∷◌, ◌++◌, length, take, drop, Option, Some, None, position, refl, sym, ◌∙◌, ap, subst, arith}
-use Rattle.std.specs.List.{list_all, prefix_len, position_or_len}
+use Rattle.std.proofs.Common.{◌≡◌, ◌≢◌, ℕ, suc, ◌+◌, ◌<◌, ◌≤◌, Bool, true, false, not, cond, ◌&&◌, ◌||◌, ◌==◌, nat_lt, inl, inr, List, [], ◌∷◌, ◌++◌, length, take, drop, Option, Some, None, position, refl, sym, ◌∙◌, ap, subst, arith}
+use Rattle.std.specs.List.{list_all, prefix_len}
 use Rattle.std.specs.Option.{MatchOption}
-use Rattle.std.specs.Char.{is_ascii_alphabetic, is_ascii_digit, to_ascii_uppercase}
+use Rattle.std.specs.Char.{is_ascii_alphabetic, is_ascii_digit}
 use Rattle.std.proofs.lemmas.Bool.{and_parts, and_from, cond_both, not-false, not_from_false, eqb-true, eqb-false, lt-ltb, le-ltb}
 use Rattle.std.proofs.lemmas.List.{take_at, drop_at, length-append, append-nil}
 use Rattle.std.proofs.lemmas.List.Sums.{prefix_len-le-length}
-use Rattle.block_scanner.specs.declared.Kind.{Kind}
 use Rattle.block_scanner.specs.declared.Kind.TheVariants as kind
 use Rattle.block_scanner.specs.declared.Sign.{Sign}
-use Rattle.block_scanner.specs.declared.Sign.TheVariants.{Plus, Minus, Times, Slash, Assign, Equal, NotEqual, Less, Greater, LessEqual, GreaterEqual, OpenParenthesis, CloseParenthesis, OpenBracket, CloseBracket, Comma, Colon, Dollar}
 use Rattle.block_scanner.specs.declared.beginnings.Front.{Front}
 use Rattle.block_scanner.specs.declared.beginnings.Front.TheVariants.{Blank, Comment, Stands, Forbidden, Unclosed}
 use Rattle.block_scanner.specs.Bytes.{is_blank, is_semicolon, is_quote, is_point, is_name_start, is_name_part, begins_with}
 use Rattle.block_scanner.specs.Front.{front, word_front, text_front, number_more, sign_front, one_sign, two_or_one_sign}
 use Rattle.block_scanner.specs.Signs.{spelling, short_sign, long_sign}
-use Rattle.block_scanner.specs.Tokenisation.{HasForm, IsName, IsNumber, AreDigits, HasNoQuote}
+use Rattle.block_scanner.specs.Tokenisation.{HasForm, IsNumber, AreDigits, HasNoQuote}
 use Rattle.block_scanner.proofs.Prefixes.{Cut, cut, stops_at, take-append-more, drop-append-more, prefix_len-append, list_all-take_prefix}
 
 -- what a byte is not where no token begins

@@ -1,8 +1,8 @@
 -- Where a token has the form of its kind, what stands there reaches as far.
-use Rattle.std.proofs.Common.{◌≡◌, ◌≢◌, ℕ, zero, suc, ◌+◌, ◌<◌, ◌≤◌, Bool, true, false, not, cond, ◌&&◌, ◌||◌, ◌==◌, ◌⊎◌, inl, inr, List, [], ◌∷◌, ◌++◌, length, take, drop, Option, Some, None, position, refl, sym, ◌∙◌, ap, subst, append_assoc, arith}
+use Rattle.std.proofs.Common.{◌≡◌, ℕ, suc, ◌+◌, ◌<◌, ◌≤◌, Bool, true, false, cond, ◌==◌, inl, inr, List, [], ◌∷◌, ◌++◌, length, drop, Option, position, refl, sym, ◌∙◌, ap, subst, append_assoc, arith}
 use Rattle.std.specs.List.{list_all, prefix_len}
 use Rattle.std.specs.Char.{is_ascii_alphabetic, is_ascii_digit, to_ascii_uppercase}
-use Rattle.std.proofs.lemmas.Bool.{and_parts, and_from, cond_both, cond-true, cond-false, or_left, or_from, both_ways, ne_eqb, false_from_ne_true}
+use Rattle.std.proofs.lemmas.Bool.{and_parts, and_from, cond_both, cond-true, cond-false, or_left, or_from, both_ways, ne_eqb}
 use Rattle.std.proofs.lemmas.Bool.Decides.{nat_tests}
 use Rattle.std.proofs.lemmas.List.{length-append}
 use Rattle.block_scanner.specs.declared.Kind.{Kind}
@@ -10,12 +10,12 @@ use Rattle.block_scanner.specs.declared.Kind.TheVariants as kind
 use Rattle.block_scanner.specs.declared.Sign.{Sign}
 use Rattle.block_scanner.specs.declared.Sign.TheVariants.{Plus, Minus, Times, Slash, Assign, Equal, NotEqual, Less, Greater, LessEqual, GreaterEqual, OpenParenthesis, CloseParenthesis, OpenBracket, CloseBracket, Comma, Colon, Dollar}
 use Rattle.block_scanner.specs.declared.beginnings.Front.{Front}
-use Rattle.block_scanner.specs.declared.beginnings.Front.TheVariants.{Blank, Comment, Stands, Forbidden, Unclosed}
+use Rattle.block_scanner.specs.declared.beginnings.Front.TheVariants.{Stands, Forbidden}
 use Rattle.block_scanner.specs.Bytes.{is_blank, is_semicolon, is_quote, is_point, is_name_start, is_name_part, begins_with}
-use Rattle.block_scanner.specs.Front.{front, word_front, text_front, number_more, sign_front, one_sign, two_or_one_sign}
+use Rattle.block_scanner.specs.Front.{front, word_front, text_front, number_more, sign_front, two_or_one_sign}
 use Rattle.block_scanner.specs.Signs.{spelling, short_sign, long_sign}
-use Rattle.block_scanner.specs.Tokenisation.{HasForm, IsName, IsNumber, AreDigits, HasNoQuote}
-use Rattle.block_scanner.proofs.FormLaws.{no_quote, position_some, start_is_part, more_behind, number_more-append}
+use Rattle.block_scanner.specs.Tokenisation.{HasForm, AreDigits, HasNoQuote}
+use Rattle.block_scanner.proofs.FormLaws.{no_quote, position_some, start_is_part, number_more-append}
 use Rattle.block_scanner.proofs.Prefixes.{prefix_len-append}
 
 -- a token stands there that is at least as long as this text, and of this kind where it is as long

@@ -1,8 +1,8 @@
 -- What a line says is what the definition by its fronts gives.
-use Rattle.std.proofs.Common.{◌≡◌, ◌≢◌, ℕ, zero, suc, ◌+◌, ◌<◌, ◌≤◌, Bool, true, false, not, cond, List, [], ◌∷◌, ◌++◌, length, take, drop, Result, Ok, Err, Option, Some, None, refl, sym, ◌∙◌, ap, subst, append_assoc, arith}
+use Rattle.std.proofs.Common.{◌≡◌, ◌≢◌, ℕ, zero, suc, ◌+◌, ◌-◌, ◌<◌, ◌≤◌, true, not, List, [], ◌∷◌, ◌++◌, length, take, drop, get_or, IfOk, Result, Ok, Err, refl, sym, ◌∙◌, ap, subst, arith}
 use Rattle.std.specs.List.{list_all, prefix_len}
-use Rattle.std.proofs.lemmas.Bool.{and_parts, and_from, cond-true, cond-false, both_ways, not-true}
-use Rattle.std.proofs.lemmas.List.{take-append-drop, length-append, length-take-le, length-drop, drop_at, append-nil}
+use Rattle.std.proofs.lemmas.Bool.{and_parts, and_from, cond-true, both_ways, not-true}
+use Rattle.std.proofs.lemmas.List.{take-append-drop, length-append, length-take-le, length-drop, drop-drop, drop_at, take_at, append-nil}
 use Rattle.block_scanner.specs.declared.Kind.{Kind}
 use Rattle.block_scanner.specs.declared.ScanFault.{ScanFault}
 use Rattle.block_scanner.specs.declared.ScanFault.TheVariants.{BadByte, OpenText, NoMemory}
@@ -10,13 +10,15 @@ use Rattle.block_scanner.specs.declared.Token.{Token}
 use Rattle.block_scanner.specs.declared.Words.{Words}
 use Rattle.block_scanner.specs.declared.beginnings.Front.{Front}
 use Rattle.block_scanner.specs.declared.beginnings.Front.TheVariants.{Blank, Comment, Stands, Forbidden, Unclosed}
-use Rattle.block_scanner.specs.Bytes.{is_blank, is_semicolon, is_quote}
+use Rattle.block_scanner.specs.Bytes.{is_blank}
 use Rattle.block_scanner.specs.Front.{front, text_front}
-use Rattle.block_scanner.specs.Tokenisation.{HasForm, HasNoQuote, IsLongest, BeginsNoToken, Leaves, EndsLine, IsTokenisation, IsBadByte, IsOpenText, Says, Answers}
+use Rattle.block_scanner.specs.Tokenisation.{HasForm, HasNoQuote, IsLongest, BeginsNoToken, Leaves, EndsLine, Says, Answers, AreFormed}
+use Rattle.block_scanner.specs.Scanned.{IsScanned}
+use Rattle.block_scanner.specs.Texts.{text_of}
 use Rattle.block_scanner.specs.Tokens.{before, go_on, tokens_from, tokens_of, Scans}
-use Rattle.block_scanner.proofs.FormLaws.{Sound, IsOther, front_sound, no_quote, position_none}
+use Rattle.block_scanner.proofs.FormLaws.{Sound, front_sound, no_quote, position_none}
 use Rattle.block_scanner.proofs.Prefixes.{prefix_len-append}
-use Rattle.block_scanner.proofs.ReachLaws.{Reaches, reach, form_is_filled, front-quote}
+use Rattle.block_scanner.proofs.ReachLaws.{reach, form_is_filled, front-quote}
 use Rattle.block_scanner.proofs.Steps.{onto, tokens_from-skip}
 
 -- a token of the byte at a place and so many more
@@ -233,3 +235,35 @@ answers line (Ok words) h = subst (λ (o : Result (List Token) ScanFault). Says 
 answers line (Err (BadByte place)) h = subst (λ (o : Result (List Token) ScanFault). Says line o) h (says line)
 answers line (Err (OpenText place)) h = subst (λ (o : Result (List Token) ScanFault). Says line o) h (says line)
 answers line (Err NoMemory) h = tt
+
+-- the slice of each token has the form of its kind
+formed_from : (ts : List Token) (at : ℕ) (line bytes : List ℕ) (place : ℕ) (rest : List ℕ) → drop at line ≡ bytes → Leaves at bytes ts place rest → AreFormed line ts
+formed_from [] at line bytes place rest from h k d within = absurd (omega arith)
+formed_from (t ∷ ts) at line bytes place rest from (gap, text, tail, whole, blanks, start, end, form, longest, behind) k d within =
+    let here : drop t.start line ≡ text ++ tail =
+    ap (λ n. drop n line) start ∙ sym (drop-drop (length gap) at line) ∙ ap (drop (length gap)) (from ∙ whole) ∙ drop_at gap (text ++ tail) (length gap) refl in
+    let next : drop t.end line ≡ tail =
+    ap (λ n. drop n line) end ∙ sym (drop-drop (length text) t.start line) ∙ ap (drop (length text)) here ∙ drop_at text tail (length text) refl in
+    let long : t.end - t.start ≡ length text = omega arith in
+    let slice : text_of line t ≡ text = ap (λ n. take n (drop t.start line)) long ∙ ap (take (length text)) here ∙ take_at text tail (length text) refl in
+    by (subst (λ (l : List ℕ). HasForm t.kind l) (sym slice) form) (formed_from ts t.end line tail place rest next behind) k d within
+  where
+    by : HasForm t.kind (text_of line t) → AreFormed line ts → AreFormed line (t ∷ ts)
+    by first others zero d within = first
+    by first others (suc k) d within = others k d (omega arith)
+
+pub formed : (line : List ℕ) (ts : List Token) → tokens_of line ≡ Ok ts → AreFormed line ts
+formed line ts h =
+    let said = subst (λ (o : Result (List Token) ScanFault). Says line o) h (says line) in
+    formed_from ts 0 line line said.0 said.1 refl said.2
+
+pub formed_answer : (line : List ℕ) (answer : Result Words ScanFault) → Scans line answer → IfOk answer (λ words. AreFormed line words.tokens.items)
+formed_answer line (Ok words) h = formed line words.tokens.items h.1
+formed_answer line (Err e) h = tt
+
+-- each token of a scanned line has the form of its kind
+pub formed_at : (words : Words) (tokens : List Token) (i : ℕ) (d : Token) → IsScanned words → tokens ≡ words.tokens.items → i < length words.tokens.items
+    → HasForm (get_or tokens i d).kind (text_of words.line.now (get_or tokens i d))
+formed_at words tokens i d scanned same within =
+    let has = λ (ts : List Token). HasForm (get_or ts i d).kind (text_of words.line.now (get_or ts i d)) in
+    subst has (sym same) (formed words.line.now words.tokens.items scanned.read i d within)

@@ -1,5 +1,5 @@
 -- What a line says, apart from any scanner: tokens that cover all of it but blanks and a comment, or the leftmost place at which no token can be had.
-use Rattle.std.specs.Prelude.{◌≡◌, ◌≢◌, ℕ, ◌+◌, ◌<◌, ◌≤◌, not, IsTrue, ◌⊎◌, List, [], ◌∷◌, ◌++◌, length, Result, Ok, Err}
+use Rattle.std.specs.Prelude.{◌≡◌, ◌≢◌, ℕ, ◌+◌, ◌<◌, ◌≤◌, not, IsTrue, ◌⊎◌, List, [], ◌∷◌, ◌++◌, length, All, Result, Ok, Err}
 use Rattle.std.specs.List.{list_all}
 use Rattle.std.specs.Char.{is_ascii_alphabetic, is_ascii_digit, to_ascii_uppercase}
 use Rattle.block_scanner.specs.declared.Kind.{Kind}
@@ -10,6 +10,7 @@ use Rattle.block_scanner.specs.declared.Token.{Token}
 use Rattle.block_scanner.specs.declared.Words.{Words}
 use Rattle.block_scanner.specs.Bytes.{is_blank, is_quote, is_name_start, is_name_part}
 use Rattle.block_scanner.specs.Signs.{spelling}
+use Rattle.block_scanner.specs.Texts.{text_of}
 
 abbrev pub AreDigits : List ℕ → Type 0
 AreDigits bytes = IsTrue (list_all is_ascii_digit bytes)
@@ -83,3 +84,7 @@ Answers line (Ok words) = IsTokenisation line words.tokens.items
 Answers line (Err (BadByte place)) = IsBadByte line place
 Answers line (Err (OpenText place)) = IsOpenText line place
 Answers line (Err NoMemory) = Unit {0}
+
+-- the slice of each token has the form of its kind
+abbrev pub AreFormed : List ℕ → List Token → Type 0
+AreFormed line tokens = All (λ token. HasForm token.kind (text_of line token)) tokens

@@ -2,7 +2,7 @@
 
 ghost use Rattle.std.specs.Prelude.{◌≤◌, length, IfOk};
 ghost use Rattle.block_scanner.specs.Scanned.{IsScanned};
-ghost use Rattle.block_scanner.specs.Tokenisation.{Answers};
+ghost use Rattle.block_scanner.specs.Tokenisation.{Answers, AreFormed};
 ghost use Rattle.block_scanner.specs.Tokens.{Scans};
 
 use crate::beginnings::{Front, front_of};
@@ -19,6 +19,7 @@ pub fn scan(alloc: Global, line: &[u8]) -> Result<Words<'_>, ScanFault>
     requires { length line.now ≤ 512 }
     ensures exact { Scans line.now result }
     ensures said { Answers line.now result }
+    ensures formed { IfOk result (λ words. AreFormed line.now words.tokens.items) }
     ensures scanned { IfOk result (λ words. IsScanned words) }
 {
     scan_from_left(alloc, line)

@@ -1,8 +1,7 @@
-use Rattle.std.proofs.Common.{◌≡◌, ◌+◌, ◌∙◌, List, [], ◌∷◌, ◌++◌, sym, length, length-drop, arith}
+use Rattle.std.proofs.Common.{◌+◌, ◌∙◌, sym, length-drop, arith}
 use Rattle.std.proofs.lemmas.List.{take_rest}
 use Rattle.block_scanner.specs.declared.Token.{Token}
-use Rattle.block_scanner.specs.Tokens.{tokens_from}
-use Rattle.block_scanner.proofs.Steps.{onto, token_step, order_push}
+use Rattle.block_scanner.proofs.Steps.{token_step, order_push}
 use Rattle.block_scanner.proofs.scanning.scan_from_left.Goals as goal
 
 pub loop-first-preserved : goal.loop-first-preserved
