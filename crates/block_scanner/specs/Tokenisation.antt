@@ -1,4 +1,4 @@
--- What a line says, apart from any scanner: tokens that cover all of it but blanks and a comment, or the leftmost place at which no token can be had.
+-- What a line says, apart from any scanner: its tokens, or the leftmost place at which nothing can begin.
 use Rattle.std.specs.Prelude.{◌≡◌, ◌≢◌, ℕ, ◌+◌, ◌<◌, ◌≤◌, not, IsTrue, ◌⊎◌, List, [], ◌∷◌, ◌++◌, length, All, Result, Ok, Err}
 use Rattle.std.specs.List.{list_all}
 use Rattle.std.specs.Char.{is_ascii_alphabetic, is_ascii_digit, to_ascii_uppercase}
@@ -46,7 +46,8 @@ IsLongest text bytes = (kind : Kind) (longer tail : List ℕ) → bytes ≡ long
 abbrev pub BeginsNoToken : List ℕ → Type 0
 BeginsNoToken bytes = (kind : Kind) (text tail : List ℕ) → bytes ≡ text ++ tail → HasForm kind text → ⊥
 
--- from a place on the bytes are these tokens with nothing but blanks before and between them; then come blanks, and at the next place what is left
+-- from a place on, the bytes are these tokens with nothing but blanks before and between them;
+-- then come blanks, and from the next place on the rest
 abbrev pub Leaves : ℕ → List ℕ → List Token → ℕ → List ℕ → Type 0
 Leaves at bytes [] place rest = (gap : List ℕ) × (bytes ≡ gap ++ rest) × IsTrue (list_all is_blank gap) × (place ≡ at + length gap)
 Leaves at bytes (token ∷ tokens) place rest = (gap : List ℕ) × (text : List ℕ) × (tail : List ℕ) × (bytes ≡ gap ++ (text ++ tail))
@@ -58,11 +59,12 @@ abbrev pub EndsLine : List ℕ → Type 0
 EndsLine [] = Unit {0}
 EndsLine (byte ∷ bytes) = byte ≡ 59
 
--- these tokens cover the line from its beginning to its end
+-- these tokens cover all of the line but blanks and a comment
 abbrev pub IsTokenisation : List ℕ → List Token → Type 0
 IsTokenisation line tokens = (place : ℕ) × (rest : List ℕ) × Leaves 0 line tokens place rest × EndsLine rest
 
--- tokens cover the line up to this place, where a byte stands with which nothing begins: no blank, no comment, no text ('"' is 34) and no other token
+-- tokens cover the line up to this place, where a byte stands that is no blank, begins no comment, opens no text ('"' is 34),
+-- and with which no token begins
 abbrev pub IsBadByte : List ℕ → ℕ → Type 0
 IsBadByte line place = (tokens : List Token) × (byte : ℕ) × (rest : List ℕ) × Leaves 0 line tokens place (byte ∷ rest)
     × IsTrue (not (is_blank byte)) × (byte ≢ 59) × (byte ≢ 34) × BeginsNoToken (byte ∷ rest)
