@@ -75,8 +75,8 @@ shifted-alone axis slot negative factor shift value i h = record {
   minus_is = h.minus_is;
   factor_is = widened i.factor factor (pos i.under) h.factor_is;
   shift_is =
-    ap (λ (s : ℕ). ((i.shift *ℤ pos 1000000) +ℤ cond (eqb s axis) (value *ℤ pos i.under) (pos 0)) *ℤ pos 1000000) h.slot_is
-    ∙ shift_added (eqb slot axis) i.shift shift value (pos i.under) h.shift_is;
+      ap (λ (s : ℕ). ((i.shift *ℤ pos 1000000) +ℤ cond (eqb s axis) (value *ℤ pos i.under) (pos 0)) *ℤ pos 1000000) h.slot_is
+      ∙ shift_added (eqb slot axis) i.shift shift value (pos i.under) h.shift_is;
 }
 
 scaled_along : (b : Bool) (v f g u : ℤ) → b ≡ false → f *ℤ pos 1000000 ≡ g *ℤ u

@@ -64,8 +64,8 @@ after-follows e i j slot b c t some some' h k = record {
   minus_is = ap (λ (x : Bool). other_sign x i.minus) k.minus_is ∙ ap (other_sign b) (sym h.minus);
   factor_is = factor_after (pos e.factor) i.factor j.factor c (pos i.under) (pos j.under) h.factor k.factor_is;
   shift_is =
-    shift_after (sign e.minus) (pos e.factor) i.factor e.shift j.shift i.shift t (pos i.under) (pos j.under) h.factor h.shift k.shift_is
-    ∙ ap (λ (x : Bool). ((i.shift *ℤ pos j.under) +ℤ (sign x *ℤ (i.factor *ℤ j.shift))) *ℤ pos 1000000000000) h.minus;
+      shift_after (sign e.minus) (pos e.factor) i.factor e.shift j.shift i.shift t (pos i.under) (pos j.under) h.factor h.shift k.shift_is
+      ∙ ap (λ (x : Bool). ((i.shift *ℤ pos j.under) +ℤ (sign x *ℤ (i.factor *ℤ j.shift))) *ℤ pos 1000000000000) h.minus;
   positive = mul-pos some some';
 }
 
@@ -83,8 +83,8 @@ unfolding million trillion
 plain_factor f u g e =
     times_injective 1000000 (f *ℤ u) (g *ℤ pos 1000000) (omega arith)
     (ring_from (f ∷ u ∷ g ∷ []) (minus (times (times (var 0) million) (var 1)) (times (var 2) trillion) ∷ []) (num (pos 1) ∷ [])
-        (times (times (var 0) (var 1)) million) (times (times (var 2) million) million)
-        (nothing_between _ _ e, tt) tt)
+    (times (times (var 0) (var 1)) million) (times (times (var 2) million) million)
+    (nothing_between _ _ e, tt) tt)
 
 unmoved : (s f t : ℤ) → t +ℤ (s *ℤ (f *ℤ pos 0)) ≡ t
 unmoved s f t = ring (s ∷ f ∷ t ∷ []) (plus (var 2) (times (var 0) (times (var 1) (num (pos 0))))) (var 2) tt
@@ -118,8 +118,8 @@ scaled-image e e' c k h s m = record {
   slot = m.slot ∙ sym h.slot_is;
   minus = m.minus ∙ sym h.minus_is;
   factor =
-    plain_factor (pos e'.factor) (pos k.under) k.factor
-    (ap (λ (z : ℤ). z *ℤ pos k.under) (scaled_factor e c e'.factor s m.factor) ∙ h.factor_is);
+      plain_factor (pos e'.factor) (pos k.under) k.factor
+      (ap (λ (z : ℤ). z *ℤ pos k.under) (scaled_factor e c e'.factor s m.factor) ∙ h.factor_is);
   shift = ap (λ (z : ℤ). z *ℤ pos k.under) (m.shift ∙ sym (unmoved (sign e.minus) (pos e.factor) e.shift)) ∙ h.shift_is;
 }
 
@@ -143,9 +143,9 @@ great_shift n s u some e h = let wide : 10000000000000001 * u ≤ s * u = mul-le
 pub image-no_fault : (e : AxisMap) (k : Image) → 0 < k.under → IsImage e k → image_fault k ≡ None
 image-no_fault e k some h =
     let factor : is_factor_allowed k ≡ true =
-        whole_factor (unsigned_abs k.factor) e.factor k.under some (sizes (pos e.factor) k.factor k.under 1000000 h.factor) e.factor_bound in
+    whole_factor (unsigned_abs k.factor) e.factor k.under some (sizes (pos e.factor) k.factor k.under 1000000 h.factor) e.factor_bound in
     let shift : is_shift_allowed k ≡ true =
-        le-leb _ _ (small_shift (unsigned_abs k.shift) (unsigned_abs e.shift) k.under (sizes e.shift k.shift k.under 1000000000000 h.shift) e.shift_bound) in
+    le-leb _ _ (small_shift (unsigned_abs k.shift) (unsigned_abs e.shift) k.under (sizes e.shift k.shift k.under 1000000000000 h.shift) e.shift_bound) in
     ap (λ (b : Bool). cond b (cond (is_shift_allowed k) None (Some 13)) (Some 11)) factor
     ∙ ap (λ (b : Bool). cond b None (Some 13)) shift
 
@@ -153,9 +153,9 @@ pub moved-fault : (e : AxisMap) (t : ℤ) (k : Image) → Follows e false (pos 1
 moved-fault e t k h more =
     let plain = plain_factor (pos e.factor) (pos k.under) k.factor h.factor_is in
     let factor : is_factor_allowed k ≡ true =
-        whole_factor (unsigned_abs k.factor) e.factor k.under h.positive (sizes (pos e.factor) k.factor k.under 1000000 plain) e.factor_bound in
+    whole_factor (unsigned_abs k.factor) e.factor k.under h.positive (sizes (pos e.factor) k.factor k.under 1000000 plain) e.factor_bound in
     let shift : is_shift_allowed k ≡ false =
-        lt-leb _ _ (great_shift (unsigned_abs k.shift) (unsigned_abs (moved e t)) k.under h.positive (sizes (moved e t) k.shift k.under 1000000000000 h.shift_is) more) in
+    lt-leb _ _ (great_shift (unsigned_abs k.shift) (unsigned_abs (moved e t)) k.under h.positive (sizes (moved e t) k.shift k.under 1000000000000 h.shift_is) more) in
     ap (λ (b : Bool). cond b (cond (is_shift_allowed k) None (Some 13)) (Some 11)) factor
     ∙ ap (λ (b : Bool). cond b None (Some 13)) shift
 
@@ -187,10 +187,10 @@ scaled-fault e c k h s out =
     let n = unsigned_abs k.factor in
     let product = e.factor * unsigned_abs c in
     let same : product * k.under ≡ n * 1000000000000 =
-        ap (λ (m : ℕ). m * k.under) (sym (unsigned_abs-mul (pos e.factor) c)) ∙ sizes (pos e.factor *ℤ c) k.factor k.under 1000000000000 h.factor_is in
+    ap (λ (m : ℕ). m * k.under) (sym (unsigned_abs-mul (pos e.factor) c)) ∙ sizes (pos e.factor *ℤ c) k.factor k.under 1000000000000 h.factor_is in
     let factor : is_factor_allowed k ≡ false =
-        allowed_both (eqb ((n * 1000000) % k.under) 0) (leb n (1000 * k.under)) (eqb (product % 1000000) 0) (leb product 1000000000000000)
-        (λ t. eq-eqb _ 0 (whole_product n product k.under h.positive same (eqb-true _ 0 t)))
-        (λ t. le-leb _ _ (small_product n product k.under h.positive same (leb-true _ _ t)))
-        out in
+    allowed_both (eqb ((n * 1000000) % k.under) 0) (leb n (1000 * k.under)) (eqb (product % 1000000) 0) (leb product 1000000000000000)
+    (λ t. eq-eqb _ 0 (whole_product n product k.under h.positive same (eqb-true _ 0 t)))
+    (λ t. le-leb _ _ (small_product n product k.under h.positive same (leb-true _ _ t)))
+    out in
     ap (λ (b : Bool). cond b (cond (is_shift_allowed k) None (Some 13)) (Some 11)) factor

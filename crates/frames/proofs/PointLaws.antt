@@ -14,19 +14,19 @@ module _ (value : ℤ) (u : ℕ) where
   shifted-sent : (axis : ℕ) (by : ℤ) (i : Image) (p : Point) → IsSent i value u p → IsSent (shifted_image axis by i) value u (shifted axis by p)
   shifted-sent axis by i p h = record {
     top =
-      ap (λ (z : ℤ). (z *ℤ pos 1000000) +ℤ cond (eqb i.slot axis) (by *ℤ pos p.under) (pos 0)) h.top
-      ∙ ap (λ (n : ℕ). (((i.shift *ℤ pos u) +ℤ (sign i.minus *ℤ (i.factor *ℤ value))) *ℤ pos 1000000) +ℤ cond (eqb i.slot axis) (by *ℤ pos n) (pos 0)) h.under_is
-      ∙ ap (λ (w : ℤ). (((i.shift *ℤ pos u) +ℤ (sign i.minus *ℤ (i.factor *ℤ value))) *ℤ pos 1000000) +ℤ w)
-          (shifting_part (eqb i.slot axis) by i.under u)
-      ∙ shifted-after_shift i.shift i.factor (sign i.minus) value (pos u) (cond (eqb i.slot axis) (by *ℤ pos i.under) (pos 0));
+        ap (λ (z : ℤ). (z *ℤ pos 1000000) +ℤ cond (eqb i.slot axis) (by *ℤ pos p.under) (pos 0)) h.top
+        ∙ ap (λ (n : ℕ). (((i.shift *ℤ pos u) +ℤ (sign i.minus *ℤ (i.factor *ℤ value))) *ℤ pos 1000000) +ℤ cond (eqb i.slot axis) (by *ℤ pos n) (pos 0)) h.under_is
+        ∙ ap (λ (w : ℤ). (((i.shift *ℤ pos u) +ℤ (sign i.minus *ℤ (i.factor *ℤ value))) *ℤ pos 1000000) +ℤ w)
+        (shifting_part (eqb i.slot axis) by i.under u)
+        ∙ shifted-after_shift i.shift i.factor (sign i.minus) value (pos u) (cond (eqb i.slot axis) (by *ℤ pos i.under) (pos 0));
     under_is = ap (λ (n : ℕ). n * 1000000) h.under_is ∙ under-after i.under u 1000000;
   }
 
   scaled-sent : (axis : ℕ) (by : ℤ) (i : Image) (p : Point) → IsSent i value u p → IsSent (scaled_image axis by i) value u (scaled axis by p)
   scaled-sent axis by i p h = record {
     top =
-      ap (λ (z : ℤ). z *ℤ cond (eqb i.slot axis) by (pos 1000000)) h.top
-      ∙ scaled-after_shift i.shift i.factor (sign i.minus) value (pos u) (cond (eqb i.slot axis) by (pos 1000000));
+        ap (λ (z : ℤ). z *ℤ cond (eqb i.slot axis) by (pos 1000000)) h.top
+        ∙ scaled-after_shift i.shift i.factor (sign i.minus) value (pos u) (cond (eqb i.slot axis) by (pos 1000000));
     under_is = ap (λ (n : ℕ). n * 1000000) h.under_is ∙ under-after i.under u 1000000;
   }
 
@@ -35,9 +35,9 @@ module _ (value : ℤ) (u : ℕ) where
       → IsSent i value u p → IsSent (placed slot turned i) value u q
   placed-sent slot turned i p q there same h = record {
     top =
-      there ∙ ap (λ (z : ℤ). sign turned *ℤ z) h.top
-      ∙ placed-after_shift i.shift i.factor (sign i.minus) value (pos u) (sign turned)
-      ∙ ap (λ (s : ℤ). ((sign turned *ℤ i.shift) *ℤ pos u) +ℤ (s *ℤ (i.factor *ℤ value))) (sym (sign-other_sign turned i.minus));
+        there ∙ ap (λ (z : ℤ). sign turned *ℤ z) h.top
+        ∙ placed-after_shift i.shift i.factor (sign i.minus) value (pos u) (sign turned)
+        ∙ ap (λ (s : ℤ). ((sign turned *ℤ i.shift) *ℤ pos u) +ℤ (s *ℤ (i.factor *ℤ value))) (sym (sign-other_sign turned i.minus));
     under_is = same ∙ h.under_is;
   }
 
@@ -75,9 +75,9 @@ module _ (value : ℤ) (u : ℕ) where
       (quarter_first plane p ∙ ap (λ (a : ℕ). neg_ℤ (p.top a)) (sym (eqb-true i.slot (second_axis plane) is_second)) ∙ opposite (p.top i.slot)) refl h
   quarter_cases plane i p false false is_first is_second h = record {
     top =
-      ap (λ (b : Bool). cond b (p.top (first_axis plane)) (cond (eqb i.slot (first_axis plane)) (neg_ℤ (p.top (second_axis plane))) (p.top i.slot))) is_second
-      ∙ ap (λ (b : Bool). cond b (neg_ℤ (p.top (second_axis plane))) (p.top i.slot)) is_first
-      ∙ h.top;
+        ap (λ (b : Bool). cond b (p.top (first_axis plane)) (cond (eqb i.slot (first_axis plane)) (neg_ℤ (p.top (second_axis plane))) (p.top i.slot))) is_second
+        ∙ ap (λ (b : Bool). cond b (neg_ℤ (p.top (second_axis plane))) (p.top i.slot)) is_first
+        ∙ h.top;
     under_is = h.under_is;
   }
 

@@ -1,5 +1,5 @@
 -- A frame, and the chain of maps that it stands for.
-use Rattle.std.specs.Prelude.{◌≡◌, ℕ, ◌+◌, ◌^◌, ℤ, pos, ◌*ℤ◌, List, [], ◌∷◌, ◌++◌, Option, Some, None, Result, MatchResult, ◌==◌, if◌then◌else◌}
+use Rattle.std.specs.Prelude.{◌≡◌, ℕ, ◌+◌, ◌^◌, ℤ, pos, ◌*ℤ◌, List, [], ◌∷◌, ◌++◌, Option, Some, None, Result, Ok, Err, MatchResult, ◌==◌, if◌then◌else◌}
 use Rattle.frames.specs.declared.axis_map.AxisMap.{AxisMap}
 use Rattle.frames.specs.declared.Frame.{Frame}
 use Rattle.frames.specs.declared.Plane.{Plane}
@@ -54,6 +54,13 @@ GivesComposed chain new answer =
 abbrev pub Adds : {T : Type 0} → List Map → List Map → Result T ℕ → Frame → Type 0
 Adds chain new answer frame =
     MatchResult answer (λ _. IsExtended chain new frame) (λ alarm. adding_fault chain new ≡ Some alarm)
+
+-- a frame of three axes, or the alarm of the first that has one
+abbrev pub Joins : Result AxisMap ℕ → Result AxisMap ℕ → Result AxisMap ℕ → Result Frame ℕ → Type 0
+Joins (Err alarm) y z answer = answer ≡ Err alarm
+Joins (Ok x) (Err alarm) z answer = answer ≡ Err alarm
+Joins (Ok x) (Ok y) (Err alarm) answer = answer ≡ Err alarm
+Joins (Ok x) (Ok y) (Ok z) answer = answer ≡ Ok (record { x = x; y = y; z = z })
 
 -- the axis of a frame
 abbrev pub axis_of : Frame → ℕ → AxisMap

@@ -1,7 +1,6 @@
 -- The whole counts of an axis: what a map at the end of the chain makes of them, and where a value goes.
 use Rattle.std.specs.Prelude.{◌≡◌, ℕ, ◌*◌, ◌%◌, ◌≤◌, ◌<◌, ◌^◌, ◌==◌, nat_le, ℤ, pos, ◌+ℤ◌, ◌*ℤ◌, Bool, true, false, ◌&&◌, Result, MatchResult}
 use Rattle.std.specs.Int.RustNames.{unsigned_abs}
-use Rattle.micro_units.specs.declared.Um.{Um}
 use Rattle.frames.specs.declared.axis_map.AxisMap.{AxisMap}
 use Rattle.frames.specs.Faults.{is_scale}
 use Rattle.frames.specs.Images.{sign, other_sign}
@@ -42,13 +41,6 @@ GivesScaled old by answer =
     MatchResult answer
     (λ new. (is_scale by ≡ true) × IsScaled old by new)
     (λ alarm. (alarm ≡ 11) × ((is_scale by && is_product_allowed old.factor (unsigned_abs by)) ≡ false))
-
--- a count of micrometres, or alarm 13 exactly where it is greater than it may be
-abbrev pub GivesWithin : ℕ → ℤ → Result Um ℕ → Type 0
-GivesWithin most place answer =
-    MatchResult answer
-    (λ given. (given ≡ place) × (unsigned_abs place ≤ most))
-    (λ alarm. (alarm ≡ 13) × ¬ (unsigned_abs place ≤ most))
 
 -- a place in 2,000,000,000ths of a micrometre, for twice a value in millionths of a millimetre
 abbrev pub place_sum : AxisMap → ℤ → ℤ → ℤ

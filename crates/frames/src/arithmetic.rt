@@ -3,7 +3,7 @@
 ghost use Rattle.std.specs.Prelude.{◌≡◌, ◌<◌, ◌≤◌, ◌^◌, ◌+◌, ℤ, pos, ◌+ℤ◌, ◌*ℤ◌};
 ghost use Rattle.std.specs.Int.RustNames.{unsigned_abs};
 ghost use Rattle.micro_units.specs.Rounding.{half_away};
-ghost use Rattle.frames.specs.Counts.{GivesWithin};
+ghost use Rattle.frames.specs.Places.{GivesPlace};
 ghost use Rattle.frames.specs.Images.{sign};
 
 use micro_units::Um;
@@ -63,15 +63,16 @@ pub(crate) fn rounded(numerator: i128) -> i128
     if numerator < 0 { -size } else { size }
 }
 
-/// This count of micrometres, or alarm 13 where it is greater in size than it may be.
-pub(crate) fn within(micrometres: i128, most: u32) -> Result<Um, u16>
+/// The slot and this count of micrometres, or alarm 13 where it is greater in size than it may be.
+pub(crate) fn in_slot(slot: u8, micrometres: i128, most: u32) -> Result<(u8, Um), u16>
     requires { most ≤ 20000000 }
-    ensures { GivesWithin most micrometres result }
+    ensures { GivesPlace slot micrometres most result }
 {
     if micrometres.unsigned_abs() > u128::from(most) {
         return Err(13);
     }
-    Ok(Um {
+    let place = Um {
         micrometres: micrometres as i32,
-    })
+    };
+    Ok((slot, place))
 }

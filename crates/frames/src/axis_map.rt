@@ -3,8 +3,8 @@
 ghost use Rattle.std.specs.Prelude.{◌<◌, ◌≤◌, ◌^◌};
 ghost use Rattle.std.specs.Int.RustNames.{unsigned_abs};
 
-use crate::arithmetic::{doubled, offset_part, product, rounded, sum, with_sign, within};
-use micro_units::Um;
+use crate::arithmetic::{doubled, in_slot, offset_part, product, rounded, sum, with_sign};
+use micro_units::{Num, Um};
 
 /// Where an axis goes: to the slot, as shift + sign · factor · value.
 #[derive(Clone, Copy, Debug)]
@@ -24,9 +24,10 @@ pub struct AxisMap {
 }
 
 impl AxisMap {
-    ghost use Rattle.std.specs.Prelude.{◌≡◌, ◌*◌, ℤ, pos, ◌+ℤ◌, ◌*ℤ◌, false};
+    ghost use Rattle.std.specs.Prelude.{◌≡◌, ◌*◌, ℤ, pos, ◌+ℤ◌, ◌*ℤ◌, false, unwrap_or};
     ghost use Rattle.micro_units.specs.Rounding.{half_away};
-    ghost use Rattle.frames.specs.Counts.{IsMoved, IsMirrored, GivesMoved, GivesScaled, GivesWithin, place_sum, change_sum, moved};
+    ghost use Rattle.frames.specs.Places.{GivesPlace};
+    ghost use Rattle.frames.specs.Counts.{IsMoved, IsMirrored, GivesMoved, GivesScaled, place_sum, change_sum, moved as moved_count};
 
     /// The axis goes to its own slot unchanged.
     pub(crate) fn unmapped(slot: u8) -> AxisMap
@@ -44,8 +45,19 @@ impl AxisMap {
         }
     }
 
-    /// The axis moved by so many millionths of a millimetre before it goes, or alarm 13.
-    pub(crate) fn shifted(&self, by: i64) -> Result<AxisMap, u16>
+    /// The axis moved by the value of a word, in millionths of a millimetre, before it goes; or
+    /// alarm 13.
+    pub(crate) fn shifted(&self, word: Option<Num>) -> Result<AxisMap, u16>
+        ensures { GivesMoved self.now (unwrap_or word (pos 0)) result }
+    {
+        match word {
+            Some(value) => self.moved(value.millionths),
+            None => self.moved(0),
+        }
+    }
+
+    /// The same for a value.
+    fn moved(&self, by: i64) -> Result<AxisMap, u16>
         ensures { GivesMoved self.now by result }
     {
         let shift = self.moved_shift(by);
@@ -62,7 +74,7 @@ impl AxisMap {
 
     /// The shift of the axis moved by so many millionths of a millimetre before it goes.
     fn moved_shift(&self, by: i64) -> i128
-        ensures { result ≡ moved self.now by }
+        ensures { result ≡ moved_count self.now by }
     {
         sum(self.shift, self.signed_product(by))
     }
@@ -75,8 +87,18 @@ impl AxisMap {
         with_sign(self.minus, product(self.factor, by))
     }
 
-    /// The axis multiplied by so many millionths before it goes, or alarm 11.
-    pub(crate) fn scaled(&self, by: i64) -> Result<AxisMap, u16>
+    /// The axis multiplied by the value of a word, in millionths, before it goes; or alarm 11.
+    pub(crate) fn scaled(&self, word: Option<Num>) -> Result<AxisMap, u16>
+        ensures { GivesScaled self.now (unwrap_or word (pos 1000000)) result }
+    {
+        match word {
+            Some(value) => self.multiplied(value.millionths),
+            None => self.multiplied(1_000_000),
+        }
+    }
+
+    /// The same for a value.
+    fn multiplied(&self, by: i64) -> Result<AxisMap, u16>
         ensures { GivesScaled self.now by result }
     {
         if by <= 0 || by > 1_000_000_000 || by % 1000 != 0 {
@@ -108,10 +130,10 @@ impl AxisMap {
 
     /// Where half of `twice` millionths of a millimetre goes, with an offset in micrometres; or
     /// alarm 13.
-    pub(crate) fn end(&self, twice: i64, offset: Um) -> Result<Um, u16>
-        ensures { GivesWithin 10000000 (half_away (place_sum self.now twice offset) 2000000000) result }
+    pub(crate) fn end(&self, twice: i64, offset: Um) -> Result<(u8, Um), u16>
+        ensures { GivesPlace self.now.slot (half_away (place_sum self.now twice offset) 2000000000) 10000000 result }
     {
-        within(rounded(self.place(twice, offset)), 10_000_000)
+        in_slot(self.slot, rounded(self.place(twice, offset)), 10_000_000)
     }
 
     /// That place before it is rounded, in 2,000,000,000ths of a micrometre.
@@ -131,9 +153,9 @@ impl AxisMap {
     }
 
     /// By how much the slot goes by half of `twice` millionths of a millimetre; or alarm 13.
-    pub(crate) fn change(&self, twice: i64) -> Result<Um, u16>
-        ensures { GivesWithin 20000000 (half_away (change_sum self.now twice) 2000000000) result }
+    pub(crate) fn change(&self, twice: i64) -> Result<(u8, Um), u16>
+        ensures { GivesPlace self.now.slot (half_away (change_sum self.now twice) 2000000000) 20000000 result }
     {
-        within(rounded(self.signed_product(twice)), 20_000_000)
+        in_slot(self.slot, rounded(self.signed_product(twice)), 20_000_000)
     }
 }

@@ -5,9 +5,10 @@
 #![tactic(auto)]
 
 ghost use Rattle.std.specs.Prelude.{◌≡◌, ℕ, ◌<◌, ℤ, pos, ◌*ℤ◌, List, [], ◌∷◌, true, false, OnErr, unwrap_or};
-ghost use Rattle.frames.specs.Maps.{Map, Point, mapped_point, quarters_in as quarters_of};
+ghost use Rattle.frames.specs.Maps.{Map, turning, mapped_point, quarters_in as quarters_of};
 ghost use Rattle.frames.specs.Images.{image_of};
-ghost use Rattle.frames.specs.Composition.{IsComposed, IsExtended, GivesComposed, Adds, shifts, scales, mirrors, turns, axis_of};
+ghost use Rattle.frames.specs.Faults.{is_square_angle};
+ghost use Rattle.frames.specs.Composition.{IsComposed, IsExtended, GivesComposed, Joins, Adds, shifts, scales, mirrors, turns, axis_of};
 ghost use Rattle.frames.specs.Places.{programmed, end_at, change_of, GivesPlace};
 ghost use Rattle.frames.specs.Turns.{IsTurned, IsTurnedFirst, IsTurnedSecond};
 
@@ -59,8 +60,7 @@ impl Frame {
         ensures adds { Adds [] (shifts 0 values) result self.new }
         ensures unchanged { OnErr result (self.new ≡ self.old) }
     {
-        let [x, y, z] = values;
-        *self = Frame::empty().with_shifts(x, y, z)?;
+        *self = Frame::empty().with_shifts(values)?;
         Ok(())
     }
 
@@ -72,8 +72,7 @@ impl Frame {
         ensures adds { (chain : List Map) → IsComposed chain self.old → Adds chain (shifts 0 values) result self.new }
         ensures unchanged { OnErr result (self.new ≡ self.old) }
     {
-        let [x, y, z] = values;
-        *self = self.with_shifts(x, y, z)?;
+        *self = self.with_shifts(values)?;
         Ok(())
     }
 
@@ -84,8 +83,7 @@ impl Frame {
         ensures adds { Adds [] (scales 0 values) result self.new }
         ensures unchanged { OnErr result (self.new ≡ self.old) }
     {
-        let [x, y, z] = values;
-        *self = Frame::empty().with_scales(x, y, z)?;
+        *self = Frame::empty().with_scales(values)?;
         Ok(())
     }
 
@@ -98,8 +96,7 @@ impl Frame {
         ensures adds { (chain : List Map) → IsComposed chain self.old → Adds chain (scales 0 values) result self.new }
         ensures unchanged { OnErr result (self.new ≡ self.old) }
     {
-        let [x, y, z] = values;
-        *self = self.with_scales(x, y, z)?;
+        *self = self.with_scales(values)?;
         Ok(())
     }
 
@@ -108,8 +105,7 @@ impl Frame {
         ensures adds { Adds [] (mirrors 0 values) result self.new }
         ensures unchanged { OnErr result (self.new ≡ self.old) }
     {
-        let [x, y, z] = values;
-        *self = Frame::empty().with_mirrors(x, y, z);
+        *self = Frame::empty().with_mirrors(values);
         Ok(())
     }
 
@@ -119,8 +115,7 @@ impl Frame {
         ensures adds { (chain : List Map) → IsComposed chain self.old → Adds chain (mirrors 0 values) result self.new }
         ensures unchanged { OnErr result (self.new ≡ self.old) }
     {
-        let [x, y, z] = values;
-        *self = self.with_mirrors(x, y, z);
+        *self = self.with_mirrors(values);
         Ok(())
     }
 
@@ -171,9 +166,9 @@ impl Frame {
     {
         let map = self.axis(axis);
         if incremental {
-            Ok((map.slot, map.change(twice)?))
+            map.change(twice)
         } else {
-            Ok((map.slot, map.end(twice, offset)?))
+            map.end(twice, offset)
         }
     }
 
@@ -206,34 +201,29 @@ impl Frame {
     }
 
     /// The frame with more shifts at the end of its chain.
-    fn with_shifts(&self, x: Option<Num>, y: Option<Num>, z: Option<Num>) -> Result<Frame, u16>
+    fn with_shifts(&self, values: [Option<Num>; 3]) -> Result<Frame, u16>
         ensures { (chain : List Map) → IsComposed chain self.now
-            → GivesComposed chain (shifts 0 (x ∷ y ∷ z ∷ [])) result }
+            → GivesComposed chain (shifts 0 values) result }
     {
-        Ok(Frame {
-            x: self.x.shifted(or_zero(x))?,
-            y: self.y.shifted(or_zero(y))?,
-            z: self.z.shifted(or_zero(z))?,
-        })
+        let [x, y, z] = values;
+        joined(self.x.shifted(x), self.y.shifted(y), self.z.shifted(z))
     }
 
     /// The frame with more factors at the end of its chain.
-    fn with_scales(&self, x: Option<Num>, y: Option<Num>, z: Option<Num>) -> Result<Frame, u16>
+    fn with_scales(&self, values: [Option<Num>; 3]) -> Result<Frame, u16>
         ensures { (chain : List Map) → IsComposed chain self.now
-            → GivesComposed chain (scales 0 (x ∷ y ∷ z ∷ [])) result }
+            → GivesComposed chain (scales 0 values) result }
     {
-        Ok(Frame {
-            x: self.x.scaled(or_one(x))?,
-            y: self.y.scaled(or_one(y))?,
-            z: self.z.scaled(or_one(z))?,
-        })
+        let [x, y, z] = values;
+        joined(self.x.scaled(x), self.y.scaled(y), self.z.scaled(z))
     }
 
     /// The frame with more mirrors at the end of its chain.
-    fn with_mirrors(&self, x: Option<Num>, y: Option<Num>, z: Option<Num>) -> Frame
+    fn with_mirrors(&self, values: [Option<Num>; 3]) -> Frame
         ensures { (chain : List Map) → IsComposed chain self.now
-            → IsExtended chain (mirrors 0 (x ∷ y ∷ z ∷ [])) result }
+            → IsExtended chain (mirrors 0 values) result }
     {
+        let [x, y, z] = values;
         Frame {
             x: self.x.mirrored(x.is_some()),
             y: self.y.mirrored(y.is_some()),
@@ -247,14 +237,20 @@ impl Frame {
             → GivesComposed chain (turns plane rpl) result }
     {
         match rpl {
+            Some(angle) => self.turned_by(plane, angle.millionths),
             None => Ok(*self),
-            Some(rpl) => {
-                if rpl.millionths % 90_000_000 != 0 {
-                    return Err(12);
-                }
-                Ok(self.turned(plane, quarters_in(rpl.millionths)))
-            }
         }
+    }
+
+    /// The frame with a turn by so many millionths of a degree at the end of its chain.
+    fn turned_by(&self, plane: Plane, angle: i64) -> Result<Frame, u16>
+        ensures { (chain : List Map) → IsComposed chain self.now
+            → GivesComposed chain (turning plane angle ∷ []) result }
+    {
+        if !is_square(angle) {
+            return Err(12);
+        }
+        Ok(self.turned(plane, quarters_in(angle)))
     }
 
     /// The frame with so many turns of 90 degrees at the end of its chain.
@@ -293,6 +289,13 @@ fn turned_pair(first: AxisMap, second: AxisMap, quarters: u8) -> (AxisMap, AxisM
     }
 }
 
+/// Whether an angle in millionths of a degree is a multiple of 90 degrees.
+fn is_square(angle: i64) -> bool
+    ensures { result ≡ is_square_angle angle }
+{
+    angle.unsigned_abs() % 90_000_000 == 0
+}
+
 /// How many turns of 90 degrees an angle in millionths of a degree is, whole turns left out.
 fn quarters_in(angle: i64) -> u8
     ensures value { result ≡ quarters_of angle }
@@ -301,24 +304,19 @@ fn quarters_in(angle: i64) -> u8
     (angle.rem_euclid(360_000_000) / 90_000_000) as u8
 }
 
-/// The value of a word in millionths, or a value that changes nothing.
-fn or_zero(value: Option<Num>) -> i64
-    ensures { result ≡ unwrap_or value (pos 0) }
+/// The frame of three axes, or the alarm of the first that has one.
+fn joined(
+    x: Result<AxisMap, u16>,
+    y: Result<AxisMap, u16>,
+    z: Result<AxisMap, u16>,
+) -> Result<Frame, u16>
+    ensures { Joins x y z result }
 {
-    match value {
-        Some(value) => value.millionths,
-        None => 0,
-    }
-}
-
-/// The value of a word in millionths, or a value that changes nothing.
-fn or_one(value: Option<Num>) -> i64
-    ensures { result ≡ unwrap_or value (pos 1000000) }
-{
-    match value {
-        Some(value) => value.millionths,
-        None => 1_000_000,
-    }
+    Ok(Frame {
+        x: x?,
+        y: y?,
+        z: z?,
+    })
 }
 
 #[cfg(test)]
