@@ -1,11 +1,10 @@
 -- What words of one block make of an axis, and what turns make of it: images with no other map behind them.
-use Rattle.std.proofs.Common.{◌≡◌, ℕ, zero, suc, ◌+◌, ◌*◌, ◌<◌, Bool, true, false, not, cond, eqb, List, [], ◌∷◌, Option, Some, None, refl, sym, ap, ◌∙◌, subst, arith}
+use Rattle.std.proofs.Common.{◌≡◌, ℕ, ◌+◌, Bool, true, false, cond, eqb, List, [], ◌∷◌, Option, Some, None, refl, sym, ap, ◌∙◌, subst, arith}
 use Rattle.std.proofs.lemmas.Int.{ints}
 use Rattle.std.proofs.lemmas.Bool.{false≢true, eq-eqb}
-use Rattle.std.specs.Prelude.{ℤ, pos, negsuc, ◌+ℤ◌, ◌-ℤ◌, ◌*ℤ◌, unwrap_or, is_some}
-use Rattle.number_laws.proofs.Ring.{Expr, num, var, plus, minus, times, ring}
+use Rattle.std.specs.Prelude.{ℤ, pos, ◌+ℤ◌, ◌-ℤ◌, ◌*ℤ◌, unwrap_or, is_some}
+use Rattle.number_laws.proofs.Ring.{Expr, num, var, plus, minus, times}
 use Rattle.number_laws.proofs.Orders.{ring_from}
-use Rattle.frames.specs.Maps.{Map}
 use Rattle.frames.specs.Images.{Image, sign, other_sign, unmapped, placed, shifted_image, scaled_image, mirrored_image, image_of}
 use Rattle.frames.specs.Composition.{shifts, scales, mirrors}
 

@@ -1,13 +1,10 @@
 -- A chain of maps makes of each axis what its image says, and the image of a longer chain is made of those of its parts.
-use Rattle.std.proofs.Common.{◌≡◌, ℕ, zero, suc, ◌+◌, ◌*◌, ◌<◌, Bool, true, false, not, cond, eqb, List, [], ◌∷◌, ◌++◌, refl, sym, ap, ◌∙◌, arith}
-use Rattle.std.proofs.Math.Nat.{mul-pos}
-use Rattle.std.proofs.lemmas.Int.{ints}
-use Rattle.std.specs.Prelude.{ℤ, pos, negsuc, neg_ℤ, ◌+ℤ◌, ◌*ℤ◌}
-use Rattle.number_laws.proofs.Ring.{Expr, num, var, plus, times, negate, ring}
+use Rattle.std.proofs.Common.{◌≡◌, ℕ, zero, suc, ◌*◌, ◌<◌, Bool, true, false, cond, eqb, List, [], ◌∷◌, ◌++◌, refl, sym, ap, ◌∙◌, arith}
+use Rattle.std.specs.Prelude.{ℤ, pos, ◌+ℤ◌, ◌*ℤ◌}
+use Rattle.number_laws.proofs.Ring.{num, var, plus, times, ring}
 use Rattle.frames.specs.declared.Plane.{Plane}
-use Rattle.frames.specs.declared.Plane.TheVariants.{G17, G18, G19}
-use Rattle.frames.specs.Maps.{Map, shifting, scaling, mirroring, turning, Point, effect, mapped_point, quarter, quarters, quarters_in, first_axis, second_axis}
-use Rattle.frames.specs.Images.{Image, sign, other_sign, unmapped, placed, shifted_image, scaled_image, mirrored_image, quarter_image, quarters_image, sent_on, image_of}
+use Rattle.frames.specs.Maps.{Map, shifting, scaling, mirroring, turning, quarters_in, first_axis, second_axis}
+use Rattle.frames.specs.Images.{Image, sign, other_sign, unmapped, placed, shifted_image, scaled_image, quarter_image, quarters_image, sent_on, image_of}
 
 -- ---- one image after another
 abbrev pub image : ℕ → Bool → ℤ → ℤ → ℕ → Image

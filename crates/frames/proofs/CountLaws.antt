@@ -1,11 +1,11 @@
 -- The whole counts of an axis are those of its image, also after one more map, and bring the alarms of the image.
-use Rattle.std.proofs.Common.{◌≡◌, ℕ, zero, suc, ◌+◌, ◌*◌, ◌/◌, ◌%◌, ◌<◌, ◌≤◌, ◌^◌, Bool, true, false, not, cond, eqb, leb, ltb, ◌&&◌, List, [], ◌∷◌, ◌++◌, Option, Some, None, refl, sym, ap, ◌∙◌, subst, inl, inr, arith}
+use Rattle.std.proofs.Common.{◌≡◌, ℕ, ◌*◌, ◌/◌, ◌%◌, ◌<◌, ◌≤◌, ◌^◌, Bool, true, false, cond, eqb, leb, ◌&&◌, List, [], ◌∷◌, ◌++◌, Some, None, refl, sym, ap, ◌∙◌, subst, arith}
 use Rattle.std.proofs.Math.Nat.{mul-le-mul_right, le_of_mul-le-mul_right, mul-pos, mul-mod_left}
-use Rattle.std.proofs.lemmas.Int.{ints, unsigned_abs-mul}
-use Rattle.std.proofs.lemmas.Bool.{false≢true, true≢false, cases_lt, le-leb, lt-leb, leb-true, leb-false, eqb-true, eq-eqb, ne_eqb, and_parts, and_from, and_right, and_left, and_cases, cases_Bool}
-use Rattle.std.specs.Prelude.{ℤ, pos, negsuc, ◌+ℤ◌, ◌-ℤ◌, ◌*ℤ◌}
+use Rattle.std.proofs.lemmas.Int.{unsigned_abs-mul}
+use Rattle.std.proofs.lemmas.Bool.{false≢true, true≢false, le-leb, lt-leb, leb-true, eqb-true, eq-eqb, and_from}
+use Rattle.std.specs.Prelude.{ℤ, pos, negsuc, ◌+ℤ◌, ◌*ℤ◌}
 use Rattle.std.specs.Int.RustNames.{unsigned_abs}
-use Rattle.number_laws.proofs.Integers.{times_injective, pos-injective}
+use Rattle.number_laws.proofs.Integers.{times_injective}
 use Rattle.number_laws.proofs.Ring.{Expr, num, var, plus, minus, times, ring}
 use Rattle.number_laws.proofs.Orders.{ring_from}
 use Rattle.frames.specs.declared.axis_map.AxisMap.{AxisMap}

@@ -1,4 +1,5 @@
 pub mod AloneLaws
+pub mod ChainLaws
 pub mod Chains
 pub mod CountLaws
 pub mod FrameLaws

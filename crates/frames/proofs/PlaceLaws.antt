@@ -1,10 +1,10 @@
 -- Where a value goes by the whole counts of an axis is where it goes by the chain.
-use Rattle.std.proofs.Common.{◌≡◌, ℕ, ◌+◌, ◌*◌, ◌<◌, Bool, List, [], ◌∷◌, refl, sym, ap, ◌∙◌, subst, arith}
+use Rattle.std.proofs.Common.{◌≡◌, ℕ, ◌*◌, ◌<◌, Bool, List, [], ◌∷◌, sym, ap, ◌∙◌, subst, arith}
 use Rattle.std.proofs.Math.Nat.{mul-pos}
 use Rattle.std.specs.Prelude.{ℤ, pos, ◌+ℤ◌, ◌*ℤ◌, Result}
 use Rattle.micro_units.specs.declared.Um.{Um}
 use Rattle.micro_units.specs.Rounding.{half_away}
-use Rattle.number_laws.proofs.Ring.{Expr, num, var, plus, minus, times}
+use Rattle.number_laws.proofs.Ring.{num, var, plus, minus, times}
 use Rattle.number_laws.proofs.Orders.{ring_from}
 use Rattle.frames.specs.declared.axis_map.AxisMap.{AxisMap}
 use Rattle.frames.specs.declared.Frame.{Frame}

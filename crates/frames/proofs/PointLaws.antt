@@ -1,14 +1,24 @@
 -- A chain of maps has in the slot of an axis what the image of the axis makes of its value.
-use Rattle.std.proofs.Common.{◌≡◌, ℕ, zero, suc, ◌+◌, ◌*◌, ◌<◌, Bool, true, false, cond, eqb, List, [], ◌∷◌, refl, sym, ap, ◌∙◌, arith}
+use Rattle.std.proofs.Common.{◌≡◌, ℕ, zero, suc, ◌*◌, Bool, true, false, cond, eqb, List, [], ◌∷◌, refl, sym, ap, ◌∙◌, arith}
 use Rattle.std.proofs.lemmas.Bool.{eqb-true}
 use Rattle.std.proofs.lemmas.Int.{ints}
 use Rattle.std.specs.Prelude.{ℤ, pos, negsuc, neg_ℤ, ◌+ℤ◌, ◌*ℤ◌}
-use Rattle.number_laws.proofs.Ring.{Expr, num, var, plus, times, ring}
+use Rattle.number_laws.proofs.Ring.{num, var, plus, times, ring}
 use Rattle.frames.specs.declared.Plane.{Plane}
 use Rattle.frames.specs.declared.Plane.TheVariants.{G17, G18, G19}
 use Rattle.frames.specs.Maps.{Map, shifting, scaling, mirroring, turning, Point, shifted, scaled, mirrored, effect, mapped_point, quarter, quarters, quarters_in, first_axis, second_axis}
-use Rattle.frames.specs.Images.{Image, IsSent, sign, other_sign, unmapped, placed, shifted_image, scaled_image, mirrored_image, quarter_image, quarters_image, sent_on, image_of}
+use Rattle.frames.specs.Images.{Image, IsSent, sign, placed, shifted_image, scaled_image, mirrored_image, quarters_image, sent_on, image_of}
 use Rattle.frames.proofs.Chains.{shifting_part, shifted-after_shift, scaled-after_shift, placed-after_shift, sign-other_sign, under-after}
+
+pub quarter_second : (plane : Plane) (p : Point) → (quarter plane p).top (second_axis plane) ≡ p.top (first_axis plane)
+quarter_second G17 p = refl
+quarter_second G18 p = refl
+quarter_second G19 p = refl
+
+pub quarter_first : (plane : Plane) (p : Point) → (quarter plane p).top (first_axis plane) ≡ neg_ℤ (p.top (second_axis plane))
+quarter_first G17 p = refl
+quarter_first G18 p = refl
+quarter_first G19 p = refl
 
 module _ (value : ℤ) (u : ℕ) where
   shifted-sent : (axis : ℕ) (by : ℤ) (i : Image) (p : Point) → IsSent i value u p → IsSent (shifted_image axis by i) value u (shifted axis by p)
@@ -53,16 +63,6 @@ module _ (value : ℤ) (u : ℕ) where
 
   opposite : (z : ℤ) → neg_ℤ z ≡ negsuc 0 *ℤ z
   opposite z = omega (arith, ints)
-
-  quarter_second : (plane : Plane) (p : Point) → (quarter plane p).top (second_axis plane) ≡ p.top (first_axis plane)
-  quarter_second G17 p = refl
-  quarter_second G18 p = refl
-  quarter_second G19 p = refl
-
-  quarter_first : (plane : Plane) (p : Point) → (quarter plane p).top (first_axis plane) ≡ neg_ℤ (p.top (second_axis plane))
-  quarter_first G17 p = refl
-  quarter_first G18 p = refl
-  quarter_first G19 p = refl
 
   quarter_cases : (plane : Plane) (i : Image) (p : Point) (b c : Bool)
       → eqb i.slot (first_axis plane) ≡ b → eqb i.slot (second_axis plane) ≡ c → IsSent i value u p

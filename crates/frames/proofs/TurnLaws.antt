@@ -1,5 +1,5 @@
 -- The frame that a turn leaves.
-use Rattle.std.proofs.Common.{◌≡◌, ℕ, zero, suc, ◌<◌, Bool, true, false, cond, eqb, List, [], ◌∷◌, ◌++◌, Some, None, refl, sym, ap, ◌∙◌, subst, arith}
+use Rattle.std.proofs.Common.{◌≡◌, ℕ, zero, suc, ◌<◌, Bool, true, false, cond, eqb, List, [], ◌∷◌, ◌++◌, Some, None, refl, sym, ap, subst, arith}
 use Rattle.std.proofs.lemmas.List.{append-nil}
 use Rattle.std.specs.Prelude.{ℤ, pos}
 use Rattle.frames.specs.declared.axis_map.AxisMap.{AxisMap}
@@ -7,9 +7,9 @@ use Rattle.frames.specs.declared.Frame.{Frame}
 use Rattle.frames.specs.declared.Plane.{Plane}
 use Rattle.frames.specs.declared.Plane.TheVariants.{G17, G18, G19}
 use Rattle.frames.specs.Maps.{Map, turning, first_axis, second_axis, quarters_in}
-use Rattle.frames.specs.Images.{Image, unmapped, placed, quarter_image, quarters_image, image_of}
+use Rattle.frames.specs.Images.{Image, unmapped, placed, quarters_image, image_of}
 use Rattle.frames.specs.Counts.{IsMirrored}
-use Rattle.frames.specs.Faults.{is_square_angle, or_else, maps_fault, adding_fault}
+use Rattle.frames.specs.Faults.{is_square_angle, or_else, adding_fault}
 use Rattle.frames.specs.Composition.{IsImage, IsComposed, IsExtended, axis_of}
 use Rattle.frames.specs.Turns.{IsTurned, IsTurnedFirst, IsTurnedSecond}
 use Rattle.frames.proofs.AloneLaws.{IsAlone, unmapped-alone, placed-alone}

@@ -1,5 +1,5 @@
 -- The elementary maps of a frame, and where a chain of them sends a point.
-use Rattle.std.specs.Prelude.{ℕ, zero, suc, ◌+◌, ◌*◌, ◌/◌, ◌==◌, if◌then◌else◌, ℤ, pos, neg_ℤ, ◌+ℤ◌, ◌*ℤ◌, List, [], ◌∷◌}
+use Rattle.std.specs.Prelude.{◌≡◌, ℕ, zero, suc, ◌*◌, ◌/◌, ◌==◌, if◌then◌else◌, ℤ, pos, neg_ℤ, ◌+ℤ◌, ◌*ℤ◌, List, [], ◌∷◌}
 use Rattle.std.specs.Int.{int_rem_euclid}
 use Rattle.std.specs.Int.RustNames.{unsigned_abs}
 use Rattle.frames.specs.declared.Plane.{Plane}
@@ -73,3 +73,11 @@ effect (turning plane angle) p = quarters plane (quarters_in angle) p
 abbrev pub mapped_point : List Map → Point → Point
 mapped_point [] p = p
 mapped_point (m ∷ ms) p = effect m (mapped_point ms p)
+
+-- two points are one, however their numbers are written
+abbrev pub IsSamePoint : Point → Point → Type 0
+IsSamePoint p q = (axis : ℕ) → p.top axis *ℤ pos q.under ≡ q.top axis *ℤ pos p.under
+
+abbrev pub total : List ℤ → ℤ
+total [] = pos 0
+total (value ∷ values) = value +ℤ total values

@@ -4,7 +4,7 @@ use Rattle.frames.specs.declared.axis_map.AxisMap.{AxisMap}
 use Rattle.frames.specs.declared.Frame.{Frame}
 use Rattle.frames.specs.declared.Plane.{Plane}
 use Rattle.frames.specs.Counts.{IsMirrored}
-use Rattle.frames.specs.Images.{Image, unmapped, quarters_image}
+use Rattle.frames.specs.Images.{unmapped, quarters_image}
 use Rattle.frames.specs.Composition.{axis_of}
 
 -- each axis goes where the axis went to whose slot the turns bring it, with the sign that they give it

@@ -14,8 +14,10 @@ ghost use Rattle.frames.specs.Turns.{IsTurned, IsTurnedFirst, IsTurnedSecond};
 
 mod arithmetic;
 mod axis_map;
+mod laws;
 
 pub use axis_map::AxisMap;
+pub use laws::{image_is_of_the_chain, shifts_add_up, turns_and_mirrors_end};
 use micro_units::{Num, Um};
 
 /// A plane, with the two axes in which it turns from the first towards the second.

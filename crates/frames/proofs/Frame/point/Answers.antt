@@ -1,4 +1,4 @@
-use Rattle.std.proofs.Common.{ℤ, subst, to_z, of_z, w64}
+use Rattle.std.proofs.Common.{ℤ, subst, w64}
 use Rattle.std.proofs.lemmas.Int.{to_z-of_z}
 use Rattle.micro_units.specs.Rounding.{half_away}
 use Rattle.frames.specs.Counts.{place_sum, change_sum}
