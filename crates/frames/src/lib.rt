@@ -4,7 +4,7 @@
 //! sign, a factor and a shift, all of them exact.
 #![tactic(auto)]
 
-ghost use Rattle.std.specs.Prelude.{◌≡◌, ℕ, ◌<◌, ℤ, pos, ◌*ℤ◌, List, [], ◌∷◌, true, false, OnErr, unwrap_or};
+ghost use Rattle.std.specs.Prelude.{◌≡◌, ℕ, ◌<◌, ℤ, pos, ◌*ℤ◌, ◌<ℤ◌, ◌≤ℤ◌, List, [], ◌∷◌, true, false, OnErr, unwrap_or};
 ghost use Rattle.frames.specs.Maps.{Map, turning, mapped_point, quarters_in as quarters_of};
 ghost use Rattle.frames.specs.Images.{image_of};
 ghost use Rattle.frames.specs.Faults.{is_square_angle};
@@ -174,9 +174,11 @@ impl Frame {
         }
     }
 
-    /// The slot of an axis, whether it goes there with a minus, and by which factor.
+    /// The slot of an axis, 0, 1 and 2 for X, Y and Z, whether it goes there with a minus, and by
+    /// which factor.
     pub fn image(&self, axis: u8) -> (u8, bool, Num)
         requires { axis < 3 }
+        ensures in_range { (result.0 < 3) × (pos 0 <ℤ result.2) × (result.2 ≤ℤ pos 1000000000) }
         ensures slot { (chain : List Map) → IsComposed chain self.now → result.0 ≡ (image_of chain axis).slot }
         ensures sign { (chain : List Map) → IsComposed chain self.now → result.1 ≡ (image_of chain axis).minus }
         ensures factor { (chain : List Map) → IsComposed chain self.now
