@@ -1,7 +1,8 @@
 -- Steps along the tokens of a line.
-use Rattle.std.proofs.Common.{◌≡◌, ℕ, zero, suc, ◌+◌, ◌<◌, ◌≤◌, ◌^◌, Bool, true, false, ℤ, pos, negsuc, List, [], ◌∷◌, length, drop, get_or, Option, Some, None, refl, sym, ◌∙◌, ap, subst, arith}
+use Rattle.std.proofs.Common.{◌≡◌, ℕ, zero, suc, ◌+◌, ◌<◌, ◌≤◌, ◌^◌, Bool, true, false, ℤ, pos, negsuc, List, [], ◌∷◌, length, drop, get_or, Option, Some, None, refl, sym, ◌∙◌, ap, subst, arith, tests}
 use Rattle.std.specs.Int.RustNames.{unsigned_abs}
 use Rattle.std.specs.List.{list_any}
+use Rattle.std.specs.Option.{option_or}
 use Rattle.std.proofs.lemmas.List.{drop_more}
 use Rattle.block_scanner.specs.declared.Token.{Token}
 use Rattle.block_scanner.specs.Texts.{text_of}
@@ -37,12 +38,18 @@ pub ruleset behind_at = (behind_some, behind_none)
 pub word_passes : (compensation : Bool) (line : List ℕ) (tokens : List Token) (i : ℕ) (d : Token) → i < length tokens
     → refused_first compensation line (drop i tokens) ≡ None
     → refused_word compensation line (drop i tokens) ≡ refused_word compensation line (drop (i + 1) tokens)
-word_passes compensation line tokens i d within none = ?
+word_passes compensation line tokens i d within none =
+    let first = drop_more tokens i d within in
+    ap (refused_word compensation line) first
+    ∙ ap (λ o. option_or o (refused_word compensation line (drop (i + 1) tokens))) (sym (ap (refused_first compensation line) first) ∙ none)
 
 pub word_found : (compensation : Bool) (line : List ℕ) (tokens : List Token) (i code : ℕ) (d : Token) → i < length tokens
     → refused_first compensation line (drop i tokens) ≡ Some code
     → refused_word compensation line (drop i tokens) ≡ Some code
-word_found compensation line tokens i code d within found = ?
+word_found compensation line tokens i code d within found =
+    let first = drop_more tokens i d within in
+    ap (refused_word compensation line) first
+    ∙ ap (λ o. option_or o (refused_word compensation line (drop (i + 1) tokens))) (sym (ap (refused_first compensation line) first) ∙ found)
 
 pub word_ends : (compensation : Bool) (line : List ℕ) (tokens : List Token) (i : ℕ) → length tokens ≤ i
     → refused_word compensation line (drop i tokens) ≡ None
@@ -53,5 +60,6 @@ pub ruleset word_steps = (word_passes, word_found, word_ends)
 -- a number that is too large is none of the small ones
 pub whole_none : (z : ℤ) → ¬ (unsigned_abs z < 10 ^ 14) → small_whole z ≡ None
 unfolding small_whole
-whole_none z out = ?
+whole_none (pos n) out = grind (arith, tests)
+whole_none (negsuc n) out = refl
 

@@ -3,11 +3,11 @@ use Rattle.std.proofs.Common.{◌≡◌, ℕ, ◌<◌, ◌≤◌, Bool, true, fa
 use Rattle.std.specs.Prelude.{◌&&◌, nat_le}
 use Rattle.std.proofs.lemmas.Bool.{false≢true, eqb-true, agree_below_at, and_parts}
 use Rattle.g_groups.specs.declared.GWord.{GWord}
-use Rattle.word_tables.specs.declared.TheConstants.{NUMBERS}
+use Rattle.word_tables.specs.declared.group_words.TheConstants.{NUMBERS}
 use Rattle.word_tables.specs.declared.group_words.Numbers.{Numbers}
-use Rattle.word_tables.specs.GroupWords.{with_number}
+use Rattle.word_tables.specs.GroupWords.{g_word}
 
-some_row : Numbers
+abbrev pub some_row : Numbers
 some_row = record { group = 0; first = 0; last = 0 }
 
 -- the word of the row at a place
@@ -39,26 +39,21 @@ same_is None (Some other) h = absurd (false≢true h)
 same_is None None h = refl
 
 agrees : ℕ → Bool
-agrees code = same (by_rows code) (with_number (Some code))
+agrees code = same (by_rows code) (g_word code)
 
 always : ℕ → Bool
 always code = true
 
-rows_agree : (code : ℕ) → code < 1000 → by_rows code ≡ with_number (Some code)
-unfolding same by_rows word_at some_row agrees always
-rows_agree code less = same_is (by_rows code) (with_number (Some code)) (agree_below_at agrees always 1000 code refl less)
+rows_agree : (code : ℕ) → code < 1000 → by_rows code ≡ g_word code
+unfolding same by_rows word_at agrees always g_word
+rows_agree code less = same_is (by_rows code) (g_word code) (agree_below_at agrees always 1000 code refl less)
 
-pub row_some : (code place : ℕ) (row : Numbers) → code < 1000
-    → Some place ≡ position (λ row. nat_le row.first code && nat_le code row.last) NUMBERS
-    → row ≡ get_or NUMBERS place row → place < 21
-    → Some (record { group = row.group; code = code }) ≡ with_number (Some code)
-unfolding by_rows word_at some_row
-row_some code place row less found at within = ? 
+pub row_some : (code place : ℕ) → code < 1000 → Some place ≡ position (λ row. nat_le row.first code && nat_le code row.last) NUMBERS
+    → Some (record { group = (get_or NUMBERS place some_row).group; code = code }) ≡ g_word code
+unfolding by_rows word_at
+row_some code place less found = ap (word_at code) found ∙ rows_agree code less
 
-pub row_none : (code : ℕ) → code < 1000
-    → None ≡ position (λ row. nat_le row.first code && nat_le code row.last) NUMBERS
-    → None ≡ with_number (Some code)
+pub row_none : (code : ℕ) → code < 1000 → None ≡ position (λ row. nat_le row.first code && nat_le code row.last) NUMBERS
+    → None ≡ g_word code
 unfolding by_rows word_at
 row_none code less found = ap (word_at code) found ∙ rows_agree code less
-
-pub ruleset row_words = (row_some, row_none)

@@ -32,13 +32,17 @@ small_whole (pos millionths) =
     if millionths % 1000000 == 0 && nat_lt millionths 1000000000 then Some (millionths / 1000000) else None
 small_whole (negsuc less) = None
 
-abbrev pub with_number : Option ℕ → Option GWord
-with_number (Some number) = word_in (is_g number) groups
-with_number None = None
+-- the word of the table with this number behind G
+unfoldable pub g_word : ℕ → Option GWord
+g_word number = word_in (is_g number) groups
 
--- the word of the table with this number, in millionths, behind G
+abbrev pub small_word : Option ℕ → Option GWord
+small_word (Some number) = g_word number
+small_word None = None
+
+-- the word of the table with this number behind G, from its millionths
 unfoldable pub word_by_number : ℤ → Option GWord
-word_by_number millionths = with_number (small_whole millionths)
+word_by_number millionths = small_word (small_whole millionths)
 
 -- the word of the table with this name
 unfoldable pub word_by_name : List ℕ → Option GWord

@@ -7,7 +7,7 @@ use Rattle.block_scanner.specs.declared.Sign.TheVariants.{Dollar}
 use Rattle.block_scanner.specs.declared.Token.{Token}
 use Rattle.block_scanner.specs.Texts.{text_of}
 use Rattle.micro_units.specs.NumberText.{number_of}
-use Rattle.word_tables.specs.GroupWords.{small_whole, with_number}
+use Rattle.word_tables.specs.GroupWords.{small_whole, g_word}
 use Rattle.word_tables.specs.RefusedNames.{refused_name}
 
 -- with tool radius compensation, or without it, the code of this number behind G
@@ -17,7 +17,7 @@ refused_g compensation number =
     else if (number == 110) || (number == 111) || (number == 112) then Some 47
     else if (number == 74) || (number == 75) then Some 49
     else if not compensation && ((number == 41) || (number == 42)) then Some 56
-    else if is_some (with_number (Some number)) then None
+    else if is_some (g_word number) then None
     else Some 57
 
 -- the code of a whole number below 1,000 behind G, and of anything else

@@ -1,7 +1,7 @@
 //! The words of the table of groups.
 
 ghost use Rattle.std.specs.Prelude.{◌≡◌, ◌<◌, ◌&&◌, nat_le, position, IfSome};
-ghost use Rattle.word_tables.specs.GroupWords.{small_whole, with_number, word_by_number, word_by_name};
+ghost use Rattle.word_tables.specs.GroupWords.{small_whole, g_word, word_by_number, word_by_name};
 
 use crate::spelling::is_word;
 use g_groups::GWord;
@@ -67,10 +67,9 @@ pub(crate) fn small_whole(number: Num) -> Option<u16>
 }
 
 /// The word with this number behind G.
-#[tactic(auto, using(crate::proofs::NumberRows::row_words))]
 pub(crate) fn word_with(code: u16) -> Option<GWord>
     requires { code < 1000 }
-    ensures { result ≡ with_number (Some code) }
+    ensures { result ≡ g_word code }
 {
     match row_of(code) {
         Some(place) => Some(GWord {
