@@ -67,7 +67,11 @@ fn refuses_words_of_each_code(rt: HostRuntime) {
         ("EXTCALL", 57),
     ];
     for (line, want) in cases {
-        assert_eq!(rt; refused_in(rt.alloc(), line.as_bytes(), false), Some(want), "{line}");
+        assert_eq!(rt;
+            refused_in(rt.alloc(), line.as_bytes(), false),
+            Some(want),
+            "{line}"
+        );
     }
 }
 
@@ -104,7 +108,11 @@ fn refuses_leftmost_word(rt: HostRuntime) {
         ("G1 $G70", false, 44),
     ];
     for (line, compensation, want) in cases {
-        assert_eq!(rt; refused_in(rt.alloc(), line.as_bytes(), compensation), Some(want), "{line}");
+        assert_eq!(rt;
+            refused_in(rt.alloc(), line.as_bytes(), compensation),
+            Some(want),
+            "{line}"
+        );
     }
 }
 
@@ -120,7 +128,11 @@ fn finds_large_numbers(rt: HostRuntime) {
         ("MSG(\"100000000\") ;100000000", false),
     ];
     for (line, want) in cases {
-        assert_eq!(rt; is_large_in(rt.alloc(), line.as_bytes()), Some(want), "{line}");
+        assert_eq!(rt;
+            is_large_in(rt.alloc(), line.as_bytes()),
+            Some(want),
+            "{line}"
+        );
     }
 }
 
@@ -161,10 +173,16 @@ fn finds_words_of_groups(rt: HostRuntime) {
 #[test]
 fn finds_words_of_tables(rt: HostRuntime) {
     for name in ["GOTOF", "endfor", "AROT", "CPROT", "WORKPIECE"] {
-        assert!(rt; is_first_name(name.as_bytes()) && is_table_word(name.as_bytes()), "{name}");
+        assert!(rt;
+            is_first_name(name.as_bytes()) && is_table_word(name.as_bytes()),
+            "{name}"
+        );
     }
     for name in ["TO", "SF", "round", "SOFT", "GETD", "CYCLE95"] {
-        assert!(rt; is_table_word(name.as_bytes()) && !is_first_name(name.as_bytes()), "{name}");
+        assert!(rt;
+            is_table_word(name.as_bytes()) && !is_first_name(name.as_bytes()),
+            "{name}"
+        );
     }
     for name in ["PART", "GOT", "GOTOFF", ""] {
         assert!(rt; !is_table_word(name.as_bytes()), "{name}");
