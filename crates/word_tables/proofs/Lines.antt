@@ -1,14 +1,12 @@
 -- Steps along the tokens of a line.
-use Rattle.std.proofs.Common.{◌≡◌, ℕ, zero, suc, ◌+◌, ◌<◌, ◌≤◌, ◌^◌, Bool, true, false, ℤ, pos, negsuc, List, [], ◌∷◌, length, drop, get_or, Option, Some, None, refl, sym, ◌∙◌, ap, subst, arith, tests}
+use Rattle.std.proofs.Common.{◌≡◌, ℕ, zero, suc, ◌+◌, ◌<◌, ◌≤◌, ◌^◌, Bool, ℤ, pos, negsuc, List, [], ◌∷◌, length, drop, get_or, Option, Some, None, refl, sym, ◌∙◌, ap, arith, tests}
 use Rattle.std.specs.Int.RustNames.{unsigned_abs}
-use Rattle.std.specs.List.{list_any}
 use Rattle.std.specs.Option.{option_or}
 use Rattle.std.proofs.lemmas.List.{drop_more}
 use Rattle.block_scanner.specs.declared.Token.{Token}
 use Rattle.block_scanner.specs.Texts.{text_of}
 use Rattle.word_tables.specs.GroupWords.{small_whole}
-use Rattle.word_tables.specs.LargeNumbers.{is_large_token, has_large_number}
-use Rattle.word_tables.specs.Refused.{refused_whole, refused_before, refused_behind, refused_kind, refused_first, refused_word, IsLeftmost}
+use Rattle.word_tables.specs.Refused.{refused_before, refused_behind, refused_kind, refused_first, refused_word, IsLeftmost}
 
 -- what is left of a list from an element on
 left : (tokens : List Token) (i : ℕ) (t : Token) → i < length tokens → t ≡ get_or tokens i t → drop i tokens ≡ t ∷ drop (i + 1) tokens
