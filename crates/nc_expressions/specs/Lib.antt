@@ -1,0 +1,6 @@
+pub mod Levels
+pub mod Machine
+pub mod Stack
+pub mod Symbols
+pub mod Syntax
+pub mod Tree
