@@ -1,5 +1,5 @@
 -- The stack as the code holds it.
-use Rattle.std.proofs.Common.{◌≡◌, ℕ, ◌+◌, ◌<◌, cond, List, [], ◌∷◌, ◌++◌, length, get_or, take, refl, ap, sym, ◌∙◌, Option, Some, None, MatchOption, zero, suc}
+use Rattle.std.proofs.Common.{◌≡◌, ℕ, ◌+◌, ◌<◌, cond, true, false, List, [], ◌∷◌, ◌++◌, length, get_or, take, refl, ap, sym, ◌∙◌, Option, Some, None, MatchOption, zero, suc}
 use Rattle.std.specs.Prelude.{map, reverse}
 use Rattle.std.specs.Option.{option_to_list}
 use Rattle.std.proofs.lemmas.List.{map-append, reverse-append, append-nil, take_more}
@@ -29,3 +29,14 @@ pub depth_more : (xs : List Held) (i : ℕ) (x : Held) → i < length xs → x �
 depth_more xs i x h is =
     let e : take (i + 1) xs ≡ take i xs ++ (x ∷ []) = take_more xs i x h ∙ ap (λ (y : Held). take i xs ++ (y ∷ [])) (sym is) in
     ap depth (ap stack_of e ∙ stack_push (take i xs) x)
+
+-- the same in the two cases of the code
+pub depth_open : (xs : List Held) (i : ℕ) (x : Held) → i < length xs → x ≡ get_or xs i x → is_parenthesis (pending_of x) ≡ true →
+    depth (stack_of (take (i + 1) xs)) ≡ depth (stack_of (take i xs)) + 1
+depth_open xs i x h is yes' = rw (depth_more xs i x h is, yes') refl
+
+pub depth_other : (xs : List Held) (i : ℕ) (x : Held) → i < length xs → x ≡ get_or xs i x → is_parenthesis (pending_of x) ≡ false →
+    depth (stack_of (take (i + 1) xs)) ≡ depth (stack_of (take i xs))
+depth_other xs i x h is no' = rw (depth_more xs i x h is, no') refl
+
+pub ruleset depths = (stack_nil, depth_open, depth_other)

@@ -104,6 +104,7 @@ fn is_parenthesis(one: &Held) -> bool
 }
 
 /// How many parentheses are open.
+#[tactic(auto, using(crate::proofs::Stacks::depths))]
 pub fn depth(pending: &[Held]) -> usize
     ensures { result ≡ depth (stack_of pending.now) }
 {

@@ -1,0 +1,6 @@
+pub mod Bytes
+pub mod Front
+pub mod Scanned
+pub mod Signs
+pub mod Texts
+pub mod Tokens

@@ -1,0 +1,19 @@
+-- Tokens that stand in order in a line.
+use Rattle.std.specs.Prelude.{ℕ, ◌<◌, ◌≤◌, List, [], ◌∷◌, length}
+use Rattle.block_scanner.specs.declared.Token.{Token}
+use Rattle.block_scanner.specs.declared.Words.{Words}
+
+-- from one place to another, tokens stand one behind the other, and none is empty
+abbrev pub InOrder : ℕ → List Token → ℕ → Type 0
+InOrder from [] to = from ≤ to
+InOrder from (token ∷ tokens) to = (from ≤ token.start) × (token.start < token.end) × InOrder token.end tokens to
+
+-- a token that is not empty and ends within the line
+abbrev pub IsTokenOf : List ℕ → Token → Type 0
+IsTokenOf line token = (token.start < token.end) × (token.end ≤ length line)
+
+-- what `scan` gives: the tokens stand in order in a line of at most 512 bytes, and are as many at most
+pub record IsScanned (words : Words) : Type 0 where
+  pub ordered : InOrder 0 words.tokens.items (length words.line.now)
+  pub few : length words.tokens.items ≤ length words.line.now
+  pub short : length words.line.now ≤ 512

@@ -1,0 +1,48 @@
+//! The tokens of a line.
+
+ghost use Rattle.std.specs.Prelude.{◌≤◌, length, IfOk};
+ghost use Rattle.block_scanner.specs.Scanned.{IsScanned};
+ghost use Rattle.block_scanner.specs.Tokens.{Scans};
+
+use crate::beginnings::{Front, front_of};
+use crate::{ScanFault, Token, Words};
+use smallvec::SmallVec;
+use std::alloc::Global;
+
+/// The tokens of a line of at most 512 bytes.
+///
+/// `BadByte` and `OpenText` have the leftmost place from which the line can't be read on: the text
+/// of a comment does not count, nor does what stands within a text. `NoMemory` comes where memory
+/// runs out, and then says nothing of the line.
+#[tactic(auto, using(crate::proofs::Steps::scan_steps))]
+pub fn scan(alloc: Global, line: &[u8]) -> Result<Words<'_>, ScanFault>
+    requires { length line.now ≤ 512 }
+    ensures exact { Scans line.now result }
+    ensures scanned { IfOk result (λ words. IsScanned words) }
+{
+    let mut tokens = SmallVec::new(alloc);
+    let mut rest = line;
+    let mut at: usize = 0;
+    while let Some((first, behind)) = rest.split_first() {
+        match front_of(*first, behind) {
+            Front::Blank => {
+                at += 1;
+                rest = behind;
+            }
+            Front::Comment => return Ok(Words { line, tokens }),
+            Front::Stands(kind, more) => {
+                let end = at + 1 + more;
+                tokens.push(Token {
+                    kind,
+                    start: at as u16,
+                    end: end as u16,
+                })?;
+                at = end;
+                rest = &behind[more..];
+            }
+            Front::Forbidden => return Err(ScanFault::BadByte(at as u16)),
+            Front::Unclosed => return Err(ScanFault::OpenText(at as u16)),
+        }
+    }
+    Ok(Words { line, tokens })
+}
