@@ -1,1 +1,4 @@
 pub mod Stacks
+pub mod Beginnings
+pub mod Runs
+pub mod Alarms

@@ -4,3 +4,4 @@ pub mod Stack
 pub mod Symbols
 pub mod Syntax
 pub mod Tree
+pub mod Value

@@ -3,10 +3,13 @@
 
 mod faults;
 mod levels;
+mod parsing;
 mod stack;
 mod steps;
 mod symbols;
 mod trees;
+mod values;
 
 pub use faults::SyntaxFault;
 pub use trees::{BinaryOp, Expr, UnaryOp};
+pub use values::{Names, eval};
