@@ -1,10 +1,9 @@
 -- The answers of the number calls, as values or alarms.
-use Rattle.std.proofs.Common.{◌≡◌, ◌≢◌, ℕ, ◌<◌, ◌^◌, Bool, true, false, cond, refl, ap, sym, ◌∙◌, Ok, Err, Result, IfOk, subst, arith}
+use Rattle.std.proofs.Common.{◌≡◌, ◌≢◌, ℕ, ◌<◌, ◌^◌, Bool, true, false, cond, refl, ap, sym, ◌∙◌, Ok, Err, Result, IfOk, T, subst, arith}
 use Rattle.std.specs.Prelude.{ℤ, pos, negsuc, nat_lt, int_lt, ◌<ℤ◌, ◌≤ℤ◌}
 use Rattle.std.specs.Ordering.{int_eq}
 use Rattle.std.specs.Int.RustNames.{unsigned_abs}
 use Rattle.std.proofs.lemmas.Bool.Decides.{Decides-ltb, Decides-int_eq}
-use Rattle.std.proofs.lemmas.Int.{by_lt_z}
 use Rattle.micro_units.specs.declared.Num.{Num}
 use Rattle.micro_units.specs.declared.NumFault.{NumFault}
 use Rattle.micro_units.specs.declared.NumFault.TheVariants.{NotANumber, TooLarge, DivideByZero, NegativeRoot}
@@ -66,9 +65,12 @@ not_below : (z : ℤ) → pos 0 ≤ℤ z → int_lt z (pos 0) ≡ false
 not_below (pos n) h = is_false (nat_lt n 0) (λ (t : nat_lt n 0 ≡ true). absurd (omega (arith, (Decides-ltb n 0).0 t)))
 not_below (negsuc n) h = absurd h.le
 
+passed : (b : Bool) → T b → b ≡ true
+passed true t = refl
+passed false t = absurd t
+
 below : (z : ℤ) → z <ℤ pos 0 → int_lt z (pos 0) ≡ true
-below (pos n) h = absurd (omega (arith, h))
-below (negsuc n) h = refl
+below z h = passed (int_lt z (pos 0)) h.lt
 
 pub gives_root : (number : ℤ) (r : Result Num NumFault) → GivesRoot number (square_root number) r → alarmed r ≡ rooted number
 unfolding rooted

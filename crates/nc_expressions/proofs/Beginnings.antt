@@ -1,8 +1,9 @@
 -- The symbol at a place of a line.
-use Rattle.std.proofs.Common.{◌≡◌, ℕ, zero, suc, ◌+◌, ◌-◌, ◌<◌, List, [], ◌∷◌, length, get_or, take, drop, inl, inr, refl, ap, sym, ◌∙◌, Option, Some, None, arith, tests, rules}
-use Rattle.std.specs.Prelude.{min}
+use Rattle.std.proofs.Common.{◌≡◌, ℕ, zero, suc, ◌+◌, ◌-◌, ◌<◌, ◌≤◌, List, [], ◌∷◌, length, get_or, take, drop, inl, inr, refl, ap, sym, ◌∙◌, Option, Some, None, arith, tests, rules}
+use Rattle.std.specs.Prelude.{min, slice_get}
 use Rattle.std.proofs.lemmas.Bool.{cases_lt}
 use Rattle.std.proofs.lemmas.List.{take_all, drop_all}
+use Rattle.std.proofs.lemmas.Option.{slice_get_read, slice_get_past}
 use Rattle.block_scanner.specs.declared.Token.{Token}
 use Rattle.block_scanner.specs.declared.Words.{Words}
 use Rattle.nc_expressions.specs.declared.symbols.Symbol.{Symbol}
@@ -61,3 +62,11 @@ drop_min xs n =
     | inr h ↦ let e : min (length xs) n ≡ n = omega arith in ap (λ (k : ℕ). drop k xs) e ]
 
 pub ruleset split_short = (take_min, drop_min)
+
+pub within_line : (words : Words) (at : ℕ) (s : Symbol) → at < length words.tokens.items → s ≡ get_or (symbols_of words) at s → slice_get (symbols_of words) at ≡ Some s
+within_line words at s h is = slice_get_read (symbols_of words) (length words.tokens.items) at s (sym (length-symbols_of words)) h is
+
+pub past_line : (words : Words) (at : ℕ) → length words.tokens.items ≤ at → slice_get (symbols_of words) at ≡ None
+past_line words at h = slice_get_past (symbols_of words) at (omega (arith, length-symbols_of words))
+
+pub ruleset read_at = (within_line, past_line)

@@ -2,3 +2,5 @@ pub mod Stacks
 pub mod Beginnings
 pub mod Runs
 pub mod Alarms
+pub mod LevelLaws
+pub mod Complete

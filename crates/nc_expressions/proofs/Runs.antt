@@ -1,9 +1,14 @@
 -- Runs of the machine over what is left of a line.
-use Rattle.std.proofs.Common.{◌≡◌, ℕ, ◌+◌, ◌<◌, ◌≤◌, List, [], ◌∷◌, length, get_or, drop, refl, ap, sym, ◌∙◌, Ok, Err}
-use Rattle.std.proofs.lemmas.List.{drop_more, drop_all}
+use Rattle.std.proofs.Common.{◌≡◌, ℕ, ◌+◌, ◌<◌, ◌≤◌, List, [], ◌∷◌, length, get_or, drop, refl, ap, sym, ◌∙◌, Ok, Err, Result, ◌-◌, arith}
+use Rattle.std.proofs.lemmas.List.{drop_more, drop_all, length-drop}
 use Rattle.nc_expressions.specs.declared.symbols.Symbol.{Symbol}
 use Rattle.nc_expressions.specs.declared.levels.Level.TheVariants.{Plain}
-use Rattle.nc_expressions.specs.Tree.{Tree}
+use Rattle.nc_expressions.specs.declared.trees.Expr.{Expr}
+use Rattle.nc_expressions.specs.declared.faults.SyntaxFault.{SyntaxFault}
+use Rattle.nc_expressions.specs.declared.faults.SyntaxFault.TheVariants.{Refused, NoMemory}
+use Rattle.nc_expressions.specs.Stack.{Reads}
+use Rattle.nc_expressions.specs.Parsing.{placed, expr_at, GivesExpr}
+use Rattle.nc_expressions.specs.Tree.{Tree, tree_of}
 use Rattle.nc_expressions.specs.Machine.{State, Wants, Next, On, Ends, Refuse, Reading, step, finish, at_last, go_on, run, read}
 use Rattle.nc_expressions.proofs.Stacks.{stack_nil}
 use Rattle.nc_expressions.proofs.Beginnings.{length-symbols_of}
@@ -46,3 +51,11 @@ unfolding read
 run_first ss = refl
 
 pub ruleset run_steps = (run_on, run_ends, run_refused, past_ends, past_on, past_refused, run_first, stack_nil, length-symbols_of)
+
+pub gives_read : (symbols : List Symbol) (start : ℕ) (r : Result (Expr × ℕ) SyntaxFault) → Reads symbols (read (drop start symbols)) r → GivesExpr (expr_at symbols start) r
+unfolding expr_at
+gives_read symbols start (Ok p) h =
+    let e : length symbols - length (drop p.1 symbols) ≡ p.1 = omega (arith, length-drop p.1 symbols, h.0) in
+    ap (placed (length symbols)) h.1 ∙ ap (λ (k : ℕ). Ok (tree_of p.0, k)) e
+gives_read symbols start (Err (Refused code)) h = ap (placed (length symbols)) h
+gives_read symbols start (Err NoMemory) h = tt

@@ -5,3 +5,4 @@ pub mod Symbols
 pub mod Syntax
 pub mod Tree
 pub mod Value
+pub mod Parsing

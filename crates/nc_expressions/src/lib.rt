@@ -11,5 +11,6 @@ mod trees;
 mod values;
 
 pub use faults::SyntaxFault;
+pub use parsing::{parse_constant, parse_expr};
 pub use trees::{BinaryOp, Expr, UnaryOp};
 pub use values::{Names, eval};

@@ -82,7 +82,7 @@ fn is_true(number: Num) -> bool
 }
 
 /// The number with the other sign.
-fn negated(number: Num) -> Num
+pub fn negated(number: Num) -> Num
     ensures { result ≡ neg_ℤ number }
 {
     Num {
