@@ -4,3 +4,4 @@ pub mod Runs
 pub mod Alarms
 pub mod LevelLaws
 pub mod Complete
+pub mod Sound

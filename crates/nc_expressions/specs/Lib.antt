@@ -6,3 +6,4 @@ pub mod Syntax
 pub mod Tree
 pub mod Value
 pub mod Parsing
+pub mod Fronts
