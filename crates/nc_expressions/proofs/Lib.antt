@@ -5,3 +5,4 @@ pub mod Alarms
 pub mod LevelLaws
 pub mod Complete
 pub mod Sound
+pub mod Leftmost
