@@ -6,3 +6,4 @@ pub mod LevelLaws
 pub mod Complete
 pub mod Sound
 pub mod Leftmost
+pub mod Parsed

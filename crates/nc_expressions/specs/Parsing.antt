@@ -1,5 +1,5 @@
 -- What is read at a place of a line, with the place behind it.
-use Rattle.std.specs.Prelude.{◌≡◌, ◌+◌, ◌-◌, ℕ, ℤ, neg_ℤ, Bool, true, false, List, length, drop, Option, Some, None, Result, Ok, Err, slice_get, if◌then◌else◌}
+use Rattle.std.specs.Prelude.{◌≡◌, ◌+◌, ◌-◌, ◌≤◌, ℕ, ℤ, neg_ℤ, Bool, true, false, List, length, drop, Option, Some, None, Result, Ok, Err, slice_get, if◌then◌else◌}
 use Rattle.nc_expressions.specs.declared.trees.BinaryOp.TheVariants.{Add, Sub}
 use Rattle.nc_expressions.specs.declared.trees.Expr.{Expr}
 use Rattle.nc_expressions.specs.declared.faults.SyntaxFault.{SyntaxFault}
@@ -9,6 +9,12 @@ use Rattle.nc_expressions.specs.declared.symbols.Symbol.TheVariants as symbol
 use Rattle.nc_expressions.specs.Tree.{Tree, Number, tree_of}
 use Rattle.nc_expressions.specs.Machine.{Reading, read}
 use Rattle.nc_expressions.specs.Value.{◌>>=◌}
+
+-- the answer has the tree of a reading and the place where what is left begins, or its refusal, or memory ran out
+abbrev pub Reads : List Symbol → Reading → Result (Expr × ℕ) SyntaxFault → Type 0
+Reads symbols reading (Ok p) = (p.1 ≤ length symbols) × (reading ≡ Ok (tree_of p.0, drop p.1 symbols))
+Reads symbols reading (Err (Refused code)) = reading ≡ Err code
+Reads symbols reading (Err NoMemory) = Unit {0}
 
 -- a reading with its place: of so many symbols, those that are left are no more of it
 abbrev pub placed : ℕ → Reading → Result (Tree × ℕ) ℕ

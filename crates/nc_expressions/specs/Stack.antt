@@ -1,8 +1,6 @@
 -- The stack of the machine, as the code holds it.
-use Rattle.std.specs.Prelude.{◌≡◌, ◌≤◌, ℕ, List, [], ◌∷◌, map, reverse, length, drop, Option, Some, None, Result, Ok, Err}
+use Rattle.std.specs.Prelude.{◌≡◌, List, [], ◌∷◌, map, reverse, Option, Some, None, Result, Ok, Err}
 use Rattle.nc_expressions.specs.declared.levels.Level.{Level}
-use Rattle.nc_expressions.specs.declared.symbols.Symbol.{Symbol}
-use Rattle.nc_expressions.specs.declared.trees.Expr.{Expr}
 use Rattle.nc_expressions.specs.declared.faults.SyntaxFault.{SyntaxFault}
 use Rattle.nc_expressions.specs.declared.faults.SyntaxFault.TheVariants.{Refused, NoMemory}
 use Rattle.nc_expressions.specs.declared.stack.Held.{Held}
@@ -11,8 +9,8 @@ use Rattle.nc_expressions.specs.declared.steps.Mode.{Mode}
 use Rattle.nc_expressions.specs.declared.steps.Mode.TheVariants as mode
 use Rattle.nc_expressions.specs.declared.steps.Step.{Step}
 use Rattle.nc_expressions.specs.declared.steps.Step.TheVariants as step
-use Rattle.nc_expressions.specs.Tree.{Tree, tree_of}
-use Rattle.nc_expressions.specs.Machine.{Pending, Prefix, Left, Opened, Stack, State, Wants, WantsIndex, WantsArgument, Has, Next, On, Ends, Refuse, Reading}
+use Rattle.nc_expressions.specs.Tree.{tree_of}
+use Rattle.nc_expressions.specs.Machine.{Pending, Prefix, Left, Opened, Stack, State, Wants, WantsIndex, WantsArgument, Has, Next, On, Ends, Refuse}
 
 abbrev pub pending_of : Held → Pending
 pending_of (held.Prefix op) = Prefix op
@@ -40,9 +38,3 @@ Steps next (Ok (step.On m lv)) st = next ≡ On (state_of m st lv)
 Steps next (Ok (step.Ends e)) st = next ≡ Ends (tree_of e)
 Steps next (Err (Refused code)) st = next ≡ Refuse code
 Steps next (Err NoMemory) st = Unit {0}
-
--- the code's reading is the machine's; its place counts from the first symbol of the line
-abbrev pub Reads : List Symbol → Reading → Result (Expr × ℕ) SyntaxFault → Type 0
-Reads symbols read (Ok p) = (p.1 ≤ length symbols) × (read ≡ Ok (tree_of p.0, drop p.1 symbols))
-Reads symbols read (Err (Refused code)) = read ≡ Err code
-Reads symbols read (Err NoMemory) = Unit {0}

@@ -1,11 +1,14 @@
 //! Reading the expression at a place of a line.
 
-ghost use Rattle.std.specs.Prelude.{◌≡◌, ◌<◌, ◌≤◌, length, drop, slice_get};
+ghost use Rattle.std.specs.Prelude.{◌≡◌, ℕ, ◌<◌, ◌≤◌, List, ◌++◌, length, drop, slice_get, IfOk, IfErr};
 ghost use Rattle.block_scanner.specs.Scanned.{IsScanned};
+ghost use Rattle.nc_expressions.specs.declared.symbols.Symbol.{Symbol};
+ghost use Rattle.nc_expressions.specs.Fronts.{Found, Broken};
 ghost use Rattle.nc_expressions.specs.Machine.{read};
-ghost use Rattle.nc_expressions.specs.Parsing.{expr_at, GivesExpr, sign_of, is_exponent, plain_number, number_at, constant_at, GivesConstant};
-ghost use Rattle.nc_expressions.specs.Stack.{Reads};
+ghost use Rattle.nc_expressions.specs.Parsing.{Reads, expr_at, GivesExpr, sign_of, is_exponent, plain_number, number_at, constant_at, GivesConstant};
 ghost use Rattle.nc_expressions.specs.Symbols.{symbols_of};
+ghost use Rattle.nc_expressions.specs.Syntax.{Syntax, spelling, tree, IsExpression, Follows};
+ghost use Rattle.nc_expressions.specs.Tree.{tree_of, IndicesFit};
 
 use crate::faults::SyntaxFault;
 use crate::levels::Level;
@@ -45,16 +48,33 @@ fn parse_exactly(alloc: Global, words: &Words<'_>, start: usize) -> Result<(Expr
 }
 
 /// Reads the expression that begins with the token at `start`, as far as it goes: its tree, and the
-/// place of the first token behind it. `Refused` has the code of the first place at which no
-/// expression goes on: 26 at a parenthesis that is the 33rd open one, 23 at the token with which a
-/// level first has both a comparison and one of AND, OR, XOR and NOT, else 22. The name of a
-/// function that is not supported is no word of an expression here. `NoMemory` says nothing of the
-/// line.
-#[tactic(auto, using(crate::proofs::Runs::gives_read))]
-pub fn parse_expr(alloc: Global, words: &Words<'_>, start: usize) -> Result<(Expr, usize), SyntaxFault>
+/// place of the first token behind it.
+///
+/// `Refused` comes where no expression begins there, or one begins that is not complete before the
+/// first token at which no expression goes on. Its code is that of this place: 26 at a parenthesis
+/// that is the 33rd open one; 23 at the token with which a level has both a comparison and one of
+/// AND, OR, XOR and NOT; else 22. The name of a function that is not supported is no word of an
+/// expression here. `NoMemory` says nothing of the line.
+#[tactic(auto, using(crate::proofs::Parsed::answers))]
+pub fn parse_expr(
+    alloc: Global,
+    words: &Words<'_>,
+    start: usize,
+) -> Result<(Expr, usize), SyntaxFault>
     requires scanned { IsScanned words.now }
     requires within { start ≤ length words.now.tokens.items }
+
+    // What is read is spelled so, and what is spelled so is read: one tree at most.
+    ensures found { IfOk result (λ p. (start < p.1) × (p.1 ≤ length words.now.tokens.items)
+        × Found (drop start (symbols_of words.now)) (tree_of p.0) (drop p.1 (symbols_of words.now))) }
+    ensures only { (x : Syntax) (rest : List Symbol) → IsExpression x → Follows rest →
+        drop start (symbols_of words.now) ≡ spelling x ++ rest → Reads (symbols_of words.now) (Ok (tree x, rest)) result }
+
+    // What is refused breaks off at the first place at which no expression goes on.
+    ensures broken { IfErr result (λ e. (code : ℕ) → e ≡ SyntaxFault.Refused code → Broken (drop start (symbols_of words.now))) }
+
     ensures exact { GivesExpr (expr_at (symbols_of words.now) start) result }
+    ensures indices { IfOk result (λ p. IndicesFit (tree_of p.0)) }
 {
     parse_exactly(alloc, words, start)
 }
