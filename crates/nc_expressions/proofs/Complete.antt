@@ -224,14 +224,14 @@ reads (Chained op a b) st lv out rest f h r =
     let la = some_of (level a) (λ (l : Level). and_then (level b) (λ (m : Level). and_then (together (kind op) m) (together l))) o.0 o.1 in
     let lb = some_of (level b) (λ (m : Level). and_then (together (kind op) m) (together la.0)) o.0 la.2 in
     let e : and_then (and_then (together (kind op) lb.0) (together la.0)) (together lv) ≡ Some out =
-        ap (λ (k : Option Level). and_then k (together lv)) lb.2 ∙ o.2 in
+    ap (λ (k : Option Level). and_then k (together lv)) lb.2 ∙ o.2 in
     let cut = three_levels lv la.0 (kind op) lb.0 out e in
     let ea : and_then (level a) (together lv) ≡ Some cut.0 = ap (λ (k : Option Level). and_then k (together lv)) la.1 ∙ cut.2 in
     let eb : and_then (level b) (together cut.1) ≡ Some out = ap (λ (k : Option Level). and_then k (together cut.1)) lb.1 ∙ cut.4 in
     ap (λ (ss : List Symbol). run ss (Wants st lv)) (append_assoc (spelling a) (symbol.Operator op ∷ spelling b) rest)
     ∙ reads a st lv cut.0 (symbol.Operator op ∷ (spelling b ++ rest)) f.2 ea (ready_above a (rank op) st f.0 r)
     ∙ joins_operator (fed a st) (tree a) op cut.0 cut.1 st (spelling b ++ rest)
-        (joins a (depth st) (rank op) (rank op) st f.2 f.0 r ∙ join_loose (rank op) (tree a) st r) cut.3
+    (joins a (depth st) (rank op) (rank op) st f.2 f.0 r ∙ join_loose (rank op) (tree a) st r) cut.3
     ∙ reads b (Left (tree a) op ∷ st) cut.1 out rest f.3 eb (ready_above b (rank op + 1) (Left (tree a) op ∷ st) (omega (arith, f.1)) (omega arith))
 
 -- what is spelled as an expression is read as its tree, where what follows can follow it

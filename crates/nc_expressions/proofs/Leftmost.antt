@@ -132,7 +132,7 @@ not_front ss s state code leads e front =
     let x = front.0 in
     let found : read (spelling x ++ front.1) ≡ Ok (tree x, front.1) = complete x front.1 front.3 front.4 in
     let refused : read ((ss ++ (s ∷ [])) ++ front.2) ≡ Err code =
-        ap read (append_assoc ss (s ∷ []) front.2) ∙ leads (s ∷ front.2) ∙ ap (λ (n : Next). go_on n (s ∷ front.2) (run front.2)) e in
+    ap read (append_assoc ss (s ∷ []) front.2) ∙ leads (s ∷ front.2) ∙ ap (λ (n : Next). go_on n (s ∷ front.2) (run front.2)) e in
     let same : read ((ss ++ (s ∷ [])) ++ front.2) ≡ read (spelling x ++ front.1) = ap read front.5 in
     cc
 
@@ -165,7 +165,7 @@ broken [] ss state code stands leads h =
     inr (subst P (sym (append-nil ss)) (may_go_on ss state stands), no_expression ss state code leads h)
 broken (s ∷ rest) ss state code stands leads h =
     broken_step s ss rest state code (step state s) refl stands leads (step_stands s ss state stands)
-      (λ (next : State) (i : Stands (ss ++ (s ∷ [])) next) (l : Leads (ss ++ (s ∷ [])) next) (e : run rest next ≡ Err code). broken rest (ss ++ (s ∷ [])) next code i l e) h
+    (λ (next : State) (i : Stands (ss ++ (s ∷ [])) next) (l : Leads (ss ++ (s ∷ [])) next) (e : run rest next ≡ Err code). broken rest (ss ++ (s ∷ [])) next code i l e) h
 
 pub leftmost : (symbols : List Symbol) (code : ℕ) → read symbols ≡ Err code → Broken symbols
 unfolding read

@@ -95,4 +95,12 @@ indices_of symbols start (Ok p) h =
     subst P f.2 (fits_indices f.0 0 f.1.1)
 indices_of symbols start (Err e) h = tt
 
+pub one_tree : (x y : Syntax) → IsExpression x → IsExpression y → spelling x ≡ spelling y → tree x ≡ tree y
+one_tree x y h i e =
+    let a : read (spelling x ++ []) ≡ Ok (tree x, []) = complete x [] h tt in
+    let b : read (spelling y ++ []) ≡ Ok (tree y, []) = complete y [] i tt in
+    let same : read (spelling x ++ []) ≡ read (spelling y ++ []) = ap (λ (k : List Symbol). read (k ++ [])) e in
+    let p : (tree x, []) ≡ (tree y, []) = cc in
+    ap (λ (q : Tree × List Symbol). q.0) p
+
 pub ruleset answers = (found_of, only_of, broken_of, indices_of, gives_read)

@@ -19,7 +19,6 @@ use Rattle.nc_expressions.specs.Machine.{Pending, Prefix, Left, Opened, Stack, S
 use Rattle.nc_expressions.proofs.LevelLaws.{together_plain, level_is, some_is, some_of, associates, rank_small}
 use Rattle.nc_expressions.specs.Fronts.{Found}
 
-
 -- one thing that was written and waits: a sign or NOT, a left operand with its operator, or an open bracket
 pub data Part : Type 0 where
   PlusBefore : Part
@@ -109,7 +108,7 @@ denied : (l before own lv : Level) → together l Connects ≡ Some before → t
     (k : Level) × (together Connects own ≡ Some k) × (together l k ≡ Some lv)
 denied l before own lv h e =
     let f : and_then (together Connects own) (together l) ≡ Some lv =
-        sym (associates l Connects own) ∙ ap (λ (o : Option Level). and_then o (λ x. together x own)) h ∙ e in
+    sym (associates l Connects own) ∙ ap (λ (o : Option Level). and_then o (λ x. together x own)) h ∙ e in
     some_of (together Connects own) (together l) lv f
 
 -- a left and a right operand, as a level of both
@@ -117,10 +116,10 @@ pub chained : (l la m k before own lv : Level) → together l la ≡ Some m → 
     (both : Level) × (and_then (together k own) (together la) ≡ Some both) × (together l both ≡ Some lv)
 chained l la m k before own lv h i e =
     let f : and_then (together k own) (together m) ≡ Some lv =
-        sym (associates m k own) ∙ ap (λ (o : Option Level). and_then o (λ x. together x own)) i ∙ e in
+    sym (associates m k own) ∙ ap (λ (o : Option Level). and_then o (λ x. together x own)) i ∙ e in
     let right = some_of (together k own) (together m) lv f in
     let j : and_then (together la right.0) (together l) ≡ Some lv =
-        sym (associates l la right.0) ∙ ap (λ (o : Option Level). and_then o (λ x. together x right.0)) h ∙ right.2 in
+    sym (associates l la right.0) ∙ ap (λ (o : Option Level). and_then o (λ x. together x right.0)) h ∙ right.2 in
     let both = some_of (together la right.0) (together l) lv j in
     (both.0, ap (λ (o : Option Level). and_then o (together la)) right.1 ∙ both.1, both.2)
 
@@ -133,17 +132,23 @@ negative g x lv h o = record { before = o.before; own = o.own; good = o.good; ha
 pub not_of : (g : Parts) (x : Syntax) (lv : Level) → tightness x ≡ 6 → Operand (NotBefore ∷ g) x lv → Operand g (Denied x) lv
 not_of g x lv h o =
     let k = denied o.good.0 o.before o.own lv o.good.2 o.levels in
-    record { before = o.good.0; own = k.0; good = o.good.1;
-      has = ap (λ (m : Option Level). and_then m (together Connects)) o.has ∙ k.1; levels = k.2; fits = (h, o.fits) }
+    record {
+      before = o.good.0;
+      own = k.0;
+      good = o.good.1;
+      has = ap (λ (m : Option Level). and_then m (together Connects)) o.has ∙ k.1;
+      levels = k.2;
+      fits = (h, o.fits);
+    }
 
 pub both_of : (g : Parts) (a x : Syntax) (op : BinaryOp) (lv : Level) → rank op < tightness x → Operand (LeftOf a op ∷ g) x lv → Operand g (Chained op a x) lv
 both_of g a x op lv h o =
     let w = o.good in
     let k = chained w.0 w.1 w.2 (kind op) o.before o.own lv w.5 w.6 o.levels in
     let e : level (Chained op a x) ≡ Some k.0 =
-        ap (λ (i : Option Level). and_then i (λ l. and_then (level x) (λ m. and_then (together (kind op) m) (together l)))) w.4
-        ∙ ap (λ (i : Option Level). and_then i (λ m. and_then (together (kind op) m) (together w.1))) o.has
-        ∙ k.1 in
+    ap (λ (i : Option Level). and_then i (λ l. and_then (level x) (λ m. and_then (together (kind op) m) (together l)))) w.4
+    ∙ ap (λ (i : Option Level). and_then i (λ m. and_then (together (kind op) m) (together w.1))) o.has
+    ∙ k.1 in
     record { before = w.0; own = k.0; good = w.3; has = e; levels = k.2; fits = (w.8, h, w.7, o.fits) }
 
 -- the same operand in brackets
@@ -184,10 +189,10 @@ joins_to r (MinusBefore ∷ g) x lv ss o l h w = absurd l
 joins_to r (NotBefore ∷ g) x lv ss o l h w = absurd l
 joins_to r (LeftOf a op ∷ g) x lv ss o l h w =
     joins_cases (leb r (rank op)) r g a x op lv ss (join r (Binary op (tree a) (tree x)) (image g))
-      (λ (e : leb r (rank op) ≡ true). let le : r ≤ rank op = search (rules, tests) in
-        joins_to r g (Chained op a x) lv ss (both_of g a x op lv l o) o.good.9 le
-          (sym (ap (λ (k : List Symbol). k ++ spelling x) (append_assoc (written g) (spelling a) (symbol.Operator op ∷ [])) ∙ append_assoc (written g) (spelling a ++ (symbol.Operator op ∷ [])) (spelling x) ∙ ap (λ (k : List Symbol). written g ++ k) (append_assoc (spelling a) (symbol.Operator op ∷ []) (spelling x))) ∙ w))
-      (λ (e : leb r (rank op) ≡ false). let lt : rank op < r = search (rules, tests) in (LeftOf a op ∷ g, x, refl, refl, o, h, lt, w))
+    (λ (e : leb r (rank op) ≡ true). let le : r ≤ rank op = search (rules, tests) in
+    joins_to r g (Chained op a x) lv ss (both_of g a x op lv l o) o.good.9 le
+    (sym (ap (λ (k : List Symbol). k ++ spelling x) (append_assoc (written g) (spelling a) (symbol.Operator op ∷ [])) ∙ append_assoc (written g) (spelling a ++ (symbol.Operator op ∷ [])) (spelling x) ∙ ap (λ (k : List Symbol). written g ++ k) (append_assoc (spelling a) (symbol.Operator op ∷ []) (spelling x))) ∙ w))
+    (λ (e : leb r (rank op) ≡ false). let lt : rank op < r = search (rules, tests) in (LeftOf a op ∷ g, x, refl, refl, o, h, lt, w))
 joins_to r (Within b outer ∷ g) x lv ss o l h w = (Within b outer ∷ g, x, refl, refl, o, h, tt, w)
 
 -- what each symbol makes of what was written
@@ -229,8 +234,8 @@ unfolding opened
 after_open g lv ss good w =
     let P : Next → Type 0 = λ n. After ss symbol.Open n in
     opened_cases (leb 32 (depth (image g))) (Refuse 26) (On (Wants (Opened Parentheses lv ∷ image g) Plain)) P tt
-      (λ (e : leb 32 (depth (image g)) ≡ false).
-        (Within Parentheses lv ∷ g, refl, (refl, below_limit (depth (image g)) e, good), more (written g) ss (symbol.Open ∷ []) w))
+    (λ (e : leb 32 (depth (image g)) ≡ false).
+    (Within Parentheses lv ∷ g, refl, (refl, below_limit (depth (image g)) e, good), more (written g) ss (symbol.Open ∷ []) w))
 
 after_argument_open : (f : UnaryOp) (g : Parts) (lv : Level) (ss : List Symbol) → Good g lv → written g ++ (symbol.Function f ∷ []) ≡ ss →
     After ss symbol.Open (opened (Argument f) (image g) lv)
@@ -238,9 +243,12 @@ unfolding opened
 after_argument_open f g lv ss good w =
     let P : Next → Type 0 = λ n. After ss symbol.Open n in
     opened_cases (leb 32 (depth (image g))) (Refuse 26) (On (Wants (Opened (Argument f) lv ∷ image g) Plain)) P tt
-      (λ (e : leb 32 (depth (image g)) ≡ false).
-        (Within (Argument f) lv ∷ g, refl, (refl, below_limit (depth (image g)) e, good),
-          sym (append_assoc (written g) (symbol.Function f ∷ []) (symbol.Open ∷ [])) ∙ more (written g ++ (symbol.Function f ∷ [])) ss (symbol.Open ∷ []) w))
+    (λ (e : leb 32 (depth (image g)) ≡ false). (
+      Within (Argument f) lv ∷ g,
+      refl,
+      (refl, below_limit (depth (image g)) e, good),
+      sym (append_assoc (written g) (symbol.Function f ∷ []) (symbol.Open ∷ [])) ∙ more (written g ++ (symbol.Function f ∷ [])) ss (symbol.Open ∷ []) w,
+    ))
 
 after_operand : (s : Symbol) (g : Parts) (lv : Level) (ss : List Symbol) → Good g lv → written g ≡ ss → After ss s (on_operand (image g) lv s)
 unfolding on_operand
@@ -265,16 +273,19 @@ after_number None z g lv ss h good w = tt
 after_number (Some i) z g lv ss h good w =
     let fits : IsSome (index_of z) = rw h (search rules) in
     let w' : written g ++ spelling (Named z) ≡ ss ++ (symbol.Number z ∷ []) =
-        sym (append_assoc (written g) (symbol.Letter ∷ []) (symbol.Number z ∷ [])) ∙ more (written g ++ (symbol.Letter ∷ [])) ss (symbol.Number z ∷ []) w in
+    sym (append_assoc (written g) (symbol.Letter ∷ []) (symbol.Number z ∷ [])) ∙ more (written g ++ (symbol.Letter ∷ [])) ss (symbol.Number z ∷ []) w in
     let P : Option ℕ → Type 0 = λ k. Stands (ss ++ (symbol.Number z ∷ [])) (ended lv (attach (parameter_of k) (image g))) in
     subst P h (attached g (Named z) lv (ss ++ (symbol.Number z ∷ [])) (plain_operand g (Named z) lv good refl fits) refl w')
 
 after_index : (s : Symbol) (g : Parts) (lv : Level) (ss : List Symbol) → Good g lv → written g ++ (symbol.Letter ∷ []) ≡ ss → After ss s (on_index (image g) lv s)
 unfolding on_index
 after_index (symbol.Number z) g lv ss good w = after_number (index_of z) z g lv ss refl good w
-after_index symbol.OpenBracket g lv ss good w =
-    (Within Index lv ∷ g, refl, (refl, tt, good),
-      sym (append_assoc (written g) (symbol.Letter ∷ []) (symbol.OpenBracket ∷ [])) ∙ more (written g ++ (symbol.Letter ∷ [])) ss (symbol.OpenBracket ∷ []) w)
+after_index symbol.OpenBracket g lv ss good w = (
+  Within Index lv ∷ g,
+  refl,
+  (refl, tt, good),
+  sym (append_assoc (written g) (symbol.Letter ∷ []) (symbol.OpenBracket ∷ [])) ∙ more (written g ++ (symbol.Letter ∷ [])) ss (symbol.OpenBracket ∷ []) w,
+)
 after_index (symbol.Truth b) g lv ss good w = tt
 after_index (symbol.Operator op) g lv ss good w = tt
 after_index symbol.Not g lv ss good w = tt
@@ -311,7 +322,7 @@ after_left (Some l) code op lv ss p h j =
     let x = j.1 in
     let o : Operand g x lv = j.4 in
     let e : Left (tree x) op ∷ image g ≡ Left p.0 op ∷ p.1 =
-        ap (λ (t : Tree). Left t op ∷ image g) j.3 ∙ ap (λ (st : Stack). Left p.0 op ∷ st) j.2 in
+    ap (λ (t : Tree). Left t op ∷ image g) j.3 ∙ ap (λ (st : Stack). Left p.0 op ∷ st) j.2 in
     (LeftOf x op ∷ g, e, (o.before, o.own, lv, o.good, o.has, o.levels, h, o.fits, j.5, j.6), more (written g ++ spelling x) ss (symbol.Operator op ∷ []) j.7)
 
 whole : (x : Syntax) (lv : Level) (ss : List Symbol) → Operand [] x lv → spelling x ≡ ss → IsSpelled ss (tree x)
@@ -333,12 +344,12 @@ after_close (NotBefore ∷ g) x lv ss o l w = absurd l
 after_close (LeftOf a op ∷ g) x lv ss o l w = absurd (omega (arith, l))
 after_close (Within Parentheses outer ∷ g) x lv ss o l w =
     attached g (Grouped x) outer (ss ++ (symbol.Close ∷ []))
-      (plain_operand g (Grouped x) outer o.good.2 refl (o.good.1, some_is (level x) o.own o.has, o.fits)) refl
-      (close_written g x ss (symbol.Open ∷ []) (symbol.Close ∷ []) w)
+    (plain_operand g (Grouped x) outer o.good.2 refl (o.good.1, some_is (level x) o.own o.has, o.fits)) refl
+    (close_written g x ss (symbol.Open ∷ []) (symbol.Close ∷ []) w)
 after_close (Within (Argument f) outer ∷ g) x lv ss o l w =
     attached g (Called f x) outer (ss ++ (symbol.Close ∷ []))
-      (plain_operand g (Called f x) outer o.good.2 refl (o.good.1, some_is (level x) o.own o.has, o.fits)) refl
-      (close_written g x ss (symbol.Function f ∷ (symbol.Open ∷ [])) (symbol.Close ∷ []) w)
+    (plain_operand g (Called f x) outer o.good.2 refl (o.good.1, some_is (level x) o.own o.has, o.fits)) refl
+    (close_written g x ss (symbol.Function f ∷ (symbol.Open ∷ [])) (symbol.Close ∷ []) w)
 after_close (Within Index outer ∷ g) x lv ss o l w = tt
 
 after_close_bracket : (g : Parts) (x : Syntax) (lv : Level) (ss : List Symbol) → Operand g x lv → LooseThan 0 g → written g ++ spelling x ≡ ss →
@@ -352,8 +363,8 @@ after_close_bracket (Within Parentheses outer ∷ g) x lv ss o l w = tt
 after_close_bracket (Within (Argument f) outer ∷ g) x lv ss o l w = tt
 after_close_bracket (Within Index outer ∷ g) x lv ss o l w =
     attached g (Indexing x) outer (ss ++ (symbol.CloseBracket ∷ []))
-      (plain_operand g (Indexing x) outer o.good.2 refl (some_is (level x) o.own o.has, o.fits)) refl
-      (close_written g x ss (symbol.Letter ∷ (symbol.OpenBracket ∷ [])) (symbol.CloseBracket ∷ []) w)
+    (plain_operand g (Indexing x) outer o.good.2 refl (some_is (level x) o.own o.has, o.fits)) refl
+    (close_written g x ss (symbol.Letter ∷ (symbol.OpenBracket ∷ [])) (symbol.CloseBracket ∷ []) w)
 
 -- where it ends, it is spelled; so it is at the end of the line
 abbrev pub Stops : List Symbol → Next → Type 0

@@ -31,5 +31,5 @@ MayGoOn symbols =
 abbrev pub Broken : List Symbol → Type 0
 Broken symbols =
     ((before : List Symbol) × (one : Symbol) × (behind : List Symbol) ×
-        (symbols ≡ before ++ (one ∷ behind)) × MayGoOn before × ¬ (IsFront (before ++ (one ∷ []))))
+    (symbols ≡ before ++ (one ∷ behind)) × MayGoOn before × ¬ (IsFront (before ++ (one ∷ []))))
     ⊎ (MayGoOn symbols × ((x : Syntax) → IsExpression x → ¬ (symbols ≡ spelling x)))

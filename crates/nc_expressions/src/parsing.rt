@@ -22,7 +22,11 @@ use std::alloc::Global;
 
 /// Reads as the machine does.
 #[tactic(auto, using(crate::proofs::Runs::run_steps))]
-fn parse_exactly(alloc: Global, words: &Words<'_>, start: usize) -> Result<(Expr, usize), SyntaxFault>
+fn parse_exactly(
+    alloc: Global,
+    words: &Words<'_>,
+    start: usize,
+) -> Result<(Expr, usize), SyntaxFault>
     requires scanned { IsScanned words.now }
     requires within { start ≤ length words.now.tokens.items }
     ensures { Reads (symbols_of words.now) (read (drop start (symbols_of words.now))) result }
@@ -146,7 +150,8 @@ fn number_at(words: &Words<'_>, at: usize) -> Result<Num, u16>
 pub fn parse_constant(words: &Words<'_>, start: usize) -> Result<(Expr, usize), u16>
     requires scanned { IsScanned words.now }
     requires within { start ≤ length words.now.tokens.items }
-    ensures { GivesConstant (constant_at (symbols_of words.now) start) result }
+    ensures value { GivesConstant (constant_at (symbols_of words.now) start) result }
+    ensures indices { IfOk result (λ p. IndicesFit (tree_of p.0)) }
 {
     match sign_of(symbol_from(words, start)) {
         None => {

@@ -230,11 +230,7 @@ fn on_operator(
 
 /// Takes a closing parenthesis behind an operand.
 #[tactic(auto, unfolding(crate::specs::Machine::on_close))]
-fn on_close(
-    alloc: Global,
-    pending: &mut Vec<Held>,
-    operand: Expr,
-) -> Result<Step, SyntaxFault>
+fn on_close(alloc: Global, pending: &mut Vec<Held>, operand: Expr) -> Result<Step, SyntaxFault>
     ensures { Steps (on_close (join 0 (tree_of operand) (stack_of pending.old.items))) result (stack_of pending.new.items) }
 {
     let inner = join(alloc, pending, 0, operand)?;
@@ -271,11 +267,7 @@ fn on_close_bracket(
 
 /// Ends an expression where no bracket is open.
 #[tactic(auto, unfolding(crate::specs::Machine::on_other))]
-fn on_other(
-    alloc: Global,
-    pending: &mut Vec<Held>,
-    operand: Expr,
-) -> Result<Step, SyntaxFault>
+fn on_other(alloc: Global, pending: &mut Vec<Held>, operand: Expr) -> Result<Step, SyntaxFault>
     ensures { Steps (on_other (join 0 (tree_of operand) (stack_of pending.old.items))) result (stack_of pending.new.items) }
 {
     let inner = join(alloc, pending, 0, operand)?;

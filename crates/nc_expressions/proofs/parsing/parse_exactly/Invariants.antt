@@ -7,7 +7,8 @@ use Rattle.nc_expressions.proofs.parsing.parse_exactly.Given as goal
 abbrev pub invariant-loop-at : goal.invariant-loop-at
 invariant-loop-at l = record {
   within : l.at ≤ length (symbols_of l.words);
-  rest : run (drop l.at (symbols_of l.words)) (state_of l.mode (stack_of l.pending.items) l.level) ≡ read (drop l.start (symbols_of l.words)) }
+  rest : run (drop l.at (symbols_of l.words)) (state_of l.mode (stack_of l.pending.items) l.level) ≡ read (drop l.start (symbols_of l.words));
+}
 
 abbrev pub decreases-loop-at : goal.decreases-loop-at
 decreases-loop-at l = length l.words.tokens.items - l.at
