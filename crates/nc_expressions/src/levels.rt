@@ -1,7 +1,7 @@
 //! How tightly operators bind, and what may stand at one level outside brackets.
 
 ghost use Rattle.std.specs.Prelude.{◌≡◌};
-ghost use Rattle.nc_expressions.specs.Levels.{rank, kind, together, clash};
+ghost use Rattle.nc_expressions.specs.Levels.{all_limits, rank, kind, together, clash};
 
 use crate::trees::BinaryOp;
 
@@ -37,7 +37,7 @@ pub fn rank(op: BinaryOp) -> u8
 
 /// What an operator makes of the level where it stands.
 pub fn kind(op: BinaryOp) -> Level
-    ensures { result ≡ kind op }
+    ensures { result ≡ kind all_limits op }
 {
     match op {
         BinaryOp::Equal
