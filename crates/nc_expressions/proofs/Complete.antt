@@ -1,21 +1,20 @@
 -- What is spelled as an expression is read as its tree.
-use Rattle.std.proofs.Common.{◌≡◌, ℕ, ◌+◌, ◌<◌, ◌≤◌, Bool, true, false, cond, leb, List, [], ◌∷◌, ◌++◌, refl, ap, sym, ◌∙◌, subst, Option, Some, None, Ok, Err, IsSome, IsTrue, arith, rules, tests}
+use Rattle.std.proofs.Common.{◌≡◌, ℕ, ◌+◌, ◌<◌, ◌≤◌, Bool, true, false, cond, leb, List, [], ◌∷◌, ◌++◌, refl, ap, ◌∙◌, Option, Some, None, Ok, IsSome, IsTrue, arith, rules, tests}
 use Rattle.std.proofs.lemmas.List.{append_assoc}
 use Rattle.nc_expressions.specs.declared.trees.UnaryOp.{UnaryOp}
 use Rattle.nc_expressions.specs.declared.trees.UnaryOp.TheVariants as unary
 use Rattle.nc_expressions.specs.declared.trees.BinaryOp.{BinaryOp}
-use Rattle.nc_expressions.specs.declared.trees.BinaryOp.TheVariants.{Add, Sub}
 use Rattle.nc_expressions.specs.declared.levels.Level.{Level}
-use Rattle.nc_expressions.specs.declared.levels.Level.TheVariants.{Plain, Compares, Connects}
+use Rattle.nc_expressions.specs.declared.levels.Level.TheVariants.{Plain}
 use Rattle.nc_expressions.specs.declared.symbols.Symbol.{Symbol}
 use Rattle.nc_expressions.specs.declared.symbols.Symbol.TheVariants as symbol
 use Rattle.nc_expressions.specs.declared.stack.Bracket.{Bracket}
 use Rattle.nc_expressions.specs.declared.stack.Bracket.TheVariants.{Parentheses, Argument, Index}
-use Rattle.nc_expressions.specs.Tree.{Tree, Number, Parameter, Indexed, Unary, Binary}
+use Rattle.nc_expressions.specs.Tree.{Tree, Number, Indexed, Unary, Binary}
 use Rattle.nc_expressions.specs.Levels.{Limits, connecting, has_room, rank, kind, together, clash}
 use Rattle.nc_expressions.specs.Symbols.{truth, index_of}
 use Rattle.nc_expressions.specs.Syntax.{Syntax, Constant, Truth, Positive, Negative, Denied, Named, Indexing, Called, Grouped, Chained, spelling, parameter_of, tree, tightness, and_then, level, Fits, IsExpressionUnder, Follows}
-use Rattle.nc_expressions.specs.Machine.{Pending, Prefix, Left, Opened, Stack, State, Wants, WantsIndex, WantsArgument, Has, Next, On, Ends, Refuse, depth, attach, join, ended, opened, with_left, with_prefix, with_parameter, close_parenthesis, close_bracket, stop, finish, at_last, on_sign, on_operand, on_index, on_argument, on_operator, on_close, on_close_bracket, on_other, on_ended, step, run, go_on, read, Reading}
+use Rattle.nc_expressions.specs.Machine.{Prefix, Left, Opened, Stack, Wants, Next, On, Refuse, depth, attach, join, ended, opened, with_left, with_prefix, with_parameter, close_parenthesis, close_bracket, stop, finish, at_last, on_sign, on_operand, on_index, on_argument, on_operator, on_close, on_close_bracket, on_other, on_ended, step, run, go_on, read}
 use Rattle.nc_expressions.proofs.LevelLaws.{together_plain, plain_together, level_is, some_of, two_levels, three_levels, rank_small}
 
 -- nothing at the top of the stack binds so tightly

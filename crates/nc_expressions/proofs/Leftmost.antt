@@ -1,25 +1,21 @@
 -- Where no expression goes on, and what every answer of a reading says.
-use Rattle.std.proofs.Common.{◌≡◌, ℕ, ℤ, pos, Bool, true, false, ◌⊎◌, ◌+◌, ◌-◌, ◌<◌, ◌≤◌, List, [], ◌∷◌, ◌++◌, length, drop, refl, ap, sym, ◌∙◌, subst, Option, Some, None, Ok, Err, Result, IsSome, inl, inr, arith, rules}
+use Rattle.std.proofs.Common.{◌≡◌, ℕ, pos, Bool, true, false, ◌⊎◌, ◌<◌, List, [], ◌∷◌, ◌++◌, refl, ap, sym, ◌∙◌, subst, Ok, Err, IsSome, inl, inr, arith, rules}
 use Rattle.std.proofs.lemmas.List.{append_assoc, append-nil}
-use Rattle.nc_expressions.specs.declared.trees.UnaryOp.{UnaryOp}
-use Rattle.nc_expressions.specs.declared.trees.BinaryOp.{BinaryOp}
 use Rattle.nc_expressions.specs.declared.trees.BinaryOp.TheVariants.{Add, Sub}
 use Rattle.nc_expressions.specs.declared.levels.Level.{Level}
-use Rattle.nc_expressions.specs.declared.levels.Level.TheVariants.{Plain, Compares, Connects}
+use Rattle.nc_expressions.specs.declared.levels.Level.TheVariants.{Plain}
 use Rattle.nc_expressions.specs.declared.symbols.Symbol.{Symbol}
 use Rattle.nc_expressions.specs.declared.symbols.Symbol.TheVariants as symbol
-use Rattle.nc_expressions.specs.declared.stack.Bracket.{Bracket}
 use Rattle.nc_expressions.specs.declared.stack.Bracket.TheVariants.{Parentheses, Argument, Index}
-use Rattle.nc_expressions.specs.Tree.{Tree}
 use Rattle.nc_expressions.specs.Levels.{Limits, all_limits, any_nesting, any_mixture, rank}
 use Rattle.nc_expressions.specs.Symbols.{index_of}
-use Rattle.nc_expressions.specs.Syntax.{Syntax, Constant, Truth, Positive, Negative, Denied, Named, Indexing, Called, Grouped, Chained, spelling, tree, tightness, level, Fits, IsExpressionUnder, Follows}
+use Rattle.nc_expressions.specs.Syntax.{Syntax, Constant, Positive, Negative, Denied, Named, Indexing, Called, Grouped, Chained, spelling, tree, tightness, level, IsExpressionUnder}
 use Rattle.nc_expressions.specs.Fronts.{IsFrontUnder, BeginsExpressionUnder, MayGoOn, Broken}
-use Rattle.nc_expressions.specs.Machine.{Stack, State, at_last, finish, Wants, WantsIndex, WantsArgument, Has, Next, On, Ends, Refuse, step, run, go_on, read, depth}
+use Rattle.nc_expressions.specs.Machine.{Stack, State, at_last, finish, Wants, WantsIndex, WantsArgument, Has, Next, On, Ends, Refuse, step, run, go_on, read}
 use Rattle.nc_expressions.proofs.LevelLaws.{some_is, rank_small}
 use Rattle.nc_expressions.proofs.Complete.{complete}
 use Rattle.nc_expressions.proofs.Softer.{limits_of, soft_state, Softened, Stays, Gives, soft_step, EndsWith, end_code}
-use Rattle.nc_expressions.proofs.Sound.{Part, PlusBefore, MinusBefore, NotBefore, LeftOf, Within, Parts, image, written, opening, LooseThan, Good, Operand, Stands, After, step_stands, starts, positive, negative, not_of, both_of, plain_operand}
+use Rattle.nc_expressions.proofs.Sound.{PlusBefore, MinusBefore, NotBefore, LeftOf, Within, Parts, written, LooseThan, Good, Operand, Stands, After, step_stands, starts, positive, negative, not_of, both_of, plain_operand}
 
 -- an operand binds tightly enough for what waits for it
 abbrev pub Takes : Parts → Syntax → Type 0

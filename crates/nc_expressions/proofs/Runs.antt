@@ -9,7 +9,7 @@ use Rattle.nc_expressions.specs.declared.faults.SyntaxFault.TheVariants.{Refused
 use Rattle.nc_expressions.specs.Levels.{all_limits}
 use Rattle.nc_expressions.specs.Parsing.{Reads, placed, expr_at, GivesExpr}
 use Rattle.nc_expressions.specs.Tree.{Tree, tree_of}
-use Rattle.nc_expressions.specs.Machine.{State, Wants, Next, On, Ends, Refuse, Reading, step, finish, at_last, go_on, run, read}
+use Rattle.nc_expressions.specs.Machine.{State, Wants, Next, On, Ends, Refuse, step, finish, at_last, go_on, run, read}
 use Rattle.nc_expressions.proofs.Stacks.{stack_nil}
 use Rattle.nc_expressions.proofs.Beginnings.{length-symbols_of}
 
