@@ -7,7 +7,8 @@ use Rattle.nc_expressions.specs.declared.levels.Level.TheVariants.{Plain}
 use Rattle.nc_expressions.specs.declared.symbols.Symbol.{Symbol}
 use Rattle.nc_expressions.specs.declared.symbols.Symbol.TheVariants as symbol
 use Rattle.nc_expressions.specs.declared.stack.Bracket.TheVariants.{Parentheses, Argument, Index}
-use Rattle.nc_expressions.specs.Levels.{Limits, all_limits, any_nesting, any_mixture, rank}
+use Rattle.nc_expressions.specs.Levels.{rank}
+use Rattle.nc_expressions.specs.Limits.{Limits, all_limits, any_nesting, any_mixture}
 use Rattle.nc_expressions.specs.Symbols.{index_of}
 use Rattle.nc_expressions.specs.Syntax.{Syntax, Constant, Positive, Negative, Denied, Named, Indexing, Called, Grouped, Chained, spelling, tree, tightness, level, IsExpressionUnder}
 use Rattle.nc_expressions.specs.Fronts.{IsFrontUnder, BeginsExpressionUnder, MayGoOn, Broken}

@@ -12,7 +12,7 @@ use Rattle.nc_expressions.specs.declared.symbols.Symbol.TheVariants as symbol
 use Rattle.nc_expressions.specs.Tree.{Tree, tree_of, IndicesFit}
 use Rattle.nc_expressions.specs.Symbols.{symbols_of, index_of}
 use Rattle.nc_expressions.specs.Syntax.{Syntax, Constant, Truth, Positive, Negative, Denied, Named, Indexing, Called, Grouped, Chained, spelling, parameter_of, tree, Fits, IsExpression, Follows}
-use Rattle.nc_expressions.specs.Levels.{all_limits}
+use Rattle.nc_expressions.specs.Limits.{all_limits}
 use Rattle.nc_expressions.specs.Fronts.{Found, Broken}
 use Rattle.nc_expressions.specs.Machine.{read}
 use Rattle.nc_expressions.specs.Parsing.{Reads}

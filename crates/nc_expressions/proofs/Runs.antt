@@ -6,7 +6,7 @@ use Rattle.nc_expressions.specs.declared.levels.Level.TheVariants.{Plain}
 use Rattle.nc_expressions.specs.declared.trees.Expr.{Expr}
 use Rattle.nc_expressions.specs.declared.faults.SyntaxFault.{SyntaxFault}
 use Rattle.nc_expressions.specs.declared.faults.SyntaxFault.TheVariants.{Refused, NoMemory}
-use Rattle.nc_expressions.specs.Levels.{all_limits}
+use Rattle.nc_expressions.specs.Limits.{all_limits}
 use Rattle.nc_expressions.specs.Parsing.{Reads, placed, expr_at, GivesExpr}
 use Rattle.nc_expressions.specs.Tree.{Tree, tree_of}
 use Rattle.nc_expressions.specs.Machine.{State, Wants, Next, On, Ends, Refuse, step, finish, at_last, go_on, run, read}

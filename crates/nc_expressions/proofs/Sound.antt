@@ -12,7 +12,8 @@ use Rattle.nc_expressions.specs.declared.symbols.Symbol.TheVariants as symbol
 use Rattle.nc_expressions.specs.declared.stack.Bracket.{Bracket}
 use Rattle.nc_expressions.specs.declared.stack.Bracket.TheVariants.{Parentheses, Argument, Index}
 use Rattle.nc_expressions.specs.Tree.{Tree, Binary}
-use Rattle.nc_expressions.specs.Levels.{Limits, all_limits, connecting, has_room, rank, kind, together, clash}
+use Rattle.nc_expressions.specs.Levels.{connecting, rank, kind, together, clash}
+use Rattle.nc_expressions.specs.Limits.{Limits, all_limits, has_room}
 use Rattle.nc_expressions.specs.Symbols.{index_of}
 use Rattle.nc_expressions.specs.Syntax.{Syntax, Constant, Truth, Positive, Negative, Denied, Named, Indexing, Called, Grouped, Chained, spelling, parameter_of, tree, tightness, and_then, level, Fits, IsExpressionUnder, Follows}
 use Rattle.nc_expressions.specs.Machine.{Prefix, Left, Opened, Stack, State, Wants, WantsIndex, WantsArgument, Has, Next, On, Ends, Refuse, depth, attach, join, ended, opened, with_left, with_prefix, with_parameter, close_parenthesis, close_bracket, stop, finish, at_last, on_sign, on_operand, on_index, on_argument, on_operator, on_close, on_close_bracket, on_other, on_ended, step, run, go_on, read}

@@ -3,7 +3,7 @@ use Rattle.std.specs.Prelude.{◌≡◌, ℕ, ◌⊎◌, List, [], ◌∷◌, �
 use Rattle.nc_expressions.specs.declared.trees.UnaryOp.{UnaryOp}
 use Rattle.nc_expressions.specs.declared.symbols.Symbol.{Symbol}
 use Rattle.nc_expressions.specs.declared.symbols.Symbol.TheVariants as symbol
-use Rattle.nc_expressions.specs.Levels.{Limits, all_limits, any_nesting, any_mixture}
+use Rattle.nc_expressions.specs.Limits.{Limits, all_limits, any_nesting, any_mixture}
 use Rattle.nc_expressions.specs.Tree.{Tree}
 use Rattle.nc_expressions.specs.Syntax.{Syntax, spelling, tree, IsExpressionUnder, IsExpression, Follows}
 

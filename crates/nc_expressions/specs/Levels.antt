@@ -1,9 +1,10 @@
 -- How tightly operators bind, and what may stand at one level outside brackets.
-use Rattle.std.specs.Prelude.{ℕ, Bool, true, false, not, ◌||◌, Option, Some, None, nat_lt, if◌then◌else◌}
+use Rattle.std.specs.Prelude.{ℕ, Option, Some, None, if◌then◌else◌}
 use Rattle.nc_expressions.specs.declared.trees.BinaryOp.{BinaryOp}
 use Rattle.nc_expressions.specs.declared.trees.BinaryOp.TheVariants.{Add, Sub, Mul, Div, WholeDiv, Modulo, And, Or, Xor, Equal, NotEqual, Greater, Less, GreaterEqual, LessEqual}
 use Rattle.nc_expressions.specs.declared.levels.Level.{Level}
 use Rattle.nc_expressions.specs.declared.levels.Level.TheVariants.{Plain, Compares, Connects}
+use Rattle.nc_expressions.specs.Limits.{Limits}
 
 -- the greater, the tighter
 abbrev pub rank : BinaryOp → ℕ
@@ -22,21 +23,6 @@ rank Mul = 5
 rank Div = 5
 rank WholeDiv = 5
 rank Modulo = 5
-
--- the rules of two limits: no more than 32 parentheses in one another, and no comparison beside AND, OR, XOR or NOT.
--- All lines keep both; which of them a line breaks shows at where it could go on without one of them
-pub record Limits : Type 0 where
-  pub nested : Bool
-  pub apart : Bool
-
-abbrev pub all_limits : Limits
-all_limits = record { nested = true; apart = true }
-
-abbrev pub any_nesting : Limits
-any_nesting = record { nested = false; apart = true }
-
-abbrev pub any_mixture : Limits
-any_mixture = record { nested = true; apart = false }
 
 -- what AND, OR, XOR and NOT make of the level where they stand
 abbrev pub connecting : Limits → Level
@@ -59,10 +45,6 @@ kind limits Mul = Plain
 kind limits Div = Plain
 kind limits WholeDiv = Plain
 kind limits Modulo = Plain
-
--- with so many parentheses open, one more may be opened
-abbrev pub has_room : Limits → ℕ → Bool
-has_room limits n = not limits.nested || nat_lt n 32
 
 -- the level of two parts that stand beside one another; one comparison at most, and none beside AND, OR, XOR or NOT
 abbrev pub together : Level → Level → Option Level

@@ -11,7 +11,8 @@ use Rattle.nc_expressions.specs.declared.symbols.Symbol.TheVariants as symbol
 use Rattle.nc_expressions.specs.declared.stack.Bracket.{Bracket}
 use Rattle.nc_expressions.specs.declared.stack.Bracket.TheVariants.{Parentheses, Argument, Index}
 use Rattle.nc_expressions.specs.Tree.{Tree, Number, Parameter, Indexed, Unary, Binary}
-use Rattle.nc_expressions.specs.Levels.{Limits, connecting, has_room, rank, kind, together, clash}
+use Rattle.nc_expressions.specs.Levels.{connecting, rank, kind, together, clash}
+use Rattle.nc_expressions.specs.Limits.{Limits, has_room}
 use Rattle.nc_expressions.specs.Symbols.{truth, index_of}
 
 -- a sign or NOT that waits for its operand, a left operand that waits for the right one, or an open bracket with the level around it

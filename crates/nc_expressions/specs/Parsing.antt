@@ -7,7 +7,7 @@ use Rattle.nc_expressions.specs.declared.faults.SyntaxFault.TheVariants.{Refused
 use Rattle.nc_expressions.specs.declared.symbols.Symbol.{Symbol}
 use Rattle.nc_expressions.specs.declared.symbols.Symbol.TheVariants as symbol
 use Rattle.nc_expressions.specs.Tree.{Tree, Number, tree_of}
-use Rattle.nc_expressions.specs.Levels.{all_limits}
+use Rattle.nc_expressions.specs.Limits.{all_limits}
 use Rattle.nc_expressions.specs.Machine.{Reading, read}
 use Rattle.nc_expressions.specs.Value.{◌>>=◌}
 

@@ -9,7 +9,8 @@ use Rattle.nc_expressions.specs.declared.levels.Level.TheVariants.{Plain}
 use Rattle.nc_expressions.specs.declared.symbols.Symbol.{Symbol}
 use Rattle.nc_expressions.specs.declared.symbols.Symbol.TheVariants as symbol
 use Rattle.nc_expressions.specs.Tree.{Tree, Number, Parameter, Indexed, Unary, Binary}
-use Rattle.nc_expressions.specs.Levels.{Limits, all_limits, connecting, has_room, rank, kind, together}
+use Rattle.nc_expressions.specs.Levels.{connecting, rank, kind, together}
+use Rattle.nc_expressions.specs.Limits.{Limits, all_limits, has_room}
 use Rattle.nc_expressions.specs.Symbols.{truth, index_of}
 
 -- an expression as it is written

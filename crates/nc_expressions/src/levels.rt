@@ -1,7 +1,8 @@
 //! How tightly operators bind, and what may stand at one level outside brackets.
 
 ghost use Rattle.std.specs.Prelude.{◌≡◌};
-ghost use Rattle.nc_expressions.specs.Levels.{all_limits, rank, kind, together, clash};
+ghost use Rattle.nc_expressions.specs.Levels.{rank, kind, together, clash};
+ghost use Rattle.nc_expressions.specs.Limits.{all_limits};
 
 use crate::trees::BinaryOp;
 

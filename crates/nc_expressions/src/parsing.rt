@@ -4,7 +4,7 @@ ghost use Rattle.std.specs.Prelude.{◌≡◌, ℕ, ◌<◌, ◌≤◌, List, �
 ghost use Rattle.block_scanner.specs.Scanned.{IsScanned};
 ghost use Rattle.nc_expressions.specs.declared.symbols.Symbol.{Symbol};
 ghost use Rattle.nc_expressions.specs.Fronts.{Found, Broken};
-ghost use Rattle.nc_expressions.specs.Levels.{all_limits};
+ghost use Rattle.nc_expressions.specs.Limits.{all_limits};
 ghost use Rattle.nc_expressions.specs.Machine.{read};
 ghost use Rattle.nc_expressions.specs.Parsing.{Reads, expr_at, GivesExpr, sign_of, is_exponent, plain_number, number_at, constant_at, GivesConstant};
 ghost use Rattle.nc_expressions.specs.Symbols.{symbols_of};

@@ -2,7 +2,8 @@
 
 ghost use Rattle.std.specs.Prelude.{◌≡◌};
 ghost use Rattle.nc_expressions.specs.Tree.{tree_of};
-ghost use Rattle.nc_expressions.specs.Levels.{all_limits, rank, together, clash, kind};
+ghost use Rattle.nc_expressions.specs.Levels.{rank, together, clash, kind};
+ghost use Rattle.nc_expressions.specs.Limits.{all_limits};
 ghost use Rattle.nc_expressions.specs.Machine.{On, ended, step, finish, opened, on_sign, on_operand, on_index, on_argument, on_operator, on_close, on_close_bracket, on_other, on_ended, with_parameter, with_prefix, join, attach};
 ghost use Rattle.nc_expressions.specs.Stack.{stack_of, state_of, Steps};
 

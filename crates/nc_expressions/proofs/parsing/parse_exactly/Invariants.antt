@@ -1,5 +1,5 @@
 use Rattle.std.proofs.Common.{◌≡◌, ◌≤◌, ◌-◌, length, drop}
-use Rattle.nc_expressions.specs.Levels.{all_limits}
+use Rattle.nc_expressions.specs.Limits.{all_limits}
 use Rattle.nc_expressions.specs.Machine.{run, read}
 use Rattle.nc_expressions.specs.Stack.{stack_of, state_of}
 use Rattle.nc_expressions.specs.Symbols.{symbols_of}
