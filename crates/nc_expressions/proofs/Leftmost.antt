@@ -1,6 +1,7 @@
--- Where no expression goes on, and what every answer of a reading says.
+-- Where no expression goes on, and which refusal this is.
 use Rattle.std.proofs.Common.{◌≡◌, ℕ, pos, Bool, true, false, ◌⊎◌, ◌<◌, List, [], ◌∷◌, ◌++◌, refl, ap, sym, ◌∙◌, subst, Ok, Err, IsSome, inl, inr, arith, rules}
 use Rattle.std.proofs.lemmas.List.{append_assoc, append-nil}
+use Rattle.nc_expressions.specs.declared.trees.UnaryOp.{UnaryOp}
 use Rattle.nc_expressions.specs.declared.trees.BinaryOp.TheVariants.{Add, Sub}
 use Rattle.nc_expressions.specs.declared.levels.Level.{Level}
 use Rattle.nc_expressions.specs.declared.levels.Level.TheVariants.{Plain}
@@ -15,7 +16,7 @@ use Rattle.nc_expressions.specs.Fronts.{IsFrontUnder, BeginsExpressionUnder, May
 use Rattle.nc_expressions.specs.Machine.{Stack, State, at_last, finish, Wants, WantsIndex, WantsArgument, Has, Next, On, Ends, Refuse, step, run, go_on, read}
 use Rattle.nc_expressions.proofs.LevelLaws.{some_is, rank_small}
 use Rattle.nc_expressions.proofs.Complete.{complete}
-use Rattle.nc_expressions.proofs.Softer.{limits_of, soft_state, Softened, Stays, Gives, soft_step, EndsWith, end_code}
+use Rattle.nc_expressions.proofs.Softer.{limits_of, soft, soft_state, Softened, Stays, Gives, soft_step, EndsWith, end_code}
 use Rattle.nc_expressions.proofs.Sound.{PlusBefore, MinusBefore, NotBefore, LeftOf, Within, Parts, written, LooseThan, Good, Operand, Stands, After, step_stands, starts, positive, negative, not_of, both_of, plain_operand}
 
 -- an operand binds tightly enough for what waits for it
@@ -108,13 +109,29 @@ begins_index lim g lv good =
     let c = completes lim g x lv (plain_operand lim g x lv good refl zero_is_index) (takes_tight g x refl) in
     (c.0, (symbol.Number (pos 0) ∷ []) ++ c.1, c.2, append_assoc (written g) (symbol.Letter ∷ []) ((symbol.Number (pos 0) ∷ []) ++ c.1) ∙ c.3)
 
-may_go_on : (ss : List Symbol) (state : State) → Stands all_limits ss state → MayGoOn ss
-may_go_on ss (Wants st lv) h =
+-- behind the name of a function, where any number of parentheses may be open
+begins_argument : (f : UnaryOp) (g : Parts) (lv : Level) → Good any_nesting g lv → BeginsExpressionUnder any_nesting (written g ++ (symbol.Function f ∷ []))
+begins_argument f g lv good =
+    let inner : Parts = Within (Argument f) lv ∷ g in
+    let x : Syntax = Constant (pos 0) in
+    let c = completes any_nesting inner x Plain (plain_operand any_nesting inner x Plain (refl, refl, good) refl tt) tt in
+    let rest : List Symbol = spelling x ++ c.1 in (
+      c.0,
+      symbol.Open ∷ rest,
+      c.2,
+      append_assoc (written g) (symbol.Function f ∷ []) (symbol.Open ∷ rest)
+          ∙ sym (append_assoc (written g) (symbol.Function f ∷ (symbol.Open ∷ [])) rest) ∙ c.3,
+    )
+
+may_go_on : (ss : List Symbol) (state : State) → Stands all_limits ss state → Stands any_nesting ss (soft_state any_nesting state) → MayGoOn ss
+may_go_on ss (Wants st lv) h n =
     let P : List Symbol → Type 0 = λ k. BeginsExpressionUnder all_limits k in inl (subst P h.3 (begins all_limits h.0 lv h.2))
-may_go_on ss (WantsIndex st lv) h =
+may_go_on ss (WantsIndex st lv) h n =
     let P : List Symbol → Type 0 = λ k. BeginsExpressionUnder all_limits k in inl (subst P h.3 (begins_index all_limits h.0 lv h.2))
-may_go_on ss (WantsArgument f st lv) h = inr (written h.0, f, sym h.3, begins all_limits h.0 lv h.2)
-may_go_on ss (Has t st lv) h =
+may_go_on ss (WantsArgument f st lv) h n =
+    let P : List Symbol → Type 0 = λ k. BeginsExpressionUnder any_nesting k in
+    inr (written h.0, f, sym h.3, begins all_limits h.0 lv h.2, subst P n.3 (begins_argument f n.0 (soft any_nesting lv) n.2))
+may_go_on ss (Has t st lv) h n =
     let c = completes all_limits h.0 h.1 lv h.4 (takes_loose h.0 h.1 h.5) in
     let P : List Symbol → Type 0 = λ k. BeginsExpressionUnder all_limits k in
     inl (subst P h.7 (c.0, c.1, c.2, append_assoc (written h.0) (spelling h.1) c.1 ∙ c.3))
@@ -239,7 +256,7 @@ broken_step s ss rest state code (Refuse c) e runs again h =
       s,
       rest,
       refl,
-      may_go_on ss state runs.stands,
+      may_go_on ss state runs.stands runs.nesting.0,
       not_front all_limits ss s state code runs.leads e',
       both_codes code (IsFrontUnder any_nesting front) (IsFrontUnder any_mixture front)
           (nesting_code code (IsFrontUnder any_nesting front) (along_refused false true ss s state code e' runs.nesting))
@@ -256,7 +273,7 @@ broken : (rest ss : List Symbol) (state : State) (code : ℕ) → Runs ss state 
 unfolding run
 broken [] ss state code runs h =
     let P : List Symbol → Type 0 = λ k. MayGoOn k in
-    inr (subst P (sym (append-nil ss)) (may_go_on ss state runs.stands), no_expression all_limits ss state code runs.leads h, stop_code (finish state) code (end_code state) h)
+    inr (subst P (sym (append-nil ss)) (may_go_on ss state runs.stands runs.nesting.0), no_expression all_limits ss state code runs.leads h, stop_code (finish state) code (end_code state) h)
 broken (s ∷ rest) ss state code runs h =
     broken_step s ss rest state code (step all_limits state s) refl runs
     (λ (next : State) (r : Runs (ss ++ (s ∷ [])) next) (e : run all_limits rest next ≡ Err code). broken rest (ss ++ (s ∷ [])) next code r e) h

@@ -27,12 +27,13 @@ BeginsExpressionUnder limits symbols = (x : Syntax) × (more : List Symbol) × I
 abbrev pub BeginsExpression : List Symbol → Type 0
 BeginsExpression symbols = BeginsExpressionUnder all_limits symbols
 
--- some expression begins so, or but for the name of a function at the end: where too many parentheses are open for those
--- of the function, the place of the refusal is its parenthesis and not its name
+-- some expression begins so, or would if any number of parentheses could be open, where only the name of a function at the
+-- end is too much: then its parenthesis is the place of the refusal, and not its name
 abbrev pub MayGoOn : List Symbol → Type 0
 MayGoOn symbols =
     BeginsExpression symbols
-    ⊎ ((before : List Symbol) × (f : UnaryOp) × (symbols ≡ before ++ (symbol.Function f ∷ [])) × BeginsExpression before)
+    ⊎ ((before : List Symbol) × (f : UnaryOp) ×
+    (symbols ≡ before ++ (symbol.Function f ∷ [])) × BeginsExpression before × BeginsExpressionUnder any_nesting symbols)
 
 -- the code of a place at which no expression goes on: 26 where one goes on but for the number of parentheses, 23 where one goes
 -- on but for a comparison beside AND, OR, XOR or NOT, else 22

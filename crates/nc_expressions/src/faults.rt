@@ -9,7 +9,7 @@ use thiserror::Error;
 #[derive(Clone, Copy, Debug, PartialEq, Eq, Error)]
 pub enum SyntaxFault {
     /// The line is refused with this code.
-    #[error("refused")]
+    #[error("refused with code {0}")]
     Refused(u16),
     /// Memory was wanted and not found.
     #[error("out of memory")]
