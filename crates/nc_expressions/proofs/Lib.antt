@@ -1,0 +1,10 @@
+pub mod Alarms
+pub mod Beginnings
+pub mod Complete
+pub mod Leftmost
+pub mod LevelLaws
+pub mod Parsed
+pub mod Runs
+pub mod Softer
+pub mod Sound
+pub mod Stacks

@@ -1,0 +1,10 @@
+pub mod Fronts
+pub mod Levels
+pub mod Limits
+pub mod Machine
+pub mod Parsing
+pub mod Stack
+pub mod Symbols
+pub mod Syntax
+pub mod Tree
+pub mod Value

@@ -1,0 +1,88 @@
+-- The value of an expression, or its first alarm from left to right.
+use Rattle.std.specs.Prelude.{◌^◌, ℕ, ℤ, pos, Bool, true, false, not, ◌&&◌, ◌||◌, Option, Some, None, Result, Ok, Err, nat_lt, int_lt, if◌then◌else◌, ◌+ℤ◌, ◌-ℤ◌, neg_ℤ}
+use Rattle.std.specs.Ordering.{int_eq}
+use Rattle.std.specs.Int.RustNames.{unsigned_abs}
+use Rattle.micro_units.specs.Arithmetic.{product, quotient, whole_quotient, remainder, square_root, whole_part, nearest_whole}
+use Rattle.micro_units.specs.declared.Num.{Num}
+use Rattle.micro_units.specs.declared.NumFault.{NumFault}
+use Rattle.micro_units.specs.declared.NumFault.TheVariants.{NotANumber, TooLarge, DivideByZero, NegativeRoot}
+use Rattle.nc_expressions.specs.declared.trees.UnaryOp.{UnaryOp}
+use Rattle.nc_expressions.specs.declared.trees.UnaryOp.TheVariants.{Minus, Not, Abs, Sqrt, Pot, Trunc, Round}
+use Rattle.nc_expressions.specs.declared.trees.BinaryOp.{BinaryOp}
+use Rattle.nc_expressions.specs.declared.trees.BinaryOp.TheVariants.{Add, Sub, Mul, Div, WholeDiv, Modulo, And, Or, Xor, Equal, NotEqual, Greater, Less, GreaterEqual, LessEqual}
+use Rattle.nc_expressions.specs.Symbols.{truth, index_of}
+use Rattle.nc_expressions.specs.Tree.{Tree, Number, Parameter, Indexed, Unary, Binary}
+
+infixl 10 ◌>>=◌
+abbrev pub ◌>>=◌ : {A B : Type 0} → Result A ℕ → (A → Result B ℕ) → Result B ℕ
+Ok x >>= f = f x
+Err alarm >>= f = Err alarm
+
+-- alarm 1 where a result is out of range
+unfoldable pub checked : ℤ → Result ℤ ℕ
+checked z = if nat_lt (unsigned_abs z) (10 ^ 14) then Ok z else Err 1
+
+-- alarm 2 where the divisor is 0
+unfoldable pub divided : ℤ → Result ℤ ℕ → Result ℤ ℕ
+divided divisor value = if int_eq divisor (pos 0) then Err 2 else value
+
+-- alarm 3 where the root of a negative number is asked for
+unfoldable pub rooted : ℤ → Result ℤ ℕ
+rooted z = if int_lt z (pos 0) then Err 3 else Ok (square_root z)
+
+-- a number other than 0 counts as true
+abbrev pub is_true : ℤ → Bool
+is_true z = not (int_eq z (pos 0))
+
+-- one of the two, and not both
+abbrev pub either : Bool → Bool → Bool
+either true b = not b
+either false b = b
+
+unfoldable pub unary_value : UnaryOp → ℤ → Result ℤ ℕ
+unary_value Minus z = Ok (neg_ℤ z)
+unary_value Not z = Ok (truth (not (is_true z)))
+unary_value Abs z = Ok (pos (unsigned_abs z))
+unary_value Sqrt z = rooted z
+unary_value Pot z = checked (product z z)
+unary_value Trunc z = Ok (whole_part z)
+unary_value Round z = checked (nearest_whole z)
+
+unfoldable pub binary_value : BinaryOp → ℤ → ℤ → Result ℤ ℕ
+binary_value Add x y = checked (x +ℤ y)
+binary_value Sub x y = checked (x -ℤ y)
+binary_value Mul x y = checked (product x y)
+binary_value Div x y = divided y (checked (quotient x y))
+binary_value WholeDiv x y = divided y (checked (whole_quotient x y))
+binary_value Modulo x y = divided y (Ok (remainder x y))
+binary_value And x y = Ok (truth (is_true x && is_true y))
+binary_value Or x y = Ok (truth (is_true x || is_true y))
+binary_value Xor x y = Ok (truth (either (is_true x) (is_true y)))
+binary_value Equal x y = Ok (truth (int_eq x y))
+binary_value NotEqual x y = Ok (truth (not (int_eq x y)))
+binary_value Greater x y = Ok (truth (int_lt y x))
+binary_value Less x y = Ok (truth (int_lt x y))
+binary_value GreaterEqual x y = Ok (truth (not (int_lt x y)))
+binary_value LessEqual x y = Ok (truth (not (int_lt y x)))
+
+-- alarm 4 where an index is not a whole number 0 to 999
+abbrev pub at_index : (ℕ → ℤ) → Option ℕ → Result ℤ ℕ
+at_index parameters (Some i) = Ok (parameters i)
+at_index parameters None = Err 4
+
+-- the value where the parameters have these values
+abbrev pub value_of : (ℕ → ℤ) → Tree → Result ℤ ℕ
+value_of parameters (Number n) = Ok n
+value_of parameters (Parameter i) = Ok (parameters i)
+value_of parameters (Indexed t) = value_of parameters t >>= λ z. at_index parameters (index_of z)
+value_of parameters (Unary op t) = value_of parameters t >>= λ z. unary_value op z
+value_of parameters (Binary op a b) =
+    value_of parameters a >>= λ x. value_of parameters b >>= λ y. binary_value op x y
+
+-- a number, or the alarm in place of its fault
+abbrev pub alarmed : Result Num NumFault → Result ℤ ℕ
+alarmed (Ok n) = Ok n
+alarmed (Err DivideByZero) = Err 2
+alarmed (Err NegativeRoot) = Err 3
+alarmed (Err TooLarge) = Err 1
+alarmed (Err NotANumber) = Err 1

@@ -1,0 +1,21 @@
+//! Expressions of part programs: their trees, read from the words of a line, and their values.
+#![tactic(auto)]
+
+mod faults;
+mod laws;
+mod levels;
+mod parsing;
+mod stack;
+mod steps;
+mod symbols;
+mod trees;
+mod values;
+
+pub use faults::SyntaxFault;
+pub use laws::one_tree_at_most;
+pub use parsing::{parse_constant, parse_expr};
+pub use trees::{BinaryOp, Expr, UnaryOp};
+pub use values::{Names, eval};
+
+#[cfg(test)]
+mod tests;
