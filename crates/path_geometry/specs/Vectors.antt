@@ -1,0 +1,16 @@
+-- Vectors of the plane with whole parts.
+use Rattle.std.specs.Prelude.{ℕ, ℤ, pos, ◌+◌, ◌*◌, ◌-ℤ◌, ◌*ℤ◌}
+use Rattle.std.specs.Int.RustNames.{unsigned_abs}
+
+-- its parts along the first and the second axis of the plane
+pub record Vector : Type 0 where
+  pub u : ℤ
+  pub v : ℤ
+
+-- above 0 where b lies less than half a turn ahead of a, seen from the first axis towards the second
+abbrev pub cross : Vector → Vector → ℤ
+cross a b = (a.u *ℤ b.v) -ℤ (a.v *ℤ b.u)
+
+-- the square of its length
+abbrev pub square : Vector → ℕ
+square a = unsigned_abs a.u * unsigned_abs a.u + unsigned_abs a.v * unsigned_abs a.v
