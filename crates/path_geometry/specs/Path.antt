@@ -41,8 +41,9 @@ pub record IsOnRapid (ends : EndsView) (point : Point) : Type 0 where
 -- the point in the plane of the arc, seen from its centre; its parts are fractions over the point's number
 abbrev pub point_seen : Arc → Point → Vector
 point_seen arc point = record {
-    u = point.top arc.first -ℤ (arc.centre.0 *ℤ pos point.under);
-    v = point.top arc.second -ℤ (arc.centre.1 *ℤ pos point.under) }
+  u = point.top arc.first -ℤ (arc.centre.0 *ℤ pos point.under);
+  v = point.top arc.second -ℤ (arc.centre.1 *ℤ pos point.under);
+}
 
 -- p lies in the sector that a turn from s to e sweeps: up to half a turn it is ahead of s and behind e, beyond that one of the two
 pub record IsSwept (s e p : Vector) : Type 0 where
