@@ -1,0 +1,4 @@
+pub mod SectorSigns
+pub mod Turns
+pub mod Walk
+pub mod Reaches

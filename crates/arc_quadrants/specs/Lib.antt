@@ -1,0 +1,5 @@
+pub mod Bounds
+pub mod Halves
+pub mod Quadrants
+pub mod Quarters
+pub mod Vectors
