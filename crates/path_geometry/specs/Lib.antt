@@ -1,0 +1,5 @@
+pub mod Arcs
+pub mod Ends
+pub mod Motions
+pub mod Path
+pub mod Vectors
