@@ -5,7 +5,7 @@ use Rattle.std.proofs.lemmas.Int.{ints}
 use Rattle.std.specs.Prelude.{ℤ, pos, negsuc, neg_ℤ, ◌≤ℤ◌}
 use Rattle.number_laws.proofs.Ring.{var, minus, times, negate, ring}
 use Rattle.arc_quadrants.specs.Quadrants.{turned_back, begin_quadrant, end_quadrant}
-use Rattle.arc_quadrants.specs.Vectors.{Vector, cross, square}
+use Rattle.path_geometry.specs.Vectors.{Vector, cross, square}
 
 -- turning keeps the cross product
 pub cross_turned : (j : ℕ) (r t : Vector) → cross (turned_back j r) (turned_back j t) ≡ cross r t

@@ -7,7 +7,8 @@ use Rattle.number_laws.proofs.Integers.{sign_of, nonneg-*ℤ, nonneg-pos}
 use Rattle.number_laws.proofs.Ring.{var, minus, times, negate, ring}
 use Rattle.arc_quadrants.specs.Quadrants.{turned_back}
 use Rattle.arc_quadrants.specs.Quarters.{entered}
-use Rattle.arc_quadrants.specs.Vectors.{Vector, cross, IsSwept}
+use Rattle.path_geometry.specs.Path.{IsSwept}
+use Rattle.path_geometry.specs.Vectors.{Vector, cross}
 use Rattle.arc_quadrants.proofs.SectorSigns.{not_below, not_below_left, ahead_above, behind_below, not_right, not_above, right_within, above_within}
 use Rattle.arc_quadrants.proofs.Turns.{cross_turned}
 

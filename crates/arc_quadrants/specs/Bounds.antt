@@ -1,8 +1,16 @@
 -- The bounds of the part of a ring between two directions of quadrant 0.
-use Rattle.std.specs.Prelude.{ℕ, ◌+◌, ◌-◌, ◌*◌, ◌/◌, ◌<◌, ◌≤◌}
+use Rattle.std.specs.Prelude.{ℕ, pos, ◌+◌, ◌-◌, ◌*◌, ◌/◌, ◌<◌, ◌≤◌}
 use Rattle.micro_units.specs.Root.{floor_root, ceil_root}
+use Rattle.number_laws.specs.Fractions.{IsIn}
+use Rattle.path_geometry.specs.Vectors.{Vector}
 
--- the square of a direction's length
+-- a direction of quadrant 0: its parts along the two axes, not both 0 and each below 2 ^ 29
+pub record IsDirection (d : ℕ × ℕ) : Type 0 where
+  pub some : 0 < d.0 + d.1
+  pub first : d.0 < 536870912
+  pub second : d.1 < 536870912
+
+-- the square of its length
 abbrev pub length_square : ℕ × ℕ → ℕ
 length_square d = d.0 * d.0 + d.1 * d.1
 
@@ -33,7 +41,13 @@ pub record Bounds : Type 0 where
 
 abbrev pub bounds_between : ℕ → ℕ → ℕ × ℕ → ℕ × ℕ → Bounds
 bounds_between inner outer from to = record {
-    u_low = reach_down inner to.0 (length_square to);
-    u_high = reach_up outer from.0 (length_square from);
-    v_low = reach_down inner from.1 (length_square from);
-    v_high = reach_up outer to.1 (length_square to) }
+  u_low = reach_down inner to.0 (length_square to);
+  u_high = reach_up outer from.0 (length_square from);
+  v_low = reach_down inner from.1 (length_square from);
+  v_high = reach_up outer to.1 (length_square to);
+}
+
+-- the vector p over n lies within the bounds
+pub record IsBound (bounds : Bounds) (p : Vector) (n : ℕ) : Type 0 where
+  pub on_u : IsIn (pos bounds.u_low) (pos bounds.u_high) p.u n
+  pub on_v : IsIn (pos bounds.v_low) (pos bounds.v_high) p.v n

@@ -2,4 +2,3 @@ pub mod Bounds
 pub mod Halves
 pub mod Quadrants
 pub mod Quarters
-pub mod Vectors

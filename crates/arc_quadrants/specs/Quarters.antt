@@ -3,7 +3,7 @@ use Rattle.std.specs.Prelude.{ℕ, zero, suc, ◌+◌, ◌-◌, ◌%◌, ◌==�
 use Rattle.std.specs.Int.RustNames.{int_lt, unsigned_abs}
 use Rattle.std.specs.List.{range_with_len}
 use Rattle.arc_quadrants.specs.Quadrants.{turned_back, begin_quadrant, end_quadrant}
-use Rattle.arc_quadrants.specs.Vectors.{Vector, cross}
+use Rattle.path_geometry.specs.Vectors.{Vector, cross}
 use Rattle.arc_quadrants.specs.declared.Quarter.{Quarter}
 
 -- how many quadrants are entered, by how many lie between the first and the last, and by whether the end is ahead of the start
