@@ -6,3 +6,4 @@ pub mod ReachLaws
 pub mod HalfLaws
 pub mod QuarterLaws
 pub mod BoundLaws
+pub mod SoundArcs

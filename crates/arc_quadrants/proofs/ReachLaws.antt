@@ -16,7 +16,7 @@ floor_root-next n = at_order (le_or_lt ((floor_root n + 1) * (floor_root n + 1))
     at_order (inl le) = let more : floor_root n + 1 ≤ floor_root n = floor_root-greatest n (floor_root n + 1) le in absurd (omega arith)
     at_order (inr less) = less
 
-ceil_root-enough : (n : ℕ) → n ≤ ceil_root n * ceil_root n
+pub ceil_root-enough : (n : ℕ) → n ≤ ceil_root n * ceil_root n
 unfolding ceil_root
 ceil_root-enough n =
     cond_both (floor_root n * floor_root n == n) (floor_root n) (floor_root n + 1) (λ r. n ≤ r * r)
@@ -26,7 +26,7 @@ ceil_root-enough n =
 below_square : (k r n : ℕ) → k < r → r * r ≤ n → k * k < n
 below_square k r n less low = let next : k + 1 ≤ r = omega arith in omega (arith, mul-le-mul next next)
 
-ceil_root-least : (n k : ℕ) → k < ceil_root n → k * k < n
+pub ceil_root-least : (n k : ℕ) → k < ceil_root n → k * k < n
 unfolding ceil_root
 ceil_root-least n =
     cond_both (floor_root n * floor_root n == n) (floor_root n) (floor_root n + 1) (λ r. (k : ℕ) → k < r → k * k < n)
