@@ -15,7 +15,7 @@ use Rattle.arc_quadrants.proofs.HalfLaws.{IsAmong, IsMix, some_half, halves_with
 use Rattle.arc_quadrants.proofs.QuarterLaws.{direction, direction_sizes, LiesIn, RunsAhead, sector_covered, from_near, to_near}
 use Rattle.arc_quadrants.proofs.ReachLaws.{reach_down_is, reach_up_is}
 use Rattle.arc_quadrants.proofs.Reaches.{upper, lower, slope, up_mono, down_mono}
-use Rattle.arc_quadrants.proofs.Walk.{IsWithin, IsReached}
+use Rattle.arc_quadrants.proofs.Sectors.{IsWithin, IsReached}
 
 pub some_length : (d : ℕ × ℕ) → 0 < d.0 + d.1 → 0 < length_square d
 some_length d h = omega (arith, square_above d.0, square_above d.1)
@@ -35,15 +35,15 @@ bounded inner outer n d x y among some_a some_b beyond within =
     let b = d.1 in
     let bounds = bounds_between inner outer a b in
     let u_low : bounds.u_low * n ≤ x =
-        lower b.0 b.1 x y inner bounds.u_low n among.behind (omega arith) (reach_down_is inner b.0 (length_square b) some_b).at_most some_b in
+    lower b.0 b.1 x y inner bounds.u_low n among.behind (omega arith) (reach_down_is inner b.0 (length_square b) some_b).at_most some_b in
     let u_high : x ≤ bounds.u_high * n =
-        upper a.0 a.1 x y outer bounds.u_high n among.ahead (omega arith) (reach_up_is outer a.0 (length_square a) some_a).at_least some_a in
+    upper a.0 a.1 x y outer bounds.u_high n among.ahead (omega arith) (reach_up_is outer a.0 (length_square a) some_a).at_least some_a in
     let v_low : bounds.v_low * n ≤ y =
-        lower a.1 a.0 y x inner bounds.v_low n (omega (arith, among.ahead)) (omega arith)
-        (sides_at_most bounds.v_low a.0 a.1 ((inner * inner) * (a.1 * a.1)) (reach_down_is inner a.1 (length_square a) some_a).at_most) (omega arith) in
+    lower a.1 a.0 y x inner bounds.v_low n (omega (arith, among.ahead)) (omega arith)
+    (sides_at_most bounds.v_low a.0 a.1 ((inner * inner) * (a.1 * a.1)) (reach_down_is inner a.1 (length_square a) some_a).at_most) (omega arith) in
     let v_high : y ≤ bounds.v_high * n =
-        upper b.1 b.0 y x outer bounds.v_high n (omega (arith, among.behind)) (omega arith)
-        (sides_at_least bounds.v_high b.0 b.1 ((outer * outer) * (b.1 * b.1)) (reach_up_is outer b.1 (length_square b) some_b).at_least) (omega arith) in
+    upper b.1 b.0 y x outer bounds.v_high n (omega (arith, among.behind)) (omega arith)
+    (sides_at_least bounds.v_high b.0 b.1 ((outer * outer) * (b.1 * b.1)) (reach_up_is outer b.1 (length_square b) some_b).at_least) (omega arith) in
     record {
       on_u = record { above = omega (arith, ints); below = omega (arith, ints) };
       on_v = record { above = omega (arith, ints); below = omega (arith, ints) };
@@ -93,7 +93,10 @@ held_by depth inner outer n x y a b some_a some_b among beyond within = at_part 
     at_part : Any (IsAmong x y) (halves depth a b) → Any (λ d. IsBound (bounds_between inner outer d.0 d.1) (direction (x, y)) n) (halves depth a b)
     at_part (k, d, less, at, is) =
         let mixed : IsMix a b d.0 × IsMix a b d.1 = subst (λ (h : (ℕ × ℕ) × (ℕ × ℕ)). IsMix a b h.0 × IsMix a b h.1) at (halves_within depth a b k d less) in (
-          k, d, less, at,
+          k,
+          d,
+          less,
+          at,
           bounded inner outer n d x y is (some_length d.0 (mix_some a b d.0 some_a some_b mixed.0)) (some_length d.1 (mix_some a b d.1 some_a some_b mixed.1)) beyond within,
         )
 
@@ -125,9 +128,10 @@ sector_held depth inner outer s e p n some_s some_e some_outer reached beyond wi
     at_quarter (place, less, is) =
         let q = quarter_at outer s e place in
         let same : square (turned_back q.turn p) ≡ square p = square_turned q.turn p in (
-          place, less,
+          place,
+          less,
           held_at depth inner outer n q.from q.to (turned_back q.turn p) (from_some outer s e place some_s some_outer) (to_some outer s e place some_e some_outer) is
-            (subst (λ (m : ℕ). (inner * n) * (inner * n) ≤ m) (sym same) beyond) (subst (λ (m : ℕ). m ≤ (outer * n) * (outer * n)) (sym same) within),
+              (subst (λ (m : ℕ). (inner * n) * (inner * n) ≤ m) (sym same) beyond) (subst (λ (m : ℕ). m ≤ (outer * n) * (outer * n)) (sym same) within),
         )
 
 -- ---- the bounds of a part lie within those of the quarter

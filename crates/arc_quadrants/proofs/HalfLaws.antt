@@ -1,11 +1,11 @@
 -- Parts of a quarter: some part holds what the quarter holds, and each part lies between the quarter's directions.
-use Rattle.std.proofs.Common.{◌≡◌, ◌∙◌, ◌+◌, ◌-◌, ◌*◌, ◌^◌, ◌<◌, ◌≤◌, ◌⊎◌, ℕ, zero, suc, inl, inr, List, [], ◌∷◌, ◌++◌, length, get_or, refl, ap, sym, subst, arith, length-append}
+use Rattle.std.proofs.Common.{◌≡◌, ◌∙◌, ◌+◌, ◌-◌, ◌*◌, ◌^◌, ◌<◌, ◌≤◌, ◌⊎◌, ℕ, zero, suc, inl, inr, List, [], ◌∷◌, ◌++◌, Some, length, get_or, refl, ap, sym, subst, arith, length-append, pow-suc}
 use Rattle.std.proofs.Math.Nat.{mul-le-mul_left}
 use Rattle.std.proofs.lemmas.List.{get_or_append_left, get_or-append-add}
 use Rattle.std.proofs.lemmas.List.Elements.{All-nil, All-cons, All-append}
-use Rattle.std.specs.List.{All, Any}
+use Rattle.std.specs.List.{All, Any, slice_get}
 use Rattle.number_laws.proofs.Naturals.{le_or_lt}
-use Rattle.arc_quadrants.specs.Halves.{middle, halves}
+use Rattle.arc_quadrants.specs.Halves.{middle, halves, IsShort}
 
 -- (x, y) lies between two directions
 pub record IsAmong (x y : ℕ) (d : (ℕ × ℕ) × (ℕ × ℕ)) : Type 0 where
@@ -73,3 +73,91 @@ pub length-halves : (depth : ℕ) (a b : ℕ × ℕ) → length (halves depth a 
 length-halves zero a b = refl
 length-halves (suc depth) a b =
     omega (arith, length-append (halves depth a (middle a b)) (halves depth (middle a b) b), length-halves depth a (middle a b), length-halves depth (middle a b) b)
+
+-- ---- one part as the code meets it
+pub few_parts : (depth : ℕ) → depth ≤ 4 → 2 ^ depth ≤ 16
+few_parts zero h = omega arith
+few_parts (suc zero) h = omega arith
+few_parts (suc (suc zero)) h = omega arith
+few_parts (suc (suc (suc zero))) h = omega arith
+few_parts (suc (suc (suc (suc zero)))) h = omega arith
+few_parts (suc (suc (suc (suc (suc n))))) h = absurd (omega arith)
+
+-- the whole quarter
+pub part_none : (depth : ℕ) (a b : ℕ × ℕ) (place : ℕ) → depth ≡ 0 → place < 2 ^ depth → slice_get (halves depth a b) place ≡ Some (a, b)
+part_none zero a b zero e h = refl
+part_none zero a b (suc place) e h = absurd (omega arith)
+part_none (suc depth) a b place e h = absurd (omega arith)
+
+get_left : {X : Type 0} (xs ys : List X) (k : ℕ) (x : X) → slice_get xs k ≡ Some x → slice_get (xs ++ ys) k ≡ Some x
+get_left [] ys k x h = absurd (cc)
+get_left (y ∷ xs) ys zero x h = h
+get_left (y ∷ xs) ys (suc k) x h = get_left xs ys k x h
+
+get_right : {X : Type 0} (xs ys : List X) (n k : ℕ) → length xs ≡ n → n ≤ k → slice_get (xs ++ ys) k ≡ slice_get ys (k - n)
+get_right [] ys n k e h = let z : k - n ≡ k = omega arith in rw z refl
+get_right (y ∷ xs) ys n zero e h = absurd (omega arith)
+get_right (y ∷ xs) ys n (suc k) e h =
+    let z : suc k - n ≡ k - (n - 1) = omega arith in rw z (get_right xs ys (n - 1) k (omega arith) (omega arith))
+
+part_left_suc : (depth : ℕ) (a b : ℕ × ℕ) (place : ℕ) (r : (ℕ × ℕ) × (ℕ × ℕ)) → slice_get (halves depth a (middle a b)) place ≡ Some r
+    → slice_get (halves (suc depth) a b) place ≡ Some r
+part_left_suc depth a b place r h = get_left (halves depth a (middle a b)) (halves depth (middle a b) b) place r h
+
+part_right_suc : (depth : ℕ) (a b : ℕ × ℕ) (place : ℕ) (r : (ℕ × ℕ) × (ℕ × ℕ)) → 2 ^ depth ≤ place
+    → slice_get (halves depth (middle a b) b) (place - 2 ^ depth) ≡ Some r → slice_get (halves (suc depth) a b) place ≡ Some r
+part_right_suc depth a b place r h e =
+    get_right (halves depth a (middle a b)) (halves depth (middle a b) b) (2 ^ depth) place (length-halves depth a (middle a b)) h ∙ e
+
+pub part_left : (depth half : ℕ) (a b m : ℕ × ℕ) (place : ℕ) (r : (ℕ × ℕ) × (ℕ × ℕ)) → (depth ≡ 0 → ⊥) → m ≡ middle a b
+    → slice_get (halves (depth - 1) a m) place ≡ Some r → slice_get (halves depth a b) place ≡ Some r
+part_left zero half a b m place r some e h = absurd (some refl)
+part_left (suc depth) half a b m place r some e h =
+    let one : suc depth - 1 ≡ depth = omega arith in
+    part_left_suc depth a b place r
+    (subst (λ (n : ℕ). slice_get (halves n a (middle a b)) place ≡ Some r) one (subst (λ (c : ℕ × ℕ). slice_get (halves (suc depth - 1) a c) place ≡ Some r) e h))
+
+pub part_right : (depth half : ℕ) (a b m : ℕ × ℕ) (place : ℕ) (r : (ℕ × ℕ) × (ℕ × ℕ)) → (depth ≡ 0 → ⊥) → m ≡ middle a b
+    → half ≡ 2 ^ (depth - 1) → half ≤ place → slice_get (halves (depth - 1) m b) (place - half) ≡ Some r → slice_get (halves depth a b) place ≡ Some r
+part_right zero half a b m place r some e f le h = absurd (some refl)
+part_right (suc depth) half a b m place r some e f le h =
+    let one : suc depth - 1 ≡ depth = omega arith in
+    let is : half ≡ 2 ^ depth = f ∙ ap (λ (n : ℕ). 2 ^ n) one in
+    part_right_suc depth a b place r (omega arith)
+    (subst (λ (n : ℕ). slice_get (halves depth (middle a b) b) (place - n) ≡ Some r) is
+    (subst (λ (n : ℕ). slice_get (halves n (middle a b) b) (place - half) ≡ Some r) one
+    (subst (λ (c : ℕ × ℕ). slice_get (halves (suc depth - 1) c b) (place - half) ≡ Some r) e h)))
+
+-- what is short enough for a depth stays so at the next one
+short_less : (n : ℕ) (p : ℕ) → p * 2 ^ suc n < 536870912 → p * 2 ^ n < 536870912
+short_less n p h = let e = pow-suc 2 n in omega (arith, ap (λ (m : ℕ). p * m) e)
+
+pub short_from : (depth : ℕ) (a : ℕ × ℕ) → (depth ≡ 0 → ⊥) → IsShort depth a → IsShort (depth - 1) a
+short_from zero a some short = absurd (some refl)
+short_from (suc depth) a some short =
+    let one : suc depth - 1 ≡ depth = omega arith in
+    subst (λ (n : ℕ). IsShort n a) (sym one)
+    (record {
+      first = short_less depth a.0 short.first;
+      second = short_less depth a.1 short.second;
+    })
+
+sum_short : (n p q : ℕ) → p * 2 ^ suc n < 536870912 → q * 2 ^ suc n < 536870912 → (p + q) * 2 ^ n < 536870912
+sum_short n p q h k = let e = pow-suc 2 n in omega (arith, ap (λ (m : ℕ). p * m) e, ap (λ (m : ℕ). q * m) e)
+
+pub short_middle : (depth : ℕ) (a b m : ℕ × ℕ) → (depth ≡ 0 → ⊥) → m ≡ middle a b → IsShort depth a → IsShort depth b → IsShort (depth - 1) m
+short_middle zero a b m some e p q = absurd (some refl)
+short_middle (suc depth) a b m some e p q =
+    let one : suc depth - 1 ≡ depth = omega arith in
+    subst (λ (n : ℕ). IsShort n m) (sym one)
+    (subst (λ (c : ℕ × ℕ). IsShort depth c) (sym e)
+    (record { first = sum_short depth a.0 b.0 p.first q.first; second = sum_short depth a.1 b.1 p.second q.second }))
+
+pub second_half : (depth place half : ℕ) → (depth ≡ 0 → ⊥) → place < 2 ^ depth → half ≡ 2 ^ (depth - 1) → half ≤ place → place - half < 2 ^ (depth - 1)
+second_half zero place half some h e le = absurd (some refl)
+second_half (suc depth) place half some h e le =
+    let one : suc depth - 1 ≡ depth = omega arith in
+    let is : half ≡ 2 ^ depth = e ∙ ap (λ (n : ℕ). 2 ^ n) one in
+    subst (λ (n : ℕ). place - half < 2 ^ n) (sym one) (omega (arith, pow-suc 2 depth))
+
+pub ruleset part_steps = (part_none, part_left, part_right, short_from, short_middle, second_half)

@@ -1,9 +1,10 @@
 pub mod SectorSigns
 pub mod Turns
-pub mod Walk
+pub mod Sectors
 pub mod Reaches
 pub mod ReachLaws
 pub mod HalfLaws
 pub mod QuarterLaws
 pub mod BoundLaws
 pub mod SoundArcs
+pub mod ArcLaws

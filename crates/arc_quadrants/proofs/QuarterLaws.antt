@@ -7,9 +7,9 @@ use Rattle.std.specs.Prelude.{ℤ, pos, negsuc, ◌-ℤ◌, ◌*ℤ◌, ◌≤�
 use Rattle.path_geometry.specs.Path.{IsSwept}
 use Rattle.path_geometry.specs.Vectors.{Vector, cross, square}
 use Rattle.arc_quadrants.specs.Quadrants.{turned_back, begin_quadrant, end_quadrant}
-use Rattle.arc_quadrants.specs.Quarters.{entered, quarter_count, sizes, quarter_at}
+use Rattle.arc_quadrants.specs.Quarters.{entered, quarter_count, sizes, quarter_at, IsNear}
 use Rattle.arc_quadrants.proofs.Turns.{cross_turned, turned_twice, IsBegin, IsEnd, begin_is, end_is}
-use Rattle.arc_quadrants.proofs.Walk.{IsWithin, IsReached, IsAtPlace, IsSomewhere, first_axis, second_axis, walked}
+use Rattle.arc_quadrants.proofs.Sectors.{IsWithin, IsReached, IsAtPlace, IsSomewhere, first_axis, second_axis, walked}
 
 -- a direction as a vector
 abbrev pub direction : ℕ × ℕ → Vector
@@ -35,7 +35,7 @@ walked_between q e h k = omega arith
 turned_on : (q place : ℕ) → q < 4 → (q + place % 4) % 4 ≡ (q + place) % 4
 turned_on q place h = omega arith
 
-below_four : (n : ℕ) → n % 4 < 4
+pub below_four : (n : ℕ) → n % 4 < 4
 below_four n = omega arith
 
 turned_to : (e : Vector) (q : ℕ) → q < 4 → end_quadrant e < 4
@@ -49,9 +49,9 @@ turned_reached q s e p (inr same) = inr (ap (turned_back q) same)
 turned_reached q s e p (inl swept) =
     inl (record {
       short = λ h. let b = swept.short (subst (λ (z : ℤ). pos 0 ≤ℤ z) (cross_turned q s e) h) in (
-            subst (λ (z : ℤ). pos 0 ≤ℤ z) (sym (cross_turned q s p)) b.0,
-            subst (λ (z : ℤ). pos 0 ≤ℤ z) (sym (cross_turned q p e)) b.1,
-          );
+        subst (λ (z : ℤ). pos 0 ≤ℤ z) (sym (cross_turned q s p)) b.0,
+        subst (λ (z : ℤ). pos 0 ≤ℤ z) (sym (cross_turned q p e)) b.1,
+      );
       long = λ h. one (swept.long (subst (λ (z : ℤ). z <ℤ pos 0) (cross_turned q s e) h));
     })
   where
@@ -67,21 +67,21 @@ LiesIn outer s e p place =
 
 at_place : (outer : ℕ) (s e p : Vector) (place : ℕ) → 0 < square s → 0 < square e
     → IsAtPlace outer (turned_back (begin_quadrant s) s) ((end_quadrant e + 4 - begin_quadrant s) % 4) (turned_back (begin_quadrant s) e)
-        (turned_back (begin_quadrant s) p) (quarter_count s e) place
+    (turned_back (begin_quadrant s) p) (quarter_count s e) place
     → LiesIn outer s e p place
 at_place outer s e p place some_s some_e within =
     let b = begin_is s some_s in
     let n = end_is e some_e in
     let q = begin_quadrant s in
     let first : (if place == 0 then turned_back q s else first_axis outer) ≡ direction (quarter_at outer s e place).from =
-        chosen (place == 0) (sizes (turned_back q s)) (turned_back q s) (outer, 0)
-        (direction_sizes (turned_back q s) (omega (arith, ints, b.right)) b.up) in
+    chosen (place == 0) (sizes (turned_back q s)) (turned_back q s) (outer, 0)
+    (direction_sizes (turned_back q s) (omega (arith, ints, b.right)) b.up) in
     let last : (if place + 1 == quarter_count s e then turned_back ((end_quadrant e + 4 - q) % 4) (turned_back q e) else second_axis outer)
-            ≡ direction (quarter_at outer s e place).to =
-        chosen (place + 1 == quarter_count s e) (sizes (turned_back (end_quadrant e) e)) (turned_back ((end_quadrant e + 4 - q) % 4) (turned_back q e)) (0, outer)
-        (direction_sizes (turned_back (end_quadrant e) e) n.right (omega (arith, ints, n.up)) ∙ sym (turned_to e q b.quadrant n.quadrant)) in
+    ≡ direction (quarter_at outer s e place).to =
+    chosen (place + 1 == quarter_count s e) (sizes (turned_back (end_quadrant e) e)) (turned_back ((end_quadrant e + 4 - q) % 4) (turned_back q e)) (0, outer)
+    (direction_sizes (turned_back (end_quadrant e) e) n.right (omega (arith, ints, n.up)) ∙ sym (turned_to e q b.quadrant n.quadrant)) in
     let turn : turned_back (place % 4) (turned_back q p) ≡ turned_back ((q + place) % 4) p =
-        turned_twice (place % 4) q p (below_four place) b.quadrant ∙ ap (λ (m : ℕ). turned_back m p) (turned_on q place b.quadrant) in
+    turned_twice (place % 4) q p (below_four place) b.quadrant ∙ ap (λ (m : ℕ). turned_back m p) (turned_on q place b.quadrant) in
     subst (λ (r : Vector). IsWithin (direction (quarter_at outer s e place).from) (direction (quarter_at outer s e place).to) r) turn
     (subst (λ (t : Vector). IsWithin (direction (quarter_at outer s e place).from) t (turned_back (place % 4) (turned_back q p))) last
     (subst (λ (f : Vector). IsWithin f (if place + 1 == quarter_count s e then turned_back ((end_quadrant e + 4 - q) % 4) (turned_back q e) else second_axis outer) (turned_back (place % 4) (turned_back q p))) first within))
@@ -91,7 +91,7 @@ pub sector_covered : (outer : ℕ) (s e p : Vector) → 0 < square s → 0 < squ
 sector_covered outer s e p some_s some_e reached = found somewhere
   where
     found : IsSomewhere outer (turned_back (begin_quadrant s) s) ((end_quadrant e + 4 - begin_quadrant s) % 4) (turned_back (begin_quadrant s) e)
-            (turned_back (begin_quadrant s) p) (quarter_count s e)
+        (turned_back (begin_quadrant s) p) (quarter_count s e)
         → (place : ℕ) × (place < quarter_count s e) × LiesIn outer s e p place
     found (place, less, within) = (place, less, at_place outer s e p place some_s some_e within)
 
@@ -103,11 +103,11 @@ sector_covered outer s e p some_s some_e reached = found somewhere
         let k = (end_quadrant e + 4 - begin_quadrant s) % 4 in
         let to = turned_to e (begin_quadrant s) b.quadrant n.quadrant in
         let far : IsSomewhere outer (turned_back (begin_quadrant s) s) k (turned_back (begin_quadrant s) e) (turned_back (begin_quadrant s) p)
-                (entered k (int_lt (pos 0) (cross (turned_back (begin_quadrant s) s) (turned_back (begin_quadrant s) e)))) =
-            walked outer k (turned_back (begin_quadrant s) s) (turned_back (begin_quadrant s) e) (turned_back (begin_quadrant s) p)
-            (below_four (end_quadrant e + 4 - begin_quadrant s)) b.right b.up
-            (subst (λ (t : Vector). pos 0 ≤ℤ t.u) (sym to) n.right) (subst (λ (t : Vector). pos 1 ≤ℤ t.v) (sym to) n.up)
-            (turned_reached (begin_quadrant s) s e p reached) in
+        (entered k (int_lt (pos 0) (cross (turned_back (begin_quadrant s) s) (turned_back (begin_quadrant s) e)))) =
+        walked outer k (turned_back (begin_quadrant s) s) (turned_back (begin_quadrant s) e) (turned_back (begin_quadrant s) p)
+        (below_four (end_quadrant e + 4 - begin_quadrant s)) b.right b.up
+        (subst (λ (t : Vector). pos 0 ≤ℤ t.u) (sym to) n.right) (subst (λ (t : Vector). pos 1 ≤ℤ t.v) (sym to) n.up)
+        (turned_reached (begin_quadrant s) s e p reached) in
         subst
         (λ (z : ℤ). IsSomewhere outer (turned_back (begin_quadrant s) s) k (turned_back (begin_quadrant s) e) (turned_back (begin_quadrant s) p) (entered k (int_lt (pos 0) z)))
         (cross_turned (begin_quadrant s) s e) far
@@ -120,19 +120,13 @@ sizes_near (suc zero) p far h k = (k, omega (arith, ints))
 sizes_near (suc (suc zero)) p far h k = (omega (arith, ints), omega (arith, ints))
 sizes_near (suc (suc (suc n))) p far h k = (omega (arith, ints), h)
 
--- a direction with parts up to some size
-pub record IsNear (far : ℕ) (d : ℕ × ℕ) : Type 0 where
-  pub some : 0 < d.0 + d.1
-  pub first : d.0 ≤ far
-  pub second : d.1 ≤ far
-
 pub from_near : (outer far : ℕ) (s e : Vector) (place : ℕ) → 0 < square s → 0 < outer → outer ≤ far
     → unsigned_abs s.u ≤ far → unsigned_abs s.v ≤ far → IsNear far (quarter_at outer s e place).from
 from_near outer far s e place some_s some_outer near su sv =
     cond_both (place == 0) (sizes (turned_back (begin_quadrant s) s)) (outer, 0) (IsNear far)
     (λ yes. let b = begin_is s some_s in
-        let n = sizes_near (begin_quadrant s) s far su sv in
-        record { some = at_least_one (turned_back (begin_quadrant s) s).u (turned_back (begin_quadrant s) s).v b.right; first = n.0; second = n.1 })
+    let n = sizes_near (begin_quadrant s) s far su sv in
+    record { some = at_least_one (turned_back (begin_quadrant s) s).u (turned_back (begin_quadrant s) s).v b.right; first = n.0; second = n.1 })
     (λ no. record { some = omega arith; first = near; second = omega arith })
   where
     at_least_one : (u v : ℤ) → pos 1 ≤ℤ u → 0 < unsigned_abs u + unsigned_abs v
@@ -143,8 +137,8 @@ pub to_near : (outer far : ℕ) (s e : Vector) (place : ℕ) → 0 < square e �
 to_near outer far s e place some_e some_outer near eu ev =
     cond_both (place + 1 == quarter_count s e) (sizes (turned_back (end_quadrant e) e)) (0, outer) (IsNear far)
     (λ yes. let b = end_is e some_e in
-        let n = sizes_near (end_quadrant e) e far eu ev in
-        record { some = at_least_one (turned_back (end_quadrant e) e).u (turned_back (end_quadrant e) e).v b.up; first = n.0; second = n.1 })
+    let n = sizes_near (end_quadrant e) e far eu ev in
+    record { some = at_least_one (turned_back (end_quadrant e) e).u (turned_back (end_quadrant e) e).v b.up; first = n.0; second = n.1 })
     (λ no. record { some = omega arith; first = omega arith; second = near })
   where
     at_least_one : (u v : ℤ) → pos 1 ≤ℤ v → 0 < unsigned_abs u + unsigned_abs v
@@ -183,7 +177,7 @@ one_runs_ahead s e some_s some_e one =
     let same : end_quadrant e ≡ begin_quadrant s = quadrants_same (begin_quadrant s) (end_quadrant e) b.quadrant n.quadrant both.0 in
     let ahead : int_lt (pos 0) (cross s e) ≡ true = both.1 in
     let turned : cross (turned_back (begin_quadrant s) s) (turned_back (end_quadrant e) e) ≡ cross s e =
-        ap (λ (m : ℕ). cross (turned_back (begin_quadrant s) s) (turned_back m e)) same ∙ cross_turned (begin_quadrant s) s e in
+    ap (λ (m : ℕ). cross (turned_back (begin_quadrant s) s) (turned_back m e)) same ∙ cross_turned (begin_quadrant s) s e in
     ahead_by_cross (turned_back (begin_quadrant s) s) (turned_back (end_quadrant e) e) (omega (arith, ints, b.right)) b.up n.right (omega (arith, ints, n.up))
     (subst (λ (z : ℤ). pos 0 ≤ℤ z) (sym turned) (is_ahead (cross s e) ahead))
   where
@@ -195,10 +189,10 @@ pub runs_ahead : (outer : ℕ) (s e : Vector) (place : ℕ) → 0 < square s →
 runs_ahead outer s e place some_s some_e =
     cond_both (place == 0) (sizes (turned_back (begin_quadrant s) s)) (outer, 0) (λ a. RunsAhead a (quarter_at outer s e place).to)
     (λ first. cond_both (place + 1 == quarter_count s e) (sizes (turned_back (end_quadrant e) e)) (0, outer)
-        (λ b. RunsAhead (sizes (turned_back (begin_quadrant s) s)) b)
-        (λ last. let zeroth : place ≡ 0 = eqb-true place 0 first in
-            let count : place + 1 ≡ quarter_count s e = eqb-true (place + 1) (quarter_count s e) last in
-            one_runs_ahead s e some_s some_e (omega arith))
-        (λ no. omega arith))
+    (λ b. RunsAhead (sizes (turned_back (begin_quadrant s) s)) b)
+    (λ last. let zeroth : place ≡ 0 = eqb-true place 0 first in
+    let count : place + 1 ≡ quarter_count s e = eqb-true (place + 1) (quarter_count s e) last in
+    one_runs_ahead s e some_s some_e (omega arith))
+    (λ no. omega arith))
     (λ no. cond_both (place + 1 == quarter_count s e) (sizes (turned_back (end_quadrant e) e)) (0, outer) (λ b. RunsAhead (outer, 0) b)
-        (λ last. omega arith) (λ other. omega arith))
+    (λ last. omega arith) (λ other. omega arith))

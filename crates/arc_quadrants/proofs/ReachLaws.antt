@@ -91,3 +91,43 @@ up_within n radius part square short is = at_order (le_or_lt n radius)
     at_order : (n ≤ radius) ⊎ (radius < n) → n ≤ radius
     at_order (inl le) = le
     at_order (inr less) = absurd (omega (arith, is.least radius less, mul-le-mul_left (radius * radius) short))
+
+-- the same as the code meets them
+pub root_within : (r radius part square : ℕ) → r * r ≤ ((radius * radius) * (part * part)) / square → 0 < square → part * part ≤ square → r ≤ radius
+root_within r radius part square low some short = at_order (le_or_lt r radius)
+  where
+    at_order : (r ≤ radius) ⊎ (radius < r) → r ≤ radius
+    at_order (inl le) = le
+    at_order (inr less) =
+        let more : radius + 1 ≤ r = omega arith in
+        absurd (omega (
+          arith,
+          down_at_most ((radius * radius) * (part * part)) square r some low,
+          mul-le-mul_right square (mul-le-mul more more),
+          mul-le-mul_left (radius * radius) short,
+        ))
+
+pub root_up_within : (r radius part square whole : ℕ) → ((k : ℕ) → k < r → k * k < (whole + (square - 1)) / square)
+    → whole ≡ (radius * radius) * (part * part) → 0 < square → part * part ≤ square → r ≤ radius
+root_up_within r radius part square whole least is some short = at_order (le_or_lt r radius)
+  where
+    at_order : (r ≤ radius) ⊎ (radius < r) → r ≤ radius
+    at_order (inl le) = le
+    at_order (inr less) =
+        absurd (omega (arith, up_least whole square radius some (least radius less), mul-le-mul_left (radius * radius) short))
+
+pub small_squares : (radius part : ℕ) → radius < 33554432 → part < 536870912 → (radius * radius) * (part * part) < 324518553658426726783156020576256
+small_squares radius part h k =
+    let r : radius ≤ 33554431 = omega arith in
+    let p : part ≤ 536870911 = omega arith in
+    omega (arith, mul-le-mul (mul-le-mul r r) (mul-le-mul p p))
+
+pub down_from_value : (n radius part square other : ℕ) → n ≡ reach_down radius part other → other ≡ square → 0 < other → IsReachDown n radius part square
+down_from_value n radius part square other e f some =
+    subst (λ (m : ℕ). IsReachDown m radius part square) (sym e)
+    (subst (λ (m : ℕ). IsReachDown (reach_down radius part other) radius part m) f (reach_down_is radius part other some))
+
+pub up_from_value : (n radius part square other : ℕ) → n ≡ reach_up radius part other → other ≡ square → 0 < other → IsReachUp n radius part square
+up_from_value n radius part square other e f some =
+    subst (λ (m : ℕ). IsReachUp m radius part square) (sym e)
+    (subst (λ (m : ℕ). IsReachUp (reach_up radius part other) radius part m) f (reach_up_is radius part other some))

@@ -28,14 +28,14 @@ upper au av x y outer hi n ahead within reach above =
     let size = plus (times a a) (times b b) in
     let sized = both (given 4) (some 1) in
     let le : pos x ≤ℤ (pos hi *ℤ pos n) = refute (pos au ∷ pos av ∷ pos x ∷ pos y ∷ pos outer ∷ pos hi ∷ pos n ∷ [])
-        (minus (times a vy) (times b vx) ∷ minus (times (times o o) (times vn vn)) (plus (times vx vx) (times vy vy))
-        ∷ minus (times (times h h) size) (times (times o o) (times a a)) ∷ minus size (num (pos 1))
-        ∷ a ∷ b ∷ vx ∷ vy ∷ h ∷ vn ∷ []) []
-        (all_of (by (given 1) (both (by (given 5) (given 8)) (by (given 6) (given 7))) ∷ by (by (given 5) (given 5)) (given 2)
-        ∷ by (by (given 10) (given 10)) (given 3) ∷ by (by sized (given 0)) (both (given 7) (by (given 9) (given 10)))
-        ∷ by sized (given 0) ∷ by (some 2) (by sized (by (given 9) (given 10))) ∷ given 4 ∷ []))
-        vx (times h vn)
-        (f1, (f2, (f3, (f4, (nonneg-pos au, (nonneg-pos av, (nonneg-pos x, (nonneg-pos y, (nonneg-pos hi, (nonneg-pos n, tt)))))))))) tt tt in
+    (minus (times a vy) (times b vx) ∷ minus (times (times o o) (times vn vn)) (plus (times vx vx) (times vy vy))
+    ∷ minus (times (times h h) size) (times (times o o) (times a a)) ∷ minus size (num (pos 1))
+    ∷ a ∷ b ∷ vx ∷ vy ∷ h ∷ vn ∷ []) []
+    (all_of (by (given 1) (both (by (given 5) (given 8)) (by (given 6) (given 7))) ∷ by (by (given 5) (given 5)) (given 2)
+    ∷ by (by (given 10) (given 10)) (given 3) ∷ by (by sized (given 0)) (both (given 7) (by (given 9) (given 10)))
+    ∷ by sized (given 0) ∷ by (some 2) (by sized (by (given 9) (given 10))) ∷ given 4 ∷ []))
+    vx (times h vn)
+    (f1, (f2, (f3, (f4, (nonneg-pos au, (nonneg-pos av, (nonneg-pos x, (nonneg-pos y, (nonneg-pos hi, (nonneg-pos n, tt)))))))))) tt tt in
     le-pos le
 
 -- p is behind the direction (bu, bv) and not within the inner radius: not before lo
@@ -56,14 +56,14 @@ lower bu bv x y inner lo n behind beyond reach above =
     let size = plus (times a a) (times b b) in
     let sized = both (given 4) (some 1) in
     let le : (pos lo *ℤ pos n) ≤ℤ pos x = refute (pos bu ∷ pos bv ∷ pos x ∷ pos y ∷ pos inner ∷ pos lo ∷ pos n ∷ [])
-        (minus (times vx b) (times vy a) ∷ minus (plus (times vx vx) (times vy vy)) (times (times i i) (times vn vn))
-        ∷ minus (times (times i i) (times a a)) (times (times l l) size) ∷ minus size (num (pos 1))
-        ∷ a ∷ b ∷ vx ∷ vy ∷ l ∷ vn ∷ []) []
-        (all_of (by (given 1) (both (by (given 7) (given 6)) (by (given 8) (given 5))) ∷ by (by (given 5) (given 5)) (given 2)
-        ∷ by (by (given 10) (given 10)) (given 3) ∷ by (by sized (given 0)) (both (given 7) (by (given 9) (given 10)))
-        ∷ by sized (given 0) ∷ by (some 2) (by sized (given 7)) ∷ given 4 ∷ []))
-        (times l vn) vx
-        (f1, (f2, (f3, (f4, (nonneg-pos bu, (nonneg-pos bv, (nonneg-pos x, (nonneg-pos y, (nonneg-pos lo, (nonneg-pos n, tt)))))))))) tt tt in
+    (minus (times vx b) (times vy a) ∷ minus (plus (times vx vx) (times vy vy)) (times (times i i) (times vn vn))
+    ∷ minus (times (times i i) (times a a)) (times (times l l) size) ∷ minus size (num (pos 1))
+    ∷ a ∷ b ∷ vx ∷ vy ∷ l ∷ vn ∷ []) []
+    (all_of (by (given 1) (both (by (given 7) (given 6)) (by (given 8) (given 5))) ∷ by (by (given 5) (given 5)) (given 2)
+    ∷ by (by (given 10) (given 10)) (given 3) ∷ by (by sized (given 0)) (both (given 7) (by (given 9) (given 10)))
+    ∷ by sized (given 0) ∷ by (some 2) (by sized (given 7)) ∷ given 4 ∷ []))
+    (times l vn) vx
+    (f1, (f2, (f3, (f4, (nonneg-pos bu, (nonneg-pos bv, (nonneg-pos x, (nonneg-pos y, (nonneg-pos lo, (nonneg-pos n, tt)))))))))) tt tt in
     le-pos le
 
 -- ---- the reaches of a part within those of the whole: X and Y are the squares of the two lengths
@@ -86,5 +86,10 @@ down_mono m h i a c X Y some_X some_Y steep r t = at_order (le_or_lt m h)
     at_order (inl le) = le
     at_order (inr less) =
         let next : h + 1 ≤ m = omega arith in
-        absurd (omega (arith, mul-lt-mul_of_pos_right t.next some_X, mul-le-mul_right (X * Y) (mul-le-mul next next),
-            mul-le-mul_right Y r.at_most, mul-le-mul_left (i * i) steep))
+        absurd (omega (
+          arith,
+          mul-lt-mul_of_pos_right t.next some_X,
+          mul-le-mul_right (X * Y) (mul-le-mul next next),
+          mul-le-mul_right Y r.at_most,
+          mul-le-mul_left (i * i) steep,
+        ))

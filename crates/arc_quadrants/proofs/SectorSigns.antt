@@ -5,7 +5,6 @@ use Rattle.std.specs.Prelude.{ℤ, pos, neg_ℤ, ◌-ℤ◌, ◌*ℤ◌, ◌≤�
 use Rattle.number_laws.proofs.Ring.{Expr, num, var, minus, times, negate}
 use Rattle.number_laws.proofs.Orders.{Cert, some, given, by, both, all_of, refute}
 
-
 -- ahead of s and to the right: not below
 pub not_below : (a b x y : ℤ) → pos 1 ≤ℤ a → pos 0 ≤ℤ b → pos 0 ≤ℤ x → pos 0 ≤ℤ ((a *ℤ y) -ℤ (b *ℤ x)) → pos 0 ≤ℤ y
 not_below a b x y ha hb hx ahead =

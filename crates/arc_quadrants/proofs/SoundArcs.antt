@@ -23,7 +23,7 @@ use Rattle.path_geometry.specs.declared.motion.Arc.{Arc}
 use Rattle.path_geometry.specs.declared.motion.Motion.{Motion}
 use Rattle.path_geometry.specs.declared.motion.Motion.TheVariants as Kind
 use Rattle.arc_quadrants.proofs.ReachLaws.{ceil_root-enough, ceil_root-least}
-use Rattle.arc_quadrants.proofs.Walk.{IsReached}
+use Rattle.arc_quadrants.proofs.Sectors.{IsReached}
 
 -- ---- an arc by its centre and an arc by its radius
 -- the arc is one about its centre with some room, which is in range and neither the start nor the end
@@ -77,9 +77,14 @@ with_found_centre : (arc : Arc) (centre : ℤ × ℤ) → centre ≡ arc.centre 
     → place_alarm centre (start_about arc.ends arc.first arc.second centre) (end_about arc.ends arc.first arc.second centre) ≡ None → IsWith arc
 with_found_centre arc centre same is alarm =
     let there = placed arc.centre (start_seen arc) (end_seen arc)
-        (subst (λ (c : ℤ × ℤ). place_alarm c (start_about arc.ends arc.first arc.second c) (end_about arc.ends arc.first arc.second c) ≡ None) same alarm) in
-    record { room = 2; little = omega arith; in_range = there.0; apart = there.1;
-      is = subst (λ (c : ℤ × ℤ). arc_with arc.ends arc.first arc.second c 2 ≡ arc) same is }
+    (subst (λ (c : ℤ × ℤ). place_alarm c (start_about arc.ends arc.first arc.second c) (end_about arc.ends arc.first arc.second c) ≡ None) same alarm) in
+    record {
+      room = 2;
+      little = omega arith;
+      in_range = there.0;
+      apart = there.1;
+      is = subst (λ (c : ℤ × ℤ). arc_with arc.ends arc.first arc.second c 2 ≡ arc) same is;
+    }
 
 centre_kept : (ends : EndsView) (first second : ℕ) (centre : ℤ × ℤ) (room : ℕ) → (arc_with ends first second centre room).centre ≡ centre
 unfolding arc_with
@@ -90,9 +95,9 @@ unfolding arc_of_radius
 with_radius arc made =
     let centre = centre_of arc.ends arc.first arc.second made.radius made.long in
     let split = given_ok
-        (option_or (radius_alarm (way_of arc.ends arc.first arc.second) made.radius)
-        (place_alarm centre (start_about arc.ends arc.first arc.second centre) (end_about arc.ends arc.first arc.second centre)))
-        (arc_with arc.ends arc.first arc.second centre 2) arc made.gives in
+    (option_or (radius_alarm (way_of arc.ends arc.first arc.second) made.radius)
+    (place_alarm centre (start_about arc.ends arc.first arc.second centre) (end_about arc.ends arc.first arc.second centre)))
+    (arc_with arc.ends arc.first arc.second centre 2) arc made.gives in
     with_found_centre arc centre
     (sym (centre_kept arc.ends arc.first arc.second centre 2) ∙ ap (λ (a : Arc). a.centre) split.1) split.1
     (or_none (radius_alarm (way_of arc.ends arc.first arc.second) made.radius)
@@ -236,11 +241,11 @@ whole_turn arc sound full =
     let none : square (way_of arc.ends arc.first arc.second) ≡ 0 = eqb-true (square (way_of arc.ends arc.first arc.second)) 0 test in
     let way = way_of arc.ends arc.first arc.second in
     let on_first : start_of arc.ends arc.first ≡ end_of arc.ends arc.first =
-        no_way (start_of arc.ends arc.first) (end_of arc.ends arc.first) (unsigned_abs way.v * unsigned_abs way.v) none in
+    no_way (start_of arc.ends arc.first) (end_of arc.ends arc.first) (unsigned_abs way.v * unsigned_abs way.v) none in
     let on_second : start_of arc.ends arc.second ≡ end_of arc.ends arc.second =
-        no_other_way (start_of arc.ends arc.second) (end_of arc.ends arc.second) (unsigned_abs way.u * unsigned_abs way.u) none in
+    no_other_way (start_of arc.ends arc.second) (end_of arc.ends arc.second) (unsigned_abs way.u * unsigned_abs way.u) none in
     let e : start_seen arc ≡ record { u = end_of arc.ends arc.first -ℤ arc.centre.0; v = start_of arc.ends arc.second -ℤ arc.centre.1 } =
-        ap (λ (z : ℤ). record { u = z -ℤ arc.centre.0; v = start_of arc.ends arc.second -ℤ arc.centre.1 }) on_first in
+    ap (λ (z : ℤ). record { u = z -ℤ arc.centre.0; v = start_of arc.ends arc.second -ℤ arc.centre.1 }) on_first in
     e ∙ ap (λ (z : ℤ). record { u = end_of arc.ends arc.first -ℤ arc.centre.0; v = z -ℤ arc.centre.1 }) on_second
 
 pub reached : (arc : Arc) (point : Point) → IsSoundArc arc → IsOnArc arc point → IsReached (start_seen arc) (end_seen arc) (point_seen arc point)

@@ -127,4 +127,3 @@ end_by (negsuc m) (negsuc n) h =
 pub end_is : (p : Vector) → 0 < square p → IsEnd (end_quadrant p) p
 unfolding vec
 end_is p h = end_by p.u p.v h
-

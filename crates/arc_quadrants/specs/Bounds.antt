@@ -1,5 +1,5 @@
 -- The bounds of the part of a ring between two directions of quadrant 0.
-use Rattle.std.specs.Prelude.{ℕ, pos, ◌+◌, ◌-◌, ◌*◌, ◌/◌, ◌<◌, ◌≤◌}
+use Rattle.std.specs.Prelude.{ℕ, List, [], ◌∷◌, pos, ◌+◌, ◌-◌, ◌*◌, ◌/◌, ◌<◌, ◌≤◌}
 use Rattle.micro_units.specs.Root.{floor_root, ceil_root}
 use Rattle.number_laws.specs.Fractions.{IsIn}
 use Rattle.path_geometry.specs.Vectors.{Vector}
@@ -46,6 +46,10 @@ bounds_between inner outer from to = record {
   v_low = reach_down inner from.1 (length_square from);
   v_high = reach_up outer to.1 (length_square to);
 }
+
+-- the same in a row
+abbrev pub listed : Bounds → List ℕ
+listed bounds = bounds.u_low ∷ bounds.u_high ∷ bounds.v_low ∷ bounds.v_high ∷ []
 
 -- the vector p over n lies within the bounds
 pub record IsBound (bounds : Bounds) (p : Vector) (n : ℕ) : Type 0 where

@@ -68,8 +68,8 @@ IsReached s e p = IsSwept s e p ⊎ (s ≡ e)
 cross_swap : (s p : Vector) → cross s p <ℤ pos 0 → pos 0 ≤ℤ cross p s
 cross_swap s p h =
     let e : cross p s ≡ neg_ℤ (cross s p) =
-        ring (s.u ∷ s.v ∷ p.u ∷ p.v ∷ []) (minus (times (var 2) (var 1)) (times (var 3) (var 0)))
-        (negate (minus (times (var 0) (var 3)) (times (var 1) (var 2)))) tt in
+    ring (s.u ∷ s.v ∷ p.u ∷ p.v ∷ []) (minus (times (var 2) (var 1)) (times (var 3) (var 0)))
+    (negate (minus (times (var 0) (var 3)) (times (var 1) (var 2)))) tt in
     subst (λ (z : ℤ). pos 0 ≤ℤ z) (sym e) (omega (arith, ints))
 
 -- in each case p is ahead of s or behind e
@@ -91,13 +91,16 @@ one_quarter : (outer : ℕ) (s e p : Vector) → pos 0 ≤ℤ s.u → pos 0 ≤�
 one_quarter outer s e p su sv eu ev turn (inl swept) =
     let h : pos 0 ≤ℤ cross s e = omega (arith, ints) in
     let more : pos 1 ≤ℤ cross s e = omega (arith, ints) in
-    let b = swept.short h in
-    (0, omega arith, record {
-      right = right_within s.u s.v e.u e.v p.u p.v su eu more b.0 b.1;
-      up = above_within s.u s.v e.u e.v p.u p.v sv ev more b.0 b.1;
-      ahead = b.0;
-      behind = b.1;
-    })
+    let b = swept.short h in (
+      0,
+      omega arith,
+      record {
+        right = right_within s.u s.v e.u e.v p.u p.v su eu more b.0 b.1;
+        up = above_within s.u s.v e.u e.v p.u p.v sv ev more b.0 b.1;
+        ahead = b.0;
+        behind = b.1;
+      },
+    )
 one_quarter outer s e p su sv eu ev turn (inr same) =
     let z : cross s s ≡ pos 0 = ring (s.u ∷ s.v ∷ []) (minus (times (var 0) (var 1)) (times (var 1) (var 0))) (minus (var 0) (var 0)) tt ∙ omega (arith, ints) in
     let none : cross s e ≡ pos 0 = subst (λ (t : Vector). cross s t ≡ pos 0) same z in
@@ -154,9 +157,12 @@ three_quarters outer s e p su sv eu ev swept = by_turn (sign_of (cross s e))
         by_signs (inr behind) (inl r) (inl u) =
             (0, omega arith, from_start outer s p r u (ahead_above s.u s.v e.u e.v p.u p.v sv ev u turn behind))
         by_signs w (inr l) (inl u) = (1, omega arith, whole_quarter outer (turned_back 1 p) u (omega (arith, ints)))
-        by_signs (inl ahead) (inr l) (inr d) =
-            (2, omega arith, to_end outer 2 e p (omega (arith, ints)) (omega (arith, ints))
-                (behind_below s.u s.v e.u e.v p.u p.v su eu (omega (arith, ints)) turn ahead))
+        by_signs (inl ahead) (inr l) (inr d) = (
+          2,
+          omega arith,
+          to_end outer 2 e p (omega (arith, ints)) (omega (arith, ints))
+              (behind_below s.u s.v e.u e.v p.u p.v su eu (omega (arith, ints)) turn ahead),
+        )
         by_signs (inr behind) (inr l) (inr d) = (2, omega arith, to_end outer 2 e p (omega (arith, ints)) (omega (arith, ints)) behind)
         by_signs (inl ahead) (inl r) (inr d) =
             let u : pos 0 ≤ℤ p.v = not_below s.u s.v p.u p.v su sv r ahead in absurd (omega (arith, ints))
