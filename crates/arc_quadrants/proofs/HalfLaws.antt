@@ -1,11 +1,13 @@
 -- Parts of a quarter: some part holds what the quarter holds, and each part lies between the quarter's directions.
 use Rattle.std.proofs.Common.{◌≡◌, ◌∙◌, ◌+◌, ◌-◌, ◌*◌, ◌^◌, ◌<◌, ◌≤◌, ◌⊎◌, ℕ, zero, suc, inl, inr, List, [], ◌∷◌, ◌++◌, Some, length, get_or, refl, ap, sym, subst, arith, length-append, pow-suc}
-use Rattle.std.proofs.Math.Nat.{mul-le-mul_left}
+use Rattle.std.proofs.Math.Nat.{mul-le-mul, mul-le-mul_left}
 use Rattle.std.proofs.lemmas.List.{get_or_append_left, get_or-append-add}
 use Rattle.std.proofs.lemmas.List.Elements.{All-nil, All-cons, All-append}
 use Rattle.std.specs.List.{All, Any, slice_get}
 use Rattle.number_laws.proofs.Naturals.{le_or_lt}
+use Rattle.arc_quadrants.specs.Bounds.{IsDirection}
 use Rattle.arc_quadrants.specs.Halves.{middle, halves, IsShort}
+use Rattle.arc_quadrants.specs.Quarters.{IsNear}
 
 -- (x, y) lies between two directions
 pub record IsAmong (x y : ℕ) (d : (ℕ × ℕ) × (ℕ × ℕ)) : Type 0 where
@@ -138,6 +140,7 @@ short_from (suc depth) a some short =
     let one : suc depth - 1 ≡ depth = omega arith in
     subst (λ (n : ℕ). IsShort n a) (sym one)
     (record {
+      some = short.some;
       first = short_less depth a.0 short.first;
       second = short_less depth a.1 short.second;
     })
@@ -151,7 +154,7 @@ short_middle (suc depth) a b m some e p q =
     let one : suc depth - 1 ≡ depth = omega arith in
     subst (λ (n : ℕ). IsShort n m) (sym one)
     (subst (λ (c : ℕ × ℕ). IsShort depth c) (sym e)
-    (record { first = sum_short depth a.0 b.0 p.first q.first; second = sum_short depth a.1 b.1 p.second q.second }))
+    (record { some = omega (arith, p.some); first = sum_short depth a.0 b.0 p.first q.first; second = sum_short depth a.1 b.1 p.second q.second }))
 
 pub second_half : (depth place half : ℕ) → (depth ≡ 0 → ⊥) → place < 2 ^ depth → half ≡ 2 ^ (depth - 1) → half ≤ place → place - half < 2 ^ (depth - 1)
 second_half zero place half some h e le = absurd (some refl)
@@ -160,4 +163,15 @@ second_half (suc depth) place half some h e le =
     let is : half ≡ 2 ^ depth = e ∙ ap (λ (n : ℕ). 2 ^ n) one in
     subst (λ (n : ℕ). place - half < 2 ^ n) (sym one) (omega (arith, pow-suc 2 depth))
 
-pub ruleset part_steps = (part_none, part_left, part_right, short_from, short_middle, second_half)
+-- one that is not cut any more
+pub direction_from_short : (depth : ℕ) (a : ℕ × ℕ) → depth ≡ 0 → IsShort depth a → IsDirection a
+direction_from_short zero a e short = record { some = short.some; first = omega (arith, short.first); second = omega (arith, short.second) }
+direction_from_short (suc depth) a e short = absurd (omega arith)
+
+-- a direction of a quarter of a sound arc can be cut four times
+pub near_short : (depth : ℕ) (d : ℕ × ℕ) → depth ≤ 4 → IsNear 30000000 d → IsShort depth d
+near_short depth d deep near =
+    let few = few_parts depth deep in
+    record { some = near.some; first = omega (arith, mul-le-mul near.first few); second = omega (arith, mul-le-mul near.second few) }
+
+pub ruleset part_steps = (part_none, part_left, part_right, short_from, short_middle, second_half, direction_from_short)

@@ -10,7 +10,8 @@ abbrev pub halves : ℕ → ℕ × ℕ → ℕ × ℕ → List ((ℕ × ℕ) × 
 halves zero a b = (a, b) ∷ []
 halves (suc depth) a b = halves depth a (middle a b) ++ halves depth (middle a b) b
 
--- a direction short enough to be cut so often: its parts stay below 2 ^ 29
+-- a direction short enough to be cut so often: its parts are not both 0 and stay below 2 ^ 29
 pub record IsShort (depth : ℕ) (d : ℕ × ℕ) : Type 0 where
+  pub some : 0 < d.0 + d.1
   pub first : d.0 * 2 ^ depth < 536870912
   pub second : d.1 * 2 ^ depth < 536870912

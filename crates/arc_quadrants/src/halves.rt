@@ -1,5 +1,6 @@
 //! Parts of a quarter, made by cutting it in two again and again.
 ghost use Rattle.std.specs.Prelude.{◌≡◌, ◌+◌, ◌<◌, ◌≤◌, ◌*◌, ◌^◌, Some, slice_get};
+ghost use Rattle.arc_quadrants.specs.Bounds.{IsDirection};
 ghost use Rattle.arc_quadrants.specs.Halves as spec;
 ghost use Rattle.arc_quadrants.specs.Halves.{halves, IsShort};
 
@@ -36,7 +37,8 @@ pub fn part_of_quarter(
     requires within { place < 2 ^ depth }
     requires from { IsShort depth from }
     requires to { IsShort depth to }
-    ensures { slice_get (halves depth from to) place ≡ Some result }
+    ensures part { slice_get (halves depth from to) place ≡ Some result }
+    ensures directions { IsDirection result.0 × IsDirection result.1 }
 {
     if depth == 0 {
         return (from, to);

@@ -19,12 +19,12 @@ use Rattle.number_laws.proofs.Ring.{num, var, plus, minus, times}
 use Rattle.number_laws.specs.Floors.{floor_div, ceil_div}
 use Rattle.number_laws.specs.Fractions.{IsIn}
 use Rattle.micro_units.specs.declared.Um.{Um}
-use Rattle.swept_boxes.specs.declared.AxisId.{AxisId}
-use Rattle.swept_boxes.specs.declared.Motion.{Motion}
-use Rattle.swept_boxes.specs.declared.Motion.TheVariants.{Line}
-use Rattle.swept_boxes.specs.Cover.{range_between, cover_of_line, cover_of, AreSmallest}
-use Rattle.swept_boxes.specs.Ends.{EndsView}
-use Rattle.swept_boxes.specs.Path.{Point, along, IsOnLine, IsOnPath}
+use Rattle.axis_sets.specs.declared.ids.AxisId.{AxisId}
+use Rattle.path_geometry.specs.declared.motion.Motion.{Motion}
+use Rattle.path_geometry.specs.declared.motion.Motion.TheVariants.{Line}
+use Rattle.swept_boxes.specs.Cover.{range_between, box_of_ends, cover_of, AreSmallest}
+use Rattle.path_geometry.specs.Ends.{EndsView}
+use Rattle.path_geometry.specs.Path.{Point, along, IsOnLine, IsOnPath}
 use Rattle.swept_boxes.specs.Pieces.{low_of_part, high_of_part, range_of_part, part_of_line, part_of, pieces_at}
 use Rattle.swept_boxes.specs.Ranges.{RangesView, Hold, LieIn}
 use Rattle.swept_boxes.proofs.LineLaws.{floor-ge, ceil-le}
@@ -167,7 +167,7 @@ AllZip-maps : {X Y Z : Type 0} (R : Y → Z → Type 0) (f : X → Y) (g : X →
 AllZip-maps R f g h [] = tt
 AllZip-maps R f g h (x ∷ xs) = (h x, AllZip-maps R f g h xs)
 
-part_in_cover : (ends : EndsView) (parts j : ℕ) → j < parts → LieIn (part_of_line ends parts j) (cover_of_line ends)
+part_in_cover : (ends : EndsView) (parts j : ℕ) → j < parts → LieIn (part_of_line ends parts j) (box_of_ends ends)
 part_in_cover ends parts j h =
     AllZip-maps (λ r s. (r.0 ≡ s.0) × (s.1 ≤ℤ r.1) × (r.2 ≤ℤ s.2)) (range_of_part parts j) range_between
     (λ e. (refl, low e.1 e.2, high e.1 e.2)) ends.axes
@@ -186,7 +186,7 @@ part_in_cover ends parts j h =
 
 pub in_cover : (motion : Motion) (depth : ℕ) → All (λ piece. LieIn piece (cover_of motion)) (pieces_at motion depth)
 in_cover (Line ends) depth =
-    All-map (λ piece. LieIn piece (cover_of_line ends)) (part_of_line ends (2 ^ depth)) (range_with_len 0 (2 ^ depth))
+    All-map (λ piece. LieIn piece (box_of_ends ends)) (part_of_line ends (2 ^ depth)) (range_with_len 0 (2 ^ depth))
     (λ i d h. part_in_cover ends (2 ^ depth) (get_or (range_with_len 0 (2 ^ depth)) i d) (number_below i d h))
   where
     number_below : (i d : ℕ) → i < length (range_with_len 0 (2 ^ depth)) → get_or (range_with_len 0 (2 ^ depth)) i d < 2 ^ depth
@@ -219,7 +219,7 @@ map-same : {X Y : Type 0} (f g : X → Y) → ((x : X) → f x ≡ g x) → (xs 
 map-same f g h [] = refl
 map-same f g h (x ∷ xs) = ap (λ y. y ∷ map f xs) (h x) ∙ ap (λ ys. g x ∷ ys) (map-same f g h xs)
 
-pub whole_line : (ends : EndsView) → part_of_line ends 1 0 ≡ cover_of_line ends
+pub whole_line : (ends : EndsView) → part_of_line ends 1 0 ≡ box_of_ends ends
 whole_line ends =
     ap (λ (axes : List (AxisId × Um × Um)). record { axes = axes }) (map-same (range_of_part 1 0) range_between whole_range ends.axes)
 
@@ -227,7 +227,7 @@ pub smallest : (motion : Motion) → AreSmallest (cover_of motion) (pieces_at mo
 smallest (Line ends) =
     record {
       hold = in_cover (Line ends) 0;
-      least = λ other h. subst (λ (ranges : RangesView). LieIn ranges other) (whole_line ends) (h 0 (cover_of_line ends) (omega arith));
+      least = λ other h. subst (λ (ranges : RangesView). LieIn ranges other) (whole_line ends) (h 0 (box_of_ends ends) (omega arith));
     }
 
 -- ---- the pieces that are left

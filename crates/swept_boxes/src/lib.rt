@@ -48,7 +48,7 @@ pub struct Ends {
 }
 
 impl Model for Ends {
-    ghost use Rattle.swept_boxes.specs.Ends.{EndsView};
+    ghost use Rattle.path_geometry.specs.Ends.{EndsView};
 
     ghost Value = { EndsView };
 

@@ -2,8 +2,8 @@
 ghost use Rattle.std.specs.Prelude.{◌≡◌, ◌<◌, ◌≤◌, ◌^◌, length};
 ghost use Rattle.std.specs.List.{All, Any};
 ghost use Rattle.swept_boxes.specs.Cover.{cover_of, AreSmallest};
-ghost use Rattle.swept_boxes.specs.Motions.{IsSound};
-ghost use Rattle.swept_boxes.specs.Path.{Point, IsOnPath};
+ghost use Rattle.path_geometry.specs.Motions.{IsSound};
+ghost use Rattle.path_geometry.specs.Path.{Point, IsOnPath};
 ghost use Rattle.swept_boxes.specs.Pieces as spec;
 ghost use Rattle.swept_boxes.specs.Pieces.{pieces_at};
 ghost use Rattle.swept_boxes.specs.Ranges.{Hold, LieIn};

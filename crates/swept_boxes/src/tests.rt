@@ -1,7 +1,7 @@
 //! Boxes and pieces against values that were worked out by hand.
 ghost use Rattle.std.specs.Prelude.{◌≡◌, ◌∷◌, [], ◌≤◌};
 ghost use Rattle.std.specs.Int.RustNames.{unsigned_abs};
-ghost use Rattle.swept_boxes.specs.Motions.{IsSound};
+ghost use Rattle.path_geometry.specs.Motions.{IsSound};
 
 use super::*;
 
