@@ -47,7 +47,7 @@ quarters_cover arc point sound on = at_place (arc_held 0 arc point sound on)
               ((f place).from, (f place).to) held,
         )
 
-quarter_fits : (arc : Arc) (place : ℕ) → IsSoundArc arc → AreFit (quarter_at arc.outer (start_seen arc) (end_seen arc) place)
+pub quarter_fits : (arc : Arc) (place : ℕ) → IsSoundArc arc → AreFit (quarter_at arc.outer (start_seen arc) (end_seen arc) place)
 quarter_fits arc place sound =
     let s = start_near arc sound in
     let e = end_near arc sound in

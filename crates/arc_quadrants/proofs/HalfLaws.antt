@@ -14,11 +14,11 @@ pub record IsAmong (x y : ℕ) (d : (ℕ × ℕ) × (ℕ × ℕ)) : Type 0 where
   pub ahead : d.0.1 * x ≤ d.0.0 * y
   pub behind : y * d.1.0 ≤ x * d.1.1
 
-any_left : {X : Type 0} (P : X → Type 0) (xs ys : List X) → Any P xs → Any P (xs ++ ys)
+pub any_left : {X : Type 0} (P : X → Type 0) (xs ys : List X) → Any P xs → Any P (xs ++ ys)
 any_left P xs ys (k, x, within, at, holds) =
     (k, x, omega (arith, length-append xs ys), get_or_append_left xs ys x k within ∙ at, holds)
 
-any_right : {X : Type 0} (P : X → Type 0) (xs ys : List X) → Any P ys → Any P (xs ++ ys)
+pub any_right : {X : Type 0} (P : X → Type 0) (xs ys : List X) → Any P ys → Any P (xs ++ ys)
 any_right P xs ys (k, x, within, at, holds) =
     (length xs + k, x, omega (arith, length-append xs ys), get_or-append-add xs ys k x ∙ at, holds)
 
@@ -91,12 +91,12 @@ part_none zero a b zero e h = refl
 part_none zero a b (suc place) e h = absurd (omega arith)
 part_none (suc depth) a b place e h = absurd (omega arith)
 
-get_left : {X : Type 0} (xs ys : List X) (k : ℕ) (x : X) → slice_get xs k ≡ Some x → slice_get (xs ++ ys) k ≡ Some x
+pub get_left : {X : Type 0} (xs ys : List X) (k : ℕ) (x : X) → slice_get xs k ≡ Some x → slice_get (xs ++ ys) k ≡ Some x
 get_left [] ys k x h = absurd (cc)
 get_left (y ∷ xs) ys zero x h = h
 get_left (y ∷ xs) ys (suc k) x h = get_left xs ys k x h
 
-get_right : {X : Type 0} (xs ys : List X) (n k : ℕ) → length xs ≡ n → n ≤ k → slice_get (xs ++ ys) k ≡ slice_get ys (k - n)
+pub get_right : {X : Type 0} (xs ys : List X) (n k : ℕ) → length xs ≡ n → n ≤ k → slice_get (xs ++ ys) k ≡ slice_get ys (k - n)
 get_right [] ys n k e h = let z : k - n ≡ k = omega arith in rw z refl
 get_right (y ∷ xs) ys n zero e h = absurd (omega arith)
 get_right (y ∷ xs) ys n (suc k) e h =

@@ -107,14 +107,15 @@ root_within r radius part square low some short = at_order (le_or_lt r radius)
           mul-le-mul_left (radius * radius) short,
         ))
 
-pub root_up_within : (r radius part square whole : ℕ) → ((k : ℕ) → k < r → k * k < (whole + (square - 1)) / square)
+pub root_up_within : (r radius part square whole quotient : ℕ) → ((k : ℕ) → k < r → k * k < quotient) → quotient ≡ (whole + (square - 1)) / square
     → whole ≡ (radius * radius) * (part * part) → 0 < square → part * part ≤ square → r ≤ radius
-root_up_within r radius part square whole least is some short = at_order (le_or_lt r radius)
+root_up_within r radius part square whole quotient least divided is some short = at_order (le_or_lt r radius)
   where
     at_order : (r ≤ radius) ⊎ (radius < r) → r ≤ radius
     at_order (inl le) = le
     at_order (inr less) =
-        absurd (omega (arith, up_least whole square radius some (least radius less), mul-le-mul_left (radius * radius) short))
+        let below : radius * radius < (whole + (square - 1)) / square = subst (λ (q : ℕ). radius * radius < q) divided (least radius less) in
+        absurd (omega (arith, up_least whole square radius some below, mul-le-mul_left (radius * radius) short))
 
 pub small_squares : (radius part : ℕ) → radius < 33554432 → part < 536870912 → (radius * radius) * (part * part) < 324518553658426726783156020576256
 small_squares radius part h k =

@@ -1,5 +1,5 @@
 //! The bounds of the part of a ring between two directions of quadrant 0.
-ghost use Rattle.std.specs.Prelude.{◌≡◌, ◌<◌, ◌≤◌, ◌+◌, ◌*◌, ◌^◌, [], ◌∷◌, slice_index};
+ghost use Rattle.std.specs.Prelude.{◌≡◌, ◌<◌, ◌≤◌, ◌+◌, ◌-◌, ◌*◌, ◌/◌, ◌^◌, [], ◌∷◌, slice_index};
 ghost use Rattle.std.specs.List.{All};
 ghost use Rattle.arc_quadrants.specs.Bounds as spec;
 ghost use Rattle.arc_quadrants.specs.Bounds.{IsDirection, IsReachDown, IsReachUp, listed, bounds_between};
@@ -42,6 +42,17 @@ fn reach_down(radius: u32, part: u64, square: u64) -> u32
     isqrt_floor(squared(radius, part) / square as u128) as u32
 }
 
+/// A quotient rounded up.
+fn quotient_up(whole: u128, square: u64) -> u128
+    requires some { 0 < square }
+    requires square { square < 2 ^ 59 }
+    requires whole { whole < 2 ^ 108 }
+    ensures value { result ≡ (whole + (square - 1)) / square }
+    ensures small { result < 2 ^ 120 }
+{
+    (whole + (square as u128 - 1)) / square as u128
+}
+
 /// The same rounded up.
 #[tactic(auto, unfolding(crate::specs::Bounds::reach_up))]
 fn reach_up(radius: u32, part: u64, square: u64) -> u32
@@ -53,7 +64,7 @@ fn reach_up(radius: u32, part: u64, square: u64) -> u32
     ensures value { result ≡ spec.reach_up radius part square }
     ensures within { result ≤ radius }
 {
-    isqrt_ceil((squared(radius, part) + (square as u128 - 1)) / square as u128) as u32
+    isqrt_ceil(quotient_up(squared(radius, part), square)) as u32
 }
 
 /// The bounds of the part of a ring from one direction of quadrant 0 to another, in whole units of the radii: along the first

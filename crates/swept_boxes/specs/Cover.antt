@@ -8,12 +8,11 @@ use Rattle.path_geometry.specs.declared.motion.Motion.{Motion}
 use Rattle.path_geometry.specs.declared.motion.Motion.TheVariants.{Line, Rapid}
 use Rattle.path_geometry.specs.declared.motion.Motion.TheVariants as Kind
 use Rattle.swept_boxes.specs.Pieces.{box_of_ends, box_of_part, ranges_over}
-use Rattle.swept_boxes.specs.PlaneBoxes.{joined_all}
+use Rattle.swept_boxes.specs.PlaneBoxes.{BoxInPlane, joined_all}
 use Rattle.swept_boxes.specs.Ranges.{RangesView, LieIn}
-use Rattle.swept_boxes.specs.declared.arcs.PlaneBox.{PlaneBox}
 
 -- the box of a whole quarter of an arc
-abbrev pub box_of_quarter : Arc → Quarter → PlaneBox
+abbrev pub box_of_quarter : Arc → Quarter → BoxInPlane
 box_of_quarter arc quarter = box_of_part arc quarter (quarter.from, quarter.to)
 
 -- an arc has each axis of its plane over all its quarters

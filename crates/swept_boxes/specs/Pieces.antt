@@ -15,9 +15,8 @@ use Rattle.path_geometry.specs.declared.motion.Arc.{Arc}
 use Rattle.path_geometry.specs.declared.motion.Motion.{Motion}
 use Rattle.path_geometry.specs.declared.motion.Motion.TheVariants.{Line, Rapid}
 use Rattle.path_geometry.specs.declared.motion.Motion.TheVariants as Kind
-use Rattle.swept_boxes.specs.PlaneBoxes.{turned_ahead}
+use Rattle.swept_boxes.specs.PlaneBoxes.{BoxInPlane, turned_ahead}
 use Rattle.swept_boxes.specs.Ranges.{RangesView}
-use Rattle.swept_boxes.specs.declared.arcs.PlaneBox.{PlaneBox}
 
 -- ---- lines
 -- the bounds of one of several equal parts of the way from start to end, rounded outwards to whole micrometres
@@ -37,6 +36,10 @@ range_of_part parts part e = (e.0, low_of_part e.1 e.2 parts part, high_of_part 
 abbrev pub part_of_line : EndsView → ℕ → ℕ → RangesView
 part_of_line ends parts part = record { axes = map (range_of_part parts part) ends.axes }
 
+-- 2 ^ depth equal parts in order
+abbrev pub pieces_of_line : EndsView → ℕ → List RangesView
+pieces_of_line ends depth = map (part_of_line ends (2 ^ depth)) (range_with_len 0 (2 ^ depth))
+
 -- ---- rapids
 -- an axis from the lesser to the greater of its start and its end
 abbrev pub range_between : AxisId × Um × Um → AxisId × Um × Um
@@ -49,17 +52,17 @@ box_of_ends ends = record { axes = map range_between ends.axes }
 -- ---- arcs
 -- the range of an axis of an arc over a box of its plane: an axis of the plane is within the box about the centre, and another one
 -- anywhere between its start and its end
-abbrev pub range_over : Arc → PlaneBox → AxisId × Um × Um → AxisId × Um × Um
+abbrev pub range_over : Arc → BoxInPlane → AxisId × Um × Um → AxisId × Um × Um
 range_over arc box e =
     if e.0 == arc.first then (e.0, arc.centre.0 +ℤ box.u_low, arc.centre.0 +ℤ box.u_high)
     else if e.0 == arc.second then (e.0, arc.centre.1 +ℤ box.v_low, arc.centre.1 +ℤ box.v_high)
     else range_between e
 
-abbrev pub ranges_over : Arc → PlaneBox → RangesView
+abbrev pub ranges_over : Arc → BoxInPlane → RangesView
 ranges_over arc box = record { axes = map (range_over arc box) arc.ends.axes }
 
 -- the box of the part of a quarter between two directions
-abbrev pub box_of_part : Arc → Quarter → (ℕ × ℕ) × (ℕ × ℕ) → PlaneBox
+abbrev pub box_of_part : Arc → Quarter → (ℕ × ℕ) × (ℕ × ℕ) → BoxInPlane
 box_of_part arc quarter d = turned_ahead quarter.turn (bounds_between arc.inner arc.outer d.0 d.1)
 
 -- the pieces of an arc in one of its quarters
@@ -67,9 +70,14 @@ abbrev pub pieces_of_quarter : Arc → ℕ → Quarter → List RangesView
 pieces_of_quarter arc depth quarter = map (λ d. ranges_over arc (box_of_part arc quarter d)) (halves depth quarter.from quarter.to)
 
 -- ---- all motions
--- the pieces in order: a line is cut into 2 ^ depth equal parts, a rapid is one piece, and an arc is cut into quarters, each of which
--- is cut in two so many times
+-- the quarters of an arc, and none of another motion
+abbrev pub quarters_in : Motion → List Quarter
+quarters_in (Line ends) = []
+quarters_in (Rapid ends) = []
+quarters_in (Kind.Arc arc) = quarters_of arc
+
+-- the pieces in order: a rapid is one piece at every depth, and an arc is cut into quarters first
 abbrev pub pieces_at : Motion → ℕ → List RangesView
-pieces_at (Line ends) depth = map (part_of_line ends (2 ^ depth)) (range_with_len 0 (2 ^ depth))
+pieces_at (Line ends) depth = pieces_of_line ends depth
 pieces_at (Rapid ends) depth = box_of_ends ends ∷ []
 pieces_at (Kind.Arc arc) depth = flat_map (pieces_of_quarter arc depth) (quarters_of arc)

@@ -1,15 +1,16 @@
-//! The equal parts of a straight line.
+//! The equal parts of a straight line, and the box of its ends.
 ghost use Rattle.std.specs.Prelude.{◌≡◌, ℤ, pos, ◌*◌, ◌<◌, ◌≤◌, ◌*ℤ◌};
 ghost use Rattle.std.specs.Int.{int_max, int_min};
 ghost use Rattle.std.specs.Int.RustNames.{unsigned_abs};
 ghost use Rattle.number_laws.specs.Floors.{floor_div, ceil_div};
-ghost use Rattle.swept_boxes.specs.Cover.{box_of_ends};
 ghost use Rattle.path_geometry.specs.Path.{along};
-ghost use Rattle.swept_boxes.specs.Pieces.{low_of_part, high_of_part, part_of_line};
+ghost use Rattle.swept_boxes.specs.Pieces.{low_of_part, high_of_part, part_of_line, range_between, box_of_ends};
 
-use crate::{Ends, Ranges};
+use crate::Ranges;
 use arrayvec::ArrayVec;
+use axis_sets::AxisId;
 use micro_units::Um;
+use path_geometry::Ends;
 
 fn scaled(position: i32, by: u8) -> i64
     requires few { by ≤ 16 }
@@ -116,14 +117,22 @@ pub(crate) fn line_part(ends: &Ends, parts: u8, part: u8) -> Ranges
 }
 
 /// Each axis from the lesser to the greater of its start and its end.
-pub(crate) fn line_cover(ends: &Ends) -> Ranges
+pub(crate) fn box_of_ends(ends: &Ends) -> Ranges
     ensures { result ≡ box_of_ends ends.now }
 {
     let mut axes = ArrayVec::new();
-    for (axis, start, end) in ends.axes.as_slice() {
-        axes.push((*axis, lesser(*start, *end), greater(*start, *end)));
+    for entry in ends.axes.as_slice() {
+        axes.push(range_between(*entry));
     }
     Ranges { axes }
+}
+
+/// An axis from the lesser to the greater of its start and its end.
+pub(crate) fn range_between(entry: (AxisId, Um, Um)) -> (AxisId, Um, Um)
+    ensures { result ≡ range_between entry }
+{
+    let (axis, start, end) = entry;
+    (axis, lesser(start, end), greater(start, end))
 }
 
 fn lesser(a: Um, b: Um) -> Um
