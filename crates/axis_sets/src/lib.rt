@@ -1,6 +1,16 @@
-//! Axes, channels and zones by their numbers.
+//! Axes, channels and zones by their numbers, sets of them, and positions of axes.
 #![tactic(auto)]
 
 mod ids;
+mod laws;
+mod places;
+mod positions;
+mod sets;
 
 pub use ids::{AxisId, ChannelId, ZoneId};
+pub use laws::sets_are_known_by_their_members;
+pub use positions::Positions;
+pub use sets::{AxisSet, ChannelSet, MarkSet, ZoneSet};
+
+#[cfg(test)]
+mod tests;

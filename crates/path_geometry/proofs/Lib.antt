@@ -1,0 +1,3 @@
+pub mod ArcSoundness
+pub mod EndsLaws
+pub mod RadiusLaws

@@ -1,10 +1,9 @@
 -- Arcs by their centre and by their radius: the motion that each gives, or its alarm.
-use Rattle.std.specs.Prelude.{ℕ, ℤ, pos, negsuc, neg_ℤ, ◌+◌, ◌-◌, ◌*◌, ◌/◌, ◌==◌, nat_lt, nat_le, min, max, ◌+ℤ◌, ◌-ℤ◌, Bool, true, false, not, ◌&&◌, ◌||◌, if◌then◌else◌, int_lt, unsigned_abs, Option, Some, None, Result, Ok, Err}
-use Rattle.std.specs.Option.{option_or}
+use Rattle.std.specs.Prelude.{ℕ, ℤ, pos, negsuc, neg_ℤ, ◌+◌, ◌-◌, ◌*◌, ◌/◌, ◌==◌, nat_lt, nat_le, min, max, ◌+ℤ◌, ◌-ℤ◌, Bool, true, false, not, ◌&&◌, ◌||◌, if◌then◌else◌, unsigned_abs, Option, Some, None, Result, Ok, Err}
 use Rattle.micro_units.specs.Root.{floor_root, ceil_root}
 use Rattle.number_laws.specs.Floors.{floor_div}
 use Rattle.path_geometry.specs.Ends.{EndsView, start_of, end_of}
-use Rattle.path_geometry.specs.Vectors.{Vector, cross, dot, square}
+use Rattle.path_geometry.specs.Vectors.{Vector, square, is_one_way}
 use Rattle.path_geometry.specs.declared.motion.Arc.{Arc}
 use Rattle.path_geometry.specs.declared.motion.Motion.{Motion}
 use Rattle.path_geometry.specs.declared.motion.Motion.TheVariants as Kind
@@ -39,10 +38,10 @@ arc_with ends first second centre room = record {
   full = square (way_of ends first second) == 0;
 }
 
--- the motion along an arc, unless there is an alarm
-abbrev pub given : Option ℕ → Arc → Result Motion ℕ
-given None arc = Ok (Kind.Arc arc)
-given (Some alarm) arc = Err alarm
+-- an answer, unless there is an alarm before it
+abbrev pub unless : Option ℕ → Result Motion ℕ → Result Motion ℕ
+unless None answer = answer
+unless (Some alarm) answer = Err alarm
 
 -- the start or the end is the centre
 abbrev pub has_no_radius : Vector → Vector → Bool
@@ -51,10 +50,6 @@ has_no_radius s e = (square s == 0) || (square e == 0)
 -- two radii differ by more than 10, said of their squares
 abbrev pub differ : ℕ → ℕ → Bool
 differ greater lesser = nat_lt 100 (greater - lesser) && nat_lt (400 * lesser) ((greater - lesser - 100) * (greater - lesser - 100))
-
--- the two have one direction
-abbrev pub is_one_way : Vector → Vector → Bool
-is_one_way s e = (unsigned_abs (cross s e) == 0) && int_lt (pos 0) (dot s e)
 
 -- the alarm of an arc by its centre, which is a whole turn or not, from s to e
 unfoldable pub centre_alarm : Bool → Vector → Vector → Option ℕ
@@ -67,9 +62,9 @@ centre_alarm full s e =
 -- an arc by its centre
 unfoldable pub arc_about : EndsView → ℕ → ℕ → ℤ × ℤ → Result Motion ℕ
 arc_about ends first second centre =
-    given
+    unless
     (centre_alarm (square (way_of ends first second) == 0) (start_about ends first second centre) (end_about ends first second centre))
-    (arc_with ends first second centre 0)
+    (Ok (Kind.Arc (arc_with ends first second centre 0)))
 
 -- the alarm of an arc of this radius along a way
 unfoldable pub radius_alarm : Vector → ℕ → Option ℕ
@@ -115,12 +110,14 @@ place_alarm centre s e =
     else if has_no_radius s e then Some 22
     else None
 
+-- the arc about such a centre
+unfoldable pub arc_placed : EndsView → ℕ → ℕ → ℤ × ℤ → Result Motion ℕ
+arc_placed ends first second centre =
+    unless
+    (place_alarm centre (start_about ends first second centre) (end_about ends first second centre))
+    (Ok (Kind.Arc (arc_with ends first second centre 2)))
+
 -- an arc by its radius, the longer one or not
 unfoldable pub arc_of_radius : EndsView → ℕ → ℕ → ℕ → Bool → Result Motion ℕ
 arc_of_radius ends first second radius long =
-    let centre = centre_of ends first second radius long in
-    given
-    (option_or
-    (radius_alarm (way_of ends first second) radius)
-    (place_alarm centre (start_about ends first second centre) (end_about ends first second centre)))
-    (arc_with ends first second centre 2)
+    unless (radius_alarm (way_of ends first second) radius) (arc_placed ends first second (centre_of ends first second radius long))

@@ -1,5 +1,6 @@
 -- Vectors of the plane with whole parts.
-use Rattle.std.specs.Prelude.{ℕ, ℤ, ◌+◌, ◌*◌, ◌+ℤ◌, ◌-ℤ◌, ◌*ℤ◌, unsigned_abs}
+use Rattle.std.specs.Prelude.{ℕ, ℤ, ◌+◌, ◌*◌, ◌+ℤ◌, ◌-ℤ◌, ◌*ℤ◌, pos, Bool, ◌&&◌, int_lt, unsigned_abs}
+use Rattle.std.specs.Ordering.{int_eq}
 
 -- its parts along the first and the second axis of the plane
 pub record Vector : Type 0 where
@@ -17,3 +18,7 @@ dot a b = (a.u *ℤ b.u) +ℤ (a.v *ℤ b.v)
 -- the square of its length
 abbrev pub square : Vector → ℕ
 square a = unsigned_abs a.u * unsigned_abs a.u + unsigned_abs a.v * unsigned_abs a.v
+
+-- the two have one direction, where none of them is zero
+abbrev pub is_one_way : Vector → Vector → Bool
+is_one_way a b = int_eq (cross a b) (pos 0) && int_lt (pos 0) (dot a b)
