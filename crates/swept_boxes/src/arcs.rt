@@ -1,5 +1,5 @@
 //! The boxes of the parts of an arc.
-ghost use Rattle.std.specs.Prelude.{◌≡◌, ◌<◌, ◌≤◌, ℤ, ◌+ℤ◌, map};
+ghost use Rattle.std.specs.Prelude.{◌≡◌, ◌<◌, ◌≤◌, ◌==◌, ℤ, ◌+ℤ◌, map};
 ghost use Rattle.std.specs.Int.{int_max, int_min};
 ghost use Rattle.std.specs.Int.RustNames.{unsigned_abs};
 ghost use Rattle.std.specs.List.{All};
@@ -105,6 +105,12 @@ fn moved(centre: Um, by: i32) -> Um
     }
 }
 
+fn is_same(a: AxisId, b: AxisId) -> bool
+    ensures { result ≡ (a == b) }
+{
+    a.index == b.index
+}
+
 /// The range of an axis of an arc over a box of its plane.
 fn range_over(arc: &Arc, area: PlaneBox, entry: (AxisId, Um, Um)) -> (AxisId, Um, Um)
     requires first { IsInRange arc.now.centre.0 }
@@ -112,9 +118,9 @@ fn range_over(arc: &Arc, area: PlaneBox, entry: (AxisId, Um, Um)) -> (AxisId, Um
     ensures { result ≡ spec.range_over arc.now area entry }
 {
     let axis = entry.0;
-    if axis.index == arc.first.index {
+    if is_same(axis, arc.first) {
         (axis, moved(arc.centre.0, area.u_low), moved(arc.centre.0, area.u_high))
-    } else if axis.index == arc.second.index {
+    } else if is_same(axis, arc.second) {
         (axis, moved(arc.centre.1, area.v_low), moved(arc.centre.1, area.v_high))
     } else {
         range_between(entry)

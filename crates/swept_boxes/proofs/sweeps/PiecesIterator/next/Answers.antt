@@ -3,6 +3,11 @@ use Rattle.swept_boxes.specs.Pieces.{pieces_at}
 use Rattle.swept_boxes.proofs.PieceLaws.{few_places, left_more, left_none}
 use Rattle.swept_boxes.proofs.sweeps.PiecesIterator.next.Goals as goal
 
+pub overflow_add-self : goal.overflow_add-self
+overflow_add-self c =
+    let few = few_places c.self.inside.motion.now c.self.inside.depth c.self.inside.next c.in-Some.piece (omega arith) (sym c.in-Some.is ∙ c.piece_at.ensures) in
+    omega arith
+
 pub returns-in-Some-clause-steps : goal.returns-in-Some-clause-steps
 returns-in-Some-clause-steps c =
     left_more (pieces_at c.self.inside.motion.now c.self.inside.depth) c.args.self.now c.self.inside.next c.in-Some.piece c.self.view_is
