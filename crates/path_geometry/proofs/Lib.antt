@@ -1,3 +1,4 @@
 pub mod ArcSoundness
 pub mod EndsLaws
 pub mod RadiusLaws
+pub mod RingLaws

@@ -2,8 +2,10 @@
 #![tactic(auto)]
 
 mod arcs;
+mod laws;
 mod motion;
 mod vector;
 
 pub use arcs::{arc_by_centre, arc_by_radius};
+pub use laws::sound_arcs_run_in_a_ring;
 pub use motion::{Arc, Ends, Motion};
