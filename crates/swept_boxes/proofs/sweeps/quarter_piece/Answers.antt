@@ -1,7 +1,7 @@
 -- What is known of a sound arc and of its quarters is what their parts need.
 use Rattle.std.proofs.Common.{◌≡◌, ◌∙◌, ap, arith}
 use Rattle.arc_quadrants.proofs.HalfLaws.{near_short}
-use Rattle.arc_quadrants.proofs.SoundArcs.{radii_ordered, outer_near, with_some}
+use Rattle.arc_quadrants.proofs.SoundArcs.{radii_ordered, outer_near, centre_in_range}
 use Rattle.swept_boxes.specs.PlaneBoxes.{BoxInPlane}
 use Rattle.swept_boxes.specs.Pieces.{ranges_over}
 use Rattle.swept_boxes.proofs.ArcPieceLaws.{piece_of_quarter}
@@ -20,10 +20,10 @@ pub box_of_part-requires-clause-outer : goal.box_of_part-requires-clause-outer
 box_of_part-requires-clause-outer c = omega (arith, outer_near c.args.arc.now c.requires.sound)
 
 pub ranges_over-requires-clause-first : goal.ranges_over-requires-clause-first
-ranges_over-requires-clause-first c = (with_some c.args.arc.now c.requires.sound).in_range.0
+ranges_over-requires-clause-first c = (centre_in_range c.args.arc.now c.requires.sound).0
 
 pub ranges_over-requires-clause-second : goal.ranges_over-requires-clause-second
-ranges_over-requires-clause-second c = (with_some c.args.arc.now c.requires.sound).in_range.1
+ranges_over-requires-clause-second c = (centre_in_range c.args.arc.now c.requires.sound).1
 
 pub returns : goal.returns
 returns c =
