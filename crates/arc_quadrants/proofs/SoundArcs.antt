@@ -43,8 +43,8 @@ unfolding arc_of_radius arc_placed
 of_radius_in_range arc made =
     let centre = centre_of arc.ends arc.first arc.second made.radius made.long in
     let found = both_none (radius_alarm (way_of arc.ends arc.first arc.second) made.radius)
-        (place_alarm centre (start_about arc.ends arc.first arc.second centre) (end_about arc.ends arc.first arc.second centre))
-        (arc_with arc.ends arc.first arc.second centre 2) arc made.gives in
+    (place_alarm centre (start_about arc.ends arc.first arc.second centre) (end_about arc.ends arc.first arc.second centre))
+    (arc_with arc.ends arc.first arc.second centre 2) arc made.gives in
     let same : (arc_with arc.ends arc.first arc.second centre 2).centre ≡ arc.centre = ap (λ (a : Arc). a.centre) found.1 in
     subst (λ (c : ℤ × ℤ). IsInRange c.0 × IsInRange c.1) same
     (subst (λ (c : ℤ × ℤ). IsInRange c.0 × IsInRange c.1) (sym (centre_kept arc.ends arc.first arc.second centre 2))

@@ -70,14 +70,14 @@ part_holds : (arc : Arc) (point : Point) (quarter : Quarter) (d : (ℕ × ℕ) �
 part_holds arc point quarter d on is =
     All-map (λ r. IsIn r.1 r.2 (point.top r.0) point.under) (range_over arc (box_of_part arc quarter d)) arc.ends.axes
     (λ i e h. range_holds arc point (box_of_part arc quarter d)
-        (turned_holds quarter.turn (bounds_between arc.inner arc.outer d.0 d.1) (point_seen arc point) point.under is)
-        (get_or arc.ends.axes i e) (on.others i e h))
+    (turned_holds quarter.turn (bounds_between arc.inner arc.outer d.0 d.1) (point_seen arc point) point.under is)
+    (get_or arc.ends.axes i e) (on.others i e h))
 
 pub arc_covered : (arc : Arc) (depth : ℕ) (point : Point) → IsSoundArc arc → IsOnArc arc point → Any (λ piece. Hold piece point) (arc_pieces arc depth)
 arc_covered arc depth point sound on = at_place (arc_held depth arc point sound on)
   where
     at_place : (place : ℕ) × (place < quarter_count (start_seen arc) (end_seen arc)) ×
-            IsHeld depth arc.inner arc.outer (start_seen arc) (end_seen arc) (point_seen arc point) point.under place
+        IsHeld depth arc.inner arc.outer (start_seen arc) (end_seen arc) (point_seen arc point) point.under place
         → Any (λ piece. Hold piece point) (arc_pieces arc depth)
     at_place (place, less, held) =
         let f = quarter_at arc.outer (start_seen arc) (end_seen arc) in
@@ -85,8 +85,8 @@ arc_covered arc depth point sound on = at_place (arc_held depth arc point sound 
         (rw length-map-range_with_len less)
         (get_or-map-range_with_len f 0 (quarter_count (start_seen arc) (end_seen arc)) place place (f place) less (omega arith))
         (any_map (λ d. IsBound (bounds_between arc.inner arc.outer d.0 d.1) (turned_back (f place).turn (point_seen arc point)) point.under)
-            (λ piece. Hold piece point) (λ d. ranges_over arc (box_of_part arc (f place) d)) (λ d is. part_holds arc point (f place) d on is)
-            (halves depth (f place).from (f place).to) held)
+        (λ piece. Hold piece point) (λ d. ranges_over arc (box_of_part arc (f place) d)) (λ d is. part_holds arc point (f place) d on is)
+        (halves depth (f place).from (f place).to) held)
 
 -- ---- within the cover
 -- a quarter runs ahead from one direction to another, neither of which is without length
@@ -140,7 +140,7 @@ arc_smallest arc sound =
       least = λ other h. let each = flat_all (λ piece. LieIn piece other) (pieces_of_quarter arc 0) (quarters_of arc) h in
           joined_least arc other (map (box_of_quarter arc) (quarters_of arc)) (rw length-map (quarters_some arc))
           (All-map (λ b. LieIn (ranges_over arc b) other) (box_of_quarter arc) (quarters_of arc)
-              (λ i d less. first_piece arc other (get_or (quarters_of arc) i d) (each i d less)));
+          (λ i d less. first_piece arc other (get_or (quarters_of arc) i d) (each i d less)));
     }
 
 -- ---- how many pieces there are

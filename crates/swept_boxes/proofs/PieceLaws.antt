@@ -30,7 +30,7 @@ use Rattle.arc_quadrants.proofs.HalfLaws.{few_parts}
 use Rattle.path_geometry.specs.Ends.{EndsView}
 use Rattle.path_geometry.specs.Motions.{IsSound}
 use Rattle.path_geometry.specs.Path.{Point, along, IsOnLine, IsOnRapid, IsOnPath}
-use Rattle.swept_boxes.specs.Pieces.{low_of_part, high_of_part, range_of_part, part_of_line, pieces_of_line, range_between, box_of_ends, quarters_in, pieces_at}
+use Rattle.swept_boxes.specs.Pieces.{low_of_part, high_of_part, range_of_part, part_of_line, pieces_of_line, pieces_of_rapid, range_between, box_of_ends, quarters_in, pieces_at}
 use Rattle.swept_boxes.specs.Ranges.{RangesView, Hold, LieIn}
 use Rattle.swept_boxes.proofs.ArcPieceLaws.{arc_covered, arc_in_cover, arc_smallest, few_arc_pieces}
 use Rattle.swept_boxes.proofs.LineLaws.{floor-ge, ceil-le}
@@ -301,13 +301,13 @@ no_piece_of_line ends depth place parts is past = sym (get_past (pieces_of_line 
 
 pub ruleset line_places = (piece_of_line, no_piece_of_line)
 
-pub no_second_piece : (ends : EndsView) (depth place : ℕ) → (place ≡ 0 → ⊥) → None ≡ slice_get (pieces_at (Rapid ends) depth) place
-no_second_piece ends depth zero later = absurd (later refl)
-no_second_piece ends depth (suc place) later = refl
+pub no_second_piece : (ends : EndsView) (place : ℕ) → (place ≡ 0 → ⊥) → None ≡ slice_get (pieces_of_rapid ends) place
+no_second_piece ends zero later = absurd (later refl)
+no_second_piece ends (suc place) later = refl
 
-pub first_piece : (ends : EndsView) (depth place : ℕ) (piece : RangesView) → place ≡ 0 → piece ≡ box_of_ends ends → Some piece ≡ slice_get (pieces_at (Rapid ends) depth) place
-first_piece ends depth zero piece e is = ap (λ (r : RangesView). Some r) is
-first_piece ends depth (suc place) piece e is = absurd (omega arith)
+pub only_piece : (ends : EndsView) (place : ℕ) (piece : RangesView) → place ≡ 0 → piece ≡ box_of_ends ends → Some piece ≡ slice_get (pieces_of_rapid ends) place
+only_piece ends zero piece e is = ap (λ (r : RangesView). Some r) is
+only_piece ends (suc place) piece e is = absurd (omega arith)
 
 pub few_pieces : (motion : Motion) (depth : ℕ) → depth ≤ 4 → length (pieces_at motion depth) ≤ 80
 few_pieces (Line ends) depth h = rw length-map-range_with_len (omega (arith, few_parts depth h))

@@ -62,11 +62,11 @@ range_holds arc point box is e other =
     cond_both (e.0 == arc.first) (e.0, arc.centre.0 +ℤ box.u_low, arc.centre.0 +ℤ box.u_high)
     (if e.0 == arc.second then (e.0, arc.centre.1 +ℤ box.v_low, arc.centre.1 +ℤ box.v_high) else range_between e) (RangeHolds point)
     (λ yes. subst (λ (axis : ℕ). IsIn (arc.centre.0 +ℤ box.u_low) (arc.centre.0 +ℤ box.u_high) (point.top axis) point.under)
-        (sym (eqb-true e.0 arc.first yes)) (moved_in box.u_low box.u_high arc.centre.0 (point.top arc.first) point.under is.on_u))
+    (sym (eqb-true e.0 arc.first yes)) (moved_in box.u_low box.u_high arc.centre.0 (point.top arc.first) point.under is.on_u))
     (λ no. cond_both (e.0 == arc.second) (e.0, arc.centre.1 +ℤ box.v_low, arc.centre.1 +ℤ box.v_high) (range_between e) (RangeHolds point)
-        (λ yes. subst (λ (axis : ℕ). IsIn (arc.centre.1 +ℤ box.v_low) (arc.centre.1 +ℤ box.v_high) (point.top axis) point.under)
-            (sym (eqb-true e.0 arc.second yes)) (moved_in box.v_low box.v_high arc.centre.1 (point.top arc.second) point.under is.on_v))
-        (λ neither. other (not_same e.0 arc.first no) (not_same e.0 arc.second neither)))
+    (λ yes. subst (λ (axis : ℕ). IsIn (arc.centre.1 +ℤ box.v_low) (arc.centre.1 +ℤ box.v_high) (point.top axis) point.under)
+    (sym (eqb-true e.0 arc.second yes)) (moved_in box.v_low box.v_high arc.centre.1 (point.top arc.second) point.under is.on_v))
+    (λ neither. other (not_same e.0 arc.first no) (not_same e.0 arc.second neither)))
 
 -- ---- boxes within boxes
 pub record AreWithin (a b : BoxInPlane) : Type 0 where
@@ -199,5 +199,5 @@ pub on_second : (arc : Arc) (box : BoxInPlane) (e : AxisId × Um × Um) (low hig
 on_second arc box e low high other same l h =
     ap (λ (n : ℤ). (e.0, n, high)) l ∙ ap (λ (n : ℤ). (e.0, arc.centre.1 +ℤ box.v_low, n)) h
     ∙ sym (cond-false (e.0 == arc.first) (e.0, arc.centre.0 +ℤ box.u_low, arc.centre.0 +ℤ box.u_high)
-        (if e.0 == arc.second then (e.0, arc.centre.1 +ℤ box.v_low, arc.centre.1 +ℤ box.v_high) else range_between e) (ne_eqb e.0 arc.first other)
+    (if e.0 == arc.second then (e.0, arc.centre.1 +ℤ box.v_low, arc.centre.1 +ℤ box.v_high) else range_between e) (ne_eqb e.0 arc.first other)
     ∙ cond-true (e.0 == arc.second) (e.0, arc.centre.1 +ℤ box.v_low, arc.centre.1 +ℤ box.v_high) (range_between e) (eq-eqb e.0 arc.second same))

@@ -49,6 +49,10 @@ range_between e = (e.0, int_min e.1 e.2, int_max e.1 e.2)
 abbrev pub box_of_ends : EndsView → RangesView
 box_of_ends ends = record { axes = map range_between ends.axes }
 
+-- one piece
+abbrev pub pieces_of_rapid : EndsView → List RangesView
+pieces_of_rapid ends = box_of_ends ends ∷ []
+
 -- ---- arcs
 -- the range of an axis of an arc over a box of its plane: an axis of the plane is within the box about the centre, and another one
 -- anywhere between its start and its end
@@ -79,5 +83,5 @@ quarters_in (Kind.Arc arc) = quarters_of arc
 -- the pieces in order: a rapid is one piece at every depth, and an arc is cut into quarters first
 abbrev pub pieces_at : Motion → ℕ → List RangesView
 pieces_at (Line ends) depth = pieces_of_line ends depth
-pieces_at (Rapid ends) depth = box_of_ends ends ∷ []
+pieces_at (Rapid ends) depth = pieces_of_rapid ends
 pieces_at (Kind.Arc arc) depth = flat_map (pieces_of_quarter arc depth) (quarters_of arc)

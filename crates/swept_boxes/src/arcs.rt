@@ -119,9 +119,17 @@ fn range_over(arc: &Arc, area: PlaneBox, entry: (AxisId, Um, Um)) -> (AxisId, Um
 {
     let axis = entry.0;
     if is_same(axis, arc.first) {
-        (axis, moved(arc.centre.0, area.u_low), moved(arc.centre.0, area.u_high))
+        (
+            axis,
+            moved(arc.centre.0, area.u_low),
+            moved(arc.centre.0, area.u_high),
+        )
     } else if is_same(axis, arc.second) {
-        (axis, moved(arc.centre.1, area.v_low), moved(arc.centre.1, area.v_high))
+        (
+            axis,
+            moved(arc.centre.1, area.v_low),
+            moved(arc.centre.1, area.v_high),
+        )
     } else {
         range_between(entry)
     }

@@ -65,3 +65,5 @@ impl Box3 {
     }
 }
 
+#[cfg(test)]
+mod tests;

@@ -5,7 +5,7 @@ ghost use Rattle.arc_quadrants.specs.Quarters.{AreFit};
 ghost use Rattle.path_geometry.specs.Motions.{IsSound, IsSoundArc};
 ghost use Rattle.path_geometry.specs.Path.{Point, IsOnPath};
 ghost use Rattle.swept_boxes.specs.Cover.{cover_of, AreSmallest};
-ghost use Rattle.swept_boxes.specs.Pieces.{pieces_at, pieces_of_line, pieces_of_quarter, quarters_in};
+ghost use Rattle.swept_boxes.specs.Pieces.{pieces_at, pieces_of_line, pieces_of_rapid, pieces_of_quarter, quarters_in};
 ghost use Rattle.swept_boxes.specs.Ranges.{Hold, LieIn};
 
 use crate::Ranges;
@@ -73,6 +73,17 @@ fn line_piece(ends: &Ends, depth: u8, place: u8) -> Option<Ranges>
     }
 }
 
+/// The piece of a rapid at a place.
+fn rapid_piece(ends: &Ends, place: u8) -> Option<Ranges>
+    ensures { result ≡ slice_get (pieces_of_rapid ends.now) place }
+{
+    if place == 0 {
+        Some(box_of_ends(ends))
+    } else {
+        None
+    }
+}
+
 /// The piece of one quarter of an arc at a place.
 fn quarter_piece(arc: &Arc, quarter: &Quarter, depth: u8, place: u8) -> Ranges
     requires sound { IsSoundArc arc.now }
@@ -118,13 +129,7 @@ fn piece_at(motion: &Motion, quarters: &[Quarter], depth: u8, place: u8) -> Opti
 {
     match motion {
         Motion::Line(ends) => line_piece(ends, depth, place),
-        Motion::Rapid(ends) => {
-            if place == 0 {
-                Some(box_of_ends(ends))
-            } else {
-                None
-            }
-        }
+        Motion::Rapid(ends) => rapid_piece(ends, place),
         Motion::Arc(arc) => arc_piece(arc, quarters, depth, place),
     }
 }

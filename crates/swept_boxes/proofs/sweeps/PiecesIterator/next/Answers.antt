@@ -19,6 +19,6 @@ returns-in-Some-clause-goes c = let e = ap length (returns-in-Some-clause-steps 
 pub returns-in-None-clause-steps : goal.returns-in-None-clause-steps
 returns-in-None-clause-steps c =
     let none : c.args.self.now ≡ [] =
-        left_none (pieces_at c.self.inside.motion.now c.self.inside.depth) c.args.self.now c.self.inside.next c.self.view_is
-        (sym c.in-None.is ∙ c.piece_at.ensures) in
+    left_none (pieces_at c.self.inside.motion.now c.self.inside.depth) c.args.self.now c.self.inside.next c.self.view_is
+    (sym c.in-None.is ∙ c.piece_at.ensures) in
     (none, none)
