@@ -38,7 +38,7 @@ impl Model for Num {
     ghost inverse = { λ z. record { millionths = z } };
 }
 
-/// A position or a length in whole micrometres, at most 20,000,000 in size.
+/// A position, a length or a bound in whole micrometres, at most 50,000,000 in size: so far at the most do the boxes of arcs reach.
 ///
 /// A contract sees it as this count.
 #[derive(Clone, Copy, Debug, PartialEq, Eq)]
@@ -55,7 +55,7 @@ impl Model for Um {
 
     ghost view = { λ u. u.micrometres };
 
-    ghost invariant = { λ u. unsigned_abs u.micrometres ≤ 20000000 };
+    ghost invariant = { λ u. unsigned_abs u.micrometres ≤ 50000000 };
 
     ghost inverse = { λ z. record { micrometres = z } };
 }

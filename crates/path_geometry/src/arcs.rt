@@ -38,7 +38,8 @@ fn course_of(ends: &Ends, axis: AxisId) -> (Um, Um)
 fn seen(position: Um, from: Um) -> Um
     requires position { IsInRange position }
     requires from { IsInRange from }
-    ensures { result ≡ position -ℤ from }
+    ensures value { result ≡ position -ℤ from }
+    ensures size { unsigned_abs result ≤ 20000000 }
 {
     Um {
         micrometres: position.micrometres - from.micrometres,
@@ -229,6 +230,7 @@ fn height_of(way: Vector, radius: u32) -> u64
 
 /// The root of a height, in the part that it has along the other axis.
 fn root_of(part: Um, height: u64, square: u64) -> u64
+    requires part { unsigned_abs part ≤ 20000000 }
     requires height { height ≤ 400000000000000 }
     requires divides { 0 < square }
     ensures value { result ≡ floor_root (((unsigned_abs part * unsigned_abs part) * height) / square) }
@@ -253,6 +255,7 @@ fn with_sign(part: Um, size: u64) -> i64
 #[tactic(auto, unfolding(crate::specs::Arcs::offset))]
 fn offset(way: Vector, radius: u32, part: Um) -> i64
     requires radius { radius ≤ 10000000 }
+    requires part { unsigned_abs part ≤ 20000000 }
     requires divides { 0 < square way }
     ensures value { result ≡ spec.offset way radius part }
     ensures size { unsigned_abs result < 2 ^ 60 }
@@ -278,6 +281,8 @@ fn opposite(offset: i64) -> i64
 
 /// The middle between the two, twice.
 fn middle(start: Um, end: Um) -> i32
+    requires start { unsigned_abs start ≤ 20000000 }
+    requires end { unsigned_abs end ≤ 20000000 }
     ensures value { result ≡ start +ℤ end }
     ensures size { unsigned_abs result ≤ 40000000 }
 {

@@ -5,7 +5,7 @@ ghost use Rattle.path_geometry.specs.Vectors as spec;
 use micro_units::Um;
 use std::marker::Model;
 
-/// A vector of the plane.
+/// A vector of the plane, its parts at most 20,000,000 micrometres in size.
 #[derive(Clone, Copy)]
 pub(crate) struct Vector {
     /// Its part along the first axis.
@@ -15,11 +15,14 @@ pub(crate) struct Vector {
 }
 
 impl Model for Vector {
+    ghost use Rattle.std.specs.Prelude.{◌≤◌, unsigned_abs};
     ghost use Rattle.path_geometry.specs.Vectors as vectors;
 
     ghost Value = { vectors.Vector };
 
     ghost view = { λ w. record { u = w.u; v = w.v } };
+
+    ghost invariant = { λ w. (unsigned_abs w.u ≤ 20000000) × (unsigned_abs w.v ≤ 20000000) };
 
     ghost inverse = { λ w. record { u = w.u; v = w.v } };
 }
@@ -55,6 +58,7 @@ impl Vector {
 
 /// The square of a length.
 pub(crate) fn square_of(part: Um) -> u64
+    requires { unsigned_abs part ≤ 20000000 }
     ensures value { result ≡ unsigned_abs part * unsigned_abs part }
     ensures size { result ≤ 400000000000000 }
 {
@@ -63,6 +67,8 @@ pub(crate) fn square_of(part: Um) -> u64
 }
 
 fn product(a: Um, b: Um) -> i64
+    requires first { unsigned_abs a ≤ 20000000 }
+    requires second { unsigned_abs b ≤ 20000000 }
     ensures value { result ≡ a *ℤ b }
     ensures size { unsigned_abs result ≤ 400000000000000 }
 {

@@ -8,7 +8,7 @@ use Rattle.number_laws.proofs.FloorLaws.{floor_div-le, floor_greatest, ceil_div-
 use Rattle.number_laws.proofs.Ring.{var, plus, minus, times}
 use Rattle.number_laws.proofs.Orders.{given, by, both, certify}
 use Rattle.number_laws.specs.Floors.{floor_div, ceil_div}
-use Rattle.swept_boxes.specs.Path.{along}
+use Rattle.path_geometry.specs.Path.{along}
 
 -- m ≥ start and m ≥ end: m * whole - along = (m - start) * (whole - part) + (m - end) * part
 pub along-le : (start end m : ℤ) (whole part : ℕ) → part ≤ whole → start ≤ℤ m → end ≤ℤ m → along start end whole part ≤ℤ (m *ℤ pos whole)

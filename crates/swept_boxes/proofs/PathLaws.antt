@@ -4,8 +4,8 @@ use Rattle.std.proofs.lemmas.Int.{ints}
 use Rattle.std.specs.List.{All}
 use Rattle.std.specs.Prelude.{ℤ, pos, ◌*ℤ◌}
 use Rattle.number_laws.proofs.Ring.{num, var, plus, minus, times, ring}
-use Rattle.swept_boxes.specs.Ends.{EndsView}
-use Rattle.swept_boxes.specs.Path.{Point, along, IsOnLine}
+use Rattle.path_geometry.specs.Ends.{EndsView}
+use Rattle.path_geometry.specs.Path.{Point, along, IsOnLine}
 
 -- a point whose positions are this far along, over the number under the point itself
 pub on_line : (ends : EndsView) (point : Point) (part : ℕ) → 0 < point.under → part ≤ point.under

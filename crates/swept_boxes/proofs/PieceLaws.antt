@@ -1,14 +1,12 @@
--- The pieces of a line hold each point of its path, and lie in its cover.
-use Rattle.std.proofs.Common.{◌≡◌, ◌∙◌, ◌+◌, ◌-◌, ◌*◌, ◌/◌, ◌^◌, ◌<◌, ◌≤◌, ◌⊎◌, ℕ, zero, suc, inl, inr, List, [], ◌∷◌, length, get_or, map, drop, refl, ap, subst, sym, add-one, arith}
+-- The pieces of a motion hold each point of its path, and lie in its cover.
+use Rattle.std.proofs.Common.{◌≡◌, ◌∙◌, ◌+◌, ◌-◌, ◌*◌, ◌/◌, ◌^◌, ◌<◌, ◌≤◌, ◌⊎◌, ℕ, zero, suc, inl, inr, List, [], ◌∷◌, Some, None, length, get_or, map, drop, refl, ap, subst, sym, zero-add, arith}
 use Rattle.std.proofs.Math.Nat.{mul-le-mul_right, mul-lt-mul_of_pos_right, one-le-pow}
-use Rattle.std.proofs.Math.ListN.{drop_of_length-le}
-use Rattle.std.proofs.Math.Seq.{drop-cons}
 use Rattle.std.proofs.lemmas.Int.{ints}
-use Rattle.std.proofs.lemmas.List.Elements.{All-map}
+use Rattle.std.proofs.lemmas.List.Elements.{All-cons, All-map, All-nil}
 use Rattle.std.proofs.lemmas.List.FromFn.{length-range_with_len, get_or-range_with_len, length-map-range_with_len, get_or-map-range_with_len}
 use Rattle.std.proofs.lemmas.Nat.{div_below}
 use Rattle.std.specs.Int.{int_max, int_min}
-use Rattle.std.specs.List.{All, AllZip, Any, range_with_len}
+use Rattle.std.specs.List.{All, AllZip, Any, range_with_len, slice_get}
 use Rattle.std.specs.Prelude.{ℤ, pos, ◌+ℤ◌, ◌-ℤ◌, ◌*ℤ◌, ◌≤ℤ◌}
 use Rattle.number_laws.proofs.FloorLaws.{floor_div-le, ceil_div-ge, floor_div-one, ceil_div-one}
 use Rattle.number_laws.proofs.FractionLaws.{in_from_same}
@@ -19,14 +17,22 @@ use Rattle.number_laws.proofs.Ring.{num, var, plus, minus, times}
 use Rattle.number_laws.specs.Floors.{floor_div, ceil_div}
 use Rattle.number_laws.specs.Fractions.{IsIn}
 use Rattle.micro_units.specs.declared.Um.{Um}
-use Rattle.swept_boxes.specs.declared.AxisId.{AxisId}
-use Rattle.swept_boxes.specs.declared.Motion.{Motion}
-use Rattle.swept_boxes.specs.declared.Motion.TheVariants.{Line}
-use Rattle.swept_boxes.specs.Cover.{range_between, cover_of_line, cover_of, AreSmallest}
-use Rattle.swept_boxes.specs.Ends.{EndsView}
-use Rattle.swept_boxes.specs.Path.{Point, along, IsOnLine, IsOnPath}
-use Rattle.swept_boxes.specs.Pieces.{low_of_part, high_of_part, range_of_part, part_of_line, part_of, pieces_at}
+use Rattle.axis_sets.specs.declared.ids.AxisId.{AxisId}
+use Rattle.path_geometry.specs.declared.motion.Arc.{Arc}
+use Rattle.path_geometry.specs.declared.motion.Motion.{Motion}
+use Rattle.path_geometry.specs.declared.motion.Motion.TheVariants.{Line, Rapid}
+use Rattle.path_geometry.specs.declared.motion.Motion.TheVariants as Kind
+use Rattle.swept_boxes.specs.Cover.{cover_of, AreSmallest}
+use Rattle.arc_quadrants.specs.Quarters.{AreFit}
+use Rattle.arc_quadrants.specs.declared.walk.Quarter.{Quarter}
+use Rattle.arc_quadrants.proofs.ArcLaws.{quarters_fit}
+use Rattle.arc_quadrants.proofs.HalfLaws.{few_parts}
+use Rattle.path_geometry.specs.Ends.{EndsView}
+use Rattle.path_geometry.specs.Motions.{IsSound}
+use Rattle.path_geometry.specs.Path.{Point, along, IsOnLine, IsOnRapid, IsOnPath}
+use Rattle.swept_boxes.specs.Pieces.{low_of_part, high_of_part, range_of_part, part_of_line, pieces_of_line, pieces_of_rapid, range_between, box_of_ends, quarters_in, pieces_at}
 use Rattle.swept_boxes.specs.Ranges.{RangesView, Hold, LieIn}
+use Rattle.swept_boxes.proofs.ArcPieceLaws.{arc_covered, arc_in_cover, arc_smallest, few_arc_pieces}
 use Rattle.swept_boxes.proofs.LineLaws.{floor-ge, ceil-le}
 
 -- ---- the part of the way in which a position lies
@@ -133,6 +139,33 @@ in_part start end parts whole part j is some_parts =
           (high_is_above (high_of_part start end parts j) second parts some_parts (max_right (ceil_div first parts) (ceil_div second parts)));
     }
 
+-- ---- lists by their places
+get_mapped : {X : Type 0} (f : ℕ → X) (a n k : ℕ) → k < n → slice_get (map f (range_with_len a n)) k ≡ Some (f (a + k))
+get_mapped f a zero k h = absurd (omega arith)
+get_mapped f a (suc n) zero h = let e : a + 0 ≡ a = omega arith in rw e refl
+get_mapped f a (suc n) (suc k) h = let e : a + suc k ≡ (a + 1) + k = omega arith in rw e (get_mapped f (a + 1) n k (omega arith))
+
+get_past : {X : Type 0} (xs : List X) (k : ℕ) → length xs ≤ k → slice_get xs k ≡ None
+get_past [] k h = refl
+get_past (x ∷ xs) zero h = absurd (omega arith)
+get_past (x ∷ xs) (suc k) h = get_past xs k (omega arith)
+
+get_within : {X : Type 0} (xs : List X) (k : ℕ) (x : X) → slice_get xs k ≡ Some x → k < length xs
+get_within [] k x h = absurd (cc)
+get_within (y ∷ xs) zero x h = omega arith
+get_within (y ∷ xs) (suc k) x h = let e = get_within xs k x h in omega arith
+
+drop_get : {X : Type 0} (xs : List X) (k : ℕ) (x : X) → slice_get xs k ≡ Some x → drop k xs ≡ x ∷ drop (k + 1) xs
+drop_get [] k x h = absurd (cc)
+drop_get (y ∷ xs) zero x h = let e : y ≡ x = cc in ap (λ z. z ∷ xs) e
+drop_get (y ∷ xs) (suc k) x h = let e : suc k + 1 ≡ suc (k + 1) = omega arith in rw e (drop_get xs k x h)
+
+drop_none : {X : Type 0} (xs : List X) (k : ℕ) → slice_get xs k ≡ None → drop k xs ≡ []
+drop_none [] zero h = refl
+drop_none [] (suc k) h = refl
+drop_none (y ∷ xs) zero h = absurd (cc)
+drop_none (y ∷ xs) (suc k) h = drop_none xs k h
+
 -- ---- the pieces of a line
 some_parts_at : (depth : ℕ) → 0 < 2 ^ depth
 some_parts_at depth = omega (arith, one-le-pow depth 2 (omega arith))
@@ -158,8 +191,13 @@ line_covered ends depth point l = at_part (part_at (2 ^ depth) l.whole l.part (s
       part_holds ends point l (2 ^ depth) j is (some_parts_at depth),
     )
 
-pub covered : (motion : Motion) (depth : ℕ) (point : Point) → IsOnPath motion point → Any (λ piece. Hold piece point) (pieces_at motion depth)
-covered (Line ends) depth point l = line_covered ends depth point l
+rapid_covered : (ends : EndsView) (point : Point) → IsOnRapid ends point → Hold (box_of_ends ends) point
+rapid_covered ends point on = All-map (λ r. IsIn r.1 r.2 (point.top r.0) point.under) range_between ends.axes on.between
+
+pub covered : (motion : Motion) (depth : ℕ) (point : Point) → IsSound motion → IsOnPath motion point → Any (λ piece. Hold piece point) (pieces_at motion depth)
+covered (Line ends) depth point sound on = line_covered ends depth point on
+covered (Rapid ends) depth point sound on = (0, box_of_ends ends, omega arith, refl, rapid_covered ends point on)
+covered (Kind.Arc arc) depth point sound on = arc_covered arc depth point sound on
 
 -- ---- the cover of a line
 AllZip-maps : {X Y Z : Type 0} (R : Y → Z → Type 0) (f : X → Y) (g : X → Z) → ((x : X) → R (f x) (g x))
@@ -167,7 +205,7 @@ AllZip-maps : {X Y Z : Type 0} (R : Y → Z → Type 0) (f : X → Y) (g : X →
 AllZip-maps R f g h [] = tt
 AllZip-maps R f g h (x ∷ xs) = (h x, AllZip-maps R f g h xs)
 
-part_in_cover : (ends : EndsView) (parts j : ℕ) → j < parts → LieIn (part_of_line ends parts j) (cover_of_line ends)
+part_in_cover : (ends : EndsView) (parts j : ℕ) → j < parts → LieIn (part_of_line ends parts j) (box_of_ends ends)
 part_in_cover ends parts j h =
     AllZip-maps (λ r s. (r.0 ≡ s.0) × (s.1 ≤ℤ r.1) × (r.2 ≤ℤ s.2)) (range_of_part parts j) range_between
     (λ e. (refl, low e.1 e.2, high e.1 e.2)) ends.axes
@@ -184,14 +222,27 @@ part_in_cover ends parts j h =
         (ceil-le start end (int_max start end) parts j (omega arith) (omega arith) (max_left start end) (max_right start end))
         (ceil-le start end (int_max start end) parts (j + 1) (omega arith) (omega arith) (max_left start end) (max_right start end))
 
-pub in_cover : (motion : Motion) (depth : ℕ) → All (λ piece. LieIn piece (cover_of motion)) (pieces_at motion depth)
-in_cover (Line ends) depth =
-    All-map (λ piece. LieIn piece (cover_of_line ends)) (part_of_line ends (2 ^ depth)) (range_with_len 0 (2 ^ depth))
+line_in_cover : (ends : EndsView) (depth : ℕ) → All (λ piece. LieIn piece (box_of_ends ends)) (pieces_of_line ends depth)
+line_in_cover ends depth =
+    All-map (λ piece. LieIn piece (box_of_ends ends)) (part_of_line ends (2 ^ depth)) (range_with_len 0 (2 ^ depth))
     (λ i d h. part_in_cover ends (2 ^ depth) (get_or (range_with_len 0 (2 ^ depth)) i d) (number_below i d h))
   where
     number_below : (i d : ℕ) → i < length (range_with_len 0 (2 ^ depth)) → get_or (range_with_len 0 (2 ^ depth)) i d < 2 ^ depth
     number_below i d h =
         let less : i < 2 ^ depth = rw length-range_with_len at h in omega (arith, get_or-range_with_len 0 (2 ^ depth) i d less)
+
+lies_in_itself : (ranges : RangesView) → LieIn ranges ranges
+lies_in_itself ranges = of_list ranges.axes
+  where
+    of_list : (axes : List (AxisId × Um × Um)) → AllZip (λ r s. (r.0 ≡ s.0) × (s.1 ≤ℤ r.1) × (r.2 ≤ℤ s.2)) axes axes
+    of_list [] = tt
+    of_list (e ∷ es) = ((refl, omega (arith, ints), omega (arith, ints)), of_list es)
+
+pub in_cover : (motion : Motion) (depth : ℕ) → IsSound motion → All (λ piece. LieIn piece (cover_of motion)) (pieces_at motion depth)
+in_cover (Line ends) depth sound = line_in_cover ends depth
+in_cover (Rapid ends) depth sound =
+    All-cons (λ piece. LieIn piece (box_of_ends ends)) (box_of_ends ends) [] (lies_in_itself (box_of_ends ends)) (All-nil (λ piece. LieIn piece (box_of_ends ends)))
+in_cover (Kind.Arc arc) depth sound = arc_in_cover arc depth sound
 
 -- at depth 0 the cover is the one piece
 start_is : (start end : ℤ) → along start end 1 0 ≡ start
@@ -219,45 +270,64 @@ map-same : {X Y : Type 0} (f g : X → Y) → ((x : X) → f x ≡ g x) → (xs 
 map-same f g h [] = refl
 map-same f g h (x ∷ xs) = ap (λ y. y ∷ map f xs) (h x) ∙ ap (λ ys. g x ∷ ys) (map-same f g h xs)
 
-pub whole_line : (ends : EndsView) → part_of_line ends 1 0 ≡ cover_of_line ends
+pub whole_line : (ends : EndsView) → part_of_line ends 1 0 ≡ box_of_ends ends
 whole_line ends =
     ap (λ (axes : List (AxisId × Um × Um)). record { axes = axes }) (map-same (range_of_part 1 0) range_between whole_range ends.axes)
 
-pub smallest : (motion : Motion) → AreSmallest (cover_of motion) (pieces_at motion 0)
-smallest (Line ends) =
+pub smallest : (motion : Motion) → IsSound motion → AreSmallest (cover_of motion) (pieces_at motion 0)
+smallest (Line ends) sound =
     record {
-      hold = in_cover (Line ends) 0;
-      least = λ other h. subst (λ (ranges : RangesView). LieIn ranges other) (whole_line ends) (h 0 (cover_of_line ends) (omega arith));
+      hold = in_cover (Line ends) 0 sound;
+      least = λ other h. subst (λ (ranges : RangesView). LieIn ranges other) (whole_line ends) (h 0 (box_of_ends ends) (omega arith));
     }
+smallest (Rapid ends) sound =
+    record {
+      hold = in_cover (Rapid ends) 0 sound;
+      least = λ other h. h 0 (box_of_ends ends) (omega arith);
+    }
+smallest (Kind.Arc arc) sound = arc_smallest arc sound
+
+-- ---- a piece by its place, as the code meets it
+pub piece_of_line : (ends : EndsView) (depth place parts : ℕ) (piece : RangesView) → parts ≡ 2 ^ depth → place < parts → piece ≡ part_of_line ends parts place
+    → Some piece ≡ slice_get (pieces_of_line ends depth) place
+piece_of_line ends depth place parts piece is less e =
+    let here : place < 2 ^ depth = omega arith in
+    ap (λ (r : RangesView). Some r) (e ∙ ap (λ (n : ℕ). part_of_line ends n place) is)
+    ∙ ap (λ (n : ℕ). Some (part_of_line ends (2 ^ depth) n)) (sym (zero-add place))
+    ∙ sym (get_mapped (part_of_line ends (2 ^ depth)) 0 (2 ^ depth) place here)
+
+pub no_piece_of_line : (ends : EndsView) (depth place parts : ℕ) → parts ≡ 2 ^ depth → parts ≤ place → None ≡ slice_get (pieces_of_line ends depth) place
+no_piece_of_line ends depth place parts is past = sym (get_past (pieces_of_line ends depth) place (rw length-map-range_with_len (omega arith)))
+
+pub ruleset line_places = (piece_of_line, no_piece_of_line)
+
+pub no_second_piece : (ends : EndsView) (place : ℕ) → (place ≡ 0 → ⊥) → None ≡ slice_get (pieces_of_rapid ends) place
+no_second_piece ends zero later = absurd (later refl)
+no_second_piece ends (suc place) later = refl
+
+pub only_piece : (ends : EndsView) (place : ℕ) (piece : RangesView) → place ≡ 0 → piece ≡ box_of_ends ends → Some piece ≡ slice_get (pieces_of_rapid ends) place
+only_piece ends zero piece e is = ap (λ (r : RangesView). Some r) is
+only_piece ends (suc place) piece e is = absurd (omega arith)
+
+pub few_pieces : (motion : Motion) (depth : ℕ) → depth ≤ 4 → length (pieces_at motion depth) ≤ 80
+few_pieces (Line ends) depth h = rw length-map-range_with_len (omega (arith, few_parts depth h))
+few_pieces (Rapid ends) depth h = omega arith
+few_pieces (Kind.Arc arc) depth h = few_arc_pieces arc depth h
+
+-- a place that has a piece is among the first eighty
+pub few_places : (motion : Motion) (depth place : ℕ) (piece : RangesView) → depth ≤ 4 → Some piece ≡ slice_get (pieces_at motion depth) place → place < 80
+few_places motion depth place piece deep h =
+    omega (arith, few_pieces motion depth deep, get_within (pieces_at motion depth) place piece (sym h))
 
 -- ---- the pieces that are left
-pub pieces-past : (motion : Motion) (depth n : ℕ) → 2 ^ depth ≤ n → drop n (pieces_at motion depth) ≡ []
-pieces-past (Line ends) depth n h = drop_of_length-le (pieces_at (Line ends) depth) (rw length-map-range_with_len h)
+pub left_more : (xs left : List RangesView) (n : ℕ) (piece : RangesView) → drop n xs ≡ left → Some piece ≡ slice_get xs n → left ≡ piece ∷ drop (n + 1) xs
+left_more xs left n piece view h = sym view ∙ drop_get xs n piece (sym h)
 
-pub pieces-next : (motion : Motion) (depth n : ℕ) → n < 2 ^ depth
-    → drop n (pieces_at motion depth) ≡ part_of motion (2 ^ depth) n ∷ drop (n + 1) (pieces_at motion depth)
-pieces-next (Line ends) depth n h =
-    let f = part_of_line ends (2 ^ depth) in
-    drop-cons (pieces_at (Line ends) depth) n (f n) (rw length-map-range_with_len h)
-    ∙ ap (λ (r : RangesView). r ∷ drop (suc n) (pieces_at (Line ends) depth)) (get_or-map-range_with_len f 0 (2 ^ depth) n n (f n) h (omega arith))
-    ∙ ap (λ (i : ℕ). f n ∷ drop i (pieces_at (Line ends) depth)) (sym (add-one n))
+pub left_none : (xs left : List RangesView) (n : ℕ) → drop n xs ≡ left → None ≡ slice_get xs n → left ≡ []
+left_none xs left n view h = sym view ∙ drop_none xs n (sym h)
 
--- the same as the code meets it
-pub pieces_step : (motion : Motion) (depth n parts : ℕ) (left : List RangesView) (piece : RangesView)
-    → drop n (pieces_at motion depth) ≡ left → parts ≡ 2 ^ depth → n < parts → piece ≡ part_of motion parts n
-    → left ≡ piece ∷ drop (n + 1) (pieces_at motion depth)
-pieces_step motion depth n parts left piece view is h e =
-    let less : n < 2 ^ depth = omega arith in
-    sym view ∙ pieces-next motion depth n less
-    ∙ ap (λ (r : RangesView). r ∷ drop (n + 1) (pieces_at motion depth)) (sym (e ∙ ap (λ (k : ℕ). part_of motion k n) is))
-
-pub few_parts : (depth : ℕ) → depth ≤ 4 → 2 ^ depth ≤ 16
-few_parts zero h = omega arith
-few_parts (suc zero) h = omega arith
-few_parts (suc (suc zero)) h = omega arith
-few_parts (suc (suc (suc zero))) h = omega arith
-few_parts (suc (suc (suc (suc zero)))) h = omega arith
-few_parts (suc (suc (suc (suc (suc n))))) h = absurd (omega arith)
-
-pub few_pieces : (motion : Motion) (depth : ℕ) → depth ≤ 4 → length (pieces_at motion depth) ≤ 16
-few_pieces (Line ends) depth h = rw length-map-range_with_len (few_parts depth h)
+-- the quarters of a motion along an arc fit
+pub quarters_of_motion : (motion : Motion) (arc : Arc) (quarters : List Quarter) → motion ≡ Kind.Arc arc → IsSound motion → quarters ≡ quarters_in motion
+    → All AreFit quarters
+quarters_of_motion motion arc quarters is sound same =
+    subst (λ (qs : List Quarter). All AreFit qs) (sym (same ∙ ap quarters_in is)) (quarters_fit arc (subst (λ (m : Motion). IsSound m) is sound))

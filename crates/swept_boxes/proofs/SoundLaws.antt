@@ -4,8 +4,8 @@ use Rattle.std.proofs.lemmas.List.Elements.{All-push}
 use Rattle.std.proofs.lemmas.List.Quantifiers.{all_pairs_push}
 use Rattle.std.specs.List.{All}
 use Rattle.micro_units.specs.declared.Um.{Um}
-use Rattle.swept_boxes.specs.declared.AxisId.{AxisId}
-use Rattle.swept_boxes.specs.Motions.{IsInRange, AreSound}
+use Rattle.axis_sets.specs.declared.ids.AxisId.{AxisId}
+use Rattle.path_geometry.specs.Motions.{IsInRange, AreSound}
 
 -- no axis
 pub sound_none : AreSound (record { axes = [] })

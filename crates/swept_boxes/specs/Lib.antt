@@ -1,7 +1,5 @@
 pub mod Boxes
 pub mod Cover
-pub mod Ends
-pub mod Motions
-pub mod Path
 pub mod Pieces
+pub mod PlaneBoxes
 pub mod Ranges

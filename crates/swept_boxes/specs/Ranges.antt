@@ -3,8 +3,8 @@ use Rattle.std.specs.Prelude.{◌≡◌, List, ◌≤ℤ◌}
 use Rattle.std.specs.List.{All, AllZip}
 use Rattle.micro_units.specs.declared.Um.{Um}
 use Rattle.number_laws.specs.Fractions.{IsIn}
-use Rattle.swept_boxes.specs.declared.AxisId.{AxisId}
-use Rattle.swept_boxes.specs.Path.{Point}
+use Rattle.axis_sets.specs.declared.ids.AxisId.{AxisId}
+use Rattle.path_geometry.specs.Path.{Point}
 
 -- each axis with its low and its high bound
 pub record RangesView : Type 0 where

@@ -1,68 +1,15 @@
-//! Motions along straight lines, the ranges that they sweep, and boxes that meet.
+//! The ranges that motions sweep, whole or in pieces, and boxes that meet.
 #![tactic(auto)]
 
+mod arcs;
 mod lines;
 mod sweeps;
 
 use arrayvec::ArrayVec;
+use axis_sets::AxisId;
 use micro_units::Um;
 use std::marker::Model;
 pub use sweeps::{Pieces, cover, pieces_of};
-
-/// An axis of a job: its place among the AXIS lines, counted from 0, below 16.
-///
-/// A contract sees it as this number.
-#[derive(Clone, Copy, Debug, PartialEq, Eq)]
-pub struct AxisId {
-    /// The place, counted from 0.
-    pub index: u8,
-}
-
-impl Model for AxisId {
-    ghost use Rattle.std.specs.Prelude.{ℕ, ◌<◌};
-
-    ghost Value = { ℕ };
-
-    ghost view = { λ a. a.index };
-
-    ghost invariant = { λ a. a.index < 16 };
-
-    ghost inverse = { λ n. record { index = n } };
-}
-
-impl Default for AxisId {
-    ghost use Rattle.std.specs.Prelude.{◌≡◌};
-
-    ghost is_default = { λ axis. axis ≡ 0 };
-
-    fn default() -> AxisId {
-        AxisId { index: 0 }
-    }
-}
-
-/// The axes of a motion, each with the positions in micrometres at which it starts and ends.
-#[derive(Clone, Debug, Default, PartialEq, Eq, Drop)]
-pub struct Ends {
-    /// The axis, its start and its end.
-    pub axes: ArrayVec<(AxisId, Um, Um), 16>,
-}
-
-impl Model for Ends {
-    ghost use Rattle.swept_boxes.specs.Ends.{EndsView};
-
-    ghost Value = { EndsView };
-
-    ghost view = { λ ends. record { axes = ends.axes.items } };
-
-    ghost inverse = { λ ends. record { axes = record { items = ends.axes } } };
-}
-
-/// How the axes of a channel move from their starts to their ends.
-#[derive(Clone, Debug, PartialEq, Eq, Drop)]
-pub enum Motion {
-    /// All axes along one straight line.
-    Line(Ends),
-}
 
 /// A range in micrometres for each of some axes, low and high bound included.
 #[derive(Clone, Debug, Default, PartialEq, Eq, Drop)]

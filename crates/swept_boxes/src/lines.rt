@@ -1,21 +1,22 @@
-//! The equal parts of a straight line.
+//! The equal parts of a straight line, and the box of its ends.
 ghost use Rattle.std.specs.Prelude.{◌≡◌, ℤ, pos, ◌*◌, ◌<◌, ◌≤◌, ◌*ℤ◌};
 ghost use Rattle.std.specs.Int.{int_max, int_min};
 ghost use Rattle.std.specs.Int.RustNames.{unsigned_abs};
 ghost use Rattle.number_laws.specs.Floors.{floor_div, ceil_div};
-ghost use Rattle.swept_boxes.specs.Cover.{cover_of_line};
-ghost use Rattle.swept_boxes.specs.Path.{along};
-ghost use Rattle.swept_boxes.specs.Pieces.{low_of_part, high_of_part, part_of_line};
+ghost use Rattle.path_geometry.specs.Path.{along};
+ghost use Rattle.swept_boxes.specs.Pieces.{low_of_part, high_of_part, part_of_line, range_between, box_of_ends};
 
-use crate::{Ends, Ranges};
+use crate::Ranges;
 use arrayvec::ArrayVec;
+use axis_sets::AxisId;
 use micro_units::Um;
+use path_geometry::Ends;
 
 fn scaled(position: i32, by: u8) -> i64
     requires few { by ≤ 16 }
-    requires near { unsigned_abs position ≤ 20000000 }
+    requires near { unsigned_abs position ≤ 50000000 }
     ensures value { result ≡ position *ℤ pos by }
-    ensures small { unsigned_abs result ≤ 320000000 }
+    ensures small { unsigned_abs result ≤ 800000000 }
 {
     position as i64 * by as i64
 }
@@ -24,17 +25,17 @@ fn scaled(position: i32, by: u8) -> i64
 fn mark(start: i32, end: i32, parts: u8, part: u8) -> i64
     requires few { parts ≤ 16 }
     requires within { part ≤ parts }
-    requires start_near { unsigned_abs start ≤ 20000000 }
-    requires end_near { unsigned_abs end ≤ 20000000 }
+    requires start_near { unsigned_abs start ≤ 50000000 }
+    requires end_near { unsigned_abs end ≤ 50000000 }
     ensures value { result ≡ along start end parts part }
-    ensures near { unsigned_abs result ≤ 640000000 }
+    ensures near { unsigned_abs result ≤ 1600000000 }
 {
     scaled(start, parts - part) + scaled(end, part)
 }
 
 fn rounded_down(top: i64, under: u8) -> i64
     requires some { 0 < under }
-    requires near { unsigned_abs top ≤ 640000000 }
+    requires near { unsigned_abs top ≤ 1600000000 }
     ensures { result ≡ floor_div top under }
 {
     top.div_euclid(under as i64)
@@ -42,7 +43,7 @@ fn rounded_down(top: i64, under: u8) -> i64
 
 fn rounded_up(top: i64, under: u8) -> i64
     requires some { 0 < under }
-    requires near { unsigned_abs top ≤ 640000000 }
+    requires near { unsigned_abs top ≤ 1600000000 }
     ensures { result ≡ ceil_div top under }
 {
     -(-top).div_euclid(under as i64)
@@ -52,10 +53,10 @@ fn floor_at(start: i32, end: i32, parts: u8, part: u8) -> i64
     requires some { 0 < parts }
     requires few { parts ≤ 16 }
     requires within { part ≤ parts }
-    requires start_near { unsigned_abs start ≤ 20000000 }
-    requires end_near { unsigned_abs end ≤ 20000000 }
+    requires start_near { unsigned_abs start ≤ 50000000 }
+    requires end_near { unsigned_abs end ≤ 50000000 }
     ensures value { result ≡ floor_div (along start end parts part) parts }
-    ensures near { unsigned_abs result ≤ 20000000 }
+    ensures near { unsigned_abs result ≤ 50000000 }
 {
     rounded_down(mark(start, end, parts, part), parts)
 }
@@ -64,10 +65,10 @@ fn ceil_at(start: i32, end: i32, parts: u8, part: u8) -> i64
     requires some { 0 < parts }
     requires few { parts ≤ 16 }
     requires within { part ≤ parts }
-    requires start_near { unsigned_abs start ≤ 20000000 }
-    requires end_near { unsigned_abs end ≤ 20000000 }
+    requires start_near { unsigned_abs start ≤ 50000000 }
+    requires end_near { unsigned_abs end ≤ 50000000 }
     ensures value { result ≡ ceil_div (along start end parts part) parts }
-    ensures near { unsigned_abs result ≤ 20000000 }
+    ensures near { unsigned_abs result ≤ 50000000 }
 {
     rounded_up(mark(start, end, parts, part), parts)
 }
@@ -116,14 +117,22 @@ pub(crate) fn line_part(ends: &Ends, parts: u8, part: u8) -> Ranges
 }
 
 /// Each axis from the lesser to the greater of its start and its end.
-pub(crate) fn line_cover(ends: &Ends) -> Ranges
-    ensures { result ≡ cover_of_line ends.now }
+pub(crate) fn box_of_ends(ends: &Ends) -> Ranges
+    ensures { result ≡ box_of_ends ends.now }
 {
     let mut axes = ArrayVec::new();
-    for (axis, start, end) in ends.axes.as_slice() {
-        axes.push((*axis, lesser(*start, *end), greater(*start, *end)));
+    for entry in ends.axes.as_slice() {
+        axes.push(range_between(*entry));
     }
     Ranges { axes }
+}
+
+/// An axis from the lesser to the greater of its start and its end.
+pub(crate) fn range_between(entry: (AxisId, Um, Um)) -> (AxisId, Um, Um)
+    ensures { result ≡ range_between entry }
+{
+    let (axis, start, end) = entry;
+    (axis, lesser(start, end), greater(start, end))
 }
 
 fn lesser(a: Um, b: Um) -> Um

@@ -1,0 +1,10 @@
+pub mod SectorSigns
+pub mod Turns
+pub mod Sectors
+pub mod Reaches
+pub mod ReachLaws
+pub mod HalfLaws
+pub mod QuarterLaws
+pub mod BoundLaws
+pub mod SoundArcs
+pub mod ArcLaws

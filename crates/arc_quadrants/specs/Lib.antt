@@ -1,0 +1,4 @@
+pub mod Bounds
+pub mod Halves
+pub mod Quadrants
+pub mod Quarters
