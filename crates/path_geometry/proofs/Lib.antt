@@ -2,3 +2,4 @@ pub mod ArcSoundness
 pub mod EndsLaws
 pub mod RadiusLaws
 pub mod RingLaws
+pub mod PathLaws

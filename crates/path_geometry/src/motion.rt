@@ -53,3 +53,19 @@ pub enum Motion {
     /// Two axes along an arc, the others along with them.
     Arc(Arc),
 }
+
+impl Motion {
+    ghost use Rattle.std.specs.Prelude.{◌≡◌};
+    ghost use Rattle.path_geometry.specs.Motions.{axes_of};
+
+    /// Where its axes start and end.
+    pub fn ends(&self) -> &Ends
+        ensures { result.now.axes ≡ axes_of self.now }
+    {
+        match self {
+            Motion::Line(ends) => ends,
+            Motion::Rapid(ends) => ends,
+            Motion::Arc(arc) => &arc.ends,
+        }
+    }
+}

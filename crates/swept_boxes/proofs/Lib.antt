@@ -1,7 +1,6 @@
 pub mod ArcPieceLaws
 pub mod LineLaws
 pub mod Meeting
-pub mod PathLaws
 pub mod PieceLaws
 pub mod PlaneLaws
 pub mod SoundLaws

@@ -5,10 +5,8 @@ ghost use Rattle.tape_job.specs.Rules.{has_program};
 
 use crate::item::{AxisName, Item, NamedSide};
 use crate::reading::Reading;
-use crate::{
-    AxisLine, Block, ChannelId, ChannelLine, GeoLine, Job, NameText, Program, Stmt, ZoneId,
-    ZoneLine,
-};
+use crate::{AxisLine, Block, ChannelLine, GeoLine, Job, NameText, Program, Stmt, ZoneLine};
+use axis_sets::{ChannelId, ZoneId};
 use indexmap::IndexMap;
 use micro_units::Um;
 use std::alloc::{AllocError, Global};

@@ -2,10 +2,11 @@
 ghost use Rattle.std.specs.Prelude.{◌≡◌, map};
 ghost use Rattle.tape_job.specs.Item.{channel_of, zone_of, axis_name_of, owner_of, slot_of, carrier_of, named_side_of, channel_item_of, channel_line, axis_item_of, axis_line, geo_item_of, geo_line, state_of, zone_item_of, zone_line, job_line, is_later_kind, item_of};
 
+use crate::NameText;
 use crate::code::Code;
 use crate::length::length_in;
 use crate::numbers::number_within;
-use crate::{ChannelId, NameText, ZoneId};
+use axis_sets::{ChannelId, ZoneId};
 use micro_units::Um;
 
 /// The name of an axis.

@@ -1,9 +1,9 @@
 //! A job: what its lines declare, and its programs.
-use crate::{ChannelId, NameText, ZoneId};
+use crate::NameText;
+use axis_sets::{AxisId, ChannelId, ZoneId};
 use indexmap::IndexMap;
 use micro_units::Um;
 use std::marker::Model;
-use swept_boxes::AxisId;
 
 /// An accepted job: the lines of its job list in their order, and its library of programs in the order of the input.
 #[derive(Debug, Drop)]

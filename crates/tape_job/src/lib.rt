@@ -6,7 +6,6 @@ mod block;
 mod code;
 mod fault;
 mod header;
-mod ids;
 mod item;
 mod job;
 mod laws;
@@ -21,7 +20,6 @@ mod reading;
 mod rules;
 
 pub use fault::JobFault;
-pub use ids::{ChannelId, ZoneId};
 pub use job::{AxisLine, Block, ChannelLine, GeoLine, Job, Program, Side, Stmt, ZoneLine};
 pub use laws::{accepted_jobs_are_sound, refusals_are_first};
 pub use name::NameText;

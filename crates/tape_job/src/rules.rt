@@ -5,8 +5,8 @@ ghost use Rattle.tape_job.specs.Rules.{is_named, axis_at, is_channel, is_owned_l
 
 use crate::code::Code;
 use crate::item::{AxisName, Item, NamedSide};
-use crate::{AxisLine, ChannelId, Job, Side, ZoneId};
-use swept_boxes::AxisId;
+use crate::{AxisLine, Job, Side};
+use axis_sets::{AxisId, ChannelId, ZoneId};
 
 /// Whether the axis has this name.
 fn is_named(name: AxisName, line: &AxisLine) -> bool

@@ -1,9 +1,9 @@
 //! Whole jobs, and each refusal, read from texts.
 use crate::*;
+use axis_sets::{AxisId, ChannelId, ZoneId};
 use micro_units::Um;
 use std::alloc::Global;
 use std::test::Fail;
-use swept_boxes::AxisId;
 
 /// The job of a text, or none where it is refused or memory runs out.
 fn job_of(alloc: Global, text: &str) -> Option<Job> {
@@ -133,10 +133,4 @@ fn refuses_what_breaks_a_rule(rt: HostRuntime) {
     for (text, refusal) in cases {
         assert_eq!(rt; refusal_of(rt.alloc(), text), refusal, "of {text:?}");
     }
-}
-
-#[test]
-fn begins_with_the_lowest_numbers(rt: HostRuntime) {
-    assert_eq!(rt; ChannelId::default().number, 1);
-    assert_eq!(rt; ZoneId::default().number, 1);
 }

@@ -8,7 +8,8 @@ use Rattle.std.specs.Option.{option_map_or}
 use Rattle.swept_boxes.specs.Ranges.{RangesView}
 use Rattle.tape_job.specs.declared.job.ZoneLine.{ZoneLine}
 use Rattle.turnmill.specs.Channels.{positions_in}
-use Rattle.turnmill.specs.ZoneBoxes.{zone_box, low_in, high_in, after, axes_of, moves_zone, walk, boxes_of, Opened, Waiting, Moving, PlaceBox, moving_box, standing_box, shown_box, boxes_during, moving_boxes, IsFit}
+use Rattle.path_geometry.specs.Motions.{axes_of}
+use Rattle.turnmill.specs.ZoneBoxes.{zone_box, low_in, high_in, after, moves_zone, walk, boxes_of, Opened, Waiting, Moving, PlaceBox, moving_box, standing_box, shown_box, boxes_during, moving_boxes, IsFit}
 use Rattle.turnmill.specs.declared.channels.Item.{Item}
 use Rattle.turnmill.specs.declared.zone_boxes.ZoneBox.{ZoneBox}
 use Rattle.turnmill.proofs.Positions.{le_or_lt}

@@ -3,15 +3,17 @@ use Rattle.std.proofs.Common.{◌≡◌, ◌⊎◌, ◌∙◌, ℕ, zero, suc, �
 use Rattle.std.proofs.lemmas.Bool.{ne_eqb, cases_eq}
 use Rattle.std.proofs.lemmas.List.Elements.{All-weaker}
 use Rattle.std.specs.List.{list_any}
-use Rattle.swept_boxes.proofs.PathLaws.{start_on_line, end_on_line}
-use Rattle.swept_boxes.specs.declared.Motion.{Motion}
-use Rattle.swept_boxes.specs.declared.Motion.TheVariants.{Line}
+use Rattle.path_geometry.proofs.PathLaws.{start_on_line, end_on_line}
+use Rattle.path_geometry.specs.declared.motion.Motion.{Motion}
+use Rattle.path_geometry.specs.declared.motion.Motion.TheVariants.{Line, Rapid}
+use Rattle.path_geometry.specs.declared.motion.Motion.TheVariants as Kind
 use Rattle.tape_job.specs.declared.job.ZoneLine.{ZoneLine}
 use Rattle.turnmill.proofs.PositionLemmas.{Joins, AllJoin, after_is, left_at-nil, left_at-cons}
 use Rattle.turnmill.proofs.SomeLemmas.{SomeOf}
-use Rattle.swept_boxes.specs.Path.{Point, IsOnPath, along}
+use Rattle.path_geometry.specs.Path.{Point, IsOnPath, along}
 use Rattle.turnmill.specs.SmallSteps.{end_in, left_at, StandsAt, IsAlong, IsAtPlace}
-use Rattle.turnmill.specs.ZoneBoxes.{axes_of, after, has_axis, moves_zone, PlaceBox, Opened, Waiting, Moving, close, closed, next_open, walk, boxes_of}
+use Rattle.path_geometry.specs.Motions.{axes_of}
+use Rattle.turnmill.specs.ZoneBoxes.{IsStraight, after, has_axis, moves_zone, PlaceBox, Opened, Waiting, Moving, close, closed, next_open, walk, boxes_of}
 use Rattle.turnmill.specs.declared.channels.Item.{Item}
 
 -- ---- the ends of a path
@@ -30,31 +32,35 @@ stays_there item at axis none = after_is item at axis ∙ by_end (end_in axis it
 
 -- the start and the end of a motion that joins are points of its path
 pub along_at_start : (n : ℕ) (at : ℕ → ℤ) (item : Item) (under : ℕ) → Joins n at item → 0 < under → IsAlong at item (standing at under)
-along_at_start n at item under joins some = record { path = by_motion item.motion starts; others = λ axis none. refl }
+along_at_start n at item under joins some = record { path = by_motion item.motion joins.0 starts; others = λ axis none. refl }
   where
     starts : All (λ e. at e.0 *ℤ pos under ≡ e.1 *ℤ pos under) (axes_of item.motion)
     starts = All-weaker (λ e. (e.0 < n) × (e.1 ≡ at e.0) × (e.2 ≡ after item at e.0)) (λ e. at e.0 *ℤ pos under ≡ e.1 *ℤ pos under)
-        (λ e joined. ap (λ x. x *ℤ pos under) (sym joined.1)) (axes_of item.motion) joins
+        (λ e joined. ap (λ x. x *ℤ pos under) (sym joined.1)) (axes_of item.motion) joins.1
 
-    by_motion : (motion : Motion) → All (λ e. at e.0 *ℤ pos under ≡ e.1 *ℤ pos under) (axes_of motion) → IsOnPath motion (standing at under)
-    by_motion (Line ends) begun = start_on_line ends (standing at under) some begun
+    by_motion : (motion : Motion) → IsStraight motion → All (λ e. at e.0 *ℤ pos under ≡ e.1 *ℤ pos under) (axes_of motion) → IsOnPath motion (standing at under)
+    by_motion (Line ends) straight begun = start_on_line ends (standing at under) some begun
+    by_motion (Rapid ends) straight begun = absurd straight
+    by_motion (Kind.Arc arc) straight begun = absurd straight
 
 pub along_at_end : (n : ℕ) (at : ℕ → ℤ) (item : Item) (under : ℕ) → Joins n at item → 0 < under → IsAlong at item (standing (after item at) under)
-along_at_end n at item under joins some = record { path = by_motion item.motion ends_there; others = λ axis none. ap (λ x. x *ℤ pos under) (stays_there item at axis none) }
+along_at_end n at item under joins some = record { path = by_motion item.motion joins.0 ends_there; others = λ axis none. ap (λ x. x *ℤ pos under) (stays_there item at axis none) }
   where
     ends_there : All (λ e. after item at e.0 *ℤ pos under ≡ e.2 *ℤ pos under) (axes_of item.motion)
     ends_there = All-weaker (λ e. (e.0 < n) × (e.1 ≡ at e.0) × (e.2 ≡ after item at e.0)) (λ e. after item at e.0 *ℤ pos under ≡ e.2 *ℤ pos under)
-        (λ e joined. ap (λ x. x *ℤ pos under) (sym joined.2)) (axes_of item.motion) joins
+        (λ e joined. ap (λ x. x *ℤ pos under) (sym joined.2)) (axes_of item.motion) joins.1
 
-    by_motion : (motion : Motion) → All (λ e. after item at e.0 *ℤ pos under ≡ e.2 *ℤ pos under) (axes_of motion) → IsOnPath motion (standing (after item at) under)
-    by_motion (Line ends) ended = end_on_line ends (standing (after item at) under) some ended
+    by_motion : (motion : Motion) → IsStraight motion → All (λ e. after item at e.0 *ℤ pos under ≡ e.2 *ℤ pos under) (axes_of motion) → IsOnPath motion (standing (after item at) under)
+    by_motion (Line ends) straight ended = end_on_line ends (standing (after item at) under) some ended
+    by_motion (Rapid ends) straight ended = absurd straight
+    by_motion (Kind.Arc arc) straight ended = absurd straight
 
 -- ---- boxes that cover a point
 
--- the zone's axes are at the point where a box has them: at its positions where it stands, or as at some point of its motion, which begins there
+-- the zone's axes are at the point where a box has them: at its positions where it stands, or as at some point of its motion, which is straight and begins there
 abbrev pub IsCovered : ZoneLine → (ℕ → ℤ) → Option Item → Point → Type 0
 IsCovered zone at None point = (axis : ℕ) → has_axis zone axis ≡ true → StandsAt point axis (at axis)
-IsCovered zone at (Some item) point = (other : Point) × IsAlong at item other × (other.under ≡ point.under) × ((axis : ℕ) → has_axis zone axis ≡ true → other.top axis ≡ point.top axis)
+IsCovered zone at (Some item) point = IsStraight item.motion × (other : Point) × IsAlong at item other × (other.under ≡ point.under) × ((axis : ℕ) → has_axis zone axis ≡ true → other.top axis ≡ point.top axis)
 
 -- the box holds the place and covers the point
 pub record Covers (zone : ZoneLine) (place : ℕ) (point : Point) (box : PlaceBox) : Type 0 where
@@ -86,6 +92,7 @@ stand_covered : (zone : ZoneLine) (n : ℕ) (current : Opened) (at : ℕ → ℤ
     → ((axis : ℕ) → has_axis zone axis ≡ true → StandsAt point axis (at axis)) → OpenCovers zone current point
 stand_covered zone n (Waiting from began) at point some fits stands = λ axis has. stands axis has ∙ ap (λ x. x *ℤ pos point.under) (fits axis has)
 stand_covered zone n (Moving from item began) at point some fits stands = (
+  fits.0.0,
   standing (after item began) point.under,
   along_at_end n began item point.under fits.0 some,
   refl,
@@ -95,7 +102,7 @@ stand_covered zone n (Moving from item began) at point some fits stands = (
 start_covered : (zone : ZoneLine) (n : ℕ) (item : Item) (at : ℕ → ℤ) (point : Point) → 0 < point.under → Joins n at item
     → ((axis : ℕ) → has_axis zone axis ≡ true → StandsAt point axis (at axis)) → IsCovered zone at (Some item) point
 start_covered zone n item at point some joins stands =
-    (standing at point.under, along_at_start n at item point.under joins some, refl, λ axis has. sym (stands axis has))
+    (joins.0, standing at point.under, along_at_start n at item point.under joins some, refl, λ axis has. sym (stands axis has))
 
 -- ---- motions that do not move the zone
 
@@ -169,9 +176,9 @@ at_motion zone n point some place current at (first ∷ items) joins fits low ze
     by_moves : (b : Bool) → moves_zone zone first ≡ b → (current : Opened) → Fits zone n current at → from_of current ≤ place → IsAlong at first point
         → SomeOf (Covers zone k point) (cond b (closed place current ++ walk zone (place + 1) (next_open place at current first) (after first at) items) (walk zone (place + 1) current (after first at) items))
     by_moves true moves (Waiting from began) fits low here =
-        kept zone n k point some (place + 1) (Moving from first at) (after first at) items joins.1 (joins.0, λ axis has. refl) (omega arith) (omega arith) (point, here, refl, λ axis has. refl)
+        kept zone n k point some (place + 1) (Moving from first at) (after first at) items joins.1 (joins.0, λ axis has. refl) (omega arith) (omega arith) (joins.0.0, point, here, refl, λ axis has. refl)
     by_moves true moves (Moving from before began) fits low here =
-        inr (kept zone n k point some (place + 1) (Moving place first at) (after first at) items joins.1 (joins.0, λ axis has. refl) (omega arith) (omega arith) (point, here, refl, λ axis has. refl))
+        inr (kept zone n k point some (place + 1) (Moving place first at) (after first at) items joins.1 (joins.0, λ axis has. refl) (omega arith) (omega arith) (joins.0.0, point, here, refl, λ axis has. refl))
     by_moves false moves current fits low here =
         kept zone n k point some (place + 1) current (after first at) items joins.1 (fits_on zone n current at first moves fits) (omega arith) (omega arith)
         (stand_covered zone n current at point some fits (λ axis has. here.others axis (not_moved zone first axis moves has)))
@@ -201,6 +208,8 @@ box_covers zone n at items joins (suc m) point there = by_item (slice_get items 
   where
     fraction_of : (motion : Motion) → IsOnPath motion point → 0 < point.under
     fraction_of (Line ends) on = on.fraction
+    fraction_of (Rapid ends) on = on.fraction
+    fraction_of (Kind.Arc arc) on = on.fraction
 
     by_item : (o : Option Item) → slice_get items m ≡ o → IsSomeAnd o (λ item. IsAlong (left_at (take m items) at) item point)
         → (0 < point.under) × SomeOf (Covers zone (suc m) point) (walk zone 1 (Waiting 0 at) at items)

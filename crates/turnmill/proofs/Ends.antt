@@ -3,7 +3,7 @@ use Rattle.std.proofs.Common.{◌≡◌, ◌⊎◌, ◌∙◌, ℕ, zero, suc, �
 use Rattle.std.proofs.lemmas.Bool.{eq-eqb}
 use Rattle.std.proofs.lemmas.List.Elements.{All-weaker}
 use Rattle.std.specs.Option.{option_map_or}
-use Rattle.swept_boxes.specs.Path.{Point}
+use Rattle.path_geometry.specs.Path.{Point}
 use Rattle.tape_job.specs.Job.{JobView}
 use Rattle.tape_job.specs.declared.job.ChannelLine.{ChannelLine}
 use Rattle.turnmill.proofs.CoverLemmas.{standing, along_at_end}
@@ -16,7 +16,8 @@ use Rattle.turnmill.specs.Channels.{start_position, items_of}
 use Rattle.turnmill.specs.Safety.{CanEnd}
 use Rattle.turnmill.specs.SmallSteps.{end_in, left_at, StandsAt, IsStanding, IsAlong, IsEndOf, IsAtPlace, IsAtEnd, Spot, State, opening, span_of, has_ended, is_running, motions_of, board_position, beginning, present, SmallStep, Advance, Act, after_step, IsLawful, AreLawful, reached}
 use Rattle.turnmill.specs.Stretches.{channel_line}
-use Rattle.turnmill.specs.ZoneBoxes.{axes_of, after}
+use Rattle.path_geometry.specs.Motions.{axes_of}
+use Rattle.turnmill.specs.ZoneBoxes.{after}
 use Rattle.turnmill.specs.declared.channels.Item.{Item}
 
 -- a place is at most the number of the motions
@@ -54,7 +55,7 @@ last_end n at items joins place long = of_item (some_at items place (omega arith
             sym long,
             subst (λ (o : Option Item). IfSome o (λ i. IsEndOf i (standing (after item before) 1))) (sym (ap (slice_get items) less ∙ is))
                 (All-weaker (λ e. (e.0 < n) × (e.1 ≡ before e.0) × (e.2 ≡ after item before e.0)) (λ e. after item before e.0 *ℤ pos 1 ≡ e.2 *ℤ pos 1)
-                (λ e at_end. ap (λ x. x *ℤ pos 1) (sym at_end.2)) (axes_of item.motion) joined),
+                (λ e at_end. ap (λ x. x *ℤ pos 1) (sym at_end.2)) (axes_of item.motion) joined.1),
           ),
         )
 

@@ -7,7 +7,7 @@ use Rattle.std.specs.Str.{bytes_eq}
 use Rattle.std.proofs.lemmas.List.Elements.{All-head, All-tail, All-cons, All-nil, All-push, All-weaker}
 use Rattle.std.proofs.lemmas.List.Kept.{AllPairs-cons}
 use Rattle.std.proofs.lemmas.Map.Entries.{All-lookup}
-use Rattle.swept_boxes.specs.Motions.{IsInRange}
+use Rattle.path_geometry.specs.Motions.{IsInRange}
 use Rattle.tape_job.specs.Job.{JobView, ProgramView}
 use Rattle.tape_job.specs.declared.job.AxisLine.{AxisLine}
 use Rattle.tape_job.specs.declared.job.Block.{Block}
@@ -120,6 +120,7 @@ item_fit job channel before block runnable reach here = by_stmt block.line block
             once = ends_once start end 0 (length job.axes) starts ends;
             in_range = All-weaker (IsEnd 0 (0 + length job.axes)) (λ e. IsInRange e.1 × IsInRange e.2) (λ e is. (is.2, is.3)) (ends_between start end 0 (length job.axes)) all;
           };
+          straight = tt;
           within = All-weaker (IsEnd 0 (0 + length job.axes)) (λ e. e.0 < 16) (λ e is. omega arith) (ends_between start end 0 (length job.axes)) all;
         }
     by_stmt line End own = tt

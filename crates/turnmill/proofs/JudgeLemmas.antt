@@ -9,20 +9,22 @@ use Rattle.swept_boxes.specs.Cover.{cover_of}
 use Rattle.swept_boxes.specs.Pieces.{pieces_at}
 use Rattle.swept_boxes.specs.Ranges.{RangesView}
 use Rattle.swept_boxes.specs.declared.Box3.{Box3}
-use Rattle.swept_boxes.specs.declared.Motion.{Motion}
-use Rattle.swept_boxes.specs.declared.Motion.TheVariants.{Line}
+use Rattle.path_geometry.specs.declared.motion.Motion.{Motion}
+use Rattle.path_geometry.specs.declared.motion.Motion.TheVariants.{Line, Rapid}
+use Rattle.path_geometry.specs.declared.motion.Motion.TheVariants as Kind
 use Rattle.swept_boxes.proofs.PieceLaws.{whole_line}
 use Rattle.tape_job.specs.Job.{JobView}
 use Rattle.tape_job.specs.declared.job.ChannelLine.{ChannelLine}
 use Rattle.tape_job.specs.declared.job.ZoneLine.{ZoneLine}
 use Rattle.turnmill.proofs.SomeLemmas.{found_passes}
+use Rattle.turnmill.proofs.StraightLemmas.{OfItem, MovesStraight, AllMoveStraight, items_straight, boxes_straight}
 use Rattle.turnmill.specs.ChannelRun.{run_of}
-use Rattle.turnmill.specs.Channels.{positions_in, position_after, blocks_of, StandsAfter}
+use Rattle.turnmill.specs.Channels.{positions_in, start_position, position_after, blocks_of, items_of, StandsAfter}
 use Rattle.turnmill.specs.Clash.{own_clock, is_open_at, may_overlap, zones_in_order, pairs_by_group, zone_pairs, BoxPlace, box_pairs, stretch_pairs, pairs_of_zones, compared_pairs, boxes_meet, depth_of, pair_meets, name_of, verdict_of}
 use Rattle.turnmill.specs.ShownStretches.{run_stretch, end_stretch, shown_stretch, held_zone, HeldView, is_run, same_kind, do_overlap, first_some, first_touched, first_lines, named, first_in_stretches, first_against, first_of_zones, first_meeting, verdict_by}
 use Rattle.turnmill.specs.Stretches.{Event, Stretch, spans_of, stretches_from, channel_line, stretches_of}
 use Rattle.turnmill.specs.StretchView.{StretchView}
-use Rattle.turnmill.specs.ZoneBoxes.{PlaceBox, boxes_of, shown_box, moving_box, standing_box, piece_boxes, moves_zone, has_axis}
+use Rattle.turnmill.specs.ZoneBoxes.{IsStraight, PlaceBox, zone_box, low_in, high_in, boxes_of, shown_box, moving_box, standing_box, piece_boxes, moves_zone, has_axis}
 use Rattle.turnmill.specs.declared.channels.Item.{Item}
 use Rattle.turnmill.specs.declared.stretches.PlaceName.{PlaceName}
 use Rattle.turnmill.specs.declared.stretches.StretchKind.{StretchKind}
@@ -82,28 +84,31 @@ find-map test g (x ∷ xs) = rw (find-map test g xs) (sym (cond-map (test (g x))
 abbrev names_of : BoxPlace × BoxPlace → PlaceName × PlaceName
 names_of pair = (name_of pair.0, name_of pair.1)
 
-whole_motion : (motion : Motion) → pieces_at motion 0 ≡ cover_of motion ∷ []
-whole_motion (Line ends) = ap (λ (r : RangesView). r ∷ []) (whole_line ends)
+whole_motion : (motion : Motion) → IsStraight motion → pieces_at motion 0 ≡ cover_of motion ∷ []
+whole_motion (Rapid ends) straight = absurd straight
+whole_motion (Kind.Arc arc) straight = absurd straight
+whole_motion (Line ends) straight = ap (λ (r : RangesView). r ∷ []) (whole_line ends)
 
--- where motions are not cut, a box has one piece, its cover
-one_piece : (zone : ZoneLine) (line : ℕ) (box : PlaceBox) → piece_boxes zone 0 box ≡ (shown_box zone line box).cover ∷ []
+-- where motions are not cut, a box that moves straight has one piece, its cover
+one_piece : (zone : ZoneLine) (line : ℕ) (box : PlaceBox) → MovesStraight box → piece_boxes zone 0 box ≡ (shown_box zone line box).cover ∷ []
 unfolding piece_boxes shown_box moving_box standing_box
-one_piece zone line box = go box.motion refl
+one_piece zone line box moves = go box.motion refl moves
   where
-    go : (m : Option Item) → box.motion ≡ m → piece_boxes zone 0 box ≡ (shown_box zone line box).cover ∷ []
-    go None e = rw e refl
-    go (Some item) e = rw (e, whole_motion item.motion) refl
+    go : (m : Option Item) → box.motion ≡ m → OfItem m → piece_boxes zone 0 box ≡ (shown_box zone line box).cover ∷ []
+    go None e straight = rw e refl
+    go (Some item) e straight = rw e
+        (ap (λ (pieces : List RangesView). map (λ ranges. zone_box zone (low_in ranges box.at) (high_in ranges box.at)) pieces) (whole_motion item.motion straight))
 
 or_false : (b : Bool) → (b || false) ≡ b
 or_false true = refl
 or_false false = refl
 
 -- so two boxes are compared by their covers
-pair_by_covers : (job : JobView) (zone other : ZoneLine) (s t : Stretch) (l r : PlaceBox)
+pair_by_covers : (job : JobView) (zone other : ZoneLine) (s t : Stretch) (l r : PlaceBox) → MovesStraight l → MovesStraight r
     → pair_meets job (record { zone = zone; stretch = s; box = l }, record { zone = other; stretch = t; box = r }) ≡ boxes_meet (shown_box zone s.line l).cover (shown_box other t.line r).cover
 unfolding pair_meets
-pair_by_covers job zone other s t l r =
-    rw (one_piece zone s.line l, one_piece other t.line r)
+pair_by_covers job zone other s t l r p q =
+    rw (one_piece zone s.line l p, one_piece other t.line r q)
     (or_false (boxes_meet (shown_box zone s.line l).cover (shown_box other t.line r).cover || false) ∙ or_false (boxes_meet (shown_box zone s.line l).cover (shown_box other t.line r).cover))
 
 -- and named by the lines that they show
@@ -134,34 +139,39 @@ found_step true names pair rest name box boxes h k = ap (λ (n : PlaceName × Pl
 found_step false names pair rest name box boxes h k = k
 
 -- the first of some boxes that meets a box, and how the two are named
-touched_by_covers : (job : JobView) (zone other : ZoneLine) (s t : Stretch) (c d : ℕ) → s.channel ≡ Some c → t.channel ≡ Some d → (l : PlaceBox) (rs : List PlaceBox)
+touched_by_covers : (job : JobView) (zone other : ZoneLine) (s t : Stretch) (c d : ℕ) → s.channel ≡ Some c → t.channel ≡ Some d → (l : PlaceBox) (rs : List PlaceBox) → MovesStraight l → AllMoveStraight rs
     → option_map names_of (find (pair_meets job) (map (pair_of zone s l other t) rs))
     ≡ option_map (λ (box : ZoneBox). named_by zone s other t ((shown_box zone s.line l).line, box.line)) (find (λ box. boxes_meet (shown_box zone s.line l).cover box.cover) (map (shown_box other t.line) rs))
-touched_by_covers job zone other s t c d e k l [] = refl
-touched_by_covers job zone other s t c d e k l (r ∷ rs) =
-    rw (pair_by_covers job zone other s t l r)
+touched_by_covers job zone other s t c d e k l [] p q = refl
+touched_by_covers job zone other s t c d e k l (r ∷ rs) p q =
+    rw (pair_by_covers job zone other s t l r p q.0)
     (found_step (boxes_meet (shown_box zone s.line l).cover (shown_box other t.line r).cover) (names_of (pair_of zone s l other t r)) (pair_of zone s l other t r) _
     (λ (box : ZoneBox). named_by zone s other t ((shown_box zone s.line l).line, box.line)) (shown_box other t.line r) _
-    (names_by_lines zone other s t c d e k l r) (touched_by_covers job zone other s t c d e k l rs))
+    (names_by_lines zone other s t c d e k l r) (touched_by_covers job zone other s t c d e k l rs p q.1))
 
-touched_by_lines : (job : JobView) (zone other : ZoneLine) (s t : Stretch) (c d : ℕ) → s.channel ≡ Some c → t.channel ≡ Some d → (l : PlaceBox)
+touched_by_lines : (job : JobView) (zone other : ZoneLine) (s t : Stretch) (c d : ℕ) → s.channel ≡ Some c → t.channel ≡ Some d → (l : PlaceBox) → MovesStraight l → AllMoveStraight t.boxes
     → option_map names_of (find (pair_meets job) (map (pair_of zone s l other t) t.boxes))
     ≡ option_map (named_by zone s other t) (first_touched (map (shown_box other t.line) t.boxes) (shown_box zone s.line l))
 unfolding first_touched
-touched_by_lines job zone other s t c d e k l =
-    touched_by_covers job zone other s t c d e k l t.boxes
+touched_by_lines job zone other s t c d e k l p q =
+    touched_by_covers job zone other s t c d e k l t.boxes p q
     ∙ sym (option_map-map (named_by zone s other t) (λ (box : ZoneBox). let lines : ℕ × ℕ = ((shown_box zone s.line l).line, box.line) in lines)
     (find (λ box. boxes_meet (shown_box zone s.line l).cover box.cover) (map (shown_box other t.line) t.boxes)))
 
+first_some-straight : {Y : Type 0} (f g : PlaceBox → Option Y) → ((l : PlaceBox) → MovesStraight l → f l ≡ g l) → (ls : List PlaceBox) → AllMoveStraight ls → first_some f ls ≡ first_some g ls
+first_some-straight f g same [] all = refl
+first_some-straight f g same (l ∷ ls) all = rw (same l all.0, first_some-straight f g same ls all.1) refl
+
 -- the first two boxes of two stretches that meet
-first_by_covers : (job : JobView) (zone other : ZoneLine) (s t : Stretch) (c d : ℕ) → s.channel ≡ Some c → t.channel ≡ Some d
+first_by_covers : (job : JobView) (zone other : ZoneLine) (s t : Stretch) (c d : ℕ) → s.channel ≡ Some c → t.channel ≡ Some d → AllMoveStraight s.boxes → AllMoveStraight t.boxes
     → option_map names_of (find (pair_meets job) (box_pairs zone s other t))
     ≡ option_map (named_by zone s other t) (first_lines (map (shown_box zone s.line) s.boxes) (map (shown_box other t.line) t.boxes))
 unfolding first_lines
-first_by_covers job zone other s t c d e k =
+first_by_covers job zone other s t c d e k p q =
     let boxes : List ZoneBox = map (shown_box other t.line) t.boxes in
     find-flat_map names_of (pair_meets job) (λ (l : PlaceBox). map (pair_of zone s l other t) t.boxes) s.boxes
-    ∙ first_some-same (λ (l : PlaceBox). option_map names_of (find (pair_meets job) (map (pair_of zone s l other t) t.boxes))) (λ (l : PlaceBox). option_map (named_by zone s other t) (first_touched boxes (shown_box zone s.line l))) (touched_by_lines job zone other s t c d e k) s.boxes
+    ∙ first_some-straight (λ (l : PlaceBox). option_map names_of (find (pair_meets job) (map (pair_of zone s l other t) t.boxes))) (λ (l : PlaceBox). option_map (named_by zone s other t) (first_touched boxes (shown_box zone s.line l)))
+    (λ l straight. touched_by_lines job zone other s t c d e k l straight q) s.boxes p
     ∙ sym (first_some-map (λ (box : ZoneBox). option_map (named_by zone s other t) (first_touched boxes box)) (shown_box zone s.line) s.boxes)
     ∙ sym (map-first_some (named_by zone s other t) (first_touched boxes) (map (shown_box zone s.line) s.boxes))
 
@@ -182,6 +192,7 @@ record IsHeld (s : Stretch) : Type 0 where
   held : s.channel ≡ Some channel
   begins : s.first ≡ first_of channel s.kind
   ends : s.last ≡ last_of channel s.kind
+  straight : AllMoveStraight s.boxes
 
 or_true : (b : Bool) → (b || true) ≡ true
 or_true true = refl
@@ -236,7 +247,7 @@ stretches_by_covers : (job : JobView) (zone other : ZoneLine) (s t : Stretch) �
 unfolding first_in_stretches shown_stretch
 stretches_by_covers job zone other s t p q =
     rw (overlap_is zone other s t p q)
-    (open_step job (do_overlap (shown_stretch zone s) (shown_stretch other t)) (box_pairs zone s other t) _ (first_by_covers job zone other s t p.channel q.channel p.held q.held))
+    (open_step job (do_overlap (shown_stretch zone s) (shown_stretch other t)) (box_pairs zone s other t) _ (first_by_covers job zone other s t p.channel q.channel p.held q.held p.straight q.straight))
 
 -- ---- zones
 
@@ -254,7 +265,10 @@ all_held job zone = by_holder zone.holder refl
   where
     by_line : (c : ℕ) (o : Option ChannelLine) → AllHeld (option_map_or (λ line. stretches_from zone c 0 (spans_of job line)) o [])
     by_line c None = tt
-    by_line c (Some line) = (record { channel = c; held = refl; begins = refl; ends = refl }, (record { channel = c; held = refl; begins = refl; ends = refl }, tt))
+    by_line c (Some line) = (
+      record { channel = c; held = refl; begins = refl; ends = refl; straight = boxes_straight zone (start_position job) (items_of job line) (items_straight job line) },
+      (record { channel = c; held = refl; begins = refl; ends = refl; straight = boxes_straight zone (position_after job line.channel (blocks_of job line)) [] tt }, tt),
+    )
 
     by_holder : (h : Option ℕ) → zone.holder ≡ h → AllHeld (stretches_of job zone)
     by_holder None e = rw e tt

@@ -14,6 +14,7 @@ pub mod Positions
 pub mod BoxLemmas
 pub mod CheckLemmas
 pub mod MeetLemmas
+pub mod StraightLemmas
 pub mod JudgeLemmas
 pub mod FitLemmas
 pub mod ReportLemmas

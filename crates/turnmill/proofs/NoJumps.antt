@@ -4,7 +4,7 @@ use Rattle.std.proofs.lemmas.Bool.{eqb-true, eq-eqb, ne_eqb, lt-ltb, cases_eq}
 use Rattle.std.proofs.lemmas.List.Sums.{sum_by_push}
 use Rattle.std.specs.Option.{option_map_or}
 use Rattle.number_laws.specs.Fractions.{IsSame, whole}
-use Rattle.swept_boxes.specs.Path.{Point}
+use Rattle.path_geometry.specs.Path.{Point}
 use Rattle.tape_job.specs.Job.{JobView}
 use Rattle.tape_job.specs.declared.job.ChannelLine.{ChannelLine}
 use Rattle.turnmill.proofs.PositionLemmas.{begins_at_left, after_is, left_at-nil, left_at-cons}
@@ -15,7 +15,8 @@ use Rattle.turnmill.specs.Channels.{start_position, items_of}
 use Rattle.turnmill.specs.Safety.{axis_owner, axis_position, fraction_of, NoJump}
 use Rattle.turnmill.specs.SmallSteps.{end_in, left_at, StandsAt, IsAlong, IsEndOf, IsAtPlace, IsAtEnd, Spot, State, opening, span_of, has_ended, motions_of, board_position, beginning, present, Act, after_step, IsLawful, reached}
 use Rattle.turnmill.specs.Stretches.{channel_line}
-use Rattle.turnmill.specs.ZoneBoxes.{axes_of, after}
+use Rattle.path_geometry.specs.Motions.{axes_of}
+use Rattle.turnmill.specs.ZoneBoxes.{after}
 use Rattle.turnmill.specs.declared.channels.Item.{Item}
 
 -- ---- between motions

@@ -5,7 +5,7 @@ use Rattle.std.proofs.lemmas.List.Elements.{All-nil, All-cons, All-head, All-tai
 use Rattle.std.proofs.lemmas.Option.{slice_get_within, get_or_from_slice_get}
 use Rattle.std.specs.List.{cons_option}
 use Rattle.std.specs.Option.{option_map_or}
-use Rattle.swept_boxes.specs.declared.Motion.TheVariants.{Line}
+use Rattle.path_geometry.specs.declared.motion.Motion.TheVariants.{Line}
 use Rattle.tape_job.specs.Job.{JobView}
 use Rattle.tape_job.specs.declared.job.AxisLine.{AxisLine}
 use Rattle.tape_job.specs.declared.job.Block.{Block}
@@ -20,7 +20,7 @@ use Rattle.turnmill.specs.Safety.{axis_owner, OneOwner}
 use Rattle.turnmill.specs.SmallSteps.{State, motions_of}
 use Rattle.tape_job.specs.SoundJob.{IsDeclared, first_owner, IsSoundJob}
 use Rattle.turnmill.specs.Stretches.{channel_line}
-use Rattle.turnmill.specs.ZoneBoxes.{axes_of}
+use Rattle.path_geometry.specs.Motions.{axes_of}
 use Rattle.turnmill.specs.declared.channels.Item.{Item}
 
 owner_is_first : (job : JobView) (state : State) (axis : ℕ) → axis_owner job state axis ≡ first_owner job axis

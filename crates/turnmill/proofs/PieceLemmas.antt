@@ -6,18 +6,20 @@ use Rattle.std.proofs.lemmas.List.Elements.{All-head, All-tail, All-map}
 use Rattle.std.specs.List.{range_with_len}
 use Rattle.std.specs.Option.{option_map_or}
 use Rattle.number_laws.specs.Fractions.{IsIn}
-use Rattle.swept_boxes.proofs.PieceLaws.{covered}
+use Rattle.swept_boxes.proofs.PieceLaws.{line_covered}
 use Rattle.swept_boxes.specs.Pieces.{range_of_part, part_of_line, pieces_at}
 use Rattle.swept_boxes.specs.Ranges.{RangesView, Hold}
 use Rattle.swept_boxes.specs.declared.Box3.{Box3}
-use Rattle.swept_boxes.specs.declared.Motion.{Motion}
-use Rattle.swept_boxes.specs.declared.Motion.TheVariants.{Line}
+use Rattle.path_geometry.specs.declared.motion.Motion.{Motion}
+use Rattle.path_geometry.specs.declared.motion.Motion.TheVariants.{Line, Rapid}
+use Rattle.path_geometry.specs.declared.motion.Motion.TheVariants as Kind
 use Rattle.tape_job.specs.declared.job.ZoneLine.{ZoneLine}
 use Rattle.turnmill.proofs.CoverLemmas.{Covers, IsCovered}
 use Rattle.turnmill.proofs.SomeLemmas.{SomeOf, SomeOf-weaker, SomeOf-map, found_passes, All-found}
-use Rattle.swept_boxes.specs.Path.{Point}
+use Rattle.path_geometry.specs.Path.{Point, IsOnPath}
 use Rattle.turnmill.specs.SmallSteps.{end_in, StandsAt, IsAlong}
-use Rattle.turnmill.specs.ZoneBoxes.{axes_of, has_axis, PlaceBox, zone_box, low_in, high_in, piece_boxes}
+use Rattle.path_geometry.specs.Motions.{axes_of}
+use Rattle.turnmill.specs.ZoneBoxes.{IsStraight, has_axis, PlaceBox, zone_box, low_in, high_in, piece_boxes}
 use Rattle.turnmill.specs.declared.channels.Item.{Item}
 
 -- ---- the pieces of a motion
@@ -35,10 +37,17 @@ part_has_axes parts part axis (e ∷ ends) none = by_test (e.0 == axis) none (pa
     by_test true none rest = absurd cc
     by_test false none rest = rest none
 
-pieces_have_axes : (motion : Motion) (depth : ℕ) → All (HasAxesOf motion) (pieces_at motion depth)
-pieces_have_axes (Line ends) depth =
+pieces_have_axes : (motion : Motion) (depth : ℕ) → IsStraight motion → All (HasAxesOf motion) (pieces_at motion depth)
+pieces_have_axes (Rapid ends) depth straight = absurd straight
+pieces_have_axes (Kind.Arc arc) depth straight = absurd straight
+pieces_have_axes (Line ends) depth straight =
     All-map (HasAxesOf (Line ends)) (part_of_line ends (2 ^ depth)) (range_with_len 0 (2 ^ depth))
     (λ k d within axis none. part_has_axes (2 ^ depth) (get_or (range_with_len 0 (2 ^ depth)) k d) axis ends.axes none)
+
+straight_covered : (motion : Motion) (depth : ℕ) (point : Point) → IsStraight motion → IsOnPath motion point → Any (λ ranges. Hold ranges point) (pieces_at motion depth)
+straight_covered (Line ends) depth point straight on = line_covered ends depth point on
+straight_covered (Rapid ends) depth point straight on = absurd straight
+straight_covered (Kind.Arc arc) depth point straight on = absurd straight
 
 some_with_all : {X : Type 0} (P Q : X → Type 0) (xs : List X) → Any P xs → All Q xs → SomeOf (λ x. P x × Q x) xs
 some_with_all {X = X} P Q xs (k, x, within, is, holds) all = go xs k within is all
@@ -88,9 +97,9 @@ some_piece P zone depth place point box holds covers = by_motion box.motion cove
 
     by_motion : (o : Option Item) → IsCovered zone box.at o point → SomeOf P (piece_boxes zone depth (record box { motion = o }))
     by_motion None stands = inl (holds box.at box.at (λ axis has. in_itself (box.at axis) (point.top axis) point.under (stands axis has)))
-    by_motion (Some item) (other, along, under, tops) =
+    by_motion (Some item) (straight, other, along, under, tops) =
         SomeOf-map P (λ ranges. zone_box zone (low_in ranges box.at) (high_in ranges box.at)) (pieces_at item.motion depth)
         (SomeOf-weaker (λ ranges. Hold ranges other × HasAxesOf item.motion ranges) (λ ranges. P (zone_box zone (low_in ranges box.at) (high_in ranges box.at)))
         (λ ranges piece. of_other item other ranges along under tops piece) (pieces_at item.motion depth)
         (some_with_all (λ ranges. Hold ranges other) (HasAxesOf item.motion) (pieces_at item.motion depth)
-        (covered item.motion depth other along.path) (pieces_have_axes item.motion depth)))
+        (straight_covered item.motion depth other straight along.path) (pieces_have_axes item.motion depth straight)))

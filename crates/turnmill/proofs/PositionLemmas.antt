@@ -5,14 +5,15 @@ use Rattle.std.proofs.lemmas.List.Elements.{All-nil, All-cons, All-weaker, filte
 use Rattle.std.specs.Prelude.{⊤}
 use Rattle.std.specs.List.{last_or, cons_option, range_with_len}
 use Rattle.std.specs.Option.{option_map_or}
-use Rattle.swept_boxes.specs.declared.Motion.TheVariants.{Line}
+use Rattle.path_geometry.specs.declared.motion.Motion.TheVariants.{Line}
 use Rattle.tape_job.specs.Job.{JobView}
 use Rattle.tape_job.specs.declared.job.Block.{Block}
 use Rattle.tape_job.specs.declared.job.Stmt.{Stmt}
 use Rattle.tape_job.specs.declared.job.Stmt.TheVariants.{Move, End}
 use Rattle.turnmill.specs.Channels.{programmed, start_position, position_after, end_from, ends_from, item_from, items_after}
 use Rattle.turnmill.specs.SmallSteps.{end_in, left_at}
-use Rattle.turnmill.specs.ZoneBoxes.{axes_of, after}
+use Rattle.path_geometry.specs.Motions.{axes_of}
+use Rattle.turnmill.specs.ZoneBoxes.{after, IsStraight}
 use Rattle.turnmill.specs.declared.channels.Item.{Item}
 
 -- ---- the last of a list
@@ -151,9 +152,9 @@ module _ (job : JobView) (channel : ℕ) where
 
 -- ---- motions that join
 
--- a motion begins where its axes stand, and leaves them at its ends; they are axes below n
+-- a motion is straight, begins where its axes stand, and leaves them at its ends; they are axes below n
 abbrev pub Joins : ℕ → (ℕ → ℤ) → Item → Type 0
-Joins n at item = All (λ e. (e.0 < n) × (e.1 ≡ at e.0) × (e.2 ≡ after item at e.0)) (axes_of item.motion)
+Joins n at item = IsStraight item.motion × All (λ e. (e.0 < n) × (e.1 ≡ at e.0) × (e.2 ≡ after item at e.0)) (axes_of item.motion)
 
 abbrev pub AllJoin : ℕ → (ℕ → ℤ) → List Item → Type 0
 AllJoin n at [] = ⊤
@@ -173,8 +174,11 @@ module _ (job : JobView) (channel : ℕ) where
       let item : Item = record { line = line; motion = Line (record { axes = ends_from job channel (position_after job channel before) (Move x z) }) } in
       let left : (axis : ℕ) → axis < length job.axes → after item at axis ≡ unwrap_or (programmed job channel (Move x z) axis) (at axis) =
       λ axis within. after_is item at axis ∙ ap (λ o. unwrap_or o (at axis)) (item_end job channel before block axis within) in (
-        ends_all (λ e. (e.0 < length job.axes) × (e.1 ≡ at e.0) × (e.2 ≡ after item at e.0)) (position_after job channel before) (programmed job channel (Move x z)) 0 (length job.axes)
-            (λ axis to within is. (omega arith, sym (same axis (omega arith)), sym (left axis (omega arith) ∙ ap (λ o. unwrap_or o (at axis)) is))),
+        (
+          tt,
+          ends_all (λ e. (e.0 < length job.axes) × (e.1 ≡ at e.0) × (e.2 ≡ after item at e.0)) (position_after job channel before) (programmed job channel (Move x z)) 0 (length job.axes)
+              (λ axis to within is. (omega arith, sym (same axis (omega arith)), sym (left axis (omega arith) ∙ ap (λ o. unwrap_or o (at axis)) is))),
+        ),
         rest (after item at) (λ axis within. left axis within ∙ ap (unwrap_or (programmed job channel (Move x z) axis)) (same axis within) ∙ sym (position_after-push job channel before block axis)),
       )
   join_step before blocks line End rest at same =
@@ -186,10 +190,12 @@ module _ (job : JobView) (channel : ℕ) where
   AllJoin-items_after before (block ∷ blocks) at same = join_step before blocks block.line block.stmt (AllJoin-items_after (before ++ block ∷ []) blocks) at same
 
 Joins-same : (n : ℕ) (p q : ℕ → ℤ) → ((axis : ℕ) → p axis ≡ q axis) → (item : Item) → Joins n p item → Joins n q item
-Joins-same n p q same item joins =
-    All-weaker (λ e. (e.0 < n) × (e.1 ≡ p e.0) × (e.2 ≡ after item p e.0)) (λ e. (e.0 < n) × (e.1 ≡ q e.0) × (e.2 ≡ after item q e.0))
-    (λ e joined. (joined.0, joined.1 ∙ same e.0, joined.2 ∙ after_is item p e.0 ∙ ap (unwrap_or (end_in e.0 item)) (same e.0) ∙ sym (after_is item q e.0)))
-    (axes_of item.motion) joins
+Joins-same n p q same item joins = (
+  joins.0,
+  All-weaker (λ e. (e.0 < n) × (e.1 ≡ p e.0) × (e.2 ≡ after item p e.0)) (λ e. (e.0 < n) × (e.1 ≡ q e.0) × (e.2 ≡ after item q e.0))
+      (λ e joined. (joined.0, joined.1 ∙ same e.0, joined.2 ∙ after_is item p e.0 ∙ ap (unwrap_or (end_in e.0 item)) (same e.0) ∙ sym (after_is item q e.0)))
+      (axes_of item.motion) joins.1,
+)
 
 -- each of them joins onto those before it
 pub joins_at : (n : ℕ) (at : ℕ → ℤ) (items : List Item) → AllJoin n at items → (place : ℕ) (item : Item) → slice_get items place ≡ Some item
@@ -207,4 +213,4 @@ pub begins_at_left : (n : ℕ) (at : ℕ → ℤ) (items : List Item) → AllJoi
     → All (λ e. e.1 ≡ left_at (take place items) at e.0) (axes_of item.motion)
 begins_at_left n at items joins place item is =
     All-weaker (λ e. (e.0 < n) × (e.1 ≡ left_at (take place items) at e.0) × (e.2 ≡ after item (left_at (take place items) at) e.0))
-    (λ e. e.1 ≡ left_at (take place items) at e.0) (λ e joined. joined.1) (axes_of item.motion) (joins_at n at items joins place item is)
+    (λ e. e.1 ≡ left_at (take place items) at e.0) (λ e joined. joined.1) (axes_of item.motion) (joins_at n at items joins place item is).1

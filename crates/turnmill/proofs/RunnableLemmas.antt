@@ -7,7 +7,7 @@ use Rattle.tape_job.specs.Read.{read_of}
 use Rattle.tape_job.specs.SoundJob.{IsSoundJob, IsSoundStatement, IsSoundEnd}
 use Rattle.tape_job.specs.declared.job.Stmt.{Stmt}
 use Rattle.tape_job.specs.declared.job.Stmt.TheVariants.{Move, End}
-use Rattle.swept_boxes.specs.Motions.{IsInRange}
+use Rattle.path_geometry.specs.Motions.{IsInRange}
 use Rattle.turnmill.specs.Channels.{HasFewAxes, IsInReach, IsRunnable}
 
 end_in_range : (job : JobView) (name : List ℕ) (slot : ℕ) (o : Option ℤ) → IfSome o (IsSoundEnd job name slot) → IfSome o IsInRange

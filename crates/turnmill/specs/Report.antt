@@ -1,12 +1,14 @@
 -- The report of a job, and the line of a refused input. Each line ends with a line feed, and its words are separated by one blank.
-use Rattle.std.specs.Prelude.{ℕ, ℤ, pos, negsuc, suc, ◌==◌, ◌/◌, ◌%◌, List, [], ◌++◌, Option, unwrap_or, find, slice_get, codes, encode_utf8}
+use Rattle.std.specs.Prelude.{ℕ, ℤ, pos, negsuc, suc, ◌==◌, nat_lt, if◌then◌else◌, ◌/◌, ◌%◌, List, [], ◌++◌, Option, unwrap_or, find, slice_get, codes, encode_utf8}
 use Rattle.std.specs.Fmt.{decimal}
 use Rattle.std.specs.List.{flat_map, range_with_len}
 use Rattle.std.specs.Option.{option_map_or}
 use Rattle.nc_faults.specs.Texts.{refusal_text_of}
 use Rattle.nc_faults.specs.declared.Refusal.{Refusal}
-use Rattle.swept_boxes.specs.declared.Motion.{Motion}
-use Rattle.swept_boxes.specs.declared.Motion.TheVariants.{Line}
+use Rattle.path_geometry.specs.declared.motion.Arc.{Arc}
+use Rattle.path_geometry.specs.declared.motion.Motion.{Motion}
+use Rattle.path_geometry.specs.declared.motion.Motion.TheVariants.{Line, Rapid}
+use Rattle.path_geometry.specs.declared.motion.Motion.TheVariants as Kind
 use Rattle.tape_job.specs.Job.{JobView}
 use Rattle.turnmill.specs.ChannelRun.{RunView}
 use Rattle.turnmill.specs.declared.channels.Item.{Item}
@@ -33,9 +35,24 @@ axis_name job axis = option_map_or (λ line. encode_utf8 line.letter ++ decimal 
 unfoldable pub end_text : JobView → ℕ × ℤ × ℤ → List ℕ
 end_text job end = codes " " ++ (axis_name job end.0 ++ (codes "=" ++ position_text end.2))
 
+-- the centre of an arc, its axes in the order of the AXIS lines
+unfoldable pub centre_text : JobView → Arc → List ℕ
+centre_text job arc =
+    if nat_lt arc.first arc.second
+    then end_text job (arc.first, arc.centre.0, arc.centre.0) ++ end_text job (arc.second, arc.centre.1, arc.centre.1)
+    else end_text job (arc.second, arc.centre.1, arc.centre.1) ++ end_text job (arc.first, arc.centre.0, arc.centre.0)
+
+-- an arc: the axes of its turn, where it ends, and its centre
+unfoldable pub arc_text : JobView → Arc → List ℕ
+arc_text job arc =
+    codes "ARC " ++ (axis_name job arc.first ++ (codes " " ++ (axis_name job arc.second
+    ++ (flat_map (end_text job) arc.ends.axes ++ (codes " CENTRE" ++ centre_text job arc)))))
+
 -- what a motion is, and where it ends
 unfoldable pub motion_text : JobView → Motion → List ℕ
 motion_text job (Line ends) = codes "LINE" ++ flat_map (end_text job) ends.axes
+motion_text job (Rapid ends) = codes "RAPID" ++ flat_map (end_text job) ends.axes
+motion_text job (Kind.Arc arc) = arc_text job arc
 
 -- the trace line of a motion
 unfoldable pub motion_line : JobView → Item → List ℕ

@@ -1,22 +1,19 @@
 -- The boxes of a zone: where its sides stand, and the boxes that a channel's motions give it.
-use Rattle.std.specs.Prelude.{◌<◌, All, ℕ, ℤ, ◌+ℤ◌, ◌-ℤ◌, ◌+◌, ◌==◌, Bool, true, false, if◌then◌else◌, List, [], ◌∷◌, ◌++◌, map, length, Option, None, Some, find}
+use Rattle.std.specs.Prelude.{◌<◌, All, ℕ, ℤ, ◌+ℤ◌, ◌-ℤ◌, ◌+◌, ◌==◌, Bool, true, false, if◌then◌else◌, List, [], ◌∷◌, ◌++◌, map, length, ⊤, Option, None, Some, find}
 use Rattle.std.specs.List.{list_any}
 use Rattle.std.specs.Option.{option_map, option_map_or}
 use Rattle.swept_boxes.specs.Cover.{cover_of}
-use Rattle.swept_boxes.specs.Motions.{IsSound}
+use Rattle.path_geometry.specs.Motions.{axes_of, IsSound}
 use Rattle.swept_boxes.specs.Pieces.{pieces_at}
 use Rattle.swept_boxes.specs.Ranges.{RangesView}
 use Rattle.swept_boxes.specs.declared.Box3.{Box3}
-use Rattle.swept_boxes.specs.declared.Motion.{Motion}
-use Rattle.swept_boxes.specs.declared.Motion.TheVariants.{Line}
+use Rattle.path_geometry.specs.declared.motion.Motion.{Motion}
+use Rattle.path_geometry.specs.declared.motion.Motion.TheVariants.{Line, Rapid}
+use Rattle.path_geometry.specs.declared.motion.Motion.TheVariants as Kind
 use Rattle.tape_job.specs.declared.job.Side.{Side}
 use Rattle.tape_job.specs.declared.job.ZoneLine.{ZoneLine}
 use Rattle.turnmill.specs.declared.channels.Item.{Item}
 use Rattle.turnmill.specs.declared.zone_boxes.ZoneBox.{ZoneBox}
-
--- the axes of a motion, each with its start and its end
-abbrev pub axes_of : Motion → List (ℕ × ℤ × ℤ)
-axes_of (Line ends) = ends.axes
 
 -- where the axes stand after a motion: at its ends, and elsewhere where they stood
 unfoldable pub after : Item → (ℕ → ℤ) → ℕ → ℤ
@@ -118,9 +115,16 @@ piece_boxes zone depth box = piece_boxes_by box.motion
     piece_boxes_by None = zone_box zone box.at box.at ∷ []
     piece_boxes_by (Some item) = map (λ ranges. zone_box zone (low_in ranges box.at) (high_in ranges box.at)) (pieces_at item.motion depth)
 
--- a motion is sound, and moves axes of the row of positions
+-- a motion goes along a straight line
+abbrev pub IsStraight : Motion → Type 0
+IsStraight (Line ends) = ⊤
+IsStraight (Rapid ends) = ⊥
+IsStraight (Kind.Arc arc) = ⊥
+
+-- a motion is sound and straight, and moves axes of the row of positions
 pub record IsFit (item : Item) : Type 0 where
   pub sound : IsSound item.motion
+  pub straight : IsStraight item.motion
   pub within : All (λ e. e.0 < 16) (axes_of item.motion)
 
 -- the boxes as they are compared where motions are not cut: the line that names it, and the zone box of the cover of its motion, or where it stands

@@ -5,11 +5,12 @@ ghost use Rattle.turnmill.specs.Channels as model;
 ghost use Rattle.turnmill.specs.ChannelRun.{run_of};
 
 use arrayvec::ArrayVec;
+use axis_sets::{AxisId, ChannelId};
 use micro_units::Um;
+use path_geometry::{Ends, Motion};
 use std::alloc::{AllocError, Global};
 use std::marker::Model;
-use swept_boxes::{AxisId, Ends, Motion};
-use tape_job::{Block, ChannelId, ChannelLine, Job, Stmt};
+use tape_job::{Block, ChannelLine, Job, Stmt};
 
 /// Where each axis is, by its place among the AXIS lines.
 pub type Positions = [Um; 16];

@@ -9,8 +9,9 @@ ghost use Rattle.turnmill.specs.Stretches.{channel_line, stretches_of};
 use crate::channels::{ChannelRun, run_channel};
 use crate::clash::{HeldZone, verdict_on};
 use crate::stretches::{Stretch, Verdict, stretches_of_run};
+use axis_sets::ChannelId;
 use std::alloc::{AllocError, Global};
-use tape_job::{ChannelId, ChannelLine, Job, ZoneLine};
+use tape_job::{ChannelLine, Job, ZoneLine};
 
 /// The CHANNEL line of a channel.
 fn line_of(job: &Job, channel: ChannelId) -> Option<&ChannelLine>

@@ -7,11 +7,12 @@ ghost use Rattle.turnmill.specs.Report as model;
 
 use crate::channels::{ChannelRun, Item};
 use crate::stretches::{PlaceName, StretchKind, Verdict};
+use axis_sets::{AxisId, ChannelId};
 use micro_units::Um;
 use nc_faults::{Refusal, refusal_text};
+use path_geometry::{Arc, Ends, Motion};
 use std::alloc::{AllocError, Global};
-use swept_boxes::{AxisId, Ends, Motion};
-use tape_job::{ChannelId, Job};
+use tape_job::Job;
 
 /// Writes so many micrometres as millimetres with three decimals.
 #[tactic(auto, unfolding(crate::specs::Report::millimetres_text))]
@@ -70,6 +71,43 @@ fn push_ends(out: &mut String, job: &Job, ends: &Ends) -> Result<(), AllocError>
     Ok(())
 }
 
+/// Writes an axis with a position.
+#[tactic(auto, unfolding(crate::specs::Report::end_text))]
+fn push_centre(out: &mut String, job: &Job, axis: AxisId, at: Um) -> Result<(), AllocError>
+    ensures { OnOk result (string_bytes out.new ≡ string_bytes out.old ++ model.end_text job.now (axis, at, at)) }
+{
+    push_end(out, job, &(axis, at, at))
+}
+
+/// Writes the centre of an arc, its axes in the order of the AXIS lines.
+#[tactic(auto, unfolding(crate::specs::Report::centre_text))]
+fn push_centres(out: &mut String, job: &Job, arc: &Arc) -> Result<(), AllocError>
+    ensures { OnOk result (string_bytes out.new ≡ string_bytes out.old ++ model.centre_text job.now arc.now) }
+{
+    let (first, second) = arc.centre;
+    if arc.first.index < arc.second.index {
+        push_centre(out, job, arc.first, first)?;
+        push_centre(out, job, arc.second, second)
+    } else {
+        push_centre(out, job, arc.second, second)?;
+        push_centre(out, job, arc.first, first)
+    }
+}
+
+/// Writes an arc: the axes of its turn, where it ends, and its centre.
+#[tactic(auto, unfolding(crate::specs::Report::arc_text))]
+fn push_arc(out: &mut String, job: &Job, arc: &Arc) -> Result<(), AllocError>
+    ensures { OnOk result (string_bytes out.new ≡ string_bytes out.old ++ model.arc_text job.now arc.now) }
+{
+    out.push_str("ARC ")?;
+    push_axis_name(out, job, arc.first)?;
+    out.push_str(" ")?;
+    push_axis_name(out, job, arc.second)?;
+    push_ends(out, job, &arc.ends)?;
+    out.push_str(" CENTRE")?;
+    push_centres(out, job, arc)
+}
+
 /// Writes what a motion is, and where it ends.
 #[tactic(auto, unfolding(crate::specs::Report::motion_text))]
 fn push_motion(out: &mut String, job: &Job, motion: &Motion) -> Result<(), AllocError>
@@ -80,6 +118,11 @@ fn push_motion(out: &mut String, job: &Job, motion: &Motion) -> Result<(), Alloc
             out.push_str("LINE")?;
             push_ends(out, job, ends)
         }
+        Motion::Rapid(ends) => {
+            out.push_str("RAPID")?;
+            push_ends(out, job, ends)
+        }
+        Motion::Arc(arc) => push_arc(out, job, arc),
     }
 }
 
@@ -242,8 +285,8 @@ pub fn refusal_line(alloc: Global, refusal: &Refusal) -> Result<String, AllocErr
 #[cfg(test)]
 mod tests {
     use super::*;
+    use axis_sets::ZoneId;
     use std::test::Fail;
-    use tape_job::ZoneId;
 
     #[test]
     fn positions(rt: HostRuntime) -> Result<(), Fail> {

@@ -6,9 +6,10 @@ ghost use Rattle.turnmill.specs.ZoneBoxes.{IsFit};
 
 use crate::channels::{ChannelRun, Positions, start_positions};
 use crate::zone_boxes::{ZoneBox, boxes_of};
+use axis_sets::{ChannelId, ZoneId};
 use std::alloc::{AllocError, Global};
 use std::marker::Model;
-use tape_job::{ChannelId, Job, ZoneId, ZoneLine};
+use tape_job::{Job, ZoneLine};
 
 /// What a channel does in a stretch of a zone that it holds.
 #[derive(Clone, Copy, Debug, PartialEq, Eq)]

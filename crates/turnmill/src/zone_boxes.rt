@@ -1,14 +1,15 @@
 //! The boxes of a zone, from where its axes are.
 ghost use Rattle.std.specs.Prelude.{◌≡◌, ◌==◌, ◌<◌, ℕ, ◌++◌, All, IfOk, OnOk, find, map};
-ghost use Rattle.swept_boxes.specs.Motions.{IsSound};
+ghost use Rattle.path_geometry.specs.Motions.{IsSound, axes_of};
 ghost use Rattle.turnmill.specs.Channels.{positions_in};
 ghost use Rattle.turnmill.specs.ZoneBoxes as model;
 
 use crate::channels::{Item, Positions};
 use arrayvec::ArrayVec;
+use axis_sets::AxisId;
 use micro_units::Um;
 use std::alloc::{AllocError, Global};
-use swept_boxes::{AxisId, Box3, Motion, Ranges, cover};
+use swept_boxes::{Box3, Ranges, cover};
 use tape_job::{Side, ZoneLine};
 
 /// Where an axis stands.
@@ -113,9 +114,11 @@ fn has_axis(zone: &ZoneLine, axis: AxisId) -> bool
 fn moves_zone(zone: &ZoneLine, item: &Item) -> bool
     ensures { result ≡ model.moves_zone zone.now item.now }
 {
-    match &item.motion {
-        Motion::Line(ends) => ends.axes.iter().any(|end| has_axis(zone, end.0)),
-    }
+    item.motion
+        .ends()
+        .axes
+        .iter()
+        .any(|end| has_axis(zone, end.0))
 }
 
 /// The end that is named for an axis.
@@ -132,8 +135,7 @@ fn after(item: &Item, at: &Positions, index: usize) -> Um
     ensures { result ≡ model.after item.now (positions_in at.now) index }
 {
     let axis = AxisId { index: index as u8 };
-    let Motion::Line(ends) = &item.motion;
-    match end_of(&ends.axes, axis) {
+    match end_of(&item.motion.ends().axes, axis) {
         Some(end) => end.2,
         None => at[index],
     }
@@ -141,7 +143,7 @@ fn after(item: &Item, at: &Positions, index: usize) -> Um
 
 /// Puts the axes where a motion leaves them.
 fn settle(item: &Item, at: &mut Positions)
-    requires { All (λ e. e.0 < 16) (model.axes_of item.now.motion) }
+    requires { All (λ e. e.0 < 16) (axes_of item.now.motion) }
     ensures { (axis : ℕ) → positions_in at.new axis ≡ model.after item.now (positions_in at.old) axis }
 {
     let before = *at;
