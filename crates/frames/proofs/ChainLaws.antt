@@ -161,12 +161,12 @@ same_axis (m ∷ ms) axis other e = same_axis ms axis other (sent_on-apart m (im
 pub slots-apart : (chain : List Map) (axis other : ℕ) → axis ≢ other → (image_of chain axis).slot ≢ (image_of chain other).slot
 slots-apart chain axis other apart e = apart (same_axis chain axis other e)
 
-first-below : (plane : Plane) → first_axis plane < 3
+pub first-below : (plane : Plane) → first_axis plane < 3
 first-below G17 = omega arith
 first-below G18 = omega arith
 first-below G19 = omega arith
 
-second-below : (plane : Plane) → second_axis plane < 3
+pub second-below : (plane : Plane) → second_axis plane < 3
 second-below G17 = omega arith
 second-below G18 = omega arith
 second-below G19 = omega arith

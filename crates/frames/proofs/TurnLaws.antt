@@ -13,6 +13,7 @@ use Rattle.frames.specs.Faults.{is_square_angle, or_else, adding_fault}
 use Rattle.frames.specs.Composition.{IsImage, IsComposed, IsExtended, axis_of}
 use Rattle.frames.specs.Turns.{IsTurned, IsTurnedFirst, IsTurnedSecond}
 use Rattle.frames.proofs.AloneLaws.{IsAlone, unmapped-alone, placed-alone}
+use Rattle.frames.proofs.ChainLaws.{first-below, second-below}
 use Rattle.frames.proofs.CountLaws.{follows, mirrored-image}
 use Rattle.frames.proofs.FrameLaws.{composed-at, extended, at_some}
 
@@ -24,16 +25,6 @@ IsBare i = IsAlone i.slot i.minus (pos 1000000) (pos 0) i
 record IsPlain (i : Image) : Type 0 where
   bare : IsBare i
   below : i.slot < 3
-
-first-below : (plane : Plane) → first_axis plane < 3
-first-below G17 = omega arith
-first-below G18 = omega arith
-first-below G19 = omega arith
-
-second-below : (plane : Plane) → second_axis plane < 3
-second-below G17 = omega arith
-second-below G18 = omega arith
-second-below G19 = omega arith
 
 quarter_cases : (plane : Plane) (i : Image) (b c : Bool) → IsPlain i
     → IsPlain (cond b (placed (second_axis plane) false i) (cond c (placed (first_axis plane) true i) i))
