@@ -1,5 +1,5 @@
 -- The quarters of a sound arc: they hold its points, and each fits.
-use Rattle.std.proofs.Common.{◌≡◌, ◌∙◌, ◌+◌, ◌-◌, ◌%◌, ◌<◌, ◌≤◌, ℕ, zero, suc, Bool, true, false, List, [], ◌∷◌, ◌++◌, map, length, get_or, refl, ap, sym, subst, arith}
+use Rattle.std.proofs.Common.{◌≡◌, ◌∙◌, ◌+◌, ◌-◌, ◌%◌, ◌<◌, ◌≤◌, ℕ, zero, suc, Bool, true, false, List, [], ◌∷◌, ◌++◌, map, length, get_or, ap, sym, subst, arith}
 use Rattle.std.proofs.lemmas.List.Elements.{All-map}
 use Rattle.std.proofs.lemmas.List.FromFn.{length-map-range_with_len, map-range_with_len_more, get_or-map-range_with_len}
 use Rattle.std.specs.Int.RustNames.{int_lt}
@@ -8,11 +8,11 @@ use Rattle.std.specs.Prelude.{pos}
 use Rattle.path_geometry.specs.Arcs.{start_seen, end_seen}
 use Rattle.path_geometry.specs.Motions.{IsSoundArc}
 use Rattle.path_geometry.specs.Path.{Point, IsOnArc, point_seen}
-use Rattle.path_geometry.specs.Vectors.{Vector, cross, square}
+use Rattle.path_geometry.specs.Vectors.{cross}
 use Rattle.path_geometry.specs.declared.motion.Arc.{Arc}
 use Rattle.arc_quadrants.specs.Bounds.{bounds_between, IsBound}
 use Rattle.arc_quadrants.specs.Quadrants.{turned_back, begin_quadrant, end_quadrant}
-use Rattle.arc_quadrants.specs.Quarters.{entered, quarter_count, quarter_at, quarters_of, IsNear, AreFit}
+use Rattle.arc_quadrants.specs.Quarters.{entered, quarter_count, quarter_at, quarters_of, AreFit}
 use Rattle.arc_quadrants.specs.declared.walk.Quarter.{Quarter}
 use Rattle.arc_quadrants.proofs.BoundLaws.{IsHeld, sector_held}
 use Rattle.arc_quadrants.proofs.QuarterLaws.{from_near, to_near, below_four}

@@ -1,4 +1,4 @@
-use Rattle.std.proofs.Common.{◌≡◌, ◌∙◌, ◌<◌, List, length, ap, subst, sym, arith, rules}
+use Rattle.std.proofs.Common.{◌≡◌, ◌<◌, List, length, subst, sym, arith}
 use Rattle.std.specs.List.{All, Any}
 use Rattle.path_geometry.specs.Path.{point_seen}
 use Rattle.arc_quadrants.specs.Bounds.{bounds_between, IsBound}
