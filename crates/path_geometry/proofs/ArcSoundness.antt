@@ -1,8 +1,8 @@
 -- What the two calls give is the arc that is defined, and sound.
-use Rattle.std.proofs.Common.{◌≡◌, ℕ, ℤ, ◌<◌, ◌≤◌, ◌==◌, ◌&&◌, not, Bool, true, false, Option, None, Some, Result, Ok, Err, IfOk, if◌then◌else◌, ◌⊎◌, inl, inr, refl, sym, ap, subst}
+use Rattle.std.proofs.Common.{◌≡◌, ℕ, ℤ, ◌≤◌, ◌==◌, ◌&&◌, not, Bool, true, false, Option, None, Some, Ok, Err, IfOk, if◌then◌else◌, inl, inr, refl, ap, subst}
 use Rattle.path_geometry.specs.Arcs.{start_about, end_about, way_of, arc_with, unless, has_no_radius, centre_alarm, arc_about, radius_alarm, centre_of, is_in_range, place_alarm, arc_placed, arc_of_radius}
 use Rattle.path_geometry.specs.Ends.{EndsView}
-use Rattle.path_geometry.specs.Motions.{AreSound, HavePlane, IsInRange, IsSound, IsSoundArc, IsAbout, IsOfRadius}
+use Rattle.path_geometry.specs.Motions.{AreSound, HavePlane, IsInRange, IsSound}
 use Rattle.path_geometry.specs.Vectors.{square}
 use Rattle.path_geometry.specs.declared.motion.Motion.{Motion}
 use Rattle.path_geometry.specs.declared.motion.Motion.TheVariants as Kind

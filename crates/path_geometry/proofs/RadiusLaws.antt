@@ -1,10 +1,10 @@
 -- The size of the radii of arcs.
-use Rattle.std.proofs.Common.{◌≡◌, ℕ, ◌+◌, ◌-◌, ◌*◌, ◌<◌, ◌≤◌, ◌==◌, cond, inl, inr, arith, eqb-true}
+use Rattle.std.proofs.Common.{ℕ, ◌+◌, ◌-◌, ◌*◌, ◌<◌, ◌≤◌, ◌==◌, inl, inr, arith, eqb-true}
 use Rattle.std.proofs.Math.Nat.{mul-le-mul}
 use Rattle.std.proofs.lemmas.Bool.{cond_both}
 use Rattle.micro_units.specs.Root.{floor_root, ceil_root}
 use Rattle.micro_units.proofs.SquareRoots.{floor_root-square, floor_root-greatest}
-use Rattle.number_laws.proofs.Naturals.{le_or_lt, from_squares}
+use Rattle.number_laws.proofs.Naturals.{le_or_lt}
 
 -- the root of a square, rounded up
 pub ceil_root_bound : (root n : ℕ) → ((k : ℕ) → k < root → k * k < n) → n ≤ 800000000000000 → root ≤ 28284272

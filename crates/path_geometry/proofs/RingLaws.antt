@@ -1,19 +1,18 @@
 -- Every sound arc runs in a ring.
-use Rattle.std.proofs.Common.{◌≡◌, ℕ, zero, suc, ℤ, pos, ◌+◌, ◌-◌, ◌*◌, ◌<◌, ◌≤◌, ◌==◌, ◌&&◌, ◌||◌, ◌-ℤ◌, not, unsigned_abs, min, max, Bool, true, false, Option, None, Some, Result, Ok, Err, if◌then◌else◌, ◌⊎◌, inl, inr, refl, sym, ap, subst, arith, eqb-true, leb-true, ap₂}
+use Rattle.std.proofs.Common.{◌≡◌, ℕ, zero, suc, ℤ, ◌+◌, ◌-◌, ◌*◌, ◌<◌, ◌≤◌, ◌==◌, ◌&&◌, ◌||◌, ◌-ℤ◌, not, unsigned_abs, min, max, Bool, true, false, Option, None, Some, Ok, if◌then◌else◌, inl, inr, refl, ap, subst, arith, eqb-true, leb-true, ap₂}
 use Rattle.number_laws.proofs.Naturals.{from_squares}
 use Rattle.std.proofs.lemmas.Int.{ints}
 use Rattle.std.proofs.Math.Nat.{mul-le-mul, le_trans}
 use Rattle.micro_units.specs.Root.{floor_root, ceil_root}
-use Rattle.path_geometry.specs.Arcs.{start_about, end_about, start_seen, end_seen, way_of, arc_with, unless, has_no_radius, differ, centre_alarm, arc_about, radius_alarm, centre_of, is_in_range, place_alarm, arc_placed, arc_of_radius}
+use Rattle.path_geometry.specs.Arcs.{start_about, end_about, way_of, arc_with, unless, has_no_radius, centre_alarm, arc_about, centre_of, is_in_range, place_alarm, arc_placed, arc_of_radius}
 use Rattle.path_geometry.specs.Ends.{EndsView, start_of, end_of}
-use Rattle.path_geometry.specs.Motions.{AreSound, HavePlane, IsInRange, IsSound, IsSoundArc, IsAbout, IsOfRadius}
-use Rattle.path_geometry.specs.Rings.{LiesInRing, IsInRing}
-use Rattle.path_geometry.specs.Vectors.{Vector, square, is_one_way}
+use Rattle.path_geometry.specs.Motions.{AreSound, IsInRange, IsSoundArc, IsAbout, IsOfRadius}
+use Rattle.path_geometry.specs.Rings.{IsInRing}
+use Rattle.path_geometry.specs.Vectors.{Vector, square}
 use Rattle.path_geometry.specs.declared.motion.Arc.{Arc}
-use Rattle.path_geometry.specs.declared.motion.Motion.{Motion}
 use Rattle.path_geometry.specs.declared.motion.Motion.TheVariants as Kind
 use Rattle.path_geometry.proofs.EndsLaws.{start_in_range, end_in_range}
-use Rattle.path_geometry.proofs.RadiusLaws.{floor_root-small, ceil_root-small, root-below, root-above}
+use Rattle.path_geometry.proofs.RadiusLaws.{ceil_root-small, root-below, root-above}
 
 -- two positions in range are apart by at most twice the range
 apart : (a b : ℤ) → IsInRange a → IsInRange b → unsigned_abs (a -ℤ b) ≤ 20000000

@@ -1,5 +1,5 @@
-use Rattle.std.proofs.Common.{rules, ◌≡◌, ◌∙◌, ℤ, sym, ap, None, Some, Option, if◌then◌else◌, ◌&&◌}
-use Rattle.path_geometry.specs.Arcs.{is_in_range, centre_of, arc_placed}
+use Rattle.std.proofs.Common.{◌∙◌, sym, ap}
+use Rattle.path_geometry.specs.Arcs.{arc_placed}
 use Rattle.path_geometry.proofs.ArcSoundness.{placed_in_range, placed_out_of_range}
 use Rattle.path_geometry.proofs.arcs.arc_along.Goals as goal
 

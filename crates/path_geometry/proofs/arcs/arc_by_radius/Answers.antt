@@ -1,4 +1,4 @@
-use Rattle.std.proofs.Common.{rules, ◌≡◌, ◌≤◌, sym, subst, unsigned_abs, IfOk, Result, ℕ}
+use Rattle.std.proofs.Common.{rules, ◌≡◌, sym, subst, unsigned_abs, IfOk, Result, ℕ}
 use Rattle.path_geometry.specs.Arcs.{arc_of_radius}
 use Rattle.path_geometry.specs.Motions.{IsSound}
 use Rattle.path_geometry.specs.declared.motion.Motion.{Motion}

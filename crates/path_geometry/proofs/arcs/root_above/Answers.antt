@@ -1,4 +1,4 @@
-use Rattle.std.proofs.Common.{arith, rules, ◌≤◌}
+use Rattle.std.proofs.Common.{rules, ◌≤◌}
 use Rattle.path_geometry.proofs.RadiusLaws.{ceil_root_bound}
 use Rattle.path_geometry.proofs.arcs.root_above.Goals as goal
 
