@@ -1,5 +1,5 @@
 -- The quarters of a sound arc: they hold its points, and each fits.
-use Rattle.std.proofs.Common.{◌≡◌, ◌∙◌, ◌+◌, ◌-◌, ◌%◌, ◌<◌, ◌≤◌, ℕ, zero, suc, Bool, true, false, List, [], ◌∷◌, ◌++◌, map, length, get_or, refl, ap, sym, subst, arith}
+use Rattle.std.proofs.Common.{◌≡◌, ◌∙◌, ◌+◌, ◌-◌, ◌%◌, ◌<◌, ◌≤◌, ℕ, zero, suc, Bool, true, false, List, [], ◌∷◌, ◌++◌, map, length, get_or, ap, sym, subst, arith}
 use Rattle.std.proofs.lemmas.List.Elements.{All-map}
 use Rattle.std.proofs.lemmas.List.FromFn.{length-map-range_with_len, map-range_with_len_more, get_or-map-range_with_len}
 use Rattle.std.specs.Int.RustNames.{int_lt}
@@ -8,11 +8,11 @@ use Rattle.std.specs.Prelude.{pos}
 use Rattle.path_geometry.specs.Arcs.{start_seen, end_seen}
 use Rattle.path_geometry.specs.Motions.{IsSoundArc}
 use Rattle.path_geometry.specs.Path.{Point, IsOnArc, point_seen}
-use Rattle.path_geometry.specs.Vectors.{Vector, cross, square}
+use Rattle.path_geometry.specs.Vectors.{cross}
 use Rattle.path_geometry.specs.declared.motion.Arc.{Arc}
 use Rattle.arc_quadrants.specs.Bounds.{bounds_between, IsBound}
 use Rattle.arc_quadrants.specs.Quadrants.{turned_back, begin_quadrant, end_quadrant}
-use Rattle.arc_quadrants.specs.Quarters.{entered, quarter_count, quarter_at, quarters_of, IsNear, AreFit}
+use Rattle.arc_quadrants.specs.Quarters.{entered, quarter_count, quarter_at, quarters_of, IsFit}
 use Rattle.arc_quadrants.specs.declared.walk.Quarter.{Quarter}
 use Rattle.arc_quadrants.proofs.BoundLaws.{IsHeld, sector_held}
 use Rattle.arc_quadrants.proofs.QuarterLaws.{from_near, to_near, below_four}
@@ -47,7 +47,7 @@ quarters_cover arc point sound on = at_place (arc_held 0 arc point sound on)
               ((f place).from, (f place).to) held,
         )
 
-pub quarter_fits : (arc : Arc) (place : ℕ) → IsSoundArc arc → AreFit (quarter_at arc.outer (start_seen arc) (end_seen arc) place)
+pub quarter_fits : (arc : Arc) (place : ℕ) → IsSoundArc arc → IsFit (quarter_at arc.outer (start_seen arc) (end_seen arc) place)
 quarter_fits arc place sound =
     let s = start_near arc sound in
     let e = end_near arc sound in
@@ -59,10 +59,10 @@ quarter_fits arc place sound =
           (omega (arith, outer_near arc sound)) (omega (arith, e.u)) (omega (arith, e.v));
     }
 
-pub quarters_fit : (arc : Arc) → IsSoundArc arc → All AreFit (quarters_of arc)
+pub quarters_fit : (arc : Arc) → IsSoundArc arc → All IsFit (quarters_of arc)
 quarters_fit arc sound =
     let n = quarter_count (start_seen arc) (end_seen arc) in
-    All-map AreFit (quarter_at arc.outer (start_seen arc) (end_seen arc)) (range_with_len 0 n)
+    All-map IsFit (quarter_at arc.outer (start_seen arc) (end_seen arc)) (range_with_len 0 n)
     (λ i d h. quarter_fits arc (get_or (range_with_len 0 n) i d) sound)
 
 some_entered : (k : ℕ) (b : Bool) → 0 < entered k b

@@ -1,13 +1,13 @@
 -- The bounds of the parts of a quarter: they hold the ring between the two directions, and lie within those of the quarter.
-use Rattle.std.proofs.Common.{◌≡◌, ◌∙◌, ◌+◌, ◌-◌, ◌*◌, ◌<◌, ◌≤◌, ℕ, zero, suc, get_or, length, refl, ap, sym, subst, arith}
+use Rattle.std.proofs.Common.{◌≡◌, ◌∙◌, ◌+◌, ◌*◌, ◌<◌, ◌≤◌, ℕ, zero, suc, get_or, refl, ap, sym, subst, arith}
 use Rattle.std.proofs.Math.Nat.{mul-le-mul_left}
 use Rattle.std.proofs.lemmas.Int.{ints}
 use Rattle.std.specs.Int.RustNames.{unsigned_abs}
 use Rattle.std.specs.List.{All, Any}
-use Rattle.std.specs.Prelude.{ℤ, pos, negsuc, neg_ℤ, ◌*ℤ◌, ◌≤ℤ◌}
+use Rattle.std.specs.Prelude.{ℤ, pos, neg_ℤ, ◌≤ℤ◌}
 use Rattle.number_laws.proofs.Naturals.{square_above}
 use Rattle.path_geometry.specs.Vectors.{Vector, cross, square}
-use Rattle.arc_quadrants.specs.Bounds.{IsDirection, length_square, IsReachDown, IsReachUp, Bounds, bounds_between, IsBound}
+use Rattle.arc_quadrants.specs.Bounds.{length_square, Bounds, bounds_between, IsBound}
 use Rattle.arc_quadrants.specs.Halves.{halves}
 use Rattle.arc_quadrants.specs.Quadrants.{turned_back}
 use Rattle.arc_quadrants.specs.Quarters.{sizes, quarter_count, quarter_at}

@@ -1,14 +1,13 @@
 -- The quarters between two directions: they hold the sector, and each runs ahead between two directions of quadrant 0.
-use Rattle.std.proofs.Common.{◌≡◌, ◌∙◌, ◌+◌, ◌-◌, ◌*◌, ◌%◌, ◌==◌, ◌<◌, ◌≤◌, ◌⊎◌, ℕ, zero, suc, inl, inr, Bool, true, false, cond, refl, ap, sym, subst, arith}
+use Rattle.std.proofs.Common.{◌≡◌, ◌∙◌, ◌+◌, ◌-◌, ◌*◌, ◌%◌, ◌==◌, ◌<◌, ◌≤◌, ◌⊎◌, ℕ, zero, suc, inl, inr, Bool, true, false, refl, ap, sym, subst, arith}
 use Rattle.std.proofs.lemmas.Bool.{cond_both, eqb-true}
 use Rattle.std.proofs.lemmas.Int.{ints}
 use Rattle.std.specs.Int.RustNames.{int_lt, unsigned_abs}
 use Rattle.std.specs.Prelude.{ℤ, pos, negsuc, ◌-ℤ◌, ◌*ℤ◌, ◌≤ℤ◌, ◌<ℤ◌, if◌then◌else◌}
-use Rattle.path_geometry.specs.Path.{IsSwept}
 use Rattle.path_geometry.specs.Vectors.{Vector, cross, square}
 use Rattle.arc_quadrants.specs.Quadrants.{turned_back, begin_quadrant, end_quadrant}
 use Rattle.arc_quadrants.specs.Quarters.{entered, quarter_count, sizes, quarter_at, IsNear}
-use Rattle.arc_quadrants.proofs.Turns.{cross_turned, turned_twice, IsBegin, IsEnd, begin_is, end_is}
+use Rattle.arc_quadrants.proofs.Turns.{cross_turned, turned_twice, begin_is, end_is}
 use Rattle.arc_quadrants.proofs.Sectors.{IsWithin, IsReached, IsAtPlace, IsSomewhere, first_axis, second_axis, walked}
 
 -- a direction as a vector

@@ -1,11 +1,11 @@
 -- The reaches by roots are the greatest and the least number that their squares allow, and none is beyond the radius.
-use Rattle.std.proofs.Common.{◌≡◌, ◌+◌, ◌-◌, ◌*◌, ◌/◌, ◌<◌, ◌≤◌, ◌==◌, ◌⊎◌, ℕ, false, inl, inr, ap, subst, sym, arith}
-use Rattle.std.proofs.Math.Nat.{mul-le-mul, mul-le-mul_left, mul-le-mul_right, mul-lt-mul_of_pos_right}
+use Rattle.std.proofs.Common.{◌≡◌, ◌+◌, ◌-◌, ◌*◌, ◌/◌, ◌<◌, ◌≤◌, ◌==◌, ◌⊎◌, ℕ, false, inl, inr, subst, sym, arith}
+use Rattle.std.proofs.Math.Nat.{mul-le-mul, mul-le-mul_left, mul-le-mul_right}
 use Rattle.std.proofs.lemmas.Bool.{cond_both, eqb-true}
 use Rattle.std.proofs.lemmas.Bool.Decides.{nat_tests}
 use Rattle.micro_units.specs.Root.{floor_root, ceil_root}
 use Rattle.micro_units.proofs.SquareRoots.{floor_root-square, floor_root-greatest}
-use Rattle.number_laws.proofs.Naturals.{le_or_lt, from_squares}
+use Rattle.number_laws.proofs.Naturals.{le_or_lt}
 use Rattle.arc_quadrants.specs.Bounds.{reach_down, reach_up, IsReachDown, IsReachUp}
 
 -- ---- roots

@@ -1,9 +1,9 @@
 -- How far a ring reaches along an axis between two directions of quadrant 0: it stays within the rounded reaches, and the
 -- reaches of a part lie within those of the whole. All numbers are naturals.
-use Rattle.std.proofs.Common.{◌≡◌, ◌∙◌, ◌+◌, ◌-◌, ◌*◌, ◌/◌, ◌<◌, ◌≤◌, ◌⊎◌, ℕ, [], ◌∷◌, inl, inr, ap, sym, subst, arith}
+use Rattle.std.proofs.Common.{◌+◌, ◌*◌, ◌<◌, ◌≤◌, ◌⊎◌, ℕ, [], ◌∷◌, inl, inr, arith}
 use Rattle.std.proofs.Math.Nat.{mul-le-mul, mul-le-mul_left, mul-le-mul_right, mul-lt-mul_of_pos_right}
 use Rattle.std.proofs.lemmas.Int.{ints}
-use Rattle.std.specs.Prelude.{ℤ, pos, ◌-ℤ◌, ◌+ℤ◌, ◌*ℤ◌, ◌≤ℤ◌}
+use Rattle.std.specs.Prelude.{pos, ◌-ℤ◌, ◌+ℤ◌, ◌*ℤ◌, ◌≤ℤ◌}
 use Rattle.number_laws.proofs.Integers.{nonneg-pos, le-pos}
 use Rattle.number_laws.proofs.Naturals.{le_or_lt}
 use Rattle.number_laws.proofs.Ring.{num, var, plus, minus, times}

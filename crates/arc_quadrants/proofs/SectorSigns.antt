@@ -2,8 +2,8 @@
 use Rattle.std.proofs.Common.{[], ◌∷◌, arith}
 use Rattle.std.proofs.lemmas.Int.{ints}
 use Rattle.std.specs.Prelude.{ℤ, pos, neg_ℤ, ◌-ℤ◌, ◌*ℤ◌, ◌≤ℤ◌}
-use Rattle.number_laws.proofs.Ring.{Expr, num, var, minus, times, negate}
-use Rattle.number_laws.proofs.Orders.{Cert, some, given, by, both, all_of, refute}
+use Rattle.number_laws.proofs.Ring.{num, var, minus, times, negate}
+use Rattle.number_laws.proofs.Orders.{some, given, by, both, all_of, refute}
 
 -- ahead of s and to the right: not below
 pub not_below : (a b x y : ℤ) → pos 1 ≤ℤ a → pos 0 ≤ℤ b → pos 0 ≤ℤ x → pos 0 ≤ℤ ((a *ℤ y) -ℤ (b *ℤ x)) → pos 0 ≤ℤ y

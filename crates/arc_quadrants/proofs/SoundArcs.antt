@@ -1,14 +1,14 @@
 -- What is known of a sound arc: its start and its end are near its centre and not on it, and its radii are in order and bounded.
-use Rattle.std.proofs.Common.{◌≡◌, ◌∙◌, ◌*◌, ◌<◌, ◌≤◌, ◌⊎◌, ℕ, inl, inr, Bool, true, false, Option, Some, None, Ok, refl, ap, sym, subst, arith}
+use Rattle.std.proofs.Common.{◌≡◌, ◌<◌, ◌≤◌, ◌⊎◌, ℕ, inl, inr, Bool, true, false, Option, Some, None, Ok, refl, ap, sym, subst, arith}
 use Rattle.std.proofs.Math.Nat.{mul-le-mul}
 use Rattle.std.proofs.lemmas.Bool.Decides.{nat_tests}
 use Rattle.std.specs.Int.RustNames.{unsigned_abs}
 use Rattle.std.specs.Prelude.{ℤ, ◌&&◌, not, if◌then◌else◌}
 use Rattle.number_laws.proofs.Naturals.{le_or_lt}
-use Rattle.path_geometry.specs.Arcs.{start_about, end_about, start_seen, end_seen, way_of, arc_with, unless, has_no_radius, radius_alarm, centre_of, is_in_range, place_alarm, arc_placed, arc_of_radius}
+use Rattle.path_geometry.specs.Arcs.{start_about, end_about, start_seen, end_seen, way_of, arc_with, unless, radius_alarm, centre_of, is_in_range, place_alarm, arc_placed, arc_of_radius}
 use Rattle.path_geometry.specs.Ends.{EndsView}
 use Rattle.path_geometry.specs.Motions.{IsInRange, IsAbout, IsOfRadius, IsSoundArc}
-use Rattle.path_geometry.specs.Path.{IsSwept, Point, IsOnArc, point_seen}
+use Rattle.path_geometry.specs.Path.{Point, IsOnArc, point_seen}
 use Rattle.path_geometry.specs.Vectors.{Vector, square}
 use Rattle.path_geometry.specs.declared.motion.Arc.{Arc}
 use Rattle.path_geometry.specs.declared.motion.Motion.TheVariants as Kind

@@ -1,5 +1,5 @@
 -- The quarters into which the axis crossings cut an arc.
-use Rattle.std.specs.Prelude.{ℕ, zero, suc, ◌<◌, ◌≤◌, ◌+◌, ◌-◌, ◌%◌, ◌==◌, ℤ, pos, Bool, if◌then◌else◌, List, map}
+use Rattle.std.specs.Prelude.{ℕ, zero, suc, ◌<◌, ◌≤◌, ◌+◌, ◌-◌, ◌%◌, ◌==◌, pos, Bool, if◌then◌else◌, List, map}
 use Rattle.std.specs.Int.RustNames.{int_lt, unsigned_abs}
 use Rattle.std.specs.List.{range_with_len}
 use Rattle.arc_quadrants.specs.Quadrants.{turned_back, begin_quadrant, end_quadrant}
@@ -8,7 +8,7 @@ use Rattle.path_geometry.specs.Vectors.{Vector, cross}
 use Rattle.path_geometry.specs.declared.motion.Arc.{Arc}
 use Rattle.arc_quadrants.specs.declared.walk.Quarter.{Quarter}
 
--- how many quadrants are entered, by how many lie between the first and the last, and by whether the end is ahead of the start
+-- how many quadrants are entered, by how far the last lies ahead of the first, and by whether the end is ahead of the start
 abbrev pub entered : ℕ → Bool → ℕ
 entered zero ahead = if ahead then 1 else 5
 entered (suc k) ahead = suc k + 1
@@ -44,7 +44,7 @@ pub record IsNear (far : ℕ) (d : ℕ × ℕ) : Type 0 where
   pub second : d.1 ≤ far
 
 -- a quarter lies in a quadrant between two directions, which a sound arc has no farther than this
-pub record AreFit (quarter : Quarter) : Type 0 where
+pub record IsFit (quarter : Quarter) : Type 0 where
   pub turn : quarter.turn < 4
   pub from : IsNear 30000000 quarter.from
   pub to : IsNear 30000000 quarter.to

@@ -53,7 +53,7 @@ fn quotient_up(whole: u128, square: u64) -> u128
     (whole + (square as u128 - 1)) / square as u128
 }
 
-/// The same rounded up.
+/// How far a ring of this radius reaches along an axis, rounded up.
 #[tactic(auto, unfolding(crate::specs::Bounds::reach_up))]
 fn reach_up(radius: u32, part: u64, square: u64) -> u32
     requires radius { radius < 33554432 }

@@ -7,7 +7,7 @@ ghost use Rattle.path_geometry.specs.Path.{Point, IsOnArc, point_seen};
 ghost use Rattle.arc_quadrants.specs.Bounds.{IsBound, bounds_between};
 ghost use Rattle.arc_quadrants.specs.Quadrants.{turned_back};
 ghost use Rattle.arc_quadrants.specs.Quarters as parts;
-ghost use Rattle.arc_quadrants.specs.Quarters.{quarters_of, AreFit};
+ghost use Rattle.arc_quadrants.specs.Quarters.{quarters_of, IsFit};
 
 use crate::seen::{Seen, begin_quadrant, end_quadrant, is_ahead, seen_ends, sizes, turned_back};
 use arrayvec::ArrayVec;
@@ -33,7 +33,7 @@ pub fn quarters(arc: &Arc) -> ArrayVec<Quarter, 5>
     ensures quarters { result.items ≡ quarters_of arc.now }
     ensures covers { (point : Point) → IsOnArc arc.now point
         → Any (λ q. IsBound (bounds_between arc.now.inner arc.now.outer q.from q.to) (turned_back q.turn (point_seen arc.now point)) point.under) result.items }
-    ensures fit { All AreFit result.items }
+    ensures fit { All IsFit result.items }
     ensures some { 0 < length result.items }
 {
     let (start, end) = seen_ends(arc);

@@ -8,18 +8,16 @@ use Rattle.std.proofs.lemmas.List.FromFn.{length-map-range_with_len, get_or-map-
 use Rattle.std.specs.List.{All, Any, flat_map, range_with_len, slice_get}
 use Rattle.number_laws.proofs.Naturals.{le_or_lt, quotient_is}
 use Rattle.number_laws.specs.Fractions.{IsIn}
-use Rattle.micro_units.specs.declared.Um.{Um}
 use Rattle.arc_quadrants.specs.Bounds.{bounds_between, IsBound}
 use Rattle.arc_quadrants.specs.Halves.{halves}
 use Rattle.arc_quadrants.specs.Quadrants.{turned_back}
 use Rattle.arc_quadrants.specs.Quarters.{quarter_count, quarter_at, quarters_of}
 use Rattle.arc_quadrants.specs.declared.walk.Quarter.{Quarter}
 use Rattle.arc_quadrants.proofs.ArcLaws.{arc_held, quarters_some, quarters_few}
-use Rattle.arc_quadrants.proofs.BoundLaws.{LieWithin, IsHeld, from_some, to_some, halves_nest}
+use Rattle.arc_quadrants.proofs.BoundLaws.{IsHeld, from_some, to_some, halves_nest}
 use Rattle.arc_quadrants.proofs.HalfLaws.{any_left, any_right, get_left, get_right, length-halves, few_parts}
 use Rattle.arc_quadrants.proofs.QuarterLaws.{RunsAhead, runs_ahead}
 use Rattle.arc_quadrants.proofs.SoundArcs.{start_some, end_some, outer_some}
-use Rattle.axis_sets.specs.declared.ids.AxisId.{AxisId}
 use Rattle.path_geometry.specs.Arcs.{start_seen, end_seen}
 use Rattle.path_geometry.specs.Motions.{IsSoundArc}
 use Rattle.path_geometry.specs.Path.{Point, IsOnArc, point_seen}
@@ -28,7 +26,7 @@ use Rattle.swept_boxes.specs.Cover.{box_of_quarter, cover_of_arc, AreSmallest}
 use Rattle.swept_boxes.specs.Pieces.{range_over, ranges_over, box_of_part, pieces_of_quarter}
 use Rattle.swept_boxes.specs.PlaneBoxes.{BoxInPlane, joined_all}
 use Rattle.swept_boxes.specs.Ranges.{RangesView, Hold, LieIn}
-use Rattle.swept_boxes.proofs.PlaneLaws.{IsInPlane, turned_holds, range_holds, AreWithin, turned_within, within_trans, all_within, ranges_within, joined_least}
+use Rattle.swept_boxes.proofs.PlaneLaws.{turned_holds, range_holds, AreWithin, turned_within, within_trans, all_within, ranges_within, joined_least}
 
 abbrev pub arc_pieces : Arc → ℕ → List RangesView
 arc_pieces arc depth = flat_map (pieces_of_quarter arc depth) (quarters_of arc)

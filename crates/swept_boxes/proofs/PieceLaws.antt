@@ -23,7 +23,7 @@ use Rattle.path_geometry.specs.declared.motion.Motion.{Motion}
 use Rattle.path_geometry.specs.declared.motion.Motion.TheVariants.{Line, Rapid}
 use Rattle.path_geometry.specs.declared.motion.Motion.TheVariants as Kind
 use Rattle.swept_boxes.specs.Cover.{cover_of, AreSmallest}
-use Rattle.arc_quadrants.specs.Quarters.{AreFit}
+use Rattle.arc_quadrants.specs.Quarters.{IsFit}
 use Rattle.arc_quadrants.specs.declared.walk.Quarter.{Quarter}
 use Rattle.arc_quadrants.proofs.ArcLaws.{quarters_fit}
 use Rattle.arc_quadrants.proofs.HalfLaws.{few_parts}
@@ -328,6 +328,6 @@ left_none xs left n view h = sym view ∙ drop_none xs n (sym h)
 
 -- the quarters of a motion along an arc fit
 pub quarters_of_motion : (motion : Motion) (arc : Arc) (quarters : List Quarter) → motion ≡ Kind.Arc arc → IsSound motion → quarters ≡ quarters_in motion
-    → All AreFit quarters
+    → All IsFit quarters
 quarters_of_motion motion arc quarters is sound same =
-    subst (λ (qs : List Quarter). All AreFit qs) (sym (same ∙ ap quarters_in is)) (quarters_fit arc (subst (λ (m : Motion). IsSound m) is sound))
+    subst (λ (qs : List Quarter). All IsFit qs) (sym (same ∙ ap quarters_in is)) (quarters_fit arc (subst (λ (m : Motion). IsSound m) is sound))

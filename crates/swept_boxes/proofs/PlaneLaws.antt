@@ -1,12 +1,12 @@
 -- Boxes in the plane of an arc, and the ranges of its axes over them.
-use Rattle.std.proofs.Common.{◌≡◌, ◌∙◌, ◌<◌, ◌≤◌, ◌≢◌, ◌==◌, ◌⊎◌, ℕ, zero, suc, Bool, true, false, cond, List, [], ◌∷◌, length, map, fold, refl, ap, sym, subst, arith, eq-eqb}
+use Rattle.std.proofs.Common.{◌≡◌, ◌∙◌, ◌<◌, ◌≢◌, ◌==◌, ℕ, zero, suc, Bool, true, false, List, [], ◌∷◌, length, map, fold, refl, ap, sym, subst, arith, eq-eqb}
 use Rattle.std.proofs.lemmas.Bool.{cond_both, cond-true, cond-false, ne_eqb, eqb-true}
 use Rattle.std.proofs.lemmas.Int.{ints, clamps}
 use Rattle.std.proofs.lemmas.List.Elements.{All-cons, All-nil, All-head, All-tail}
 use Rattle.std.specs.Int.{int_max, int_min}
 use Rattle.std.specs.List.{All, AllZip}
 use Rattle.std.specs.Prelude.{ℤ, pos, neg_ℤ, ◌+ℤ◌, ◌-ℤ◌, ◌*ℤ◌, ◌≤ℤ◌, if◌then◌else◌}
-use Rattle.number_laws.proofs.Integers.{≤ℤ_trans, +ℤ-*ℤ, neg-*ℤ, min_left, min_right, max_left, max_right, min_greatest, max_least}
+use Rattle.number_laws.proofs.Integers.{≤ℤ_trans, +ℤ-*ℤ, neg-*ℤ, min_left, min_right, max_left, max_right}
 use Rattle.number_laws.specs.Fractions.{IsIn}
 use Rattle.micro_units.specs.declared.Um.{Um}
 use Rattle.arc_quadrants.specs.Bounds.{Bounds, IsBound}

@@ -4,7 +4,7 @@ ghost use Rattle.std.specs.Int.{int_max, int_min};
 ghost use Rattle.std.specs.Int.RustNames.{unsigned_abs};
 ghost use Rattle.std.specs.List.{All};
 ghost use Rattle.arc_quadrants.specs.Bounds.{IsDirection, bounds_between};
-ghost use Rattle.arc_quadrants.specs.Quarters.{AreFit};
+ghost use Rattle.arc_quadrants.specs.Quarters.{IsFit};
 ghost use Rattle.path_geometry.specs.Motions.{IsInRange, IsSoundArc};
 ghost use Rattle.swept_boxes.specs.Cover as covers;
 ghost use Rattle.swept_boxes.specs.PlaneBoxes as boxes;
@@ -181,7 +181,7 @@ fn joined(a: PlaneBox, b: PlaneBox) -> PlaneBox
 /// The box of a whole quarter.
 fn box_of_quarter(arc: &Arc, quarter: &Quarter) -> PlaneBox
     requires sound { IsSoundArc arc.now }
-    requires fit { AreFit quarter.now }
+    requires fit { IsFit quarter.now }
     ensures { result ≡ covers.box_of_quarter arc.now quarter.now }
 {
     box_of_part(arc, quarter.turn, quarter.from, quarter.to)
@@ -190,7 +190,7 @@ fn box_of_quarter(arc: &Arc, quarter: &Quarter) -> PlaneBox
 /// The smallest box that holds all quarters.
 fn box_of_quarters(arc: &Arc, quarters: &[Quarter]) -> PlaneBox
     requires sound { IsSoundArc arc.now }
-    requires fit { All AreFit quarters.now }
+    requires fit { All IsFit quarters.now }
     ensures { result ≡ boxes.joined_all (map (covers.box_of_quarter arc.now) quarters.now) }
 {
     match quarters.split_first() {

@@ -1,7 +1,7 @@
 //! The pieces of a motion, and its cover.
 ghost use Rattle.std.specs.Prelude.{◌≡◌, ◌<◌, ◌≤◌, ◌^◌, length, slice_get};
 ghost use Rattle.std.specs.List.{All, Any, flat_map};
-ghost use Rattle.arc_quadrants.specs.Quarters.{AreFit};
+ghost use Rattle.arc_quadrants.specs.Quarters.{IsFit};
 ghost use Rattle.path_geometry.specs.Motions.{IsSound, IsSoundArc};
 ghost use Rattle.path_geometry.specs.Path.{Point, IsOnPath};
 ghost use Rattle.swept_boxes.specs.Cover.{cover_of, AreSmallest};
@@ -87,7 +87,7 @@ fn rapid_piece(ends: &Ends, place: u8) -> Option<Ranges>
 /// The piece of one quarter of an arc at a place.
 fn quarter_piece(arc: &Arc, quarter: &Quarter, depth: u8, place: u8) -> Ranges
     requires sound { IsSoundArc arc.now }
-    requires fit { AreFit quarter.now }
+    requires fit { IsFit quarter.now }
     requires deep { depth ≤ 4 }
     requires within { place < 2 ^ depth }
     ensures { slice_get (pieces_of_quarter arc.now depth quarter.now) place ≡ Some result }
@@ -109,7 +109,7 @@ fn quarter_at(quarters: &[Quarter], place: usize) -> Option<Quarter>
 /// The piece of an arc at a place.
 fn arc_piece(arc: &Arc, quarters: &[Quarter], depth: u8, place: u8) -> Option<Ranges>
     requires sound { IsSoundArc arc.now }
-    requires fit { All AreFit quarters.now }
+    requires fit { All IsFit quarters.now }
     requires deep { depth ≤ 4 }
     ensures { result ≡ slice_get (flat_map (pieces_of_quarter arc.now depth) quarters.now) place }
 {

@@ -1,9 +1,9 @@
-use Rattle.std.proofs.Common.{◌≡◌, ◌∙◌, ◌<◌, List, length, ap, subst, sym, arith, rules}
+use Rattle.std.proofs.Common.{◌≡◌, ◌<◌, List, length, subst, sym, arith}
 use Rattle.std.specs.List.{All, Any}
 use Rattle.path_geometry.specs.Path.{point_seen}
 use Rattle.arc_quadrants.specs.Bounds.{bounds_between, IsBound}
 use Rattle.arc_quadrants.specs.Quadrants.{turned_back}
-use Rattle.arc_quadrants.specs.Quarters.{quarter_at, quarters_of, AreFit}
+use Rattle.arc_quadrants.specs.Quarters.{quarter_at, quarters_of, IsFit}
 use Rattle.arc_quadrants.specs.declared.walk.Quarter.{Quarter}
 use Rattle.arc_quadrants.proofs.ArcLaws.{quarters_cover, quarters_fit, quarters_some, one_more}
 use Rattle.arc_quadrants.proofs.walk.quarters.Goals as goal
@@ -25,7 +25,7 @@ returns-clause-covers c = λ point on.
 pub returns-clause-fit : goal.returns-clause-fit
 returns-clause-fit c =
     let is : c.loop-place.quarters.items ≡ quarters_of c.args.arc.now = grind arith in
-    subst (λ (qs : List Quarter). All AreFit qs) (sym is) (quarters_fit c.args.arc.now c.requires)
+    subst (λ (qs : List Quarter). All IsFit qs) (sym is) (quarters_fit c.args.arc.now c.requires)
 
 pub returns-clause-some : goal.returns-clause-some
 returns-clause-some c =

@@ -1,4 +1,4 @@
-use Rattle.std.proofs.Common.{◌≡◌, ◌≤◌, length, map}
+use Rattle.std.proofs.Common.{◌≡◌, length, map}
 use Rattle.std.specs.List.{range_with_len}
 use Rattle.arc_quadrants.specs.Quarters.{quarter_at}
 use Rattle.arc_quadrants.proofs.walk.quarters.Given as goal

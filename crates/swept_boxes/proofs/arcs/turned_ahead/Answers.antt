@@ -1,6 +1,6 @@
 use Rattle.std.proofs.Common.{◌≡◌, ℕ, arith, subst, sym, w32}
 use Rattle.std.proofs.lemmas.Int.{ints, to_z-of_z}
-use Rattle.std.specs.Prelude.{ℤ, pos, neg_ℤ, ◌-ℤ◌}
+use Rattle.std.specs.Prelude.{pos, neg_ℤ, ◌-ℤ◌}
 use Rattle.swept_boxes.specs.PlaneBoxes.{turned_ahead}
 use Rattle.swept_boxes.proofs.PlaneLaws.{box_same, record_of}
 use Rattle.swept_boxes.proofs.arcs.turned_ahead.Goals as goal

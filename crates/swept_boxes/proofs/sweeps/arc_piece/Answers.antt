@@ -1,5 +1,5 @@
 -- The quarter at the quotient of the place, and its piece at the remainder.
-use Rattle.std.proofs.Common.{◌≡◌, ◌∙◌, sym}
+use Rattle.std.proofs.Common.{◌∙◌, sym}
 use Rattle.swept_boxes.proofs.ArcPieceLaws.{piece_of_arc, no_piece_of_arc}
 use Rattle.swept_boxes.proofs.sweeps.arc_piece.Goals as goal
 

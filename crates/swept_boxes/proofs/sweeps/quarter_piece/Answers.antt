@@ -1,5 +1,5 @@
 -- What is known of a sound arc and of its quarters is what their parts need.
-use Rattle.std.proofs.Common.{◌≡◌, ◌∙◌, ap, arith}
+use Rattle.std.proofs.Common.{◌∙◌, ap, arith}
 use Rattle.arc_quadrants.proofs.HalfLaws.{near_short}
 use Rattle.arc_quadrants.proofs.SoundArcs.{radii_ordered, outer_near, centre_in_range}
 use Rattle.swept_boxes.specs.PlaneBoxes.{BoxInPlane}
