@@ -5,6 +5,7 @@ ghost use Rattle.arc_quadrants.specs.Halves as spec;
 ghost use Rattle.arc_quadrants.specs.Halves.{halves, IsShort};
 
 /// How many parts there are at a depth, at each level of which every part is cut in two.
+#[tactic(auto, using(crate::proofs::HalfLaws::few_parts))]
 pub fn parts_at(depth: u8) -> u8
     requires { depth ≤ 4 }
     ensures value { result ≡ 2 ^ depth }

@@ -162,7 +162,7 @@ fn boxes_meet_where_they_share_a_point(rt: HostRuntime) {
 // every axis; arcs of one to five quarters, by centre and by radius; the longest radius; a rapid and a line.
 #[test]
 fn motions_have_their_pieces_and_their_cover(rt: HostRuntime) {
-    let cases: [Case<'static>; 23] = [
+    let cases: [Case<'static>; 24] = [
         (
             (0, 10000),
             (10000, 0),
@@ -343,6 +343,14 @@ fn motions_have_their_pieces_and_their_cover(rt: HostRuntime) {
                 ((0, 25), (-25, 0)),
                 ((15, 25), (0, 20)),
             ],
+        ),
+        (
+            (24, 7),
+            (7, -24),
+            By::Centre(Turn::Back, 0, 0),
+            0,
+            ((7, 25), (-24, 7)),
+            &[((24, 25), (0, 7)), ((7, 25), (-24, 0))],
         ),
         (
             (-3, 1),
