@@ -7,3 +7,4 @@ pub mod Complete
 pub mod Sound
 pub mod Leftmost
 pub mod Parsed
+pub mod Stopped

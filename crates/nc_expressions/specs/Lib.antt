@@ -7,3 +7,4 @@ pub mod Tree
 pub mod Value
 pub mod Parsing
 pub mod Fronts
+pub mod Stops
