@@ -2,7 +2,6 @@
 use Rattle.std.specs.Prelude.{ℕ, ◌+◌, ◌≤◌, ◌&&◌, if◌then◌else◌, List, [], ◌∷◌, drop, Option, Some, None, position}
 use Rattle.std.specs.List.{prefix_len}
 use Rattle.std.specs.Char.{is_ascii_alphabetic, is_ascii_digit, to_ascii_uppercase}
-use Rattle.block_scanner.specs.declared.Kind.{Kind}
 use Rattle.block_scanner.specs.declared.Kind.TheVariants as kind
 use Rattle.block_scanner.specs.declared.Sign.{Sign}
 use Rattle.block_scanner.specs.declared.beginnings.Front.{Front}

@@ -3,4 +3,5 @@ pub mod Front
 pub mod Scanned
 pub mod Signs
 pub mod Texts
+pub mod Tokenisation
 pub mod Tokens

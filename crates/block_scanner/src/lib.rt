@@ -5,11 +5,13 @@ ghost use Rattle.std.specs.Prelude.{◌≡◌, ◌<◌, length, slice_index_or};
 
 mod beginnings;
 mod bytes;
+mod laws;
 mod numbers;
 mod scanning;
 mod signs;
 
 pub use bytes::{is_blank, is_name_part, is_name_start};
+pub use laws::lines_say_one_thing;
 pub use scanning::scan;
 use smallvec::SmallVec;
 use std::alloc::AllocFailed;
@@ -96,6 +98,7 @@ pub struct Words<'a> {
 impl Words<'_> {
     ghost use Rattle.block_scanner.specs.Scanned.{IsScanned, IsTokenOf};
     ghost use Rattle.block_scanner.specs.Texts.{text_of};
+    ghost use Rattle.block_scanner.specs.Tokenisation.{HasForm};
 
     /// The token with this number, counted from 0.
     pub fn token(&self, index: usize) -> Token
@@ -103,6 +106,7 @@ impl Words<'_> {
         requires within { index < length self.now.tokens.items }
         ensures read { result ≡ slice_index_or self.now.tokens.items index result }
         ensures stands { IsTokenOf self.now.line.now result }
+        ensures formed { HasForm result.kind (text_of self.now.line.now result) }
     {
         self.tokens[index]
     }

@@ -2,6 +2,7 @@
 
 ghost use Rattle.std.specs.Prelude.{◌≤◌, length, IfOk};
 ghost use Rattle.block_scanner.specs.Scanned.{IsScanned};
+ghost use Rattle.block_scanner.specs.Tokenisation.{Answers, AreFormed};
 ghost use Rattle.block_scanner.specs.Tokens.{Scans};
 
 use crate::beginnings::{Front, front_of};
@@ -11,11 +12,21 @@ use std::alloc::Global;
 
 /// The tokens of a line of at most 512 bytes.
 ///
-/// `BadByte` and `OpenText` have the leftmost place from which the line can't be read on: the text
-/// of a comment does not count, nor does what stands within a text. `NoMemory` comes where memory
-/// runs out, and then says nothing of the line.
-#[tactic(auto, using(crate::proofs::Steps::scan_steps))]
+/// `BadByte` and `OpenText` have the leftmost place from which the line can't be read on: what
+/// stands within a text or a comment does not count. `NoMemory` comes where memory runs out, and
+/// says nothing of the line.
 pub fn scan(alloc: Global, line: &[u8]) -> Result<Words<'_>, ScanFault>
+    requires { length line.now ≤ 512 }
+    ensures exact { Scans line.now result }
+    ensures said { Answers line.now result }
+    ensures formed { IfOk result (λ words. AreFormed line.now words.tokens.items) }
+    ensures scanned { IfOk result (λ words. IsScanned words) }
+{
+    scan_from_left(alloc, line)
+}
+
+#[tactic(auto, using(crate::proofs::Steps::scan_steps))]
+fn scan_from_left(alloc: Global, line: &[u8]) -> Result<Words<'_>, ScanFault>
     requires { length line.now ≤ 512 }
     ensures exact { Scans line.now result }
     ensures scanned { IfOk result (λ words. IsScanned words) }

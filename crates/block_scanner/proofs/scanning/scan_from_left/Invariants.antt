@@ -2,7 +2,7 @@ use Rattle.std.proofs.Common.{◌≡◌, ℕ, ◌+◌, ◌≤◌, length}
 use Rattle.block_scanner.specs.Scanned.{InOrder}
 use Rattle.block_scanner.specs.Tokens.{tokens_from, tokens_of}
 use Rattle.block_scanner.proofs.Steps.{onto}
-use Rattle.block_scanner.proofs.scanning.scan.Given as goal
+use Rattle.block_scanner.proofs.scanning.scan_from_left.Given as goal
 
 abbrev pub invariant-loop-first : goal.invariant-loop-first
 invariant-loop-first l = record {

@@ -1,0 +1,8 @@
+use Rattle.std.proofs.Common.{◌≡◌, drop}
+use Rattle.word_tables.specs.Refused.{refused_word}
+use Rattle.word_tables.proofs.refused_words.refused_word.Given as goal
+
+abbrev pub invariant-loop-index : goal.invariant-loop-index
+invariant-loop-index l =
+    refused_word l.compensation l.words.line.now l.words.tokens.items
+    ≡ refused_word l.compensation l.words.line.now (drop l.index l.words.tokens.items)
