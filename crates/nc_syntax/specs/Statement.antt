@@ -1,6 +1,8 @@
 -- What a block says, with expressions as plain trees and collections as lists.
-use Rattle.std.specs.Prelude.{ℕ, ℤ, Bool, List, map, Option, option_map}
+use Rattle.std.specs.Prelude.{ℕ, ℤ, Bool, List, map, Option, Some, None}
+use Rattle.std.specs.Global.{Vec}
 use Rattle.nc_expressions.specs.Tree.{Tree, tree_of}
+use Rattle.nc_expressions.specs.declared.trees.Expr.{Expr}
 use Rattle.nc_syntax.specs.declared.blocks.Block.{Block}
 use Rattle.nc_syntax.specs.declared.blocks.Stmt.{Stmt}
 use Rattle.nc_syntax.specs.declared.blocks.Stmt.TheVariants as stmt
@@ -29,7 +31,7 @@ pub data WordView : Type 0 where
 
 pub data Statement : Type 0 where
   Empty : Statement
-  Words : List WordView → Statement
+  WordBlock : List WordView → Statement
   Jump : JumpTo → Statement
   IfJump : Tree → JumpTo → Statement
   If : Tree → Statement
@@ -60,46 +62,102 @@ pub record BlockView : Type 0 where
   pub label : Option (List ℕ)
   pub statement : Statement
 
-abbrev pub operand_of : Operand → OperandView
-operand_of (operand.Value e) = Value (tree_of e)
-operand_of (operand.Text bytes) = Text bytes.items
-operand_of (operand.Axis bytes) = AxisName bytes.items
+abbrev pub tree_option : Option Expr → Option Tree
+tree_option None = None
+tree_option (Some e) = Some (tree_of e)
 
-abbrev pub word_of : Word → WordView
-word_of (word.Assign i e) = Assign i (tree_of e)
-word_of (word.AssignAt i e) = AssignAt (tree_of i) (tree_of e)
-word_of (word.G group code) = G group code
-word_of (word.Axis bytes m e) = Axis bytes.items m (tree_of e)
-word_of (word.Radius e) = Radius (tree_of e)
-word_of (word.Aux bytes i o) = Aux bytes.items (option_map tree_of i) (operand_of o)
-word_of word.End = End
+abbrev pub placed_option : Option Expr × ℕ → Option Tree × ℕ
+placed_option p = (tree_option p.0, p.1)
 
-abbrev pub statement_of : Stmt → Statement
-statement_of stmt.Empty = Empty
-statement_of (stmt.Words words) = Words (map word_of words.items)
-statement_of (stmt.Jump j) = Jump j
-statement_of (stmt.IfJump e j) = IfJump (tree_of e) j
-statement_of (stmt.If e) = If (tree_of e)
-statement_of stmt.Else = Else
-statement_of stmt.EndIf = EndIf
-statement_of (stmt.While e) = While (tree_of e)
-statement_of stmt.EndWhile = EndWhile
-statement_of stmt.Repeat = Repeat
-statement_of (stmt.Until e) = Until (tree_of e)
-statement_of stmt.Loop = Loop
-statement_of stmt.EndLoop = EndLoop
-statement_of (stmt.For i a b) = For i (tree_of a) (tree_of b)
-statement_of stmt.EndFor = EndFor
-statement_of (stmt.Case e pairs d) = Case (tree_of e) pairs.items d
-statement_of (stmt.RepeatFrom n e) = RepeatFrom n (option_map tree_of e)
-statement_of (stmt.RepeatBlock n e) = RepeatBlock n (option_map tree_of e)
-statement_of (stmt.Call n k) = Call n k
-statement_of stmt.Return = Return
-statement_of (stmt.Proc n) = Proc n
-statement_of (stmt.Shape w axes) = Shape w (map (λ p. (p.0, tree_of p.1)) axes.items)
-statement_of (stmt.Turn b e) = Turn b (option_map tree_of e)
-statement_of (stmt.Coord w operands) = Coord w (map operand_of operands.items)
-statement_of stmt.Message = Message
+abbrev pub frame_entry : ℕ × Expr → ℕ × Tree
+frame_entry p = (p.0, tree_of p.1)
+
+abbrev pub frame_item : (ℕ × Expr) × Bool × ℕ → (ℕ × Tree) × Bool × ℕ
+frame_item p = (frame_entry p.0, p.1, p.2)
+
+abbrev pub frame_items : Vec (ℕ × Expr) × ℕ → List (ℕ × Tree) × ℕ
+frame_items p = (map frame_entry p.0.items, p.1)
+
+abbrev pub operand_view : Operand → OperandView
+operand_view (operand.Value e) = Value (tree_of e)
+operand_view (operand.Text bytes) = Text bytes.items
+operand_view (operand.Axis bytes) = AxisName bytes.items
+
+abbrev pub itself : ℕ → ℕ
+itself n = n
+
+abbrev pub bytes_of : Vec ℕ → List ℕ
+bytes_of bytes = bytes.items
+
+abbrev pub placed_bytes : Vec ℕ × ℕ → List ℕ × ℕ
+placed_bytes p = (p.0.items, p.1)
+
+abbrev pub bytes_option : Option (Vec ℕ) → Option (List ℕ)
+bytes_option None = None
+bytes_option (Some bytes) = Some bytes.items
+
+abbrev pub placed_bytes_option : Option (Vec ℕ) × ℕ → Option (List ℕ) × ℕ
+placed_bytes_option p = (bytes_option p.0, p.1)
+
+abbrev pub placed_operand : Operand × ℕ → OperandView × ℕ
+placed_operand p = (operand_view p.0, p.1)
+
+abbrev pub operand_item : Operand × Bool × ℕ → OperandView × Bool × ℕ
+operand_item p = (operand_view p.0, p.1, p.2)
+
+abbrev pub operand_items : Vec Operand × ℕ → List OperandView × ℕ
+operand_items p = (map operand_view p.0.items, p.1)
+
+abbrev pub word_view : Word → WordView
+word_view (word.Assign i e) = Assign i (tree_of e)
+word_view (word.AssignAt i e) = AssignAt (tree_of i) (tree_of e)
+word_view (word.G group code) = G group code
+word_view (word.Axis bytes m e) = Axis bytes.items m (tree_of e)
+word_view (word.Radius e) = Radius (tree_of e)
+word_view (word.Aux bytes i o) = Aux bytes.items (tree_option i) (operand_view o)
+word_view word.End = End
+
+abbrev pub pair_items : Vec (ℤ × JumpTo) × ℕ → List (ℤ × JumpTo) × ℕ
+pair_items p = (p.0.items, p.1)
+
+abbrev pub placed_measure : Measure × Expr × ℕ → Measure × Tree × ℕ
+placed_measure p = (p.0, tree_of p.1, p.2)
+
+abbrev pub placed_word : Word × ℕ → WordView × ℕ
+placed_word p = (word_view p.0, p.1)
+
+abbrev pub word_item : Word × Bool × ℕ → WordView × Bool × ℕ
+word_item p = (word_view p.0, p.1, p.2)
+
+abbrev pub word_items : Vec Word × ℕ → List WordView × ℕ
+word_items p = (map word_view p.0.items, p.1)
+
+abbrev pub statement_view : Stmt → Statement
+statement_view stmt.Empty = Empty
+statement_view (stmt.Words words) = WordBlock (map word_view words.items)
+statement_view (stmt.Jump j) = Jump j
+statement_view (stmt.IfJump e j) = IfJump (tree_of e) j
+statement_view (stmt.If e) = If (tree_of e)
+statement_view stmt.Else = Else
+statement_view stmt.EndIf = EndIf
+statement_view (stmt.While e) = While (tree_of e)
+statement_view stmt.EndWhile = EndWhile
+statement_view stmt.Repeat = Repeat
+statement_view (stmt.Until e) = Until (tree_of e)
+statement_view stmt.Loop = Loop
+statement_view stmt.EndLoop = EndLoop
+statement_view (stmt.For i a b) = For i (tree_of a) (tree_of b)
+statement_view stmt.EndFor = EndFor
+statement_view (stmt.Case e pairs d) = Case (tree_of e) pairs.items d
+statement_view (stmt.RepeatFrom n e) = RepeatFrom n (tree_option e)
+statement_view (stmt.RepeatBlock n e) = RepeatBlock n (tree_option e)
+statement_view (stmt.Call n k) = Call n k
+statement_view stmt.Return = Return
+statement_view (stmt.Proc n) = Proc n
+statement_view (stmt.Shape w axes) = Shape w (map frame_entry axes.items)
+statement_view (stmt.Turn b e) = Turn b (tree_option e)
+statement_view (stmt.Coord w operands) = Coord w (map operand_view operands.items)
+statement_view stmt.Message = Message
 
 abbrev pub view_of : Block → BlockView
-view_of block = record { skip = block.skip; number = block.number; label = block.label; statement = statement_of block.stmt }
+view_of block = record { skip = block.skip; number = block.number; label = block.label; statement = statement_view block.stmt }

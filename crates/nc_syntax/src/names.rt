@@ -21,17 +21,30 @@ impl Model for NameText {
 }
 
 impl NameText {
-    ghost use Rattle.std.specs.Prelude.{◌≡◌, ◌≤◌, length, take, map};
-    ghost use Rattle.nc_syntax.specs.Names.{upper, name_of};
+    ghost use Rattle.std.specs.Prelude.{◌≡◌, ◌≤◌, ◌∷◌, length};
+    ghost use Rattle.nc_syntax.specs.Names.{name_of};
 
     /// The name that has the letters of a word in upper case, of its first 32 bytes where it is
     /// longer.
     pub fn of_word(word: &[u8]) -> NameText
-        ensures front { result ≡ name_of word.now }
+        ensures { result ≡ name_of word.now }
     {
         let mut bytes = ArrayVec::new();
         for byte in &word[..word.len().min(32)] {
             bytes.push(byte.to_ascii_uppercase());
+        }
+        NameText { bytes }
+    }
+
+    /// The name of a program that is L and these digits.
+    pub(crate) fn numbered(digits: &[u8]) -> NameText
+        requires { length digits.now ≤ 31 }
+        ensures { result ≡ 76 ∷ digits.now }
+    {
+        let mut bytes = ArrayVec::new();
+        bytes.push(b'L');
+        for digit in digits {
+            bytes.push(*digit);
         }
         NameText { bytes }
     }

@@ -9,6 +9,6 @@ front at cut word is reached =
     let other : cut ≡ min 32 (length word) = omega arith in
     take_all at (take cut word) reached ∙ (ap (λ n. take n word) other ∙ take_min 32 word)
 
-pub returns-clause-front : goal.returns-clause-front
-returns-clause-front c =
+pub returns : goal.returns
+returns c =
     rw c.loop-byte.invariant (ap upper (front c.loop-byte.byte-index c.min.result c.args.word.now c.min.ensures c.loop-byte-test.false))
