@@ -1,8 +1,12 @@
 -- Lists that stand in a line, one thing after the other.
 use Rattle.std.proofs.Common.{◌≡◌, ℕ, zero, suc, ◌+◌, ◌-◌, ◌<◌, ◌≤◌, List, [], ◌∷◌, ◌++◌, length, get_or, drop, map, refl, ap, sym, ◌∙◌, Bool, true, false, Result, Ok, Err, arith}
+use Rattle.std.proofs.Common.{inl, inr}
+use Rattle.std.proofs.lemmas.Bool.{cases_lt}
+use Rattle.std.proofs.Math.Seq.{drop-nil}
 use Rattle.std.specs.Prelude.{◌||◌}
 use Rattle.std.specs.List.{list_any}
 use Rattle.std.proofs.lemmas.List.{drop_more, drop_all, length-drop, map-append}
+use Rattle.block_scanner.specs.declared.Kind.TheVariants as kind
 use Rattle.block_scanner.specs.declared.Token.{Token}
 use Rattle.block_scanner.specs.declared.Words.{Words}
 use Rattle.nc_syntax.specs.Reading.{◌>>=◌}
@@ -21,3 +25,61 @@ passed item before (suc more) at [] h = absurd (omega arith)
 passed item before (suc more) at (t ∷ ts) h =
     let same : at + 1 + more ≡ at + suc more = omega arith in
     passed item before more (at + 1) ts (omega arith) ∙ ap (λ n. listed item before n (drop more ts) zero) same
+
+skip_more : (at more : ℕ) (ts : List Token) → drop more (drop at ts) ≡ drop (at + more) ts
+skip_more zero more ts = let same : more ≡ zero + more = omega arith in ap (λ n. drop n ts) same
+skip_more (suc at) more [] = drop-nil more ∙ sym (drop-nil (suc at + more))
+skip_more (suc at) more (t ∷ ts) =
+    let same : suc (at + more) ≡ suc at + more = omega arith in skip_more at more ts ∙ ap (λ n. drop n (t ∷ ts)) same
+
+-- what is read at a place comes first
+step : {A : Type 0} (item : List A → ℕ → Result (Item A) ℕ) (before : List A) (at : ℕ) (tokens : List Token) → at < length tokens →
+    listed item before at (drop at tokens) zero ≡ (item before at >>= λ one. go_on before at one (λ xs more. listed item xs (at + 1) (drop (at + 1) tokens) more))
+unfolding listed
+step item before at tokens h =
+    let d : Token = record { kind = kind.Name; start = 0; end = 0 } in
+    rw (drop_more tokens at d h) refl
+
+-- another thing follows
+pub list_goes_on : {A : Type 0} (item : List A → ℕ → Result (Item A) ℕ) (before : List A) (at : ℕ) (tokens : List Token) (x : A) (next : ℕ) →
+    item before at ≡ Ok (x, true, next) → at < next → next ≤ length tokens →
+    listed item before at (drop at tokens) zero ≡ listed item (before ++ x ∷ []) next (drop next tokens) zero
+list_goes_on item before at tokens x next e above within =
+    let more = next - (at + 1) in
+    let place : at + 1 + more ≡ next = omega arith in
+    let left : more ≤ length (drop (at + 1) tokens) = omega (arith, length-drop (at + 1) tokens) in
+    let same : drop more (drop (at + 1) tokens) ≡ drop next tokens = skip_more (at + 1) more tokens ∙ ap (λ n. drop n tokens) place in
+    step item before at tokens (omega arith)
+    ∙ ap (λ r. r >>= λ one. go_on before at one (λ xs more. listed item xs (at + 1) (drop (at + 1) tokens) more)) e
+    ∙ passed item (before ++ x ∷ []) more (at + 1) (drop (at + 1) tokens) left
+    ∙ ap (λ n. listed item (before ++ x ∷ []) n (drop more (drop (at + 1) tokens)) zero) place
+    ∙ ap (λ ts. listed item (before ++ x ∷ []) next ts zero) same
+
+-- this was the last
+pub list_ends : {A : Type 0} (item : List A → ℕ → Result (Item A) ℕ) (before : List A) (at : ℕ) (tokens : List Token) (x : A) (next : ℕ) →
+    item before at ≡ Ok (x, false, next) → at < next → next ≤ length tokens →
+    listed item before at (drop at tokens) zero ≡ Ok (before ++ x ∷ [], next)
+list_ends item before at tokens x next e above within =
+    step item before at tokens (omega arith)
+    ∙ ap (λ r. r >>= λ one. go_on before at one (λ xs more. listed item xs (at + 1) (drop (at + 1) tokens) more)) e
+
+-- nothing can be read there
+pub list_refused : {A : Type 0} (item : List A → ℕ → Result (Item A) ℕ) (before : List A) (at : ℕ) (tokens : List Token) (code : ℕ) →
+    item before at ≡ Err code → listed item before at (drop at tokens) zero ≡ Err code
+unfolding listed
+list_refused item before at tokens code e =
+    elim (cases_lt at (length tokens)) [
+      inl h ↦ step item before at tokens h
+        ∙ ap (λ r. r >>= λ one. go_on before at one (λ xs more. listed item xs (at + 1) (drop (at + 1) tokens) more)) e
+    | inr h ↦ rw (drop_all at tokens h) (ap (λ r. r >>= λ one. Err 22) e) ]
+
+-- a list begins with nothing before it
+pub list_begins : {A : Type 0} (item : List A → ℕ → Result (Item A) ℕ) (words : Words) (at : ℕ) →
+    listed item [] at (drop at words.tokens.items) zero ≡ list_at item words at
+unfolding list_at
+list_begins item words at = refl
+
+pub map_push : {X Y : Type 0} (f : X → Y) (xs : List X) (x : X) → map f (xs ++ x ∷ []) ≡ map f xs ++ f x ∷ []
+map_push f xs x = map-append f xs (x ∷ [])
+
+pub ruleset list_steps = (list_goes_on, list_ends, list_refused, list_begins, map_push)

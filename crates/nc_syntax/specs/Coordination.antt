@@ -1,6 +1,6 @@
 -- Coordination and messages.
 use Rattle.std.specs.Prelude.{ℕ, zero, suc, ◌+◌, ◌-◌, ◌==◌, ◌&&◌, ◌||◌, nat_lt, Bool, true, false, List, [], ◌∷◌, length, take, drop, Option, Some, None, Result, Ok, Err, slice_range, reverse, position, if◌then◌else◌, codes}
-use Rattle.std.specs.Ordering.{bytes_eq}
+use Rattle.std.specs.Str.{bytes_eq}
 use Rattle.block_scanner.specs.declared.Token.{Token}
 use Rattle.block_scanner.specs.declared.Words.{Words}
 use Rattle.nc_syntax.specs.declared.blocks.CoordWord.{CoordWord}

@@ -91,7 +91,7 @@ fn axis_argument_at(
 }
 
 /// Arguments, one at least, and the place behind their `)`.
-#[tactic(auto, using(crate::proofs::Listing::operand_steps))]
+#[tactic(auto, using(crate::proofs::Listing::list_steps))]
 fn arguments_at(
     alloc: Global,
     words: &Words<'_>,
@@ -114,7 +114,7 @@ fn arguments_at(
 }
 
 /// Axes, one at least, and the place behind their `)`.
-#[tactic(auto, using(crate::proofs::Listing::operand_steps))]
+#[tactic(auto, using(crate::proofs::Listing::list_steps))]
 fn axes_at(
     alloc: Global,
     words: &Words<'_>,

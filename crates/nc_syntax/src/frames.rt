@@ -1,6 +1,6 @@
 //! Frames.
 
-ghost use Rattle.std.specs.Prelude.{◌≡◌, ◌<◌, ◌≤◌, ◌+◌, ◌×◌, map, length, IfOk, IfSome};
+ghost use Rattle.std.specs.Prelude.{◌≡◌, ◌<◌, ◌≤◌, ◌+◌, map, length, IfOk, IfSome};
 ghost use Rattle.std.specs.Bool.{OnTrue};
 ghost use Rattle.block_scanner.specs.Scanned.{IsScanned};
 ghost use Rattle.nc_syntax.specs.Frames.{axis_of, frame_value, has_axis, frame_word_at, shape_form, is_axis_letter, has_digits, has_axis_name, has_axis_word, turn_end, angle_at, turn_form};
@@ -82,7 +82,7 @@ fn frame_word_at(
 }
 
 /// The frame words that stand from a place on, one at least, and the place behind them.
-#[tactic(auto, using(crate::proofs::Listing::frame_steps))]
+#[tactic(auto, using(crate::proofs::Listing::list_steps))]
 fn frame_words_at(
     alloc: Global,
     words: &Words<'_>,

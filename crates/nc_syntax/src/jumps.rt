@@ -175,7 +175,7 @@ fn pair_at(words: &Words<'_>, at: usize) -> Result<((Num, JumpTo), bool, usize),
 }
 
 /// The pairs of a CASE, one at least, and the place behind them.
-#[tactic(auto, using(crate::proofs::Listing::pair_steps))]
+#[tactic(auto, using(crate::proofs::Listing::list_steps))]
 fn pairs_at(
     alloc: Global,
     words: &Words<'_>,

@@ -22,5 +22,3 @@ pub use blocks::{
 pub use names::NameText;
 pub use statements::statement;
 
-#[cfg(test)]
-mod tests;

@@ -93,7 +93,7 @@ fn last_close(words: &Words<'_>) -> Result<usize, u16>
 }
 
 /// Whether something that fits no form stands at a place from the first up to the second.
-#[tactic(auto, using(crate::proofs::Listing::broken_steps))]
+#[tactic(auto, unfolding(crate::specs::Coordination::has_broken))]
 fn has_broken(words: &Words<'_>, start: usize, end: usize) -> bool
     requires scanned { IsScanned words.now }
     requires within { end ≤ length words.now.tokens.items }

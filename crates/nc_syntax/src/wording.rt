@@ -473,7 +473,7 @@ fn word_item_at(
 }
 
 /// The words that stand from a place on, one at least, and the place behind them.
-#[tactic(auto, using(crate::proofs::Listing::word_steps))]
+#[tactic(auto, using(crate::proofs::Listing::list_steps))]
 fn words_at(
     alloc: Global,
     words: &Words<'_>,
