@@ -10,6 +10,8 @@ use Rattle.block_scanner.specs.declared.Kind.TheVariants as kind
 use Rattle.block_scanner.specs.declared.Token.{Token}
 use Rattle.block_scanner.specs.declared.Words.{Words}
 use Rattle.nc_syntax.specs.Reading.{◌>>=◌}
+use Rattle.nc_syntax.specs.Pieces.{piece_at}
+use Rattle.nc_syntax.specs.Coordination.{is_broken, has_broken}
 use Rattle.nc_syntax.specs.Lists.{Item, go_on, listed, list_at}
 
 pub any_of_views : {X Y : Type 0} (f : X → Y) (p : Y → Bool) (xs : List X) → list_any p (map f xs) ≡ list_any (λ x. p (f x)) xs
@@ -83,3 +85,57 @@ pub map_push : {X Y : Type 0} (f : X → Y) (xs : List X) (x : X) → map f (xs 
 map_push f xs x = map-append f xs (x ∷ [])
 
 pub ruleset list_steps = (list_goes_on, list_ends, list_refused, list_begins, map_push)
+
+-- the list so far and one thing more, where another one follows
+pub list_more : {X A : Type 0} (item : List A → ℕ → Result (Item A) ℕ) (view : X → A) (words : Words) (start at next : ℕ) (before after : List X) (x : X) (more : Bool) →
+    listed item (map view before) at (drop at words.tokens.items) zero ≡ list_at item words start →
+    item (map view before) at ≡ Ok (view x, more, next) → more ≡ true → at < next → next ≤ length words.tokens.items → after ≡ before ++ x ∷ [] →
+    listed item (map view after) next (drop next words.tokens.items) zero ≡ list_at item words start
+list_more item view words start at next before after x more so_far e is above within pushed =
+    let e' = e ∙ ap (λ m. Ok (view x, m, next)) is in
+    let grown : map view after ≡ map view before ++ view x ∷ [] = ap (map view) pushed ∙ map_push view before x in
+    ap (λ xs. listed item xs next (drop next words.tokens.items) zero) grown
+    ∙ sym (list_goes_on item (map view before) at words.tokens.items (view x) next e' above within)
+    ∙ so_far
+
+-- the list so far and the last thing
+pub list_last : {X A : Type 0} (item : List A → ℕ → Result (Item A) ℕ) (view : X → A) (words : Words) (start at next : ℕ) (before after : List X) (x : X) (more : Bool) →
+    listed item (map view before) at (drop at words.tokens.items) zero ≡ list_at item words start →
+    item (map view before) at ≡ Ok (view x, more, next) → more ≡ false → at < next → next ≤ length words.tokens.items → after ≡ before ++ x ∷ [] →
+    list_at item words start ≡ Ok (map view after, next)
+list_last item view words start at next before after x more so_far e is above within pushed =
+    let e' = e ∙ ap (λ m. Ok (view x, m, next)) is in
+    let grown : map view after ≡ map view before ++ view x ∷ [] = ap (map view) pushed ∙ map_push view before x in
+    sym so_far
+    ∙ list_ends item (map view before) at words.tokens.items (view x) next e' above within
+    ∙ ap (λ xs. Ok (xs, next)) (sym grown)
+
+-- the same of lists that the code holds as they are
+pub plain_more : {A : Type 0} (item : List A → ℕ → Result (Item A) ℕ) (words : Words) (start at next : ℕ) (before after : List A) (x : A) (more : Bool) →
+    listed item before at (drop at words.tokens.items) zero ≡ list_at item words start →
+    item before at ≡ Ok (x, more, next) → more ≡ true → at < next → next ≤ length words.tokens.items → after ≡ before ++ x ∷ [] →
+    listed item after next (drop next words.tokens.items) zero ≡ list_at item words start
+plain_more item words start at next before after x more so_far e is above within pushed =
+    let e' = e ∙ ap (λ m. Ok (x, m, next)) is in
+    ap (λ xs. listed item xs next (drop next words.tokens.items) zero) pushed
+    ∙ sym (list_goes_on item before at words.tokens.items x next e' above within)
+    ∙ so_far
+
+pub plain_last : {A : Type 0} (item : List A → ℕ → Result (Item A) ℕ) (words : Words) (start at next : ℕ) (before after : List A) (x : A) (more : Bool) →
+    listed item before at (drop at words.tokens.items) zero ≡ list_at item words start →
+    item before at ≡ Ok (x, more, next) → more ≡ false → at < next → next ≤ length words.tokens.items → after ≡ before ++ x ∷ [] →
+    list_at item words start ≡ Ok (after, next)
+plain_last item words start at next before after x more so_far e is above within pushed =
+    let e' = e ∙ ap (λ m. Ok (x, m, next)) is in
+    sym so_far
+    ∙ list_ends item before at words.tokens.items x next e' above within
+    ∙ ap (λ xs. Ok (xs, next)) (sym pushed)
+
+broken_suc : (words : Words) (at more : ℕ) → is_broken (piece_at words at) ≡ false → has_broken words at (suc more) ≡ has_broken words (at + 1) more
+unfolding has_broken
+broken_suc words at more h = ap (λ b. b || has_broken words (at + 1) more) h
+
+pub broken_step : (words : Words) (at to : ℕ) → at < to → is_broken (piece_at words at) ≡ false →
+    has_broken words at (to - at) ≡ has_broken words (at + 1) (to - (at + 1))
+broken_step words at to h e =
+    let same : to - at ≡ suc (to - (at + 1)) = omega arith in ap (has_broken words at) same ∙ broken_suc words at (to - (at + 1)) e

@@ -11,7 +11,7 @@ use Rattle.nc_syntax.specs.Marks.{end_at, open_at, close_at, comma_at}
 use Rattle.nc_syntax.specs.Reading.{◌>>=◌, expression_at}
 use Rattle.nc_syntax.specs.Lists.{Item, list_at}
 use Rattle.nc_syntax.specs.Structures.{alone, is_close, is_open, is_close_kind}
-use Rattle.nc_syntax.specs.Frames.{is_end, is_slot, has_axis_name}
+use Rattle.nc_syntax.specs.Frames.{has_axis_name}
 use Rattle.nc_syntax.specs.Statement.{Statement, Coord, Message, OperandView, Value, Text, AxisName}
 
 abbrev pub separator_of : Piece → ℕ → Result (Bool × ℕ) ℕ
@@ -30,16 +30,16 @@ argument_at words at = do
   q ← separator_at words p.1
   Ok (Value p.0, q.0, q.1)
 
-abbrev pub letter_of : Piece → ℕ
-letter_of (piece.Letter b) = b
-letter_of one = 0
-
--- an axis name or a slot letter, and the place behind it
-unfoldable pub axis_at : Words → ℕ → Result (List ℕ × ℕ) ℕ
-axis_at words at =
-    if has_axis_name words at then Ok (letter_of (piece_at words at) ∷ text_at words (at + 1), at + 2)
-    else if is_slot (piece_at words at) then Ok (letter_of (piece_at words at) ∷ [], at + 1)
+abbrev pub axis_of_piece : Words → ℕ → Piece → Result (List ℕ × ℕ) ℕ
+axis_of_piece words at (piece.Letter b) =
+    if has_axis_name words at then Ok (b ∷ text_at words (at + 1), at + 2)
+    else if (b == 88) || (b == 89) || (b == 90) then Ok (b ∷ [], at + 1)
     else Err 22
+axis_of_piece words at one = Err 22
+
+-- an axis name, or a slot letter: X, Y or Z; and the place behind it
+unfoldable pub axis_at : Words → ℕ → Result (List ℕ × ℕ) ℕ
+axis_at words at = axis_of_piece words at (piece_at words at)
 
 -- an argument that is an axis
 unfoldable pub axis_argument_at : Words → ℕ → Result (Item OperandView) ℕ

@@ -68,7 +68,7 @@ is_name one = false
 unfoldable pub repeat_form : Words → ℕ → Result Statement ℕ
 repeat_form words at =
     if is_name (piece_at words at)
-    then (label_at words at >>= λ label. times_at words (at + 1) >>= λ times. Ok (RepeatFrom label times))
+    then (times_at words (at + 1) >>= λ times. Ok (RepeatFrom (name_of (text_at words at)) times))
     else alone words at Repeat
 
 -- REPEATB, behind its name

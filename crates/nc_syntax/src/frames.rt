@@ -1,6 +1,7 @@
 //! Frames.
 
-ghost use Rattle.std.specs.Prelude.{◌≡◌, ◌<◌, ◌≤◌, ◌+◌, map, length, IfOk, IfSome};
+ghost use Rattle.std.specs.Prelude.{◌≡◌, ◌<◌, ◌≤◌, ◌+◌, ◌==◌, map, length, IfOk, IfSome};
+ghost use Rattle.std.specs.List.{list_any};
 ghost use Rattle.std.specs.Bool.{OnTrue};
 ghost use Rattle.block_scanner.specs.Scanned.{IsScanned};
 ghost use Rattle.nc_syntax.specs.Frames.{axis_of, frame_value, has_axis, frame_word_at, shape_form, is_axis_letter, has_digits, has_axis_name, has_axis_word, turn_end, angle_at, turn_form};
@@ -48,12 +49,18 @@ fn frame_value(alloc: Global, words: &Words<'_>, at: usize) -> Result<(Expr, usi
     }
 }
 
+/// Whether an axis has a word.
+fn is_given(words: &[(u8, Expr)], axis: u8) -> bool
+    ensures { result ≡ list_any (λ word. word.0 == axis) words.now }
+{
+    words.iter().any(|word| word.0 == axis)
+}
+
 /// Whether an axis is among those that came before.
-#[tactic(auto, using(crate::proofs::Listing::any_of_views))]
 fn has_axis(before: &[(u8, Expr)], axis: u8) -> bool
     ensures { result ≡ has_axis (map frame_entry before.now) axis }
 {
-    before.iter().any(|word| word.0 == axis)
+    is_given(before, axis)
 }
 
 /// A frame word at a place, whether another one follows, and the place behind it.

@@ -81,6 +81,7 @@ fn jump_at(words: &Words<'_>, way: Way, at: usize) -> Result<(JumpTo, usize), u1
 }
 
 /// The jump with its target at a place, where nothing stands behind it.
+#[tactic(auto, unfolding(crate::specs::Jumps::last_jump))]
 fn last_jump_at(words: &Words<'_>, way: Way, at: usize) -> Result<JumpTo, u16>
     requires { IsScanned words.now }
     ensures value { result ≡ last_jump words.now way at }
@@ -174,6 +175,22 @@ fn pair_at(words: &Words<'_>, at: usize) -> Result<((Num, JumpTo), bool, usize),
     Ok(((number, jump), more, end))
 }
 
+/// The same, with its refusal as that of the line.
+fn pair_item_at(
+    words: &Words<'_>,
+    at: usize,
+) -> Result<((Num, JumpTo), bool, usize), SyntaxFault>
+    requires scanned { IsScanned words.now }
+    requires within { at ≤ length words.now.tokens.items }
+    ensures exact { Gives (λ p. p) (pair_at words.now at) result }
+    ensures within { IfOk result (λ p. (at < p.2) × (p.2 ≤ length words.now.tokens.items)) }
+{
+    match pair_at(words, at) {
+        Ok(read) => Ok(read),
+        Err(code) => Err(SyntaxFault::Refused(code)),
+    }
+}
+
 /// The pairs of a CASE, one at least, and the place behind them.
 #[tactic(auto, using(crate::proofs::Listing::list_steps))]
 fn pairs_at(
@@ -188,16 +205,12 @@ fn pairs_at(
     let mut list = Vec::new(alloc);
     let mut at = start;
     loop {
-        match pair_at(words, at) {
-            Ok((pair, more, end)) => {
-                list.push(pair)?;
-                if !more {
-                    return Ok((list, end));
-                }
-                at = end;
-            }
-            Err(code) => return Err(SyntaxFault::Refused(code)),
+        let (pair, more, end) = pair_item_at(words, at)?;
+        list.push(pair)?;
+        if !more {
+            return Ok((list, end));
         }
+        at = end;
     }
 }
 

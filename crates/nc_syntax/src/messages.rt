@@ -1,8 +1,9 @@
 //! Messages.
 
-ghost use Rattle.std.specs.Prelude.{◌≡◌, ◌<◌, ◌≤◌, ◌+◌, ◌-◌, length, IfOk};
+ghost use Rattle.std.specs.Prelude.{◌≡◌, ◌<◌, ◌≤◌, ◌+◌, ◌-◌, length, reverse, position, IfOk, IfSome};
 ghost use Rattle.block_scanner.specs.Scanned.{IsScanned};
-ghost use Rattle.nc_syntax.specs.Coordination.{after_text, msg_form, enclosed_at, setms_form, last_close, has_broken, workpiece_form};
+ghost use Rattle.nc_syntax.specs.Coordination.{after_text, msg_form, enclosed_at, setms_form, last_close, is_broken, has_broken, workpiece_form};
+ghost use Rattle.nc_syntax.specs.Structures.{is_close_kind};
 ghost use Rattle.nc_syntax.specs.Reading.{Gives};
 ghost use Rattle.nc_syntax.specs.Statement.{statement_view, itself};
 
@@ -75,21 +76,35 @@ pub(crate) fn setms_form(alloc: Global, words: &Words<'_>, at: usize) -> Result<
     }
 }
 
+/// How many tokens stand behind the last `)` of a line.
+fn behind_close(words: &Words<'_>) -> Option<usize>
+    ensures value { result ≡ position (λ token. is_close_kind token.kind) (reverse words.now.tokens.items) }
+    ensures within { IfSome result (λ back. back < length words.now.tokens.items) }
+{
+    words
+        .tokens
+        .iter()
+        .rev()
+        .position(|token| matches!(token.kind, Kind::Sign(Sign::CloseParenthesis)))
+}
+
 /// The place behind the last `)` of a line.
 #[tactic(auto, unfolding(crate::specs::Coordination::last_close))]
 fn last_close(words: &Words<'_>) -> Result<usize, u16>
     ensures value { result ≡ last_close words.now.tokens.items }
     ensures within { IfOk result (λ p. p ≤ length words.now.tokens.items) }
 {
-    let back = words
-        .tokens
-        .iter()
-        .rev()
-        .position(|token| matches!(token.kind, Kind::Sign(Sign::CloseParenthesis)));
-    match back {
+    match behind_close(words) {
         Some(back) => Ok(words.tokens.len() - back),
         None => Err(22),
     }
+}
+
+/// Whether a piece fits no form.
+fn is_broken(piece: Piece) -> bool
+    ensures { result ≡ is_broken piece }
+{
+    matches!(piece, Piece::Broken)
 }
 
 /// Whether something that fits no form stands at a place from the first up to the second.
@@ -101,7 +116,7 @@ fn has_broken(words: &Words<'_>, start: usize, end: usize) -> bool
 {
     let mut at = start;
     while at < end {
-        if matches!(piece_at(words, at), Piece::Broken) {
+        if is_broken(piece_at(words, at)) {
             return true;
         }
         at += 1;

@@ -1,0 +1,18 @@
+use Rattle.nc_syntax.specs.Statement.{operand_view}
+use Rattle.nc_syntax.specs.Coordination.{axis_argument_at}
+use Rattle.nc_syntax.proofs.Listing.{list_more, list_last}
+use Rattle.nc_syntax.proofs.coordination.axes_at.Goals as goal
+
+pub returns-then-not-more : goal.returns-then-not-more
+returns-then-not-more c =
+    list_last (λ before. axis_argument_at c.args.words.now) operand_view c.args.words.now c.args.start c.loop-list.at c.in_ok-argument.end
+        c.loop-list.list.items _ c.in_ok-argument.argument c.in_ok-argument.more c.loop-list.invariant.so_far c.in_ok-argument.ensures.exact
+        c.if-not-more.true c.in_ok-argument.ensures.within.0 c.in_ok-argument.ensures.within.1 c.in_ok-push.ensures.items
+
+pub loop-list-preserved : goal.loop-list-preserved
+loop-list-preserved c = record {
+    within = c.in_ok-argument.ensures.within.1;
+    so_far = list_more (λ before. axis_argument_at c.args.words.now) operand_view c.args.words.now c.args.start c.loop-list.at c.in_ok-argument.end
+        c.loop-list.list.items _ c.in_ok-argument.argument c.in_ok-argument.more c.loop-list.invariant.so_far c.in_ok-argument.ensures.exact
+        c.if-not-more.false c.in_ok-argument.ensures.within.0 c.in_ok-argument.ensures.within.1 c.in_ok-push.ensures.items;
+  }
