@@ -1,9 +1,9 @@
 -- Lists that stand in a line, one thing after the other.
 use Rattle.std.proofs.Common.{◌≡◌, ℕ, zero, suc, ◌+◌, ◌-◌, ◌<◌, ◌≤◌, List, [], ◌∷◌, ◌++◌, length, get_or, drop, map, refl, ap, sym, ◌∙◌, Bool, true, false, Result, Ok, Err, arith}
-use Rattle.std.proofs.Common.{inl, inr}
+use Rattle.std.proofs.Common.{inl, inr, subst}
 use Rattle.std.proofs.lemmas.Bool.{cases_lt}
 use Rattle.std.proofs.Math.Seq.{drop-nil}
-use Rattle.std.specs.Prelude.{◌||◌}
+use Rattle.std.specs.Prelude.{◌||◌, All}
 use Rattle.std.specs.List.{list_any}
 use Rattle.std.proofs.lemmas.List.{drop_more, drop_all, length-drop, map-append}
 use Rattle.block_scanner.specs.declared.Kind.TheVariants as kind
@@ -139,3 +139,15 @@ pub broken_step : (words : Words) (at to : ℕ) → at < to → is_broken (piece
     has_broken words at (to - at) ≡ has_broken words (at + 1) (to - (at + 1))
 broken_step words at to h e =
     let same : to - at ≡ suc (to - (at + 1)) = omega arith in ap (has_broken words at) same ∙ broken_suc words at (to - (at + 1)) e
+
+all_push : {A : Type 0} (P : A → Type 0) (xs : List A) (x : A) → All P xs → P x → All P (xs ++ x ∷ [])
+all_push P [] x h here = (here, tt)
+all_push P (y ∷ ys) x h here = (h.0, all_push P ys x h.1 here)
+
+-- what holds of all so far and of one more holds of all
+pub fits_more : {X A : Type 0} (P : A → Type 0) (view : X → A) (before after : List X) (x : X) →
+    All P (map view before) → P (view x) → after ≡ before ++ x ∷ [] → All P (map view after)
+fits_more P view before after x all here pushed =
+    let grown : map view after ≡ map view before ++ view x ∷ [] = ap (map view) pushed ∙ map_push view before x in
+    let Q : List A → Type 0 = λ xs. All P xs in
+    subst Q (sym grown) (all_push P (map view before) (view x) all here)

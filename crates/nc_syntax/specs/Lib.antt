@@ -11,3 +11,4 @@ pub mod Coordination
 pub mod Wording
 pub mod Bodies
 pub mod Blocks
+pub mod Indices

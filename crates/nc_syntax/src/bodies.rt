@@ -1,6 +1,7 @@
 //! The body of a block: its first token chooses the form.
 
-ghost use Rattle.std.specs.Prelude.{◌≡◌, ◌<◌, ◌≤◌, length};
+ghost use Rattle.nc_syntax.specs.Indices.{StatementFits};
+ghost use Rattle.std.specs.Prelude.{◌≡◌, ◌<◌, ◌≤◌, length, IfOk};
 ghost use Rattle.block_scanner.specs.Scanned.{IsScanned};
 ghost use Rattle.nc_syntax.specs.Bodies.{jump_name, structure_name, control_name, frame_name, coordination_name, form_of, control_form, coordination_form, form_body, named_body, lettered_body, body_at};
 ghost use Rattle.nc_syntax.specs.Reading.{Gives};
@@ -231,7 +232,8 @@ fn control_form(
 ) -> Result<Stmt, SyntaxFault>
     requires scanned { IsScanned words.now }
     requires within { at ≤ length words.now.tokens.items }
-    ensures { Gives statement_view (control_form words.now which at) result }
+    ensures exact { Gives statement_view (control_form words.now which at) result }
+    ensures indices { IfOk result (λ s. StatementFits (statement_view s)) }
 {
     match which {
         Control::If => if_form(alloc, words, at),
@@ -262,7 +264,8 @@ fn coordination_form(
 ) -> Result<Stmt, SyntaxFault>
     requires scanned { IsScanned words.now }
     requires within { at ≤ length words.now.tokens.items }
-    ensures { Gives statement_view (coordination_form words.now which at) result }
+    ensures exact { Gives statement_view (coordination_form words.now which at) result }
+    ensures indices { IfOk result (λ s. StatementFits (statement_view s)) }
 {
     match which {
         CoordWord::WaitM
@@ -282,7 +285,8 @@ fn coordination_form(
 fn form_body(alloc: Global, words: &Words<'_>, form: Form, at: usize) -> Result<Stmt, SyntaxFault>
     requires scanned { IsScanned words.now }
     requires within { at ≤ length words.now.tokens.items }
-    ensures { Gives statement_view (form_body words.now form at) result }
+    ensures exact { Gives statement_view (form_body words.now form at) result }
+    ensures indices { IfOk result (λ s. StatementFits (statement_view s)) }
 {
     match form {
         Form::Jump(way) => jump_form(words, way, at),
@@ -302,7 +306,8 @@ fn form_body(alloc: Global, words: &Words<'_>, form: Form, at: usize) -> Result<
 fn named_body(alloc: Global, words: &Words<'_>, text: &[u8], at: usize) -> Result<Stmt, SyntaxFault>
     requires scanned { IsScanned words.now }
     requires within { at < length words.now.tokens.items }
-    ensures { Gives statement_view (named_body words.now text.now at) result }
+    ensures exact { Gives statement_view (named_body words.now text.now at) result }
+    ensures indices { IfOk result (λ s. StatementFits (statement_view s)) }
 {
     match form_of(text) {
         Some(form) => form_body(alloc, words, form, at + 1),
@@ -326,7 +331,8 @@ fn lettered_body(
 ) -> Result<Stmt, SyntaxFault>
     requires scanned { IsScanned words.now }
     requires within { at < length words.now.tokens.items }
-    ensures { Gives statement_view (lettered_body words.now letter at) result }
+    ensures exact { Gives statement_view (lettered_body words.now letter at) result }
+    ensures indices { IfOk result (λ s. StatementFits (statement_view s)) }
 {
     match piece_at(words, at + 1) {
         Piece::Number(_) => {
@@ -345,7 +351,8 @@ fn lettered_body(
 pub(crate) fn body_at(alloc: Global, words: &Words<'_>, at: usize) -> Result<Stmt, SyntaxFault>
     requires scanned { IsScanned words.now }
     requires within { at ≤ length words.now.tokens.items }
-    ensures { Gives statement_view (body_at words.now at) result }
+    ensures exact { Gives statement_view (body_at words.now at) result }
+    ensures indices { IfOk result (λ s. StatementFits (statement_view s)) }
 {
     match piece_at(words, at) {
         Piece::End => Ok(Stmt::Empty),

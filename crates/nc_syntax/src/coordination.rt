@@ -1,6 +1,7 @@
 //! Coordination.
 
-ghost use Rattle.std.specs.Prelude.{◌≡◌, ◌<◌, ◌≤◌, ◌+◌, ◌∷◌, [], map, length, IfOk};
+ghost use Rattle.nc_syntax.specs.Indices.{OperandFits, StatementFits};
+ghost use Rattle.std.specs.Prelude.{◌≡◌, ◌<◌, ◌≤◌, ◌+◌, ◌∷◌, [], map, length, IfOk, All};
 ghost use Rattle.block_scanner.specs.Scanned.{IsScanned};
 ghost use Rattle.nc_syntax.specs.Coordination.{separator_at, argument_at, axis_at, axis_argument_at, arguments_form, axes_form, clear_form, unquoted, quoted_at, is_wait, wait_at, last_of_init, third, opened_value, init_form, cprot_form};
 ghost use Rattle.nc_syntax.specs.Lists.{list_at};
@@ -42,6 +43,7 @@ fn argument_at(
     requires scanned { IsScanned words.now }
     requires within { at ≤ length words.now.tokens.items }
     ensures exact { Gives operand_item (argument_at words.now at) result }
+    ensures indices { IfOk result (λ p. OperandFits (operand_view p.0)) }
     ensures within { IfOk result (λ p. (at < p.2) × (p.2 ≤ length words.now.tokens.items)) }
 {
     let (value, end) = expression_at(alloc, words, at)?;
@@ -81,6 +83,7 @@ fn axis_argument_at(
 ) -> Result<(Operand, bool, usize), SyntaxFault>
     requires { IsScanned words.now }
     ensures exact { Gives operand_item (axis_argument_at words.now at) result }
+    ensures indices { IfOk result (λ p. OperandFits (operand_view p.0)) }
     ensures within { IfOk result (λ p. (at < p.2) × (p.2 ≤ length words.now.tokens.items)) }
 {
     let (axis, end) = axis_at(alloc, words, at)?;
@@ -99,7 +102,8 @@ fn arguments_at(
 ) -> Result<(Vec<Operand>, usize), SyntaxFault>
     requires scanned { IsScanned words.now }
     requires within { start ≤ length words.now.tokens.items }
-    ensures { Gives operand_items (list_at (λ _. argument_at words.now) words.now start) result }
+    ensures exact { Gives operand_items (list_at (λ _. argument_at words.now) words.now start) result }
+    ensures indices { IfOk result (λ p. All OperandFits (map operand_view p.0.items)) }
 {
     let mut list = Vec::new(alloc);
     let mut at = start;
@@ -122,7 +126,8 @@ fn axes_at(
 ) -> Result<(Vec<Operand>, usize), SyntaxFault>
     requires scanned { IsScanned words.now }
     requires within { start ≤ length words.now.tokens.items }
-    ensures { Gives operand_items (list_at (λ _. axis_argument_at words.now) words.now start) result }
+    ensures exact { Gives operand_items (list_at (λ _. axis_argument_at words.now) words.now start) result }
+    ensures indices { IfOk result (λ p. All OperandFits (map operand_view p.0.items)) }
 {
     let mut list = Vec::new(alloc);
     let mut at = start;
@@ -145,7 +150,8 @@ pub(crate) fn arguments_form(
     at: usize,
 ) -> Result<Stmt, SyntaxFault>
     requires { IsScanned words.now }
-    ensures { Gives statement_view (arguments_form words.now which at) result }
+    ensures exact { Gives statement_view (arguments_form words.now which at) result }
+    ensures indices { IfOk result (λ s. StatementFits (statement_view s)) }
 {
     match open_at(words, at, 22) {
         Ok(first) => {
@@ -165,7 +171,8 @@ pub(crate) fn axes_form(
     at: usize,
 ) -> Result<Stmt, SyntaxFault>
     requires { IsScanned words.now }
-    ensures { Gives statement_view (axes_form words.now which at) result }
+    ensures exact { Gives statement_view (axes_form words.now which at) result }
+    ensures indices { IfOk result (λ s. StatementFits (statement_view s)) }
 {
     match open_at(words, at, 22) {
         Ok(first) => {
@@ -186,7 +193,8 @@ pub(crate) fn clear_form(
 ) -> Result<Stmt, SyntaxFault>
     requires scanned { IsScanned words.now }
     requires within { at ≤ length words.now.tokens.items }
-    ensures { Gives statement_view (clear_form words.now which at) result }
+    ensures exact { Gives statement_view (clear_form words.now which at) result }
+    ensures indices { IfOk result (λ s. StatementFits (statement_view s)) }
 {
     match piece_at(words, at + 1) {
         Piece::Close => match open_at(words, at, 22) {
@@ -272,6 +280,7 @@ fn last_of_init(
 fn opened_value(alloc: Global, words: &Words<'_>, at: usize) -> Result<(Operand, usize), SyntaxFault>
     requires { IsScanned words.now }
     ensures exact { Gives placed_operand (opened_value words.now at) result }
+    ensures indices { IfOk result (λ p. OperandFits (operand_view p.0)) }
     ensures within { IfOk result (λ p. p.1 ≤ length words.now.tokens.items) }
 {
     match open_at(words, at, 22) {
@@ -293,7 +302,10 @@ fn operands(
     second: Operand,
     last: Option<Vec<u8>>,
 ) -> Result<Vec<Operand>, AllocError>
-    ensures { IfOk result (λ v. map operand_view v.items ≡ operand_view first ∷ (operand_view second ∷ third (bytes_option last))) }
+    requires first_fits { OperandFits (operand_view first) }
+    requires second_fits { OperandFits (operand_view second) }
+    ensures indices { IfOk result (λ v. All OperandFits (map operand_view v.items)) }
+    ensures exact { IfOk result (λ v. map operand_view v.items ≡ operand_view first ∷ (operand_view second ∷ third (bytes_option last))) }
 {
     let mut list = Vec::new(alloc);
     list.push(first)?;
@@ -316,7 +328,8 @@ pub(crate) fn init_form(
     at: usize,
 ) -> Result<Stmt, SyntaxFault>
     requires { IsScanned words.now }
-    ensures { Gives statement_view (init_form words.now which at) result }
+    ensures exact { Gives statement_view (init_form words.now which at) result }
+    ensures indices { IfOk result (λ s. StatementFits (statement_view s)) }
 {
     let (channel, place) = opened_value(alloc, words, at)?;
     let program = quoted_at(alloc, words, place)?;
@@ -334,7 +347,8 @@ pub(crate) fn cprot_form(
     at: usize,
 ) -> Result<Stmt, SyntaxFault>
     requires { IsScanned words.now }
-    ensures { Gives statement_view (cprot_form words.now which at) result }
+    ensures exact { Gives statement_view (cprot_form words.now which at) result }
+    ensures indices { IfOk result (λ s. StatementFits (statement_view s)) }
 {
     let (zone, place) = opened_value(alloc, words, at)?;
     let (state, behind) = expression_at(alloc, words, place)?;

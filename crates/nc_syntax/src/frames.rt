@@ -1,6 +1,8 @@
 //! Frames.
 
-ghost use Rattle.std.specs.Prelude.{◌≡◌, ◌<◌, ◌≤◌, ◌+◌, ◌==◌, map, length, IfOk, IfSome};
+ghost use Rattle.nc_expressions.specs.Tree.{IndicesFit, tree_of};
+ghost use Rattle.nc_syntax.specs.Indices.{EntryFits, OptionFits, StatementFits};
+ghost use Rattle.std.specs.Prelude.{◌≡◌, ◌<◌, ◌≤◌, ◌+◌, ◌==◌, map, length, IfOk, IfSome, All};
 ghost use Rattle.std.specs.List.{list_any};
 ghost use Rattle.std.specs.Bool.{OnTrue};
 ghost use Rattle.block_scanner.specs.Scanned.{IsScanned};
@@ -8,7 +10,7 @@ ghost use Rattle.nc_syntax.specs.Frames.{axis_of, frame_value, has_axis, frame_w
 ghost use Rattle.nc_syntax.specs.Pieces.{piece_at};
 ghost use Rattle.nc_syntax.specs.Lists.{list_at};
 ghost use Rattle.nc_syntax.specs.Reading.{Gives, placed_tree};
-ghost use Rattle.nc_syntax.specs.Statement.{statement_view, placed_option, frame_item, frame_items, frame_entry};
+ghost use Rattle.nc_syntax.specs.Statement.{statement_view, placed_option, frame_item, frame_items, frame_entry, tree_option};
 
 use crate::blocks::{FrameWord, Stmt};
 use crate::marks::{assign_at, code_at, end_at, is_keyword};
@@ -38,6 +40,7 @@ fn frame_value(alloc: Global, words: &Words<'_>, at: usize) -> Result<(Expr, usi
     requires scanned { IsScanned words.now }
     requires within { at ≤ length words.now.tokens.items }
     ensures exact { Gives placed_tree (frame_value words.now at) result }
+    ensures indices { IfOk result (λ p. IndicesFit (tree_of p.0)) }
     ensures within { IfOk result (λ p. (at < p.1) × (p.1 ≤ length words.now.tokens.items)) }
 {
     match piece_at(words, at) {
@@ -73,6 +76,7 @@ fn frame_word_at(
 ) -> Result<((u8, Expr), bool, usize), SyntaxFault>
     requires { IsScanned words.now }
     ensures exact { Gives frame_item (frame_word_at words.now (map frame_entry before.now) at) result }
+    ensures indices { IfOk result (λ p. EntryFits (frame_entry p.0)) }
     ensures within { IfOk result (λ p. (at < p.2) × (p.2 ≤ length words.now.tokens.items)) }
 {
     match slot_at(words, at) {
@@ -97,7 +101,8 @@ fn frame_words_at(
 ) -> Result<(Vec<(u8, Expr)>, usize), SyntaxFault>
     requires scanned { IsScanned words.now }
     requires within { start ≤ length words.now.tokens.items }
-    ensures { Gives frame_items (list_at (frame_word_at words.now) words.now start) result }
+    ensures exact { Gives frame_items (list_at (frame_word_at words.now) words.now start) result }
+    ensures indices { IfOk result (λ p. All EntryFits (map frame_entry p.0.items)) }
 {
     let mut list = Vec::new(alloc);
     let mut at = start;
@@ -121,7 +126,8 @@ pub(crate) fn shape_form(
 ) -> Result<Stmt, SyntaxFault>
     requires scanned { IsScanned words.now }
     requires within { at ≤ length words.now.tokens.items }
-    ensures { Gives statement_view (shape_form words.now which at) result }
+    ensures exact { Gives statement_view (shape_form words.now which at) result }
+    ensures indices { IfOk result (λ s. StatementFits (statement_view s)) }
 {
     match piece_at(words, at) {
         Piece::End => Ok(Stmt::Shape(which, Vec::new(alloc))),
@@ -203,7 +209,8 @@ fn angle_at(
     at: usize,
 ) -> Result<(Option<Expr>, usize), SyntaxFault>
     requires { IsScanned words.now }
-    ensures { Gives placed_option (angle_at words.now at) result }
+    ensures exact { Gives placed_option (angle_at words.now at) result }
+    ensures indices { IfOk result (λ p. OptionFits (tree_option p.0)) }
 {
     if is_keyword(words, at, b"RPL") {
         match assign_at(words, at + 1, 22) {
@@ -227,7 +234,8 @@ pub(crate) fn turn_form(
     at: usize,
 ) -> Result<Stmt, SyntaxFault>
     requires { IsScanned words.now }
-    ensures { Gives statement_view (turn_form words.now more at) result }
+    ensures exact { Gives statement_view (turn_form words.now more at) result }
+    ensures indices { IfOk result (λ s. StatementFits (statement_view s)) }
 {
     let (angle, end) = angle_at(alloc, words, at)?;
     match turn_end(words, end) {

@@ -1,8 +1,9 @@
 //! Jumps, IF and CASE.
 
+ghost use Rattle.nc_syntax.specs.Indices.{StatementFits};
 ghost use Rattle.std.specs.Prelude.{◌≡◌, ◌<◌, ◌≤◌, ◌+◌, ℤ, List, length, codes, IfOk, IfSome};
 ghost use Rattle.block_scanner.specs.Scanned.{IsScanned};
-ghost use Rattle.nc_expressions.specs.Tree.{tree_of};
+ghost use Rattle.nc_expressions.specs.Tree.{tree_of, IndicesFit};
 ghost use Rattle.nc_syntax.specs.declared.blocks.JumpTo.{JumpTo};
 ghost use Rattle.nc_syntax.specs.Jumps.{way_of, way_at, target_at, jump_at, last_jump, jump_form, if_form, case_names, case_value, begins_number, named_jump, pair_at, default_at, case_form};
 ghost use Rattle.nc_syntax.specs.Lists.{list_at};
@@ -96,7 +97,8 @@ fn last_jump_at(words: &Words<'_>, way: Way, at: usize) -> Result<JumpTo, u16>
 pub(crate) fn if_form(alloc: Global, words: &Words<'_>, at: usize) -> Result<Stmt, SyntaxFault>
     requires scanned { IsScanned words.now }
     requires within { at ≤ length words.now.tokens.items }
-    ensures { Gives statement_view (if_form words.now at) result }
+    ensures exact { Gives statement_view (if_form words.now at) result }
+    ensures indices { IfOk result (λ s. StatementFits (statement_view s)) }
 {
     let (condition, end) = expression_at(alloc, words, at)?;
     match way_at(words, end) {
@@ -116,6 +118,7 @@ pub(crate) fn if_form(alloc: Global, words: &Words<'_>, at: usize) -> Result<Stm
 fn case_value(alloc: Global, words: &Words<'_>, at: usize) -> Result<(Expr, usize), SyntaxFault>
     requires { IsScanned words.now }
     ensures exact { Gives placed_tree (case_value words.now at) result }
+    ensures indices { IfOk result (λ p. IndicesFit (tree_of p.0)) }
     ensures within { IfOk result (λ p. p.1 ≤ length words.now.tokens.items) }
 {
     match open_at(words, at, 22) {
@@ -234,7 +237,8 @@ fn default_at(words: &Words<'_>, at: usize) -> Result<Option<JumpTo>, u16>
 #[tactic(auto, using(crate::proofs::Passing::passing), unfolding(crate::specs::Jumps::case_form))]
 pub(crate) fn case_form(alloc: Global, words: &Words<'_>, at: usize) -> Result<Stmt, SyntaxFault>
     requires { IsScanned words.now }
-    ensures { Gives statement_view (case_form words.now at) result }
+    ensures exact { Gives statement_view (case_form words.now at) result }
+    ensures indices { IfOk result (λ s. StatementFits (statement_view s)) }
 {
     let (value, first) = case_value(alloc, words, at)?;
     let (pairs, end) = pairs_at(alloc, words, first)?;
@@ -248,7 +252,8 @@ pub(crate) fn case_form(alloc: Global, words: &Words<'_>, at: usize) -> Result<S
 #[tactic(auto, unfolding(crate::specs::Jumps::jump_form))]
 pub(crate) fn jump_form(words: &Words<'_>, way: Way, at: usize) -> Result<Stmt, SyntaxFault>
     requires { IsScanned words.now }
-    ensures { Gives statement_view (jump_form words.now way at) result }
+    ensures exact { Gives statement_view (jump_form words.now way at) result }
+    ensures indices { IfOk result (λ s. StatementFits (statement_view s)) }
 {
     match last_jump_at(words, way, at) {
         Ok(jump) => Ok(Stmt::Jump(jump)),

@@ -4,8 +4,9 @@ ghost use Rattle.std.specs.Prelude.{◌≡◌, ◌<◌, ◌≤◌, ◌+◌, leng
 ghost use Rattle.std.specs.Bool.{OnTrue};
 ghost use Rattle.block_scanner.specs.Scanned.{IsScanned};
 ghost use Rattle.nc_syntax.specs.Blocks.{skip_of, has_number, number_at, label_at, head_of, block_of, statement_of};
+ghost use Rattle.nc_syntax.specs.Indices.{StatementFits};
 ghost use Rattle.nc_syntax.specs.Reading.{Gives};
-ghost use Rattle.nc_syntax.specs.Statement.{view_of};
+ghost use Rattle.nc_syntax.specs.Statement.{statement_view, view_of};
 
 use crate::blocks::Block;
 use crate::bodies::body_at;
@@ -95,7 +96,8 @@ fn head_of(words: &Words<'_>) -> Result<(bool, Option<u32>, usize), u16>
 #[tactic(auto, using(crate::proofs::Passing::passing), unfolding(crate::specs::Blocks::block_of))]
 fn block_of(alloc: Global, words: &Words<'_>) -> Result<Block, SyntaxFault>
     requires { IsScanned words.now }
-    ensures { Gives view_of (block_of words.now) result }
+    ensures exact { Gives view_of (block_of words.now) result }
+    ensures indices { IfOk result (λ b. StatementFits (statement_view b.stmt)) }
 {
     match head_of(words) {
         Ok((skip, number, place)) => {
@@ -125,7 +127,8 @@ pub fn statement(
     compensation: bool,
 ) -> Result<Block, SyntaxFault>
     requires { IsScanned words.now }
-    ensures { Gives view_of (statement_of words.now compensation) result }
+    ensures exact { Gives view_of (statement_of words.now compensation) result }
+    ensures indices { IfOk result (λ b. StatementFits (statement_view b.stmt)) }
 {
     match refused_word(words, compensation) {
         Some(code) => Err(SyntaxFault::Refused(code)),

@@ -1,5 +1,6 @@
 //! Loops, repetitions, calls and what stands alone.
 
+ghost use Rattle.nc_syntax.specs.Indices.{OptionFits, StatementFits};
 ghost use Rattle.std.specs.Prelude.{◌≡◌, ◌<◌, ◌≤◌, ◌∷◌, length, IfOk, codes};
 ghost use Rattle.block_scanner.specs.Scanned.{IsScanned};
 ghost use Rattle.nc_expressions.specs.Tree.{tree_of, IndicesFit};
@@ -20,8 +21,10 @@ use std::alloc::Global;
 /// This statement, where nothing stands behind it.
 #[tactic(auto, unfolding(crate::specs::Structures::alone))]
 pub(crate) fn alone(words: &Words<'_>, at: usize, stmt: Stmt) -> Result<Stmt, SyntaxFault>
-    requires { IsScanned words.now }
-    ensures { Gives statement_view (alone words.now at (statement_view stmt)) result }
+    requires scanned { IsScanned words.now }
+    requires fits { StatementFits (statement_view stmt) }
+    ensures exact { Gives statement_view (alone words.now at (statement_view stmt)) result }
+    ensures indices { IfOk result (λ s. StatementFits (statement_view s)) }
 {
     match end_at(words, at) {
         Ok(_) => Ok(stmt),
@@ -34,7 +37,8 @@ pub(crate) fn alone(words: &Words<'_>, at: usize, stmt: Stmt) -> Result<Stmt, Sy
 pub(crate) fn last_expression(alloc: Global, words: &Words<'_>, at: usize) -> Result<Expr, SyntaxFault>
     requires scanned { IsScanned words.now }
     requires within { at ≤ length words.now.tokens.items }
-    ensures { Gives tree_of (last_expression words.now at) result }
+    ensures exact { Gives tree_of (last_expression words.now at) result }
+    ensures indices { IfOk result (λ e. IndicesFit (tree_of e)) }
 {
     let (tree, end) = expression_at(alloc, words, at)?;
     match end_at(words, end) {
@@ -66,6 +70,7 @@ fn first_value(alloc: Global, words: &Words<'_>, at: usize) -> Result<(Expr, usi
     requires scanned { IsScanned words.now }
     requires within { at ≤ length words.now.tokens.items }
     ensures exact { Gives placed_tree (first_value words.now at) result }
+    ensures indices { IfOk result (λ p. IndicesFit (tree_of p.0)) }
     ensures within { IfOk result (λ p. p.1 ≤ length words.now.tokens.items) }
 {
     let (tree, end) = expression_at(alloc, words, at)?;
@@ -79,7 +84,8 @@ fn first_value(alloc: Global, words: &Words<'_>, at: usize) -> Result<(Expr, usi
 #[tactic(auto, using(crate::proofs::Passing::passing), unfolding(crate::specs::Structures::for_form))]
 pub(crate) fn for_form(alloc: Global, words: &Words<'_>, at: usize) -> Result<Stmt, SyntaxFault>
     requires { IsScanned words.now }
-    ensures { Gives statement_view (for_form words.now at) result }
+    ensures exact { Gives statement_view (for_form words.now at) result }
+    ensures indices { IfOk result (λ s. StatementFits (statement_view s)) }
 {
     match counter_at(words, at) {
         Ok((index, behind)) => {
@@ -95,7 +101,8 @@ pub(crate) fn for_form(alloc: Global, words: &Words<'_>, at: usize) -> Result<St
 #[tactic(auto, using(crate::proofs::Passing::passing), unfolding(crate::specs::Structures::times_at))]
 fn times_at(alloc: Global, words: &Words<'_>, at: usize) -> Result<Option<Expr>, SyntaxFault>
     requires { IsScanned words.now }
-    ensures { Gives tree_option (times_at words.now at) result }
+    ensures exact { Gives tree_option (times_at words.now at) result }
+    ensures indices { IfOk result (λ e. OptionFits (tree_option e)) }
 {
     match piece_at(words, at) {
         Piece::Letter(b'P') => match assign_at(words, at + 1, 22) {
@@ -113,7 +120,8 @@ fn times_at(alloc: Global, words: &Words<'_>, at: usize) -> Result<Option<Expr>,
 #[tactic(auto, using(crate::proofs::Passing::passing), unfolding(crate::specs::Structures::repeat_form))]
 pub(crate) fn repeat_form(alloc: Global, words: &Words<'_>, at: usize) -> Result<Stmt, SyntaxFault>
     requires { IsScanned words.now }
-    ensures { Gives statement_view (repeat_form words.now at) result }
+    ensures exact { Gives statement_view (repeat_form words.now at) result }
+    ensures indices { IfOk result (λ s. StatementFits (statement_view s)) }
 {
     match piece_at(words, at) {
         Piece::Name => {
@@ -133,7 +141,8 @@ pub(crate) fn repeat_block_form(
     at: usize,
 ) -> Result<Stmt, SyntaxFault>
     requires { IsScanned words.now }
-    ensures { Gives statement_view (repeat_block_form words.now at) result }
+    ensures exact { Gives statement_view (repeat_block_form words.now at) result }
+    ensures indices { IfOk result (λ s. StatementFits (statement_view s)) }
 {
     match label_at(words, at) {
         Ok(label) => {
@@ -229,7 +238,8 @@ fn call_passes(words: &Words<'_>, at: usize) -> Result<u16, u16>
 pub(crate) fn call_form(words: &Words<'_>, name: NameText, at: usize) -> Result<Stmt, SyntaxFault>
     requires scanned { IsScanned words.now }
     requires within { at ≤ length words.now.tokens.items }
-    ensures { Gives statement_view (call_form words.now name at) result }
+    ensures exact { Gives statement_view (call_form words.now name at) result }
+    ensures indices { IfOk result (λ s. StatementFits (statement_view s)) }
 {
     match call_passes(words, at) {
         Ok(passes) => Ok(Stmt::Call(name, passes)),
@@ -254,7 +264,8 @@ fn number_name(digits: &[u8]) -> Result<NameText, u16>
 pub(crate) fn number_call_form(words: &Words<'_>, at: usize) -> Result<Stmt, SyntaxFault>
     requires scanned { IsScanned words.now }
     requires within { at < length words.now.tokens.items }
-    ensures { Gives statement_view (number_call_form words.now at) result }
+    ensures exact { Gives statement_view (number_call_form words.now at) result }
+    ensures indices { IfOk result (λ s. StatementFits (statement_view s)) }
 {
     match number_name(text_at(words, at)) {
         Ok(name) => call_form(words, name, at + 1),
@@ -266,7 +277,8 @@ pub(crate) fn number_call_form(words: &Words<'_>, at: usize) -> Result<Stmt, Syn
 #[tactic(auto, unfolding(crate::specs::Structures::proc_form))]
 pub(crate) fn proc_form(words: &Words<'_>, at: usize) -> Result<Stmt, SyntaxFault>
     requires { IsScanned words.now }
-    ensures { Gives statement_view (proc_form words.now at) result }
+    ensures exact { Gives statement_view (proc_form words.now at) result }
+    ensures indices { IfOk result (λ s. StatementFits (statement_view s)) }
 {
     match label_at(words, at) {
         Ok(name) => {

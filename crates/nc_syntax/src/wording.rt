@@ -1,11 +1,13 @@
 //! The words of a word block.
 
-ghost use Rattle.std.specs.Prelude.{◌≡◌, ◌<◌, ◌≤◌, ◌+◌, ◌∷◌, length, IfOk};
+ghost use Rattle.nc_expressions.specs.Tree.{IndicesFit, tree_of};
+ghost use Rattle.nc_syntax.specs.Indices.{OperandFits, OptionFits, StatementFits, WordFits};
+ghost use Rattle.std.specs.Prelude.{◌≡◌, ◌<◌, ◌≤◌, ◌+◌, ◌∷◌, length, IfOk, All, map};
 ghost use Rattle.std.specs.Bool.{OnTrue};
 ghost use Rattle.block_scanner.specs.Scanned.{IsScanned};
 ghost use Rattle.nc_syntax.specs.Lists.{list_at};
 ghost use Rattle.nc_syntax.specs.Reading.{Gives, placed_tree};
-ghost use Rattle.nc_syntax.specs.Statement.{statement_view, word_view, placed_word, placed_measure, placed_option, placed_operand, word_item, word_items};
+ghost use Rattle.nc_syntax.specs.Statement.{statement_view, word_view, placed_word, placed_measure, placed_option, placed_operand, word_item, word_items, operand_view, tree_option};
 ghost use Rattle.nc_syntax.specs.Wording.{assigned_at, bracketed_at, assignment_at, group_word, g_at, enclosed_value, measured_at, measured_word, letter_word, axis_word_at, slot_word_at, other_axis_at, is_program_end, plain_aux, aux_value, has_digits_assign, numbered_aux, aux_at, bracket_at, spindle_at, is_spindle_word, name_code, name_word, lettered_word, word_at, word_item_at, words_form};
 
 use crate::blocks::{Measure, Operand, Stmt, Word};
@@ -27,6 +29,7 @@ use word_tables::{group_word_by_name, group_word_by_number, is_first_name};
 fn assigned_at(alloc: Global, words: &Words<'_>, at: usize) -> Result<(Expr, usize), SyntaxFault>
     requires { IsScanned words.now }
     ensures exact { Gives placed_tree (assigned_at words.now at) result }
+    ensures indices { IfOk result (λ p. IndicesFit (tree_of p.0)) }
     ensures within { IfOk result (λ p. (at < p.1) × (p.1 ≤ length words.now.tokens.items)) }
 {
     match assign_at(words, at, word_code(words, at)) {
@@ -41,6 +44,7 @@ fn bracketed_at(alloc: Global, words: &Words<'_>, at: usize) -> Result<(Expr, us
     requires scanned { IsScanned words.now }
     requires within { at < length words.now.tokens.items }
     ensures exact { Gives placed_tree (bracketed_at words.now at) result }
+    ensures indices { IfOk result (λ p. IndicesFit (tree_of p.0)) }
     ensures within { IfOk result (λ p. (at < p.1) × (p.1 ≤ length words.now.tokens.items)) }
 {
     let (index, end) = value_at(alloc, words, at + 1)?;
@@ -55,6 +59,7 @@ fn bracketed_at(alloc: Global, words: &Words<'_>, at: usize) -> Result<(Expr, us
 fn assignment_at(alloc: Global, words: &Words<'_>, at: usize) -> Result<(Word, usize), SyntaxFault>
     requires { IsScanned words.now }
     ensures exact { Gives placed_word (assignment_at words.now at) result }
+    ensures indices { IfOk result (λ p. WordFits (word_view p.0)) }
     ensures within { IfOk result (λ p. (at < p.1) × (p.1 ≤ length words.now.tokens.items)) }
 {
     match piece_at(words, at) {
@@ -76,6 +81,7 @@ fn assignment_at(alloc: Global, words: &Words<'_>, at: usize) -> Result<(Word, u
 /// A word of a group, or this refusal where it is none.
 fn group_word(word: Option<GWord>, next: usize, code: u16) -> Result<(Word, usize), SyntaxFault>
     ensures exact { Gives placed_word (group_word word next code) result }
+    ensures indices { IfOk result (λ p. WordFits (word_view p.0)) }
     ensures within { IfOk result (λ p. p.1 ≡ next) }
 {
     match word {
@@ -89,6 +95,7 @@ fn group_word(word: Option<GWord>, next: usize, code: u16) -> Result<(Word, usiz
 fn g_at(words: &Words<'_>, at: usize) -> Result<(Word, usize), SyntaxFault>
     requires { IsScanned words.now }
     ensures exact { Gives placed_word (g_at words.now at) result }
+    ensures indices { IfOk result (λ p. WordFits (word_view p.0)) }
     ensures within { IfOk result (λ p. (at < p.1) × (p.1 ≤ length words.now.tokens.items)) }
 {
     match piece_at(words, at) {
@@ -102,6 +109,7 @@ fn g_at(words: &Words<'_>, at: usize) -> Result<(Word, usize), SyntaxFault>
 fn enclosed_value(alloc: Global, words: &Words<'_>, at: usize) -> Result<(Expr, usize), SyntaxFault>
     requires { IsScanned words.now }
     ensures exact { Gives placed_tree (enclosed_value words.now at) result }
+    ensures indices { IfOk result (λ p. IndicesFit (tree_of p.0)) }
     ensures within { IfOk result (λ p. (at < p.1) × (p.1 ≤ length words.now.tokens.items)) }
 {
     match open_at(words, at, word_code(words, at)) {
@@ -126,6 +134,7 @@ fn measured_at(
     requires scanned { IsScanned words.now }
     requires within { at ≤ length words.now.tokens.items }
     ensures exact { Gives placed_measure (measured_at words.now at) result }
+    ensures indices { IfOk result (λ p. IndicesFit (tree_of p.1)) }
     ensures within { IfOk result (λ p. (at < p.2) × (p.2 ≤ length words.now.tokens.items)) }
 {
     if is_keyword(words, at, b"AC") {
@@ -151,6 +160,7 @@ fn measured_word(
     requires scanned { IsScanned words.now }
     requires within { at ≤ length words.now.tokens.items }
     ensures exact { Gives placed_word (measured_word words.now address.items at) result }
+    ensures indices { IfOk result (λ p. WordFits (word_view p.0)) }
     ensures within { IfOk result (λ p. (at < p.1) × (p.1 ≤ length words.now.tokens.items)) }
 {
     let (measure, value, end) = measured_at(alloc, words, at)?;
@@ -168,6 +178,7 @@ fn letter_word(
     requires scanned { IsScanned words.now }
     requires within { at ≤ length words.now.tokens.items }
     ensures exact { Gives placed_word (letter_word words.now letter at) result }
+    ensures indices { IfOk result (λ p. WordFits (word_view p.0)) }
     ensures within { IfOk result (λ p. (at < p.1) × (p.1 ≤ length words.now.tokens.items)) }
 {
     let address = address(alloc, letter, &[])?;
@@ -191,6 +202,7 @@ fn axis_word_at(
     requires scanned { IsScanned words.now }
     requires within { at + 2 < length words.now.tokens.items }
     ensures exact { Gives placed_word (axis_word_at words.now letter at) result }
+    ensures indices { IfOk result (λ p. WordFits (word_view p.0)) }
     ensures within { IfOk result (λ p. (at < p.1) × (p.1 ≤ length words.now.tokens.items)) }
 {
     let address = address(alloc, letter, text_at(words, at + 1))?;
@@ -208,6 +220,7 @@ fn slot_word_at(
     requires scanned { IsScanned words.now }
     requires within { at < length words.now.tokens.items }
     ensures exact { Gives placed_word (slot_word_at words.now letter at) result }
+    ensures indices { IfOk result (λ p. WordFits (word_view p.0)) }
     ensures within { IfOk result (λ p. (at < p.1) × (p.1 ≤ length words.now.tokens.items)) }
 {
     if has_axis_word(words, at) {
@@ -227,6 +240,7 @@ fn other_axis_at(
 ) -> Result<(Word, usize), SyntaxFault>
     requires { IsScanned words.now }
     ensures exact { Gives placed_word (other_axis_at words.now letter at) result }
+    ensures indices { IfOk result (λ p. WordFits (word_view p.0)) }
     ensures within { IfOk result (λ p. (at < p.1) × (p.1 ≤ length words.now.tokens.items)) }
 {
     if has_axis_word(words, at) {
@@ -249,7 +263,8 @@ fn is_program_end(letter: u8, number: Num) -> bool
 
 /// A letter with a number.
 fn plain_aux(alloc: Global, letter: u8, number: Num) -> Result<Word, AllocError>
-    ensures { IfOk result (λ w. word_view w ≡ plain_aux letter number) }
+    ensures exact { IfOk result (λ w. word_view w ≡ plain_aux letter number) }
+    ensures indices { IfOk result (λ w. WordFits (word_view w)) }
 {
     if is_program_end(letter, number) {
         Ok(Word::End)
@@ -265,6 +280,7 @@ fn aux_value(alloc: Global, words: &Words<'_>, at: usize) -> Result<(Operand, us
     requires scanned { IsScanned words.now }
     requires within { at ≤ length words.now.tokens.items }
     ensures exact { Gives placed_operand (aux_value words.now at) result }
+    ensures indices { IfOk result (λ p. OperandFits (operand_view p.0)) }
     ensures within { IfOk result (λ p. (at < p.1) × (p.1 ≤ length words.now.tokens.items)) }
 {
     match piece_at(words, at) {
@@ -305,6 +321,7 @@ fn numbered_aux(
     requires scanned { IsScanned words.now }
     requires within { at < length words.now.tokens.items }
     ensures exact { Gives placed_word (numbered_aux words.now letter number at) result }
+    ensures indices { IfOk result (λ p. WordFits (word_view p.0)) }
     ensures within { IfOk result (λ p. (at < p.1) × (p.1 ≤ length words.now.tokens.items)) }
 {
     if has_digits_assign(words, at) {
@@ -326,6 +343,7 @@ fn aux_at(
 ) -> Result<(Word, usize), SyntaxFault>
     requires { IsScanned words.now }
     ensures exact { Gives placed_word (aux_at words.now letter at) result }
+    ensures indices { IfOk result (λ p. WordFits (word_view p.0)) }
     ensures within { IfOk result (λ p. (at < p.1) × (p.1 ≤ length words.now.tokens.items)) }
 {
     match piece_at(words, at) {
@@ -348,6 +366,7 @@ fn bracket_at(
 ) -> Result<(Option<Expr>, usize), SyntaxFault>
     requires { IsScanned words.now }
     ensures exact { Gives placed_option (bracket_at words.now at) result }
+    ensures indices { IfOk result (λ p. OptionFits (tree_option p.0)) }
     ensures within { IfOk result (λ p. at ≤ p.1) }
 {
     match piece_at(words, at) {
@@ -369,6 +388,7 @@ fn spindle_at(
 ) -> Result<(Word, usize), SyntaxFault>
     requires { IsScanned words.now }
     ensures exact { Gives placed_word (spindle_at words.now text.now at) result }
+    ensures indices { IfOk result (λ p. WordFits (word_view p.0)) }
     ensures within { IfOk result (λ p. (at < p.1) × (p.1 ≤ length words.now.tokens.items)) }
 {
     let name = upper_text(alloc, text)?;
@@ -406,6 +426,7 @@ fn name_word(
     requires scanned { IsScanned words.now }
     requires within { at ≤ length words.now.tokens.items }
     ensures exact { Gives placed_word (name_word words.now text.now at) result }
+    ensures indices { IfOk result (λ p. WordFits (word_view p.0)) }
     ensures within { IfOk result (λ p. (at ≤ p.1) × (p.1 ≤ length words.now.tokens.items)) }
 {
     if is_word(text, b"CR") {
@@ -429,6 +450,7 @@ fn lettered_word(
     requires scanned { IsScanned words.now }
     requires within { at < length words.now.tokens.items }
     ensures exact { Gives placed_word (lettered_word words.now letter at) result }
+    ensures indices { IfOk result (λ p. WordFits (word_view p.0)) }
     ensures within { IfOk result (λ p. (at < p.1) × (p.1 ≤ length words.now.tokens.items)) }
 {
     match letter {
@@ -447,6 +469,7 @@ fn lettered_word(
 fn word_at(alloc: Global, words: &Words<'_>, at: usize) -> Result<(Word, usize), SyntaxFault>
     requires { IsScanned words.now }
     ensures exact { Gives placed_word (word_at words.now at) result }
+    ensures indices { IfOk result (λ p. WordFits (word_view p.0)) }
     ensures within { IfOk result (λ p. (at < p.1) × (p.1 ≤ length words.now.tokens.items)) }
 {
     match piece_at(words, at) {
@@ -465,6 +488,7 @@ fn word_item_at(
 ) -> Result<(Word, bool, usize), SyntaxFault>
     requires { IsScanned words.now }
     ensures exact { Gives word_item (word_item_at words.now at) result }
+    ensures indices { IfOk result (λ p. WordFits (word_view p.0)) }
     ensures within { IfOk result (λ p. (at < p.2) × (p.2 ≤ length words.now.tokens.items)) }
 {
     let (word, end) = word_at(alloc, words, at)?;
@@ -481,7 +505,8 @@ fn words_at(
 ) -> Result<(Vec<Word>, usize), SyntaxFault>
     requires scanned { IsScanned words.now }
     requires within { start ≤ length words.now.tokens.items }
-    ensures { Gives word_items (list_at (λ _. word_item_at words.now) words.now start) result }
+    ensures exact { Gives word_items (list_at (λ _. word_item_at words.now) words.now start) result }
+    ensures indices { IfOk result (λ p. All WordFits (map word_view p.0.items)) }
 {
     let mut list = Vec::new(alloc);
     let mut at = start;
@@ -500,7 +525,8 @@ fn words_at(
 pub(crate) fn words_form(alloc: Global, words: &Words<'_>, at: usize) -> Result<Stmt, SyntaxFault>
     requires scanned { IsScanned words.now }
     requires within { at ≤ length words.now.tokens.items }
-    ensures { Gives statement_view (words_form words.now at) result }
+    ensures exact { Gives statement_view (words_form words.now at) result }
+    ensures indices { IfOk result (λ s. StatementFits (statement_view s)) }
 {
     let (list, _) = words_at(alloc, words, at)?;
     Ok(Stmt::Words(list))
