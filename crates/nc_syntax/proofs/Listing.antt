@@ -2,6 +2,7 @@
 use Rattle.std.proofs.Common.{◌≡◌, ℕ, zero, suc, ◌+◌, ◌-◌, ◌<◌, ◌≤◌, List, [], ◌∷◌, ◌++◌, length, get_or, drop, map, refl, ap, sym, ◌∙◌, Bool, true, false, Result, Ok, Err, arith}
 use Rattle.std.proofs.Common.{inl, inr, subst}
 use Rattle.std.proofs.lemmas.Bool.{cases_lt}
+use Rattle.std.proofs.lemmas.List.Elements.{All-push}
 use Rattle.std.proofs.Math.Seq.{drop-nil}
 use Rattle.std.specs.Prelude.{◌||◌, All}
 use Rattle.std.specs.List.{list_any}
@@ -140,14 +141,10 @@ pub broken_step : (words : Words) (at to : ℕ) → at < to → is_broken (piece
 broken_step words at to h e =
     let same : to - at ≡ suc (to - (at + 1)) = omega arith in ap (has_broken words at) same ∙ broken_suc words at (to - (at + 1)) e
 
-all_push : {A : Type 0} (P : A → Type 0) (xs : List A) (x : A) → All P xs → P x → All P (xs ++ x ∷ [])
-all_push P [] x h here = (here, tt)
-all_push P (y ∷ ys) x h here = (h.0, all_push P ys x h.1 here)
-
 -- what holds of all so far and of one more holds of all
 pub fits_more : {X A : Type 0} (P : A → Type 0) (view : X → A) (before after : List X) (x : X) →
     All P (map view before) → P (view x) → after ≡ before ++ x ∷ [] → All P (map view after)
-fits_more P view before after x all here pushed =
+fits_more {A = A} P view before after x all here pushed =
     let grown : map view after ≡ map view before ++ view x ∷ [] = ap (map view) pushed ∙ map_push view before x in
     let Q : List A → Type 0 = λ xs. All P xs in
-    subst Q (sym grown) (all_push P (map view before) (view x) all here)
+    subst Q (sym grown) (All-push P (map view before) (view x) all here)
