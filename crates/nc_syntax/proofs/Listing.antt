@@ -72,9 +72,10 @@ pub list_refused : {A : Type 0} (item : List A → ℕ → Result (Item A) ℕ) 
 unfolding listed
 list_refused item before at tokens code e =
     elim (cases_lt at (length tokens)) [
-      inl h ↦ step item before at tokens h
-        ∙ ap (λ r. r >>= λ one. go_on before at one (λ xs more. listed item xs (at + 1) (drop (at + 1) tokens) more)) e
-    | inr h ↦ rw (drop_all at tokens h) (ap (λ r. r >>= λ one. Err 22) e) ]
+      | inl h ↦ step item before at tokens h
+          ∙ ap (λ r. r >>= λ one. go_on before at one (λ xs more. listed item xs (at + 1) (drop (at + 1) tokens) more)) e
+      | inr h ↦ rw (drop_all at tokens h) (ap (λ r. r >>= λ one. Err 22) e)
+    ]
 
 -- a list begins with nothing before it
 pub list_begins : {A : Type 0} (item : List A → ℕ → Result (Item A) ℕ) (words : Words) (at : ℕ) →

@@ -64,4 +64,4 @@ unless_refused None false read = read
 unfoldable pub statement_of : Words → Bool → Result BlockView ℕ
 statement_of words compensation =
     unless_refused (refused_word compensation words.line.now words.tokens.items)
-        (has_large_number words.line.now words.tokens.items) (block_of words)
+    (has_large_number words.line.now words.tokens.items) (block_of words)

@@ -277,7 +277,11 @@ fn last_of_init(
 
 /// `(`, an expression and a comma, and the place behind.
 #[tactic(auto, using(crate::proofs::Passing::passing), unfolding(crate::specs::Coordination::opened_value))]
-fn opened_value(alloc: Global, words: &Words<'_>, at: usize) -> Result<(Operand, usize), SyntaxFault>
+fn opened_value(
+    alloc: Global,
+    words: &Words<'_>,
+    at: usize,
+) -> Result<(Operand, usize), SyntaxFault>
     requires { IsScanned words.now }
     ensures exact { Gives placed_operand (opened_value words.now at) result }
     ensures indices { IfOk result (λ p. OperandFits (operand_view p.0)) }

@@ -194,7 +194,9 @@ fn turn_end(words: &Words<'_>, at: usize) -> Result<usize, u16>
     requires { IsScanned words.now }
     ensures { result ≡ turn_end words.now at }
 {
-    if matches!(piece_at(words, at), Piece::Letter(b'X' | b'Y' | b'Z')) || has_axis_word(words, at) {
+    if matches!(piece_at(words, at), Piece::Letter(b'X' | b'Y' | b'Z'))
+        || has_axis_word(words, at)
+    {
         Err(50)
     } else {
         end_at(words, at)

@@ -58,10 +58,7 @@ fn target_at(words: &Words<'_>, at: usize) -> Result<(Target, usize), u16>
     ensures within { IfOk result (λ p. (at < p.1) × (p.1 ≤ length words.now.tokens.items)) }
 {
     match piece_at(words, at) {
-        Piece::Name => Ok((
-            Target::Label(NameText::of_word(text_at(words, at))),
-            at + 1,
-        )),
+        Piece::Name => Ok((Target::Label(NameText::of_word(text_at(words, at))), at + 1)),
         Piece::Letter(b'N') => {
             let number = block_number_at(words, at + 1)?;
             Ok((Target::Number(number), at + 2))
@@ -179,10 +176,7 @@ fn pair_at(words: &Words<'_>, at: usize) -> Result<((Num, JumpTo), bool, usize),
 }
 
 /// The same, with its refusal as that of the line.
-fn pair_item_at(
-    words: &Words<'_>,
-    at: usize,
-) -> Result<((Num, JumpTo), bool, usize), SyntaxFault>
+fn pair_item_at(words: &Words<'_>, at: usize) -> Result<((Num, JumpTo), bool, usize), SyntaxFault>
     requires scanned { IsScanned words.now }
     requires within { at ≤ length words.now.tokens.items }
     ensures exact { Gives (λ p. p) (pair_at words.now at) result }

@@ -16,9 +16,9 @@ mod structures;
 mod texts;
 mod wording;
 
-pub use blocks::{
-    Block, CoordWord, FrameWord, JumpTo, Measure, Operand, Stmt, Target, Way, Word,
-};
+pub use blocks::{Block, CoordWord, FrameWord, JumpTo, Measure, Operand, Stmt, Target, Way, Word};
 pub use names::NameText;
 pub use statements::statement;
 
+#[cfg(test)]
+mod tests;

@@ -84,11 +84,10 @@ fn behind_close(words: &Words<'_>) -> Option<usize>
     ensures value { result ≡ position (λ token. is_close_kind token.kind) (reverse words.now.tokens.items) }
     ensures within { IfSome result (λ back. back < length words.now.tokens.items) }
 {
-    words
-        .tokens
-        .iter()
-        .rev()
-        .position(|token| matches!(token.kind, Kind::Sign(Sign::CloseParenthesis)))
+    words.tokens.iter().rev().position(|token| matches!(
+        token.kind,
+        Kind::Sign(Sign::CloseParenthesis)
+    ))
 }
 
 /// The place behind the last `)` of a line.

@@ -121,11 +121,7 @@ fn block_of(alloc: Global, words: &Words<'_>) -> Result<Block, SyntaxFault>
 /// what is wrong with the form, at the leftmost place at which the line goes on to no form.
 /// `NoMemory` says nothing of the line.
 #[tactic(auto, unfolding(crate::specs::Blocks::statement_of))]
-pub fn statement(
-    alloc: Global,
-    words: &Words<'_>,
-    compensation: bool,
-) -> Result<Block, SyntaxFault>
+pub fn statement(alloc: Global, words: &Words<'_>, compensation: bool) -> Result<Block, SyntaxFault>
     requires { IsScanned words.now }
     ensures exact { Gives view_of (statement_of words.now compensation) result }
     ensures indices { IfOk result (λ b. StatementFits (statement_view b.stmt)) }

@@ -34,7 +34,11 @@ pub(crate) fn alone(words: &Words<'_>, at: usize, stmt: Stmt) -> Result<Stmt, Sy
 
 /// An expression behind which nothing stands.
 #[tactic(auto, using(crate::proofs::Passing::passing), unfolding(crate::specs::Structures::last_expression))]
-pub(crate) fn last_expression(alloc: Global, words: &Words<'_>, at: usize) -> Result<Expr, SyntaxFault>
+pub(crate) fn last_expression(
+    alloc: Global,
+    words: &Words<'_>,
+    at: usize,
+) -> Result<Expr, SyntaxFault>
     requires scanned { IsScanned words.now }
     requires within { at ≤ length words.now.tokens.items }
     ensures exact { Gives tree_of (last_expression words.now at) result }
@@ -158,10 +162,7 @@ pub(crate) fn repeat_block_form(
 fn has_close(words: &Words<'_>) -> bool
     ensures { result ≡ has_close words.now }
 {
-    words
-        .tokens
-        .iter()
-        .any(|token| matches!(token.kind, Kind::Sign(Sign::CloseParenthesis)))
+    words.tokens.iter().any(|token| matches!(token.kind, Kind::Sign(Sign::CloseParenthesis)))
 }
 
 /// The place behind the empty parentheses of a call, if they stand there.

@@ -19,7 +19,9 @@ pub(crate) fn address(alloc: Global, letter: u8, behind: &[u8]) -> Result<Vec<u8
 pub(crate) fn upper_text(alloc: Global, text: &[u8]) -> Result<Vec<u8>, AllocError>
     ensures { IfOk result (λ v. v.items ≡ upper text.now) }
 {
-    text.iter().map(|byte| byte.to_ascii_uppercase()).collect(alloc)
+    text.iter()
+        .map(|byte| byte.to_ascii_uppercase())
+        .collect(alloc)
 }
 
 /// A text as it is.

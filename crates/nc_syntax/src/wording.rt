@@ -13,7 +13,9 @@ ghost use Rattle.nc_syntax.specs.Wording.{assigned_at, bracketed_at, assignment_
 use crate::blocks::{Measure, Operand, Stmt, Word};
 use crate::coordination::unquoted;
 use crate::frames::{has_axis_name, has_axis_word, has_digits};
-use crate::marks::{assign_at, close_at, close_bracket_at, is_keyword, is_word, open_at, word_code};
+use crate::marks::{
+    assign_at, close_at, close_bracket_at, is_keyword, is_word, open_at, word_code,
+};
 use crate::pieces::{Piece, piece_at, text_at};
 use crate::reading::{after_sign, constant_at, index_at, value_at};
 use crate::texts::{address, same_text, upper_text};
@@ -185,7 +187,10 @@ fn letter_word(
     match piece_at(words, at) {
         Piece::Assign => measured_word(alloc, words, address, at + 1),
         _ => match constant_at(words, at, word_code(words, after_sign(words, at))) {
-            Ok((number, end)) => Ok((Word::Axis(address, Measure::Modal, Expr::Number(number)), end)),
+            Ok((number, end)) => Ok((
+                Word::Axis(address, Measure::Modal, Expr::Number(number)),
+                end,
+            )),
             Err(code) => Err(SyntaxFault::Refused(code)),
         },
     }
