@@ -1,5 +1,5 @@
 -- The symbol at a place of a line.
-use Rattle.std.proofs.Common.{◌≡◌, ℕ, zero, suc, ◌+◌, ◌-◌, ◌<◌, ◌≤◌, List, [], ◌∷◌, length, get_or, take, drop, inl, inr, refl, ap, sym, ◌∙◌, Option, Some, None, arith, tests, rules}
+use Rattle.std.proofs.Common.{◌≡◌, ℕ, zero, suc, ◌-◌, ◌<◌, ◌≤◌, List, [], ◌∷◌, length, get_or, take, drop, inl, inr, refl, ap, sym, ◌∙◌, Option, Some, None, arith}
 use Rattle.std.specs.Prelude.{min, slice_get}
 use Rattle.std.proofs.lemmas.Bool.{cases_lt}
 use Rattle.std.proofs.lemmas.List.{take_all, drop_all}
@@ -50,16 +50,18 @@ length-symbols_of words = length-symbols_behind words.line.now None words.tokens
 pub take_min : (xs : List ℕ) (n : ℕ) → take (min (length xs) n) xs ≡ take n xs
 take_min xs n =
     elim (cases_lt (length xs) n) [
-      inl h ↦ let e : min (length xs) n ≡ length xs = omega arith in
+      | inl h ↦ let e : min (length xs) n ≡ length xs = omega arith in
           ap (λ (k : ℕ). take k xs) e ∙ take_all (length xs) xs (omega arith) ∙ sym (take_all n xs (omega arith))
-    | inr h ↦ let e : min (length xs) n ≡ n = omega arith in ap (λ (k : ℕ). take k xs) e ]
+      | inr h ↦ let e : min (length xs) n ≡ n = omega arith in ap (λ (k : ℕ). take k xs) e
+    ]
 
 pub drop_min : (xs : List ℕ) (n : ℕ) → drop (min (length xs) n) xs ≡ drop n xs
 drop_min xs n =
     elim (cases_lt (length xs) n) [
-      inl h ↦ let e : min (length xs) n ≡ length xs = omega arith in
+      | inl h ↦ let e : min (length xs) n ≡ length xs = omega arith in
           ap (λ (k : ℕ). drop k xs) e ∙ drop_all (length xs) xs (omega arith) ∙ sym (drop_all n xs (omega arith))
-    | inr h ↦ let e : min (length xs) n ≡ n = omega arith in ap (λ (k : ℕ). drop k xs) e ]
+      | inr h ↦ let e : min (length xs) n ≡ n = omega arith in ap (λ (k : ℕ). drop k xs) e
+    ]
 
 pub ruleset split_short = (take_min, drop_min)
 

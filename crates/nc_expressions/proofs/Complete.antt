@@ -1,21 +1,21 @@
 -- What is spelled as an expression is read as its tree.
-use Rattle.std.proofs.Common.{◌≡◌, ℕ, ◌+◌, ◌<◌, ◌≤◌, Bool, true, false, cond, leb, List, [], ◌∷◌, ◌++◌, refl, ap, sym, ◌∙◌, subst, Option, Some, None, Ok, Err, IsSome, arith, rules, tests}
+use Rattle.std.proofs.Common.{◌≡◌, ℕ, ◌+◌, ◌<◌, ◌≤◌, Bool, true, false, cond, leb, List, [], ◌∷◌, ◌++◌, refl, ap, ◌∙◌, Option, Some, None, Ok, IsSome, IsTrue, arith, rules, tests}
 use Rattle.std.proofs.lemmas.List.{append_assoc}
 use Rattle.nc_expressions.specs.declared.trees.UnaryOp.{UnaryOp}
 use Rattle.nc_expressions.specs.declared.trees.UnaryOp.TheVariants as unary
 use Rattle.nc_expressions.specs.declared.trees.BinaryOp.{BinaryOp}
-use Rattle.nc_expressions.specs.declared.trees.BinaryOp.TheVariants.{Add, Sub}
 use Rattle.nc_expressions.specs.declared.levels.Level.{Level}
-use Rattle.nc_expressions.specs.declared.levels.Level.TheVariants.{Plain, Compares, Connects}
+use Rattle.nc_expressions.specs.declared.levels.Level.TheVariants.{Plain}
 use Rattle.nc_expressions.specs.declared.symbols.Symbol.{Symbol}
 use Rattle.nc_expressions.specs.declared.symbols.Symbol.TheVariants as symbol
 use Rattle.nc_expressions.specs.declared.stack.Bracket.{Bracket}
 use Rattle.nc_expressions.specs.declared.stack.Bracket.TheVariants.{Parentheses, Argument, Index}
-use Rattle.nc_expressions.specs.Tree.{Tree, Number, Parameter, Indexed, Unary, Binary}
-use Rattle.nc_expressions.specs.Levels.{rank, kind, together, clash}
+use Rattle.nc_expressions.specs.Tree.{Tree, Number, Indexed, Unary, Binary}
+use Rattle.nc_expressions.specs.Levels.{connecting, rank, kind, together, clash}
+use Rattle.nc_expressions.specs.Limits.{Limits, has_room}
 use Rattle.nc_expressions.specs.Symbols.{truth, index_of}
-use Rattle.nc_expressions.specs.Syntax.{Syntax, Constant, Truth, Positive, Negative, Denied, Named, Indexing, Called, Grouped, Chained, spelling, parameter_of, tree, tightness, and_then, level, Fits, IsExpression, Follows}
-use Rattle.nc_expressions.specs.Machine.{Pending, Prefix, Left, Opened, Stack, State, Wants, WantsIndex, WantsArgument, Has, Next, On, Ends, Refuse, depth, attach, join, ended, opened, with_left, with_prefix, with_parameter, close_parenthesis, close_bracket, stop, finish, at_last, on_sign, on_operand, on_index, on_argument, on_operator, on_close, on_close_bracket, on_other, on_ended, step, run, go_on, read, Reading}
+use Rattle.nc_expressions.specs.Syntax.{Syntax, Constant, Truth, Positive, Negative, Denied, Named, Indexing, Called, Grouped, Chained, spelling, parameter_of, tree, tightness, and_then, level, Fits, IsExpressionUnder, Follows}
+use Rattle.nc_expressions.specs.Machine.{Prefix, Left, Opened, Stack, Wants, Next, On, Refuse, depth, attach, join, ended, opened, with_left, with_prefix, with_parameter, close_parenthesis, close_bracket, stop, finish, at_last, on_sign, on_operand, on_index, on_argument, on_operator, on_close, on_close_bracket, on_other, on_ended, step, run, go_on, read}
 use Rattle.nc_expressions.proofs.LevelLaws.{together_plain, plain_together, level_is, some_of, two_levels, three_levels, rank_small}
 
 -- nothing at the top of the stack binds so tightly
@@ -56,6 +56,10 @@ chosen m n x y h = let e : leb m n ≡ true = search (rules, tests) in rw e refl
 not_chosen : {A : Type 0} (m n : ℕ) (x y : A) → n < m → cond (leb m n) x y ≡ y
 not_chosen m n x y h = let e : leb m n ≡ false = search (rules, tests) in rw e refl
 
+allowed : {A : Type 0} (b : Bool) (x y : A) → IsTrue b → cond b x y ≡ x
+allowed true x y h = refl
+allowed false x y h = cc
+
 join_loose : (r : ℕ) (t : Tree) (st : Stack) → Loose r st → join r t st ≡ (t, st)
 join_loose r t [] l = refl
 join_loose r t (Prefix op ∷ st) l = absurd l
@@ -69,18 +73,18 @@ joined_at : (q r : ℕ) (t : Tree) (st : Stack) → Loose q st → join r (attac
 joined_at q r t st l = ap (λ (p : Tree × Stack). join r p.0 p.1) (attach_loose q t st l)
 
 -- what comes and binds no more tightly joins all of an expression
-pub joins : (x : Syntax) (n r q : ℕ) (st : Stack) → Fits n x → r ≤ tightness x → Loose q st → join r (fed x st).0 (fed x st).1 ≡ join r (tree x) st
-joins (Constant z) n r q st f h l = joined_at q r (tree (Constant z)) st l
-joins (Truth b) n r q st f h l = joined_at q r (tree (Truth b)) st l
-joins (Positive x) n r q st f h l = joined_at q r (tree (Positive x)) st l
-joins (Negative x) n r q st f h l = joined_at q r (tree (Negative x)) st l
-joins (Denied x) n r q st f h l = joined_at q r (tree (Denied x)) st l
-joins (Named z) n r q st f h l = joined_at q r (tree (Named z)) st l
-joins (Indexing x) n r q st f h l = joined_at q r (tree (Indexing x)) st l
-joins (Called g x) n r q st f h l = joined_at q r (tree (Called g x)) st l
-joins (Grouped x) n r q st f h l = joined_at q r (tree (Grouped x)) st l
-joins (Chained op a b) n r q st f h l =
-    joins b n r (rank op + 1) (Left (tree a) op ∷ st) f.3 (omega (arith, h, f.1)) (omega arith) ∙ join_left r (tree b) (tree a) op st h
+pub joins : (lim : Limits) → (x : Syntax) (n r q : ℕ) (st : Stack) → Fits lim n x → r ≤ tightness x → Loose q st → join r (fed x st).0 (fed x st).1 ≡ join r (tree x) st
+joins lim (Constant z) n r q st f h l = joined_at q r (tree (Constant z)) st l
+joins lim (Truth b) n r q st f h l = joined_at q r (tree (Truth b)) st l
+joins lim (Positive x) n r q st f h l = joined_at q r (tree (Positive x)) st l
+joins lim (Negative x) n r q st f h l = joined_at q r (tree (Negative x)) st l
+joins lim (Denied x) n r q st f h l = joined_at q r (tree (Denied x)) st l
+joins lim (Named z) n r q st f h l = joined_at q r (tree (Named z)) st l
+joins lim (Indexing x) n r q st f h l = joined_at q r (tree (Indexing x)) st l
+joins lim (Called g x) n r q st f h l = joined_at q r (tree (Called g x)) st l
+joins lim (Grouped x) n r q st f h l = joined_at q r (tree (Grouped x)) st l
+joins lim (Chained op a b) n r q st f h l =
+    joins lim b n r (rank op + 1) (Left (tree a) op ∷ st) f.3 (omega (arith, h, f.1)) (omega arith) ∙ join_left r (tree b) (tree a) op st h
 
 -- the stack on which an expression can be read
 abbrev pub Ready : Syntax → Stack → Type 0
@@ -134,9 +138,9 @@ fed_tight (Grouped x) st h = refl
 fed_tight (Chained op a b) st h = absurd (omega (arith, h, rank_small op))
 
 -- single steps
-pub opens : (b : Bracket) (st : Stack) (lv : Level) → depth st < 32 → opened b st lv ≡ On (Wants (Opened b lv ∷ st) Plain)
+pub opens : (lim : Limits) → (b : Bracket) (st : Stack) (lv : Level) → IsTrue (has_room lim (depth st)) → opened lim b st lv ≡ On (Wants (Opened b lv ∷ st) Plain)
 unfolding opened
-opens b st lv h = not_chosen 32 (depth st) (Refuse 26) (On (Wants (Opened b lv ∷ st) Plain)) h
+opens lim b st lv h = allowed (has_room lim (depth st)) (On (Wants (Opened b lv ∷ st) Plain)) (Refuse 26) h
 
 named : (o : Option ℕ) (st : Stack) (lv : Level) → IsSome o → with_parameter o st lv ≡ On (ended lv (attach (parameter_of o) st))
 named None st lv h = cc
@@ -146,114 +150,114 @@ same_level : (lv out : Level) → together lv Plain ≡ Some out → lv ≡ out
 same_level lv out h = let e : together lv Plain ≡ Some lv = together_plain lv in cc
 
 -- a closing parenthesis or bracket, where its opening one is on top once all is joined
-pub closes : (p : Tree × Stack) (t : Tree) (lv inner : Level) (st : Stack) (ss : List Symbol) → join 0 p.0 p.1 ≡ (t, Opened Parentheses lv ∷ st) →
-    run (symbol.Close ∷ ss) (ended inner p) ≡ run ss (ended lv (attach t st))
+pub closes : (lim : Limits) → (p : Tree × Stack) (t : Tree) (lv inner : Level) (st : Stack) (ss : List Symbol) → join 0 p.0 p.1 ≡ (t, Opened Parentheses lv ∷ st) →
+    run lim (symbol.Close ∷ ss) (ended inner p) ≡ run lim ss (ended lv (attach t st))
 unfolding run step on_ended on_close
-closes p t lv inner st ss e = ap (λ (q : Tree × Stack). go_on (close_parenthesis q.0 q.1) (symbol.Close ∷ ss) (run ss)) e
+closes lim p t lv inner st ss e = ap (λ (q : Tree × Stack). go_on (close_parenthesis q.0 q.1) (symbol.Close ∷ ss) (run lim ss)) e
 
-pub closes_argument : (p : Tree × Stack) (g : UnaryOp) (t : Tree) (lv inner : Level) (st : Stack) (ss : List Symbol) → join 0 p.0 p.1 ≡ (t, Opened (Argument g) lv ∷ st) →
-    run (symbol.Close ∷ ss) (ended inner p) ≡ run ss (ended lv (attach (Unary g t) st))
+pub closes_argument : (lim : Limits) → (p : Tree × Stack) (g : UnaryOp) (t : Tree) (lv inner : Level) (st : Stack) (ss : List Symbol) → join 0 p.0 p.1 ≡ (t, Opened (Argument g) lv ∷ st) →
+    run lim (symbol.Close ∷ ss) (ended inner p) ≡ run lim ss (ended lv (attach (Unary g t) st))
 unfolding run step on_ended on_close
-closes_argument p g t lv inner st ss e = ap (λ (q : Tree × Stack). go_on (close_parenthesis q.0 q.1) (symbol.Close ∷ ss) (run ss)) e
+closes_argument lim p g t lv inner st ss e = ap (λ (q : Tree × Stack). go_on (close_parenthesis q.0 q.1) (symbol.Close ∷ ss) (run lim ss)) e
 
-pub closes_index : (p : Tree × Stack) (t : Tree) (lv inner : Level) (st : Stack) (ss : List Symbol) → join 0 p.0 p.1 ≡ (t, Opened Index lv ∷ st) →
-    run (symbol.CloseBracket ∷ ss) (ended inner p) ≡ run ss (ended lv (attach (Indexed t) st))
+pub closes_index : (lim : Limits) → (p : Tree × Stack) (t : Tree) (lv inner : Level) (st : Stack) (ss : List Symbol) → join 0 p.0 p.1 ≡ (t, Opened Index lv ∷ st) →
+    run lim (symbol.CloseBracket ∷ ss) (ended inner p) ≡ run lim ss (ended lv (attach (Indexed t) st))
 unfolding run step on_ended on_close_bracket
-closes_index p t lv inner st ss e = ap (λ (q : Tree × Stack). go_on (close_bracket q.0 q.1) (symbol.CloseBracket ∷ ss) (run ss)) e
+closes_index lim p t lv inner st ss e = ap (λ (q : Tree × Stack). go_on (close_bracket q.0 q.1) (symbol.CloseBracket ∷ ss) (run lim ss)) e
 
 -- an operator behind a left operand that nothing else takes
-pub joins_operator : (p : Tree × Stack) (t : Tree) (op : BinaryOp) (lv next : Level) (st : Stack) (ss : List Symbol) →
-    join (rank op) p.0 p.1 ≡ (t, st) → together lv (kind op) ≡ Some next →
-    run (symbol.Operator op ∷ ss) (ended lv p) ≡ run ss (Wants (Left t op ∷ st) next)
+pub joins_operator : (lim : Limits) → (p : Tree × Stack) (t : Tree) (op : BinaryOp) (lv next : Level) (st : Stack) (ss : List Symbol) →
+    join (rank op) p.0 p.1 ≡ (t, st) → together lv (kind lim op) ≡ Some next →
+    run lim (symbol.Operator op ∷ ss) (ended lv p) ≡ run lim ss (Wants (Left t op ∷ st) next)
 unfolding run step on_ended on_operator
-joins_operator p t op lv next st ss e h =
-    ap (λ (q : Tree × Stack). go_on (with_left (together lv (kind op)) (clash lv (kind op)) op q) (symbol.Operator op ∷ ss) (run ss)) e
-    ∙ ap (λ (o : Option Level). go_on (with_left o (clash lv (kind op)) op (t, st)) (symbol.Operator op ∷ ss) (run ss)) h
+joins_operator lim p t op lv next st ss e h =
+    ap (λ (q : Tree × Stack). go_on (with_left (together lv (kind lim op)) (clash lv (kind lim op)) op q) (symbol.Operator op ∷ ss) (run lim ss)) e
+    ∙ ap (λ (o : Option Level). go_on (with_left o (clash lv (kind lim op)) op (t, st)) (symbol.Operator op ∷ ss) (run lim ss)) h
 
 inside : (o : Option Level) (l : Level) → o ≡ Some l → and_then o (together Plain) ≡ Some l
 inside o l h = ap (λ (k : Option Level). and_then k (together Plain)) h ∙ plain_together l
 
 -- an expression is read, on a stack where it can stand, as far as it goes
-pub reads : (x : Syntax) (st : Stack) (lv out : Level) (rest : List Symbol) → Fits (depth st) x → and_then (level x) (together lv) ≡ Some out → Ready x st →
-    run (spelling x ++ rest) (Wants st lv) ≡ run rest (ended out (fed x st))
+pub reads : (lim : Limits) → (x : Syntax) (st : Stack) (lv out : Level) (rest : List Symbol) → Fits lim (depth st) x → and_then (level lim x) (together lv) ≡ Some out → Ready x st →
+    run lim (spelling x ++ rest) (Wants st lv) ≡ run lim rest (ended out (fed x st))
 unfolding run step on_operand on_sign on_index on_argument
-reads (Constant z) st lv out rest f h r = ap (λ (l : Level). run rest (ended l (attach (Number z) st))) (same_level lv out h)
-reads (Truth b) st lv out rest f h r = ap (λ (l : Level). run rest (ended l (attach (Number (truth b)) st))) (same_level lv out h)
-reads (Positive x) st lv out rest f h r =
-    reads x st lv out rest f.1 h (ready_tight x st f.0) ∙ ap (λ (p : Tree × Stack). run rest (ended out p)) (fed_tight x st f.0)
-reads (Negative x) st lv out rest f h r =
-    reads x (Prefix unary.Minus ∷ st) lv out rest f.1 h (ready_tight x (Prefix unary.Minus ∷ st) f.0)
-    ∙ ap (λ (p : Tree × Stack). run rest (ended out p)) (fed_tight x (Prefix unary.Minus ∷ st) f.0)
-reads (Denied x) st lv out rest f h r =
-    let l = some_of (and_then (level x) (together Connects)) (together lv) out h in
-    let m = some_of (level x) (together Connects) l.0 l.1 in
-    let e : and_then (together Connects m.0) (together lv) ≡ Some out = ap (λ (o : Option Level). and_then o (together lv)) m.2 ∙ l.2 in
-    let k = two_levels lv Connects m.0 out e in
-    let inner : and_then (level x) (together k.0) ≡ Some out = ap (λ (o : Option Level). and_then o (together k.0)) m.1 ∙ k.2 in
-    ap (λ (o : Option Level). go_on (with_prefix o (clash lv Connects) unary.Not st) (symbol.Not ∷ (spelling x ++ rest)) (run (spelling x ++ rest))) k.1
-    ∙ reads x (Prefix unary.Not ∷ st) k.0 out rest f.1 inner (ready_tight x (Prefix unary.Not ∷ st) f.0)
-    ∙ ap (λ (p : Tree × Stack). run rest (ended out p)) (fed_tight x (Prefix unary.Not ∷ st) f.0)
-reads (Named z) st lv out rest f h r =
-    ap (λ (n : Next). go_on n (symbol.Number z ∷ rest) (run rest)) (named (index_of z) st lv f)
-    ∙ ap (λ (l : Level). run rest (ended l (attach (parameter_of (index_of z)) st))) (same_level lv out h)
-reads (Indexing x) st lv out rest f h r =
-    let l = level_is (level x) f.0 in
+reads lim (Constant z) st lv out rest f h r = ap (λ (l : Level). run lim rest (ended l (attach (Number z) st))) (same_level lv out h)
+reads lim (Truth b) st lv out rest f h r = ap (λ (l : Level). run lim rest (ended l (attach (Number (truth b)) st))) (same_level lv out h)
+reads lim (Positive x) st lv out rest f h r =
+    reads lim x st lv out rest f.1 h (ready_tight x st f.0) ∙ ap (λ (p : Tree × Stack). run lim rest (ended out p)) (fed_tight x st f.0)
+reads lim (Negative x) st lv out rest f h r =
+    reads lim x (Prefix unary.Minus ∷ st) lv out rest f.1 h (ready_tight x (Prefix unary.Minus ∷ st) f.0)
+    ∙ ap (λ (p : Tree × Stack). run lim rest (ended out p)) (fed_tight x (Prefix unary.Minus ∷ st) f.0)
+reads lim (Denied x) st lv out rest f h r =
+    let l = some_of (and_then (level lim x) (together (connecting lim))) (together lv) out h in
+    let m = some_of (level lim x) (together (connecting lim)) l.0 l.1 in
+    let e : and_then (together (connecting lim) m.0) (together lv) ≡ Some out = ap (λ (o : Option Level). and_then o (together lv)) m.2 ∙ l.2 in
+    let k = two_levels lv (connecting lim) m.0 out e in
+    let inner : and_then (level lim x) (together k.0) ≡ Some out = ap (λ (o : Option Level). and_then o (together k.0)) m.1 ∙ k.2 in
+    ap (λ (o : Option Level). go_on (with_prefix o (clash lv (connecting lim)) unary.Not st) (symbol.Not ∷ (spelling x ++ rest)) (run lim (spelling x ++ rest))) k.1
+    ∙ reads lim x (Prefix unary.Not ∷ st) k.0 out rest f.1 inner (ready_tight x (Prefix unary.Not ∷ st) f.0)
+    ∙ ap (λ (p : Tree × Stack). run lim rest (ended out p)) (fed_tight x (Prefix unary.Not ∷ st) f.0)
+reads lim (Named z) st lv out rest f h r =
+    ap (λ (n : Next). go_on n (symbol.Number z ∷ rest) (run lim rest)) (named (index_of z) st lv f)
+    ∙ ap (λ (l : Level). run lim rest (ended l (attach (parameter_of (index_of z)) st))) (same_level lv out h)
+reads lim (Indexing x) st lv out rest f h r =
+    let l = level_is (level lim x) f.0 in
     let st' : Stack = Opened Index lv ∷ st in
-    ap (λ (ss : List Symbol). run ss (Wants st' Plain)) (append_assoc (spelling x) (symbol.CloseBracket ∷ []) rest)
-    ∙ reads x st' Plain l.0 (symbol.CloseBracket ∷ rest) f.1 (inside (level x) l.0 l.1) (ready_above x 0 st' (omega arith) tt)
-    ∙ closes_index (fed x st') (tree x) lv l.0 st rest (joins x (depth st') 0 0 st' f.1 (omega arith) tt)
-    ∙ ap (λ (k : Level). run rest (ended k (attach (Indexed (tree x)) st))) (same_level lv out h)
-reads (Called g x) st lv out rest f h r =
-    let l = level_is (level x) f.1 in
+    ap (λ (ss : List Symbol). run lim ss (Wants st' Plain)) (append_assoc (spelling x) (symbol.CloseBracket ∷ []) rest)
+    ∙ reads lim x st' Plain l.0 (symbol.CloseBracket ∷ rest) f.1 (inside (level lim x) l.0 l.1) (ready_above x 0 st' (omega arith) tt)
+    ∙ closes_index lim (fed x st') (tree x) lv l.0 st rest (joins lim x (depth st') 0 0 st' f.1 (omega arith) tt)
+    ∙ ap (λ (k : Level). run lim rest (ended k (attach (Indexed (tree x)) st))) (same_level lv out h)
+reads lim (Called g x) st lv out rest f h r =
+    let l = level_is (level lim x) f.1 in
     let st' : Stack = Opened (Argument g) lv ∷ st in
-    ap (λ (n : Next). go_on n (symbol.Open ∷ ((spelling x ++ (symbol.Close ∷ [])) ++ rest)) (run ((spelling x ++ (symbol.Close ∷ [])) ++ rest))) (opens (Argument g) st lv f.0)
-    ∙ ap (λ (ss : List Symbol). run ss (Wants st' Plain)) (append_assoc (spelling x) (symbol.Close ∷ []) rest)
-    ∙ reads x st' Plain l.0 (symbol.Close ∷ rest) f.2 (inside (level x) l.0 l.1) (ready_above x 0 st' (omega arith) tt)
-    ∙ closes_argument (fed x st') g (tree x) lv l.0 st rest (joins x (depth st') 0 0 st' f.2 (omega arith) tt)
-    ∙ ap (λ (k : Level). run rest (ended k (attach (Unary g (tree x)) st))) (same_level lv out h)
-reads (Grouped x) st lv out rest f h r =
-    let l = level_is (level x) f.1 in
+    ap (λ (n : Next). go_on n (symbol.Open ∷ ((spelling x ++ (symbol.Close ∷ [])) ++ rest)) (run lim ((spelling x ++ (symbol.Close ∷ [])) ++ rest))) (opens lim (Argument g) st lv f.0)
+    ∙ ap (λ (ss : List Symbol). run lim ss (Wants st' Plain)) (append_assoc (spelling x) (symbol.Close ∷ []) rest)
+    ∙ reads lim x st' Plain l.0 (symbol.Close ∷ rest) f.2 (inside (level lim x) l.0 l.1) (ready_above x 0 st' (omega arith) tt)
+    ∙ closes_argument lim (fed x st') g (tree x) lv l.0 st rest (joins lim x (depth st') 0 0 st' f.2 (omega arith) tt)
+    ∙ ap (λ (k : Level). run lim rest (ended k (attach (Unary g (tree x)) st))) (same_level lv out h)
+reads lim (Grouped x) st lv out rest f h r =
+    let l = level_is (level lim x) f.1 in
     let st' : Stack = Opened Parentheses lv ∷ st in
-    ap (λ (n : Next). go_on n (symbol.Open ∷ ((spelling x ++ (symbol.Close ∷ [])) ++ rest)) (run ((spelling x ++ (symbol.Close ∷ [])) ++ rest))) (opens Parentheses st lv f.0)
-    ∙ ap (λ (ss : List Symbol). run ss (Wants st' Plain)) (append_assoc (spelling x) (symbol.Close ∷ []) rest)
-    ∙ reads x st' Plain l.0 (symbol.Close ∷ rest) f.2 (inside (level x) l.0 l.1) (ready_above x 0 st' (omega arith) tt)
-    ∙ closes (fed x st') (tree x) lv l.0 st rest (joins x (depth st') 0 0 st' f.2 (omega arith) tt)
-    ∙ ap (λ (k : Level). run rest (ended k (attach (tree x) st))) (same_level lv out h)
-reads (Chained op a b) st lv out rest f h r =
-    let o = some_of (level (Chained op a b)) (together lv) out h in
-    let la = some_of (level a) (λ (l : Level). and_then (level b) (λ (m : Level). and_then (together (kind op) m) (together l))) o.0 o.1 in
-    let lb = some_of (level b) (λ (m : Level). and_then (together (kind op) m) (together la.0)) o.0 la.2 in
-    let e : and_then (and_then (together (kind op) lb.0) (together la.0)) (together lv) ≡ Some out =
-        ap (λ (k : Option Level). and_then k (together lv)) lb.2 ∙ o.2 in
-    let cut = three_levels lv la.0 (kind op) lb.0 out e in
-    let ea : and_then (level a) (together lv) ≡ Some cut.0 = ap (λ (k : Option Level). and_then k (together lv)) la.1 ∙ cut.2 in
-    let eb : and_then (level b) (together cut.1) ≡ Some out = ap (λ (k : Option Level). and_then k (together cut.1)) lb.1 ∙ cut.4 in
-    ap (λ (ss : List Symbol). run ss (Wants st lv)) (append_assoc (spelling a) (symbol.Operator op ∷ spelling b) rest)
-    ∙ reads a st lv cut.0 (symbol.Operator op ∷ (spelling b ++ rest)) f.2 ea (ready_above a (rank op) st f.0 r)
-    ∙ joins_operator (fed a st) (tree a) op cut.0 cut.1 st (spelling b ++ rest)
-        (joins a (depth st) (rank op) (rank op) st f.2 f.0 r ∙ join_loose (rank op) (tree a) st r) cut.3
-    ∙ reads b (Left (tree a) op ∷ st) cut.1 out rest f.3 eb (ready_above b (rank op + 1) (Left (tree a) op ∷ st) (omega (arith, f.1)) (omega arith))
+    ap (λ (n : Next). go_on n (symbol.Open ∷ ((spelling x ++ (symbol.Close ∷ [])) ++ rest)) (run lim ((spelling x ++ (symbol.Close ∷ [])) ++ rest))) (opens lim Parentheses st lv f.0)
+    ∙ ap (λ (ss : List Symbol). run lim ss (Wants st' Plain)) (append_assoc (spelling x) (symbol.Close ∷ []) rest)
+    ∙ reads lim x st' Plain l.0 (symbol.Close ∷ rest) f.2 (inside (level lim x) l.0 l.1) (ready_above x 0 st' (omega arith) tt)
+    ∙ closes lim (fed x st') (tree x) lv l.0 st rest (joins lim x (depth st') 0 0 st' f.2 (omega arith) tt)
+    ∙ ap (λ (k : Level). run lim rest (ended k (attach (tree x) st))) (same_level lv out h)
+reads lim (Chained op a b) st lv out rest f h r =
+    let o = some_of (level lim (Chained op a b)) (together lv) out h in
+    let la = some_of (level lim a) (λ (l : Level). and_then (level lim b) (λ (m : Level). and_then (together (kind lim op) m) (together l))) o.0 o.1 in
+    let lb = some_of (level lim b) (λ (m : Level). and_then (together (kind lim op) m) (together la.0)) o.0 la.2 in
+    let e : and_then (and_then (together (kind lim op) lb.0) (together la.0)) (together lv) ≡ Some out =
+    ap (λ (k : Option Level). and_then k (together lv)) lb.2 ∙ o.2 in
+    let cut = three_levels lv la.0 (kind lim op) lb.0 out e in
+    let ea : and_then (level lim a) (together lv) ≡ Some cut.0 = ap (λ (k : Option Level). and_then k (together lv)) la.1 ∙ cut.2 in
+    let eb : and_then (level lim b) (together cut.1) ≡ Some out = ap (λ (k : Option Level). and_then k (together cut.1)) lb.1 ∙ cut.4 in
+    ap (λ (ss : List Symbol). run lim ss (Wants st lv)) (append_assoc (spelling a) (symbol.Operator op ∷ spelling b) rest)
+    ∙ reads lim a st lv cut.0 (symbol.Operator op ∷ (spelling b ++ rest)) f.2 ea (ready_above a (rank op) st f.0 r)
+    ∙ joins_operator lim (fed a st) (tree a) op cut.0 cut.1 st (spelling b ++ rest)
+    (joins lim a (depth st) (rank op) (rank op) st f.2 f.0 r ∙ join_loose (rank op) (tree a) st r) cut.3
+    ∙ reads lim b (Left (tree a) op ∷ st) cut.1 out rest f.3 eb (ready_above b (rank op + 1) (Left (tree a) op ∷ st) (omega (arith, f.1)) (omega arith))
 
 -- what is spelled as an expression is read as its tree, where what follows can follow it
-ends_here : (p : Tree × Stack) (t : Tree) (lv : Level) (rest : List Symbol) → join 0 p.0 p.1 ≡ (t, []) → Follows rest → run rest (ended lv p) ≡ Ok (t, rest)
+ends_here : (lim : Limits) → (p : Tree × Stack) (t : Tree) (lv : Level) (rest : List Symbol) → join 0 p.0 p.1 ≡ (t, []) → Follows rest → run lim rest (ended lv p) ≡ Ok (t, rest)
 unfolding run step on_ended finish on_other on_close on_close_bracket
-ends_here p t lv [] e f = ap (λ (q : Tree × Stack). at_last (stop q.0 q.1)) e
-ends_here p t lv (symbol.Number z ∷ ss) e f = ap (λ (q : Tree × Stack). go_on (stop q.0 q.1) (symbol.Number z ∷ ss) (run ss)) e
-ends_here p t lv (symbol.Truth b ∷ ss) e f = ap (λ (q : Tree × Stack). go_on (stop q.0 q.1) (symbol.Truth b ∷ ss) (run ss)) e
-ends_here p t lv (symbol.Not ∷ ss) e f = ap (λ (q : Tree × Stack). go_on (stop q.0 q.1) (symbol.Not ∷ ss) (run ss)) e
-ends_here p t lv (symbol.Function g ∷ ss) e f = ap (λ (q : Tree × Stack). go_on (stop q.0 q.1) (symbol.Function g ∷ ss) (run ss)) e
-ends_here p t lv (symbol.Letter ∷ ss) e f = ap (λ (q : Tree × Stack). go_on (stop q.0 q.1) (symbol.Letter ∷ ss) (run ss)) e
-ends_here p t lv (symbol.Open ∷ ss) e f = ap (λ (q : Tree × Stack). go_on (stop q.0 q.1) (symbol.Open ∷ ss) (run ss)) e
-ends_here p t lv (symbol.OpenBracket ∷ ss) e f = ap (λ (q : Tree × Stack). go_on (stop q.0 q.1) (symbol.OpenBracket ∷ ss) (run ss)) e
-ends_here p t lv (symbol.Other ∷ ss) e f = ap (λ (q : Tree × Stack). go_on (stop q.0 q.1) (symbol.Other ∷ ss) (run ss)) e
-ends_here p t lv (symbol.Operator op ∷ ss) e f = absurd f
-ends_here p t lv (symbol.Close ∷ ss) e f = ap (λ (q : Tree × Stack). go_on (close_parenthesis q.0 q.1) (symbol.Close ∷ ss) (run ss)) e
-ends_here p t lv (symbol.CloseBracket ∷ ss) e f = ap (λ (q : Tree × Stack). go_on (close_bracket q.0 q.1) (symbol.CloseBracket ∷ ss) (run ss)) e
-ends_here p t lv (symbol.Exponent ∷ ss) e f = absurd f
+ends_here lim p t lv [] e f = ap (λ (q : Tree × Stack). at_last (stop q.0 q.1)) e
+ends_here lim p t lv (symbol.Number z ∷ ss) e f = ap (λ (q : Tree × Stack). go_on (stop q.0 q.1) (symbol.Number z ∷ ss) (run lim ss)) e
+ends_here lim p t lv (symbol.Truth b ∷ ss) e f = ap (λ (q : Tree × Stack). go_on (stop q.0 q.1) (symbol.Truth b ∷ ss) (run lim ss)) e
+ends_here lim p t lv (symbol.Not ∷ ss) e f = ap (λ (q : Tree × Stack). go_on (stop q.0 q.1) (symbol.Not ∷ ss) (run lim ss)) e
+ends_here lim p t lv (symbol.Function g ∷ ss) e f = ap (λ (q : Tree × Stack). go_on (stop q.0 q.1) (symbol.Function g ∷ ss) (run lim ss)) e
+ends_here lim p t lv (symbol.Letter ∷ ss) e f = ap (λ (q : Tree × Stack). go_on (stop q.0 q.1) (symbol.Letter ∷ ss) (run lim ss)) e
+ends_here lim p t lv (symbol.Open ∷ ss) e f = ap (λ (q : Tree × Stack). go_on (stop q.0 q.1) (symbol.Open ∷ ss) (run lim ss)) e
+ends_here lim p t lv (symbol.OpenBracket ∷ ss) e f = ap (λ (q : Tree × Stack). go_on (stop q.0 q.1) (symbol.OpenBracket ∷ ss) (run lim ss)) e
+ends_here lim p t lv (symbol.Other ∷ ss) e f = ap (λ (q : Tree × Stack). go_on (stop q.0 q.1) (symbol.Other ∷ ss) (run lim ss)) e
+ends_here lim p t lv (symbol.Operator op ∷ ss) e f = absurd f
+ends_here lim p t lv (symbol.Close ∷ ss) e f = ap (λ (q : Tree × Stack). go_on (close_parenthesis q.0 q.1) (symbol.Close ∷ ss) (run lim ss)) e
+ends_here lim p t lv (symbol.CloseBracket ∷ ss) e f = ap (λ (q : Tree × Stack). go_on (close_bracket q.0 q.1) (symbol.CloseBracket ∷ ss) (run lim ss)) e
+ends_here lim p t lv (symbol.Exponent ∷ ss) e f = absurd f
 
-pub complete : (x : Syntax) (rest : List Symbol) → IsExpression x → Follows rest → read (spelling x ++ rest) ≡ Ok (tree x, rest)
+pub complete : (lim : Limits) → (x : Syntax) (rest : List Symbol) → IsExpressionUnder lim x → Follows rest → read lim (spelling x ++ rest) ≡ Ok (tree x, rest)
 unfolding read
-complete x rest h f =
-    let l = level_is (level x) h.0 in
-    reads x [] Plain l.0 rest h.1 (inside (level x) l.0 l.1) (ready_above x 0 [] (omega arith) tt)
-    ∙ ends_here (fed x []) (tree x) l.0 rest (joins x 0 0 0 [] h.1 (omega arith) tt) f
+complete lim x rest h f =
+    let l = level_is (level lim x) h.0 in
+    reads lim x [] Plain l.0 rest h.1 (inside (level lim x) l.0 l.1) (ready_above x 0 [] (omega arith) tt)
+    ∙ ends_here lim (fed x []) (tree x) l.0 rest (joins lim x 0 0 0 [] h.1 (omega arith) tt) f

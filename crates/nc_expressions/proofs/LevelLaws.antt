@@ -1,10 +1,10 @@
 -- Levels beside one another, and ranks.
-use Rattle.std.proofs.Common.{◌≡◌, ℕ, ◌<◌, ◌≤◌, refl, ap, sym, ◌∙◌, Option, Some, None, IsSome, lit<, rules}
+use Rattle.std.proofs.Common.{◌≡◌, ◌<◌, refl, ap, ◌∙◌, Option, Some, None, IsSome, lit<, rules}
 use Rattle.nc_expressions.specs.declared.trees.BinaryOp.{BinaryOp}
 use Rattle.nc_expressions.specs.declared.trees.BinaryOp.TheVariants.{Add, Sub, Mul, Div, WholeDiv, Modulo, And, Or, Xor, Equal, NotEqual, Greater, Less, GreaterEqual, LessEqual}
 use Rattle.nc_expressions.specs.declared.levels.Level.{Level}
 use Rattle.nc_expressions.specs.declared.levels.Level.TheVariants.{Plain, Compares, Connects}
-use Rattle.nc_expressions.specs.Levels.{rank, kind, together}
+use Rattle.nc_expressions.specs.Levels.{rank, together}
 use Rattle.nc_expressions.specs.Syntax.{and_then}
 
 pub together_plain : (l : Level) → together l Plain ≡ Some l

@@ -1,10 +1,11 @@
-pub mod Stacks
-pub mod Beginnings
-pub mod Runs
 pub mod Alarms
-pub mod LevelLaws
+pub mod Beginnings
 pub mod Complete
-pub mod Sound
 pub mod Leftmost
+pub mod LevelLaws
 pub mod Parsed
 pub mod Stopped
+pub mod Runs
+pub mod Softer
+pub mod Sound
+pub mod Stacks

@@ -1,5 +1,5 @@
 -- What an exact reading says of the grammar.
-use Rattle.std.proofs.Common.{◌≡◌, ℕ, ℤ, pos, negsuc, ◌+◌, ◌-◌, ◌<◌, ◌≤◌, List, [], ◌∷◌, ◌++◌, length, drop, refl, ap, sym, ◌∙◌, subst, Option, Some, None, Ok, Err, Result, IfOk, IfErr, IsSome, Bool, true, false, cond, arith}
+use Rattle.std.proofs.Common.{◌≡◌, ℕ, ℤ, pos, negsuc, ◌+◌, ◌<◌, ◌≤◌, List, [], ◌∷◌, ◌++◌, length, drop, refl, ap, ◌∙◌, subst, Option, Some, None, Ok, Err, Result, IfOk, IfErr, IsSome, Bool, true, false, cond, arith}
 use Rattle.std.specs.Prelude.{◌/◌, ◌%◌, ◌==◌, ◌&&◌, nat_lt}
 use Rattle.std.proofs.lemmas.Bool.Decides.{Decides-ltb}
 use Rattle.std.proofs.lemmas.List.{length-drop, length-append}
@@ -12,6 +12,7 @@ use Rattle.nc_expressions.specs.declared.symbols.Symbol.TheVariants as symbol
 use Rattle.nc_expressions.specs.Tree.{Tree, tree_of, IndicesFit}
 use Rattle.nc_expressions.specs.Symbols.{symbols_of, index_of}
 use Rattle.nc_expressions.specs.Syntax.{Syntax, Constant, Truth, Positive, Negative, Denied, Named, Indexing, Called, Grouped, Chained, spelling, parameter_of, tree, Fits, IsExpression, Follows}
+use Rattle.nc_expressions.specs.Limits.{all_limits}
 use Rattle.nc_expressions.specs.Fronts.{Found, Broken}
 use Rattle.nc_expressions.specs.Machine.{read}
 use Rattle.nc_expressions.specs.Parsing.{Reads}
@@ -51,7 +52,7 @@ unfolding index_of
 index_small (pos n) i h = index_cases (n % 1000000 == 0) (nat_lt n 1000000000) n i (λ (t : nat_lt n 1000000000 ≡ true). (Decides-ltb n 1000000000).0 t) h
 index_small (negsuc n) i h = cc
 
-fits_indices : (x : Syntax) (n : ℕ) → Fits n x → IndicesFit (tree x)
+fits_indices : (x : Syntax) (n : ℕ) → Fits all_limits n x → IndicesFit (tree x)
 fits_indices (Constant z) n f = tt
 fits_indices (Truth b) n f = tt
 fits_indices (Positive x) n f = fits_indices x n f.1
@@ -64,7 +65,7 @@ fits_indices (Grouped x) n f = fits_indices x (n + 1) f.2
 fits_indices (Chained op a b) n f = (fits_indices a n f.2, fits_indices b n f.3)
 
 pub found_of : (words : Words) (start : ℕ) (r : Result (Expr × ℕ) SyntaxFault) → start ≤ length words.tokens.items →
-    Reads (symbols_of words) (read (drop start (symbols_of words))) r →
+    Reads (symbols_of words) (read all_limits (drop start (symbols_of words))) r →
     IfOk r (λ p. (start < p.1) × (p.1 ≤ length words.tokens.items) × Found (drop start (symbols_of words)) (tree_of p.0) (drop p.1 (symbols_of words)))
 found_of words start (Ok p) within h =
     let ss = symbols_of words in
@@ -74,25 +75,36 @@ found_of words start (Ok p) within h =
     (omega (arith, spelled f.0, n, length-drop start ss, length-drop p.1 ss, all, h.0, within), omega (arith, all, h.0), f)
 found_of words start (Err e) within h = tt
 
-pub only_of : (symbols : List Symbol) (start : ℕ) (r : Result (Expr × ℕ) SyntaxFault) → Reads symbols (read (drop start symbols)) r →
+pub only_of : (symbols : List Symbol) (start : ℕ) (r : Result (Expr × ℕ) SyntaxFault) → Reads symbols (read all_limits (drop start symbols)) r →
     (x : Syntax) (rest : List Symbol) → IsExpression x → Follows rest → drop start symbols ≡ spelling x ++ rest → Reads symbols (Ok (tree x, rest)) r
 only_of symbols start r h x rest is follows e =
-    let same : read (drop start symbols) ≡ Ok (tree x, rest) = ap read e ∙ complete x rest is follows in
+    let same : read all_limits (drop start symbols) ≡ Ok (tree x, rest) = ap (read all_limits) e ∙ complete all_limits x rest is follows in
     let P = λ (k : Result (Tree × List Symbol) ℕ). Reads symbols k r in
     subst P same h
 
-pub broken_of : (symbols : List Symbol) (start : ℕ) (r : Result (Expr × ℕ) SyntaxFault) → Reads symbols (read (drop start symbols)) r →
-    IfErr r (λ e. (code : ℕ) → e ≡ Refused code → Broken (drop start symbols))
+pub broken_of : (symbols : List Symbol) (start : ℕ) (r : Result (Expr × ℕ) SyntaxFault) → Reads symbols (read all_limits (drop start symbols)) r →
+    IfErr r (λ e. (code : ℕ) → e ≡ Refused code → Broken (drop start symbols) code)
 broken_of symbols start (Ok p) h = tt
-broken_of symbols start (Err (Refused c)) h = λ code e. leftmost (drop start symbols) c h
+broken_of symbols start (Err (Refused c)) h = λ code e.
+    let same : c ≡ code = cc in
+    let P : ℕ → Type 0 = λ k. Broken (drop start symbols) k in
+    subst P same (leftmost (drop start symbols) c h)
 broken_of symbols start (Err NoMemory) h = λ code e. cc
 
-pub indices_of : (symbols : List Symbol) (start : ℕ) (r : Result (Expr × ℕ) SyntaxFault) → Reads symbols (read (drop start symbols)) r →
+pub indices_of : (symbols : List Symbol) (start : ℕ) (r : Result (Expr × ℕ) SyntaxFault) → Reads symbols (read all_limits (drop start symbols)) r →
     IfOk r (λ p. IndicesFit (tree_of p.0))
 indices_of symbols start (Ok p) h =
     let f = sound (drop start symbols) (tree_of p.0) (drop p.1 symbols) h.1 in
     let P = λ (t : Tree). IndicesFit t in
     subst P f.2 (fits_indices f.0 0 f.1.1)
 indices_of symbols start (Err e) h = tt
+
+pub one_tree : (x y : Syntax) → IsExpression x → IsExpression y → spelling x ≡ spelling y → tree x ≡ tree y
+one_tree x y h i e =
+    let a : read all_limits (spelling x ++ []) ≡ Ok (tree x, []) = complete all_limits x [] h tt in
+    let b : read all_limits (spelling y ++ []) ≡ Ok (tree y, []) = complete all_limits y [] i tt in
+    let same : read all_limits (spelling x ++ []) ≡ read all_limits (spelling y ++ []) = ap (λ (k : List Symbol). read all_limits (k ++ [])) e in
+    let p : (tree x, []) ≡ (tree y, []) = cc in
+    ap (λ (q : Tree × List Symbol). q.0) p
 
 pub ruleset answers = (found_of, only_of, broken_of, indices_of, gives_read)

@@ -1,10 +1,10 @@
 -- The stack as the code holds it.
-use Rattle.std.proofs.Common.{◌≡◌, ℕ, ◌+◌, ◌<◌, cond, true, false, List, [], ◌∷◌, ◌++◌, length, get_or, take, refl, ap, sym, ◌∙◌, Option, Some, None, MatchOption, zero, suc}
-use Rattle.std.specs.Prelude.{map, reverse}
+use Rattle.std.proofs.Common.{◌≡◌, ℕ, ◌+◌, ◌<◌, cond, true, false, List, [], ◌∷◌, ◌++◌, length, get_or, take, refl, ap, sym, ◌∙◌, Option, Some, None, MatchOption}
+use Rattle.std.specs.Prelude.{map}
 use Rattle.std.specs.Option.{option_to_list}
-use Rattle.std.proofs.lemmas.List.{map-append, reverse-append, append-nil, take_more}
+use Rattle.std.proofs.lemmas.List.{map-append, reverse-append, take_more}
 use Rattle.nc_expressions.specs.declared.stack.Held.{Held}
-use Rattle.nc_expressions.specs.Machine.{Pending, Stack, depth, is_parenthesis}
+use Rattle.nc_expressions.specs.Machine.{depth, is_parenthesis}
 use Rattle.nc_expressions.specs.Stack.{pending_of, stack_of, Pops}
 
 pub stack_push : (xs : List Held) (x : Held) → stack_of (xs ++ (x ∷ [])) ≡ pending_of x ∷ stack_of xs

@@ -1,9 +1,10 @@
 -- How tightly operators bind, and what may stand at one level outside brackets.
-use Rattle.std.specs.Prelude.{ℕ, Option, Some, None}
+use Rattle.std.specs.Prelude.{ℕ, Option, Some, None, if◌then◌else◌}
 use Rattle.nc_expressions.specs.declared.trees.BinaryOp.{BinaryOp}
 use Rattle.nc_expressions.specs.declared.trees.BinaryOp.TheVariants.{Add, Sub, Mul, Div, WholeDiv, Modulo, And, Or, Xor, Equal, NotEqual, Greater, Less, GreaterEqual, LessEqual}
 use Rattle.nc_expressions.specs.declared.levels.Level.{Level}
 use Rattle.nc_expressions.specs.declared.levels.Level.TheVariants.{Plain, Compares, Connects}
+use Rattle.nc_expressions.specs.Limits.{Limits}
 
 -- the greater, the tighter
 abbrev pub rank : BinaryOp → ℕ
@@ -23,23 +24,27 @@ rank Div = 5
 rank WholeDiv = 5
 rank Modulo = 5
 
+-- what AND, OR, XOR and NOT make of the level where they stand
+abbrev pub connecting : Limits → Level
+connecting limits = if limits.apart then Connects else Plain
+
 -- what an operator makes of the level where it stands
-abbrev pub kind : BinaryOp → Level
-kind Equal = Compares
-kind NotEqual = Compares
-kind Greater = Compares
-kind Less = Compares
-kind GreaterEqual = Compares
-kind LessEqual = Compares
-kind Or = Connects
-kind Xor = Connects
-kind And = Connects
-kind Add = Plain
-kind Sub = Plain
-kind Mul = Plain
-kind Div = Plain
-kind WholeDiv = Plain
-kind Modulo = Plain
+abbrev pub kind : Limits → BinaryOp → Level
+kind limits Equal = Compares
+kind limits NotEqual = Compares
+kind limits Greater = Compares
+kind limits Less = Compares
+kind limits GreaterEqual = Compares
+kind limits LessEqual = Compares
+kind limits Or = connecting limits
+kind limits Xor = connecting limits
+kind limits And = connecting limits
+kind limits Add = Plain
+kind limits Sub = Plain
+kind limits Mul = Plain
+kind limits Div = Plain
+kind limits WholeDiv = Plain
+kind limits Modulo = Plain
 
 -- the level of two parts that stand beside one another; one comparison at most, and none beside AND, OR, XOR or NOT
 abbrev pub together : Level → Level → Option Level

@@ -1,5 +1,8 @@
+pub mod Fronts
 pub mod Levels
+pub mod Limits
 pub mod Machine
+pub mod Parsing
 pub mod Stack
 pub mod Symbols
 pub mod Syntax

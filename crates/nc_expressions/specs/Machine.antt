@@ -1,17 +1,18 @@
 -- Reading an expression symbol by symbol, with a stack of what waits.
-use Rattle.std.specs.Prelude.{◌+◌, ℕ, ℤ, Bool, true, false, List, [], ◌∷◌, Option, Some, None, Result, Ok, Err, nat_le, if◌then◌else◌}
+use Rattle.std.specs.Prelude.{◌+◌, ℕ, Bool, true, false, List, [], ◌∷◌, Option, Some, None, Result, Ok, Err, nat_le, if◌then◌else◌}
 use Rattle.nc_expressions.specs.declared.trees.UnaryOp.{UnaryOp}
 use Rattle.nc_expressions.specs.declared.trees.UnaryOp.TheVariants as unary
 use Rattle.nc_expressions.specs.declared.trees.BinaryOp.{BinaryOp}
 use Rattle.nc_expressions.specs.declared.trees.BinaryOp.TheVariants.{Add, Sub, Mul, Div, WholeDiv, Modulo, And, Or, Xor, Equal, NotEqual, Greater, Less, GreaterEqual, LessEqual}
 use Rattle.nc_expressions.specs.declared.levels.Level.{Level}
-use Rattle.nc_expressions.specs.declared.levels.Level.TheVariants.{Plain, Connects}
+use Rattle.nc_expressions.specs.declared.levels.Level.TheVariants.{Plain}
 use Rattle.nc_expressions.specs.declared.symbols.Symbol.{Symbol}
 use Rattle.nc_expressions.specs.declared.symbols.Symbol.TheVariants as symbol
 use Rattle.nc_expressions.specs.declared.stack.Bracket.{Bracket}
 use Rattle.nc_expressions.specs.declared.stack.Bracket.TheVariants.{Parentheses, Argument, Index}
 use Rattle.nc_expressions.specs.Tree.{Tree, Number, Parameter, Indexed, Unary, Binary}
-use Rattle.nc_expressions.specs.Levels.{rank, kind, together, clash}
+use Rattle.nc_expressions.specs.Levels.{connecting, rank, kind, together, clash}
+use Rattle.nc_expressions.specs.Limits.{Limits, has_room}
 use Rattle.nc_expressions.specs.Symbols.{truth, index_of}
 
 -- a sign or NOT that waits for its operand, a left operand that waits for the right one, or an open bracket with the level around it
@@ -66,8 +67,8 @@ join r t (Opened b lv ∷ st) = (t, Opened b lv ∷ st)
 abbrev pub ended : Level → Tree × Stack → State
 ended lv p = Has p.0 p.1 lv
 
-unfoldable pub opened : Bracket → Stack → Level → Next
-opened b st lv = if nat_le 32 (depth st) then Refuse 26 else On (Wants (Opened b lv ∷ st) Plain)
+unfoldable pub opened : Limits → Bracket → Stack → Level → Next
+opened limits b st lv = if has_room limits (depth st) then On (Wants (Opened b lv ∷ st) Plain) else Refuse 26
 
 abbrev pub with_prefix : Option Level → ℕ → UnaryOp → Stack → Next
 with_prefix (Some lv) code op st = On (Wants (Prefix op ∷ st) lv)
@@ -98,19 +99,19 @@ on_sign Less st lv = Refuse 22
 on_sign GreaterEqual st lv = Refuse 22
 on_sign LessEqual st lv = Refuse 22
 
-unfoldable pub on_operand : Stack → Level → Symbol → Next
-on_operand st lv (symbol.Number z) = On (ended lv (attach (Number z) st))
-on_operand st lv (symbol.Truth b) = On (ended lv (attach (Number (truth b)) st))
-on_operand st lv (symbol.Operator op) = on_sign op st lv
-on_operand st lv symbol.Not = with_prefix (together lv Connects) (clash lv Connects) unary.Not st
-on_operand st lv (symbol.Function f) = On (WantsArgument f st lv)
-on_operand st lv symbol.Letter = On (WantsIndex st lv)
-on_operand st lv symbol.Open = opened Parentheses st lv
-on_operand st lv symbol.Close = Refuse 22
-on_operand st lv symbol.OpenBracket = Refuse 22
-on_operand st lv symbol.CloseBracket = Refuse 22
-on_operand st lv symbol.Exponent = Refuse 22
-on_operand st lv symbol.Other = Refuse 22
+unfoldable pub on_operand : Limits → Stack → Level → Symbol → Next
+on_operand limits st lv (symbol.Number z) = On (ended lv (attach (Number z) st))
+on_operand limits st lv (symbol.Truth b) = On (ended lv (attach (Number (truth b)) st))
+on_operand limits st lv (symbol.Operator op) = on_sign op st lv
+on_operand limits st lv symbol.Not = with_prefix (together lv (connecting limits)) (clash lv (connecting limits)) unary.Not st
+on_operand limits st lv (symbol.Function f) = On (WantsArgument f st lv)
+on_operand limits st lv symbol.Letter = On (WantsIndex st lv)
+on_operand limits st lv symbol.Open = opened limits Parentheses st lv
+on_operand limits st lv symbol.Close = Refuse 22
+on_operand limits st lv symbol.OpenBracket = Refuse 22
+on_operand limits st lv symbol.CloseBracket = Refuse 22
+on_operand limits st lv symbol.Exponent = Refuse 22
+on_operand limits st lv symbol.Other = Refuse 22
 
 -- behind R
 unfoldable pub on_index : Stack → Level → Symbol → Next
@@ -128,22 +129,22 @@ on_index st lv symbol.Exponent = Refuse 22
 on_index st lv symbol.Other = Refuse 22
 
 -- behind a function's name
-unfoldable pub on_argument : UnaryOp → Stack → Level → Symbol → Next
-on_argument f st lv (symbol.Number z) = Refuse 22
-on_argument f st lv (symbol.Truth b) = Refuse 22
-on_argument f st lv (symbol.Operator op) = Refuse 22
-on_argument f st lv symbol.Not = Refuse 22
-on_argument f st lv (symbol.Function g) = Refuse 22
-on_argument f st lv symbol.Letter = Refuse 22
-on_argument f st lv symbol.Open = opened (Argument f) st lv
-on_argument f st lv symbol.Close = Refuse 22
-on_argument f st lv symbol.OpenBracket = Refuse 22
-on_argument f st lv symbol.CloseBracket = Refuse 22
-on_argument f st lv symbol.Exponent = Refuse 22
-on_argument f st lv symbol.Other = Refuse 22
+unfoldable pub on_argument : Limits → UnaryOp → Stack → Level → Symbol → Next
+on_argument limits f st lv (symbol.Number z) = Refuse 22
+on_argument limits f st lv (symbol.Truth b) = Refuse 22
+on_argument limits f st lv (symbol.Operator op) = Refuse 22
+on_argument limits f st lv symbol.Not = Refuse 22
+on_argument limits f st lv (symbol.Function g) = Refuse 22
+on_argument limits f st lv symbol.Letter = Refuse 22
+on_argument limits f st lv symbol.Open = opened limits (Argument f) st lv
+on_argument limits f st lv symbol.Close = Refuse 22
+on_argument limits f st lv symbol.OpenBracket = Refuse 22
+on_argument limits f st lv symbol.CloseBracket = Refuse 22
+on_argument limits f st lv symbol.Exponent = Refuse 22
+on_argument limits f st lv symbol.Other = Refuse 22
 
-unfoldable pub on_operator : BinaryOp → Tree × Stack → Level → Next
-on_operator op p lv = with_left (together lv (kind op)) (clash lv (kind op)) op p
+unfoldable pub on_operator : Limits → BinaryOp → Tree × Stack → Level → Next
+on_operator limits op p lv = with_left (together lv (kind limits op)) (clash lv (kind limits op)) op p
 
 -- a closing parenthesis, or a closing bracket, behind an operand that nothing else waits for
 abbrev pub close_parenthesis : Tree → Stack → Next
@@ -176,25 +177,25 @@ on_close_bracket p = close_bracket p.0 p.1
 unfoldable pub on_other : Tree × Stack → Next
 on_other p = stop p.0 p.1
 
-unfoldable pub on_ended : Tree → Stack → Level → Symbol → Next
-on_ended t st lv (symbol.Number z) = on_other (join 0 t st)
-on_ended t st lv (symbol.Truth b) = on_other (join 0 t st)
-on_ended t st lv (symbol.Operator op) = on_operator op (join (rank op) t st) lv
-on_ended t st lv symbol.Not = on_other (join 0 t st)
-on_ended t st lv (symbol.Function f) = on_other (join 0 t st)
-on_ended t st lv symbol.Letter = on_other (join 0 t st)
-on_ended t st lv symbol.Open = on_other (join 0 t st)
-on_ended t st lv symbol.Close = on_close (join 0 t st)
-on_ended t st lv symbol.OpenBracket = on_other (join 0 t st)
-on_ended t st lv symbol.CloseBracket = on_close_bracket (join 0 t st)
-on_ended t st lv symbol.Exponent = Refuse 22
-on_ended t st lv symbol.Other = on_other (join 0 t st)
+unfoldable pub on_ended : Limits → Tree → Stack → Level → Symbol → Next
+on_ended limits t st lv (symbol.Number z) = on_other (join 0 t st)
+on_ended limits t st lv (symbol.Truth b) = on_other (join 0 t st)
+on_ended limits t st lv (symbol.Operator op) = on_operator limits op (join (rank op) t st) lv
+on_ended limits t st lv symbol.Not = on_other (join 0 t st)
+on_ended limits t st lv (symbol.Function f) = on_other (join 0 t st)
+on_ended limits t st lv symbol.Letter = on_other (join 0 t st)
+on_ended limits t st lv symbol.Open = on_other (join 0 t st)
+on_ended limits t st lv symbol.Close = on_close (join 0 t st)
+on_ended limits t st lv symbol.OpenBracket = on_other (join 0 t st)
+on_ended limits t st lv symbol.CloseBracket = on_close_bracket (join 0 t st)
+on_ended limits t st lv symbol.Exponent = Refuse 22
+on_ended limits t st lv symbol.Other = on_other (join 0 t st)
 
-unfoldable pub step : State → Symbol → Next
-step (Wants st lv) s = on_operand st lv s
-step (WantsIndex st lv) s = on_index st lv s
-step (WantsArgument f st lv) s = on_argument f st lv s
-step (Has t st lv) s = on_ended t st lv s
+unfoldable pub step : Limits → State → Symbol → Next
+step limits (Wants st lv) s = on_operand limits st lv s
+step limits (WantsIndex st lv) s = on_index st lv s
+step limits (WantsArgument f st lv) s = on_argument limits f st lv s
+step limits (Has t st lv) s = on_ended limits t st lv s
 
 -- at the end of the symbols
 unfoldable pub finish : State → Next
@@ -217,9 +218,9 @@ go_on (On s) ss rest = rest s
 go_on (Ends t) ss rest = Ok (t, ss)
 go_on (Refuse code) ss rest = Err code
 
-unfoldable pub run : List Symbol → State → Reading
-run [] state = at_last (finish state)
-run (s ∷ ss) state = go_on (step state s) (s ∷ ss) (run ss)
+unfoldable pub run : Limits → List Symbol → State → Reading
+run limits [] state = at_last (finish state)
+run limits (s ∷ ss) state = go_on (step limits state s) (s ∷ ss) (run limits ss)
 
-unfoldable pub read : List Symbol → Reading
-read ss = run ss (Wants [] Plain)
+unfoldable pub read : Limits → List Symbol → Reading
+read limits ss = run limits ss (Wants [] Plain)

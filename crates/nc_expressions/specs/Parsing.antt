@@ -7,6 +7,7 @@ use Rattle.nc_expressions.specs.declared.faults.SyntaxFault.TheVariants.{Refused
 use Rattle.nc_expressions.specs.declared.symbols.Symbol.{Symbol}
 use Rattle.nc_expressions.specs.declared.symbols.Symbol.TheVariants as symbol
 use Rattle.nc_expressions.specs.Tree.{Tree, Number, tree_of}
+use Rattle.nc_expressions.specs.Limits.{all_limits}
 use Rattle.nc_expressions.specs.Machine.{Reading, read}
 use Rattle.nc_expressions.specs.Value.{◌>>=◌}
 
@@ -23,7 +24,7 @@ placed all (Err code) = Err code
 
 -- the expression at a place, and the place behind it
 unfoldable pub expr_at : List Symbol → ℕ → Result (Tree × ℕ) ℕ
-expr_at symbols at = placed (length symbols) (read (drop at symbols))
+expr_at symbols at = placed (length symbols) (read all_limits (drop at symbols))
 
 -- the answer is this tree and place, or this refusal, or memory ran out
 abbrev pub GivesExpr : Result (Tree × ℕ) ℕ → Result (Expr × ℕ) SyntaxFault → Type 0

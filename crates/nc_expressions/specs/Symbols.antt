@@ -1,5 +1,5 @@
 -- The symbols of expressions: what each token of a line means to an expression.
-use Rattle.std.specs.Prelude.{zero, suc, ◌+◌, ◌*◌, ◌^◌, ◌==◌, ◌&&◌, ◌%◌, ◌/◌, ℕ, ℤ, pos, negsuc, Bool, true, false, List, [], ◌∷◌, take, drop, Option, Some, None, nat_lt, if◌then◌else◌, codes}
+use Rattle.std.specs.Prelude.{zero, suc, ◌^◌, ◌==◌, ◌&&◌, ◌%◌, ◌/◌, ℕ, ℤ, pos, negsuc, Bool, true, false, List, [], ◌∷◌, take, drop, Option, Some, None, nat_lt, if◌then◌else◌, codes}
 use Rattle.std.specs.List.{list_all}
 use Rattle.std.specs.Char.{is_ascii_digit}
 use Rattle.std.specs.Str.{str_eq_ignore_ascii_case}

@@ -1,15 +1,16 @@
 -- The grammar of expressions.
-use Rattle.std.specs.Prelude.{◌≡◌, ◌+◌, ◌<◌, ◌≤◌, ℕ, ℤ, Bool, List, [], ◌∷◌, ◌++◌, Option, Some, None, IsSome}
+use Rattle.std.specs.Prelude.{◌≡◌, ◌+◌, ◌<◌, ◌≤◌, ℕ, ℤ, Bool, List, [], ◌∷◌, ◌++◌, Option, Some, None, IsSome, IsTrue}
 use Rattle.nc_expressions.specs.declared.trees.UnaryOp.{UnaryOp}
 use Rattle.nc_expressions.specs.declared.trees.UnaryOp.TheVariants as unary
 use Rattle.nc_expressions.specs.declared.trees.BinaryOp.{BinaryOp}
 use Rattle.nc_expressions.specs.declared.trees.BinaryOp.TheVariants.{Add, Sub}
 use Rattle.nc_expressions.specs.declared.levels.Level.{Level}
-use Rattle.nc_expressions.specs.declared.levels.Level.TheVariants.{Plain, Connects}
+use Rattle.nc_expressions.specs.declared.levels.Level.TheVariants.{Plain}
 use Rattle.nc_expressions.specs.declared.symbols.Symbol.{Symbol}
 use Rattle.nc_expressions.specs.declared.symbols.Symbol.TheVariants as symbol
 use Rattle.nc_expressions.specs.Tree.{Tree, Number, Parameter, Indexed, Unary, Binary}
-use Rattle.nc_expressions.specs.Levels.{rank, kind, together}
+use Rattle.nc_expressions.specs.Levels.{connecting, rank, kind, together}
+use Rattle.nc_expressions.specs.Limits.{Limits, all_limits, has_room}
 use Rattle.nc_expressions.specs.Symbols.{truth, index_of}
 
 -- an expression as it is written
@@ -73,34 +74,37 @@ and_then (Some l) f = f l
 and_then None f = None
 
 -- what stands in it outside brackets; None where a rule of the level is broken
-abbrev pub level : Syntax → Option Level
-level (Constant z) = Some Plain
-level (Truth b) = Some Plain
-level (Positive x) = level x
-level (Negative x) = level x
-level (Denied x) = and_then (level x) (together Connects)
-level (Named z) = Some Plain
-level (Indexing x) = Some Plain
-level (Called f x) = Some Plain
-level (Grouped x) = Some Plain
-level (Chained op a b) = and_then (level a) (λ l. and_then (level b) (λ m. and_then (together (kind op) m) (together l)))
+abbrev pub level : Limits → Syntax → Option Level
+level limits (Constant z) = Some Plain
+level limits (Truth b) = Some Plain
+level limits (Positive x) = level limits x
+level limits (Negative x) = level limits x
+level limits (Denied x) = and_then (level limits x) (together (connecting limits))
+level limits (Named z) = Some Plain
+level limits (Indexing x) = Some Plain
+level limits (Called f x) = Some Plain
+level limits (Grouped x) = Some Plain
+level limits (Chained op a b) = and_then (level limits a) (λ l. and_then (level limits b) (λ m. and_then (together (kind limits op) m) (together l)))
 
 -- it is of the grammar, with so many parentheses open around it
-abbrev pub Fits : ℕ → Syntax → Type 0
-Fits n (Constant z) = Unit {0}
-Fits n (Truth b) = Unit {0}
-Fits n (Positive x) = (tightness x ≡ 6) × Fits n x
-Fits n (Negative x) = (tightness x ≡ 6) × Fits n x
-Fits n (Denied x) = (tightness x ≡ 6) × Fits n x
-Fits n (Named z) = IsSome (index_of z)
-Fits n (Indexing x) = IsSome (level x) × Fits n x
-Fits n (Called f x) = (n < 32) × IsSome (level x) × Fits (n + 1) x
-Fits n (Grouped x) = (n < 32) × IsSome (level x) × Fits (n + 1) x
-Fits n (Chained op a b) = (rank op ≤ tightness a) × (rank op < tightness b) × Fits n a × Fits n b
+abbrev pub Fits : Limits → ℕ → Syntax → Type 0
+Fits limits n (Constant z) = Unit {0}
+Fits limits n (Truth b) = Unit {0}
+Fits limits n (Positive x) = (tightness x ≡ 6) × Fits limits n x
+Fits limits n (Negative x) = (tightness x ≡ 6) × Fits limits n x
+Fits limits n (Denied x) = (tightness x ≡ 6) × Fits limits n x
+Fits limits n (Named z) = IsSome (index_of z)
+Fits limits n (Indexing x) = IsSome (level limits x) × Fits limits n x
+Fits limits n (Called f x) = IsTrue (has_room limits n) × IsSome (level limits x) × Fits limits (n + 1) x
+Fits limits n (Grouped x) = IsTrue (has_room limits n) × IsSome (level limits x) × Fits limits (n + 1) x
+Fits limits n (Chained op a b) = (rank op ≤ tightness a) × (rank op < tightness b) × Fits limits n a × Fits limits n b
 
--- a whole expression
+-- a whole expression, of the grammar with these limits, and with all
+abbrev pub IsExpressionUnder : Limits → Syntax → Type 0
+IsExpressionUnder limits x = IsSome (level limits x) × Fits limits 0 x
+
 abbrev pub IsExpression : Syntax → Type 0
-IsExpression x = IsSome (level x) × Fits 0 x
+IsExpression x = IsExpressionUnder all_limits x
 
 -- what can stand behind an expression that has ended
 abbrev pub Follows : List Symbol → Type 0

@@ -9,7 +9,7 @@ use thiserror::Error;
 #[derive(Clone, Copy, Debug, PartialEq, Eq, Error)]
 pub enum SyntaxFault {
     /// The line is refused with this code.
-    #[error("refused")]
+    #[error("refused with code {0}")]
     Refused(u16),
     /// Memory was wanted and not found.
     #[error("out of memory")]
@@ -18,6 +18,7 @@ pub enum SyntaxFault {
 
 impl From<AllocError> for SyntaxFault {
     ghost use Rattle.nc_expressions.specs.declared.faults.SyntaxFault.TheVariants.{NoMemory};
+
     ghost from_gives = { λ _ fault. fault ≡ NoMemory };
 
     fn from(_: AllocError) -> SyntaxFault {
@@ -27,6 +28,7 @@ impl From<AllocError> for SyntaxFault {
 
 impl<T: Drop> From<AllocFailed<T>> for SyntaxFault {
     ghost use Rattle.nc_expressions.specs.declared.faults.SyntaxFault.TheVariants.{NoMemory};
+
     ghost from_gives = { λ _ fault. fault ≡ NoMemory };
 
     fn from(_: AllocFailed<T>) -> SyntaxFault {

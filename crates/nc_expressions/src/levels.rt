@@ -2,6 +2,7 @@
 
 ghost use Rattle.std.specs.Prelude.{◌≡◌};
 ghost use Rattle.nc_expressions.specs.Levels.{rank, kind, together, clash};
+ghost use Rattle.nc_expressions.specs.Limits.{all_limits};
 
 use crate::trees::BinaryOp;
 
@@ -37,7 +38,7 @@ pub fn rank(op: BinaryOp) -> u8
 
 /// What an operator makes of the level where it stands.
 pub fn kind(op: BinaryOp) -> Level
-    ensures { result ≡ kind op }
+    ensures { result ≡ kind all_limits op }
 {
     match op {
         BinaryOp::Equal

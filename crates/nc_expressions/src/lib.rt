@@ -2,6 +2,7 @@
 #![tactic(auto)]
 
 mod faults;
+mod laws;
 mod levels;
 mod parsing;
 mod stack;
@@ -12,8 +13,12 @@ mod trees;
 mod values;
 
 pub use faults::SyntaxFault;
+pub use laws::one_tree_at_most;
 pub use parsing::{parse_constant, parse_expr};
 pub use stops::expr_stop;
 pub use symbols::{Symbol, index_of, symbol_at};
 pub use trees::{BinaryOp, Expr, UnaryOp};
 pub use values::{Names, eval};
+
+#[cfg(test)]
+mod tests;

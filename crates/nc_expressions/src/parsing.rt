@@ -4,6 +4,7 @@ ghost use Rattle.std.specs.Prelude.{◌≡◌, ℕ, ◌<◌, ◌≤◌, List, �
 ghost use Rattle.block_scanner.specs.Scanned.{IsScanned};
 ghost use Rattle.nc_expressions.specs.declared.symbols.Symbol.{Symbol};
 ghost use Rattle.nc_expressions.specs.Fronts.{Found, Broken};
+ghost use Rattle.nc_expressions.specs.Limits.{all_limits};
 ghost use Rattle.nc_expressions.specs.Machine.{read};
 ghost use Rattle.nc_expressions.specs.Parsing.{Reads, expr_at, GivesExpr, sign_of, is_exponent, plain_number, number_at, constant_at, GivesConstant};
 ghost use Rattle.nc_expressions.specs.Symbols.{symbols_of};
@@ -22,10 +23,14 @@ use std::alloc::Global;
 
 /// Reads as the machine does.
 #[tactic(auto, using(crate::proofs::Runs::run_steps))]
-fn parse_exactly(alloc: Global, words: &Words<'_>, start: usize) -> Result<(Expr, usize), SyntaxFault>
+fn parse_exactly(
+    alloc: Global,
+    words: &Words<'_>,
+    start: usize,
+) -> Result<(Expr, usize), SyntaxFault>
     requires scanned { IsScanned words.now }
     requires within { start ≤ length words.now.tokens.items }
-    ensures { Reads (symbols_of words.now) (read (drop start (symbols_of words.now))) result }
+    ensures { Reads (symbols_of words.now) (read all_limits (drop start (symbols_of words.now))) result }
 {
     let mut pending = Vec::new(alloc);
     let mut mode = Mode::Wants;
@@ -51,10 +56,10 @@ fn parse_exactly(alloc: Global, words: &Words<'_>, start: usize) -> Result<(Expr
 /// place of the first token behind it.
 ///
 /// `Refused` comes where no expression begins there, or one begins that is not complete before the
-/// first token at which no expression goes on. Its code is that of this place: 26 at a parenthesis
-/// that is the 33rd open one; 23 at the token with which a level has both a comparison and one of
-/// AND, OR, XOR and NOT; else 22. The name of a function that is not supported is no word of an
-/// expression here. `NoMemory` says nothing of the line.
+/// first token at which no expression goes on. Its code is that of this place: 26 where one would
+/// go on if there were no limit on parentheses, 23 where one would go on if a comparison could
+/// stand beside AND, OR, XOR and NOT, else 22. The name of a function that is not supported is no
+/// word of an expression here. `NoMemory` says nothing of the line.
 #[tactic(auto, using(crate::proofs::Parsed::answers))]
 pub fn parse_expr(
     alloc: Global,
@@ -70,8 +75,9 @@ pub fn parse_expr(
     ensures only { (x : Syntax) (rest : List Symbol) → IsExpression x → Follows rest →
         drop start (symbols_of words.now) ≡ spelling x ++ rest → Reads (symbols_of words.now) (Ok (tree x, rest)) result }
 
-    // What is refused breaks off at the first place at which no expression goes on.
-    ensures broken { IfErr result (λ e. (code : ℕ) → e ≡ SyntaxFault.Refused code → Broken (drop start (symbols_of words.now))) }
+    // What is refused breaks off at the first place at which no expression goes on, and why it
+    // does there is the code.
+    ensures broken { IfErr result (λ e. (code : ℕ) → e ≡ SyntaxFault.Refused code → Broken (drop start (symbols_of words.now)) code) }
 
     ensures exact { GivesExpr (expr_at (symbols_of words.now) start) result }
     ensures indices { IfOk result (λ p. IndicesFit (tree_of p.0)) }
@@ -146,7 +152,8 @@ fn number_at(words: &Words<'_>, at: usize) -> Result<Num, u16>
 pub fn parse_constant(words: &Words<'_>, start: usize) -> Result<(Expr, usize), u16>
     requires scanned { IsScanned words.now }
     requires within { start ≤ length words.now.tokens.items }
-    ensures { GivesConstant (constant_at (symbols_of words.now) start) result }
+    ensures value { GivesConstant (constant_at (symbols_of words.now) start) result }
+    ensures indices { IfOk result (λ p. IndicesFit (tree_of p.0)) }
 {
     match sign_of(symbol_from(words, start)) {
         None => {

@@ -69,7 +69,12 @@ pub fn attach(alloc: Global, pending: &mut Vec<Held>, operand: Expr) -> Result<E
 }
 
 /// Gives an operand to the operators before it that bind at least so tightly.
-pub fn join(alloc: Global, pending: &mut Vec<Held>, least: u8, operand: Expr) -> Result<Expr, AllocError>
+pub fn join(
+    alloc: Global,
+    pending: &mut Vec<Held>,
+    least: u8,
+    operand: Expr,
+) -> Result<Expr, AllocError>
     ensures { IfOk result (λ e. join least (tree_of operand) (stack_of pending.old.items)
         ≡ (tree_of e, stack_of pending.new.items)) }
 {

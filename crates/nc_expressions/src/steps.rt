@@ -3,6 +3,7 @@
 ghost use Rattle.std.specs.Prelude.{◌≡◌};
 ghost use Rattle.nc_expressions.specs.Tree.{tree_of};
 ghost use Rattle.nc_expressions.specs.Levels.{rank, together, clash, kind};
+ghost use Rattle.nc_expressions.specs.Limits.{all_limits};
 ghost use Rattle.nc_expressions.specs.Machine.{On, ended, step, finish, opened, on_sign, on_operand, on_index, on_argument, on_operator, on_close, on_close_bracket, on_other, on_ended, with_parameter, with_prefix, join, attach};
 ghost use Rattle.nc_expressions.specs.Stack.{stack_of, state_of, Steps};
 
@@ -47,7 +48,7 @@ pub fn take_symbol(
     level: Level,
     symbol: Symbol,
 ) -> Result<Step, SyntaxFault>
-    ensures { Steps (step (state_of mode (stack_of pending.old.items) level) symbol) result (stack_of pending.new.items) }
+    ensures { Steps (step all_limits (state_of mode (stack_of pending.old.items) level) symbol) result (stack_of pending.new.items) }
 {
     match mode {
         Mode::Wants => on_operand(alloc, pending, level, symbol),
@@ -81,7 +82,7 @@ fn on_operand(
     level: Level,
     symbol: Symbol,
 ) -> Result<Step, SyntaxFault>
-    ensures { Steps (on_operand (stack_of pending.old.items) level symbol) result (stack_of pending.new.items) }
+    ensures { Steps (on_operand all_limits (stack_of pending.old.items) level symbol) result (stack_of pending.new.items) }
 {
     match symbol {
         Symbol::Number(number) => ended(alloc, pending, level, Expr::Number(number)),
@@ -139,7 +140,7 @@ fn on_not(pending: &mut Vec<Held>, level: Level) -> Result<Step, SyntaxFault>
 /// Opens a bracket that counts as a parenthesis.
 #[tactic(auto, unfolding(crate::specs::Machine::opened))]
 fn opened(pending: &mut Vec<Held>, level: Level, bracket: Bracket) -> Result<Step, SyntaxFault>
-    ensures { Steps (opened bracket (stack_of pending.old.items) level) result (stack_of pending.new.items) }
+    ensures { Steps (opened all_limits bracket (stack_of pending.old.items) level) result (stack_of pending.new.items) }
 {
     if DEEPEST <= depth(pending) {
         return Err(SyntaxFault::Refused(26));
@@ -179,7 +180,7 @@ fn on_argument(
     function: UnaryOp,
     symbol: Symbol,
 ) -> Result<Step, SyntaxFault>
-    ensures { Steps (on_argument function (stack_of pending.old.items) level symbol) result (stack_of pending.new.items) }
+    ensures { Steps (on_argument all_limits function (stack_of pending.old.items) level symbol) result (stack_of pending.new.items) }
 {
     match symbol {
         Symbol::Open => opened(pending, level, Bracket::Argument(function)),
@@ -196,7 +197,7 @@ fn on_ended(
     operand: Expr,
     symbol: Symbol,
 ) -> Result<Step, SyntaxFault>
-    ensures { Steps (on_ended (tree_of operand) (stack_of pending.old.items) level symbol) result (stack_of pending.new.items) }
+    ensures { Steps (on_ended all_limits (tree_of operand) (stack_of pending.old.items) level symbol) result (stack_of pending.new.items) }
 {
     match symbol {
         Symbol::Operator(op) => on_operator(alloc, pending, level, op, operand),
@@ -216,7 +217,7 @@ fn on_operator(
     op: BinaryOp,
     operand: Expr,
 ) -> Result<Step, SyntaxFault>
-    ensures { Steps (on_operator op (join (rank op) (tree_of operand) (stack_of pending.old.items)) level) result (stack_of pending.new.items) }
+    ensures { Steps (on_operator all_limits op (join (rank op) (tree_of operand) (stack_of pending.old.items)) level) result (stack_of pending.new.items) }
 {
     let left = join(alloc, pending, rank(op), operand)?;
     match together(level, kind(op)) {
@@ -230,11 +231,7 @@ fn on_operator(
 
 /// Takes a closing parenthesis behind an operand.
 #[tactic(auto, unfolding(crate::specs::Machine::on_close))]
-fn on_close(
-    alloc: Global,
-    pending: &mut Vec<Held>,
-    operand: Expr,
-) -> Result<Step, SyntaxFault>
+fn on_close(alloc: Global, pending: &mut Vec<Held>, operand: Expr) -> Result<Step, SyntaxFault>
     ensures { Steps (on_close (join 0 (tree_of operand) (stack_of pending.old.items))) result (stack_of pending.new.items) }
 {
     let inner = join(alloc, pending, 0, operand)?;
@@ -271,11 +268,7 @@ fn on_close_bracket(
 
 /// Ends an expression where no bracket is open.
 #[tactic(auto, unfolding(crate::specs::Machine::on_other))]
-fn on_other(
-    alloc: Global,
-    pending: &mut Vec<Held>,
-    operand: Expr,
-) -> Result<Step, SyntaxFault>
+fn on_other(alloc: Global, pending: &mut Vec<Held>, operand: Expr) -> Result<Step, SyntaxFault>
     ensures { Steps (on_other (join 0 (tree_of operand) (stack_of pending.old.items))) result (stack_of pending.new.items) }
 {
     let inner = join(alloc, pending, 0, operand)?;

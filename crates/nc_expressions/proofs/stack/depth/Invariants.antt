@@ -6,4 +6,5 @@ use Rattle.nc_expressions.proofs.stack.depth.Given as goal
 abbrev pub invariant-loop-one : goal.invariant-loop-one
 invariant-loop-one l = record {
   few : l.depth ≤ l.one-index;
-  counted : l.depth ≡ depth (stack_of (take l.one-index l.pending)) }
+  counted : l.depth ≡ depth (stack_of (take l.one-index l.pending));
+}
