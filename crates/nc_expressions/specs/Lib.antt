@@ -8,6 +8,4 @@ pub mod Symbols
 pub mod Syntax
 pub mod Tree
 pub mod Value
-pub mod Parsing
-pub mod Fronts
 pub mod Stops

@@ -1,14 +1,12 @@
 -- Steps along the tokens of a line.
-use Rattle.std.proofs.Common.{◌≡◌, ℕ, zero, suc, ◌+◌, ◌<◌, ◌≤◌, ◌^◌, Bool, true, false, ℤ, pos, negsuc, List, [], ◌∷◌, length, drop, get_or, Option, Some, None, refl, sym, ◌∙◌, ap, subst, arith, tests}
+use Rattle.std.proofs.Common.{◌≡◌, ℕ, zero, suc, ◌+◌, ◌<◌, ◌≤◌, ◌^◌, Bool, ℤ, pos, negsuc, List, [], ◌∷◌, length, drop, get_or, Option, Some, None, refl, sym, ◌∙◌, ap, arith, tests}
 use Rattle.std.specs.Int.RustNames.{unsigned_abs}
-use Rattle.std.specs.List.{list_any}
 use Rattle.std.specs.Option.{option_or}
 use Rattle.std.proofs.lemmas.List.{drop_more}
 use Rattle.block_scanner.specs.declared.Token.{Token}
 use Rattle.block_scanner.specs.Texts.{text_of}
 use Rattle.word_tables.specs.GroupWords.{small_whole}
-use Rattle.word_tables.specs.LargeNumbers.{is_large_token, has_large_number}
-use Rattle.word_tables.specs.Refused.{refused_whole, refused_before, refused_behind, refused_kind, refused_first, refused_word}
+use Rattle.word_tables.specs.Refused.{refused_before, refused_behind, refused_kind, refused_first, refused_word, IsLeftmost}
 
 -- what is left of a list from an element on
 left : (tokens : List Token) (i : ℕ) (t : Token) → i < length tokens → t ≡ get_or tokens i t → drop i tokens ≡ t ∷ drop (i + 1) tokens
@@ -63,3 +61,28 @@ unfolding small_whole
 whole_none (pos n) out = grind (arith, tests)
 whole_none (negsuc n) out = refl
 
+-- where no token was refused, none is with one more at the left that is not
+none_behind : (compensation : Bool) (line : List ℕ) (t : Token) (ts : List Token) → refused_first compensation line (t ∷ ts) ≡ None → (bound : ℕ)
+    → ((place : ℕ) → place < bound → refused_first compensation line (drop place ts) ≡ None)
+    → (place : ℕ) → place < suc bound → refused_first compensation line (drop place (t ∷ ts)) ≡ None
+none_behind compensation line t ts h bound others zero less = h
+none_behind compensation line t ts h bound others (suc place) less = others place (omega arith)
+
+leftmost_behind : (compensation : Bool) (line : List ℕ) (t : Token) (ts : List Token) (o : Option ℕ)
+    → refused_first compensation line (t ∷ ts) ≡ None → IsLeftmost compensation line ts o → IsLeftmost compensation line (t ∷ ts) o
+leftmost_behind compensation line t ts None h others =
+    λ place. none_behind compensation line t ts h (place + 1) (λ n less. others n) place (omega arith)
+leftmost_behind compensation line t ts (Some code) h others =
+    let within = others.1 in
+    (suc others.0, omega arith, others.2, none_behind compensation line t ts h others.0 others.3)
+
+leftmost_from : (compensation : Bool) (line : List ℕ) (t : Token) (ts : List Token) (o : Option ℕ)
+    → refused_first compensation line (t ∷ ts) ≡ o → IsLeftmost compensation line ts (refused_word compensation line ts)
+    → IsLeftmost compensation line (t ∷ ts) (option_or o (refused_word compensation line ts))
+leftmost_from compensation line t ts (Some code) h others = (zero, omega arith, h, λ n less. absurd (omega arith))
+leftmost_from compensation line t ts None h others = leftmost_behind compensation line t ts (refused_word compensation line ts) h others
+
+pub leftmost : (compensation : Bool) (line : List ℕ) (tokens : List Token) → IsLeftmost compensation line tokens (refused_word compensation line tokens)
+leftmost compensation line [] = λ place. ap (refused_first compensation line) (nothing_left [] place (omega arith))
+leftmost compensation line (t ∷ ts) =
+    leftmost_from compensation line t ts (refused_first compensation line (t ∷ ts)) refl (leftmost compensation line ts)

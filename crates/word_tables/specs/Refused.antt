@@ -1,5 +1,5 @@
 -- The refused words of a line: names, the sign $ and numbers behind G, each with its code.
-use Rattle.std.specs.Prelude.{ℕ, ◌==◌, ◌||◌, ◌&&◌, not, ℤ, Bool, if◌then◌else◌, List, [], ◌∷◌, Option, Some, None, is_some}
+use Rattle.std.specs.Prelude.{◌≡◌, ℕ, ◌<◌, ◌==◌, ◌||◌, ◌&&◌, not, ℤ, Bool, if◌then◌else◌, List, [], ◌∷◌, length, drop, Option, Some, None, is_some}
 use Rattle.std.specs.Option.{option_or}
 use Rattle.block_scanner.specs.declared.Kind.{Kind}
 use Rattle.block_scanner.specs.declared.Kind.TheVariants.{Letter, Name, Number, Text, Sign}
@@ -62,3 +62,10 @@ abbrev pub refused_word : Bool → List ℕ → List Token → Option ℕ
 refused_word compensation line [] = None
 refused_word compensation line (token ∷ tokens) =
     option_or (refused_first compensation line (token ∷ tokens)) (refused_word compensation line tokens)
+
+-- the code is that of a refused word left of which no other stands, or there is none
+abbrev pub IsLeftmost : Bool → List ℕ → List Token → Option ℕ → Type 0
+IsLeftmost compensation line tokens (Some code) = (place : ℕ) × (place < length tokens)
+    × (refused_first compensation line (drop place tokens) ≡ Some code)
+    × ((before : ℕ) → before < place → refused_first compensation line (drop before tokens) ≡ None)
+IsLeftmost compensation line tokens None = (place : ℕ) → refused_first compensation line (drop place tokens) ≡ None

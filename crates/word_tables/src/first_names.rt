@@ -38,9 +38,25 @@ fn is_control_name(text: &[u8]) -> bool
     is_one_of(
         text,
         &[
-            b"GOTOF", b"GOTOB", b"GOTO", b"GOTOC", b"IF", b"ELSE", b"ENDIF", b"WHILE", b"ENDWHILE",
-            b"REPEAT", b"UNTIL", b"LOOP", b"ENDLOOP", b"FOR", b"ENDFOR", b"CASE", b"REPEATB",
-            b"RET", b"PROC",
+            b"GOTOF",
+            b"GOTOB",
+            b"GOTO",
+            b"GOTOC",
+            b"IF",
+            b"ELSE",
+            b"ENDIF",
+            b"WHILE",
+            b"ENDWHILE",
+            b"REPEAT",
+            b"UNTIL",
+            b"LOOP",
+            b"ENDLOOP",
+            b"FOR",
+            b"ENDFOR",
+            b"CASE",
+            b"REPEATB",
+            b"RET",
+            b"PROC",
         ],
     )
 }

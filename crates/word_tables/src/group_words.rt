@@ -7,37 +7,30 @@ use crate::spelling::is_word;
 use g_groups::GWord;
 use micro_units::Num;
 
-/// Numbers behind G in a row that are words of one group.
-#[derive(Clone, Copy)]
-struct Numbers {
-    group: u8,
-    first: u16,
-    last: u16,
-}
-
-/// The numbers behind G, by groups.
-const NUMBERS: [Numbers; 21] = [
-    Numbers { group: 1, first: 0, last: 3 },
-    Numbers { group: 1, first: 33, last: 33 },
-    Numbers { group: 2, first: 4, last: 4 },
-    Numbers { group: 3, first: 25, last: 26 },
-    Numbers { group: 6, first: 17, last: 19 },
-    Numbers { group: 7, first: 40, last: 42 },
-    Numbers { group: 8, first: 54, last: 57 },
-    Numbers { group: 8, first: 500, last: 500 },
-    Numbers { group: 8, first: 505, last: 599 },
-    Numbers { group: 9, first: 53, last: 53 },
-    Numbers { group: 9, first: 153, last: 153 },
-    Numbers { group: 10, first: 60, last: 60 },
-    Numbers { group: 10, first: 64, last: 64 },
-    Numbers { group: 10, first: 641, last: 645 },
-    Numbers { group: 11, first: 9, last: 9 },
-    Numbers { group: 12, first: 601, last: 603 },
-    Numbers { group: 13, first: 71, last: 71 },
-    Numbers { group: 13, first: 710, last: 710 },
-    Numbers { group: 14, first: 90, last: 91 },
-    Numbers { group: 15, first: 94, last: 97 },
-    Numbers { group: 18, first: 450, last: 451 },
+/// The numbers behind G that are words of groups: the group, and the first and the last of numbers
+/// in a row.
+const NUMBERS: [(u8, u16, u16); 21] = [
+    (1, 0, 3),
+    (1, 33, 33),
+    (2, 4, 4),
+    (3, 25, 26),
+    (6, 17, 19),
+    (7, 40, 42),
+    (8, 54, 57),
+    (8, 500, 500),
+    (8, 505, 599),
+    (9, 53, 53),
+    (9, 153, 153),
+    (10, 60, 60),
+    (10, 64, 64),
+    (10, 641, 645),
+    (11, 9, 9),
+    (12, 601, 603),
+    (13, 71, 71),
+    (13, 710, 710),
+    (14, 90, 91),
+    (15, 94, 97),
+    (18, 450, 451),
 ];
 
 /// The word with this number behind G, or none where the table of groups has no such word. The
@@ -73,7 +66,7 @@ pub(crate) fn word_with(code: u16) -> Option<GWord>
 {
     match row_of(code) {
         Some(place) => Some(GWord {
-            group: NUMBERS[place].group,
+            group: NUMBERS[place].0,
             code,
         }),
         None => None,
@@ -82,12 +75,12 @@ pub(crate) fn word_with(code: u16) -> Option<GWord>
 
 /// The place of the first row with this number.
 fn row_of(code: u16) -> Option<usize>
-    ensures value { result ≡ position (λ row. nat_le row.first code && nat_le code row.last) NUMBERS }
+    ensures value { result ≡ position (λ row. nat_le row.1 code && nat_le code row.2) NUMBERS }
     ensures within { IfSome result (λ place. place < 21) }
 {
     NUMBERS
         .iter()
-        .position(|row| row.first <= code && code <= row.last)
+        .position(|row| row.1 <= code && code <= row.2)
 }
 
 /// The word with this name, in upper or lower case, or none where the table of groups has no such

@@ -39,15 +39,7 @@ pub(crate) fn refused_name(text: &[u8]) -> Option<u16>
     } else if is_one_of(
         text,
         &[
-            b"AR",
-            b"AP",
-            b"RP",
-            b"CIP",
-            b"CT",
-            b"TURN",
-            b"ASPLINE",
-            b"BSPLINE",
-            b"CSPLINE",
+            b"AR", b"AP", b"RP", b"CIP", b"CT", b"TURN", b"ASPLINE", b"BSPLINE", b"CSPLINE",
             b"POLY",
         ],
     ) {

@@ -5,7 +5,7 @@ ghost use Rattle.block_scanner.specs.Scanned.{IsScanned, IsTokenOf};
 ghost use Rattle.block_scanner.specs.Texts.{text_of};
 ghost use Rattle.micro_units.specs.NumberText.{number_of};
 ghost use Rattle.word_tables.specs.GroupWords.{small_whole};
-ghost use Rattle.word_tables.specs.Refused.{refused_g, refused_kind, refused_whole, refused_value, refused_before, refused_behind, refused_first, refused_word};
+ghost use Rattle.word_tables.specs.Refused.{refused_g, refused_kind, refused_whole, refused_value, refused_before, refused_behind, refused_first, refused_word, IsLeftmost};
 
 use crate::group_words::{small_whole, word_with};
 use crate::refused_names::refused_name;
@@ -15,8 +15,16 @@ use micro_units::Num;
 /// The code of the leftmost refused word of a line, 40 to 57, or none where the line has none.
 ///
 /// G41 and G42 are accepted with tool radius `compensation`.
-#[tactic(auto, using(crate::proofs::Lines::word_steps))]
 pub fn refused_word(words: &Words<'_>, compensation: bool) -> Option<u16>
+    requires { IsScanned words.now }
+    ensures exact { result ≡ refused_word compensation words.now.line.now words.now.tokens.items }
+    ensures leftmost { IsLeftmost compensation words.now.line.now words.now.tokens.items result }
+{
+    refused_from_left(words, compensation)
+}
+
+#[tactic(auto, using(crate::proofs::Lines::word_steps))]
+fn refused_from_left(words: &Words<'_>, compensation: bool) -> Option<u16>
     requires { IsScanned words.now }
     ensures { result ≡ refused_word compensation words.now.line.now words.now.tokens.items }
 {

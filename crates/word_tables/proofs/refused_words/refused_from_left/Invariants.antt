@@ -1,6 +1,6 @@
 use Rattle.std.proofs.Common.{◌≡◌, drop}
 use Rattle.word_tables.specs.Refused.{refused_word}
-use Rattle.word_tables.proofs.refused_words.refused_word.Given as goal
+use Rattle.word_tables.proofs.refused_words.refused_from_left.Given as goal
 
 abbrev pub invariant-loop-index : goal.invariant-loop-index
 invariant-loop-index l =
