@@ -1,5 +1,5 @@
 -- A refusal passes through what would be read behind it.
-use Rattle.std.proofs.Common.{◌≡◌, ℕ, refl, ap, Result, Ok, Err}
+use Rattle.std.proofs.Common.{ℕ, ap, Result, Err}
 use Rattle.nc_expressions.specs.declared.faults.SyntaxFault.{SyntaxFault}
 use Rattle.nc_expressions.specs.declared.faults.SyntaxFault.TheVariants.{Refused, NoMemory}
 use Rattle.nc_syntax.specs.Reading.{◌>>=◌, Gives}

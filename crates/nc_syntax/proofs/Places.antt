@@ -1,5 +1,5 @@
 -- What stands at a place of a line.
-use Rattle.std.proofs.Common.{◌≡◌, ℕ, ◌<◌, ◌≤◌, List, length, get_or, refl, ap, sym, ◌∙◌, Option, Some, None, arith}
+use Rattle.std.proofs.Common.{◌≡◌, ℕ, ◌<◌, ◌≤◌, List, length, get_or, refl, Some}
 use Rattle.std.specs.Prelude.{slice_get}
 use Rattle.std.proofs.lemmas.Option.{slice_get_read, slice_get_past}
 use Rattle.block_scanner.specs.declared.Token.{Token}
@@ -7,10 +7,10 @@ use Rattle.block_scanner.specs.declared.Words.{Words}
 use Rattle.block_scanner.specs.Texts.{text_of}
 use Rattle.nc_expressions.specs.declared.symbols.Symbol.{Symbol}
 use Rattle.nc_expressions.specs.Symbols.{symbols_of}
-use Rattle.nc_expressions.proofs.Beginnings.{within_line, past_line}
+use Rattle.nc_expressions.proofs.Beginnings.{within_line}
 use Rattle.nc_syntax.specs.declared.pieces.Piece.{Piece}
 use Rattle.nc_syntax.specs.declared.pieces.Piece.TheVariants as piece
-use Rattle.nc_syntax.specs.Pieces.{piece_of, found_piece, piece_at, found_text, text_at}
+use Rattle.nc_syntax.specs.Pieces.{piece_of, piece_at, text_at}
 
 token_read : (words : Words) (at : ℕ) (t : Token) → at < length words.tokens.items → t ≡ get_or words.tokens.items at t → slice_get words.tokens.items at ≡ Some t
 token_read words at t h is = slice_get_read words.tokens.items (length words.tokens.items) at t refl h is

@@ -1,5 +1,5 @@
 -- The block that a line says, or its refusal.
-use Rattle.std.specs.Prelude.{ℕ, ◌+◌, ◌==◌, ◌&&◌, Bool, true, false, List, Option, Some, None, Result, Ok, Err, if◌then◌else◌}
+use Rattle.std.specs.Prelude.{ℕ, ◌+◌, ◌&&◌, Bool, true, false, List, Option, Some, None, Result, Ok, Err, if◌then◌else◌}
 use Rattle.block_scanner.specs.declared.Words.{Words}
 use Rattle.word_tables.specs.Refused.{refused_word}
 use Rattle.word_tables.specs.LargeNumbers.{has_large_number}

@@ -1,12 +1,11 @@
 -- What the body of a block says: its first token chooses the form.
-use Rattle.std.specs.Prelude.{ℕ, ◌+◌, ◌==◌, ◌&&◌, Bool, true, false, List, Option, Some, None, Result, Ok, Err, if◌then◌else◌, codes}
+use Rattle.std.specs.Prelude.{ℕ, ◌+◌, ◌==◌, ◌&&◌, Bool, true, false, List, Option, Some, None, Result, Ok, if◌then◌else◌, codes}
 use Rattle.std.specs.Option.{option_or}
 use Rattle.block_scanner.specs.declared.Words.{Words}
 use Rattle.word_tables.specs.Tables.{is_table_word}
 use Rattle.nc_expressions.specs.Symbols.{is_word}
 use Rattle.nc_syntax.specs.declared.blocks.CoordWord.{CoordWord}
 use Rattle.nc_syntax.specs.declared.blocks.CoordWord.TheVariants as coord
-use Rattle.nc_syntax.specs.declared.blocks.FrameWord.{FrameWord}
 use Rattle.nc_syntax.specs.declared.blocks.FrameWord.TheVariants as frame
 use Rattle.nc_syntax.specs.declared.blocks.Way.{Way}
 use Rattle.nc_syntax.specs.declared.bodies.Control.{Control}

@@ -1,5 +1,5 @@
 -- Coordination and messages.
-use Rattle.std.specs.Prelude.{ℕ, zero, suc, ◌+◌, ◌-◌, ◌==◌, ◌&&◌, ◌||◌, nat_lt, Bool, true, false, List, [], ◌∷◌, length, take, drop, Option, Some, None, Result, Ok, Err, slice_range, reverse, position, if◌then◌else◌, codes}
+use Rattle.std.specs.Prelude.{ℕ, zero, suc, ◌+◌, ◌-◌, ◌==◌, ◌||◌, nat_lt, Bool, true, false, List, [], ◌∷◌, length, Option, Some, None, Result, Ok, Err, slice_range, reverse, position, if◌then◌else◌, codes}
 use Rattle.std.specs.Str.{bytes_eq}
 use Rattle.block_scanner.specs.declared.Token.{Token}
 use Rattle.block_scanner.specs.declared.Words.{Words}
@@ -7,7 +7,7 @@ use Rattle.nc_syntax.specs.declared.blocks.CoordWord.{CoordWord}
 use Rattle.nc_syntax.specs.declared.pieces.Piece.{Piece}
 use Rattle.nc_syntax.specs.declared.pieces.Piece.TheVariants as piece
 use Rattle.nc_syntax.specs.Pieces.{piece_at, text_at}
-use Rattle.nc_syntax.specs.Marks.{end_at, open_at, close_at, comma_at}
+use Rattle.nc_syntax.specs.Marks.{open_at, close_at, comma_at}
 use Rattle.nc_syntax.specs.Reading.{◌>>=◌, expression_at}
 use Rattle.nc_syntax.specs.Lists.{Item, list_at}
 use Rattle.nc_syntax.specs.Structures.{alone, is_close, is_open, is_close_kind}

@@ -1,5 +1,5 @@
 -- Signs and names that a form wants at a place, and what comes at its end.
-use Rattle.std.specs.Prelude.{ℕ, ℤ, ◌+◌, Bool, true, false, ◌&&◌, List, Option, Some, None, Result, Ok, Err, if◌then◌else◌}
+use Rattle.std.specs.Prelude.{ℕ, ◌+◌, Bool, true, false, ◌&&◌, List, Result, Ok, Err, if◌then◌else◌}
 use Rattle.block_scanner.specs.declared.Words.{Words}
 use Rattle.word_tables.specs.Tables.{is_first_name}
 use Rattle.nc_expressions.specs.Symbols.{is_word}

@@ -1,5 +1,5 @@
 -- What each token of a line is to a block.
-use Rattle.std.specs.Prelude.{ℕ, ℤ, ◌+◌, ◌≤◌, Bool, true, false, List, [], ◌∷◌, Option, Some, None, Result, Ok, Err, slice_get, nat_lt, if◌then◌else◌}
+use Rattle.std.specs.Prelude.{ℕ, ◌+◌, List, [], Option, Some, None, slice_get, nat_lt, if◌then◌else◌}
 use Rattle.block_scanner.specs.declared.Kind.{Kind}
 use Rattle.block_scanner.specs.declared.Kind.TheVariants as kind
 use Rattle.block_scanner.specs.declared.Sign.{Sign}
@@ -9,7 +9,7 @@ use Rattle.block_scanner.specs.declared.Words.{Words}
 use Rattle.block_scanner.specs.Texts.{text_of}
 use Rattle.nc_expressions.specs.declared.symbols.Symbol.{Symbol}
 use Rattle.nc_expressions.specs.declared.symbols.Symbol.TheVariants as symbol
-use Rattle.nc_expressions.specs.Symbols.{symbols_of, is_word}
+use Rattle.nc_expressions.specs.Symbols.{symbols_of}
 use Rattle.nc_syntax.specs.declared.pieces.Piece.{Piece}
 use Rattle.nc_syntax.specs.declared.pieces.Piece.TheVariants as piece
 

@@ -1,4 +1,4 @@
-use Rattle.std.proofs.Common.{◌≡◌, ◌≤◌, ◌-◌, length, drop, map}
+use Rattle.std.proofs.Common.{◌≡◌, ◌≤◌, ◌-◌, length, drop}
 use Rattle.nc_syntax.specs.Lists.{listed, list_at}
 use Rattle.nc_syntax.specs.Jumps.{pair_at}
 use Rattle.nc_syntax.proofs.jumps.pairs_at.Given as goal

@@ -1,5 +1,5 @@
 -- None of the places passed so far has what fits no form.
-use Rattle.std.proofs.Common.{◌≡◌, ◌≤◌, ◌-◌}
+use Rattle.std.proofs.Common.{◌≡◌, ◌-◌}
 use Rattle.nc_syntax.specs.Coordination.{has_broken}
 use Rattle.nc_syntax.proofs.messages.has_broken.Given as goal
 

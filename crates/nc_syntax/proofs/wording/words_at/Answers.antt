@@ -1,4 +1,3 @@
-use Rattle.std.proofs.Common.{arith}
 use Rattle.nc_syntax.specs.Indices.{WordFits}
 use Rattle.nc_syntax.specs.Statement.{word_view}
 use Rattle.nc_syntax.specs.Wording.{word_item_at}

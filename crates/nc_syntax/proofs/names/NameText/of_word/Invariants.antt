@@ -1,5 +1,5 @@
 -- The bytes pushed so far are the first of the word, in upper case.
-use Rattle.std.proofs.Common.{◌≡◌, take, map}
+use Rattle.std.proofs.Common.{◌≡◌, take}
 use Rattle.nc_syntax.specs.Names.{upper}
 use Rattle.nc_syntax.proofs.names.NameText.of_word.Given as goal
 
