@@ -24,14 +24,14 @@ pub stop_on : (ss : List Symbol) (at : ℕ) (s : Symbol) (state next : State) �
 unfolding stop_from
 stop_on ss at s state next h is e =
     ap (λ (l : List Symbol). length ss - length l)
-        (one_step ss at s state h is ∙ ap (λ (n : Next). stop_here n (drop at ss) (not_taken (drop (at + 1) ss))) e)
+    (one_step ss at s state h is ∙ ap (λ (n : Next). stop_here n (drop at ss) (not_taken (drop (at + 1) ss))) e)
 
 pub stop_ends : (ss : List Symbol) (at : ℕ) (s : Symbol) (state : State) (t : Tree) → at < length ss → s ≡ get_or ss at s → step all_limits state s ≡ Ends t →
     stop_from ss at state ≡ at
 unfolding stop_from
 stop_ends ss at s state t h is e =
     ap (λ (l : List Symbol). length ss - length l)
-        (one_step ss at s state h is ∙ ap (λ (n : Next). stop_here n (drop at ss) (not_taken (drop (at + 1) ss))) e)
+    (one_step ss at s state h is ∙ ap (λ (n : Next). stop_here n (drop at ss) (not_taken (drop (at + 1) ss))) e)
     ∙ left_behind ss at (omega arith)
 
 pub stop_refused : (ss : List Symbol) (at : ℕ) (s : Symbol) (state : State) (code : ℕ) → at < length ss → s ≡ get_or ss at s → step all_limits state s ≡ Refuse code →
@@ -39,7 +39,7 @@ pub stop_refused : (ss : List Symbol) (at : ℕ) (s : Symbol) (state : State) (c
 unfolding stop_from
 stop_refused ss at s state code h is e =
     ap (λ (l : List Symbol). length ss - length l)
-        (one_step ss at s state h is ∙ ap (λ (n : Next). stop_here n (drop at ss) (not_taken (drop (at + 1) ss))) e)
+    (one_step ss at s state h is ∙ ap (λ (n : Next). stop_here n (drop at ss) (not_taken (drop (at + 1) ss))) e)
     ∙ left_behind ss at (omega arith)
 
 pub stop_past : (ss : List Symbol) (at : ℕ) (state : State) → length ss ≤ at → at ≤ length ss → stop_from ss at state ≡ at
