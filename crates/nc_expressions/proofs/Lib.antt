@@ -4,6 +4,7 @@ pub mod Complete
 pub mod Leftmost
 pub mod LevelLaws
 pub mod Parsed
+pub mod Stopped
 pub mod Runs
 pub mod Softer
 pub mod Sound

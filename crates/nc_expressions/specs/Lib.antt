@@ -8,3 +8,4 @@ pub mod Symbols
 pub mod Syntax
 pub mod Tree
 pub mod Value
+pub mod Stops

@@ -7,6 +7,7 @@ mod levels;
 mod parsing;
 mod stack;
 mod steps;
+mod stops;
 mod symbols;
 mod trees;
 mod values;
@@ -14,6 +15,8 @@ mod values;
 pub use faults::SyntaxFault;
 pub use laws::one_tree_at_most;
 pub use parsing::{parse_constant, parse_expr};
+pub use stops::expr_stop;
+pub use symbols::{Symbol, index_of, symbol_at};
 pub use trees::{BinaryOp, Expr, UnaryOp};
 pub use values::{Names, eval};
 

@@ -1,0 +1,139 @@
+//! The block of a line.
+
+ghost use Rattle.std.specs.Prelude.{◌≡◌, ◌<◌, ◌≤◌, ◌+◌, length, IfOk};
+ghost use Rattle.std.specs.Bool.{OnTrue};
+ghost use Rattle.block_scanner.specs.Scanned.{IsScanned};
+ghost use Rattle.nc_syntax.specs.Blocks.{skip_of, has_number, number_at, label_at, head_of, block_of, statement_of};
+ghost use Rattle.nc_syntax.specs.Indices.{StatementFits};
+ghost use Rattle.nc_syntax.specs.Reading.{Gives};
+ghost use Rattle.nc_syntax.specs.Statement.{statement_view, view_of};
+
+use crate::blocks::Block;
+use crate::bodies::body_at;
+use crate::names::NameText;
+use crate::pieces::{Piece, piece_at, text_at};
+use crate::reading::block_number_at;
+use block_scanner::Words;
+use nc_expressions::SyntaxFault;
+use std::alloc::Global;
+use word_tables::{has_large_number, refused_word};
+
+/// Whether `/` begins the line, and the place behind it.
+#[tactic(auto, unfolding(crate::specs::Blocks::skip_of))]
+fn skip_of(words: &Words<'_>) -> Result<(bool, usize), u16>
+    requires { IsScanned words.now }
+    ensures value { result ≡ skip_of words.now }
+    ensures within { IfOk result (λ p. p.1 ≤ length words.now.tokens.items) }
+{
+    match piece_at(words, 0) {
+        Piece::Slash => match piece_at(words, 1) {
+            Piece::Number(_) => Err(59),
+            _ => Ok((true, 1)),
+        },
+        _ => Ok((false, 0)),
+    }
+}
+
+/// Whether N and a number stand at a place.
+#[tactic(auto, unfolding(crate::specs::Blocks::has_number))]
+fn has_number(words: &Words<'_>, at: usize) -> bool
+    requires { IsScanned words.now }
+    ensures value { result ≡ has_number words.now at }
+    ensures within { OnTrue result (at + 1 < length words.now.tokens.items) }
+{
+    match piece_at(words, at) {
+        Piece::Letter(b'N') => matches!(piece_at(words, at + 1), Piece::Number(_)),
+        _ => false,
+    }
+}
+
+/// The number of the block, if it stands at a place, and the place behind it.
+#[tactic(auto, unfolding(crate::specs::Blocks::number_at))]
+fn number_at(words: &Words<'_>, at: usize) -> Result<(Option<u32>, usize), u16>
+    requires scanned { IsScanned words.now }
+    requires within { at ≤ length words.now.tokens.items }
+    ensures value { result ≡ number_at words.now at }
+    ensures within { IfOk result (λ p. p.1 ≤ length words.now.tokens.items) }
+{
+    if has_number(words, at) {
+        let number = block_number_at(words, at + 1)?;
+        Ok((Some(number), at + 2))
+    } else {
+        Ok((None, at))
+    }
+}
+
+/// The label of the block, if it stands at a place, and the place behind it.
+#[tactic(auto, unfolding(crate::specs::Blocks::label_at))]
+fn label_at(words: &Words<'_>, at: usize) -> (Option<NameText>, usize)
+    requires scanned { IsScanned words.now }
+    requires within { at ≤ length words.now.tokens.items }
+    ensures value { result ≡ label_at words.now at }
+    ensures within { result.1 ≤ length words.now.tokens.items }
+{
+    match piece_at(words, at) {
+        Piece::Name => match piece_at(words, at + 1) {
+            Piece::Colon => (Some(NameText::of_word(text_at(words, at))), at + 2),
+            _ => (None, at),
+        },
+        _ => (None, at),
+    }
+}
+
+/// Whether `/` begins the line and the number of the block, and the place behind them.
+#[tactic(auto, unfolding(crate::specs::Blocks::head_of))]
+fn head_of(words: &Words<'_>) -> Result<(bool, Option<u32>, usize), u16>
+    requires { IsScanned words.now }
+    ensures value { result ≡ head_of words.now }
+    ensures within { IfOk result (λ p. p.2 ≤ length words.now.tokens.items) }
+{
+    let (skip, place) = skip_of(words)?;
+    let (number, end) = number_at(words, place)?;
+    Ok((skip, number, end))
+}
+
+/// The block that the tokens of a line spell.
+#[tactic(auto, using(crate::proofs::Passing::passing), unfolding(crate::specs::Blocks::block_of))]
+fn block_of(alloc: Global, words: &Words<'_>) -> Result<Block, SyntaxFault>
+    requires { IsScanned words.now }
+    ensures exact { Gives view_of (block_of words.now) result }
+    ensures indices { IfOk result (λ b. StatementFits (statement_view b.stmt)) }
+{
+    match head_of(words) {
+        Ok((skip, number, place)) => {
+            let (label, body) = label_at(words, place);
+            let stmt = body_at(alloc, words, body)?;
+            Ok(Block {
+                skip,
+                number,
+                label,
+                stmt,
+            })
+        }
+        Err(code) => Err(SyntaxFault::Refused(code)),
+    }
+}
+
+/// Reads one scanned line of a part program.
+///
+/// `compensation` says whether the job accepts tool radius compensation. `Refused` has the code of
+/// the first broken rule: the leftmost refused word; else 21 where a number is out of range; else
+/// what is wrong with the form, at the leftmost place at which the line goes on to no form.
+/// `NoMemory` says nothing of the line.
+#[tactic(auto, unfolding(crate::specs::Blocks::statement_of))]
+pub fn statement(alloc: Global, words: &Words<'_>, compensation: bool) -> Result<Block, SyntaxFault>
+    requires { IsScanned words.now }
+    ensures exact { Gives view_of (statement_of words.now compensation) result }
+    ensures indices { IfOk result (λ b. StatementFits (statement_view b.stmt)) }
+{
+    match refused_word(words, compensation) {
+        Some(code) => Err(SyntaxFault::Refused(code)),
+        None => {
+            if has_large_number(words) {
+                Err(SyntaxFault::Refused(21))
+            } else {
+                block_of(alloc, words)
+            }
+        }
+    }
+}
