@@ -1,0 +1,14 @@
+//! What a channel does with its program: it executes one block after another, moves its axes, and
+//! ends or alarms.
+#![tactic(auto)]
+
+mod motions;
+mod parameters;
+mod progress;
+mod run;
+
+pub use motions::{Item, Positions};
+pub use run::{ChannelEnd, ChannelRun, SetUp, run_program};
+
+#[cfg(test)]
+mod tests;
