@@ -2,11 +2,13 @@
 //! ends or alarms.
 #![tactic(auto)]
 
+mod built;
 mod motions;
 mod parameters;
 mod progress;
 mod run;
 
+pub use built::is_built;
 pub use motions::{Item, Positions};
 pub use run::{ChannelEnd, ChannelRun, SetUp, run_program};
 
