@@ -1,5 +1,5 @@
 -- Where the axes of a channel stand, and the motions that take them on.
-use Rattle.std.specs.Prelude.{ℕ, ℤ, pos, ◌==◌, nat_le, Bool, true, if◌then◌else◌, List, length, find, filter_map, slice_index_or, Option, None, Some, option_map, unwrap_or, Result, Ok, Err}
+use Rattle.std.specs.Prelude.{◌≡◌, ℕ, ℤ, pos, ◌==◌, nat_le, Bool, true, if◌then◌else◌, List, length, find, filter_map, slice_index_or, Option, None, Some, option_map, unwrap_or, Result, Ok, Err}
 use Rattle.std.specs.List.{last_or, list_all, range_with_len}
 use Rattle.std.specs.Int.RustNames.{unsigned_abs}
 use Rattle.micro_units.specs.Rounding.{half_away}
@@ -48,3 +48,11 @@ item_of line ends = if length ends == 0 then None else Some (record { line = lin
 -- the motion of a block on this line that programs these values; alarm 13 where an end is out of range
 unfoldable pub moved : (ℕ → ℤ) → ℕ → List (Option ℤ) → Result (Option Item) ℕ
 moved at line programmed = if list_all is_in_reach programmed then Ok (item_of line (ends_from at programmed)) else Err 13
+
+-- the axes stand at the programmed ends, and elsewhere where they stood
+abbrev pub StandsMoved : List (Option ℤ) → List ℤ → List ℤ → Type 0
+StandsMoved programmed old new = (axis : ℕ) → positions_in new axis ≡ unwrap_or (end_for programmed axis) (positions_in old axis)
+
+-- the axes stand where these motions leave them
+abbrev pub StandsAfter : List Item → List ℤ → List ℤ → Type 0
+StandsAfter items start at = (axis : ℕ) → positions_in at axis ≡ left_at items (positions_in start) axis

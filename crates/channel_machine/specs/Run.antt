@@ -1,12 +1,15 @@
 -- The run of a channel's program, told over the list of the blocks that it has executed.
-use Rattle.std.specs.Prelude.{ℕ, zero, suc, ℤ, ◌×◌, Bool, if◌then◌else◌, List, [], ◌∷◌, ◌++◌, length, fold, filter_map, slice_get, Option, None, Some, Result, Ok, Err}
+use Rattle.std.specs.Prelude.{◌≡◌, IsTrue, MatchResult, ℕ, zero, suc, ℤ, Bool, if◌then◌else◌, List, [], ◌∷◌, ◌++◌, length, fold, filter_map, slice_get, Option, None, Some, Result, Ok, Err}
 use Rattle.nc_expressions.specs.Value.{◌>>=◌}
 use Rattle.nc_faults.specs.declared.Alarm.{Alarm}
 use Rattle.nc_syntax.specs.declared.blocks.Block.{Block}
-use Rattle.nc_syntax.specs.Statement.{BlockView, Statement, view_of}
+use Rattle.nc_syntax.specs.Indices.{StatementFits}
+use Rattle.nc_syntax.specs.Statement.{BlockView, Statement, statement_view, view_of}
+use Rattle.channel_machine.specs.Built.{is_built}
 use Rattle.channel_machine.specs.Motions.{positions_in, left_at, moved}
 use Rattle.channel_machine.specs.Words.{zeros, begun, words_done, words_in}
 use Rattle.channel_machine.specs.declared.motions.Item.{Item}
+use Rattle.channel_machine.specs.declared.progress.Progress.{Progress}
 use Rattle.channel_machine.specs.declared.run.ChannelEnd.{ChannelEnd}
 use Rattle.channel_machine.specs.declared.run.ChannelEnd.TheVariants.{Ended, Alarmed}
 use Rattle.channel_machine.specs.declared.run.SetUp.{SetUp}
@@ -90,6 +93,17 @@ run_after set_up header blocks (suc more) past =
 -- the run of a program, whose header stands on this line
 unfoldable pub run_of : SetUp → ℕ → List (ℕ × BlockView) → RunView
 run_of set_up header blocks = run_after set_up header blocks 100000 []
+
+-- ---- answers
+
+-- the statement is built, and each parameter that it names by its number is one of the 1,000
+abbrev pub IsReady : ℕ × Block → Type 0
+IsReady b = IsTrue (is_built (statement_view b.1.stmt)) × StatementFits (statement_view b.1.stmt)
+
+-- a block leaves this, or alarms
+abbrev pub Leaves : Result Effect ℕ → Result (Option Item) ℕ → Progress → Type 0
+Leaves effect result p =
+    MatchResult result (λ item. effect ≡ Ok (record { parameters = p.parameters; item = item; ends = p.ends })) (λ code. effect ≡ Err code)
 
 -- a block with its line, as a contract sees it
 abbrev pub placed_view : ℕ × Block → ℕ × BlockView

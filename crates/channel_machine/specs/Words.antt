@@ -1,5 +1,5 @@
 -- What the words of a block do, one after another from left to right.
-use Rattle.std.specs.Prelude.{ℕ, ℤ, pos, ◌×◌, Bool, true, false, if◌then◌else◌, is_some, List, [], ◌∷◌, codes, replicate, slice_index_or, slice_set, Option, None, Some, Result, Ok, Err}
+use Rattle.std.specs.Prelude.{◌≡◌, ⊤, MatchResult, IsOk, ℕ, ℤ, pos, Bool, true, false, if◌then◌else◌, is_some, List, [], ◌∷◌, codes, replicate, slice_index_or, slice_set, Option, None, Some, Result, Ok, Err}
 use Rattle.std.specs.Str.{bytes_eq}
 use Rattle.nc_expressions.specs.Symbols.{index_of}
 use Rattle.nc_expressions.specs.Tree.{Tree}
@@ -35,8 +35,13 @@ nothing_programmed = replicate 16 None
 abbrev pub begun : List ℤ → Progress
 begun parameters = record { parameters = parameters; programmed = nothing_programmed; ends = false }
 
-abbrev pub assigned : Progress → ℕ → ℤ → Progress
-assigned p index value = record p { parameters = slice_set p.parameters index value }
+-- a parameter gets the value of an expression
+abbrev pub assigned : Progress → ℕ → Tree → Result Progress ℕ
+assigned p index tree = value_in p.parameters tree >>= λ value. Ok (record p { parameters = slice_set p.parameters index value })
+
+-- the index comes before the value
+abbrev pub assigned_at : Progress → Tree → Tree → Result Progress ℕ
+assigned_at p at tree = value_in p.parameters at >>= λ z. index_in (index_of z) >>= λ index. assigned p index tree
 
 -- the axis of the slot that has this name
 abbrev pub axis_of : List (Option ℕ) → List ℕ → Option ℕ
@@ -63,17 +68,18 @@ operand_read parameters (Value tree) = value_in parameters tree >>= λ value. Ok
 operand_read parameters (Text bytes) = Ok None
 operand_read parameters (AxisName bytes) = Ok None
 
+-- the bracket comes before the operand
+abbrev pub aux_read : List ℤ → Option Tree → OperandView → Result (Option ℤ) ℕ
+aux_read parameters index operand = option_read parameters index >>= λ _. operand_read parameters operand
+
 -- what a word does, or its first alarm. G0 and G1 do nothing here, and a word that is not built yet does not occur
 unfoldable pub word_done : List (Option ℕ) → Progress → WordView → Result Progress ℕ
-word_done slots p (Assign index tree) = value_in p.parameters tree >>= λ value. Ok (assigned p index value)
-word_done slots p (AssignAt at tree) =
-    value_in p.parameters at >>= λ z. index_in (index_of z) >>= λ index.
-    value_in p.parameters tree >>= λ value. Ok (assigned p index value)
+word_done slots p (Assign index tree) = assigned p index tree
+word_done slots p (AssignAt at tree) = assigned_at p at tree
 word_done slots p (G group code) = Ok p
 word_done slots p (Axis name measure tree) = value_in p.parameters tree >>= λ value. programmed p (axis_of slots name) value
 word_done slots p (Radius tree) = Ok p
-word_done slots p (Aux name index operand) =
-    option_read p.parameters index >>= λ i. operand_read p.parameters operand >>= λ o. Ok p
+word_done slots p (Aux name index operand) = aux_read p.parameters index operand >>= λ _. Ok p
 word_done slots p End = Ok (record p { ends = true })
 
 -- one word after another; the first alarm counts
@@ -85,3 +91,12 @@ words_done slots p (word ∷ words) = word_done slots p word >>= λ q. words_don
 abbrev pub words_in : Statement → List WordView
 words_in (WordBlock words) = words
 words_in statement = []
+
+-- ---- answers
+
+-- the words have done this, or alarm
+abbrev pub Acts : Result Progress ℕ → Result ⊤ ℕ → Progress → Type 0
+Acts done result new = MatchResult result (λ _. done ≡ Ok new) (λ code. done ≡ Err code)
+
+abbrev pub IsRead : Result (Option ℤ) ℕ → Result ⊤ ℕ → Type 0
+IsRead read result = MatchResult result (λ _. IsOk read) (λ code. read ≡ Err code)

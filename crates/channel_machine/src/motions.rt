@@ -1,5 +1,9 @@
 //! Where axes stand, and the motion of a block.
 
+ghost use Rattle.std.specs.Prelude.{◌≡◌, IsTrue, OnOk, OnErr};
+ghost use Rattle.std.specs.List.{list_all};
+ghost use Rattle.channel_machine.specs.Motions as model;
+
 use arrayvec::ArrayVec;
 use axis_sets::AxisId;
 use micro_units::{Num, Um};
@@ -21,7 +25,9 @@ pub struct Item {
 const RANGE: u32 = 10_000_000;
 
 /// Whether no value is programmed, or one for a position in range.
+#[tactic(auto, unfolding(crate::specs::Motions::end_of))]
 fn is_in_reach(value: Option<Num>) -> bool
+    ensures { result ≡ model.is_in_reach value }
 {
     match value {
         Some(value) => match value.to_um() {
@@ -34,12 +40,16 @@ fn is_in_reach(value: Option<Num>) -> bool
 
 /// Whether all that is programmed is for positions in range.
 fn are_in_reach(programmed: &[Option<Num>; 16]) -> bool
+    ensures { result ≡ list_all model.is_in_reach programmed.now }
 {
     programmed.iter().all(|value| is_in_reach(*value))
 }
 
 /// The position that a value programs.
+#[tactic(auto, unfolding(crate::specs::Motions::end_of))]
 fn end_of(value: Num) -> Um
+    requires { IsTrue (model.is_in_reach (Some value)) }
+    ensures { result ≡ model.end_of value }
 {
     match value.to_um() {
         Ok(end) => end,
@@ -49,6 +59,9 @@ fn end_of(value: Num) -> Um
 
 /// Moves the axes to their programmed ends, and answers their starts and ends.
 fn move_axes(programmed: &[Option<Num>; 16], at: &mut Positions) -> Ends
+    requires { IsTrue (list_all model.is_in_reach programmed.now) }
+    ensures ends { result.axes ≡ model.ends_from (model.positions_in at.old) programmed.now }
+    ensures stand { model.StandsMoved programmed.now at.old at.new }
 {
     let mut axes = ArrayVec::new();
     for index in 0..16 {
@@ -62,11 +75,15 @@ fn move_axes(programmed: &[Option<Num>; 16], at: &mut Positions) -> Ends
 }
 
 /// Makes the motion of a block that programs these values, or alarms.
+#[tactic(auto, unfolding(crate::specs::Motions::moved))]
 pub(crate) fn make_item(
     line: u32,
     programmed: &[Option<Num>; 16],
     at: &mut Positions,
 ) -> Result<Option<Item>, u16>
+    ensures made { result ≡ model.moved (model.positions_in at.old) line programmed.now }
+    ensures stand { OnOk result (model.StandsMoved programmed.now at.old at.new) }
+    ensures unmoved { OnErr result (at.new ≡ at.old) }
 {
     if !are_in_reach(programmed) {
         return Err(13);

@@ -1,10 +1,11 @@
 //! The words of a block, which act from left to right.
 
-ghost use Rattle.std.specs.Prelude.{◌≡◌, ◌≤◌, ℕ, All, IfOk, map, OnOk};
+ghost use Rattle.std.specs.Prelude.{◌≡◌, ◌≤◌, ℕ, All, IfOk, map};
 ghost use Rattle.nc_expressions.specs.Tree.{tree_of, IndicesFit};
 ghost use Rattle.nc_syntax.specs.Indices.{WordFits, OptionFits, OperandFits};
 ghost use Rattle.nc_syntax.specs.Statement.{word_view, operand_view, tree_option};
 ghost use Rattle.channel_machine.specs.Words as model;
+ghost use Rattle.channel_machine.specs.Words.{Acts, IsRead};
 
 use crate::parameters::Parameters;
 use axis_sets::AxisId;
@@ -63,13 +64,10 @@ fn operand_read(parameters: &Parameters, operand: &Operand) -> Result<Option<Num
 }
 
 /// The values of a word that moves nothing, whose alarms count.
-fn read(
-    parameters: &Parameters,
-    index: &Option<Expr>,
-    operand: &Operand,
-) -> Result<(), u16>
+fn read(parameters: &Parameters, index: &Option<Expr>, operand: &Operand) -> Result<(), u16>
     requires index { OptionFits (tree_option index.now) }
     requires operand { OperandFits (operand_view operand.now) }
+    ensures { IsRead (model.aux_read parameters.now (tree_option index.now) (operand_view operand.now)) result }
 {
     let _index = option_read(parameters, index)?;
     let _operand = operand_read(parameters, operand)?;
@@ -78,7 +76,9 @@ fn read(
 
 impl Progress {
     /// Before the first block.
-    pub(crate) fn new(alloc: Global) -> Result<Progress, AllocError> {
+    pub(crate) fn new(alloc: Global) -> Result<Progress, AllocError>
+        ensures { IfOk result (λ p. p.parameters ≡ model.zeros) }
+    {
         let parameters = Parameters::new(alloc)?;
         Ok(Progress {
             parameters,
@@ -88,13 +88,20 @@ impl Progress {
     }
 
     /// Before the first word of a block.
-    pub(crate) fn begin(&mut self) {
-        self.programmed = [None; 16];
+    #[tactic(auto, unfolding(crate::specs::Words::nothing_programmed))]
+    pub(crate) fn begin(&mut self)
+        ensures { self.new ≡ model.begun self.old.parameters }
+    {
+        let programmed = [None; 16];
+        self.programmed = programmed;
         self.ends = false;
     }
 
     /// Gives a parameter the value of an expression.
     fn assign(&mut self, index: u16, value: &Expr) -> Result<(), u16>
+        requires index { index ≤ 999 }
+        requires fits { IndicesFit (tree_of value.now) }
+        ensures { Acts (model.assigned self.old index (tree_of value.now)) result self.new }
     {
         let value = eval(value, &self.parameters)?;
         self.parameters.assign(index, value);
@@ -103,6 +110,9 @@ impl Progress {
 
     /// Gives the parameter whose number is the value of an expression the value of another.
     fn assign_at(&mut self, index: &Expr, value: &Expr) -> Result<(), u16>
+        requires index { IndicesFit (tree_of index.now) }
+        requires fits { IndicesFit (tree_of value.now) }
+        ensures { Acts (model.assigned_at self.old (tree_of index.now) (tree_of value.now)) result self.new }
     {
         let index = eval(index, &self.parameters)?;
         match index_of(index) {
@@ -113,6 +123,7 @@ impl Progress {
 
     /// Programs an axis.
     fn program(&mut self, axis: Option<AxisId>, value: Num) -> Result<(), u16>
+        ensures { Acts (model.programmed self.old axis value) result self.new }
     {
         let Some(axis) = axis else {
             return Err(14);
@@ -126,7 +137,10 @@ impl Progress {
     }
 
     /// Does what a word says, or answers its alarm.
+    #[tactic(auto, unfolding(crate::specs::Words::word_done))]
     fn act(&mut self, slots: &[Option<AxisId>; 3], word: &Word) -> Result<(), u16>
+        requires { WordFits (word_view word.now) }
+        ensures { Acts (model.word_done slots.now self.old (word_view word.now)) result self.new }
     {
         match word {
             Word::Assign(index, value) => self.assign(*index, value),
@@ -145,11 +159,9 @@ impl Progress {
     }
 
     /// Does what the words of a block say, or answers the first alarm.
-    pub(crate) fn act_all(
-        &mut self,
-        slots: &[Option<AxisId>; 3],
-        words: &[Word],
-    ) -> Result<(), u16>
+    pub(crate) fn act_all(&mut self, slots: &[Option<AxisId>; 3], words: &[Word]) -> Result<(), u16>
+        requires { All WordFits (map word_view words.now) }
+        ensures { Acts (model.words_done slots.now self.old (map word_view words.now)) result self.new }
     {
         for word in words {
             self.act(slots, word)?;

@@ -1,12 +1,20 @@
 //! The run of a program, one block after another.
 
+ghost use Rattle.std.specs.Prelude.{◌≡◌, ℕ, ◌++◌, All, map, option_and_then, unwrap_or, IfOk, OnOk, OnErr};
+ghost use Rattle.std.specs.Option.{option_to_list};
+ghost use Rattle.nc_syntax.specs.Indices.{StatementFits, WordFits};
+ghost use Rattle.nc_syntax.specs.Statement.{statement_view, word_view};
+ghost use Rattle.channel_machine.specs.Motions.{positions_in, end_in, StandsAfter};
+ghost use Rattle.channel_machine.specs.Words.{words_in};
+ghost use Rattle.channel_machine.specs.Run.{IsReady, Leaves, effect_of, placed_view, run_of};
+ghost use Rattle.channel_machine.specs.declared.run.ChannelEnd.{ChannelEnd};
+
 use crate::motions::{Item, Positions, make_item};
 use crate::progress::Progress;
 use axis_sets::AxisId;
 use nc_faults::Alarm;
 use nc_syntax::{Block, Stmt, Word};
 use std::alloc::{AllocError, Global};
-use std::marker::Model;
 
 /// What a channel has: the axis in each of its slots X, Y and Z, and where all axes stand at the
 /// start.
@@ -43,6 +51,9 @@ const MOST_BLOCKS: usize = 100_000;
 
 /// The words of a block.
 fn words_of(stmt: &Stmt) -> &[Word]
+    requires { StatementFits (statement_view stmt.now) }
+    ensures words { map word_view result.now ≡ words_in (statement_view stmt.now) }
+    ensures fit { All WordFits (map word_view result.now) }
 {
     match stmt {
         Stmt::Words(words) => words.as_slice(),
@@ -58,6 +69,10 @@ fn execute(
     progress: &mut Progress,
     at: &mut Positions,
 ) -> Result<Option<Item>, u16>
+    requires { StatementFits (statement_view block.now.stmt) }
+    ensures leaves { Leaves (effect_of set_up.now.slots progress.old.parameters (positions_in at.old) line (statement_view block.now.stmt)) result progress.new }
+    ensures stand { IfOk result (λ item. (axis : ℕ) → positions_in at.new axis ≡ unwrap_or (option_and_then (end_in axis) item) (positions_in at.old axis)) }
+    ensures unmoved { OnErr result (at.new ≡ at.old) }
 {
     progress.begin();
     progress.act_all(&set_up.slots, words_of(&block.stmt))?;
@@ -66,6 +81,7 @@ fn execute(
 
 /// Adds the item, if there is one.
 fn push_some(items: &mut Vec<Item>, item: Option<Item>) -> Result<(), AllocError>
+    ensures { OnOk result (items.new.items ≡ items.old.items ++ option_to_list item) }
 {
     if let Some(item) = item {
         items.push(item)?;
@@ -75,6 +91,7 @@ fn push_some(items: &mut Vec<Item>, item: Option<Item>) -> Result<(), AllocError
 
 /// An end by this alarm.
 fn alarmed(code: u16, line: u32) -> ChannelEnd
+    ensures { result ≡ ChannelEnd.Alarmed (record { code = code; line = line }) }
 {
     ChannelEnd::Alarmed(Alarm { code, line })
 }
@@ -87,6 +104,10 @@ pub fn run_program(
     header: u32,
     blocks: &[(u32, Block)],
 ) -> Result<ChannelRun, AllocError>
+    requires { All IsReady blocks.now }
+    ensures items { IfOk result (λ run. run.items.items ≡ (run_of set_up.now header (map placed_view blocks.now)).items) }
+    ensures end { IfOk result (λ run. run.end ≡ (run_of set_up.now header (map placed_view blocks.now)).end) }
+    ensures stand { IfOk result (λ run. StandsAfter run.items.items set_up.now.start run.at) }
 {
     let mut progress = Progress::new(alloc)?;
     let mut at = set_up.start;

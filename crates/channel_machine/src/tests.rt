@@ -27,9 +27,15 @@ fn blocks_of(rt: &impl Abort, alloc: Global, text: &str) -> Result<Vec<(u32, Blo
 /// Three axes at 100, -3 and 200 mm, the first in slot X and the last in slot Z.
 fn set_up() -> SetUp {
     let mut start = [Um { micrometres: 0 }; 16];
-    start[0] = Um { micrometres: 100_000 };
-    start[1] = Um { micrometres: -3_000 };
-    start[2] = Um { micrometres: 200_000 };
+    start[0] = Um {
+        micrometres: 100_000,
+    };
+    start[1] = Um {
+        micrometres: -3_000,
+    };
+    start[2] = Um {
+        micrometres: 200_000,
+    };
     SetUp {
         slots: [Some(AxisId { index: 0 }), None, Some(AxisId { index: 2 })],
         start,
@@ -95,7 +101,10 @@ static PROGRAMS: [(&str, &str); 44] = [
     ("R1=5\nX=R1 Z=R1+1\nM30", "3 0=5000 2=6000; 4 END"),
     ("R1=1\nR1=R1+1 R[R1]=7\nX=R2\nM30", "4 0=7000; 5 END"),
     ("X5 Z6\nR1=3 X=R1 R2=1/0\nM30", "2 0=5000 2=6000; 3 ALARM 2"),
-    ("X5\nG0 Z7\nX6 M30\nX7", "2 0=5000; 3 2=7000; 4 0=6000; 4 END"),
+    (
+        "X5\nG0 Z7\nX6 M30\nX7",
+        "2 0=5000; 3 2=7000; 4 0=6000; 4 END",
+    ),
     ("M30 X=1/0", "2 ALARM 2"),
     ("M30 X1 R1=2", "2 0=1000; 2 END"),
     ("M17", "2 END"),
