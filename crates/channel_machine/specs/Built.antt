@@ -2,9 +2,9 @@
 use Rattle.std.specs.Prelude.{ℕ, ◌==◌, nat_lt, ◌&&◌, ◌||◌, Bool, true, false, List, codes}
 use Rattle.std.specs.List.{list_all}
 use Rattle.std.specs.Str.{bytes_eq}
-use Rattle.nc_syntax.specs.declared.blocks.Measure.{Measure}
-use Rattle.nc_syntax.specs.declared.blocks.Measure.TheVariants.{Modal, Absolute, Incremental}
-use Rattle.nc_syntax.specs.Statement.{WordView, Assign, AssignAt, G, Axis, Radius, Aux, End, Statement, Empty, WordBlock, Proc, Message}
+use Rattle.nc_blocks.specs.declared.blocks.Measure.{Measure}
+use Rattle.nc_blocks.specs.declared.blocks.Measure.TheVariants.{Modal, Absolute, Incremental}
+use Rattle.nc_blocks.specs.Statement.{WordView, Assign, AssignAt, G, Axis, Radius, Aux, End, Statement, Empty, WordBlock, Proc, Message}
 
 -- the addresses of the slots
 abbrev pub is_slot_name : List ℕ → Bool

@@ -1,10 +1,12 @@
 -- Where the axes of a channel stand, and the motions that take them on.
-use Rattle.std.specs.Prelude.{◌≡◌, ℕ, ℤ, pos, ◌==◌, nat_le, Bool, true, if◌then◌else◌, List, length, find, filter_map, slice_index_or, Option, None, Some, option_map, unwrap_or, Result, Ok, Err}
+use Rattle.std.specs.Prelude.{◌≡◌, ◌≢◌, ⊤, All, AllPairs, Contains, ℕ, ℤ, pos, ◌==◌, nat_le, Bool, true, if◌then◌else◌, List, [], ◌∷◌, length, find, filter_map, slice_index_or, Option, None, Some, option_map, unwrap_or, Result, Ok, Err}
 use Rattle.std.specs.List.{last_or, list_all, range_with_len}
 use Rattle.std.specs.Int.RustNames.{unsigned_abs}
 use Rattle.micro_units.specs.Rounding.{half_away}
-use Rattle.path_geometry.specs.Motions.{axes_of}
-use Rattle.path_geometry.specs.declared.motion.Motion.TheVariants.{Line}
+use Rattle.path_geometry.specs.Motions.{axes_of, IsInRange}
+use Rattle.path_geometry.specs.declared.motion.Motion.{Motion}
+use Rattle.path_geometry.specs.declared.motion.Motion.TheVariants.{Line, Rapid}
+use Rattle.path_geometry.specs.declared.motion.Motion.TheVariants as kind
 use Rattle.channel_machine.specs.declared.motions.Item.{Item}
 
 -- ---- where axes stand
@@ -43,7 +45,8 @@ ends_from at programmed =
 
 -- a block moves where an axis is programmed
 abbrev pub item_of : ℕ → List (ℕ × ℤ × ℤ) → Option Item
-item_of line ends = if length ends == 0 then None else Some (record { line = line; motion = Line (record { axes = ends }) })
+item_of line [] = None
+item_of line (e ∷ ends) = Some (record { line = line; motion = Line (record { axes = e ∷ ends }) })
 
 -- the motion of a block on this line that programs these values; alarm 13 where an end is out of range
 unfoldable pub moved : (ℕ → ℤ) → ℕ → List (Option ℤ) → Result (Option Item) ℕ
@@ -56,3 +59,17 @@ StandsMoved programmed old new = (axis : ℕ) → positions_in new axis ≡ unwr
 -- the axes stand where these motions leave them
 abbrev pub StandsAfter : List Item → List ℤ → List ℤ → Type 0
 StandsAfter items start at = (axis : ℕ) → positions_in at axis ≡ left_at items (positions_in start) axis
+
+-- a motion along one straight line
+abbrev pub IsStraight : Motion → Type 0
+IsStraight (Line ends) = ⊤
+IsStraight (Rapid ends) = ⊥
+IsStraight (kind.Arc arc) = ⊥
+
+-- a motion of a block where the axes stand so: one straight line of axes in these slots, each once, from where it stands to an end in range
+pub record IsMotionOf (slots : List (Option ℕ)) (at : ℕ → ℤ) (motion : Motion) : Type 0 where
+  pub straight : IsStraight motion
+  pub once : AllPairs (λ e f. e.0 ≢ f.0) (axes_of motion)
+  pub in_slots : All (λ e. Contains slots (Some e.0)) (axes_of motion)
+  pub begins : All (λ e. e.1 ≡ at e.0) (axes_of motion)
+  pub in_range : All (λ e. IsInRange e.2) (axes_of motion)

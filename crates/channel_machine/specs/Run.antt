@@ -2,9 +2,9 @@
 use Rattle.std.specs.Prelude.{◌≡◌, IsTrue, MatchResult, ℕ, zero, suc, ℤ, Bool, if◌then◌else◌, List, [], ◌∷◌, ◌++◌, length, fold, filter_map, slice_get, Option, None, Some, Result, Ok, Err}
 use Rattle.nc_expressions.specs.Value.{◌>>=◌}
 use Rattle.nc_faults.specs.declared.Alarm.{Alarm}
-use Rattle.nc_syntax.specs.declared.blocks.Block.{Block}
-use Rattle.nc_syntax.specs.Indices.{StatementFits}
-use Rattle.nc_syntax.specs.Statement.{BlockView, Statement, statement_view, view_of}
+use Rattle.nc_blocks.specs.declared.blocks.Block.{Block}
+use Rattle.nc_blocks.specs.Indices.{StatementFits}
+use Rattle.nc_blocks.specs.Statement.{BlockView, Statement, statement_view, view_of}
 use Rattle.channel_machine.specs.Built.{is_built}
 use Rattle.channel_machine.specs.Motions.{positions_in, left_at, moved}
 use Rattle.channel_machine.specs.Words.{zeros, begun, words_done, words_in}

@@ -2,10 +2,10 @@
 
 ghost use Rattle.std.specs.Prelude.{◌≡◌, map};
 ghost use Rattle.std.specs.List.{list_all};
-ghost use Rattle.nc_syntax.specs.Statement.{statement_view, word_view};
+ghost use Rattle.nc_blocks.specs.Statement.{statement_view, word_view};
 ghost use Rattle.channel_machine.specs.Built as model;
 
-use nc_syntax::{Measure, Stmt, Word};
+use nc_blocks::{Measure, Stmt, Word};
 
 /// Whether this is the address of a slot.
 fn is_slot_name(name: &[u8]) -> bool

@@ -2,8 +2,8 @@
 
 ghost use Rattle.std.specs.Prelude.{◌≡◌, ◌≤◌, ℕ, All, IfOk, map};
 ghost use Rattle.nc_expressions.specs.Tree.{tree_of, IndicesFit};
-ghost use Rattle.nc_syntax.specs.Indices.{WordFits, OptionFits, OperandFits};
-ghost use Rattle.nc_syntax.specs.Statement.{word_view, operand_view, tree_option};
+ghost use Rattle.nc_blocks.specs.Indices.{WordFits, OptionFits, OperandFits};
+ghost use Rattle.nc_blocks.specs.Statement.{word_view, operand_view, tree_option};
 ghost use Rattle.channel_machine.specs.Words as model;
 ghost use Rattle.channel_machine.specs.Words.{Acts, IsRead};
 
@@ -11,7 +11,7 @@ use crate::parameters::Parameters;
 use axis_sets::AxisId;
 use micro_units::Num;
 use nc_expressions::{Expr, eval, index_of};
-use nc_syntax::{Operand, Word};
+use nc_blocks::{Operand, Word};
 use std::alloc::{AllocError, Global};
 
 /// What the words of a block have done so far.
@@ -122,6 +122,7 @@ impl Progress {
     }
 
     /// Programs an axis.
+    #[tactic(auto, unfolding(crate::specs::Words::programmed))]
     fn program(&mut self, axis: Option<AxisId>, value: Num) -> Result<(), u16>
         ensures { Acts (model.programmed self.old axis value) result self.new }
     {

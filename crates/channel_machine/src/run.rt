@@ -2,8 +2,8 @@
 
 ghost use Rattle.std.specs.Prelude.{◌≡◌, ℕ, ◌++◌, All, map, option_and_then, unwrap_or, IfOk, OnOk, OnErr};
 ghost use Rattle.std.specs.Option.{option_to_list};
-ghost use Rattle.nc_syntax.specs.Indices.{StatementFits, WordFits};
-ghost use Rattle.nc_syntax.specs.Statement.{statement_view, word_view};
+ghost use Rattle.nc_blocks.specs.Indices.{StatementFits, WordFits};
+ghost use Rattle.nc_blocks.specs.Statement.{statement_view, word_view};
 ghost use Rattle.channel_machine.specs.Motions.{positions_in, end_in, StandsAfter};
 ghost use Rattle.channel_machine.specs.Words.{words_in};
 ghost use Rattle.channel_machine.specs.Run.{IsReady, Leaves, effect_of, placed_view, run_of};
@@ -13,7 +13,7 @@ use crate::motions::{Item, Positions, make_item};
 use crate::progress::Progress;
 use axis_sets::AxisId;
 use nc_faults::Alarm;
-use nc_syntax::{Block, Stmt, Word};
+use nc_blocks::{Block, Stmt, Word};
 use std::alloc::{AllocError, Global};
 
 /// What a channel has: the axis in each of its slots X, Y and Z, and where all axes stand at the
