@@ -38,10 +38,9 @@ pub record Keeps (set_up : SetUp) (header : ℕ) (blocks : List (ℕ × BlockVie
   pub stand : StandsAfter items set_up.start at
   pub rest : run_after set_up header blocks (100000 - count) past ≡ run_of set_up header blocks
 
--- a run has these motions and this end
-pub record Shows (run : RunView) (items : List Item) (end : ChannelEnd) : Type 0 where
-  pub motions : items ≡ run.items
-  pub ends : end ≡ run.end
+-- a run with these motions and this end
+abbrev pub view : List Item → ChannelEnd → RunView
+view items end = record { items = items; end = end }
 
 module _ (set_up : SetUp) (header : ℕ) (blocks : List (ℕ × BlockView)) where
   -- before the first block
@@ -62,7 +61,7 @@ module _ (set_up : SetUp) (header : ℕ) (blocks : List (ℕ × BlockView)) wher
     -- what comes next where some blocks may still be executed, or none
     next_step : (more : ℕ) → 100000 - count ≡ suc more
         → run_of set_up header blocks ≡ at_next header keeps.past (next_block blocks keeps.past) (λ block.
-            behind keeps.past block.0 (executed set_up keeps.past block) (λ after. run_after set_up header blocks more after))
+        behind keeps.past block.0 (executed set_up keeps.past block) (λ after. run_after set_up header blocks more after))
     unfolding run_after
     next_step more left = sym keeps.rest ∙ ap (λ n. run_after set_up header blocks n keeps.past) left
 
@@ -73,14 +72,11 @@ module _ (set_up : SetUp) (header : ℕ) (blocks : List (ℕ × BlockView)) wher
     comes : (o : Option (ℕ × BlockView)) → slice_get blocks count ≡ o → next_block blocks keeps.past ≡ o
     comes o is = ap (slice_get blocks) keeps.many ∙ is
 
-    shown : (run : RunView) (end : ChannelEnd) → run ≡ halted keeps.past end → Shows run items end
-    shown run end is = record {
-      motions = keeps.made ∙ sym (ap (λ (r : RunView). r.items) is);
-      ends = sym (ap (λ (r : RunView). r.end) is);
-    }
+    shown : (run : RunView) (end : ChannelEnd) → run ≡ halted keeps.past end → view items end ≡ run
+    shown run end is = ap (λ (xs : List Item). view xs end) keeps.made ∙ sym is
 
     -- no block is left
-    pub runs_out : slice_get blocks count ≡ None → Shows (run_of set_up header blocks) items (Alarmed (record { code = 9; line = last }))
+    pub runs_out : slice_get blocks count ≡ None → view items (Alarmed (record { code = 9; line = last })) ≡ run_of set_up header blocks
     runs_out none = shown (run_of set_up header blocks) (Alarmed (record { code = 9; line = last })) (by_left (100000 - count) refl)
       where
         by_left : (n : ℕ) → 100000 - count ≡ n → run_of set_up header blocks ≡ halted keeps.past (Alarmed (record { code = 9; line = last }))
@@ -89,7 +85,7 @@ module _ (set_up : SetUp) (header : ℕ) (blocks : List (ℕ × BlockView)) wher
 
     -- no block may be executed
     pub is_spent : (line : ℕ) (block : BlockView) → count ≡ 100000 → slice_get blocks count ≡ Some (line, block)
-        → Shows (run_of set_up header blocks) items (Alarmed (record { code = 8; line = line }))
+        → view items (Alarmed (record { code = 8; line = line })) ≡ run_of set_up header blocks
     is_spent line block spent is =
         shown (run_of set_up header blocks) (Alarmed (record { code = 8; line = line }))
         (let left : 100000 - count ≡ 0 = omega arith in rw (last_step left, comes (Some (line, block)) is) refl)
@@ -108,7 +104,7 @@ module _ (set_up : SetUp) (header : ℕ) (blocks : List (ℕ × BlockView)) wher
 
       -- it alarms
       pub stops : (code : ℕ) → effect_of set_up.slots parameters (positions_in at) line block.statement ≡ Err code
-          → Shows (run_of set_up header blocks) items (Alarmed (record { code = code; line = line }))
+          → view items (Alarmed (record { code = code; line = line })) ≡ run_of set_up header blocks
       stops code alarm = shown (run_of set_up header blocks) (Alarmed (record { code = code; line = line })) (rw (goes, does (Err code) alarm) refl)
 
       module _ (effect : Effect) (here : effect_of set_up.slots parameters (positions_in at) line block.statement ≡ Ok effect) where
@@ -120,14 +116,11 @@ module _ (set_up : SetUp) (header : ℕ) (blocks : List (ℕ × BlockView)) wher
         made_more = ap (λ (xs : List Item). xs ++ option_to_list effect.item) keeps.made ∙ sym (items_of-push keeps.past done)
 
         -- it ends the program
-        pub ends : effect.ends ≡ true → Shows (run_of set_up header blocks) (items ++ option_to_list effect.item) (Ended line)
+        pub ends : effect.ends ≡ true → view (items ++ option_to_list effect.item) (Ended line) ≡ run_of set_up header blocks
         unfolding done
         ends last_block =
             let run : run_of set_up header blocks ≡ halted (keeps.past ++ done ∷ []) (Ended line) = rw (goes, does (Ok effect) here, last_block) refl in
-            record {
-              motions = made_more ∙ sym (ap (λ (r : RunView). r.items) run);
-              ends = sym (ap (λ (r : RunView). r.end) run);
-            }
+            ap (λ (xs : List Item). view xs (Ended line)) made_more ∙ sym run
 
         -- the run goes on
         pub goes_on : (new : List ℤ) → effect.ends ≡ false

@@ -12,6 +12,7 @@ use Rattle.channel_machine.specs.declared.motions.Item.{Item}
 use Rattle.channel_machine.specs.declared.progress.Progress.{Progress}
 use Rattle.channel_machine.specs.declared.run.ChannelEnd.{ChannelEnd}
 use Rattle.channel_machine.specs.declared.run.ChannelEnd.TheVariants.{Ended, Alarmed}
+use Rattle.channel_machine.specs.declared.run.ChannelRun.{ChannelRun}
 use Rattle.channel_machine.specs.declared.run.SetUp.{SetUp}
 
 -- ---- executed blocks
@@ -99,6 +100,10 @@ run_of set_up header blocks = run_after set_up header blocks 100000 []
 -- the statement is built, and each parameter that it names by its number is one of the 1,000
 abbrev pub IsReady : ℕ × Block → Type 0
 IsReady b = IsTrue (is_built (statement_view b.1.stmt)) × StatementFits (statement_view b.1.stmt)
+
+-- the motions of a run and its end, as a contract sees them
+abbrev pub told : ChannelRun → RunView
+told run = record { items = run.items.items; end = run.end }
 
 -- a block leaves this, or alarms
 abbrev pub Leaves : Result Effect ℕ → Result (Option Item) ℕ → Progress → Type 0

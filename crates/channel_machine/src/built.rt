@@ -32,7 +32,12 @@ fn is_built_word(word: &Word) -> bool
 fn are_built(words: &[Word]) -> bool
     ensures { result ≡ list_all model.is_built_word (map word_view words.now) }
 {
-    words.iter().all(|word| is_built_word(word))
+    for word in words {
+        if !is_built_word(word) {
+            return false;
+        }
+    }
+    true
 }
 
 /// Whether a channel can execute this statement.

@@ -10,8 +10,8 @@ ghost use Rattle.channel_machine.specs.Words.{Acts, IsRead};
 use crate::parameters::Parameters;
 use axis_sets::AxisId;
 use micro_units::Num;
-use nc_expressions::{Expr, eval, index_of};
 use nc_blocks::{Operand, Word};
+use nc_expressions::{Expr, eval, index_of};
 use std::alloc::{AllocError, Global};
 
 /// What the words of a block have done so far.

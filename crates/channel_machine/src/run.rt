@@ -6,14 +6,14 @@ ghost use Rattle.nc_blocks.specs.Indices.{StatementFits, WordFits};
 ghost use Rattle.nc_blocks.specs.Statement.{statement_view, word_view};
 ghost use Rattle.channel_machine.specs.Motions.{positions_in, end_in, StandsAfter};
 ghost use Rattle.channel_machine.specs.Words.{words_in};
-ghost use Rattle.channel_machine.specs.Run.{IsReady, Leaves, effect_of, placed_view, run_of};
+ghost use Rattle.channel_machine.specs.Run.{IsReady, Leaves, effect_of, placed_view, run_of, told};
 ghost use Rattle.channel_machine.specs.declared.run.ChannelEnd.{ChannelEnd};
 
 use crate::motions::{Item, Positions, make_item};
 use crate::progress::Progress;
 use axis_sets::AxisId;
-use nc_faults::Alarm;
 use nc_blocks::{Block, Stmt, Word};
+use nc_faults::Alarm;
 use std::alloc::{AllocError, Global};
 
 /// What a channel has: the axis in each of its slots X, Y and Z, and where all axes stand at the
@@ -75,8 +75,10 @@ fn execute(
     ensures unmoved { OnErr result (at.new ≡ at.old) }
 {
     progress.begin();
-    progress.act_all(&set_up.slots, words_of(&block.stmt))?;
-    make_item(line, &progress.programmed, at)
+    match progress.act_all(&set_up.slots, words_of(&block.stmt)) {
+        Ok(()) => make_item(line, &progress.programmed, at),
+        Err(code) => Err(code),
+    }
 }
 
 /// Adds the item, if there is one.
@@ -105,8 +107,7 @@ pub fn run_program(
     blocks: &[(u32, Block)],
 ) -> Result<ChannelRun, AllocError>
     requires { All IsReady blocks.now }
-    ensures items { IfOk result (λ run. run.items.items ≡ (run_of set_up.now header (map placed_view blocks.now)).items) }
-    ensures end { IfOk result (λ run. run.end ≡ (run_of set_up.now header (map placed_view blocks.now)).end) }
+    ensures run { IfOk result (λ run. told run ≡ run_of set_up.now header (map placed_view blocks.now)) }
     ensures stand { IfOk result (λ run. StandsAfter run.items.items set_up.now.start run.at) }
 {
     let mut progress = Progress::new(alloc)?;

@@ -6,7 +6,16 @@ use Rattle.channel_machine.proofs.motions.move_axes.Goals as goal
 use Rattle.channel_machine.proofs.motions.move_axes.Goals.{in-Some, in_default}
 
 pub loop-index-preserved : goal.loop-index-preserved
-loop-index-preserved c = elim c.match-programmed-index.branch [ in-Some w ↦ ? | in_default w ↦ ? ]
+loop-index-preserved c =
+    let long : length c.args.programmed.now ≡ 16 = c.type_inv.programmed in
+    elim c.match-programmed-index.branch [
+      | in-Some w ↦ rw (w.at-is, w.axes-is, w.push.ensures.items)
+          (moves_on c.args.programmed.now c.args.at.now c.loop-index.index c.loop-index.at c.loop-index.axes.items c.loop-index.invariant
+          w.in-Some.value w.end_of-end.result _ _ c.loop-index-test.true long w.in-Some.is w.end_of-end.ensures)
+      | in_default w ↦ rw (w.at-is, w.axes-is)
+          (moves_not c.args.programmed.now c.args.at.now c.loop-index.index c.loop-index.at c.loop-index.axes.items c.loop-index.invariant
+          _ c.loop-index-test.true long w.in_default.is)
+    ]
 
 pub returns-clause-ends : goal.returns-clause-ends
 returns-clause-ends c =
