@@ -1,7 +1,8 @@
 -- The run of a channel's program, told over the list of the blocks that it has executed.
-use Rattle.std.specs.Prelude.{◌≡◌, IsTrue, MatchResult, ℕ, zero, suc, ℤ, Bool, if◌then◌else◌, List, [], ◌∷◌, ◌++◌, length, fold, filter_map, slice_get, Option, None, Some, Result, Ok, Err}
+use Rattle.std.specs.Prelude.{◌≡◌, ⊤, IsTrue, MatchResult, ℕ, zero, suc, ℤ, Bool, if◌then◌else◌, List, [], ◌∷◌, ◌++◌, length, fold, filter_map, slice_get, Option, None, Some, Result, Ok, Err}
 use Rattle.nc_expressions.specs.Value.{◌>>=◌}
 use Rattle.nc_faults.specs.declared.Alarm.{Alarm}
+use Rattle.nc_faults.specs.Texts.{IsAlarmCode}
 use Rattle.nc_blocks.specs.declared.blocks.Block.{Block}
 use Rattle.nc_blocks.specs.Indices.{StatementFits}
 use Rattle.nc_blocks.specs.Statement.{BlockView, Statement, statement_view, view_of}
@@ -94,6 +95,11 @@ run_after set_up header blocks (suc more) past =
 -- the run of a program, whose header stands on this line
 unfoldable pub run_of : SetUp → ℕ → List (ℕ × BlockView) → RunView
 run_of set_up header blocks = run_after set_up header blocks 100000 []
+
+-- the alarm of an end, where it is one, is in the table of alarms
+abbrev pub IsListedEnd : ChannelEnd → Type 0
+IsListedEnd (Ended line) = ⊤
+IsListedEnd (Alarmed alarm) = IsAlarmCode alarm.code
 
 -- ---- answers
 
