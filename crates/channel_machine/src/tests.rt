@@ -1,6 +1,6 @@
 //! Programs, and what a channel does with them by another program that was written from the rules.
 
-ghost use Rattle.std.specs.Prelude.{All, IfOk, IsTrue};
+ghost use Rattle.std.specs.Prelude.{◌<◌, All, IfOk, IsTrue};
 ghost use Rattle.nc_blocks.specs.Indices.{StatementFits};
 ghost use Rattle.nc_blocks.specs.Statement.{statement_view};
 ghost use Rattle.channel_machine.specs.Built as built;
@@ -50,6 +50,24 @@ fn blocks_of(rt: &impl Abort, alloc: Global, text: &str) -> Result<Vec<(u32, Blo
             stmt: stmt_of(rt, alloc, text)?,
         };
         blocks.push((line, block))?;
+    }
+    Ok(blocks)
+}
+
+/// A program of so many blocks that do nothing, whose header stands on line 1.
+fn idle_blocks(alloc: Global, count: u32) -> Result<Vec<(u32, Block)>, Fail>
+    requires { count < 1000000 }
+    ensures { IfOk result (λ blocks. All IsReady blocks.items) }
+{
+    let mut blocks = Vec::new(alloc);
+    for place in 0..count {
+        let block = Block {
+            skip: false,
+            number: None,
+            label: None,
+            stmt: Stmt::Empty,
+        };
+        blocks.push((place + 2, block))?;
     }
     Ok(blocks)
 }
@@ -155,6 +173,25 @@ fn programs_run(rt: HostRuntime) -> Result<(), Fail> {
         let blocks = blocks_of(&rt, alloc, program)?;
         let run = run_program(alloc, &set_up(), 1, blocks.as_slice())?;
         assert_eq!(rt; said(alloc, &run)?.as_str(), *expected, "in {program}");
+    }
+    Ok(())
+}
+
+/// Numbers of blocks that do nothing, and how such a program ends.
+static LENGTHS: [(u32, &str); 3] = [
+    (99_999, "100000 ALARM 9"),
+    (100_000, "100001 ALARM 9"),
+    (100_001, "100002 ALARM 8"),
+];
+
+#[test]
+fn long_programs_run(rt: HostRuntime) -> Result<(), Fail> {
+    let alloc = rt.alloc();
+    for (count, expected) in &LENGTHS {
+        assert!(rt; *count < 1_000_000);
+        let blocks = idle_blocks(alloc, *count)?;
+        let run = run_program(alloc, &set_up(), 1, blocks.as_slice())?;
+        assert_eq!(rt; said(alloc, &run)?.as_str(), *expected);
     }
     Ok(())
 }
