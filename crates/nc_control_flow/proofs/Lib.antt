@@ -1,0 +1,4 @@
+pub mod Repeating
+pub mod Finding
+pub mod Matched
+pub mod Indexed
