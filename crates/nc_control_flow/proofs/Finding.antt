@@ -1,5 +1,5 @@
 -- Places that pass a test, in ascending order.
-use Rattle.std.proofs.Common.{◌≡◌, ℕ, zero, suc, ◌+◌, ◌-◌, ◌<◌, ◌≤◌, Bool, true, false, List, [], ◌∷◌, ◌++◌, length, get_or, refl, sym, ap, ◌∙◌, arith, reverse, Option, Some, None}
+use Rattle.std.proofs.Common.{◌≡◌, ℕ, ◌+◌, ◌-◌, ◌<◌, ◌≤◌, Bool, true, false, List, length, get_or, ap, ◌∙◌, arith, reverse, Some, None}
 use Rattle.std.specs.Prelude.{find, slice_get, nat_lt}
 use Rattle.std.proofs.lemmas.List.{get_or-reverse, length-reverse}
 use Rattle.std.proofs.lemmas.List.Sums.{position_or_len_is}
@@ -23,7 +23,7 @@ pub found_none : (places : List ℕ) (pc : ℕ) → ((k : ℕ) → 0 ≤ k → k
 found_none places pc above =
     find_is (λ place. nat_lt place pc) (reverse places) (length (reverse places)) 0 (omega arith)
     (λ k h. let inside : k < length places = omega (arith, length-reverse places) in
-        rw (get_or-reverse places k 0 inside) (le-ltb (get_or places (length places - 1 - k) 0) pc (above (length places - 1 - k) (omega arith) (omega arith))))
+    rw (get_or-reverse places k 0 inside) (le-ltb (get_or places (length places - 1 - k) 0) pc (above (length places - 1 - k) (omega arith) (omega arith))))
     (λ h. absurd (omega arith))
     ∙ slice_get_past (reverse places) (length (reverse places)) (omega arith)
 
@@ -37,6 +37,6 @@ found_before places pc last within at above =
     let read : get_or (reverse places) n 0 ≡ get_or places last 0 = get_or-reverse places n 0 (omega arith) ∙ ap (λ k. get_or places k 0) here in
     find_is (λ place. nat_lt place pc) (reverse places) n 0 (omega arith)
     (λ k h. let inside : k < length places = omega arith in
-        rw (get_or-reverse places k 0 inside) (le-ltb (get_or places (length places - 1 - k) 0) pc (above (length places - 1 - k) (omega arith) (omega arith))))
+    rw (get_or-reverse places k 0 inside) (le-ltb (get_or places (length places - 1 - k) 0) pc (above (length places - 1 - k) (omega arith) (omega arith))))
     (λ h. rw read (lt-ltb (get_or places last 0) pc at))
     ∙ slice_get-get_or (reverse places) n 0 (omega arith) ∙ ap (λ x. Some x) read

@@ -5,15 +5,16 @@ use Rattle.std.specs.Prelude.{find, filter, nat_lt, option_map, AllPairs}
 use Rattle.std.specs.List.{enumerate_from}
 use Rattle.std.specs.Option.{option_map_or, option_or}
 use Rattle.std.specs.Global.{Vec}
-use Rattle.std.proofs.lemmas.Bool.{lt-ltb, le-ltb, eqb-true}
-use Rattle.std.proofs.lemmas.Slice.Eq.{bytes_eq-Decides}
-use Rattle.std.specs.Str.{bytes_eq}
-use Rattle.std.proofs.Common.{◌==◌, get_or}
+use Rattle.std.proofs.lemmas.Bool.{lt-ltb, le-ltb}
+use Rattle.std.proofs.Common.{get_or}
 use Rattle.nc_control_flow.proofs.Matched.{length-placed, placed_entry}
-use Rattle.std.proofs.lemmas.List.{reverse-append, take_more, take_all, map-append, append-nil}
+use Rattle.std.proofs.lemmas.List.{reverse-append, take_more, take_all, map-append, get_or-map}
 use Rattle.std.proofs.lemmas.List.Folds.{find-append}
 use Rattle.std.proofs.lemmas.List.Elements.{All-cons, All-nil, filter-append}
 use Rattle.nc_control_flow.specs.Places.{placed, ahead, behind}
+use Rattle.nc_blocks.specs.declared.blocks.Block.{Block}
+use Rattle.nc_blocks.specs.Statement.{view_of}
+use Rattle.nc_control_flow.specs.Parts.{views}
 use Rattle.nc_control_flow.specs.Index.{places_by}
 
 -- ---- one place more
@@ -30,7 +31,7 @@ one_more false new mid old after list n m a = ap (λ o. option_map_or (λ places
 pub label_noted : (b : Bool) (new mid old removed : Option (Vec ℕ)) (none before after : Vec ℕ) (place : ℕ) → none.items ≡ [] → before ≡ unwrap_or removed none
     → after.items ≡ before.items ++ place ∷ [] → new ≡ cond b (Some after) mid → mid ≡ cond b None old
     → option_map_or (λ places. places.items) new []
-        ≡ (if b then option_map_or (λ places. places.items) removed [] ++ place ∷ [] else option_map_or (λ places. places.items) old [])
+    ≡ (if b then option_map_or (λ places. places.items) removed [] ++ place ∷ [] else option_map_or (λ places. places.items) old [])
 label_noted b new mid old removed none before after place n u a s m =
     one_more b new mid old after (option_map_or (λ places. places.items) removed [] ++ place ∷ []) s m
     (a ∙ ap (λ xs. xs ++ place ∷ []) (removed_items removed none before n u))
@@ -54,7 +55,7 @@ passed test pc at b false es t h = refl
 met : {B : Type 0} (test : B → Bool) (pc at : ℕ) (b : B) (r : Bool) (es : List (ℕ × B)) → test b ≡ r → pc < at
     → find (λ p. nat_lt pc p) (places_by test es) ≡ option_map (λ e. e.0) (find (λ e. test e.1) es)
     → find (λ p. nat_lt pc p) (map (λ e. e.0) (cond r ((at, b) ∷ filter (λ e. test e.1) es) (filter (λ e. test e.1) es)))
-        ≡ option_map (λ e. e.0) (cond r (Some (at, b)) (find (λ e. test e.1) es))
+    ≡ option_map (λ e. e.0) (cond r (Some (at, b)) (find (λ e. test e.1) es))
 met test pc at b true es t h rest = ap (λ r. cond r (Some at) (find (λ p. nat_lt pc p) (places_by test es))) (lt-ltb pc at h)
 met test pc at b false es t h rest = rest
 
@@ -81,7 +82,7 @@ option_or_none (Some x) = refl
 -- of one block and those behind it, the last before a place
 last_of : {B : Type 0} (test : B → Bool) (pc at : ℕ) (b : B) (r : Bool) (es : List (ℕ × B)) → test b ≡ r
     → find (λ p. nat_lt p pc) (reverse (map (λ e. e.0) (cond r ((at, b) ∷ filter (λ e. test e.1) es) (filter (λ e. test e.1) es))))
-        ≡ option_or (find (λ p. nat_lt p pc) (reverse (places_by test es))) (cond r (cond (nat_lt at pc) (Some at) None) None)
+    ≡ option_or (find (λ p. nat_lt p pc) (reverse (places_by test es))) (cond r (cond (nat_lt at pc) (Some at) None) None)
 last_of test pc at b true es t =
     ap (λ ps. find (λ p. nat_lt p pc) ps) (reverse-append (at ∷ []) (places_by test es)) ∙ find-append (λ p. nat_lt p pc) (reverse (places_by test es)) (at ∷ [])
 last_of test pc at b false es t = sym (option_or_none (find (λ p. nat_lt p pc) (reverse (places_by test es))))
@@ -97,7 +98,7 @@ cond_same false x = refl
 
 before_block : {B : Type 0} (test : B → Bool) (at : ℕ) (b : B) (es : List (ℕ × B))
     → option_map (λ (e : ℕ × B). e.0) (find (λ (e : ℕ × B). test e.1) (reverse ((at, b) ∷ es)))
-        ≡ option_or (option_map (λ e. e.0) (find (λ e. test e.1) (reverse es))) (cond (test b) (Some at) None)
+    ≡ option_or (option_map (λ e. e.0) (find (λ e. test e.1) (reverse es))) (cond (test b) (Some at) None)
 before_block {B} test at b es =
     ap (λ xs. option_map (λ (e : ℕ × B). e.0) (find (λ e. test e.1) xs)) (reverse-append ((at, b) ∷ []) es)
     ∙ ap (λ o. option_map (λ (e : ℕ × B). e.0) o) (find-append (λ (e : ℕ × B). test e.1) (reverse es) ((at, b) ∷ []))
@@ -156,20 +157,20 @@ if_more : (at : ℕ) (r : Bool) {B : Type 0} (b : B) → map (λ (e : ℕ × B).
 if_more at true b = refl
 if_more at false b = refl
 
-pub places_more : {B : Type 0} (test : B → Bool) (bs : List B) (n : ℕ) (b : B) (old new : List ℕ) → n < length bs
-    → old ≡ places_by test (take n (placed bs)) → new ≡ old ++ (if test (get_or bs n b) then n ∷ [] else [])
+pub places_more : {B : Type 0} (test : B → Bool) (bs : List B) (n : ℕ) (b : B) (old new : List ℕ) → n < length bs → get_or bs n b ≡ b
+    → old ≡ places_by test (take n (placed bs)) → new ≡ old ++ (if test b then n ∷ [] else [])
     → new ≡ places_by test (take (n + 1) (placed bs))
-places_more {B} test bs n b old new h o e =
+places_more {B} test bs n b old new h same o e =
     let long : length (placed bs) ≡ length bs = length-placed 0 bs in
     let start : 0 + n ≡ n = omega arith in
-    let entry = placed_entry 0 n bs b h ∙ ap (λ k. (k, get_or bs n b)) start in
-    let here : ℕ × B = (n, get_or bs n b) in
-    let kept : places_by test (take (n + 1) (placed bs)) ≡ places_by test (take n (placed bs)) ++ (if test (get_or bs n b) then n ∷ [] else []) =
-        ap (λ es. places_by test es) (take_more (placed bs) n (0, b) (omega arith) ∙ ap (λ e. take n (placed bs) ++ e ∷ []) entry)
-        ∙ ap (λ es. map (λ (e : ℕ × B). e.0) es) (filter-append (λ (e : ℕ × B). test e.1) (take n (placed bs)) (here ∷ []))
-        ∙ map-append (λ (e : ℕ × B). e.0) (filter (λ e. test e.1) (take n (placed bs))) (filter (λ e. test e.1) (here ∷ []))
-        ∙ ap (λ ps. places_by test (take n (placed bs)) ++ ps) (if_more n (test (get_or bs n b)) (get_or bs n b)) in
-    e ∙ ap (λ ps. ps ++ (if test (get_or bs n b) then n ∷ [] else [])) o ∙ sym kept
+    let here : ℕ × B = (n, b) in
+    let entry : get_or (placed bs) n (0, b) ≡ here = placed_entry 0 n bs b h ∙ ap (λ k. (k, get_or bs n b)) start ∙ ap (λ x. (n, x)) same in
+    let kept : places_by test (take (n + 1) (placed bs)) ≡ places_by test (take n (placed bs)) ++ (if test b then n ∷ [] else []) =
+    ap (λ es. places_by test es) (take_more (placed bs) n (0, b) (omega arith) ∙ ap (λ e. take n (placed bs) ++ e ∷ []) entry)
+    ∙ ap (λ es. map (λ (e : ℕ × B). e.0) es) (filter-append (λ (e : ℕ × B). test e.1) (take n (placed bs)) (here ∷ []))
+    ∙ map-append (λ (e : ℕ × B). e.0) (filter (λ e. test e.1) (take n (placed bs))) (filter (λ e. test e.1) (here ∷ []))
+    ∙ ap (λ ps. places_by test (take n (placed bs)) ++ ps) (if_more n (test b) b) in
+    e ∙ ap (λ ps. ps ++ (if test b then n ∷ [] else [])) o ∙ sym kept
 
 pub places_all : {B : Type 0} (test : B → Bool) (bs : List B) (n : ℕ) (places : List ℕ) → length bs ≤ n
     → places ≡ places_by test (take n (placed bs)) → places ≡ places_by test (placed bs)
@@ -177,21 +178,6 @@ places_all test bs n places h e =
     let long : length (placed bs) ≡ length bs = length-placed 0 bs in
     e ∙ ap (λ es. places_by test es) (take_all n (placed bs) (omega arith))
 
--- ---- a label is one name
-by_name : (b : Bool) (name q : List ℕ) (place : ℕ) (old : List ℕ → List ℕ) (new : List ℕ) → bytes_eq name q ≡ b
-    → new ≡ (if b then old name ++ place ∷ [] else old q) → new ≡ old q ++ (if b then place ∷ [] else [])
-by_name true name q place old new e n = n ∙ ap (λ xs. old xs ++ place ∷ []) ((bytes_eq-Decides name q).0 e)
-by_name false name q place old new e n = n ∙ sym (append-nil (old q))
-
-pub label_is_name : (name q : List ℕ) (place : ℕ) (old : List ℕ → List ℕ) (new : List ℕ)
-    → new ≡ (if bytes_eq name q then old name ++ place ∷ [] else old q) → new ≡ old q ++ (if bytes_eq name q then place ∷ [] else [])
-label_is_name name q place old new e = by_name (bytes_eq name q) name q place old new refl e
-
-by_count : (b : Bool) (number q : ℕ) (place : ℕ) (old : ℕ → List ℕ) (new : List ℕ) → (number == q) ≡ b
-    → new ≡ (if b then old number ++ place ∷ [] else old q) → new ≡ old q ++ (if b then place ∷ [] else [])
-by_count true number q place old new e n = n ∙ ap (λ k. old k ++ place ∷ []) (eqb-true number q e)
-by_count false number q place old new e n = n ∙ sym (append-nil (old q))
-
-pub number_is : (number q : ℕ) (place : ℕ) (old : ℕ → List ℕ) (new : List ℕ)
-    → new ≡ (if number == q then old number ++ place ∷ [] else old q) → new ≡ old q ++ (if number == q then place ∷ [] else [])
-number_is number q place old new e = by_count (number == q) number q place old new refl e
+-- ---- the view of one block
+pub view_at : (blocks : List (ℕ × Block)) (n : ℕ) (e : ℕ × Block) → n < length blocks → e ≡ get_or blocks n e → get_or (views blocks) n (view_of e.1) ≡ view_of e.1
+view_at blocks n e h same = get_or-map (λ (x : ℕ × Block). view_of x.1) blocks n e (view_of e.1) h ∙ ap (λ x. view_of x.1) (sym same)

@@ -2,3 +2,4 @@ pub mod Repeating
 pub mod Finding
 pub mod Matched
 pub mod Indexed
+pub mod Resolving

@@ -1,10 +1,11 @@
 -- A stack of places holds what the searches find.
-use Rattle.std.proofs.Common.{◌≡◌, ℕ, zero, suc, ◌+◌, ◌-◌, ◌<◌, ◌≤◌, List, [], ◌∷◌, ◌++◌, length, get_or, take, drop, reverse, refl, sym, ap, ◌∙◌, arith, Option, Some, None, unwrap_or}
+use Rattle.std.proofs.Common.{◌≡◌, ℕ, zero, suc, ◌+◌, ◌-◌, ◌<◌, ◌≤◌, List, [], ◌∷◌, ◌++◌, length, get_or, take, drop, reverse, refl, sym, ap, ◌∙◌, arith, Option, unwrap_or}
 use Rattle.std.specs.Prelude.{slice_get}
 use Rattle.std.specs.List.{enumerate_from}
-use Rattle.std.proofs.Common.{set, ⊎_elim}
+use Rattle.std.proofs.Common.{set, ⊎_elim, All}
+use Rattle.std.proofs.lemmas.List.Elements.{All-nil, All-cons, All-head, All-tail, All-take, All-drop}
 use Rattle.std.proofs.lemmas.Bool.{cases_eq}
-use Rattle.std.proofs.lemmas.List.{reverse-append, drop_more, drop_all, take_more, get_or-set_same, get_or-set_other, get_or_push, get_or_append_left}
+use Rattle.std.proofs.lemmas.List.{reverse-append, drop_more, drop_all, take_more, get_or-set_same, get_or-set_other, get_or_push, get_or_append_left, get_or-reverse, length-reverse}
 use Rattle.nc_control_flow.specs.declared.parts.Part.{Part}
 use Rattle.nc_control_flow.specs.declared.parts.Part.TheVariants.{Opens, Branches, Closes, Neither}
 use Rattle.nc_control_flow.specs.declared.parts.Sought.{Sought}
@@ -86,8 +87,8 @@ pub found_ahead_more : (sought : Sought) (parts : List Part) (table : List ℕ) 
 found_ahead_more sought parts table n p stack top h next s t each k low high =
     ⊎_elim
     (λ (e : k ≡ n). ap (λ j. get_or (set table n top) j 0) e ∙ get_or-set_same table n top 0 h
-        ∙ top_is sought (ahead n parts) stack top (s ∙ ap (λ j. pending sought (drop j (placed parts))) (sym next)) t
-        ∙ ap (λ j. unwrap_or (matching sought 0 (ahead j parts)) 0) (sym e))
+    ∙ top_is sought (ahead n parts) stack top (s ∙ ap (λ j. pending sought (drop j (placed parts))) (sym next)) t
+    ∙ ap (λ j. unwrap_or (matching sought 0 (ahead j parts)) 0) (sym e))
     (λ (ne : k ≡ n → ⊥). get_or-set_other table n k top 0 ne ∙ each k (omega arith) high)
     (cases_eq k n)
 
@@ -98,6 +99,43 @@ pub found_behind_more : (sought : Sought) (parts : List Part) (table new : List 
 found_behind_more sought parts table new n stack top long more s t each k high =
     ⊎_elim
     (λ (e : k ≡ n). ap (λ xs. get_or xs k 0) more ∙ get_or_push table top 0 k (long ∙ sym e)
-        ∙ top_is sought (behind n parts) stack top s t ∙ ap (λ j. unwrap_or (matching sought 0 (behind j parts)) 0) (sym e))
+    ∙ top_is sought (behind n parts) stack top s t ∙ ap (λ j. unwrap_or (matching sought 0 (behind j parts)) 0) (sym e))
     (λ (ne : k ≡ n → ⊥). ap (λ xs. get_or xs k 0) more ∙ get_or_append_left table (top ∷ []) 0 k (omega arith) ∙ each k (omega arith))
     (cases_eq k n)
+
+-- ---- what is found is a place
+placed_below : {B : Type 0} (at n : ℕ) (bs : List B) → at + length bs ≤ n → All (λ e. e.0 < n) (enumerate_from at bs)
+placed_below {B} at n [] h = All-nil (λ (e : ℕ × B). e.0 < n)
+placed_below {B} at n (b ∷ bs) h =
+    All-cons (λ (e : ℕ × B). e.0 < n) (at, b) (enumerate_from (at + 1) bs) (omega arith) (placed_below (at + 1) n bs (omega arith))
+
+All-reverse : {X : Type 0} (P : X → Type 0) (xs : List X) → All P xs → All P (reverse xs)
+All-reverse P xs h k d within =
+    let inside : k < length xs = omega (arith, length-reverse xs) in
+    rw (get_or-reverse xs k d inside) (h (length xs - 1 - k) d (omega arith))
+
+count_below : (part : Part) (place more n : ℕ) (onward : ℕ → Option ℕ) → place < n → ((k : ℕ) → unwrap_or (onward k) 0 < n)
+    → unwrap_or (count part place more onward) 0 < n
+count_below Closes place zero n onward h rest = h
+count_below Closes place (suc more) n onward h rest = rest more
+count_below Branches place zero n onward h rest = h
+count_below Branches place (suc more) n onward h rest = rest (suc more)
+count_below Opens place more n onward h rest = rest (suc more)
+count_below Neither place more n onward h rest = rest more
+
+matching_below : (sought : Sought) (more n : ℕ) (es : List (ℕ × Part)) → 0 < n → All (λ e. e.0 < n) es → unwrap_or (matching sought more es) 0 < n
+matching_below sought more n [] h all = h
+matching_below sought more n (e ∷ es) h all =
+    count_below (seen sought e.1) e.0 more n (λ others. matching sought others es) (All-head (λ (x : ℕ × Part). x.0 < n) e es all)
+    (λ k. matching_below sought k n es h (All-tail (λ (x : ℕ × Part). x.0 < n) e es all))
+
+pub found_ahead_below : (sought : Sought) (k : ℕ) (parts : List Part) → k < length parts → unwrap_or (matching sought 0 (ahead k parts)) 0 < length parts
+found_ahead_below sought k parts h =
+    matching_below sought 0 (length parts) (ahead k parts) (omega arith)
+    (All-drop (λ (x : ℕ × Part). x.0 < length parts) (k + 1) (placed parts) (placed_below 0 (length parts) parts (omega arith)))
+
+pub found_behind_below : (sought : Sought) (k : ℕ) (parts : List Part) → k < length parts → unwrap_or (matching sought 0 (behind k parts)) 0 < length parts
+found_behind_below sought k parts h =
+    matching_below sought 0 (length parts) (behind k parts) (omega arith)
+    (All-reverse (λ (x : ℕ × Part). x.0 < length parts) (take k (placed parts))
+    (All-take (λ (x : ℕ × Part). x.0 < length parts) k (placed parts) (placed_below 0 (length parts) parts (omega arith))))

@@ -1,6 +1,6 @@
 -- Repetitions that turn, and how control settles.
-use Rattle.std.proofs.Common.{◌≡◌, ℕ, zero, suc, ◌+◌, ◌-◌, ◌<◌, ◌≤◌, ◌^◌, ◌==◌, Bool, true, false, List, [], ◌∷◌, ◌++◌, length, get_or, take, drop, refl, sym, ap, ◌∙◌, subst, arith, All, Option, Some, None, if◌then◌else◌, cond}
-use Rattle.std.specs.Prelude.{sum_by, position, slice_get, slice_set, remove, insert, filter, option_map, option_and_then, IfSome}
+use Rattle.std.proofs.Common.{◌≡◌, ℕ, zero, suc, ◌+◌, ◌-◌, ◌<◌, ◌==◌, Bool, true, false, List, length, get_or, take, drop, refl, sym, ap, ◌∙◌, subst, arith, All, Option, Some, None}
+use Rattle.std.specs.Prelude.{position, slice_get, slice_set, remove, insert, filter, option_map, option_and_then}
 use Rattle.std.specs.Option.{option_or}
 use Rattle.std.proofs.lemmas.List.{set_split, take_at, drop_at, length-take-le}
 use Rattle.std.proofs.lemmas.List.Elements.{All-append, All-take, All-drop, All-set, All-filter, All-same, All-get_or}
@@ -11,8 +11,7 @@ use Rattle.std.proofs.lemmas.Bool.Decides.{nat_tests}
 use Rattle.nc_control_flow.specs.declared.repeats.Running.{Running}
 use Rattle.nc_control_flow.specs.declared.repeats.Control.{Control}
 use Rattle.nc_control_flow.specs.declared.repeats.Control.TheVariants.{Done, Comes}
-use Rattle.nc_control_flow.specs.Repetitions.{Level, Going, is_over, is_within, turned_at, turn, hop, past, after_hop, hops, times, settled, TurnsTo, Fits, OwnFits}
-
+use Rattle.nc_control_flow.specs.Repetitions.{Level, is_over, turned_at, turn, hop, past, after_hop, hops, times, settled, TurnsTo, OwnFits}
 
 -- ---- lists with one element less, or back in its place
 pub All-remove : {X : Type 0} (P : X → Type 0) (xs : List X) (at : ℕ) → All P xs → All P (remove xs at)

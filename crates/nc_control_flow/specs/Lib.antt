@@ -6,4 +6,7 @@ pub mod Structures
 pub mod Pending
 pub mod Targets
 pub mod Index
+pub mod Resolved
 pub mod Repetitions
+pub mod Moves
+pub mod Flow

@@ -1,7 +1,7 @@
 -- What a statement does to the structure round it.
 use Rattle.std.specs.Prelude.{ℕ, List, map, Option, Some, None, slice_get}
 use Rattle.nc_blocks.specs.declared.blocks.Block.{Block}
-use Rattle.nc_blocks.specs.Statement.{BlockView, view_of, Statement, Empty, WordBlock, Jump, IfJump, If, Else, EndIf, While, EndWhile, Repeat, Until, Loop, EndLoop, For, EndFor, Case, RepeatFrom, RepeatBlock, Call, Return, Proc, Shape, Turn, Coord, Message}
+use Rattle.nc_blocks.specs.Statement.{BlockView, view_of, Statement, Empty, If, Else, EndIf, While, EndWhile, Repeat, Until, Loop, EndLoop, For, EndFor}
 use Rattle.nc_control_flow.specs.declared.parts.Part.{Part}
 use Rattle.nc_control_flow.specs.declared.parts.Part.TheVariants.{Opens, Branches, Closes, Neither}
 

@@ -27,7 +27,12 @@ pub(crate) fn name_of(bytes: &[u8]) -> Name
 }
 
 /// Notes one more place of a label.
-pub(crate) fn note_label(alloc: Global, labels: &mut HashMap<Name, Vec<u32>>, name: &[u8], place: u32) -> Result<(), AllocError>
+pub(crate) fn note_label(
+    alloc: Global,
+    labels: &mut HashMap<Name, Vec<u32>>,
+    name: &[u8],
+    place: u32,
+) -> Result<(), AllocError>
     requires { length name.now ≤ 32 }
     ensures { OnOk result ((q : List ℕ) → labelled labels.new q
         ≡ (if bytes_eq name.now q then labelled labels.old name.now ++ place ∷ [] else labelled labels.old q)) }
@@ -40,11 +45,19 @@ pub(crate) fn note_label(alloc: Global, labels: &mut HashMap<Name, Vec<u32>>, na
 }
 
 /// Notes one more place of a block number.
-pub(crate) fn note_number(alloc: Global, numbers: &mut HashMap<u32, Vec<u32>>, number: u32, place: u32) -> Result<(), AllocError>
+pub(crate) fn note_number(
+    alloc: Global,
+    numbers: &mut HashMap<u32, Vec<u32>>,
+    number: u32,
+    place: u32,
+) -> Result<(), AllocError>
     ensures { OnOk result ((q : ℕ) → numbered numbers.new q
         ≡ (if number == q then numbered numbers.old number ++ place ∷ [] else numbered numbers.old q)) }
 {
-    numbers.entry(number)?.or_insert(Vec::new(alloc)).push(place)?;
+    numbers
+        .entry(number)?
+        .or_insert(Vec::new(alloc))
+        .push(place)?;
     Ok(())
 }
 
@@ -70,6 +83,7 @@ pub(crate) fn places_of_number(numbers: &HashMap<u32, Vec<u32>>, number: u32) ->
 }
 
 /// The places of the labels and block numbers of a program.
+#[derive(Drop)]
 pub(crate) struct Index {
     /// Those of each label.
     pub labels: HashMap<Name, Vec<u32>>,

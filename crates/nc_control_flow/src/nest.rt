@@ -155,7 +155,7 @@ impl Nest {
                     structure: Structure::If,
                     line,
                 },
-                ..,
+                ..
             ] => {
                 let line = *line;
                 self.open.remove(0);

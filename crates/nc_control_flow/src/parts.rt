@@ -38,9 +38,11 @@ impl Part {
         ensures { result ≡ part_of (statement_view statement.now) }
     {
         match statement {
-            Stmt::If(_) | Stmt::While(_) | Stmt::Repeat | Stmt::Loop | Stmt::For(_, _, _) => Part::Opens,
+            Stmt::If(_) | Stmt::While(_) | Stmt::Repeat | Stmt::Loop | Stmt::For(_, _, _) =>
+                Part::Opens,
             Stmt::Else => Part::Branches,
-            Stmt::EndIf | Stmt::EndWhile | Stmt::Until(_) | Stmt::EndLoop | Stmt::EndFor => Part::Closes,
+            Stmt::EndIf | Stmt::EndWhile | Stmt::Until(_) | Stmt::EndLoop | Stmt::EndFor =>
+                Part::Closes,
             _ => Part::Neither,
         }
     }

@@ -61,9 +61,10 @@ impl Repeats {
 
     /// Whether no other repetition can run.
     pub(crate) fn is_full(&self) -> bool
-        ensures { result ≡ (length self.now == 16) }
+        ensures full { result ≡ (length self.now == 16) }
+        ensures few { length self.now ≤ 16 }
     {
-        self.running.len() == 16
+        self.running.as_slice().len() == 16
     }
 
     /// Runs one more repetition, the innermost.

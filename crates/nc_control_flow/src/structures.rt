@@ -12,7 +12,11 @@ use crate::parts::{Part, Sought};
 use std::alloc::{AllocError, Global};
 
 /// What a search in the blocks behind each block finds, or 0.
-pub(crate) fn found_ahead(alloc: Global, parts: &[Part], sought: Sought) -> Result<Vec<u32>, AllocError>
+pub(crate) fn found_ahead(
+    alloc: Global,
+    parts: &[Part],
+    sought: Sought,
+) -> Result<Vec<u32>, AllocError>
     requires { length parts.now < 2 ^ 32 }
     ensures len { IfOk result (λ v. vec_len v ≡ length parts.now) }
     ensures each { IfOk result (λ v. (k : ℕ) → k < length parts.now
@@ -30,7 +34,11 @@ pub(crate) fn found_ahead(alloc: Global, parts: &[Part], sought: Sought) -> Resu
 }
 
 /// What a search in the blocks before each block finds, or 0.
-pub(crate) fn found_behind(alloc: Global, parts: &[Part], sought: Sought) -> Result<Vec<u32>, AllocError>
+pub(crate) fn found_behind(
+    alloc: Global,
+    parts: &[Part],
+    sought: Sought,
+) -> Result<Vec<u32>, AllocError>
     requires { length parts.now < 2 ^ 32 }
     ensures len { IfOk result (λ v. vec_len v ≡ length parts.now) }
     ensures each { IfOk result (λ v. (k : ℕ) → k < length parts.now

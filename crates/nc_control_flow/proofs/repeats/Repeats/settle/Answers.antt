@@ -1,5 +1,5 @@
 use Rattle.std.proofs.Common.{◌∙◌, arith}
-use Rattle.nc_control_flow.proofs.Repeating.{settled_hop, settled_stop}
+use Rattle.nc_control_flow.proofs.Repeating.{settled_hop}
 use Rattle.nc_control_flow.proofs.repeats.Repeats.settle.Goals as goal
 
 pub loop-next-preserved : goal.loop-next-preserved

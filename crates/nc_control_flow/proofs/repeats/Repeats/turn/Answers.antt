@@ -1,7 +1,6 @@
-use Rattle.std.proofs.Common.{◌<◌, ◌≡◌, length, get_or, refl, ap, ◌∙◌, Some}
+use Rattle.std.proofs.Common.{get_or, refl, ap, ◌∙◌}
 use Rattle.std.proofs.lemmas.Bool.{ne_eqb}
-use Rattle.std.specs.Prelude.{position, remove, slice_set}
-use Rattle.nc_control_flow.specs.Repetitions.{is_over}
+use Rattle.std.specs.Prelude.{remove}
 use Rattle.nc_control_flow.proofs.Repeating.{over_is, within_over, turns_end, turns_again, back_again, own_removed, own_kept}
 use Rattle.nc_control_flow.proofs.repeats.Repeats.turn.Goals as goal
 
