@@ -1,9 +1,8 @@
 -- Each refusal of a block has one of the codes of blocks.
-use Rattle.std.proofs.Common.{ℕ, ◌+◌, Bool, true, false, List, Option, Some, None, Result, Ok, Err, refl}
+use Rattle.std.proofs.Common.{ℕ, ◌+◌, Bool, true, false, List, Option, Some, None, Result, refl}
 use Rattle.std.specs.Prelude.{IfErr}
 use Rattle.block_scanner.specs.declared.Words.{Words}
 use Rattle.nc_expressions.specs.declared.faults.SyntaxFault.{SyntaxFault}
-use Rattle.nc_expressions.specs.Value.{◌>>=◌}
 use Rattle.nc_blocks.specs.declared.blocks.Block.{Block}
 use Rattle.nc_blocks.specs.declared.blocks.CoordWord.{CoordWord}
 use Rattle.nc_blocks.specs.declared.blocks.CoordWord.TheVariants as coord
@@ -21,7 +20,7 @@ use Rattle.nc_syntax.specs.declared.bodies.Control.TheVariants as control
 use Rattle.nc_syntax.specs.declared.bodies.Form.{Form}
 use Rattle.nc_syntax.specs.declared.bodies.Form.TheVariants as form
 use Rattle.nc_syntax.specs.Bodies.{form_of, control_form, coordination_form, form_body, named_form, named_body, lettered_body, body_of, body_at}
-use Rattle.nc_syntax.specs.Blocks.{skip_of, number_at, label_at, head_of, with_label, block_of, unless_refused, statement_of}
+use Rattle.nc_syntax.specs.Blocks.{skip_of, number_at, label_at, head_of, block_of, unless_refused, statement_of}
 use Rattle.nc_syntax.proofs.FormRefusals.{alone_listed, last_expression_listed, for_listed, repeat_listed, repeat_block_listed, call_listed, number_call_listed, proc_listed, if_listed, jump_form_listed, case_listed, shape_listed, turn_listed, arguments_listed, axes_listed, clear_listed, init_listed, cprot_listed, msg_listed, setms_listed, workpiece_listed}
 use Rattle.nc_syntax.proofs.RefusedWords.{Named, word_named}
 

@@ -1,18 +1,16 @@
 -- Each refusal of a form has one of the codes of blocks.
-use Rattle.std.proofs.Common.{ℕ, ◌+◌, ◌-◌, ℤ, pos, negsuc, Bool, true, false, List, [], ◌∷◌, length, Option, Some, None, Result, Ok, Err}
+use Rattle.std.proofs.Common.{ℕ, ◌+◌, ℤ, pos, negsuc, Bool, true, false, List, [], ◌∷◌, length, Option, Some, None}
 use Rattle.block_scanner.specs.declared.Token.{Token}
 use Rattle.block_scanner.specs.declared.Words.{Words}
 use Rattle.nc_expressions.specs.Tree.{Tree}
-use Rattle.nc_expressions.specs.Value.{◌>>=◌}
 use Rattle.nc_blocks.specs.declared.blocks.CoordWord.{CoordWord}
 use Rattle.nc_blocks.specs.declared.blocks.FrameWord.{FrameWord}
 use Rattle.nc_blocks.specs.declared.blocks.Way.{Way}
 use Rattle.nc_blocks.specs.declared.pieces.Piece.{Piece}
 use Rattle.nc_blocks.specs.declared.pieces.Piece.TheVariants as piece
-use Rattle.nc_blocks.specs.Pieces.{piece_at, text_at}
+use Rattle.nc_blocks.specs.Pieces.{piece_at}
 use Rattle.nc_blocks.specs.AxisNames.{has_axis_name}
 use Rattle.nc_blocks.specs.Statement.{Statement}
-use Rattle.nc_blocks.specs.Refusals.{IsBlockRefusal}
 use Rattle.nc_blocks.proofs.Refusals.{Listed, found, refuses, unreadable, not_alone, transformed, with_arguments, bound, chosen, code_listed, end_listed, assign_listed, open_listed, close_listed, comma_listed, keyword_listed, expression_listed, constant_listed, block_number_listed, index_listed, label_listed, list_listed}
 use Rattle.nc_syntax.specs.Jumps.{way_at, target_of, target_at, jump_at, last_jump, if_behind, if_form, jump_form, case_names, case_value, jump_of, named_jump, pair_at, default_at, case_form}
 use Rattle.nc_syntax.specs.Structures.{alone, last_expression, counter_at, first_value, for_form, times_at, repeat_form, repeat_block_form, parentheses_at, pass_count, count_of_piece, passes_at, call_passes, call_form, number_name, number_call_form, proc_form}

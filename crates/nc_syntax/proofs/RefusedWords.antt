@@ -1,15 +1,15 @@
 -- Each refused word has one of the codes of blocks.
-use Rattle.std.proofs.Common.{◌≡◌, ℕ, Bool, true, false, List, [], ◌∷◌, Option, Some, None, cond, refl}
+use Rattle.std.proofs.Common.{ℕ, Bool, true, false, List, [], ◌∷◌, Option, Some, None, cond, refl}
 use Rattle.std.specs.Prelude.{ℤ, IfSome}
 use Rattle.std.specs.Option.{option_or}
 use Rattle.block_scanner.specs.declared.Kind.{Kind}
-use Rattle.block_scanner.specs.declared.Kind.TheVariants.{Letter, Name, Number, Text, Sign}
+use Rattle.block_scanner.specs.declared.Kind.TheVariants.{Letter, Name, Number, Sign}
 use Rattle.block_scanner.specs.declared.Sign.TheVariants.{Dollar}
 use Rattle.block_scanner.specs.declared.Token.{Token}
 use Rattle.block_scanner.specs.Texts.{text_of}
 use Rattle.micro_units.specs.NumberText.{number_of}
 use Rattle.word_tables.specs.GroupWords.{small_whole}
-use Rattle.word_tables.specs.Refused.{refused_g, refused_whole, refused_value, refused_before, refused_behind, refused_kind, refused_first, refused_word}
+use Rattle.word_tables.specs.Refused.{refused_g, refused_whole, refused_value, refused_before, refused_behind, refused_kind, refused_word}
 use Rattle.word_tables.specs.RefusedNames.{refused_name}
 use Rattle.nc_blocks.specs.Refusals.{block_refusals, IsBlockRefusal}
 
