@@ -3,7 +3,7 @@ use Rattle.std.proofs.Common.{◌≡◌, ℕ, zero, suc, ◌+◌, Bool, true, fa
 use Rattle.std.specs.Prelude.{IfErr, ◌==◌}
 use Rattle.std.specs.List.{list_all, list_any}
 use Rattle.block_scanner.specs.declared.Token.{Token}
-use Rattle.block_scanner.specs.declared.Words.{Words}
+use Rattle.block_scanner.specs.WordsView.{WordsView}
 use Rattle.word_tables.specs.Tables.{is_first_name}
 use Rattle.nc_expressions.specs.declared.faults.SyntaxFault.{SyntaxFault}
 use Rattle.nc_expressions.specs.declared.faults.SyntaxFault.TheVariants.{Refused, NoMemory}
@@ -105,7 +105,7 @@ piece_code : (p : Piece) (code : ℕ) → IsBlockRefusal code → IsBlockRefusal
 piece_code piece.Broken code h = unreadable
 piece_code one code h = h
 
-pub code_listed : (words : Words) (at code : ℕ) → IsBlockRefusal code → IsBlockRefusal (code_at words at code)
+pub code_listed : (words : WordsView) (at code : ℕ) → IsBlockRefusal code → IsBlockRefusal (code_at words at code)
 unfolding code_at
 code_listed words at code h = piece_code (piece_at words at) code h
 
@@ -113,7 +113,7 @@ piece_word_code : (p : Piece) (text : List ℕ) → IsBlockRefusal (word_code_of
 piece_word_code piece.Name text = chosen_code (is_first_name text) 24 22 not_alone unreadable
 piece_word_code one text = unreadable
 
-pub word_code_listed : (words : Words) (at : ℕ) → IsBlockRefusal (word_code words at)
+pub word_code_listed : (words : WordsView) (at : ℕ) → IsBlockRefusal (word_code words at)
 unfolding word_code
 word_code_listed words at = piece_word_code (piece_at words at) (text_at words at)
 
@@ -121,7 +121,7 @@ piece_ended : (p : Piece) → Listed (ended p)
 piece_ended piece.End = found _
 piece_ended one = refuses (piece_code one 24 not_alone)
 
-pub end_listed : (words : Words) (at : ℕ) → Listed (end_at words at)
+pub end_listed : (words : WordsView) (at : ℕ) → Listed (end_at words at)
 unfolding end_at
 end_listed words at = piece_ended (piece_at words at)
 
@@ -129,7 +129,7 @@ piece_assign : (p : Piece) (next code : ℕ) → IsBlockRefusal code → Listed 
 piece_assign piece.Assign next code h = found _
 piece_assign one next code h = refuses h
 
-pub assign_listed : (words : Words) (at code : ℕ) → IsBlockRefusal code → Listed (assign_at words at code)
+pub assign_listed : (words : WordsView) (at code : ℕ) → IsBlockRefusal code → Listed (assign_at words at code)
 unfolding assign_at
 assign_listed words at code h = piece_assign (piece_at words at) (at + 1) code h
 
@@ -137,7 +137,7 @@ piece_open : (p : Piece) (next code : ℕ) → IsBlockRefusal code → Listed (o
 piece_open piece.Open next code h = found _
 piece_open one next code h = refuses h
 
-pub open_listed : (words : Words) (at code : ℕ) → IsBlockRefusal code → Listed (open_at words at code)
+pub open_listed : (words : WordsView) (at code : ℕ) → IsBlockRefusal code → Listed (open_at words at code)
 unfolding open_at
 open_listed words at code h = piece_open (piece_at words at) (at + 1) code h
 
@@ -145,7 +145,7 @@ piece_close : (p : Piece) (next code : ℕ) → IsBlockRefusal code → Listed (
 piece_close piece.Close next code h = found _
 piece_close one next code h = refuses h
 
-pub close_listed : (words : Words) (at code : ℕ) → IsBlockRefusal code → Listed (close_at words at code)
+pub close_listed : (words : WordsView) (at code : ℕ) → IsBlockRefusal code → Listed (close_at words at code)
 unfolding close_at
 close_listed words at code h = piece_close (piece_at words at) (at + 1) code h
 
@@ -153,7 +153,7 @@ piece_close_bracket : (p : Piece) (next code : ℕ) → IsBlockRefusal code → 
 piece_close_bracket piece.CloseBracket next code h = found _
 piece_close_bracket one next code h = refuses h
 
-pub close_bracket_listed : (words : Words) (at code : ℕ) → IsBlockRefusal code → Listed (close_bracket_at words at code)
+pub close_bracket_listed : (words : WordsView) (at code : ℕ) → IsBlockRefusal code → Listed (close_bracket_at words at code)
 unfolding close_bracket_at
 close_bracket_listed words at code h = piece_close_bracket (piece_at words at) (at + 1) code h
 
@@ -161,11 +161,11 @@ piece_comma : (p : Piece) (next : ℕ) → Listed (comma_of p next)
 piece_comma piece.Comma next = found _
 piece_comma one next = refuses unreadable
 
-pub comma_listed : (words : Words) (at : ℕ) → Listed (comma_at words at)
+pub comma_listed : (words : WordsView) (at : ℕ) → Listed (comma_at words at)
 unfolding comma_at
 comma_listed words at = piece_comma (piece_at words at) (at + 1)
 
-pub keyword_listed : (words : Words) (at : ℕ) (word : List ℕ) → Listed (keyword_at words at word)
+pub keyword_listed : (words : WordsView) (at : ℕ) (word : List ℕ) → Listed (keyword_at words at word)
 unfolding keyword_at
 keyword_listed words at word = chosen _ _ _ (found _) (refuses unreadable)
 
@@ -185,15 +185,15 @@ placed_listed : (all : ℕ) (symbols : List Symbol) (r : Reading) → read all_l
 placed_listed all symbols (Ok p) e = found _
 placed_listed all symbols (Err code) e = refuses (broken_code symbols code (leftmost symbols code e))
 
-pub expression_listed : (words : Words) (at : ℕ) → Listed (expression_at words at)
+pub expression_listed : (words : WordsView) (at : ℕ) → Listed (expression_at words at)
 unfolding expression_at expr_at
 expression_listed words at = placed_listed (length (symbols_of words)) (drop at (symbols_of words)) (read all_limits (drop at (symbols_of words))) refl
 
-in_words_listed : (words : Words) (stop : ℕ) (r : Result (Tree × ℕ) ℕ) → Listed r → Listed (in_words words stop r)
+in_words_listed : (words : WordsView) (stop : ℕ) (r : Result (Tree × ℕ) ℕ) → Listed r → Listed (in_words words stop r)
 in_words_listed words stop (Ok p) h = found _
 in_words_listed words stop (Err code) h = refuses (chosen_code _ (word_code words stop) code (word_code_listed words stop) h.code)
 
-pub value_listed : (words : Words) (at : ℕ) → Listed (value_at words at)
+pub value_listed : (words : WordsView) (at : ℕ) → Listed (value_at words at)
 unfolding value_at
 value_listed words at = in_words_listed words (stop_at (symbols_of words) at) (expression_at words at) (expression_listed words at)
 
@@ -201,7 +201,7 @@ piece_constant : (first p : Piece) (next code : ℕ) → IsBlockRefusal code →
 piece_constant first (piece.Number z) next code h = found _
 piece_constant first one next code h = refuses h
 
-pub constant_listed : (words : Words) (at code : ℕ) → IsBlockRefusal code → Listed (constant_at words at code)
+pub constant_listed : (words : WordsView) (at code : ℕ) → IsBlockRefusal code → Listed (constant_at words at code)
 unfolding constant_at
 constant_listed words at code h = piece_constant (piece_at words at) _ _ code h
 
@@ -210,7 +210,7 @@ unfolding block_number
 piece_block_number (piece.Number z) text = chosen _ _ _ (found _) (refuses unreadable)
 piece_block_number one text = refuses unreadable
 
-pub block_number_listed : (words : Words) (at : ℕ) → Listed (block_number_at words at)
+pub block_number_listed : (words : WordsView) (at : ℕ) → Listed (block_number_at words at)
 unfolding block_number_at
 block_number_listed words at = piece_block_number (piece_at words at) (text_at words at)
 
@@ -222,7 +222,7 @@ piece_index : (p : Piece) (code : ℕ) → IsBlockRefusal code → Listed (index
 piece_index (piece.Number z) code h = index_or_listed _ 22 unreadable
 piece_index one code h = refuses h
 
-pub index_listed : (words : Words) (at code : ℕ) → IsBlockRefusal code → Listed (index_at words at code)
+pub index_listed : (words : WordsView) (at code : ℕ) → IsBlockRefusal code → Listed (index_at words at code)
 unfolding index_at
 index_listed words at code h = piece_index (piece_at words at) code h
 
@@ -230,7 +230,7 @@ piece_label : (p : Piece) (text : List ℕ) → Listed (label_of p text)
 piece_label piece.Name text = found _
 piece_label one text = refuses unreadable
 
-pub label_listed : (words : Words) (at : ℕ) → Listed (label_at words at)
+pub label_listed : (words : WordsView) (at : ℕ) → Listed (label_at words at)
 unfolding label_at
 label_listed words at = piece_label (piece_at words at) (text_at words at)
 
@@ -248,7 +248,7 @@ items_listed item h before at [] more = bound _ _ (h before at) (λ one. refuses
 items_listed item h before at (t ∷ tokens) zero = bound _ _ (h before at) (λ one. go_on_listed before at one _ (λ xs more. items_listed item h xs (at + 1) tokens more))
 items_listed item h before at (t ∷ tokens) (suc more) = items_listed item h before (at + 1) tokens more
 
-pub list_listed : {A : Type 0} (item : List A → ℕ → Result (Item A) ℕ) (words : Words) (at : ℕ) →
+pub list_listed : {A : Type 0} (item : List A → ℕ → Result (Item A) ℕ) (words : WordsView) (at : ℕ) →
     ((before : List A) (at : ℕ) → Listed (item before at)) → Listed (list_at item words at)
 unfolding list_at
-list_listed item words at h = items_listed item h [] at (drop at words.tokens.items) 0
+list_listed item words at h = items_listed item h [] at (drop at words.tokens) 0

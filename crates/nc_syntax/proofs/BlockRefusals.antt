@@ -1,7 +1,7 @@
 -- Each refusal of a block has one of the codes of blocks.
 use Rattle.std.proofs.Common.{ℕ, ◌+◌, Bool, true, false, List, Option, Some, None, Result, refl}
 use Rattle.std.specs.Prelude.{IfErr}
-use Rattle.block_scanner.specs.declared.Words.{Words}
+use Rattle.block_scanner.specs.WordsView.{WordsView}
 use Rattle.nc_expressions.specs.declared.faults.SyntaxFault.{SyntaxFault}
 use Rattle.nc_blocks.specs.declared.blocks.Block.{Block}
 use Rattle.nc_blocks.specs.declared.blocks.CoordWord.{CoordWord}
@@ -24,7 +24,7 @@ use Rattle.nc_syntax.specs.Blocks.{skip_of, number_at, label_at, head_of, block_
 use Rattle.nc_syntax.proofs.FormRefusals.{alone_listed, last_expression_listed, for_listed, repeat_listed, repeat_block_listed, call_listed, number_call_listed, proc_listed, if_listed, jump_form_listed, case_listed, shape_listed, turn_listed, arguments_listed, axes_listed, clear_listed, init_listed, cprot_listed, msg_listed, setms_listed, workpiece_listed}
 use Rattle.nc_syntax.proofs.RefusedWords.{Named, word_named}
 
-control_listed : (words : Words) (which : Control) (at : ℕ) → Listed (control_form words which at)
+control_listed : (words : WordsView) (which : Control) (at : ℕ) → Listed (control_form words which at)
 unfolding control_form
 control_listed words control.If at = if_listed words at
 control_listed words control.Else at = alone_listed words at _
@@ -42,7 +42,7 @@ control_listed words control.RepeatBlock at = repeat_block_listed words at
 control_listed words control.Return at = alone_listed words at _
 control_listed words control.Proc at = proc_listed words at
 
-coordination_listed : (words : Words) (which : CoordWord) (at : ℕ) → Listed (coordination_form words which at)
+coordination_listed : (words : WordsView) (which : CoordWord) (at : ℕ) → Listed (coordination_form words which at)
 unfolding coordination_form
 coordination_listed words coord.ClearM at = clear_listed words coord.ClearM at
 coordination_listed words coord.Init at = init_listed words coord.Init at
@@ -51,7 +51,7 @@ coordination_listed words coord.Release at = axes_listed words coord.Release at
 coordination_listed words coord.Get at = axes_listed words coord.Get at
 coordination_listed words which at = arguments_listed words which at
 
-form_listed : (words : Words) (which : Form) (at : ℕ) → Listed (form_body words which at)
+form_listed : (words : WordsView) (which : Form) (at : ℕ) → Listed (form_body words which at)
 unfolding form_body
 form_listed words (form.Jump way) at = jump_form_listed words way at
 form_listed words (form.Control which) at = control_listed words which at
@@ -63,34 +63,34 @@ form_listed words form.Stopre at = alone_listed words at _
 form_listed words form.Setms at = setms_listed words at
 form_listed words form.Workpiece at = workpiece_listed words at
 
-named_listed : (words : Words) (which : Option Form) (text : List ℕ) (at : ℕ) → Listed (named_form words which text at)
+named_listed : (words : WordsView) (which : Option Form) (text : List ℕ) (at : ℕ) → Listed (named_form words which text at)
 named_listed words (Some which) text at = form_listed words which (at + 1)
 named_listed words None text at = chosen _ _ _ (words_listed words at) (call_listed words (name_of text) (at + 1))
 
-piece_body : (words : Words) (at : ℕ) (p : Piece) → Listed (body_of words at p)
+piece_body : (words : WordsView) (at : ℕ) (p : Piece) → Listed (body_of words at p)
 unfolding named_body lettered_body
 piece_body words at piece.End = found _
 piece_body words at piece.Name = named_listed words (form_of (text_at words at)) (text_at words at) at
 piece_body words at (piece.Letter letter) = chosen _ _ _ (number_call_listed words (at + 1)) (words_listed words at)
 piece_body words at one = words_listed words at
 
-body_listed : (words : Words) (at : ℕ) → Listed (body_at words at)
+body_listed : (words : WordsView) (at : ℕ) → Listed (body_at words at)
 unfolding body_at
 body_listed words at = piece_body words at (piece_at words at)
 
-skip_listed : (words : Words) → Listed (skip_of words)
+skip_listed : (words : WordsView) → Listed (skip_of words)
 unfolding skip_of IsBlockRefusal block_refusals
 skip_listed words = chosen _ _ _ (chosen _ _ _ (refuses refl) (found _)) (found _)
 
-number_listed : (words : Words) (at : ℕ) → Listed (number_at words at)
+number_listed : (words : WordsView) (at : ℕ) → Listed (number_at words at)
 unfolding number_at
 number_listed words at = chosen _ _ _ (bound _ _ (block_number_listed words (at + 1)) (λ n. found _)) (found _)
 
-head_listed : (words : Words) → Listed (head_of words)
+head_listed : (words : WordsView) → Listed (head_of words)
 unfolding head_of
 head_listed words = bound _ _ (skip_listed words) (λ skip. bound _ _ (number_listed words skip.1) (λ number. found _))
 
-block_listed : (words : Words) → Listed (block_of words)
+block_listed : (words : WordsView) → Listed (block_of words)
 unfolding block_of
 block_listed words = bound _ _ (head_listed words) (λ head. bound _ _ (body_listed words (label_at words head.2).1) (λ s. found _))
 
@@ -100,10 +100,10 @@ unless_listed (Some code) large read h k = refuses h.code
 unless_listed None true read h k = refuses refl
 unless_listed None false read h k = k
 
-statement_listed : (words : Words) (compensation : Bool) → Listed (statement_of words compensation)
+statement_listed : (words : WordsView) (compensation : Bool) → Listed (statement_of words compensation)
 unfolding statement_of
 statement_listed words compensation =
-    unless_listed _ _ (block_of words) (word_named compensation words.line.now words.tokens.items) (block_listed words)
+    unless_listed _ _ (block_of words) (word_named compensation words.line words.tokens) (block_listed words)
 
-pub refusals_listed : (words : Words) (compensation : Bool) (r : Result Block SyntaxFault) → Gives view_of (statement_of words compensation) r → IfErr r IsListed
+pub refusals_listed : (words : WordsView) (compensation : Bool) (r : Result Block SyntaxFault) → Gives view_of (statement_of words compensation) r → IfErr r IsListed
 refusals_listed words compensation r h = given view_of (statement_of words compensation) r h (statement_listed words compensation)
