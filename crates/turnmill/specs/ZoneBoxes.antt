@@ -121,10 +121,9 @@ IsStraight (Line ends) = ⊤
 IsStraight (Rapid ends) = ⊥
 IsStraight (Kind.Arc arc) = ⊥
 
--- a motion is sound and straight, and moves axes of the row of positions
+-- a motion is sound, and moves axes of the row of positions
 pub record IsFit (item : Item) : Type 0 where
   pub sound : IsSound item.motion
-  pub straight : IsStraight item.motion
   pub within : All (λ e. e.0 < 16) (axes_of item.motion)
 
 -- the boxes as they are compared where motions are not cut: the line that names it, and the zone box of the cover of its motion, or where it stands
