@@ -1,10 +1,8 @@
 -- The motions of blocks join.
-use Rattle.std.proofs.Common.{◌≡◌, ◌⊎◌, ◌∙◌, ℕ, zero, suc, ℤ, ◌+◌, ◌<◌, ◌≤◌, ◌==◌, List, [], ◌∷◌, ◌++◌, length, take, filter_map, find, Option, None, Some, option_map, option_and_then, unwrap_or, slice_get, All, inl, inr, refl, sym, ap, subst, arith}
+use Rattle.std.proofs.Common.{◌≡◌, ◌⊎◌, ◌∙◌, ℕ, zero, suc, ℤ, ◌+◌, ◌<◌, ◌≤◌, ◌==◌, List, [], ◌∷◌, ◌++◌, length, filter_map, find, Option, None, Some, option_map, option_and_then, unwrap_or, All, inl, inr, refl, sym, ap, subst, arith}
 use Rattle.std.proofs.lemmas.Bool.{eq-eqb, ne_eqb, cases_eq}
-use Rattle.std.proofs.lemmas.List.Elements.{All-nil, All-cons, All-weaker, filter_map-append}
-use Rattle.std.specs.Prelude.{⊤}
+use Rattle.std.proofs.lemmas.List.Elements.{All-nil, All-cons, filter_map-append}
 use Rattle.std.specs.List.{last_or, cons_option, range_with_len}
-use Rattle.std.specs.Option.{option_map_or}
 use Rattle.path_geometry.specs.declared.motion.Motion.TheVariants.{Line}
 use Rattle.tape_job.specs.Job.{JobView}
 use Rattle.tape_job.specs.declared.job.Block.{Block}
@@ -12,9 +10,8 @@ use Rattle.tape_job.specs.declared.job.Stmt.{Stmt}
 use Rattle.tape_job.specs.declared.job.Stmt.TheVariants.{Move, End}
 use Rattle.turnmill.specs.Channels.{programmed, start_position, position_after, end_from, ends_from, item_from, items_after}
 use Rattle.turnmill.specs.LeftAt.{end_in}
-use Rattle.turnmill.proofs.PositionLemmas.{after_is, Joins, AllJoin}
-use Rattle.path_geometry.specs.Motions.{axes_of}
-use Rattle.turnmill.specs.ZoneBoxes.{after, IsStraight}
+use Rattle.turnmill.proofs.PositionLemmas.{after_is, AllJoin}
+use Rattle.turnmill.specs.ZoneBoxes.{after}
 use Rattle.turnmill.specs.declared.channels.Item.{Item}
 
 -- ---- the ends of a block's motion

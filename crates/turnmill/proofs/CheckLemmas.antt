@@ -1,5 +1,5 @@
 -- What an input calls for, by how it was read.
-use Rattle.std.proofs.Common.{◌≡◌, ℕ, ◌+◌, ◌<◌, ◌≤◌, nat_le, Bool, true, false, if◌then◌else◌, List, [], ◌∷◌, ◌++◌, length, drop, Option, None, Some, Result, Ok, Err, IfSome, IfOk, IsErr, IsErrAnd, IsOkAnd, refl, ap, sym, ◌∙◌, ◌⊎◌, inr, arith, length-append}
+use Rattle.std.proofs.Common.{◌≡◌, ℕ, ◌+◌, ◌≤◌, nat_le, Bool, true, false, if◌then◌else◌, List, [], length, drop, Option, None, Some, Result, Ok, Err, IfSome, IfOk, IsErr, IsErrAnd, IsOkAnd, refl, ap, sym, ◌∙◌, ◌⊎◌, inr, arith, length-append}
 use Rattle.std.proofs.Math.Seq.{drop-append_seam}
 use Rattle.std.proofs.lemmas.List.{append-nil}
 use Rattle.std.proofs.lemmas.Bool.{le-leb, leb-true}

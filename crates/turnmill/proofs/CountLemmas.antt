@@ -1,11 +1,11 @@
 -- The count of the compared pairs, and its bound.
-use Rattle.std.proofs.Common.{◌≡◌, ℕ, ℤ, zero, suc, ◌+◌, ◌*◌, ◌≤◌, ◌<◌, ◌^◌, ◌==◌, not, find, cond, Bool, true, false, List, [], ◌∷◌, ◌++◌, map, filter, length, refl, ap, sym, ◌∙◌, arith, Option, None, Some, All, length-append, zero-add}
+use Rattle.std.proofs.Common.{◌≡◌, ℕ, ℤ, zero, suc, ◌+◌, ◌*◌, ◌≤◌, ◌<◌, ◌^◌, ◌==◌, not, find, cond, Bool, true, false, List, [], ◌∷◌, ◌++◌, map, filter, length, refl, ap, sym, ◌∙◌, arith, Option, None, Some, All, zero-add}
 use Rattle.std.specs.List.{sum_by, flat_map, filter_map, range_with_len, cons_option}
 use Rattle.std.specs.Option.{option_map_or}
 use Rattle.std.proofs.Math.Nat.{mul-le-mul}
 use Rattle.std.proofs.lemmas.List.{length-map}
 use Rattle.std.proofs.lemmas.List.Concat.{length-flat_map}
-use Rattle.std.proofs.lemmas.List.Elements.{All-nil, All-cons, All-head, All-tail, All-map}
+use Rattle.std.proofs.lemmas.List.Elements.{All-nil, All-cons, All-head, All-tail, All-map, All-weaker}
 use Rattle.std.proofs.lemmas.List.Sums.{sum_by-append, sum_by-cons, sum_by-le}
 use Rattle.tape_job.specs.Job.{JobView}
 use Rattle.tape_job.specs.declared.job.ChannelLine.{ChannelLine}
@@ -13,15 +13,14 @@ use Rattle.tape_job.specs.declared.job.ZoneLine.{ZoneLine}
 use Rattle.turnmill.proofs.JudgeLemmas.{IsHeld, AllHeld, all_held, overlap_is}
 use Rattle.turnmill.proofs.Runs.{good_run}
 use Rattle.turnmill.specs.Channels.{IsRunnable, start_position, items_of}
-use Rattle.turnmill.specs.Clash.{own_clock, may_overlap, zones_in_order, pairs_by_group, zone_pairs, BoxPlace, box_pairs, stretch_pairs, pairs_of_zones, compared_pairs, pair_count}
+use Rattle.turnmill.specs.Clash.{own_clock, zones_in_order, pairs_by_group, zone_pairs, BoxPlace, box_pairs, stretch_pairs, pairs_of_zones, compared_pairs, pair_count}
 use Rattle.turnmill.specs.LeftAt.{left_at}
 use Rattle.turnmill.specs.PairCounts.{count_in_stretches, count_against, count_of_zones, count_of}
 use Rattle.turnmill.specs.ShownStretches.{shown_stretch, held_zone, HeldView, do_overlap}
-use Rattle.turnmill.specs.Stretches.{Stretch, Span, spans_of, stretches_from, channel_line, stretches_of}
+use Rattle.turnmill.specs.Stretches.{Stretch, spans_of, stretches_from, channel_line, stretches_of}
 use Rattle.turnmill.specs.StretchView.{StretchView}
-use Rattle.turnmill.specs.ZoneBoxes.{PlaceBox, Opened, Waiting, Moving, close, closed, next_open, walk, boxes_of, shown_box, after, moves_zone}
+use Rattle.turnmill.specs.ZoneBoxes.{PlaceBox, Opened, Waiting, Moving, closed, next_open, walk, boxes_of, shown_box, after, moves_zone, has_axis}
 use Rattle.turnmill.specs.declared.channels.Item.{Item}
-use Rattle.turnmill.specs.declared.zone_boxes.ZoneBox.{ZoneBox}
 
 -- ---- sums
 
@@ -53,7 +52,7 @@ sum_by-filter f test (x ∷ xs) =
     ∙ sym (sum_by-cons (λ y. cond (test y) (f y) 0) x xs)
 
 sum_by-constant : {X : Type 0} (n : ℕ) (xs : List X) → sum_by (λ x. n) xs ≡ length xs * n
-sum_by-constant n [] = refl
+sum_by-constant n [] = omega arith
 sum_by-constant {X = X} n (x ∷ xs) = let rest = sum_by-constant n xs in let first = sum_by-cons {X = X} (λ y. n) x xs in omega arith
 
 -- ---- the count
@@ -141,33 +140,53 @@ boxes_few : (zone : ZoneLine) (at : ℕ → ℤ) (items : List Item) → length 
 unfolding boxes_of
 boxes_few zone at items few = let boxes = walk_few zone 1 (Waiting 0 at) at items in omega arith
 
+-- P holds of each element, by recursion on the list
+abbrev EachOf : {X : Type 0} → (X → Type 0) → List X → Type 0
+EachOf P [] = Unit {0}
+EachOf P (x ∷ xs) = P x × EachOf P xs
+
+all_of : {X : Type 0} (P : X → Type 0) (xs : List X) → EachOf P xs → All P xs
+all_of P [] each = All-nil P
+all_of P (x ∷ xs) each = All-cons P x xs each.0 (all_of P xs each.1)
+
 -- a zone has at most two stretches, each of at most 100,001 boxes
 record HasFewBoxes (held : HeldView) : Type 0 where
   stretches : length held.stretches ≤ 2
   boxes : All (λ (stretch : StretchView). length stretch.boxes ≤ 100001) held.stretches
 
-held_few : (job : JobView) → IsRunnable job → (zone : ZoneLine) → HasFewBoxes (held_zone job zone)
-unfolding held_zone stretches_of spans_of shown_stretch
-held_few job runnable zone = by_holder zone.holder refl
+-- so has each zone of a job that can be run
+abbrev AreFew : List Stretch → Type 0
+AreFew stretches = (length stretches ≤ 2) × EachOf (λ (stretch : Stretch). length stretch.boxes ≤ 100001) stretches
+
+stretches_few : (job : JobView) → IsRunnable job → (zone : ZoneLine) → AreFew (stretches_of job zone)
+unfolding stretches_of spans_of boxes_of moves_zone has_axis
+stretches_few job runnable zone = by_holder zone.holder refl
   where
-    FewOf : List Stretch → Type 0
-    FewOf stretches = HasFewBoxes (record { zone = zone; stretches = map (shown_stretch zone) stretches })
+    by_line : (c : ℕ) (o : Option ChannelLine) → AreFew (option_map_or (λ line. stretches_from zone c 0 (spans_of job line)) o [])
+    by_line c None = (omega arith, tt)
+    by_line c (Some line) = (
+      omega arith,
+      (
+        boxes_few zone (start_position job) (items_of job line) (good_run job runnable line).few,
+        (boxes_few zone (left_at (items_of job line) (start_position job)) [] (omega arith), tt),
+      ),
+    )
 
-    by_line : (c : ℕ) (o : Option ChannelLine) → FewOf (option_map_or (λ line. stretches_from zone c 0 (spans_of job line)) o [])
-    by_line c None = record { stretches = omega arith; boxes = All-nil (λ (stretch : StretchView). length stretch.boxes ≤ 100001) }
-    by_line c (Some line) = record {
-      stretches = omega arith;
-      boxes =
-          All-cons (λ (stretch : StretchView). length stretch.boxes ≤ 100001) _ _
-          (let few = boxes_few zone (start_position job) (items_of job line) (good_run job runnable line).few in rw length-map few)
-          (All-cons (λ (stretch : StretchView). length stretch.boxes ≤ 100001) _ _
-          (let few = boxes_few zone (left_at (items_of job line) (start_position job)) [] (omega arith) in rw length-map few)
-          (All-nil (λ (stretch : StretchView). length stretch.boxes ≤ 100001)));
-    }
-
-    by_holder : (h : Option ℕ) → zone.holder ≡ h → FewOf (stretches_of job zone)
-    by_holder None e = rw e (record { stretches = omega arith; boxes = All-nil (λ (stretch : StretchView). length stretch.boxes ≤ 100001) })
+    by_holder : (h : Option ℕ) → zone.holder ≡ h → AreFew (stretches_of job zone)
+    by_holder None e = rw e (omega arith, tt)
     by_holder (Some c) e = rw e (by_line c (channel_line job c))
+
+held_few : (job : JobView) → IsRunnable job → (zone : ZoneLine) → HasFewBoxes (held_zone job zone)
+unfolding held_zone shown_stretch
+held_few job runnable zone =
+    let few = stretches_few job runnable zone in
+    record {
+      stretches = rw (length-map (stretches_of job zone) (shown_stretch zone)) few.0;
+      boxes = All-map (λ (view : StretchView). length view.boxes ≤ 100001) (shown_stretch zone) (stretches_of job zone)
+          (All-weaker (λ (s : Stretch). length s.boxes ≤ 100001) (λ s. length (map (shown_box zone s.line) s.boxes) ≤ 100001)
+          (λ s short. rw (length-map s.boxes (shown_box zone s.line)) short) (stretches_of job zone)
+          (all_of (λ (s : Stretch). length s.boxes ≤ 100001) (stretches_of job zone) few.1));
+    }
 
 in_stretches_few : (left right : StretchView) → length left.boxes ≤ 100001 → length right.boxes ≤ 100001 → count_in_stretches left right ≤ 10000200001
 unfolding count_in_stretches

@@ -1,5 +1,5 @@
 -- Small steps do not get stuck.
-use Rattle.std.proofs.Common.{◌≡◌, ◌⊎◌, ◌∙◌, ℕ, zero, suc, ℤ, pos, ◌+◌, ◌-◌, ◌*ℤ◌, ◌≤◌, ◌<◌, Bool, true, false, cond, ◌==◌, List, [], ◌∷◌, length, take, Option, None, Some, IfSome, IsSomeAnd, IsTrue, slice_get, All, refl, sym, ap, subst, arith}
+use Rattle.std.proofs.Common.{◌≡◌, ◌∙◌, ℕ, zero, suc, ℤ, pos, ◌-◌, ◌*ℤ◌, ◌≤◌, true, List, [], ◌∷◌, length, take, Option, None, Some, IfSome, IsSomeAnd, IsTrue, slice_get, refl, sym, ap, subst, arith}
 use Rattle.std.proofs.lemmas.Bool.{eq-eqb}
 use Rattle.std.proofs.lemmas.List.Elements.{All-weaker}
 use Rattle.std.specs.Option.{option_map_or}
@@ -8,14 +8,14 @@ use Rattle.tape_job.specs.Job.{JobView}
 use Rattle.tape_job.specs.declared.job.ChannelLine.{ChannelLine}
 use Rattle.turnmill.proofs.CoverLemmas.{standing, along_at_end}
 use Rattle.turnmill.proofs.NoJumps.{has_acted}
-use Rattle.turnmill.proofs.PositionLemmas.{Joins, AllJoin, joins_at}
+use Rattle.turnmill.proofs.PositionLemmas.{AllJoin, joins_at}
 use Rattle.turnmill.proofs.Runs.{motions_join}
 use Rattle.turnmill.proofs.StateLemmas.{WellPlaced, well_placed, WellPlaced-opening, not_ended, run_place, board_first}
 use Rattle.turnmill.proofs.ZoneLemmas.{some_at}
 use Rattle.turnmill.specs.Channels.{start_position, items_of}
 use Rattle.turnmill.specs.Safety.{CanEnd}
-use Rattle.turnmill.specs.LeftAt.{end_in, left_at}
-use Rattle.turnmill.specs.SmallSteps.{StandsAt, IsStanding, IsAlong, IsEndOf, IsAtPlace, IsAtEnd, Spot, State, opening, span_of, has_ended, is_running, motions_of, board_position, beginning, present, SmallStep, Advance, Act, after_step, IsLawful, AreLawful, reached}
+use Rattle.turnmill.specs.LeftAt.{left_at}
+use Rattle.turnmill.specs.SmallSteps.{IsAlong, IsEndOf, IsAtPlace, IsAtEnd, Spot, State, opening, span_of, has_ended, is_running, motions_of, board_position, present, SmallStep, Advance, Act, after_step, IsLawful, AreLawful, reached}
 use Rattle.turnmill.specs.Stretches.{channel_line}
 use Rattle.path_geometry.specs.Motions.{axes_of}
 use Rattle.turnmill.specs.ZoneBoxes.{after}

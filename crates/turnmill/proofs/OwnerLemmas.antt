@@ -1,5 +1,5 @@
 -- Each axis has one owner, and the motions of a channel have only axes that it owns.
-use Rattle.std.proofs.Common.{◌≡◌, ℕ, ◌==◌, List, [], Option, None, Some, option_and_then, IfSome, IsSomeAnd, slice_get, All, refl, sym, subst}
+use Rattle.std.proofs.Common.{◌≡◌, ℕ, ◌==◌, List, [], Option, None, Some, option_and_then, IfSome, IsSomeAnd, slice_get, All, refl, subst}
 use Rattle.std.proofs.lemmas.Bool.{eqb-true}
 use Rattle.std.proofs.lemmas.List.Elements.{All-nil}
 use Rattle.std.proofs.lemmas.Option.{slice_get_within, get_or_from_slice_get}

@@ -56,7 +56,7 @@ pub left_at_next : (items : List Item) (k : ℕ) (d : Item) → k < length items
     → (axis : ℕ) → left_at (drop (k + 1) items) next axis ≡ left_at (drop k items) before axis
 left_at_next items k d within before next moved axis =
     let same : next ≡ after (get_or items k d) before = fun_ext moved in
-    let rest : drop k items ≡ get_or items k d ∷ drop (k + 1) items = rw add-one (drop-cons k items d within) in
+    let rest : drop k items ≡ get_or items k d ∷ drop (k + 1) items = rw add-one (drop-cons items k d within) in
     ap (λ (p : ℕ → ℤ). left_at (drop (k + 1) items) p axis) same
     ∙ sym (left_at-cons (get_or items k d) (drop (k + 1) items) before axis)
     ∙ ap (λ (xs : List Item). left_at xs before axis) (sym rest)

@@ -1,5 +1,5 @@
 -- What the other proofs need of the run of a channel. They speak of no block.
-use Rattle.std.proofs.Common.{◌≡◌, ℕ, ◌≤◌, List, [], length, Some, All, refl}
+use Rattle.std.proofs.Common.{◌≡◌, ℕ, ◌≤◌, [], length, Some, All, refl}
 use Rattle.tape_job.specs.Job.{JobView}
 use Rattle.tape_job.specs.SoundJob.{first_owner, IsSoundJob}
 use Rattle.tape_job.specs.declared.job.ChannelLine.{ChannelLine}

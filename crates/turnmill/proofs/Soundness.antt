@@ -1,14 +1,12 @@
 -- The verdict YES is sound at all speeds.
-use Rattle.std.proofs.Common.{◌≡◌, ◌≢◌, ◌⊎◌, ◌∙◌, ℕ, zero, suc, ℤ, pos, ◌*ℤ◌, ◌<◌, Bool, true, false, cond, ◌||◌, ◌==◌, List, [], ◌∷◌, length, get_or, find, Option, None, Some, option_and_then, IfSome, IsSomeAnd, slice_get, All, Contains, inl, inr, refl, sym, ap, subst, arith}
+use Rattle.std.proofs.Common.{◌≡◌, ◌≢◌, ◌⊎◌, ◌∙◌, ℕ, zero, suc, ℤ, pos, ◌*ℤ◌, ◌<◌, Bool, true, false, cond, ◌||◌, ◌==◌, List, [], ◌∷◌, length, get_or, find, Option, None, Some, IfSome, IsSomeAnd, All, Contains, inl, inr, refl, sym, ap, subst, arith}
 use Rattle.std.proofs.lemmas.Bool.{false≢true, eqb-true, eq-eqb, cases_Bool}
 use Rattle.std.proofs.lemmas.List.Elements.{All-head, All-tail, All-contains}
-use Rattle.std.proofs.lemmas.Option.{slice_get_within}
 use Rattle.std.specs.Prelude.{Result, Ok, Err, IfOk}
 use Rattle.std.specs.List.{list_any}
 use Rattle.number_laws.specs.Fractions.{Fraction, IsIn}
 use Rattle.swept_boxes.specs.Boxes.{SpacePoint, IsInBox}
 use Rattle.tape_job.specs.Job.{JobView}
-use Rattle.tape_job.specs.declared.job.AxisLine.{AxisLine}
 use Rattle.tape_job.specs.declared.job.ChannelLine.{ChannelLine}
 use Rattle.tape_job.specs.declared.job.Side.{Side}
 use Rattle.tape_job.specs.declared.job.ZoneLine.{ZoneLine}
@@ -22,7 +20,7 @@ use Rattle.turnmill.proofs.StateLemmas.{WellPlaced, well_placed, WellPlaced-open
 use Rattle.turnmill.proofs.VerdictLemmas.{none_meets}
 use Rattle.turnmill.proofs.ZoneLemmas.{FractionsWithin, in_zone_box}
 use Rattle.turnmill.specs.Channels.{start_position, items_of}
-use Rattle.turnmill.specs.Clash.{own_clock, zones_in_order, zone_pairs, BoxPlace, pairs_of_zones, compared_pairs, depth_of, pair_meets, verdict_of}
+use Rattle.turnmill.specs.Clash.{own_clock, zones_in_order, zone_pairs, pairs_of_zones, compared_pairs, depth_of, pair_meets, verdict_of}
 use Rattle.turnmill.specs.Safety.{axis_owner, axis_position, fraction_of, IsInZone, ZonesMeet, NoneMeet, SafeAlways}
 use Rattle.turnmill.specs.LeftAt.{left_at}
 use Rattle.turnmill.specs.SmallSteps.{StandsAt, IsAtPlace, Spot, State, opening, span_of, has_ended, motions_of, board_position, beginning, present, reached}

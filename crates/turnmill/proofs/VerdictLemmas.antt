@@ -1,7 +1,9 @@
 -- The verdict, by what comes first.
-use Rattle.std.proofs.Common.{◌≡◌, ℕ, ◌<◌, ◌≤◌, Bool, true, false, cond, nat_lt, ◌==◌, Option, None, Some, option_and_then, find, List, All, map, get_or, refl, sym, arith}
+use Rattle.std.proofs.Common.{◌≡◌, ◌∙◌, ℕ, suc, ◌+◌, ◌-◌, ◌<◌, ◌≤◌, Bool, true, false, cond, nat_lt, ◌==◌, Option, None, Some, option_and_then, find, List, All, get_or, refl, sym, ap, arith}
 use Rattle.std.proofs.lemmas.Bool.{lt-ltb, ltb-true}
 use Rattle.std.proofs.lemmas.List.Elements.{All-map}
+use Rattle.std.specs.List.{range_with_len}
+use Rattle.std.specs.Option.{option_or}
 use Rattle.nc_faults.specs.declared.Alarm.{Alarm}
 use Rattle.tape_job.specs.Job.{JobView}
 use Rattle.turnmill.proofs.Runs.{good_run}
@@ -9,10 +11,21 @@ use Rattle.turnmill.proofs.SomeLemmas.{All-found}
 use Rattle.turnmill.specs.ZoneBoxes.{IsFit}
 use Rattle.turnmill.specs.ChannelRun.{RunView, HasKnownCode, run_of, runs_of, run_in}
 use Rattle.turnmill.specs.Channels.{IsRunnable}
-use Rattle.turnmill.specs.Clash.{BoxPlace, budget_of, first_alarm, compared_pairs, pair_count, pair_meets, pairs_verdict, boxes_verdict, verdict_of}
-use Rattle.turnmill.specs.declared.stretches.Verdict.{Verdict}
+use Rattle.turnmill.specs.FirstAnswer.{first_some}
+use Rattle.turnmill.specs.Clash.{BoxPlace, alarm_of, stop_of, first_alarm, compared_pairs, pair_count, pair_meets, pairs_verdict, boxes_verdict, verdict_of}
 use Rattle.turnmill.specs.declared.stretches.Verdict.TheVariants.{Yes, No, Undecided}
 use Rattle.turnmill.specs.declared.stretches.Verdict.TheVariants as verdicts
+
+-- the first answer from a number on that gives none
+pub first_some-next : {Y : Type 0} (f : ℕ → Option Y) (low over : ℕ) → low < over → f low ≡ None
+    → first_some f (range_with_len (low + 1) (over - (low + 1))) ≡ first_some f (range_with_len low (over - low))
+first_some-next {Y = Y} f low over within none =
+    let one : over - low ≡ suc (over - (low + 1)) = omega arith in
+    sym (ap (λ (n : ℕ). first_some f (range_with_len low n)) one ∙ ap (λ (o : Option Y). option_or o (first_some f (range_with_len (low + 1) (over - (low + 1))))) none)
+
+-- a channel without an alarm
+pub not_stopped : (runs : List RunView) (channel : ℕ) → alarm_of runs channel ≡ None → stop_of runs channel ≡ None
+not_stopped runs channel none = rw none refl
 
 -- ALARM
 pub verdict_stopped : (job : JobView) (stopped : ℕ × Alarm) → first_alarm (runs_of job) ≡ Some stopped → verdict_of job ≡ verdicts.Alarm stopped.0 stopped.1

@@ -5,7 +5,6 @@ use Rattle.std.specs.Option.{option_map, option_map_or, option_and_then}
 use Rattle.std.specs.Map.{lookup}
 use Rattle.std.specs.Str.{bytes_eq}
 use Rattle.path_geometry.specs.Motions.{IsInRange}
-use Rattle.path_geometry.specs.declared.motion.Motion.{Motion}
 use Rattle.path_geometry.specs.declared.motion.Motion.TheVariants.{Line}
 use Rattle.tape_job.specs.Job.{JobView, ProgramView}
 use Rattle.tape_job.specs.declared.job.ChannelLine.{ChannelLine}

@@ -1,7 +1,7 @@
 -- The boxes of a zone: where its sides stand, and the boxes that a channel's motions give it.
-use Rattle.std.specs.Prelude.{◌<◌, All, ℕ, ℤ, ◌+ℤ◌, ◌-ℤ◌, ◌+◌, ◌==◌, Bool, true, false, if◌then◌else◌, List, [], ◌∷◌, ◌++◌, map, length, ⊤, Option, None, Some, find}
+use Rattle.std.specs.Prelude.{◌<◌, All, ℕ, ℤ, ◌+ℤ◌, ◌-ℤ◌, ◌+◌, ◌==◌, Bool, true, false, if◌then◌else◌, List, [], ◌∷◌, ◌++◌, map, ⊤, Option, None, Some, find}
 use Rattle.std.specs.List.{list_any}
-use Rattle.std.specs.Option.{option_map, option_map_or}
+use Rattle.std.specs.Option.{option_map_or}
 use Rattle.swept_boxes.specs.Cover.{cover_of}
 use Rattle.path_geometry.specs.Motions.{axes_of, IsSound}
 use Rattle.swept_boxes.specs.Pieces.{pieces_at}

@@ -275,11 +275,7 @@ fn end_line_in(blocks: &[Block]) -> u32
 }
 
 /// Runs the program that a CHANNEL line selects.
-pub fn run_channel(
-    alloc: Global,
-    job: &Job,
-    line: &ChannelLine,
-) -> Result<ChannelRun, AllocError>
+pub fn run_channel(alloc: Global, job: &Job, line: &ChannelLine) -> Result<ChannelRun, AllocError>
     requires { model.HasFewAxes job.now }
     ensures { IfOk result (λ run. run ≡ run_of job.now line.now) }
 {

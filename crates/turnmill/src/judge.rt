@@ -76,11 +76,7 @@ fn zone_numbered(job: &Job, number: u8) -> Option<ZoneLine>
 
 /// The zones with their stretches, in ascending order of their numbers.
 #[tactic(auto, unfolding(crate::specs::Clash::zones_in_order))]
-fn held_zones(
-    alloc: Global,
-    job: &Job,
-    runs: &[ChannelRun],
-) -> Result<Vec<HeldZone>, AllocError>
+fn held_zones(alloc: Global, job: &Job, runs: &[ChannelRun]) -> Result<Vec<HeldZone>, AllocError>
     requires runnable { IsRunnable job.now }
     requires ran { runs.now ≡ runs_of job.now }
     ensures { IfOk result (λ zones. zones.items ≡ map (shown.held_zone job.now) (model.zones_in_order job.now)) }

@@ -267,7 +267,10 @@ fn push_verdict_line(out: &mut String, verdict: &Verdict) -> Result<(), AllocErr
             let channel = channel.number;
             let line = alarm.line;
             let code = alarm.code;
-            write!(out, "VERDICT ALARM CHANNEL {channel} LINE {line} CODE {code}\n")
+            write!(
+                out,
+                "VERDICT ALARM CHANNEL {channel} LINE {line} CODE {code}\n"
+            )
         }
     }
 }

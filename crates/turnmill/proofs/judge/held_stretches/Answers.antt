@@ -1,5 +1,4 @@
-use Rattle.std.proofs.Common.{◌≡◌, All, List, ◌∷◌, [], map, ap, sym, subst, ◌∙◌, IfOk, option_copied, option_and_then, Some}
-use Rattle.turnmill.specs.ChannelRun.{RunView, run_in, runs_of}
+use Rattle.std.proofs.Common.{◌≡◌, List, ap, sym, subst, ◌∙◌, IfOk, option_copied}
 use Rattle.turnmill.specs.StretchView.{StretchView}
 use Rattle.turnmill.proofs.JudgeLemmas.{run_stretches, no_stretches}
 use Rattle.turnmill.proofs.VerdictLemmas.{fit_run}

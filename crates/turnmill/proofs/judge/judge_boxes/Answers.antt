@@ -1,4 +1,4 @@
-use Rattle.std.proofs.Common.{◌≡◌, ◌<◌, ◌≤◌, ◌∙◌, ℕ, ap, sym, List, arith}
+use Rattle.std.proofs.Common.{◌≡◌, ◌<◌, ◌≤◌, ◌∙◌, ap, sym, List, arith}
 use Rattle.turnmill.specs.Clash.{pair_count}
 use Rattle.turnmill.specs.PairCounts.{count_of}
 use Rattle.turnmill.specs.ShownStretches.{HeldView, first_meeting, verdict_by}

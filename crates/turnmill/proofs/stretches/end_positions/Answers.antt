@@ -1,4 +1,4 @@
-use Rattle.std.proofs.Common.{◌≡◌, ◌<◌, ◌≤◌, ◌∙◌, length, sym, arith}
+use Rattle.std.proofs.Common.{◌∙◌, sym, arith}
 use Rattle.turnmill.proofs.PositionLemmas.{left_at_next, left_at_done}
 use Rattle.turnmill.proofs.stretches.end_positions.Goals as goal
 

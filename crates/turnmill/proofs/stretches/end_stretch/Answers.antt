@@ -1,4 +1,4 @@
-use Rattle.std.proofs.Common.{◌≡◌, ℕ, ℤ, refl}
+use Rattle.std.proofs.Common.{◌≡◌, refl}
 use mathlib.Core.Path.{fun_ext}
 use Rattle.turnmill.specs.Channels.{positions_in, start_position}
 use Rattle.turnmill.specs.LeftAt.{left_at}
@@ -8,5 +8,5 @@ use Rattle.turnmill.proofs.stretches.end_stretch.Goals as goal
 pub returns : goal.returns
 unfolding end_stretch
 returns c =
-    let at : positions_in c.end_positions-at.result ≡ left_at c.args.run.now.items (start_position c.args.job.now) = fun_ext c.end_positions-at.ensures in
-    rw (← c.run.view_is, ← at, c.in_ok-boxes_of.ensures, c.line_of_end.ensures) refl
+    let at : positions_in c.end_positions-at.result ≡ left_at c.deref.result.now (start_position c.args.job.now) = fun_ext c.end_positions-at.ensures in
+    rw (← c.run.view_is, c.in_ok-boxes_of.ensures, c.line_of_end.ensures, at, c.deref.ensures.value) refl
