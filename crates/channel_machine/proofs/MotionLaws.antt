@@ -15,9 +15,8 @@ use Rattle.path_geometry.specs.declared.motion.Motion.TheVariants.{Line, Rapid}
 use Rattle.path_geometry.specs.declared.motion.Motion.TheVariants as kind
 use Rattle.channel_machine.specs.Motions.{positions_in, end_in, left_at, end_of, is_in_reach, end_for, ends_from, item_of, moved, IsMotionOf}
 use Rattle.channel_machine.specs.Words.{begun, words_done, words_in}
-use Rattle.channel_machine.specs.Run.{Effect, Executed, parameters_after, items_of, stands_after, effect_of, executed, run_of}
+use Rattle.channel_machine.specs.Run.{Effect, Executed, parameters_after, items_of, stands_after, effect_of, executed}
 use Rattle.channel_machine.specs.declared.motions.Item.{Item}
-use Rattle.channel_machine.specs.declared.progress.Progress.{Progress}
 use Rattle.channel_machine.specs.declared.run.SetUp.{SetUp}
 use Rattle.channel_machine.proofs.Ends.{le_or_lt, ends_all, ends_once}
 use Rattle.channel_machine.proofs.Runs.{items_of-push}
