@@ -1,3 +1,1 @@
-pub mod Places
-pub mod Passing
-pub mod Listing
+pub mod Broken

@@ -3,14 +3,15 @@ use Rattle.std.specs.Prelude.{ℕ, ◌+◌, ◌&&◌, Bool, true, false, List, O
 use Rattle.block_scanner.specs.declared.Words.{Words}
 use Rattle.word_tables.specs.Refused.{refused_word}
 use Rattle.word_tables.specs.LargeNumbers.{has_large_number}
-use Rattle.nc_syntax.specs.declared.pieces.Piece.{Piece}
-use Rattle.nc_syntax.specs.declared.pieces.Piece.TheVariants as piece
-use Rattle.nc_syntax.specs.Names.{name_of}
-use Rattle.nc_syntax.specs.Pieces.{piece_at, text_at}
-use Rattle.nc_syntax.specs.Reading.{◌>>=◌, block_number_at}
-use Rattle.nc_syntax.specs.Structures.{is_letter, is_name}
+use Rattle.nc_blocks.specs.declared.pieces.Piece.{Piece}
+use Rattle.nc_blocks.specs.declared.pieces.Piece.TheVariants as piece
+use Rattle.nc_blocks.specs.Names.{name_of}
+use Rattle.nc_blocks.specs.Pieces.{piece_at, text_at, is_name}
+use Rattle.nc_expressions.specs.Value.{◌>>=◌}
+use Rattle.nc_blocks.specs.Reading.{block_number_at}
+use Rattle.nc_syntax.specs.Structures.{is_letter}
 use Rattle.nc_syntax.specs.Bodies.{is_number, body_at}
-use Rattle.nc_syntax.specs.Statement.{BlockView}
+use Rattle.nc_blocks.specs.Statement.{BlockView}
 
 abbrev pub is_slash : Piece → Bool
 is_slash piece.Slash = true

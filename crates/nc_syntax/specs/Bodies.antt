@@ -4,25 +4,25 @@ use Rattle.std.specs.Option.{option_or}
 use Rattle.block_scanner.specs.declared.Words.{Words}
 use Rattle.word_tables.specs.Tables.{is_table_word}
 use Rattle.nc_expressions.specs.Symbols.{is_word}
-use Rattle.nc_syntax.specs.declared.blocks.CoordWord.{CoordWord}
-use Rattle.nc_syntax.specs.declared.blocks.CoordWord.TheVariants as coord
-use Rattle.nc_syntax.specs.declared.blocks.FrameWord.TheVariants as frame
-use Rattle.nc_syntax.specs.declared.blocks.Way.{Way}
+use Rattle.nc_blocks.specs.declared.blocks.CoordWord.{CoordWord}
+use Rattle.nc_blocks.specs.declared.blocks.CoordWord.TheVariants as coord
+use Rattle.nc_blocks.specs.declared.blocks.FrameWord.TheVariants as frame
+use Rattle.nc_blocks.specs.declared.blocks.Way.{Way}
 use Rattle.nc_syntax.specs.declared.bodies.Control.{Control}
 use Rattle.nc_syntax.specs.declared.bodies.Control.TheVariants as control
 use Rattle.nc_syntax.specs.declared.bodies.Form.{Form}
 use Rattle.nc_syntax.specs.declared.bodies.Form.TheVariants as form
-use Rattle.nc_syntax.specs.declared.pieces.Piece.{Piece}
-use Rattle.nc_syntax.specs.declared.pieces.Piece.TheVariants as piece
-use Rattle.nc_syntax.specs.Names.{name_of}
-use Rattle.nc_syntax.specs.Pieces.{piece_at, text_at}
-use Rattle.nc_syntax.specs.Reading.{◌>>=◌}
+use Rattle.nc_blocks.specs.declared.pieces.Piece.{Piece}
+use Rattle.nc_blocks.specs.declared.pieces.Piece.TheVariants as piece
+use Rattle.nc_blocks.specs.Names.{name_of}
+use Rattle.nc_blocks.specs.Pieces.{piece_at, text_at}
+use Rattle.nc_expressions.specs.Value.{◌>>=◌}
 use Rattle.nc_syntax.specs.Jumps.{way_of, jump_form, if_form, case_form}
 use Rattle.nc_syntax.specs.Structures.{alone, last_expression, for_form, repeat_form, repeat_block_form, call_form, number_call_form, proc_form}
 use Rattle.nc_syntax.specs.Frames.{shape_form, turn_form}
 use Rattle.nc_syntax.specs.Coordination.{arguments_form, axes_form, clear_form, init_form, cprot_form, msg_form, setms_form, workpiece_form}
-use Rattle.nc_syntax.specs.Wording.{words_form}
-use Rattle.nc_syntax.specs.Statement.{Statement, Empty, Else, EndIf, While, EndWhile, Until, Loop, EndLoop, EndFor, Return, Message}
+use Rattle.nc_blocks.specs.Wording.{words_form}
+use Rattle.nc_blocks.specs.Statement.{Statement, Empty, Else, EndIf, While, EndWhile, Until, Loop, EndLoop, EndFor, Return, Message}
 
 abbrev pub jump_name : Option Way → Option Form
 jump_name (Some way) = Some (form.Jump way)

@@ -1,18 +1,20 @@
 -- Coordination and messages.
-use Rattle.std.specs.Prelude.{ℕ, zero, suc, ◌+◌, ◌-◌, ◌==◌, ◌||◌, nat_lt, Bool, true, false, List, [], ◌∷◌, length, Option, Some, None, Result, Ok, Err, slice_range, reverse, position, if◌then◌else◌, codes}
+use Rattle.std.specs.Prelude.{ℕ, zero, suc, ◌+◌, ◌-◌, ◌==◌, ◌||◌, Bool, true, false, List, [], ◌∷◌, length, Option, Some, None, Result, Ok, Err, reverse, position, if◌then◌else◌, codes}
 use Rattle.std.specs.Str.{bytes_eq}
 use Rattle.block_scanner.specs.declared.Token.{Token}
 use Rattle.block_scanner.specs.declared.Words.{Words}
-use Rattle.nc_syntax.specs.declared.blocks.CoordWord.{CoordWord}
-use Rattle.nc_syntax.specs.declared.pieces.Piece.{Piece}
-use Rattle.nc_syntax.specs.declared.pieces.Piece.TheVariants as piece
-use Rattle.nc_syntax.specs.Pieces.{piece_at, text_at}
-use Rattle.nc_syntax.specs.Marks.{open_at, close_at, comma_at}
-use Rattle.nc_syntax.specs.Reading.{◌>>=◌, expression_at}
-use Rattle.nc_syntax.specs.Lists.{Item, list_at}
+use Rattle.nc_blocks.specs.declared.blocks.CoordWord.{CoordWord}
+use Rattle.nc_blocks.specs.declared.pieces.Piece.{Piece}
+use Rattle.nc_blocks.specs.declared.pieces.Piece.TheVariants as piece
+use Rattle.nc_blocks.specs.Pieces.{piece_at, text_at, is_text}
+use Rattle.nc_blocks.specs.Texts.{unquoted}
+use Rattle.nc_blocks.specs.AxisNames.{has_axis_name}
+use Rattle.nc_blocks.specs.Marks.{open_at, close_at, comma_at}
+use Rattle.nc_expressions.specs.Value.{◌>>=◌}
+use Rattle.nc_blocks.specs.Reading.{expression_at}
+use Rattle.nc_blocks.specs.Lists.{Item, list_at}
 use Rattle.nc_syntax.specs.Structures.{alone, is_close, is_open, is_close_kind}
-use Rattle.nc_syntax.specs.Frames.{has_axis_name}
-use Rattle.nc_syntax.specs.Statement.{Statement, Coord, Message, OperandView, Value, Text, AxisName}
+use Rattle.nc_blocks.specs.Statement.{Statement, Coord, Message, OperandView, Value, Text, AxisName}
 
 abbrev pub separator_of : Piece → ℕ → Result (Bool × ℕ) ℕ
 separator_of piece.Comma next = Ok (true, next)
@@ -68,14 +70,6 @@ clear_form words which at =
     if is_close (piece_at words (at + 1))
     then (open_at words at 22 >>= λ first. alone words (at + 2) (Coord which []))
     else arguments_form words which at
-
--- a text without its quotes
-unfoldable pub unquoted : List ℕ → List ℕ
-unquoted text = if nat_lt (length text) 2 then [] else slice_range text 1 (length text - 1)
-
-abbrev pub is_text : Piece → Bool
-is_text piece.Text = true
-is_text one = false
 
 -- the text at a place
 unfoldable pub quoted_at : Words → ℕ → Result (List ℕ) ℕ

@@ -1,16 +1,18 @@
 -- Frames.
-use Rattle.std.specs.Prelude.{ℕ, ◌+◌, ◌==◌, ◌&&◌, ◌||◌, not, Bool, true, false, List, [], Option, Some, None, Result, Ok, Err, if◌then◌else◌, codes}
+use Rattle.std.specs.Prelude.{ℕ, ◌+◌, ◌==◌, ◌||◌, not, Bool, true, false, List, [], Option, Some, None, Result, Ok, Err, if◌then◌else◌, codes}
 use Rattle.std.specs.List.{list_any}
 use Rattle.block_scanner.specs.declared.Words.{Words}
 use Rattle.nc_expressions.specs.Tree.{Tree, Number}
-use Rattle.nc_syntax.specs.declared.blocks.FrameWord.{FrameWord}
-use Rattle.nc_syntax.specs.declared.pieces.Piece.{Piece}
-use Rattle.nc_syntax.specs.declared.pieces.Piece.TheVariants as piece
-use Rattle.nc_syntax.specs.Pieces.{piece_at, text_at}
-use Rattle.nc_syntax.specs.Marks.{code_at, end_at, assign_at, is_keyword}
-use Rattle.nc_syntax.specs.Reading.{◌>>=◌, is_digits, expression_at, constant_at}
-use Rattle.nc_syntax.specs.Lists.{Item, list_at}
-use Rattle.nc_syntax.specs.Statement.{Statement, Shape, Turn}
+use Rattle.nc_blocks.specs.declared.blocks.FrameWord.{FrameWord}
+use Rattle.nc_blocks.specs.declared.pieces.Piece.{Piece}
+use Rattle.nc_blocks.specs.declared.pieces.Piece.TheVariants as piece
+use Rattle.nc_blocks.specs.Pieces.{piece_at, is_assign, is_end}
+use Rattle.nc_blocks.specs.AxisNames.{has_axis_word}
+use Rattle.nc_blocks.specs.Marks.{code_at, end_at, assign_at, is_keyword}
+use Rattle.nc_expressions.specs.Value.{◌>>=◌}
+use Rattle.nc_blocks.specs.Reading.{expression_at, constant_at}
+use Rattle.nc_blocks.specs.Lists.{Item, list_at}
+use Rattle.nc_blocks.specs.Statement.{Statement, Shape, Turn}
 
 -- the workpiece axis of a letter: 0, 1, 2 for X, Y, Z; 88 is 'X'
 abbrev pub axis_of : Piece → Option ℕ
@@ -21,14 +23,6 @@ axis_of one = None
 abbrev pub is_slot : Piece → Bool
 is_slot (piece.Letter b) = (b == 88) || (b == 89) || (b == 90)
 is_slot one = false
-
-abbrev pub is_assign : Piece → Bool
-is_assign piece.Assign = true
-is_assign one = false
-
-abbrev pub is_end : Piece → Bool
-is_end piece.End = true
-is_end one = false
 
 -- `=` and an expression, or a number with its sign
 unfoldable pub frame_value : Words → ℕ → Result (Tree × ℕ) ℕ
@@ -55,31 +49,6 @@ unfoldable pub shape_form : Words → FrameWord → ℕ → Result Statement ℕ
 shape_form words which at =
     if is_end (piece_at words at) then Ok (Shape which [])
     else (list_at (frame_word_at words) words at >>= λ p. Ok (Shape which p.0))
-
--- the letters of axes: A, B, C, U, V, W, X, Y, Z
-abbrev pub is_axis_letter : ℕ → Bool
-is_axis_letter b =
-    (b == 65) || (b == 66) || (b == 67) || (b == 85) || (b == 86) || (b == 87) || (b == 88) || (b == 89) || (b == 90)
-
-abbrev pub is_axis_start : Piece → Bool
-is_axis_start (piece.Letter b) = is_axis_letter b
-is_axis_start one = false
-
-abbrev pub is_digits_piece : Piece → List ℕ → Bool
-is_digits_piece (piece.Number z) text = is_digits text
-is_digits_piece one text = false
-
--- a number of digits alone stands there
-unfoldable pub has_digits : Words → ℕ → Bool
-has_digits words at = is_digits_piece (piece_at words at) (text_at words at)
-
--- an axis name: a letter of an axis, and digits
-unfoldable pub has_axis_name : Words → ℕ → Bool
-has_axis_name words at = is_axis_start (piece_at words at) && has_digits words (at + 1)
-
--- an axis name and =
-unfoldable pub has_axis_word : Words → ℕ → Bool
-has_axis_word words at = has_axis_name words at && is_assign (piece_at words (at + 2))
 
 -- behind ROT and AROT: an axis word is 50, all else is 24
 unfoldable pub turn_end : Words → ℕ → Result ℕ ℕ

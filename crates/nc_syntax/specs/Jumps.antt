@@ -3,19 +3,20 @@ use Rattle.std.specs.Prelude.{ℕ, ℤ, ◌+◌, ◌==◌, Bool, true, false, Li
 use Rattle.block_scanner.specs.declared.Words.{Words}
 use Rattle.nc_expressions.specs.Symbols.{is_word}
 use Rattle.nc_expressions.specs.Tree.{Tree}
-use Rattle.nc_syntax.specs.declared.blocks.JumpTo.{JumpTo}
-use Rattle.nc_syntax.specs.declared.blocks.Target.{Target}
-use Rattle.nc_syntax.specs.declared.blocks.Target.TheVariants as target
-use Rattle.nc_syntax.specs.declared.blocks.Way.{Way}
-use Rattle.nc_syntax.specs.declared.blocks.Way.TheVariants.{Forward, Backward, Either, Optional}
-use Rattle.nc_syntax.specs.declared.pieces.Piece.{Piece}
-use Rattle.nc_syntax.specs.declared.pieces.Piece.TheVariants as piece
-use Rattle.nc_syntax.specs.Names.{name_of}
-use Rattle.nc_syntax.specs.Pieces.{piece_at, text_at}
-use Rattle.nc_syntax.specs.Marks.{end_at, open_at, close_at, is_keyword, keyword_at}
-use Rattle.nc_syntax.specs.Reading.{◌>>=◌, expression_at, constant_at, block_number_at}
-use Rattle.nc_syntax.specs.Lists.{Item, list_at}
-use Rattle.nc_syntax.specs.Statement.{Statement, Jump, IfJump, If, Case}
+use Rattle.nc_blocks.specs.declared.blocks.JumpTo.{JumpTo}
+use Rattle.nc_blocks.specs.declared.blocks.Target.{Target}
+use Rattle.nc_blocks.specs.declared.blocks.Target.TheVariants as target
+use Rattle.nc_blocks.specs.declared.blocks.Way.{Way}
+use Rattle.nc_blocks.specs.declared.blocks.Way.TheVariants.{Forward, Backward, Either, Optional}
+use Rattle.nc_blocks.specs.declared.pieces.Piece.{Piece}
+use Rattle.nc_blocks.specs.declared.pieces.Piece.TheVariants as piece
+use Rattle.nc_blocks.specs.Names.{name_of}
+use Rattle.nc_blocks.specs.Pieces.{piece_at, text_at}
+use Rattle.nc_blocks.specs.Marks.{end_at, open_at, close_at, is_keyword, keyword_at}
+use Rattle.nc_expressions.specs.Value.{◌>>=◌}
+use Rattle.nc_blocks.specs.Reading.{expression_at, constant_at, block_number_at}
+use Rattle.nc_blocks.specs.Lists.{Item, list_at}
+use Rattle.nc_blocks.specs.Statement.{Statement, Jump, IfJump, If, Case}
 
 unfoldable pub way_of : List ℕ → Option Way
 way_of text =

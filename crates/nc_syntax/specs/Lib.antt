@@ -1,14 +1,6 @@
-pub mod Names
-pub mod Pieces
-pub mod Marks
-pub mod Reading
-pub mod Lists
-pub mod Statement
 pub mod Jumps
 pub mod Structures
 pub mod Frames
 pub mod Coordination
-pub mod Wording
 pub mod Bodies
 pub mod Blocks
-pub mod Indices

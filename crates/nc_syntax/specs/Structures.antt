@@ -6,13 +6,14 @@ use Rattle.block_scanner.specs.declared.Kind.TheVariants as kind
 use Rattle.block_scanner.specs.declared.Sign.TheVariants as sign
 use Rattle.block_scanner.specs.declared.Words.{Words}
 use Rattle.nc_expressions.specs.Tree.{Tree}
-use Rattle.nc_syntax.specs.declared.pieces.Piece.{Piece}
-use Rattle.nc_syntax.specs.declared.pieces.Piece.TheVariants as piece
-use Rattle.nc_syntax.specs.Names.{name_of}
-use Rattle.nc_syntax.specs.Pieces.{piece_at, text_at}
-use Rattle.nc_syntax.specs.Marks.{code_at, end_at, assign_at, is_keyword, keyword_at}
-use Rattle.nc_syntax.specs.Reading.{◌>>=◌, is_digits, expression_at, index_at, label_at}
-use Rattle.nc_syntax.specs.Statement.{Statement, For, RepeatFrom, RepeatBlock, Repeat, Call, Proc}
+use Rattle.nc_blocks.specs.declared.pieces.Piece.{Piece}
+use Rattle.nc_blocks.specs.declared.pieces.Piece.TheVariants as piece
+use Rattle.nc_blocks.specs.Names.{name_of}
+use Rattle.nc_blocks.specs.Pieces.{piece_at, text_at, is_name}
+use Rattle.nc_blocks.specs.Marks.{code_at, end_at, assign_at, is_keyword, keyword_at}
+use Rattle.nc_expressions.specs.Value.{◌>>=◌}
+use Rattle.nc_blocks.specs.Reading.{is_digits, expression_at, index_at, label_at}
+use Rattle.nc_blocks.specs.Statement.{Statement, For, RepeatFrom, RepeatBlock, Repeat, Call, Proc}
 
 -- this statement, where nothing stands behind it
 unfoldable pub alone : Words → ℕ → Statement → Result Statement ℕ
@@ -57,10 +58,6 @@ times_at words at =
     if is_letter (piece_at words at) 80
     then (assign_at words (at + 1) 22 >>= λ behind. last_expression words behind >>= λ t. Ok (Some t))
     else end_at words at >>= λ end. Ok None
-
-abbrev pub is_name : Piece → Bool
-is_name piece.Name = true
-is_name one = false
 
 -- REPEAT, behind its name: with a label, or of a loop
 unfoldable pub repeat_form : Words → ℕ → Result Statement ℕ

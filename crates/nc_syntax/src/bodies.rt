@@ -1,26 +1,24 @@
 //! The body of a block: its first token chooses the form.
 
-ghost use Rattle.nc_syntax.specs.Indices.{StatementFits};
+ghost use Rattle.nc_blocks.specs.Indices.{StatementFits};
 ghost use Rattle.std.specs.Prelude.{◌≡◌, ◌<◌, ◌≤◌, length, IfOk};
 ghost use Rattle.block_scanner.specs.Scanned.{IsScanned};
 ghost use Rattle.nc_syntax.specs.Bodies.{jump_name, structure_name, control_name, frame_name, coordination_name, form_of, control_form, coordination_form, form_body, named_body, lettered_body, body_at};
-ghost use Rattle.nc_syntax.specs.Reading.{Gives};
-ghost use Rattle.nc_syntax.specs.Statement.{statement_view};
+ghost use Rattle.nc_blocks.specs.Reading.{Gives};
+ghost use Rattle.nc_blocks.specs.Statement.{statement_view};
 
-use crate::blocks::{CoordWord, FrameWord, Stmt, Way};
 use crate::coordination::{arguments_form, axes_form, clear_form, cprot_form, init_form};
 use crate::frames::{shape_form, turn_form};
 use crate::jumps::{case_form, if_form, jump_form, way_of};
-use crate::marks::is_word;
 use crate::messages::{msg_form, setms_form, workpiece_form};
-use crate::names::NameText;
-use crate::pieces::{Piece, piece_at, text_at};
 use crate::structures::{
     alone, call_form, for_form, last_expression, number_call_form, proc_form, repeat_block_form,
     repeat_form,
 };
-use crate::wording::words_form;
 use block_scanner::Words;
+use nc_blocks::{
+    CoordWord, FrameWord, NameText, Piece, Stmt, Way, is_word, piece_at, text_at, words_form,
+};
 use nc_expressions::SyntaxFault;
 use std::alloc::Global;
 use word_tables::is_table_word;
@@ -223,7 +221,7 @@ fn form_of(text: &[u8]) -> Option<Form>
 }
 
 /// The form of a control word, behind its name.
-#[tactic(auto, using(crate::proofs::Passing::passing), unfolding(crate::specs::Bodies::control_form))]
+#[tactic(auto, using(nc_blocks::proofs::Passing::passing), unfolding(crate::specs::Bodies::control_form))]
 fn control_form(
     alloc: Global,
     words: &Words<'_>,

@@ -1,21 +1,19 @@
 //! Coordination.
 
-ghost use Rattle.nc_syntax.specs.Indices.{OperandFits, StatementFits};
+ghost use Rattle.nc_blocks.specs.Indices.{OperandFits, StatementFits};
 ghost use Rattle.std.specs.Prelude.{◌≡◌, ◌<◌, ◌≤◌, ◌+◌, ◌∷◌, [], map, length, IfOk, All};
 ghost use Rattle.block_scanner.specs.Scanned.{IsScanned};
-ghost use Rattle.nc_syntax.specs.Coordination.{separator_at, argument_at, axis_at, axis_argument_at, arguments_form, axes_form, clear_form, unquoted, quoted_at, is_wait, wait_at, last_of_init, third, opened_value, init_form, cprot_form};
-ghost use Rattle.nc_syntax.specs.Lists.{list_at};
-ghost use Rattle.nc_syntax.specs.Reading.{Gives};
-ghost use Rattle.nc_syntax.specs.Statement.{statement_view, operand_view, operand_item, operand_items, placed_operand, placed_bytes, placed_bytes_option, bytes_option, bytes_of};
+ghost use Rattle.nc_syntax.specs.Coordination.{separator_at, argument_at, axis_at, axis_argument_at, arguments_form, axes_form, clear_form, quoted_at, is_wait, wait_at, last_of_init, third, opened_value, init_form, cprot_form};
+ghost use Rattle.nc_blocks.specs.Lists.{list_at};
+ghost use Rattle.nc_blocks.specs.Reading.{Gives};
+ghost use Rattle.nc_blocks.specs.Statement.{statement_view, operand_view, operand_item, operand_items, placed_operand, placed_bytes, placed_bytes_option, bytes_option, bytes_of};
 
-use crate::blocks::{CoordWord, Operand, Stmt};
-use crate::frames::has_axis_name;
-use crate::marks::{close_at, comma_at, open_at};
-use crate::pieces::{Piece, piece_at, text_at};
-use crate::reading::expression_at;
 use crate::structures::alone;
-use crate::texts::{address, same_text};
 use block_scanner::Words;
+use nc_blocks::{
+    CoordWord, Operand, Piece, Stmt, address, close_at, comma_at, expression_at, has_axis_name,
+    open_at, piece_at, same_text, text_at, unquoted,
+};
 use nc_expressions::SyntaxFault;
 use std::alloc::{AllocError, Global};
 
@@ -34,7 +32,7 @@ fn separator_at(words: &Words<'_>, at: usize) -> Result<(bool, usize), u16>
 }
 
 /// An argument that is an expression.
-#[tactic(auto, using(crate::proofs::Passing::passing), unfolding(crate::specs::Coordination::argument_at))]
+#[tactic(auto, using(nc_blocks::proofs::Passing::passing), unfolding(crate::specs::Coordination::argument_at))]
 fn argument_at(
     alloc: Global,
     words: &Words<'_>,
@@ -75,7 +73,7 @@ fn axis_at(alloc: Global, words: &Words<'_>, at: usize) -> Result<(Vec<u8>, usiz
 }
 
 /// An argument that is an axis.
-#[tactic(auto, using(crate::proofs::Passing::passing), unfolding(crate::specs::Coordination::axis_argument_at))]
+#[tactic(auto, using(nc_blocks::proofs::Passing::passing), unfolding(crate::specs::Coordination::axis_argument_at))]
 fn axis_argument_at(
     alloc: Global,
     words: &Words<'_>,
@@ -94,7 +92,7 @@ fn axis_argument_at(
 }
 
 /// Arguments, one at least, and the place behind their `)`.
-#[tactic(auto, using(crate::proofs::Listing::list_steps))]
+#[tactic(auto, using(nc_blocks::proofs::Listing::list_steps))]
 fn arguments_at(
     alloc: Global,
     words: &Words<'_>,
@@ -118,7 +116,7 @@ fn arguments_at(
 }
 
 /// Axes, one at least, and the place behind their `)`.
-#[tactic(auto, using(crate::proofs::Listing::list_steps))]
+#[tactic(auto, using(nc_blocks::proofs::Listing::list_steps))]
 fn axes_at(
     alloc: Global,
     words: &Words<'_>,
@@ -142,7 +140,7 @@ fn axes_at(
 }
 
 /// A coordination word with arguments that are expressions, behind its name.
-#[tactic(auto, using(crate::proofs::Passing::passing), unfolding(crate::specs::Coordination::arguments_form))]
+#[tactic(auto, using(nc_blocks::proofs::Passing::passing), unfolding(crate::specs::Coordination::arguments_form))]
 pub(crate) fn arguments_form(
     alloc: Global,
     words: &Words<'_>,
@@ -163,7 +161,7 @@ pub(crate) fn arguments_form(
 }
 
 /// A coordination word with arguments that are axes, behind its name.
-#[tactic(auto, using(crate::proofs::Passing::passing), unfolding(crate::specs::Coordination::axes_form))]
+#[tactic(auto, using(nc_blocks::proofs::Passing::passing), unfolding(crate::specs::Coordination::axes_form))]
 pub(crate) fn axes_form(
     alloc: Global,
     words: &Words<'_>,
@@ -184,7 +182,7 @@ pub(crate) fn axes_form(
 }
 
 /// CLEARM, behind its name: its parentheses may be empty.
-#[tactic(auto, using(crate::proofs::Passing::passing), unfolding(crate::specs::Coordination::clear_form))]
+#[tactic(auto, using(nc_blocks::proofs::Passing::passing), unfolding(crate::specs::Coordination::clear_form))]
 pub(crate) fn clear_form(
     alloc: Global,
     words: &Words<'_>,
@@ -202,18 +200,6 @@ pub(crate) fn clear_form(
             Err(code) => Err(SyntaxFault::Refused(code)),
         },
         _ => arguments_form(alloc, words, which, at),
-    }
-}
-
-/// A text without its quotes.
-#[tactic(auto, unfolding(crate::specs::Coordination::unquoted))]
-pub(crate) fn unquoted(text: &[u8]) -> &[u8]
-    ensures { result.now ≡ unquoted text.now }
-{
-    if text.len() < 2 {
-        &[]
-    } else {
-        &text[1..text.len() - 1]
     }
 }
 
@@ -238,7 +224,7 @@ fn is_wait(text: &[u8]) -> bool
 }
 
 /// The third argument of INIT.
-#[tactic(auto, using(crate::proofs::Passing::passing), unfolding(crate::specs::Coordination::wait_at))]
+#[tactic(auto, using(nc_blocks::proofs::Passing::passing), unfolding(crate::specs::Coordination::wait_at))]
 fn wait_at(alloc: Global, words: &Words<'_>, at: usize) -> Result<Vec<u8>, SyntaxFault>
     requires { IsScanned words.now }
     ensures exact { Gives bytes_of (wait_at words.now at) result }
@@ -253,7 +239,7 @@ fn wait_at(alloc: Global, words: &Words<'_>, at: usize) -> Result<Vec<u8>, Synta
 }
 
 /// A third argument of INIT, if there is one, and the place behind `)`.
-#[tactic(auto, using(crate::proofs::Passing::passing), unfolding(crate::specs::Coordination::last_of_init))]
+#[tactic(auto, using(nc_blocks::proofs::Passing::passing), unfolding(crate::specs::Coordination::last_of_init))]
 fn last_of_init(
     alloc: Global,
     words: &Words<'_>,
@@ -276,7 +262,7 @@ fn last_of_init(
 }
 
 /// `(`, an expression and a comma, and the place behind.
-#[tactic(auto, using(crate::proofs::Passing::passing), unfolding(crate::specs::Coordination::opened_value))]
+#[tactic(auto, using(nc_blocks::proofs::Passing::passing), unfolding(crate::specs::Coordination::opened_value))]
 fn opened_value(
     alloc: Global,
     words: &Words<'_>,
@@ -324,7 +310,7 @@ fn operands(
 }
 
 /// INIT, behind its name.
-#[tactic(auto, using(crate::proofs::Passing::passing), unfolding(crate::specs::Coordination::init_form))]
+#[tactic(auto, using(nc_blocks::proofs::Passing::passing), unfolding(crate::specs::Coordination::init_form))]
 pub(crate) fn init_form(
     alloc: Global,
     words: &Words<'_>,
@@ -343,7 +329,7 @@ pub(crate) fn init_form(
 }
 
 /// CPROT, behind its name.
-#[tactic(auto, using(crate::proofs::Passing::passing), unfolding(crate::specs::Coordination::cprot_form))]
+#[tactic(auto, using(nc_blocks::proofs::Passing::passing), unfolding(crate::specs::Coordination::cprot_form))]
 pub(crate) fn cprot_form(
     alloc: Global,
     words: &Words<'_>,

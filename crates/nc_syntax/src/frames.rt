@@ -1,22 +1,21 @@
 //! Frames.
 
 ghost use Rattle.nc_expressions.specs.Tree.{IndicesFit, tree_of};
-ghost use Rattle.nc_syntax.specs.Indices.{EntryFits, OptionFits, StatementFits};
+ghost use Rattle.nc_blocks.specs.Indices.{EntryFits, OptionFits, StatementFits};
 ghost use Rattle.std.specs.Prelude.{◌≡◌, ◌<◌, ◌≤◌, ◌+◌, ◌==◌, map, length, IfOk, IfSome, All};
 ghost use Rattle.std.specs.List.{list_any};
-ghost use Rattle.std.specs.Bool.{OnTrue};
 ghost use Rattle.block_scanner.specs.Scanned.{IsScanned};
-ghost use Rattle.nc_syntax.specs.Frames.{axis_of, frame_value, has_axis, frame_word_at, shape_form, is_axis_letter, has_digits, has_axis_name, has_axis_word, turn_end, angle_at, turn_form};
-ghost use Rattle.nc_syntax.specs.Pieces.{piece_at};
-ghost use Rattle.nc_syntax.specs.Lists.{list_at};
-ghost use Rattle.nc_syntax.specs.Reading.{Gives, placed_tree};
-ghost use Rattle.nc_syntax.specs.Statement.{statement_view, placed_option, frame_item, frame_items, frame_entry, tree_option};
+ghost use Rattle.nc_syntax.specs.Frames.{axis_of, frame_value, has_axis, frame_word_at, shape_form, turn_end, angle_at, turn_form};
+ghost use Rattle.nc_blocks.specs.Pieces.{piece_at};
+ghost use Rattle.nc_blocks.specs.Lists.{list_at};
+ghost use Rattle.nc_blocks.specs.Reading.{Gives, placed_tree};
+ghost use Rattle.nc_blocks.specs.Statement.{statement_view, placed_option, frame_item, frame_items, frame_entry, tree_option};
 
-use crate::blocks::{FrameWord, Stmt};
-use crate::marks::{assign_at, code_at, end_at, is_keyword};
-use crate::pieces::{Piece, piece_at, text_at};
-use crate::reading::{constant_at, expression_at, is_digits};
 use block_scanner::Words;
+use nc_blocks::{
+    FrameWord, Piece, Stmt, assign_at, code_at, constant_at, end_at, expression_at, has_axis_word,
+    is_keyword, piece_at, text_at,
+};
 use nc_expressions::{Expr, SyntaxFault};
 use std::alloc::Global;
 
@@ -35,7 +34,7 @@ fn slot_at(words: &Words<'_>, at: usize) -> Option<u8>
 }
 
 /// The value behind the letter of a frame word, and the place behind it.
-#[tactic(auto, using(crate::proofs::Passing::passing), unfolding(crate::specs::Frames::frame_value))]
+#[tactic(auto, using(nc_blocks::proofs::Passing::passing), unfolding(crate::specs::Frames::frame_value))]
 fn frame_value(alloc: Global, words: &Words<'_>, at: usize) -> Result<(Expr, usize), SyntaxFault>
     requires scanned { IsScanned words.now }
     requires within { at ≤ length words.now.tokens.items }
@@ -67,7 +66,7 @@ fn has_axis(before: &[(u8, Expr)], axis: u8) -> bool
 }
 
 /// A frame word at a place, whether another one follows, and the place behind it.
-#[tactic(auto, using(crate::proofs::Passing::passing), unfolding(crate::specs::Frames::frame_word_at))]
+#[tactic(auto, using(nc_blocks::proofs::Passing::passing), unfolding(crate::specs::Frames::frame_word_at))]
 fn frame_word_at(
     alloc: Global,
     words: &Words<'_>,
@@ -93,7 +92,7 @@ fn frame_word_at(
 }
 
 /// The frame words that stand from a place on, one at least, and the place behind them.
-#[tactic(auto, using(crate::proofs::Listing::list_steps))]
+#[tactic(auto, using(nc_blocks::proofs::Listing::list_steps))]
 fn frame_words_at(
     alloc: Global,
     words: &Words<'_>,
@@ -117,7 +116,7 @@ fn frame_words_at(
 }
 
 /// A frame word, behind its name.
-#[tactic(auto, using(crate::proofs::Passing::passing), unfolding(crate::specs::Frames::shape_form))]
+#[tactic(auto, using(nc_blocks::proofs::Passing::passing), unfolding(crate::specs::Frames::shape_form))]
 pub(crate) fn shape_form(
     alloc: Global,
     words: &Words<'_>,
@@ -138,56 +137,6 @@ pub(crate) fn shape_form(
     }
 }
 
-/// Whether a letter is that of axes.
-fn is_axis_letter(letter: u8) -> bool
-    ensures { result ≡ is_axis_letter letter }
-{
-    matches!(
-        letter,
-        b'A' | b'B' | b'C' | b'U' | b'V' | b'W' | b'X' | b'Y' | b'Z'
-    )
-}
-
-/// Whether a number of digits alone stands at a place.
-#[tactic(auto, unfolding(crate::specs::Frames::has_digits))]
-pub(crate) fn has_digits(words: &Words<'_>, at: usize) -> bool
-    requires { IsScanned words.now }
-    ensures value { result ≡ has_digits words.now at }
-    ensures within { OnTrue result (at < length words.now.tokens.items) }
-{
-    match piece_at(words, at) {
-        Piece::Number(_) => is_digits(text_at(words, at)),
-        _ => false,
-    }
-}
-
-/// Whether an axis name stands at a place.
-#[tactic(auto, unfolding(crate::specs::Frames::has_axis_name))]
-pub(crate) fn has_axis_name(words: &Words<'_>, at: usize) -> bool
-    requires { IsScanned words.now }
-    ensures value { result ≡ has_axis_name words.now at }
-    ensures within { OnTrue result (at + 1 < length words.now.tokens.items) }
-{
-    match piece_at(words, at) {
-        Piece::Letter(letter) => is_axis_letter(letter) && has_digits(words, at + 1),
-        _ => false,
-    }
-}
-
-/// Whether an axis name and `=` stand at a place.
-#[tactic(auto, unfolding(crate::specs::Frames::has_axis_word))]
-pub(crate) fn has_axis_word(words: &Words<'_>, at: usize) -> bool
-    requires { IsScanned words.now }
-    ensures value { result ≡ has_axis_word words.now at }
-    ensures within { OnTrue result (at + 2 < length words.now.tokens.items) }
-{
-    if has_axis_name(words, at) {
-        matches!(piece_at(words, at + 2), Piece::Assign)
-    } else {
-        false
-    }
-}
-
 /// The end of ROT and AROT.
 #[tactic(auto, unfolding(crate::specs::Frames::turn_end))]
 fn turn_end(words: &Words<'_>, at: usize) -> Result<usize, u16>
@@ -204,7 +153,7 @@ fn turn_end(words: &Words<'_>, at: usize) -> Result<usize, u16>
 }
 
 /// RPL with its angle, if it stands there, and the place behind.
-#[tactic(auto, using(crate::proofs::Passing::passing), unfolding(crate::specs::Frames::angle_at))]
+#[tactic(auto, using(nc_blocks::proofs::Passing::passing), unfolding(crate::specs::Frames::angle_at))]
 fn angle_at(
     alloc: Global,
     words: &Words<'_>,
@@ -228,7 +177,7 @@ fn angle_at(
 }
 
 /// ROT or AROT, behind its name.
-#[tactic(auto, using(crate::proofs::Passing::passing), unfolding(crate::specs::Frames::turn_form))]
+#[tactic(auto, using(nc_blocks::proofs::Passing::passing), unfolding(crate::specs::Frames::turn_form))]
 pub(crate) fn turn_form(
     alloc: Global,
     words: &Words<'_>,

@@ -1,22 +1,21 @@
 //! Jumps, IF and CASE.
 
-ghost use Rattle.nc_syntax.specs.Indices.{StatementFits};
+ghost use Rattle.nc_blocks.specs.Indices.{StatementFits};
 ghost use Rattle.std.specs.Prelude.{◌≡◌, ◌<◌, ◌≤◌, ◌+◌, ℤ, List, length, codes, IfOk, IfSome};
 ghost use Rattle.block_scanner.specs.Scanned.{IsScanned};
 ghost use Rattle.nc_expressions.specs.Tree.{tree_of, IndicesFit};
-ghost use Rattle.nc_syntax.specs.declared.blocks.JumpTo.{JumpTo};
+ghost use Rattle.nc_blocks.specs.declared.blocks.JumpTo.{JumpTo};
 ghost use Rattle.nc_syntax.specs.Jumps.{way_of, way_at, target_at, jump_at, last_jump, jump_form, if_form, case_names, case_value, begins_number, named_jump, pair_at, default_at, case_form};
-ghost use Rattle.nc_syntax.specs.Lists.{list_at};
-ghost use Rattle.nc_syntax.specs.Reading.{Gives, placed_tree};
-ghost use Rattle.nc_syntax.specs.Statement.{statement_view, pair_items};
+ghost use Rattle.nc_blocks.specs.Lists.{list_at};
+ghost use Rattle.nc_blocks.specs.Reading.{Gives, placed_tree};
+ghost use Rattle.nc_blocks.specs.Statement.{statement_view, pair_items};
 
-use crate::blocks::{JumpTo, Stmt, Target, Way};
-use crate::marks::{close_at, end_at, is_keyword, is_word, keyword_at, open_at};
-use crate::names::NameText;
-use crate::pieces::{Piece, piece_at, text_at};
-use crate::reading::{block_number_at, constant_at, expression_at};
 use block_scanner::Words;
 use micro_units::Num;
+use nc_blocks::{
+    JumpTo, NameText, Piece, Stmt, Target, Way, block_number_at, close_at, constant_at, end_at,
+    expression_at, is_keyword, is_word, keyword_at, open_at, piece_at, text_at,
+};
 use nc_expressions::{Expr, SyntaxFault};
 use std::alloc::Global;
 
@@ -90,7 +89,7 @@ fn last_jump_at(words: &Words<'_>, way: Way, at: usize) -> Result<JumpTo, u16>
 }
 
 /// IF, behind its name: with a jump or without one.
-#[tactic(auto, using(crate::proofs::Passing::passing), unfolding(crate::specs::Jumps::if_form))]
+#[tactic(auto, using(nc_blocks::proofs::Passing::passing), unfolding(crate::specs::Jumps::if_form))]
 pub(crate) fn if_form(alloc: Global, words: &Words<'_>, at: usize) -> Result<Stmt, SyntaxFault>
     requires scanned { IsScanned words.now }
     requires within { at ≤ length words.now.tokens.items }
@@ -111,7 +110,7 @@ pub(crate) fn if_form(alloc: Global, words: &Words<'_>, at: usize) -> Result<Stm
 }
 
 /// The value of CASE: an expression in parentheses and OF, and the place behind.
-#[tactic(auto, using(crate::proofs::Passing::passing), unfolding(crate::specs::Jumps::case_value))]
+#[tactic(auto, using(nc_blocks::proofs::Passing::passing), unfolding(crate::specs::Jumps::case_value))]
 fn case_value(alloc: Global, words: &Words<'_>, at: usize) -> Result<(Expr, usize), SyntaxFault>
     requires { IsScanned words.now }
     ensures exact { Gives placed_tree (case_value words.now at) result }
@@ -189,7 +188,7 @@ fn pair_item_at(words: &Words<'_>, at: usize) -> Result<((Num, JumpTo), bool, us
 }
 
 /// The pairs of a CASE, one at least, and the place behind them.
-#[tactic(auto, using(crate::proofs::Listing::list_steps))]
+#[tactic(auto, using(nc_blocks::proofs::Listing::list_steps))]
 fn pairs_at(
     alloc: Global,
     words: &Words<'_>,
@@ -228,7 +227,7 @@ fn default_at(words: &Words<'_>, at: usize) -> Result<Option<JumpTo>, u16>
 }
 
 /// CASE, behind its name.
-#[tactic(auto, using(crate::proofs::Passing::passing), unfolding(crate::specs::Jumps::case_form))]
+#[tactic(auto, using(nc_blocks::proofs::Passing::passing), unfolding(crate::specs::Jumps::case_form))]
 pub(crate) fn case_form(alloc: Global, words: &Words<'_>, at: usize) -> Result<Stmt, SyntaxFault>
     requires { IsScanned words.now }
     ensures exact { Gives statement_view (case_form words.now at) result }

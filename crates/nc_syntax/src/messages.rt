@@ -1,19 +1,16 @@
 //! Messages.
 
-ghost use Rattle.nc_syntax.specs.Indices.{StatementFits};
+ghost use Rattle.nc_blocks.specs.Indices.{StatementFits};
 ghost use Rattle.std.specs.Prelude.{◌≡◌, ◌<◌, ◌≤◌, ◌+◌, ◌-◌, length, reverse, position, IfOk, IfSome};
 ghost use Rattle.block_scanner.specs.Scanned.{IsScanned};
 ghost use Rattle.nc_syntax.specs.Coordination.{after_text, msg_form, enclosed_at, setms_form, last_close, is_broken, has_broken, workpiece_form};
 ghost use Rattle.nc_syntax.specs.Structures.{is_close_kind};
-ghost use Rattle.nc_syntax.specs.Reading.{Gives};
-ghost use Rattle.nc_syntax.specs.Statement.{statement_view, itself};
+ghost use Rattle.nc_blocks.specs.Reading.{Gives};
+ghost use Rattle.nc_blocks.specs.Statement.{statement_view, itself};
 
-use crate::blocks::Stmt;
-use crate::marks::{close_at, open_at};
-use crate::pieces::{Piece, piece_at};
-use crate::reading::expression_at;
 use crate::structures::alone;
 use block_scanner::{Kind, Sign, Words};
+use nc_blocks::{Piece, Stmt, close_at, expression_at, open_at, piece_at};
 use nc_expressions::SyntaxFault;
 use std::alloc::Global;
 
@@ -46,7 +43,7 @@ pub(crate) fn msg_form(words: &Words<'_>, at: usize) -> Result<Stmt, SyntaxFault
 }
 
 /// An expression in parentheses: the place behind.
-#[tactic(auto, using(crate::proofs::Passing::passing), unfolding(crate::specs::Coordination::enclosed_at))]
+#[tactic(auto, using(nc_blocks::proofs::Passing::passing), unfolding(crate::specs::Coordination::enclosed_at))]
 fn enclosed_at(alloc: Global, words: &Words<'_>, at: usize) -> Result<usize, SyntaxFault>
     requires { IsScanned words.now }
     ensures { Gives itself (enclosed_at words.now at) result }
@@ -64,7 +61,7 @@ fn enclosed_at(alloc: Global, words: &Words<'_>, at: usize) -> Result<usize, Syn
 }
 
 /// SETMS, behind its name.
-#[tactic(auto, using(crate::proofs::Passing::passing), unfolding(crate::specs::Coordination::setms_form))]
+#[tactic(auto, using(nc_blocks::proofs::Passing::passing), unfolding(crate::specs::Coordination::setms_form))]
 pub(crate) fn setms_form(alloc: Global, words: &Words<'_>, at: usize) -> Result<Stmt, SyntaxFault>
     requires { IsScanned words.now }
     ensures exact { Gives statement_view (setms_form words.now at) result }

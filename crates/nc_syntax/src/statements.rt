@@ -4,16 +4,13 @@ ghost use Rattle.std.specs.Prelude.{◌≡◌, ◌<◌, ◌≤◌, ◌+◌, leng
 ghost use Rattle.std.specs.Bool.{OnTrue};
 ghost use Rattle.block_scanner.specs.Scanned.{IsScanned};
 ghost use Rattle.nc_syntax.specs.Blocks.{skip_of, has_number, number_at, label_at, head_of, block_of, statement_of};
-ghost use Rattle.nc_syntax.specs.Indices.{StatementFits};
-ghost use Rattle.nc_syntax.specs.Reading.{Gives};
-ghost use Rattle.nc_syntax.specs.Statement.{statement_view, view_of};
+ghost use Rattle.nc_blocks.specs.Indices.{StatementFits};
+ghost use Rattle.nc_blocks.specs.Reading.{Gives};
+ghost use Rattle.nc_blocks.specs.Statement.{statement_view, view_of};
 
-use crate::blocks::Block;
 use crate::bodies::body_at;
-use crate::names::NameText;
-use crate::pieces::{Piece, piece_at, text_at};
-use crate::reading::block_number_at;
 use block_scanner::Words;
+use nc_blocks::{Block, NameText, Piece, block_number_at, piece_at, text_at};
 use nc_expressions::SyntaxFault;
 use std::alloc::Global;
 use word_tables::{has_large_number, refused_word};
@@ -93,7 +90,7 @@ fn head_of(words: &Words<'_>) -> Result<(bool, Option<u32>, usize), u16>
 }
 
 /// The block that the tokens of a line spell.
-#[tactic(auto, using(crate::proofs::Passing::passing), unfolding(crate::specs::Blocks::block_of))]
+#[tactic(auto, using(nc_blocks::proofs::Passing::passing), unfolding(crate::specs::Blocks::block_of))]
 fn block_of(alloc: Global, words: &Words<'_>) -> Result<Block, SyntaxFault>
     requires { IsScanned words.now }
     ensures exact { Gives view_of (block_of words.now) result }

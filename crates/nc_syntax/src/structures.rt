@@ -1,20 +1,19 @@
 //! Loops, repetitions, calls and what stands alone.
 
-ghost use Rattle.nc_syntax.specs.Indices.{OptionFits, StatementFits};
+ghost use Rattle.nc_blocks.specs.Indices.{OptionFits, StatementFits};
 ghost use Rattle.std.specs.Prelude.{◌≡◌, ◌<◌, ◌≤◌, ◌∷◌, length, IfOk, codes};
 ghost use Rattle.block_scanner.specs.Scanned.{IsScanned};
 ghost use Rattle.nc_expressions.specs.Tree.{tree_of, IndicesFit};
-ghost use Rattle.nc_syntax.specs.Reading.{Gives, placed_tree};
-ghost use Rattle.nc_syntax.specs.Statement.{statement_view, tree_option};
+ghost use Rattle.nc_blocks.specs.Reading.{Gives, placed_tree};
+ghost use Rattle.nc_blocks.specs.Statement.{statement_view, tree_option};
 ghost use Rattle.nc_syntax.specs.Structures.{alone, last_expression, counter_at, first_value, for_form, times_at, repeat_form, repeat_block_form, has_close, parentheses_at, pass_count, passes_at, call_passes, call_form, number_name, number_call_form, proc_form};
 
-use crate::blocks::Stmt;
-use crate::marks::{assign_at, code_at, end_at, is_keyword, keyword_at};
-use crate::names::NameText;
-use crate::pieces::{Piece, piece_at, text_at};
-use crate::reading::{expression_at, index_at, is_digits, label_at};
 use block_scanner::{Kind, Sign, Words};
 use micro_units::Num;
+use nc_blocks::{
+    NameText, Piece, Stmt, assign_at, code_at, end_at, expression_at, index_at, is_digits,
+    is_keyword, keyword_at, label_at, piece_at, text_at,
+};
 use nc_expressions::{Expr, SyntaxFault};
 use std::alloc::Global;
 
@@ -33,7 +32,7 @@ pub(crate) fn alone(words: &Words<'_>, at: usize, stmt: Stmt) -> Result<Stmt, Sy
 }
 
 /// An expression behind which nothing stands.
-#[tactic(auto, using(crate::proofs::Passing::passing), unfolding(crate::specs::Structures::last_expression))]
+#[tactic(auto, using(nc_blocks::proofs::Passing::passing), unfolding(crate::specs::Structures::last_expression))]
 pub(crate) fn last_expression(
     alloc: Global,
     words: &Words<'_>,
@@ -69,7 +68,7 @@ fn counter_at(words: &Words<'_>, at: usize) -> Result<(u16, usize), u16>
 }
 
 /// The first value of a FOR and the place behind TO.
-#[tactic(auto, using(crate::proofs::Passing::passing), unfolding(crate::specs::Structures::first_value))]
+#[tactic(auto, using(nc_blocks::proofs::Passing::passing), unfolding(crate::specs::Structures::first_value))]
 fn first_value(alloc: Global, words: &Words<'_>, at: usize) -> Result<(Expr, usize), SyntaxFault>
     requires scanned { IsScanned words.now }
     requires within { at ≤ length words.now.tokens.items }
@@ -85,7 +84,7 @@ fn first_value(alloc: Global, words: &Words<'_>, at: usize) -> Result<(Expr, usi
 }
 
 /// FOR, behind its name.
-#[tactic(auto, using(crate::proofs::Passing::passing), unfolding(crate::specs::Structures::for_form))]
+#[tactic(auto, using(nc_blocks::proofs::Passing::passing), unfolding(crate::specs::Structures::for_form))]
 pub(crate) fn for_form(alloc: Global, words: &Words<'_>, at: usize) -> Result<Stmt, SyntaxFault>
     requires { IsScanned words.now }
     ensures exact { Gives statement_view (for_form words.now at) result }
@@ -102,7 +101,7 @@ pub(crate) fn for_form(alloc: Global, words: &Words<'_>, at: usize) -> Result<St
 }
 
 /// How often is repeated, behind which nothing stands.
-#[tactic(auto, using(crate::proofs::Passing::passing), unfolding(crate::specs::Structures::times_at))]
+#[tactic(auto, using(nc_blocks::proofs::Passing::passing), unfolding(crate::specs::Structures::times_at))]
 fn times_at(alloc: Global, words: &Words<'_>, at: usize) -> Result<Option<Expr>, SyntaxFault>
     requires { IsScanned words.now }
     ensures exact { Gives tree_option (times_at words.now at) result }
@@ -121,7 +120,7 @@ fn times_at(alloc: Global, words: &Words<'_>, at: usize) -> Result<Option<Expr>,
 }
 
 /// REPEAT, behind its name: with a label, or of a loop.
-#[tactic(auto, using(crate::proofs::Passing::passing), unfolding(crate::specs::Structures::repeat_form))]
+#[tactic(auto, using(nc_blocks::proofs::Passing::passing), unfolding(crate::specs::Structures::repeat_form))]
 pub(crate) fn repeat_form(alloc: Global, words: &Words<'_>, at: usize) -> Result<Stmt, SyntaxFault>
     requires { IsScanned words.now }
     ensures exact { Gives statement_view (repeat_form words.now at) result }
@@ -138,7 +137,7 @@ pub(crate) fn repeat_form(alloc: Global, words: &Words<'_>, at: usize) -> Result
 }
 
 /// REPEATB, behind its name.
-#[tactic(auto, using(crate::proofs::Passing::passing), unfolding(crate::specs::Structures::repeat_block_form))]
+#[tactic(auto, using(nc_blocks::proofs::Passing::passing), unfolding(crate::specs::Structures::repeat_block_form))]
 pub(crate) fn repeat_block_form(
     alloc: Global,
     words: &Words<'_>,

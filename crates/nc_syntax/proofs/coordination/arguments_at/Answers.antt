@@ -1,7 +1,7 @@
-use Rattle.nc_syntax.specs.Indices.{OperandFits}
-use Rattle.nc_syntax.specs.Statement.{operand_view}
+use Rattle.nc_blocks.specs.Indices.{OperandFits}
+use Rattle.nc_blocks.specs.Statement.{operand_view}
 use Rattle.nc_syntax.specs.Coordination.{argument_at}
-use Rattle.nc_syntax.proofs.Listing.{list_more, list_last, fits_more}
+use Rattle.nc_blocks.proofs.Listing.{list_more, list_last, fits_more}
 use Rattle.nc_syntax.proofs.coordination.arguments_at.Goals as goal
 
 pub returns-then-not-more-clause-exact : goal.returns-then-not-more-clause-exact

@@ -1,8 +1,8 @@
 use Rattle.std.proofs.Common.{◌≡◌, ◌≤◌, ◌-◌, length, drop, map}
 use Rattle.std.specs.Prelude.{All}
-use Rattle.nc_syntax.specs.Indices.{OperandFits}
-use Rattle.nc_syntax.specs.Lists.{listed, list_at}
-use Rattle.nc_syntax.specs.Statement.{operand_view}
+use Rattle.nc_blocks.specs.Indices.{OperandFits}
+use Rattle.nc_blocks.specs.Lists.{listed, list_at}
+use Rattle.nc_blocks.specs.Statement.{operand_view}
 use Rattle.nc_syntax.specs.Coordination.{axis_argument_at}
 use Rattle.nc_syntax.proofs.coordination.axes_at.Given as goal
 

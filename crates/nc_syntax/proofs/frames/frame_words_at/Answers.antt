@@ -1,8 +1,8 @@
 use Rattle.std.proofs.Common.{◌≡◌, Ok, map}
-use Rattle.nc_syntax.specs.Indices.{EntryFits}
-use Rattle.nc_syntax.specs.Statement.{frame_entry}
+use Rattle.nc_blocks.specs.Indices.{EntryFits}
+use Rattle.nc_blocks.specs.Statement.{frame_entry}
 use Rattle.nc_syntax.specs.Frames.{frame_word_at}
-use Rattle.nc_syntax.proofs.Listing.{list_more, list_last, fits_more}
+use Rattle.nc_blocks.proofs.Listing.{list_more, list_last, fits_more}
 use Rattle.nc_syntax.proofs.frames.frame_words_at.Goals as goal
 
 pub returns-then-not-more-clause-exact : goal.returns-then-not-more-clause-exact

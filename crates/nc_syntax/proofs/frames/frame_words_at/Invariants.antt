@@ -1,8 +1,8 @@
 use Rattle.std.proofs.Common.{◌≡◌, ◌≤◌, ◌-◌, length, drop, map}
 use Rattle.std.specs.Prelude.{All}
-use Rattle.nc_syntax.specs.Indices.{EntryFits}
-use Rattle.nc_syntax.specs.Lists.{listed, list_at}
-use Rattle.nc_syntax.specs.Statement.{frame_entry}
+use Rattle.nc_blocks.specs.Indices.{EntryFits}
+use Rattle.nc_blocks.specs.Lists.{listed, list_at}
+use Rattle.nc_blocks.specs.Statement.{frame_entry}
 use Rattle.nc_syntax.specs.Frames.{frame_word_at}
 use Rattle.nc_syntax.proofs.frames.frame_words_at.Given as goal
 

@@ -1,8 +1,8 @@
 use Rattle.std.proofs.Common.{ℕ, ◌∙◌, sym}
 use Rattle.std.specs.Prelude.{◌==◌}
 use Rattle.nc_expressions.specs.Tree.{Tree}
-use Rattle.nc_syntax.specs.Statement.{frame_entry}
-use Rattle.nc_syntax.proofs.Listing.{any_of_views}
+use Rattle.nc_blocks.specs.Statement.{frame_entry}
+use Rattle.nc_blocks.proofs.Listing.{any_of_views}
 use Rattle.nc_syntax.proofs.frames.has_axis.Goals as goal
 
 pub returns : goal.returns

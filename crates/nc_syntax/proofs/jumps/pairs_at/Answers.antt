@@ -1,5 +1,5 @@
 use Rattle.nc_syntax.specs.Jumps.{pair_at}
-use Rattle.nc_syntax.proofs.Listing.{plain_more, plain_last}
+use Rattle.nc_blocks.proofs.Listing.{plain_more, plain_last}
 use Rattle.nc_syntax.proofs.jumps.pairs_at.Goals as goal
 
 pub returns-then-not-more : goal.returns-then-not-more

@@ -1,5 +1,5 @@
 use Rattle.std.proofs.Common.{◌≡◌, ◌≤◌, ◌-◌, length, drop}
-use Rattle.nc_syntax.specs.Lists.{listed, list_at}
+use Rattle.nc_blocks.specs.Lists.{listed, list_at}
 use Rattle.nc_syntax.specs.Jumps.{pair_at}
 use Rattle.nc_syntax.proofs.jumps.pairs_at.Given as goal
 

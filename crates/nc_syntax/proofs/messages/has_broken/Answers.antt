@@ -1,7 +1,7 @@
 use Rattle.std.proofs.Common.{◌≡◌, ◌∙◌, sym, false, arith}
-use Rattle.nc_syntax.specs.Pieces.{piece_at}
+use Rattle.nc_blocks.specs.Pieces.{piece_at}
 use Rattle.nc_syntax.specs.Coordination.{is_broken}
-use Rattle.nc_syntax.proofs.Listing.{broken_step}
+use Rattle.nc_syntax.proofs.Broken.{broken_step}
 use Rattle.nc_syntax.proofs.messages.has_broken.Goals as goal
 
 pub loop-at-preserved : goal.loop-at-preserved

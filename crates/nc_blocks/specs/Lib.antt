@@ -1,0 +1,10 @@
+pub mod Names
+pub mod Texts
+pub mod Pieces
+pub mod Marks
+pub mod Reading
+pub mod AxisNames
+pub mod Lists
+pub mod Statement
+pub mod Indices
+pub mod Wording

@@ -1,0 +1,60 @@
+//! Axis names.
+
+ghost use Rattle.std.specs.Prelude.{◌≡◌, ◌<◌, ◌+◌, length};
+ghost use Rattle.std.specs.Bool.{OnTrue};
+ghost use Rattle.block_scanner.specs.Scanned.{IsScanned};
+ghost use Rattle.nc_blocks.specs.AxisNames.{is_axis_letter, has_digits, has_axis_name, has_axis_word};
+
+use crate::pieces::{Piece, piece_at, text_at};
+use crate::reading::is_digits;
+use block_scanner::Words;
+
+/// Whether a letter is that of axes.
+fn is_axis_letter(letter: u8) -> bool
+    ensures { result ≡ is_axis_letter letter }
+{
+    matches!(
+        letter,
+        b'A' | b'B' | b'C' | b'U' | b'V' | b'W' | b'X' | b'Y' | b'Z'
+    )
+}
+
+/// Whether a number of digits alone stands at a place.
+#[tactic(auto, unfolding(crate::specs::AxisNames::has_digits))]
+pub(crate) fn has_digits(words: &Words<'_>, at: usize) -> bool
+    requires { IsScanned words.now }
+    ensures value { result ≡ has_digits words.now at }
+    ensures within { OnTrue result (at < length words.now.tokens.items) }
+{
+    match piece_at(words, at) {
+        Piece::Number(_) => is_digits(text_at(words, at)),
+        _ => false,
+    }
+}
+
+/// Whether an axis name stands at a place.
+#[tactic(auto, unfolding(crate::specs::AxisNames::has_axis_name))]
+pub fn has_axis_name(words: &Words<'_>, at: usize) -> bool
+    requires { IsScanned words.now }
+    ensures value { result ≡ has_axis_name words.now at }
+    ensures within { OnTrue result (at + 1 < length words.now.tokens.items) }
+{
+    match piece_at(words, at) {
+        Piece::Letter(letter) => is_axis_letter(letter) && has_digits(words, at + 1),
+        _ => false,
+    }
+}
+
+/// Whether an axis name and `=` stand at a place.
+#[tactic(auto, unfolding(crate::specs::AxisNames::has_axis_word))]
+pub fn has_axis_word(words: &Words<'_>, at: usize) -> bool
+    requires { IsScanned words.now }
+    ensures value { result ≡ has_axis_word words.now at }
+    ensures within { OnTrue result (at + 2 < length words.now.tokens.items) }
+{
+    if has_axis_name(words, at) {
+        matches!(piece_at(words, at + 2), Piece::Assign)
+    } else {
+        false
+    }
+}
