@@ -8,7 +8,7 @@ use Rattle.job_lines.specs.declared.item.AxisName.{AxisName}
 use Rattle.job_lines.specs.declared.item.NamedSide.{NamedSide}
 use Rattle.job_lines.specs.declared.item.Item.{Item}
 use Rattle.job_lines.specs.declared.item.Item.TheVariants.{Channel, Axis, Geo, Zone}
-use Rattle.nc_syntax.specs.Names.{name_of}
+use Rattle.nc_blocks.specs.Names.{name_of}
 use Rattle.job_lines.specs.Code.{◌>>=◌, or_code}
 use Rattle.job_lines.specs.Numbers.{number_within}
 use Rattle.job_lines.specs.Length.{length_of}

@@ -4,7 +4,7 @@ ghost use Rattle.std.specs.List.{list_all};
 ghost use Rattle.job_lines.specs.Header.{is_name_byte, has_header_form, is_header, header_word_of, header_of};
 
 use crate::code::Code;
-use nc_syntax::NameText;
+use nc_blocks::NameText;
 
 /// Whether the byte is a capital letter, a digit or an underscore.
 #[tactic(auto, unfolding(crate::specs::Header::is_name_byte))]

@@ -7,7 +7,7 @@ use crate::length::length_in;
 use crate::numbers::number_within;
 use axis_sets::{ChannelId, ZoneId};
 use micro_units::Um;
-use nc_syntax::NameText;
+use nc_blocks::NameText;
 
 /// The name of an axis.
 #[derive(Clone, Copy, Debug, PartialEq, Eq)]

@@ -2,9 +2,9 @@
 use Rattle.std.specs.Prelude.{ℕ, Bool, true, false, ◌&&◌, ◌||◌, nat_le, codes, List, length, filter}
 use Rattle.std.specs.List.{list_all}
 use Rattle.std.specs.Str.{bytes_eq}
-use Rattle.nc_syntax.specs.declared.blocks.Measure.{Measure}
-use Rattle.nc_syntax.specs.declared.blocks.Measure.TheVariants.{Modal}
-use Rattle.nc_syntax.specs.Statement.{WordView, Assign, AssignAt, G, Axis, Aux, End, Statement, Empty, WordBlock, Proc, Message}
+use Rattle.nc_blocks.specs.declared.blocks.Measure.{Measure}
+use Rattle.nc_blocks.specs.declared.blocks.Measure.TheVariants.{Modal}
+use Rattle.nc_blocks.specs.Statement.{WordView, Assign, AssignAt, G, Axis, Aux, End, Statement, Empty, WordBlock, Proc, Message}
 
 -- a slot by its letter
 unfoldable pub is_slot : List ℕ → Bool

@@ -1,7 +1,7 @@
 -- What a contract sees of a job and of a program.
 use Rattle.std.specs.Prelude.{ℕ, List}
-use Rattle.nc_syntax.specs.declared.blocks.Block.{Block}
-use Rattle.nc_syntax.specs.Statement.{BlockView, view_of}
+use Rattle.nc_blocks.specs.declared.blocks.Block.{Block}
+use Rattle.nc_blocks.specs.Statement.{BlockView, view_of}
 use Rattle.tape_job.specs.declared.job.ChannelLine.{ChannelLine}
 use Rattle.tape_job.specs.declared.job.AxisLine.{AxisLine}
 use Rattle.tape_job.specs.declared.job.GeoLine.{GeoLine}

@@ -14,9 +14,9 @@ use Rattle.job_lines.specs.declared.code.Code.{Code}
 use Rattle.job_lines.specs.declared.code.Code.TheVariants.{NoJobLine, LineTooLong, BadByte, UnknownJobLine, OpenText, NotBuilt}
 use Rattle.job_lines.specs.declared.item.Item.{Item}
 use Rattle.nc_faults.specs.Texts.{IsRefusalCode}
-use Rattle.nc_syntax.specs.Indices.{StatementFits}
-use Rattle.nc_syntax.specs.Names.{upper}
-use Rattle.nc_syntax.specs.Statement.{BlockView, view_of}
+use Rattle.nc_blocks.specs.Indices.{StatementFits}
+use Rattle.nc_blocks.specs.Names.{upper}
+use Rattle.nc_blocks.specs.Statement.{BlockView, view_of}
 use Rattle.nc_syntax.specs.Blocks.{statement_of}
 use Rattle.tape_job.specs.declared.reading.LineFault.{LineFault}
 use Rattle.tape_job.specs.declared.reading.LineFault.TheVariants.{Broken, NoMemory}

@@ -2,7 +2,7 @@
 use Rattle.std.specs.Prelude.{◌≡◌, ◌≢◌, ℕ, ◌<◌, ◌≤◌, ℤ, ◌≤ℤ◌, unsigned_abs, true, List, length, slice_get, Option, Some, IfSome, IsSomeAnd}
 use Rattle.std.specs.List.{All, Any, AllPairs}
 use Rattle.std.specs.Option.{option_and_then}
-use Rattle.nc_syntax.specs.Indices.{StatementFits}
+use Rattle.nc_blocks.specs.Indices.{StatementFits}
 use Rattle.tape_job.specs.declared.job.AxisLine.{AxisLine}
 use Rattle.tape_job.specs.declared.job.GeoLine.{GeoLine}
 use Rattle.tape_job.specs.declared.job.Side.{Side}

@@ -1,6 +1,6 @@
 //! What a line adds to a job.
 ghost use Rattle.std.specs.Prelude.{◌≡◌, [], ◌∷◌, ◌++◌, false, OnOk};
-ghost use Rattle.nc_syntax.specs.Statement.{view_of};
+ghost use Rattle.nc_blocks.specs.Statement.{view_of};
 ghost use Rattle.tape_job.specs.Steps.{with_block};
 ghost use Rattle.tape_job.specs.Rules.{has_program};
 
@@ -10,12 +10,12 @@ use axis_sets::{ChannelId, ZoneId};
 use indexmap::IndexMap;
 use job_lines::{AxisName, Item, NamedSide};
 use micro_units::Um;
-use nc_syntax::{Block, NameText};
+use nc_blocks::{Block, NameText};
 use std::alloc::{AllocError, Global};
 
 impl Program {
     ghost use Rattle.std.specs.Prelude.{◌≡◌, [], ◌∷◌, ◌++◌, OnOk};
-    ghost use Rattle.nc_syntax.specs.Statement.{view_of};
+    ghost use Rattle.nc_blocks.specs.Statement.{view_of};
 
     /// A program without blocks.
     fn new(alloc: Global, line: u32) -> Program
@@ -69,7 +69,7 @@ impl Job {
     ghost use Rattle.tape_job.specs.Told.{geo_line, zone_line};
     ghost use Rattle.tape_job.specs.Rules.{axis_of, side_of, has_program, rule_of};
     ghost use Rattle.std.specs.Prelude.{Ok};
-    ghost use Rattle.nc_syntax.specs.Statement.{view_of};
+    ghost use Rattle.nc_blocks.specs.Statement.{view_of};
     ghost use Rattle.tape_job.specs.Reading.{Entry, reading_view};
 
     /// A job of which nothing is told.

@@ -1,10 +1,10 @@
 //! The blocks that are built.
 ghost use Rattle.std.specs.Prelude.{◌≡◌, map, length, filter};
 ghost use Rattle.std.specs.List.{list_all};
-ghost use Rattle.nc_syntax.specs.Statement.{word_view, statement_view};
+ghost use Rattle.nc_blocks.specs.Statement.{word_view, statement_view};
 ghost use Rattle.tape_job.specs.Built.{is_slot, is_built_word, is_g, are_built, is_built};
 
-use nc_syntax::{Measure, Stmt, Word};
+use nc_blocks::{Measure, Stmt, Word};
 
 /// Whether the address is the letter of a slot.
 #[tactic(auto, unfolding(crate::specs::Built::is_slot))]

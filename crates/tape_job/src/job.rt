@@ -2,7 +2,7 @@
 use axis_sets::{AxisId, ChannelId, ZoneId};
 use indexmap::IndexMap;
 use micro_units::Um;
-use nc_syntax::{Block, NameText};
+use nc_blocks::{Block, NameText};
 use std::marker::Model;
 
 /// An accepted job: the lines of its job list in their order, and its library of programs in the order of the input.

@@ -7,7 +7,7 @@ ghost use Rattle.tape_job.specs.Rules.{refusal};
 use crate::Job;
 use crate::reading::Reading;
 use job_lines::Code;
-use nc_syntax::NameText;
+use nc_blocks::NameText;
 use nc_faults::Refusal;
 
 /// Whether the two names are the same.

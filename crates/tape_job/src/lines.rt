@@ -1,7 +1,7 @@
 //! Lines of bytes, their texts and their words.
 ghost use Rattle.std.specs.Prelude.{◌≡◌, ◌∷◌, ◌<◌, IfOk, map, length, position};
 ghost use Rattle.block_scanner.specs.Bytes.{is_semicolon};
-ghost use Rattle.nc_syntax.specs.Names.{upper};
+ghost use Rattle.nc_blocks.specs.Names.{upper};
 ghost use Rattle.tape_job.specs.Lines.{is_feed, raw_lines, text_of, before_comment, words, is_visible, has_token, begins_with_percent};
 
 use block_scanner::is_blank;

@@ -2,7 +2,7 @@
 ghost use Rattle.std.specs.Prelude.{◌≡◌, ◌≤◌, map, length, IfOk, IfErr};
 ghost use Rattle.std.specs.List.{list_any};
 ghost use Rattle.job_lines.specs.Code.{shown};
-ghost use Rattle.nc_syntax.specs.Names.{upper};
+ghost use Rattle.nc_blocks.specs.Names.{upper};
 ghost use Rattle.tape_job.specs.Reading.{is_job_line, is_bad_byte, entry_of, header_entry, form_of, entry_reading, block_reading, with_shown, reading_of, GivesForm, Gives, reading_view, ReadingFits, FaultIsListed};
 
 use crate::built::is_built;
@@ -10,7 +10,8 @@ use crate::lines::{before_comment, begins_with_percent, is_visible, text_in, upp
 use block_scanner::{ScanFault, scan};
 use job_lines::{Code, Item, header_in, item_in};
 use nc_expressions::SyntaxFault;
-use nc_syntax::{Block, NameText, statement};
+use nc_blocks::{Block, NameText};
+use nc_syntax::statement;
 use std::alloc::{AllocError, Global};
 
 /// What a line says by itself.
