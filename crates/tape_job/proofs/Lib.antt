@@ -1,4 +1,5 @@
 pub mod FirstRefusalLemmas
+pub mod FitLemmas
 pub mod LibraryLemmas
 pub mod LineLemmas
 pub mod SoundJobLines

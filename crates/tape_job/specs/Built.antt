@@ -1,5 +1,5 @@
 -- The blocks that are built.
-use Rattle.std.specs.Prelude.{ℕ, Bool, true, false, ◌&&◌, ◌||◌, nat_le, codes, List, length, filter}
+use Rattle.std.specs.Prelude.{ℕ, Bool, true, false, ◌&&◌, ◌||◌, ◌==◌, nat_le, codes, List, length, filter}
 use Rattle.std.specs.List.{list_all}
 use Rattle.std.specs.Str.{bytes_eq}
 use Rattle.nc_blocks.specs.declared.blocks.Measure.{Measure}
@@ -16,8 +16,7 @@ is_modal _ = false
 
 -- a line at rapid or at feed: G0 or G1, the words of group 1 that are built
 abbrev pub is_line : ℕ → ℕ → Bool
-is_line 1 code = nat_le code 1
-is_line _ code = false
+is_line group code = (group == 1) && nat_le code 1
 
 unfoldable pub is_built_word : WordView → Bool
 is_built_word (Assign index value) = true

@@ -8,3 +8,4 @@ pub mod Rules
 pub mod SoundJob
 pub mod Steps
 pub mod Told
+pub mod TreeCode

@@ -21,9 +21,13 @@ pub struct Job {
 }
 
 impl Model for Job {
+    ghost use Rattle.std.specs.Coded.{codes};
+    ghost use Rattle.tape_job.specs.TreeCode.{tree_code};
     ghost use Rattle.tape_job.specs.Job.{JobView};
 
     ghost Value = { JobView };
+
+    ghost coded = { Prim.hlevel (codes, tree_code) };
 
     ghost view = { λ j. record {
       channels = j.channels.items;
@@ -114,9 +118,13 @@ pub struct Program {
 
 impl Model for Program {
     ghost use Rattle.std.specs.Prelude.{map};
+    ghost use Rattle.std.specs.Coded.{codes};
+    ghost use Rattle.tape_job.specs.TreeCode.{tree_code};
     ghost use Rattle.tape_job.specs.Job.{ProgramView, block_entry};
 
     ghost Value = { ProgramView };
+
+    ghost coded = { Prim.hlevel (codes, tree_code) };
 
     ghost view = { λ p. record { line = p.line; blocks = map block_entry p.blocks.items } };
 }

@@ -17,9 +17,13 @@ pub(crate) struct Reader {
 }
 
 impl Model for Reader {
+    ghost use Rattle.std.specs.Coded.{codes};
+    ghost use Rattle.tape_job.specs.TreeCode.{tree_code};
     ghost use Rattle.tape_job.specs.Told.{Told};
 
     ghost Value = { Told };
+
+    ghost coded = { Prim.hlevel (codes, tree_code) };
 
     ghost view = { λ r. record { seen = r.seen; in_programs = r.in_programs; job = r.job } };
 }
