@@ -1,7 +1,9 @@
+pub mod BuiltLemmas
 pub mod FirstRefusalLemmas
 pub mod FitLemmas
 pub mod LibraryLemmas
 pub mod LineLemmas
+pub mod ReadingLemmas
 pub mod SoundJobLines
 pub mod SoundJobs
 pub mod SoundLists

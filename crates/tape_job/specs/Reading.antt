@@ -6,7 +6,7 @@ use Rattle.block_scanner.specs.Tokens.{tokens_of}
 use Rattle.block_scanner.specs.declared.ScanFault.{ScanFault}
 use Rattle.block_scanner.specs.declared.ScanFault.TheVariants as fault
 use Rattle.block_scanner.specs.declared.Token.{Token}
-use Rattle.block_scanner.specs.declared.Words.{Words}
+use Rattle.block_scanner.specs.WordsView.{WordsView}
 use Rattle.job_lines.specs.Code.{◌>>=◌, shown}
 use Rattle.job_lines.specs.Header.{header_of}
 use Rattle.job_lines.specs.Item.{item_of}
@@ -70,8 +70,8 @@ entry_reading seen percent content =
     else Ok Blank
 
 -- a text with its tokens
-abbrev pub words_of : List ℕ → List Token → Words
-words_of text tokens = record { line = record { ref_ptr = (0, 0); now = text }; tokens = record { items = tokens; capacity = 24 } }
+abbrev pub words_of : List ℕ → List Token → WordsView
+words_of text tokens = record { line = text; tokens = tokens }
 
 -- a block that is built; that it is not built comes after all else that its line breaks
 unfoldable pub step_of : Result BlockView ℕ → Result ReadingView ℕ

@@ -39,13 +39,26 @@ fn is_g(word: &Word) -> bool
     }
 }
 
+/// Whether each word is built.
+fn are_built_words(words: &[Word]) -> bool
+    ensures { result ≡ list_all (λ word. is_built_word (word_view word)) words.now }
+{
+    words.iter().all(|word| is_built_word(word))
+}
+
+/// How many of the words are words of a group.
+fn groups_in(words: &[Word]) -> usize
+    ensures { result ≡ length (filter (λ word. is_g (word_view word)) words.now) }
+{
+    words.iter().filter(|word| is_g(word)).count()
+}
+
 /// Whether the words are built, with one word of a group at most.
-#[tactic(auto, unfolding(crate::specs::Built::are_built))]
+#[tactic(auto, using(crate::proofs::BuiltLemmas::all_built, crate::proofs::BuiltLemmas::count_g), unfolding(crate::specs::Built::are_built))]
 fn are_built(words: &[Word]) -> bool
     ensures { result ≡ are_built (map word_view words.now) }
 {
-    words.iter().all(|word| is_built_word(word))
-        && words.iter().filter(|word| is_g(word)).count() <= 1
+    are_built_words(words) && groups_in(words) <= 1
 }
 
 /// Whether the block is built.

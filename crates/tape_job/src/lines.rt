@@ -1,5 +1,5 @@
 //! Lines of bytes, their texts and their words.
-ghost use Rattle.std.specs.Prelude.{◌≡◌, ◌∷◌, ◌<◌, IfOk, map, length, position};
+ghost use Rattle.std.specs.Prelude.{◌≡◌, ◌∷◌, ◌<◌, ◌≤◌, IfOk, map, length, position};
 ghost use Rattle.block_scanner.specs.Bytes.{is_semicolon};
 ghost use Rattle.nc_blocks.specs.Names.{upper};
 ghost use Rattle.tape_job.specs.Lines.{is_feed, raw_lines, text_of, before_comment, words, is_visible, has_token, begins_with_percent};
@@ -30,7 +30,8 @@ pub(crate) fn first_line(bytes: &[u8]) -> (&[u8], &[u8])
 /// The text of a line, without its line end.
 #[tactic(auto, unfolding(crate::specs::Lines::text_of))]
 pub(crate) fn text_in(raw: &[u8]) -> &[u8]
-    ensures { result.now ≡ text_of raw.now }
+    ensures value { result.now ≡ text_of raw.now }
+    ensures shorter { length result.now ≤ length raw.now }
 {
     match raw {
         [front @ .., b'\n'] => match front {

@@ -39,9 +39,10 @@ impl Reader {
     ghost use Rattle.tape_job.specs.Steps.{tell, Admits, Tells, GivesJob};
 
     /// A reader to which no line is told.
-    #[tactic(auto, unfolding(crate::specs::Told::told))]
+    #[tactic(auto, using(crate::proofs::FitLemmas::nothing_fits), unfolding(crate::specs::Told::told))]
     pub(crate) fn new(alloc: Global) -> Reader
-        ensures { result ≡ told [] }
+        ensures value { result ≡ told [] }
+        ensures fits { BlocksFit result.job }
     {
         Reader {
             seen: false,

@@ -1,13 +1,15 @@
 //! What a line says by itself.
-ghost use Rattle.std.specs.Prelude.{◌≡◌, ◌≤◌, map, length, IfOk, IfErr};
+ghost use Rattle.std.specs.Prelude.{◌≡◌, ◌≤◌, ◌==◌, map, length, IfOk, IfErr};
 ghost use Rattle.std.specs.List.{list_any};
 ghost use Rattle.job_lines.specs.Code.{shown};
+ghost use Rattle.block_scanner.specs.Scanned.{IsScanned};
 ghost use Rattle.nc_blocks.specs.Names.{upper};
-ghost use Rattle.tape_job.specs.Reading.{is_job_line, is_bad_byte, entry_of, header_entry, form_of, entry_reading, block_reading, with_shown, reading_of, GivesForm, Gives, reading_view, ReadingFits, FaultIsListed};
+ghost use Rattle.nc_syntax.specs.Blocks.{statement_of};
+ghost use Rattle.tape_job.specs.Reading.{is_job_line, is_bad_byte, entry_of, header_entry, form_of, entry_reading, step_of, block_reading, with_shown, reading_of, GivesForm, Gives, reading_view, ReadingFits, FaultIsListed};
 
 use crate::built::is_built;
 use crate::lines::{before_comment, begins_with_percent, is_visible, text_in, upper_in, words_of};
-use block_scanner::{ScanFault, scan};
+use block_scanner::{ScanFault, Words, scan};
 use job_lines::{Code, Item, header_in, item_in};
 use nc_expressions::SyntaxFault;
 use nc_blocks::{Block, NameText};
@@ -41,9 +43,10 @@ pub(crate) enum LineFault {
 impl From<Code> for LineFault {
     ghost use Rattle.std.specs.Prelude.{◌≡◌};
     ghost use Rattle.job_lines.specs.Code.{shown};
+    ghost use Rattle.tape_job.specs.Reading.{FaultIsListed};
     ghost use Rattle.tape_job.specs.declared.reading.LineFault.TheVariants.{Broken};
 
-    ghost from_gives = { λ code fault. fault ≡ Broken (shown code) };
+    ghost from_gives = { λ code fault. (fault ≡ Broken (shown code)) × FaultIsListed fault };
 
     fn from(code: Code) -> LineFault {
         LineFault::Broken(code.shown())
@@ -90,7 +93,8 @@ fn has_bad_byte(text: &[u8]) -> bool
 /// What the words of a job line say.
 #[tactic(auto, unfolding(crate::specs::Reading::entry_of))]
 fn entry_in(words: &[&[u8]]) -> Result<Reading, Code>
-    ensures { GivesForm result (entry_of (map (λ word. word.now) words.now)) }
+    ensures exact { GivesForm result (entry_of (map (λ word. word.now) words.now)) }
+    ensures fits { IfOk result (λ reading. ReadingFits (reading_view reading)) }
 {
     match words {
         [kind, args @ ..] => Ok(Reading::Entry(item_in(kind, args)?)),
@@ -101,7 +105,8 @@ fn entry_in(words: &[&[u8]]) -> Result<Reading, Code>
 /// What the words of a header say.
 #[tactic(auto, unfolding(crate::specs::Reading::header_entry))]
 fn header_entry_in(words: &[&[u8]]) -> Result<Reading, Code>
-    ensures { GivesForm result (header_entry (map (λ word. word.now) words.now)) }
+    ensures exact { GivesForm result (header_entry (map (λ word. word.now) words.now)) }
+    ensures fits { IfOk result (λ reading. ReadingFits (reading_view reading)) }
 {
     Ok(Reading::Header(header_in(words)?))
 }
@@ -109,7 +114,8 @@ fn header_entry_in(words: &[&[u8]]) -> Result<Reading, Code>
 /// What the words of a line say that is no block, in upper case.
 #[tactic(auto, unfolding(crate::specs::Reading::form_of))]
 fn form_in(seen: bool, percent: bool, words: &[&[u8]]) -> Result<Reading, Code>
-    ensures { GivesForm result (form_of seen percent (map (λ word. word.now) words.now)) }
+    ensures exact { GivesForm result (form_of seen percent (map (λ word. word.now) words.now)) }
+    ensures fits { IfOk result (λ reading. ReadingFits (reading_view reading)) }
 {
     if !seen {
         return if is_job_line(words) {
@@ -149,28 +155,43 @@ fn entry_reading_in(
     Ok(reading)
 }
 
+/// Whether a line has no tokens.
+fn has_no_tokens(words: &Words<'_>) -> bool
+    ensures { result ≡ (length words.now.tokens == 0) }
+{
+    words.tokens.is_empty()
+}
+
+/// What a line of a program says, from its tokens.
+#[tactic(auto, unfolding(crate::specs::Reading::step_of))]
+fn step_in(alloc: Global, words: &Words<'_>, compensation: bool) -> Result<Reading, LineFault>
+    requires { IsScanned words.now }
+    ensures exact { Gives result (step_of (statement_of words.now compensation)) }
+    ensures fits { IfOk result (λ reading. ReadingFits (reading_view reading)) }
+    ensures listed { IfErr result FaultIsListed }
+{
+    match statement(alloc, words, compensation) {
+        Ok(block) if is_built(&block.stmt) => Ok(Reading::Step(block)),
+        Ok(_) => Err(LineFault::from(Code::NotBuilt)),
+        Err(SyntaxFault::Refused(code)) => Err(LineFault::Broken(code)),
+        Err(SyntaxFault::NoMemory) => Err(LineFault::NoMemory),
+    }
+}
+
 /// What a line of a program says.
-#[tactic(auto, unfolding(crate::specs::Reading::block_reading))]
+#[tactic(auto, using(crate::proofs::ReadingLemmas::block_from_scan, crate::proofs::ReadingLemmas::block_without_tokens, crate::proofs::ReadingLemmas::block_with_bad_byte, crate::proofs::ReadingLemmas::block_with_open_text))]
 fn block_reading_in(alloc: Global, compensation: bool, text: &[u8]) -> Result<Reading, LineFault>
     requires { length text.now ≤ 512 }
     ensures exact { Gives result (block_reading compensation text.now) }
     ensures fits { IfOk result (λ reading. ReadingFits (reading_view reading)) }
     ensures listed { IfErr result FaultIsListed }
 {
-    let words = match scan(alloc, text) {
-        Ok(words) => words,
-        Err(ScanFault::BadByte(_)) => return Err(LineFault::from(Code::BadByte)),
-        Err(ScanFault::OpenText(_)) => return Err(LineFault::from(Code::OpenText)),
-        Err(ScanFault::NoMemory) => return Err(LineFault::NoMemory),
-    };
-    if words.tokens.is_empty() {
-        return Ok(Reading::Blank);
-    }
-    match statement(alloc, &words, compensation) {
-        Ok(block) if is_built(&block.stmt) => Ok(Reading::Step(block)),
-        Ok(_) => Err(LineFault::from(Code::NotBuilt)),
-        Err(SyntaxFault::Refused(code)) => Err(LineFault::Broken(code)),
-        Err(SyntaxFault::NoMemory) => Err(LineFault::NoMemory),
+    match scan(alloc, text) {
+        Ok(words) if has_no_tokens(&words) => Ok(Reading::Blank),
+        Ok(words) => step_in(alloc, &words, compensation),
+        Err(ScanFault::BadByte(_)) => Err(LineFault::from(Code::BadByte)),
+        Err(ScanFault::OpenText(_)) => Err(LineFault::from(Code::OpenText)),
+        Err(ScanFault::NoMemory) => Err(LineFault::NoMemory),
     }
 }
 
