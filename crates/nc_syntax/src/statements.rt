@@ -20,7 +20,7 @@ use word_tables::{has_large_number, refused_word};
 fn skip_of(words: &Words<'_>) -> Result<(bool, usize), u16>
     requires { IsScanned words.now }
     ensures value { result ≡ skip_of words.now }
-    ensures within { IfOk result (λ p. p.1 ≤ length words.now.tokens.items) }
+    ensures within { IfOk result (λ p. p.1 ≤ length words.now.tokens) }
 {
     match piece_at(words, 0) {
         Piece::Slash => match piece_at(words, 1) {
@@ -36,7 +36,7 @@ fn skip_of(words: &Words<'_>) -> Result<(bool, usize), u16>
 fn has_number(words: &Words<'_>, at: usize) -> bool
     requires { IsScanned words.now }
     ensures value { result ≡ has_number words.now at }
-    ensures within { OnTrue result (at + 1 < length words.now.tokens.items) }
+    ensures within { OnTrue result (at + 1 < length words.now.tokens) }
 {
     match piece_at(words, at) {
         Piece::Letter(b'N') => matches!(piece_at(words, at + 1), Piece::Number(_)),
@@ -48,9 +48,9 @@ fn has_number(words: &Words<'_>, at: usize) -> bool
 #[tactic(auto, unfolding(crate::specs::Blocks::number_at))]
 fn number_at(words: &Words<'_>, at: usize) -> Result<(Option<u32>, usize), u16>
     requires scanned { IsScanned words.now }
-    requires within { at ≤ length words.now.tokens.items }
+    requires within { at ≤ length words.now.tokens }
     ensures value { result ≡ number_at words.now at }
-    ensures within { IfOk result (λ p. p.1 ≤ length words.now.tokens.items) }
+    ensures within { IfOk result (λ p. p.1 ≤ length words.now.tokens) }
 {
     if has_number(words, at) {
         let number = block_number_at(words, at + 1)?;
@@ -64,9 +64,9 @@ fn number_at(words: &Words<'_>, at: usize) -> Result<(Option<u32>, usize), u16>
 #[tactic(auto, unfolding(crate::specs::Blocks::label_at))]
 fn label_at(words: &Words<'_>, at: usize) -> (Option<NameText>, usize)
     requires scanned { IsScanned words.now }
-    requires within { at ≤ length words.now.tokens.items }
+    requires within { at ≤ length words.now.tokens }
     ensures value { result ≡ label_at words.now at }
-    ensures within { result.1 ≤ length words.now.tokens.items }
+    ensures within { result.1 ≤ length words.now.tokens }
 {
     match piece_at(words, at) {
         Piece::Name => match piece_at(words, at + 1) {
@@ -82,7 +82,7 @@ fn label_at(words: &Words<'_>, at: usize) -> (Option<NameText>, usize)
 fn head_of(words: &Words<'_>) -> Result<(bool, Option<u32>, usize), u16>
     requires { IsScanned words.now }
     ensures value { result ≡ head_of words.now }
-    ensures within { IfOk result (λ p. p.2 ≤ length words.now.tokens.items) }
+    ensures within { IfOk result (λ p. p.2 ≤ length words.now.tokens) }
 {
     let (skip, place) = skip_of(words)?;
     let (number, end) = number_at(words, place)?;
