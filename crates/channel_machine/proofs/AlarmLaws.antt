@@ -1,5 +1,5 @@
 -- The alarms of blocks are in the table of alarms.
-use Rattle.std.proofs.Common.{◌≡◌, ℕ, ℤ, pos, ◌^◌, Bool, true, false, cond, nat_lt, int_lt, List, [], ◌∷◌, Option, None, Some, is_some, get_or, Result, Ok, Err, set, refl}
+use Rattle.std.proofs.Common.{ℕ, ℤ, pos, ◌^◌, Bool, true, false, cond, nat_lt, int_lt, List, [], ◌∷◌, Option, None, Some, is_some, get_or, Result, Ok, Err, set, refl}
 use Rattle.std.specs.Prelude.{⊤}
 use Rattle.std.specs.List.{list_all}
 use Rattle.std.specs.Ordering.{int_eq}
@@ -12,11 +12,11 @@ use Rattle.nc_expressions.specs.declared.trees.BinaryOp.TheVariants.{Add, Sub, M
 use Rattle.nc_expressions.specs.Symbols.{index_of}
 use Rattle.nc_expressions.specs.Tree.{Tree, Number, Parameter, Indexed, Unary, Binary}
 use Rattle.nc_expressions.specs.Value.{◌>>=◌, checked, divided, rooted, unary_value, binary_value, at_index, value_of}
-use Rattle.nc_faults.specs.Texts.{IsAlarmCode, alarm_texts, has_code}
+use Rattle.nc_faults.specs.Texts.{IsAlarmCode, alarm_texts}
 use Rattle.nc_blocks.specs.Statement.{OperandView, Value, Text, AxisName, WordView, Assign, AssignAt, G, Axis, Radius, Aux, End, BlockView, Statement}
 use Rattle.channel_machine.specs.Motions.{is_in_reach, ends_from, item_of, moved}
-use Rattle.channel_machine.specs.Words.{parameter_in, value_in, index_in, begun, assigned, assigned_at, axis_of, programmed, option_read, operand_read, aux_read, word_done, words_done, words_in}
-use Rattle.channel_machine.specs.Run.{Effect, Executed, parameters_after, stands_after, effect_of, executed}
+use Rattle.channel_machine.specs.Words.{parameter_in, value_in, index_in, begun, assigned, axis_of, programmed, option_read, operand_read, aux_read, word_done, words_done, words_in}
+use Rattle.channel_machine.specs.Run.{Executed, parameters_after, stands_after, effect_of, executed}
 use Rattle.channel_machine.specs.declared.progress.Progress.{Progress}
 use Rattle.channel_machine.specs.declared.run.SetUp.{SetUp}
 

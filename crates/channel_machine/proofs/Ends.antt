@@ -1,12 +1,11 @@
 -- The ends of a block's motion.
-use Rattle.std.proofs.Common.{◌≡◌, ◌≢◌, ◌⊎◌, ◌∙◌, ℕ, zero, suc, ℤ, ◌+◌, ◌<◌, ◌≤◌, ◌==◌, List, [], ◌∷◌, length, find, Option, None, Some, option_map, option_and_then, get_or, All, AllPairs, inl, inr, refl, sym, ap, subst, arith}
+use Rattle.std.proofs.Common.{◌≡◌, ◌≢◌, ◌⊎◌, ◌∙◌, ℕ, zero, suc, ℤ, ◌+◌, ◌<◌, ◌≤◌, ◌==◌, List, [], ◌∷◌, length, find, Option, None, Some, option_map, option_and_then, get_or, All, AllPairs, inl, inr, refl, ap, subst, arith}
 use Rattle.std.proofs.Math.ListN.{get_or-eq_default}
 use Rattle.std.proofs.lemmas.Bool.{eq-eqb, ne_eqb, cases_eq}
 use Rattle.std.proofs.lemmas.List.Elements.{All-nil, All-cons, All-weaker}
 use Rattle.std.proofs.lemmas.List.Kept.{AllPairs-cons}
 use Rattle.std.specs.List.{cons_option, filter_map, range_with_len}
 use Rattle.channel_machine.specs.Motions.{end_in, end_for, ends_from, item_of}
-use Rattle.channel_machine.specs.declared.motions.Item.{Item}
 
 -- the ends of the axes from `low` on, n in number, to which `end` gives an end
 abbrev pub ends_between : (ℕ → ℤ) → (ℕ → Option ℤ) → ℕ → ℕ → List (ℕ × ℤ × ℤ)

@@ -1,9 +1,9 @@
 -- The motion of a block, and the motions of a run.
-use Rattle.std.proofs.Common.{◌≡◌, ◌⊎◌, ◌∙◌, ℕ, zero, suc, ℤ, ◌+◌, ◌≤◌, ◌<◌, ◌==◌, Bool, true, false, cond, List, [], ◌∷◌, ◌++◌, append-nil, length, length-append, find, take, get_or, slice_get, Option, None, Some, option_map, unwrap_or, IfSome, Result, Ok, Err, All, Contains, inl, inr, refl, sym, ap, subst, arith}
+use Rattle.std.proofs.Common.{◌≡◌, ◌≢◌, ◌⊎◌, ◌∙◌, ℕ, zero, suc, ℤ, ◌+◌, ◌≤◌, ◌<◌, ◌==◌, Bool, true, false, cond, List, [], ◌∷◌, ◌++◌, append-nil, length, length-append, find, take, get_or, slice_get, Option, None, Some, option_map, unwrap_or, IfSome, Result, Ok, Err, All, AllPairs, Contains, inl, inr, refl, sym, ap, subst, arith}
 use Rattle.std.proofs.Math.Seq.{take-append_seam}
-use Rattle.std.proofs.lemmas.Bool.{and_parts, leb-true}
+use Rattle.std.proofs.lemmas.Bool.{and_parts, leb-true, eq-eqb, ne_eqb}
 use Rattle.std.proofs.lemmas.List.{take-append-le}
-use Rattle.std.proofs.lemmas.List.Elements.{All-head, All-tail, All-take, All-weaker}
+use Rattle.std.proofs.lemmas.List.Elements.{All-nil, All-cons, All-head, All-tail, All-take, All-weaker, All-contains}
 use Rattle.std.proofs.lemmas.Option.{slice_get_within, slice_get-get_or}
 use Rattle.std.specs.List.{filter_map, list_all, last_or, cons_option}
 use Rattle.std.specs.Option.{option_to_list}
@@ -15,11 +15,10 @@ use Rattle.path_geometry.specs.declared.motion.Motion.TheVariants.{Line, Rapid}
 use Rattle.path_geometry.specs.declared.motion.Motion.TheVariants as kind
 use Rattle.channel_machine.specs.Motions.{positions_in, end_in, left_at, end_of, is_in_reach, end_for, ends_from, item_of, moved, IsMotionOf}
 use Rattle.channel_machine.specs.Words.{begun, words_done, words_in}
-use Rattle.channel_machine.specs.Run.{Effect, Executed, parameters_after, items_of, stands_after, effect_of, executed, run_of}
+use Rattle.channel_machine.specs.Run.{Effect, Executed, parameters_after, items_of, stands_after, effect_of, executed}
 use Rattle.channel_machine.specs.declared.motions.Item.{Item}
-use Rattle.channel_machine.specs.declared.progress.Progress.{Progress}
 use Rattle.channel_machine.specs.declared.run.SetUp.{SetUp}
-use Rattle.channel_machine.proofs.Ends.{le_or_lt, ends_all, ends_once}
+use Rattle.channel_machine.proofs.Ends.{le_or_lt, ends_all, Differ, ends_once}
 use Rattle.channel_machine.proofs.Runs.{items_of-push}
 use Rattle.channel_machine.proofs.SlotLaws.{OfSlots, OfSlots-begun, words_good}
 
@@ -201,3 +200,26 @@ sound_motions slots start items all starts = by_places (λ item. IsSound item.mo
     }
     sound (Rapid ends) at motion within = absurd motion.straight
     sound (kind.Arc arc) at motion within = absurd motion.straight
+
+-- ---- for what stands on motions
+
+-- where the slots have axes below a number, so has a motion of a block
+pub axes_below : (n : ℕ) (slots : List (Option ℕ)) (at : ℕ → ℤ) (motion : Motion) → All (λ slot. IfSome slot (λ axis. axis < n)) slots → IsMotionOf slots at motion
+    → All (λ e. e.0 < n) (axes_of motion)
+axes_below n slots at motion below is =
+    All-weaker (λ e. Contains slots (Some e.0)) (λ e. e.0 < n) (λ e here. All-contains (λ slot. IfSome slot (λ axis. axis < n)) slots (Some e.0) below here) (axes_of motion) is.in_slots
+
+-- where each axis stands once, each end is the one that is found for its axis
+found_itself : (ends : List (ℕ × ℤ × ℤ)) → AllPairs Differ ends → All (λ e. find (λ f. f.0 == e.0) ends ≡ Some e) ends
+found_itself [] once = All-nil (λ e. find (λ f. f.0 == e.0) [] ≡ Some e)
+found_itself (first ∷ ends) once =
+    All-cons (λ e. find (λ f. f.0 == e.0) (first ∷ ends) ≡ Some e) first ends (rw (eq-eqb first.0 first.0 refl) refl)
+    (λ k d within. let apart : first.0 ≢ (get_or ends k d).0 = once 0 (suc k) d (omega arith) (omega arith) in
+    rw (ne_eqb first.0 (get_or ends k d).0 apart) (found_itself ends (λ i j d before inside. once (suc i) (suc j) d (omega arith) (omega arith)) k d within))
+
+-- so a motion of a block leaves each of its axes at its end
+pub ends_found : (slots : List (Option ℕ)) (at : ℕ → ℤ) (item : Item) → IsMotionOf slots at item.motion → All (λ e. end_in e.0 item ≡ Some e.2) (axes_of item.motion)
+unfolding end_in
+ends_found slots at item is =
+    All-weaker (λ e. find (λ f. f.0 == e.0) (axes_of item.motion) ≡ Some e) (λ e. option_map (λ f. f.2) (find (λ f. f.0 == e.0) (axes_of item.motion)) ≡ Some e.2)
+    (λ e here. ap (option_map (λ (f : ℕ × ℤ × ℤ). f.2)) here) (axes_of item.motion) (found_itself (axes_of item.motion) is.once)

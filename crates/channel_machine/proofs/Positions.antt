@@ -1,7 +1,7 @@
 -- Where motions leave axes.
-use Rattle.std.proofs.Common.{◌≡◌, ◌∙◌, ℕ, ℤ, List, [], ◌∷◌, ◌++◌, Option, None, Some, option_and_then, unwrap_or, refl, sym, ap}
+use Rattle.std.proofs.Common.{◌≡◌, ◌∙◌, ℕ, ℤ, List, [], ◌++◌, Option, None, Some, option_and_then, unwrap_or, refl, sym, ap}
 use Rattle.std.proofs.lemmas.List.Elements.{filter_map-append}
-use Rattle.std.specs.List.{filter_map, last_or}
+use Rattle.std.specs.List.{filter_map}
 use Rattle.std.specs.Option.{option_to_list}
 use Rattle.channel_machine.specs.Motions.{positions_in, end_in, left_at, StandsAfter}
 use Rattle.channel_machine.specs.declared.motions.Item.{Item}

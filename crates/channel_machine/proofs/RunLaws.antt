@@ -1,14 +1,13 @@
 -- Laws of whole runs.
-use Rattle.std.proofs.Common.{◌≡◌, ◌∙◌, ℕ, zero, suc, ℤ, ◌+◌, ◌≤◌, Bool, true, false, cond, List, [], ◌∷◌, ◌++◌, length, length-append, take, slice_get, Option, None, Some, Result, Ok, Err, All, refl, sym, ap, subst, arith}
+use Rattle.std.proofs.Common.{◌≡◌, ℕ, zero, suc, ◌+◌, ◌≤◌, Bool, true, false, cond, List, [], ◌∷◌, ◌++◌, length, length-append, Option, None, Some, Result, Ok, Err, All, refl, sym, subst, arith}
 use Rattle.std.specs.Option.{option_to_list}
 use Rattle.nc_blocks.specs.Statement.{BlockView}
-use Rattle.nc_faults.specs.Texts.{IsAlarmCode}
 use Rattle.path_geometry.specs.Motions.{IsInRange, IsSound}
-use Rattle.channel_machine.specs.Motions.{positions_in, left_at, IsMotionOf}
+use Rattle.channel_machine.specs.Motions.{positions_in}
 use Rattle.channel_machine.specs.Run.{Executed, items_of, executed, next_block, RunView, halted, alarmed, at_next, behind, run_after, run_of, IsListedEnd}
 use Rattle.channel_machine.specs.declared.motions.Item.{Item}
 use Rattle.channel_machine.specs.declared.run.ChannelEnd.{ChannelEnd}
-use Rattle.channel_machine.specs.declared.run.ChannelEnd.TheVariants.{Ended, Alarmed}
+use Rattle.channel_machine.specs.declared.run.ChannelEnd.TheVariants.{Ended}
 use Rattle.channel_machine.specs.declared.run.SetUp.{SetUp}
 use Rattle.channel_machine.proofs.AlarmLaws.{IsListed, executed_listed, listed_8, listed_9}
 use Rattle.channel_machine.proofs.MotionLaws.{AllFollow, follows_more, follows_none, sound_motions}

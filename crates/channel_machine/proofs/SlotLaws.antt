@@ -1,11 +1,10 @@
 -- The words of a block program axes of the channel's slots alone.
-use Rattle.std.proofs.Common.{◌≡◌, ◌⊎◌, ◌∙◌, ℕ, zero, suc, ℤ, ◌+◌, ◌<◌, Bool, true, false, cond, List, [], ◌∷◌, codes, length, get_or, set, replicate, Option, None, Some, is_some, Result, Ok, Err, Contains, inl, inr, refl, sym, ap, subst, arith}
+use Rattle.std.proofs.Common.{◌≡◌, ◌⊎◌, ℕ, zero, suc, ℤ, Bool, true, false, cond, List, [], ◌∷◌, codes, get_or, set, replicate, Option, None, Some, is_some, Result, Ok, Err, Contains, inl, inr, refl, ap, subst, arith}
 use Rattle.std.specs.Str.{bytes_eq}
 use Rattle.nc_expressions.specs.Symbols.{index_of}
-use Rattle.nc_expressions.specs.Tree.{Tree}
 use Rattle.nc_expressions.specs.Value.{◌>>=◌}
-use Rattle.nc_blocks.specs.Statement.{OperandView, WordView, Assign, AssignAt, G, Axis, Radius, Aux, End}
-use Rattle.channel_machine.specs.Words.{value_in, index_in, nothing_programmed, begun, assigned, assigned_at, axis_of, programmed, aux_read, word_done, words_done}
+use Rattle.nc_blocks.specs.Statement.{WordView, Assign, AssignAt, G, Axis, Radius, Aux, End}
+use Rattle.channel_machine.specs.Words.{value_in, index_in, nothing_programmed, begun, assigned, axis_of, programmed, aux_read, word_done, words_done}
 use Rattle.channel_machine.specs.declared.progress.Progress.{Progress}
 
 -- an axis that is programmed is in one of the slots

@@ -3,7 +3,7 @@ use Rattle.std.proofs.Common.{◌≡◌, ◌∙◌, ℕ, zero, suc, ℤ, ◌<◌
 use Rattle.std.specs.List.{list_all}
 use Rattle.std.proofs.lemmas.List.Elements.{All-head, All-tail}
 use Rattle.nc_blocks.specs.Statement.{WordView, Statement}
-use Rattle.channel_machine.specs.Motions.{positions_in, end_in, end_for, ends_from, item_of, is_in_reach, moved, StandsMoved}
+use Rattle.channel_machine.specs.Motions.{positions_in, end_in, ends_from, item_of, is_in_reach, moved, StandsMoved}
 use Rattle.channel_machine.specs.Words.{begun, words_done, words_in}
 use Rattle.channel_machine.specs.Run.{effect_of, Leaves}
 use Rattle.channel_machine.specs.declared.motions.Item.{Item}

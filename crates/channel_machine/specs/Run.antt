@@ -1,7 +1,6 @@
 -- The run of a channel's program, told over the list of the blocks that it has executed.
 use Rattle.std.specs.Prelude.{◌≡◌, ⊤, IsTrue, MatchResult, ℕ, zero, suc, ℤ, Bool, if◌then◌else◌, List, [], ◌∷◌, ◌++◌, length, fold, filter_map, slice_get, Option, None, Some, Result, Ok, Err}
 use Rattle.nc_expressions.specs.Value.{◌>>=◌}
-use Rattle.nc_faults.specs.declared.Alarm.{Alarm}
 use Rattle.nc_faults.specs.Texts.{IsAlarmCode}
 use Rattle.nc_blocks.specs.declared.blocks.Block.{Block}
 use Rattle.nc_blocks.specs.Indices.{StatementFits}

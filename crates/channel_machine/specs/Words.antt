@@ -1,5 +1,5 @@
 -- What the words of a block do, one after another from left to right.
-use Rattle.std.specs.Prelude.{◌≡◌, ⊤, MatchResult, IsOk, ℕ, ℤ, pos, Bool, true, false, if◌then◌else◌, is_some, List, [], ◌∷◌, codes, replicate, slice_index_or, slice_set, Option, None, Some, Result, Ok, Err}
+use Rattle.std.specs.Prelude.{◌≡◌, ⊤, MatchResult, IsOk, ℕ, ℤ, pos, true, false, if◌then◌else◌, is_some, List, [], ◌∷◌, codes, replicate, slice_index_or, slice_set, Option, None, Some, Result, Ok, Err}
 use Rattle.std.specs.Str.{bytes_eq}
 use Rattle.nc_expressions.specs.Symbols.{index_of}
 use Rattle.nc_expressions.specs.Tree.{Tree}

@@ -1,13 +1,12 @@
-pub mod BlockLemmas
+pub mod BuiltLemmas
 pub mod FirstRefusalLemmas
-pub mod LengthLemmas
+pub mod FitLemmas
 pub mod LibraryLemmas
 pub mod LineLemmas
-pub mod ReaderLemmas
+pub mod ReadingLemmas
 pub mod SoundJobLines
 pub mod SoundJobs
 pub mod SoundLists
 pub mod SoundPrograms
 pub mod SoundReadings
 pub mod TellingLemmas
-pub mod RefusalLemmas

@@ -7,7 +7,7 @@ use Rattle.indexmap.specs.IndexMap.{insert_entry, set_value_at}
 use Rattle.tape_job.specs.Rules.{has_program}
 use Rattle.tape_job.specs.Job.{ProgramView}
 use Rattle.tape_job.specs.Steps.{with_block}
-use Rattle.tape_job.specs.declared.job.Block.{Block}
+use Rattle.nc_blocks.specs.Statement.{BlockView}
 
 new_behind : (here : Bool) (entry : List ℕ × ProgramView) (entries : List (List ℕ × ProgramView)) (name : List ℕ) (program : ProgramView) (rest : Bool)
     → (rest ≡ false → insert_entry bytes_eq entries name program ≡ entries ++ (name, program) ∷ []) → here || rest ≡ false
@@ -24,7 +24,7 @@ insert_entry-new_name (entry ∷ entries) name program none =
     new_behind (bytes_eq name entry.0) entry entries name program (list_any (bytes_eq name) (keys_of entries)) (insert_entry-new_name entries name program) none
 
 -- a write of the last program's value is a write of its blocks
-pub set_value_at-last : (programs : List (List ℕ × ProgramView)) (program : ProgramView) (block : Block)
+pub set_value_at-last : (programs : List (List ℕ × ProgramView)) (program : ProgramView) (block : ℕ × BlockView)
     → Some program ≡ slice_get (values_of programs) (length programs - 1)
     → set_value_at programs (length programs - 1) (record { line = program.line; blocks = program.blocks ++ block ∷ [] }) ≡ with_block programs block
 set_value_at-last [] program block at = absurd cc

@@ -8,9 +8,9 @@ use Rattle.std.proofs.lemmas.Option.{slice_get_within}
 use Rattle.std.proofs.lemmas.List.Elements.{All-nil, All-cons, All-push, All-weaker}
 use Rattle.std.proofs.lemmas.List.Kept.{AllPairs-cons}
 use Rattle.std.proofs.lemmas.List.Quantifiers.{all_pairs_push}
-use Rattle.tape_job.specs.declared.code.Code.TheVariants.{NotDeclared, DeclaredTwice, OwnerDiffers, TooMany, NotBuilt}
-use Rattle.tape_job.specs.declared.item.AxisName.{AxisName}
-use Rattle.tape_job.specs.declared.item.NamedSide.{NamedSide}
+use Rattle.job_lines.specs.declared.code.Code.TheVariants.{NotDeclared, DeclaredTwice, OwnerDiffers, TooMany, NotBuilt}
+use Rattle.job_lines.specs.declared.item.AxisName.{AxisName}
+use Rattle.job_lines.specs.declared.item.NamedSide.{NamedSide}
 use Rattle.tape_job.specs.declared.job.AxisLine.{AxisLine}
 use Rattle.tape_job.specs.declared.job.ChannelLine.{ChannelLine}
 use Rattle.tape_job.specs.declared.job.GeoLine.{GeoLine}

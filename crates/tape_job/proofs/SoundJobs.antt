@@ -1,45 +1,41 @@
 -- Every accepted job is sound.
 use Rattle.std.specs.Prelude.{IsSomeAnd}
-use Rattle.std.proofs.Common.{◌≡◌, ◌≢◌, ◌∙◌, ℕ, ◌≤◌, ◌<◌, Bool, true, false, true≢false, ◌||◌, not, nat_le, List, [], ◌∷◌, ◌++◌, length, Result, Ok, Err, IfOk, Option, Some, None, IfSome, IsSome, find, get_or, subst, refl, sym, arith, length-append, rules}
+use Rattle.std.proofs.Common.{◌≡◌, ◌≢◌, ◌∙◌, ℕ, ◌≤◌, ◌<◌, Bool, true, ◌||◌, not, nat_le, List, [], ◌∷◌, ◌++◌, length, Result, Ok, Err, IfOk, Option, Some, None, IfSome, IsSome, find, get_or, subst, refl, sym, arith, length-append, rules}
 use Rattle.std.specs.List.{All, Any, AllPairs, enumerate_from}
 use Rattle.std.specs.Map.{keys_of}
 use Rattle.std.specs.Option.{option_map, option_or}
 use Rattle.std.proofs.Math.ListN.{get_or-map}
 use Rattle.std.proofs.lemmas.List.{length-map}
+use Rattle.std.proofs.lemmas.List.Elements.{All-nil}
 use Rattle.std.proofs.lemmas.List.Quantifiers.{all_pairs_push}
+use Rattle.job_lines.specs.Code.{shown}
+use Rattle.job_lines.specs.declared.code.Code.TheVariants.{NameRepeated, TooMany, NotInLibrary}
+use Rattle.job_lines.specs.declared.item.Item.{Item}
+use Rattle.job_lines.specs.declared.item.Item.TheVariants.{Channel, Axis, Geo, Zone}
+use Rattle.job_lines.specs.declared.item.NamedSide.{NamedSide}
+use Rattle.nc_blocks.specs.Statement.{BlockView}
 use Rattle.nc_faults.specs.declared.Refusal.{Refusal}
-use Rattle.tape_job.specs.declared.code.Code.{Code}
-use Rattle.tape_job.specs.declared.code.Code.TheVariants.{NameRepeated, TooMany, NotInLibrary}
-use Rattle.tape_job.specs.declared.item.Item.{Item}
-use Rattle.tape_job.specs.declared.item.Item.TheVariants.{Channel, Axis, Geo, Zone}
-use Rattle.tape_job.specs.declared.item.NamedSide.{NamedSide}
-use Rattle.tape_job.specs.declared.job.Block.{Block}
-use Rattle.tape_job.specs.declared.job.Stmt.{Stmt}
 use Rattle.tape_job.specs.declared.job.ChannelLine.{ChannelLine}
 use Rattle.tape_job.specs.declared.job.Side.{Side}
-use Rattle.tape_job.specs.declared.reading.Reading.{Reading}
-use Rattle.tape_job.specs.declared.reading.Reading.TheVariants.{Blank, First, Entry, Header, Step}
-use Rattle.tape_job.specs.Code.{refusal}
+use Rattle.tape_job.specs.Built.{is_built}
 use Rattle.tape_job.specs.Job.{JobView, ProgramView}
-use Rattle.tape_job.specs.Lines.{Line, has_token, raw_lines}
-use Rattle.tape_job.specs.Reading.{reading_of}
+use Rattle.tape_job.specs.Lines.{Line, has_token, begins_with_percent, raw_lines}
+use Rattle.tape_job.specs.Reading.{ReadingView, Blank, First, Entry, Header, Step, reading_of}
 use Rattle.tape_job.specs.Rules as rule
-use Rattle.tape_job.specs.Rules.{last}
-use Rattle.tape_job.specs.Told.{Told, told, begins_program, geo_line, zone_line}
-use Rattle.tape_job.specs.Read.{opening, program_before, line_refusal, trial, end_trial, answer, read_of}
+use Rattle.tape_job.specs.Told.{Told, told, geo_line, zone_line}
+use Rattle.tape_job.specs.Read.{code_by, trial, end_trial, answer, read_of}
 use Rattle.tape_job.specs.Steps.{with_entry, with_line, with_block, tell, unless_refused, run, finish}
 use Rattle.tape_job.specs.SoundJob.{IsSoundJob}
 use Rattle.tape_job.proofs.SoundLists.{unbroken, not_false, none_found}
-use Rattle.tape_job.proofs.SoundReadings.{IsNear, IsSoundItem, IsSoundReading, reading_sound}
+use Rattle.tape_job.proofs.SoundReadings.{IsSoundItem, IsSoundReading, reading_sound}
 use Rattle.tape_job.proofs.SoundJobLines.{ListFacts, HasRange, no_pairs, list_kept, nothing_listed, side_range, sound_range, channel_told, axis_told, geo_told, zone_told}
-use Rattle.tape_job.proofs.SoundPrograms.{Library, block_told, header_told, programs_sound, keys-with_block, length-with_block, keys-push, library_kept, names_differ, program_found}
+use Rattle.tape_job.proofs.SoundPrograms.{InAll, block_told, header_told, keys-with_block, length-with_block, keys-push, names_differ, program_found}
 use Rattle.tape_job.proofs.TellingLemmas.{read_of_is}
 
 -- what holds of all that lines told
 record Sound (told : Told) : Type 0 where
-  early : told.in_programs ≡ false → told.job.programs ≡ []
   list : ListFacts told.job
-  library : Library told.job told.job.programs
+  programs : InAll (λ block. is_built block.1.statement ≡ true) told.job.programs
   names : AllPairs (λ name other. name ≢ other) (keys_of told.job.programs)
   few : length told.job.programs ≤ 256
 
@@ -79,36 +75,16 @@ unmapped : {A B : Type 0} (f : A → B) (a : Option A) → option_map f a ≡ No
 unmapped f None none = refl
 unmapped f (Some a) none = absurd cc
 
-or_false : (a b : Bool) → a || b ≡ false → a ≡ false
-or_false true b e = absurd cc
-or_false false b e = refl
-
-holds_both : (a b : Bool) → b ≡ true → a || b ≡ false → ⊥
-holds_both true b e none = true≢false none
-holds_both false b e none = true≢false (sym e ∙ none)
-
--- the program before the line is closed where the line begins one, and else goes on
-closed_before : (job : JobView) (raw : List ℕ) → program_before job raw ≡ None → begins_program raw ≡ true → rule.closing job.programs ≡ None
-unfolding program_before
-closed_before job raw none begins = sym (rw begins refl) ∙ none
-
-goes_before : (job : JobView) (raw : List ℕ) → program_before job raw ≡ None → begins_program raw ≡ false → has_token raw ≡ true → rule.going_on job.programs ≡ None
-unfolding program_before
-goes_before job raw none begins token = sym (rw (begins, token) refl) ∙ none
-
--- a job line, before any program
-entry_told : (told : Told) (number : ℕ) (seen begins : Bool) (item : Item) → Sound told → told.in_programs ≡ false → rule.item_rule told.job item ≡ None → IsSoundItem item
-    → Sound (record { seen = seen; in_programs = told.in_programs || begins; job = with_item told.job number item })
+-- a job line
+entry_told : (told : Told) (number : ℕ) (seen late : Bool) (item : Item) → Sound told → rule.item_rule told.job item ≡ None → IsSoundItem item
+    → Sound (record { seen = seen; in_programs = late; job = with_item told.job number item })
 unfolding with_line
-entry_told told number seen begins item sound early none fits =
-    let empty : told.job.programs ≡ [] = sound.early early in
-    record {
-      early = λ _. kept number told.job item ∙ empty;
-      list = item_told told.job number item sound.list none fits;
-      library = subst (λ programs. Library (with_item told.job number item) programs) (sym (kept number told.job item ∙ empty)) tt;
-      names = subst (λ programs. AllPairs (λ name other. name ≢ other) (keys_of programs)) (sym (kept number told.job item)) sound.names;
-      few = subst (λ programs. length programs ≤ 256) (sym (kept number told.job item)) sound.few;
-    }
+entry_told told number seen late item sound none fits = record {
+  list = item_told told.job number item sound.list none fits;
+  programs = subst (InAll (λ block. is_built block.1.statement ≡ true)) (sym (kept number told.job item)) sound.programs;
+  names = subst (λ programs. AllPairs (λ name other. name ≢ other) (keys_of programs)) (sym (kept number told.job item)) sound.names;
+  few = subst (λ programs. length programs ≤ 256) (sym (kept number told.job item)) sound.few;
+}
   where
     kept : (number : ℕ) (job : JobView) (item : Item) → (with_item job number item).programs ≡ job.programs
     kept number job (Channel channel program) = refl
@@ -117,10 +93,10 @@ entry_told told number seen begins item sound early none fits =
     kept number job (Zone zone group holder x y z) = refl
 
 -- a header
-header_line_told : (told : Told) (number : ℕ) (seen begins : Bool) (name : List ℕ) → Sound told → begins ≡ true → rule.closing told.job.programs ≡ None
-    → rule.header_rule told.job name ≡ None → Sound (record { seen = seen; in_programs = told.in_programs || begins; job = with_line told.job number (Ok (Header name)) })
+header_line_told : (told : Told) (number : ℕ) (seen late : Bool) (name : List ℕ) → Sound told
+    → rule.header_rule told.job name ≡ None → Sound (record { seen = seen; in_programs = late; job = with_line told.job number (Ok (Header name)) })
 unfolding rule.header_rule with_line
-header_line_told told number seen begins name sound begin closed none =
+header_line_told told number seen late name sound none =
     let program : List ℕ × ProgramView = (name, record { line = number; blocks = [] }) in
     let first = unbroken (rule.has_program told.job.programs name) NameRepeated _ none in
     let second = unbroken (nat_le 256 (length told.job.programs)) TooMany None first.1 in
@@ -128,62 +104,43 @@ header_line_told told number seen begins name sound begin closed none =
     let further = length-append told.job.programs (program ∷ []) in
     let all : List (List ℕ × ProgramView) = told.job.programs ++ program ∷ [] in
     record {
-      early = λ none. absurd (holds_both told.in_programs begins begin none);
       list = list_kept told.job all sound.list;
-      library = library_kept told.job all all (header_told told.job told.job.programs number name sound.library closed);
+      programs = header_told (λ block. is_built block.1.statement ≡ true) told.job.programs number name sound.programs;
       names = subst (AllPairs (λ name other. name ≢ other)) (sym (keys-push told.job.programs program))
           (all_pairs_push (λ name other. name ≢ other) (keys_of told.job.programs) name sound.names (names_differ told.job.programs name first.0));
       few = omega arith;
     }
 
 -- a block
-block_line_told : (told : Told) (number : ℕ) (seen begins : Bool) (stmt : Stmt) → Sound told → told.in_programs ≡ true → rule.going_on told.job.programs ≡ None
-    → rule.block_rule told.job stmt (last told.job.programs) ≡ None → IsNear stmt → Sound (record { seen = seen; in_programs = told.in_programs || begins; job = with_line told.job number (Ok (Step stmt)) })
+block_line_told : (told : Told) (number : ℕ) (seen late : Bool) (block : BlockView) → Sound told → is_built block.statement ≡ true
+    → Sound (record { seen = seen; in_programs = late; job = with_line told.job number (Ok (Step block)) })
 unfolding with_line
-block_line_told told number seen begins stmt sound late goes none near =
-    let block : Block = record { line = number; stmt = stmt } in
-    let all : List (List ℕ × ProgramView) = with_block told.job.programs block in
+block_line_told told number seen late block sound built =
+    let all : List (List ℕ × ProgramView) = with_block told.job.programs (number, block) in
     record {
-      early = λ none. absurd (true≢false (sym late ∙ or_false told.in_programs begins none));
       list = list_kept told.job all sound.list;
-      library = library_kept told.job all all (block_told told.job told.job.programs number stmt sound.library none goes near);
-      names = subst (AllPairs (λ name other. name ≢ other)) (sym (keys-with_block told.job.programs block)) sound.names;
-      few = subst (λ n. n ≤ 256) (sym (length-with_block told.job.programs block)) sound.few;
+      programs = block_told (λ b. is_built b.1.statement ≡ true) told.job.programs (number, block) sound.programs built;
+      names = subst (AllPairs (λ name other. name ≢ other)) (sym (keys-with_block told.job.programs (number, block))) sound.names;
+      few = subst (λ n. n ≤ 256) (sym (length-with_block told.job.programs (number, block))) sound.few;
     }
 
-line_told : (told : Told) (number : ℕ) (raw : List ℕ) (seen : Bool) (read : Result Reading Code) → Sound told → program_before told.job raw ≡ None → rule.code_by told.job read ≡ None
-    → IfOk read (IsSoundReading told.in_programs (begins_program raw) (has_token raw))
-    → Sound (record { seen = seen; in_programs = told.in_programs || begins_program raw; job = with_line told.job number read })
+line_told : (told : Told) (number : ℕ) (seen late : Bool) (read : Result ReadingView ℕ) → Sound told → code_by told.job read ≡ None
+    → IfOk read IsSoundReading → Sound (record { seen = seen; in_programs = late; job = with_line told.job number read })
 unfolding with_line rule.rule_of
-line_told told number raw seen (Err code) sound before none fits = absurd cc
-line_told told number raw seen (Ok Blank) sound before none fits = record {
-  early = λ none. sound.early (or_false told.in_programs (begins_program raw) none);
-  list = sound.list;
-  library = sound.library;
-  names = sound.names;
-  few = sound.few;
-}
-line_told told number raw seen (Ok First) sound before none fits = record {
-  early = λ none. sound.early (or_false told.in_programs (begins_program raw) none);
-  list = sound.list;
-  library = sound.library;
-  names = sound.names;
-  few = sound.few;
-}
-line_told told number raw seen (Ok (Entry item)) sound before none fits =
-    entry_told told number seen (begins_program raw) item sound fits.0 none fits.2
-line_told told number raw seen (Ok (Header name)) sound before none fits =
-    header_line_told told number seen (begins_program raw) name sound fits (closed_before told.job raw before fits) none
-line_told told number raw seen (Ok (Step stmt)) sound before none fits =
-    block_line_told told number seen (begins_program raw) stmt sound fits.0 (goes_before told.job raw before fits.1 fits.2) none fits.3
+line_told told number seen late (Err code) sound none fits = absurd cc
+line_told told number seen late (Ok Blank) sound none fits = record { list = sound.list; programs = sound.programs; names = sound.names; few = sound.few }
+line_told told number seen late (Ok First) sound none fits = record { list = sound.list; programs = sound.programs; names = sound.names; few = sound.few }
+line_told told number seen late (Ok (Entry item)) sound none fits =
+    entry_told told number seen late item sound (unmapped shown (rule.item_rule told.job item) none) fits
+line_told told number seen late (Ok (Header name)) sound none fits =
+    header_line_told told number seen late name sound (unmapped shown (rule.header_rule told.job name) none)
+line_told told number seen late (Ok (Step block)) sound none fits = block_line_told told number seen late block sound fits
 
 tell_sound : (told : Told) (line : Line) → Sound told → trial told line ≡ None → Sound (tell told line)
-unfolding trial line_refusal tell
+unfolding trial tell
 tell_sound told line sound none =
-    let first = neither (opening told.seen line) _ none in
-    let second = neither (program_before told.job line.1) _ first.1 in
-    let unbroken_line = unmapped (λ code. refusal code line.0) (rule.code_by told.job (reading_of told.seen told.in_programs line.1)) second.1 in
-    line_told told line.0 line.1 (told.seen || has_token line.1) (reading_of told.seen told.in_programs line.1) sound second.0 unbroken_line
+    line_told told line.0 (told.seen || has_token line.1) (told.in_programs || begins_with_percent line.1) (reading_of told.seen told.in_programs line.1) sound
+    (unmapped _ (code_by told.job (reading_of told.seen told.in_programs line.1)) none)
     (reading_sound told.seen told.in_programs line.1)
 
 run_sound : (now : Told) (lines : List Line) (end : Told) → Sound now → run now lines ≡ Ok end → Sound end
@@ -198,9 +155,8 @@ run_sound now (line ∷ lines) end sound ran = by (trial now line) refl (λ none
 nothing_told : Sound (told [])
 unfolding told
 nothing_told = record {
-  early = λ _. refl;
   list = nothing_listed [];
-  library = tt;
+  programs = All-nil (λ program. All (λ block. is_built block.1.statement ≡ true) program.1.blocks);
   names = no_pairs (λ (name other : List ℕ). name ≢ other);
   few = omega arith;
 }
@@ -231,9 +187,8 @@ program_names programs names i j d before within same =
 told_sound : (now : Told) → Sound now → end_trial now ≡ None → IsSoundJob now.job
 unfolding end_trial rule.missing
 told_sound now sound none =
-    let first = neither (rule.closing now.job.programs) _ none in
-    let second = neither (rule.missing now.job) _ first.1 in
-    let all_known = unmapped (λ (l : ChannelLine). refusal NotInLibrary l.line) _ second.0 in
+    let first = neither (rule.missing now.job) _ none in
+    let all_known = unmapped (λ (l : ChannelLine). rule.refusal NotInLibrary l.line) _ first.0 in
     record {
       channel_numbers = sound.list.channels.numbers;
       low_channels = sound.list.channels.low;
@@ -252,7 +207,7 @@ told_sound now sound none =
       zones = sound.list.zones.zones;
       few_programs = sound.few;
       program_names = program_names now.job.programs sound.names;
-      programs = programs_sound now.job now.job.programs sound.library first.0;
+      programs = sound.programs;
     }
 
 answered : (refused : Option Refusal) (told job : JobView) → answer refused told ≡ Ok job → (refused ≡ None) × (told ≡ job)

@@ -1,10 +1,9 @@
 -- Tests of lists as facts, and facts of a list with one more.
-use Rattle.std.proofs.Common.{◌≡◌, ◌≢◌, ◌∙◌, ℕ, zero, suc, ◌+◌, ◌-◌, Bool, true, false, ◌&&◌, ◌||◌, not, if◌then◌else◌, ◌==◌, List, [], ◌∷◌, ◌++◌, length, slice_get, find, Option, Some, None, true≢false, length-append, refl, sym, ap, arith}
-use Rattle.std.specs.List.{All, Any, list_any, list_all}
+use Rattle.std.proofs.Common.{◌≡◌, ◌≢◌, ◌∙◌, ℕ, zero, suc, ◌+◌, Bool, true, false, ◌&&◌, ◌||◌, not, if◌then◌else◌, ◌==◌, List, [], ◌∷◌, ◌++◌, length, slice_get, find, Option, Some, None, true≢false, length-append, refl, sym, arith}
+use Rattle.std.specs.List.{All, Any, list_any}
 use Rattle.std.proofs.lemmas.Bool.{eq-eqb}
 use Rattle.std.proofs.lemmas.List.{get_or_append_left}
 use Rattle.std.proofs.lemmas.List.Elements.{All-nil, All-cons}
-use Rattle.tape_job.specs.Rules.{last}
 
 -- where a chain of rules breaks none, its first test fails and the others break none
 pub unbroken : {A : Type 0} (test : Bool) (code : A) (rest : Option A) → (if test then Some code else rest) ≡ None → (test ≡ false) × (rest ≡ None)
@@ -40,12 +39,6 @@ module _ {A : Type 0} (test : A → Bool) where
       let both = unbroken (test x) x (find test xs) none in
       All-cons (λ y. test y ≡ false) x xs both.0 (none_found xs both.1)
 
-  pub all_pass : (xs : List A) → list_all test xs ≡ true → All (λ x. test x ≡ true) xs
-  all_pass [] all = All-nil (λ x. test x ≡ true)
-  all_pass (x ∷ xs) all =
-      let both = and_holds (test x) (list_all test xs) all in
-      All-cons (λ y. test y ≡ true) x xs both.0 (all_pass xs both.1)
-
 module _ {A : Type 0} (P : A → Type 0) where
   pub Any-here : (x : A) (xs : List A) → P x → Any P (x ∷ xs)
   Any-here x xs holds = (0, x, omega arith, refl, holds)
@@ -72,14 +65,3 @@ pub slice_get-more : {A : Type 0} (xs : List A) (i : ℕ) (x y : A) → slice_ge
 slice_get-more [] i x y at = absurd cc
 slice_get-more (z ∷ zs) zero x y at = at
 slice_get-more (z ∷ zs) (suc i) x y at = slice_get-more zs i x y at
-
--- the last of a longer list
-pub last-cons : {A : Type 0} (x y : A) (ys : List A) → last (x ∷ y ∷ ys) ≡ last (y ∷ ys)
-last-cons x y ys =
-    let place : length (x ∷ y ∷ ys) - 1 ≡ suc (length (y ∷ ys) - 1) = omega arith in
-    ap (slice_get (x ∷ y ∷ ys)) place
-
-pub last-push : {A : Type 0} (xs : List A) (x : A) → last (xs ++ x ∷ []) ≡ Some x
-last-push [] x = refl
-last-push (y ∷ []) x = refl
-last-push (y ∷ z ∷ zs) x = last-cons y z (zs ++ x ∷ []) ∙ last-push (z ∷ zs) x

@@ -1,34 +1,34 @@
 -- What holds of all that a line can say by itself.
 use Rattle.std.specs.Bool.{⊤}
-use Rattle.std.proofs.Common.{◌≡◌, ℕ, zero, suc, ◌≤◌, ℤ, pos, negsuc, neg_ℤ, unsigned_abs, Bool, true, false, ◌&&◌, if◌then◌else◌, nat_le, nat_lt, int_le, length, ◌||◌, ◌==◌, codes, List, [], ◌∷◌, Result, Ok, Err, IfOk, Option, Some, None, IfSome, subst, refl, sym, rules}
-use Rattle.std.specs.List.{AllByRecursion}
+use Rattle.std.proofs.Common.{◌≡◌, ℕ, zero, suc, ◌≤◌, ℤ, pos, negsuc, neg_ℤ, unsigned_abs, Bool, true, false, ◌&&◌, not, if◌then◌else◌, nat_le, nat_lt, int_le, length, ◌==◌, codes, List, [], ◌∷◌, Result, Ok, Err, IfOk, Option, Some, None, IfSome, refl, rules}
+use Rattle.std.specs.List.{list_any}
 use Rattle.std.specs.Option.{option_and_then, option_map}
 use Rattle.std.specs.Str.{bytes_eq}
 use Rattle.std.proofs.lemmas.Bool.{leb-true}
 use Rattle.micro_units.specs.Rounding.{half_away}
 use Rattle.micro_units.specs.NumberText.{number_of}
-use Rattle.tape_job.specs.declared.code.Code.{Code}
-use Rattle.tape_job.specs.declared.code.Code.TheVariants.{OutOfRange, NotBuilt}
-use Rattle.tape_job.specs.declared.block.Address.{Address}
-use Rattle.tape_job.specs.declared.block.Address.TheVariants.{Number, Line, X, Z, Feed}
-use Rattle.tape_job.specs.declared.block.Address.TheVariants as address
-use Rattle.tape_job.specs.declared.item.AxisName.{AxisName}
-use Rattle.tape_job.specs.declared.item.NamedSide.{NamedSide}
-use Rattle.tape_job.specs.declared.item.Item.{Item}
-use Rattle.tape_job.specs.declared.item.Item.TheVariants.{Channel, Axis, Geo, Zone}
-use Rattle.tape_job.specs.declared.job.Stmt.{Stmt}
-use Rattle.tape_job.specs.declared.job.Stmt.TheVariants.{Move, End}
-use Rattle.tape_job.specs.declared.reading.Reading.{Reading}
-use Rattle.tape_job.specs.declared.reading.Reading.TheVariants.{Entry, Header, Step}
-use Rattle.tape_job.specs.Code.{◌>>=◌, or_code}
-use Rattle.tape_job.specs.Numbers.{is_digits, whole_of, within, number_within}
-use Rattle.tape_job.specs.Length.{in_reach, size_of, is_size, signed_size_of, length_of}
-use Rattle.tape_job.specs.Lines.{words, is_visible, has_token, begins_with_percent, text_of}
-use Rattle.tape_job.specs.Item as item
-use Rattle.tape_job.specs.Block as block
-use Rattle.tape_job.specs.Header.{header_of}
+use Rattle.block_scanner.specs.Tokens.{tokens_of}
+use Rattle.block_scanner.specs.declared.ScanFault.{ScanFault}
+use Rattle.block_scanner.specs.declared.ScanFault.TheVariants as fault
+use Rattle.block_scanner.specs.declared.Token.{Token}
+use Rattle.job_lines.specs.declared.code.Code.{Code}
+use Rattle.job_lines.specs.declared.code.Code.TheVariants.{OutOfRange, NotBuilt}
+use Rattle.job_lines.specs.declared.item.AxisName.{AxisName}
+use Rattle.job_lines.specs.declared.item.NamedSide.{NamedSide}
+use Rattle.job_lines.specs.declared.item.Item.{Item}
+use Rattle.job_lines.specs.declared.item.Item.TheVariants.{Channel, Axis, Geo, Zone}
+use Rattle.job_lines.specs.Code.{◌>>=◌, or_code, shown}
+use Rattle.job_lines.specs.Header.{header_of}
+use Rattle.job_lines.specs.Item as item
+use Rattle.job_lines.specs.Numbers.{whole_of, within, number_within}
+use Rattle.job_lines.specs.Length.{in_reach, size_of, is_size, signed_size_of, length_of}
+use Rattle.nc_blocks.specs.Names.{upper}
+use Rattle.nc_blocks.specs.Statement.{BlockView}
+use Rattle.nc_syntax.specs.Blocks.{statement_of}
+use Rattle.tape_job.specs.Built.{is_built}
+use Rattle.tape_job.specs.Lines.{words, is_visible, begins_with_percent, text_of, before_comment}
 use Rattle.tape_job.specs.Reading as reading
-use Rattle.tape_job.specs.Told.{begins_program}
+use Rattle.tape_job.specs.Reading.{ReadingView, Blank, First, Entry, Header, Step}
 use Rattle.tape_job.specs.SoundJob.{IsInReach, IsSoundRange}
 
 -- what holds of each result of a reading holds of the next reading's
@@ -213,141 +213,65 @@ item_sound kind args =
     (if_ok IsSoundItem (bytes_eq kind (codes "JOB")) _ _ (λ _. job_line_sound args)
     (if_ok IsSoundItem (item.is_later_kind kind) _ _ (λ _. tt) tt)))))
 
--- blocks
-abbrev pub IsSoundAddress : Address → Type 0
-IsSoundAddress (X x) = IsInReach x
-IsSoundAddress (Z z) = IsInReach z
-IsSoundAddress other = ⊤
+-- what holds of what a line says
+abbrev pub IsSoundReading : ReadingView → Type 0
+IsSoundReading (Entry item) = IsSoundItem item
+IsSoundReading (Step block) = is_built block.statement ≡ true
+IsSoundReading _ = ⊤
 
--- the ends of a block are in reach
-abbrev pub IsNear : Stmt → Type 0
-IsNear (Move x z) = IfSome x IsInReach × IfSome z IsInReach
-IsNear End = ⊤
-
-value_sound : (apart : Bool) (value : List ℕ) → IfOk (block.value_of apart value) IsInReach
-unfolding block.value_of
-value_sound true value = tt
-value_sound false value = length_sound value
-
-number_address_sound : (value : List ℕ) → IfOk (block.number_address value) IsSoundAddress
-unfolding block.number_address
-number_address_sound value = if_ok IsSoundAddress (is_digits 1 8 value) _ _ (λ _. tt) tt
-
-end_address_sound : (value : List ℕ) → IfOk (block.end_address value) IsSoundAddress
-unfolding block.end_address
-end_address_sound value = if_ok IsSoundAddress (bytes_eq value (codes "30")) _ _ (λ _. tt) tt
-
-line_address_sound : (value : List ℕ) → IfOk (block.line_address value) IsSoundAddress
-unfolding block.line_address
-line_address_sound value = if_ok IsSoundAddress (bytes_eq value (codes "0") || bytes_eq value (codes "1")) _ _ (λ _. tt) tt
-
-address_by_sound : (letter : ℕ) (apart : Bool) (value : List ℕ) → IfOk (block.address_by letter apart value) IsSoundAddress
-unfolding block.address_by
-address_by_sound letter apart value =
-    if_ok IsSoundAddress (letter == 78) _ _ (λ _. number_address_sound value)
-    (if_ok IsSoundAddress (letter == 77) _ _ (λ _. end_address_sound value)
-    (if_ok IsSoundAddress (letter == 71) _ _ (λ _. line_address_sound value)
-    (if_ok IsSoundAddress (letter == 88) _ _ (λ _. then_ok IsInReach IsSoundAddress (block.value_of apart value) _ (value_sound apart value) (λ x near. near))
-    (if_ok IsSoundAddress (letter == 90) _ _ (λ _. then_ok IsInReach IsSoundAddress (block.value_of apart value) _ (value_sound apart value) (λ z near. near))
-    (if_ok IsSoundAddress (letter == 70) _ _ (λ _. then_any IsSoundAddress (block.value_of apart value) _ (λ f. tt)) tt)))))
-
-address_from_sound : (letter : ℕ) (apart : Bool) (words : List (List ℕ)) → IfOk (block.address_from letter apart words) IsSoundAddress
-unfolding block.address_from
-address_from_sound letter apart (value ∷ []) = address_by_sound letter apart value
-address_from_sound letter apart words = tt
-
-address_sound : (part : List ℕ) → IfOk (block.address_of part) IsSoundAddress
-unfolding block.address_of
-address_sound [] = tt
-address_sound (letter ∷ behind) = address_from_sound letter (block.begins_blank behind) (words behind)
-
-abbrev AllSound : List Address → Type 0
-AllSound addresses = AllByRecursion IsSoundAddress addresses
-
-with_first_sound : (address : Address) (more : Result (List Address) Code) → IsSoundAddress address → IfOk more AllSound → IfOk (block.with_first address more) AllSound
-with_first_sound address (Ok addresses) near rest = (near, rest)
-with_first_sound address (Err code) near rest = tt
-
-addresses_sound : (parts : List (List ℕ)) → IfOk (block.addresses_of parts) AllSound
-addresses_sound [] = tt
-addresses_sound (part ∷ parts) =
-    if_ok AllSound (is_visible part) _ _
-    (λ _. then_ok IsSoundAddress AllSound (block.address_of part) _ (address_sound part) (λ a near. with_first_sound a (block.addresses_of parts) near (addresses_sound parts)))
-    (addresses_sound parts)
-
-motion_sound : (addresses : List Address) → AllSound addresses → IfOk (block.motion_of addresses) IsNear
-unfolding block.motion_of
-motion_sound (X x ∷ []) near = (near.0, tt)
-motion_sound (X x ∷ Feed ∷ []) near = (near.0, tt)
-motion_sound (Z z ∷ []) near = (tt, near.0)
-motion_sound (Z z ∷ Feed ∷ []) near = (tt, near.0)
-motion_sound (X x ∷ Z z ∷ []) near = (near.0, near.1.0)
-motion_sound (X x ∷ Z z ∷ Feed ∷ []) near = (near.0, near.1.0)
-motion_sound addresses near = tt
-
-body_sound : (addresses : List Address) → AllSound addresses → IfOk (block.body_of addresses) IsNear
-unfolding block.body_of
-body_sound (address.End ∷ []) near = tt
-body_sound (Line ∷ ends) near = motion_sound ends near.1
-body_sound addresses near = tt
-
-statement_sound : (addresses : List Address) → AllSound addresses → IfOk (block.statement_of addresses) IsNear
-unfolding block.statement_of
-statement_sound (Number ∷ body) near = body_sound body near.1
-statement_sound body near = body_sound body near
-
-block_sound : (text : List ℕ) → IfOk (block.block_of text) IsNear
-unfolding block.block_of
-block_sound text =
-    then_ok AllSound IsNear (block.addresses_of (block.cut_at_letters text)) block.statement_of (addresses_sound (block.cut_at_letters text)) statement_sound
-
--- what holds of what a line says, by whether the programs have begun, whether it begins one and whether it has a token:
--- a job line stands before the programs and begins none, a header begins one, and a block stands in one
-abbrev pub IsSoundReading : Bool → Bool → Bool → Reading → Type 0
-IsSoundReading in_programs begins token (Entry item) = (in_programs ≡ false) × (begins ≡ false) × IsSoundItem item
-IsSoundReading in_programs begins token (Header name) = begins ≡ true
-IsSoundReading in_programs begins token (Step stmt) = (in_programs ≡ true) × (begins ≡ false) × (token ≡ true) × IsNear stmt
-IsSoundReading in_programs begins token other = ⊤
-
-entry_sound : (seen : Bool) (words : List (List ℕ)) → IfOk (reading.entry_of seen words) (IsSoundReading false false true)
+entry_sound : (words : List (List ℕ)) → IfOk (reading.entry_of words) IsSoundReading
 unfolding reading.entry_of
-entry_sound false words = tt
-entry_sound true [] = tt
-entry_sound true (kind ∷ args) = then_ok IsSoundItem (IsSoundReading false false true) (item.item_of kind args) _ (item_sound kind args) (λ i sound. (refl, refl, sound))
+entry_sound [] = tt
+entry_sound (kind ∷ args) = then_ok IsSoundItem IsSoundReading (item.item_of kind args) _ (item_sound kind args) (λ i sound. sound)
 
-header_sound : (in_programs : Bool) (text : List ℕ) → IfOk (reading.header_reading text) (IsSoundReading in_programs true true)
-unfolding reading.header_reading
-header_sound in_programs text = then_any (IsSoundReading in_programs true true) (header_of (words text)) _ (λ name. refl)
+header_sound : (words : List (List ℕ)) → IfOk (reading.header_entry words) IsSoundReading
+unfolding reading.header_entry
+header_sound words = then_any IsSoundReading (header_of words) _ (λ name. tt)
 
-step_sound : (text : List ℕ) → IfOk (reading.step_reading text) (IsSoundReading true false true)
-unfolding reading.step_reading
-step_sound text = then_ok IsNear (IsSoundReading true false true) (block.block_of text) _ (block_sound text) (λ stmt near. (refl, refl, refl, near))
+form_sound : (seen percent : Bool) (words : List (List ℕ)) → IfOk (reading.form_of seen percent words) IsSoundReading
+unfolding reading.form_of
+form_sound false percent words = if_ok IsSoundReading (reading.is_job_line words) _ _ (λ _. tt) tt
+form_sound true true words = header_sound words
+form_sound true false words = entry_sound words
 
-form_sound : (seen in_programs percent : Bool) (text : List ℕ) → IfOk (reading.form_of seen in_programs percent text) (IsSoundReading in_programs percent true)
-unfolding reading.form_of reading.entry_reading
-form_sound seen in_programs true text = header_sound in_programs text
-form_sound seen true false text = step_sound text
-form_sound seen false false text = entry_sound seen (words text)
+shown_sound : (read : Result ReadingView Code) → IfOk read IsSoundReading → IfOk (reading.with_shown read) IsSoundReading
+shown_sound (Ok r) sound = sound
+shown_sound (Err code) sound = tt
 
-with_token : (percent token : Bool) → token ≡ true → percent ≡ percent && token
-with_token true token is = sym is
-with_token false token is = refl
+entry_reading_sound : (seen percent : Bool) (content : List ℕ) → IfOk (reading.entry_reading seen percent content) IsSoundReading
+unfolding reading.entry_reading
+entry_reading_sound seen percent content =
+    if_ok IsSoundReading (list_any reading.is_bad_byte content) _ _ (λ _. tt)
+    (if_ok IsSoundReading (is_visible content) _ _ (λ _. form_sound seen percent (words (upper content))) tt)
 
-token_sound : (seen in_programs : Bool) (raw : List ℕ) → IfOk (reading.token_reading seen in_programs raw) (IsSoundReading in_programs (begins_program raw) (has_token raw))
-unfolding reading.token_reading begins_program
-token_sound seen in_programs raw =
-    if_ok (IsSoundReading in_programs (begins_with_percent raw && has_token raw) (has_token raw)) (has_token raw) _ _
-    (λ token. subst (λ begins. IfOk (reading.form_of seen in_programs (begins_with_percent raw) (text_of raw)) (IsSoundReading in_programs begins (has_token raw)))
-    (with_token (begins_with_percent raw) (has_token raw) token)
-    (subst (λ t. IfOk (reading.form_of seen in_programs (begins_with_percent raw) (text_of raw)) (IsSoundReading in_programs (begins_with_percent raw) t)) (sym token)
-    (form_sound seen in_programs (begins_with_percent raw) (text_of raw)))) tt
+step_by : (built : Bool) (block : BlockView) → is_built block.statement ≡ built
+    → IfOk {T = ReadingView} {E = ℕ} (if built then Ok (Step block) else Err (shown NotBuilt)) IsSoundReading
+step_by true block is = is
+step_by false block is = tt
 
-unless_sound : (P : Reading → Type 0) (broken : Option Code) (read : Result Reading Code) → IfOk read P → IfOk (reading.unless_broken broken read) P
-unless_sound P None read sound = sound
-unless_sound P (Some code) read sound = tt
+step_sound : (read : Result BlockView ℕ) → IfOk (reading.step_of read) IsSoundReading
+unfolding reading.step_of
+step_sound (Ok block) = step_by (is_built block.statement) block refl
+step_sound (Err code) = tt
 
-pub reading_sound : (seen in_programs : Bool) (raw : List ℕ) → IfOk (reading.reading_of seen in_programs raw) (IsSoundReading in_programs (begins_program raw) (has_token raw))
+tokens_sound : (compensation : Bool) (text : List ℕ) (tokens : Result (List Token) ScanFault) → IfOk (reading.tokens_reading compensation text tokens) IsSoundReading
+tokens_sound compensation text (Ok []) = tt
+tokens_sound compensation text (Ok (token ∷ tokens)) = step_sound (statement_of (reading.words_of text (token ∷ tokens)) compensation)
+tokens_sound compensation text (Err (fault.OpenText place)) = tt
+tokens_sound compensation text (Err _) = tt
+
+block_sound : (compensation : Bool) (text : List ℕ) → IfOk (reading.block_reading compensation text) IsSoundReading
+unfolding reading.block_reading
+block_sound compensation text = tokens_sound compensation text (tokens_of text)
+
+either_sound : (test : Bool) (first second : Result ReadingView ℕ) → IfOk first IsSoundReading → IfOk second IsSoundReading → IfOk (if test then first else second) IsSoundReading
+either_sound true first second sound other = sound
+either_sound false first second other sound = sound
+
+pub reading_sound : (seen in_programs : Bool) (raw : List ℕ) → IfOk (reading.reading_of seen in_programs raw) IsSoundReading
 unfolding reading.reading_of
 reading_sound seen in_programs raw =
-    if_ok (IsSoundReading in_programs (begins_program raw) (has_token raw)) (nat_lt 512 (length raw)) _ _ (λ _. tt)
-    (unless_sound (IsSoundReading in_programs (begins_program raw) (has_token raw)) (reading.byte_rule (text_of raw)) (reading.token_reading seen in_programs raw) (token_sound seen in_programs raw))
+    either_sound (nat_lt 512 (length raw)) _ _ tt
+    (either_sound (in_programs && not (begins_with_percent raw)) _ _ (block_sound false (text_of raw))
+    (shown_sound (reading.entry_reading seen (begins_with_percent raw) (before_comment (text_of raw)))
+    (entry_reading_sound seen (begins_with_percent raw) (before_comment (text_of raw)))))

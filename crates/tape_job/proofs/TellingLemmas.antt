@@ -3,15 +3,13 @@ use Rattle.std.proofs.Common.{◌≡◌, ◌∙◌, ℕ, Bool, true, false, ◌|
 use Rattle.std.specs.List.{list_any, cons_option, enumerate_from}
 use Rattle.std.specs.Option.{option_or}
 use Rattle.nc_faults.specs.declared.Refusal.{Refusal}
-use Rattle.tape_job.specs.declared.code.Code.{Code}
-use Rattle.tape_job.specs.declared.job.Block.{Block}
-use Rattle.tape_job.specs.declared.reading.Reading.{Reading}
-use Rattle.tape_job.specs.declared.reading.Reading.TheVariants.{Header, Step}
+use Rattle.nc_blocks.specs.Statement.{BlockView}
+use Rattle.tape_job.specs.Reading.{ReadingView, Header, Step}
 use Rattle.tape_job.specs.declared.fault.JobFault.{JobFault}
 use Rattle.tape_job.specs.declared.fault.JobFault.TheVariants.{Refused, NoMemory}
 use Rattle.tape_job.specs.Job.{JobView, ProgramView}
-use Rattle.tape_job.specs.Lines.{Line, has_token, raw_lines}
-use Rattle.tape_job.specs.Told.{Told, told, begins_program, reading_after, entries, axes_in, channel_from, axis_from, geo_from, zone_from, block_from, name_from, until_header, blocks_in, with_program, programs_in}
+use Rattle.tape_job.specs.Lines.{Line, has_token, begins_with_percent, raw_lines}
+use Rattle.tape_job.specs.Told.{Told, told, reading_after, entries, axes_in, channel_from, axis_from, geo_from, zone_from, block_from, name_from, until_header, blocks_in, with_program, programs_in}
 use Rattle.tape_job.specs.Read.{trial, first_trial, end_trial, answer, read_of, GivesRead}
 use Rattle.tape_job.specs.Steps.{with_entry, with_block_of, with_header, with_line, tell, unless_refused, run, finish, Tells}
 
@@ -47,21 +45,21 @@ entries_push give before (next ∷ lines) line =
     ∙ ap (λ b. with_entry (cons_option (give before next) (entries give (before ++ next ∷ []) lines)) (give b line)) (append_assoc before (next ∷ []) lines)
 
 -- the blocks of a program go on where no header follows
-abbrev extended : List (List ℕ × ProgramView) → ℕ → Result Reading Code → List Block → List Block
+abbrev extended : List (List ℕ × ProgramView) → ℕ → Result ReadingView ℕ → List (ℕ × BlockView) → List (ℕ × BlockView)
 extended [] number reading blocks = with_entry blocks (block_from number reading)
 extended (program ∷ programs) number reading blocks = blocks
 
-one_block : (number : ℕ) (reading : Result Reading Code) → until_header (name_from reading) (block_from number reading) [] ≡ with_entry [] (block_from number reading)
+one_block : (number : ℕ) (reading : Result ReadingView ℕ) → until_header (name_from reading) (block_from number reading) [] ≡ with_entry [] (block_from number reading)
 one_block number (Ok (Header name)) = refl
-one_block number (Ok (Step stmt)) = refl
+one_block number (Ok (Step block)) = refl
 one_block number reading = refl
 
-cons_extended : (first : Option Block) (programs : List (List ℕ × ProgramView)) (number : ℕ) (reading : Result Reading Code) (blocks : List Block)
+cons_extended : (first : Option (ℕ × BlockView)) (programs : List (List ℕ × ProgramView)) (number : ℕ) (reading : Result ReadingView ℕ) (blocks : List (ℕ × BlockView))
     → cons_option first (extended programs number reading blocks) ≡ extended programs number reading (cons_option first blocks)
 cons_extended first [] number reading blocks = cons_with_entry first blocks (block_from number reading)
 cons_extended first (program ∷ programs) number reading blocks = refl
 
-block_behind : (name : Option (List ℕ)) (first : Option Block) (program : ProgramView) (programs : List (List ℕ × ProgramView)) (number : ℕ) (reading : Result Reading Code) (blocks : List Block)
+block_behind : (name : Option (List ℕ)) (first : Option (ℕ × BlockView)) (program : ProgramView) (programs : List (List ℕ × ProgramView)) (number : ℕ) (reading : Result ReadingView ℕ) (blocks : List (ℕ × BlockView))
     → until_header name first (extended programs number reading blocks) ≡ extended (with_program name program programs) number reading (until_header name first blocks)
 block_behind None first program programs number reading blocks = cons_extended first programs number reading blocks
 block_behind (Some name) first program programs number reading blocks = refl
@@ -77,25 +75,25 @@ blocks_push before (next ∷ lines) line =
     ∙ ap (λ b. extended (programs_in before (next ∷ lines)) line.0 (reading_after b line.1) (blocks_in before (next ∷ lines))) (append_assoc before (next ∷ []) lines)
 
 -- the programs of lines with one more
-abbrev grown : List (List ℕ × ProgramView) → ℕ → Result Reading Code → List (List ℕ × ProgramView)
+abbrev grown : List (List ℕ × ProgramView) → ℕ → Result ReadingView ℕ → List (List ℕ × ProgramView)
 grown programs number reading = with_header (with_block_of programs (block_from number reading)) number (name_from reading)
 
-one_program : (number : ℕ) (reading : Result Reading Code) → with_program (name_from reading) (record { line = number; blocks = [] }) [] ≡ grown [] number reading
+one_program : (number : ℕ) (reading : Result ReadingView ℕ) → with_program (name_from reading) (record { line = number; blocks = [] }) [] ≡ grown [] number reading
 one_program number (Ok (Header name)) = refl
-one_program number (Ok (Step stmt)) = refl
+one_program number (Ok (Step block)) = refl
 one_program number reading = refl
 
-grown_behind : (name : List ℕ) (header : ℕ) (blocks : List Block) (programs : List (List ℕ × ProgramView)) (number : ℕ) (reading : Result Reading Code)
+grown_behind : (name : List ℕ) (header : ℕ) (blocks : List (ℕ × BlockView)) (programs : List (List ℕ × ProgramView)) (number : ℕ) (reading : Result ReadingView ℕ)
     → (name, record { line = header; blocks = extended programs number reading blocks }) ∷ grown programs number reading
     ≡ grown ((name, record { line = header; blocks = blocks }) ∷ programs) number reading
 grown_behind name header blocks [] number (Ok (Header other)) = refl
-grown_behind name header blocks [] number (Ok (Step stmt)) = refl
+grown_behind name header blocks [] number (Ok (Step block)) = refl
 grown_behind name header blocks [] number reading = refl
 grown_behind name header blocks (program ∷ programs) number (Ok (Header other)) = refl
-grown_behind name header blocks (program ∷ programs) number (Ok (Step stmt)) = refl
+grown_behind name header blocks (program ∷ programs) number (Ok (Step block)) = refl
 grown_behind name header blocks (program ∷ programs) number reading = refl
 
-program_behind : (name : Option (List ℕ)) (header : ℕ) (blocks : List Block) (programs : List (List ℕ × ProgramView)) (number : ℕ) (reading : Result Reading Code)
+program_behind : (name : Option (List ℕ)) (header : ℕ) (blocks : List (ℕ × BlockView)) (programs : List (List ℕ × ProgramView)) (number : ℕ) (reading : Result ReadingView ℕ)
     → with_program name (record { line = header; blocks = extended programs number reading blocks }) (grown programs number reading)
     ≡ grown (with_program name (record { line = header; blocks = blocks }) programs) number reading
 program_behind None header blocks programs number reading = refl
@@ -118,7 +116,7 @@ unfolding told tell with_line
 told-push lines line =
     rw (
       any_push (λ (l : Line). has_token l.1) lines line,
-      any_push (λ (l : Line). begins_program l.1) lines line,
+      any_push (λ (l : Line). begins_with_percent l.1) lines line,
       entries_push (λ before (l : Line). channel_from l.0 (reading_after before l.1)) [] lines line,
       entries_push (λ before (l : Line). axis_from l.0 (reading_after before l.1)) [] lines line,
       entries_push (λ before (l : Line). geo_from (axes_in before) l.0 (reading_after before l.1)) [] lines line,

@@ -1,15 +1,20 @@
 -- What a contract sees of a job and of a program.
 use Rattle.std.specs.Prelude.{ℕ, List}
+use Rattle.nc_blocks.specs.declared.blocks.Block.{Block}
+use Rattle.nc_blocks.specs.Statement.{BlockView, view_of}
 use Rattle.tape_job.specs.declared.job.ChannelLine.{ChannelLine}
 use Rattle.tape_job.specs.declared.job.AxisLine.{AxisLine}
 use Rattle.tape_job.specs.declared.job.GeoLine.{GeoLine}
 use Rattle.tape_job.specs.declared.job.ZoneLine.{ZoneLine}
-use Rattle.tape_job.specs.declared.job.Block.{Block}
 
--- a program: the line of its header, and its blocks
+-- a block and its line
+abbrev pub block_entry : ℕ × Block → ℕ × BlockView
+block_entry entry = (entry.0, view_of entry.1)
+
+-- a program: the line of its header, and its blocks, each with its line
 pub record ProgramView : Type 0 where
   pub line : ℕ
-  pub blocks : List Block
+  pub blocks : List (ℕ × BlockView)
 
 -- a job: what its lines declare, and its programs under their names, in the order of the input
 pub record JobView : Type 0 where

@@ -1,15 +1,11 @@
-pub mod Block
-pub mod Code
+pub mod Built
 pub mod FirstRefusal
-pub mod Header
-pub mod Item
 pub mod Job
-pub mod Length
 pub mod Lines
-pub mod Numbers
 pub mod Read
 pub mod Reading
 pub mod Rules
 pub mod SoundJob
 pub mod Steps
 pub mod Told
+pub mod TreeCode

@@ -1,21 +1,16 @@
 -- The lines of an input, and what stands in a line.
-use Rattle.std.specs.Prelude.{ℕ, ◌-◌, Bool, not, ◌||◌, List, [], ◌∷◌, if◌then◌else◌, ◌==◌, slice_index, take, length, filter, position, Option, Some, None}
+use Rattle.std.specs.Prelude.{ℕ, ◌-◌, Bool, not, List, [], ◌∷◌, if◌then◌else◌, ◌==◌, slice_index, take, length, filter, position, Option, Some, None}
 use Rattle.std.specs.List.{list_any, slice_split, onto_first, enumerate_from}
 use Rattle.std.specs.Str.Lines.{strip_carriage_return}
+use Rattle.block_scanner.specs.Bytes.{is_blank, is_semicolon}
 
 -- a line's number, from 1, and its bytes with the line end
 abbrev pub Line : Type 0
 Line = ℕ × List ℕ
 
--- line feed, blank and tab, ';' and '%'
+-- line feed
 abbrev pub is_feed : ℕ → Bool
 is_feed byte = byte == 10
-
-abbrev pub is_blank : ℕ → Bool
-is_blank byte = (byte == 32) || (byte == 9)
-
-abbrev pub is_semicolon : ℕ → Bool
-is_semicolon byte = byte == 59
 
 -- the lines, each with its line end; the last may lack it
 abbrev pub raw_lines : List ℕ → List (List ℕ)
@@ -34,7 +29,7 @@ abbrev pub up_to : Option ℕ → List ℕ → List ℕ
 up_to None text = text
 up_to (Some place) text = take place text
 
--- a ';' begins a comment
+-- outside the texts of a block a ';' begins a comment
 unfoldable pub before_comment : List ℕ → List ℕ
 before_comment text = up_to (position is_semicolon text) text
 
@@ -42,7 +37,7 @@ before_comment text = up_to (position is_semicolon text) text
 abbrev pub is_visible : List ℕ → Bool
 is_visible text = list_any (λ byte. not (is_blank byte)) text
 
--- something other than blanks stands before the comment
+-- the line has a token: something other than blanks stands before its first ';'
 unfoldable pub has_token : List ℕ → Bool
 has_token raw = is_visible (before_comment (text_of raw))
 

@@ -1,83 +1,122 @@
 -- What a line says by itself.
-use Rattle.std.specs.Prelude.{ℕ, ◌+◌, Bool, true, false, not, ◌&&◌, ◌||◌, if◌then◌else◌, ◌==◌, nat_lt, codes, List, [], ◌∷◌, length, Result, Ok, Err, Option, Some, None}
+use Rattle.std.specs.Prelude.{◌≡◌, ℕ, Bool, true, false, not, ◌&&◌, ◌||◌, if◌then◌else◌, ◌==◌, nat_lt, codes, List, [], ◌∷◌, length, Result, Ok, Err}
 use Rattle.std.specs.List.{list_any}
 use Rattle.std.specs.Str.{bytes_eq}
-use Rattle.std.specs.Char.{is_ascii_lowercase}
-use Rattle.tape_job.specs.declared.code.Code.{Code}
-use Rattle.tape_job.specs.declared.code.Code.TheVariants.{LineTooLong, BadByte, NotBuilt, UnknownJobLine}
+use Rattle.block_scanner.specs.Tokens.{tokens_of}
+use Rattle.block_scanner.specs.declared.ScanFault.{ScanFault}
+use Rattle.block_scanner.specs.declared.ScanFault.TheVariants as fault
+use Rattle.block_scanner.specs.declared.Token.{Token}
+use Rattle.block_scanner.specs.WordsView.{WordsView}
+use Rattle.job_lines.specs.Code.{◌>>=◌, shown}
+use Rattle.job_lines.specs.Header.{header_of}
+use Rattle.job_lines.specs.Item.{item_of}
+use Rattle.job_lines.specs.declared.code.Code.{Code}
+use Rattle.job_lines.specs.declared.code.Code.TheVariants.{NoJobLine, LineTooLong, BadByte, UnknownJobLine, OpenText, NotBuilt}
+use Rattle.job_lines.specs.declared.item.Item.{Item}
+use Rattle.nc_faults.specs.Texts.{IsRefusalCode}
+use Rattle.nc_blocks.specs.Indices.{StatementFits}
+use Rattle.nc_blocks.specs.Names.{upper}
+use Rattle.nc_blocks.specs.Statement.{BlockView, view_of}
+use Rattle.nc_syntax.specs.Blocks.{statement_of}
+use Rattle.tape_job.specs.declared.reading.LineFault.{LineFault}
+use Rattle.tape_job.specs.declared.reading.LineFault.TheVariants.{Broken, NoMemory}
 use Rattle.tape_job.specs.declared.reading.Reading.{Reading}
-use Rattle.tape_job.specs.declared.reading.Reading.TheVariants.{Blank, First, Entry, Header, Step}
-use Rattle.tape_job.specs.Code.{◌>>=◌}
-use Rattle.tape_job.specs.Lines.{text_of, before_comment, words, has_token, begins_with_percent}
-use Rattle.tape_job.specs.Item.{item_of}
-use Rattle.tape_job.specs.Header.{header_of}
-use Rattle.tape_job.specs.Block.{block_of}
+use Rattle.tape_job.specs.declared.reading.Reading.TheVariants as reading
+use Rattle.tape_job.specs.Built.{is_built}
+use Rattle.tape_job.specs.Lines.{text_of, before_comment, is_visible, words, begins_with_percent}
 
--- a letter, as a capital or small
-unfoldable pub is_letter_of : ℕ → ℕ → Bool
-is_letter_of capital byte = (byte == capital) || (byte == capital + 32)
+-- what a line says, with a block as contracts see it
+pub data ReadingView : Type 0 where
+  Blank : ReadingView
+  First : ReadingView
+  Entry : Item → ReadingView
+  Header : List ℕ → ReadingView
+  Step : BlockView → ReadingView
 
--- "JOB" in any case: 74 is 'J', 79 'O' and 66 'B'
-unfoldable pub is_job_word : List ℕ → Bool
-is_job_word (j ∷ o ∷ b ∷ []) = is_letter_of 74 j && is_letter_of 79 o && is_letter_of 66 b
-is_job_word word = false
+abbrev pub reading_view : Reading → ReadingView
+reading_view reading.Blank = Blank
+reading_view reading.First = First
+reading_view (reading.Entry item) = Entry item
+reading_view (reading.Header name) = Header name
+reading_view (reading.Step block) = Step (view_of block)
 
-unfoldable pub is_job_words : List (List ℕ) → Bool
-is_job_words (job ∷ version ∷ []) = is_job_word job && bytes_eq version (codes "1")
-is_job_words words = false
+-- the words of the job line
+unfoldable pub is_job_line : List (List ℕ) → Bool
+is_job_line (job ∷ version ∷ []) = bytes_eq job (codes "JOB") && bytes_eq version (codes "1")
+is_job_line words = false
 
--- the line is "JOB 1", whatever its case and its comment
-unfoldable pub is_job_line : List ℕ → Bool
-is_job_line raw = is_job_words (words (before_comment (text_of raw)))
-
--- no line may have a byte outside 32 to 126 but the tab
+-- outside the comment a line that is no block has no byte outside 32 to 126 but the tab
 unfoldable pub is_bad_byte : ℕ → Bool
 is_bad_byte byte = (nat_lt byte 32 && not (byte == 9)) || nat_lt 126 byte
 
--- small letters and comments are not built yet; 59 is ';'
-unfoldable pub is_later_byte : ℕ → Bool
-is_later_byte byte = is_ascii_lowercase byte || (byte == 59)
+unfoldable pub entry_of : List (List ℕ) → Result ReadingView Code
+entry_of [] = Err UnknownJobLine
+entry_of (kind ∷ args) = item_of kind args >>= (λ item. Ok (Entry item))
 
--- the rule that a byte of the text breaks
-unfoldable pub byte_rule : List ℕ → Option Code
-byte_rule text =
-    if list_any is_bad_byte text then Some BadByte
-    else if list_any is_later_byte text then Some NotBuilt
-    else None
+unfoldable pub header_entry : List (List ℕ) → Result ReadingView Code
+header_entry words = header_of words >>= (λ name. Ok (Header name))
 
--- what the words of a job line say; the first line with a token is the job line, which is tried before this
-unfoldable pub entry_of : Bool → List (List ℕ) → Result Reading Code
-entry_of false words = Ok First
-entry_of true [] = Err UnknownJobLine
-entry_of true (kind ∷ args) = item_of kind args >>= (λ item. Ok (Entry item))
+-- what words say in upper case: the first words of all are the job line's; behind '%' stands a header, else a job line
+unfoldable pub form_of : Bool → Bool → List (List ℕ) → Result ReadingView Code
+form_of false percent words = if is_job_line words then Ok First else Err NoJobLine
+form_of true true words = header_entry words
+form_of true false words = entry_of words
 
-unfoldable pub header_reading : List ℕ → Result Reading Code
-header_reading text = header_of (words text) >>= (λ name. Ok (Header name))
+-- what a line says that is no block, from what stands before its comment
+unfoldable pub entry_reading : Bool → Bool → List ℕ → Result ReadingView Code
+entry_reading seen percent content =
+    if list_any is_bad_byte content then Err BadByte
+    else if is_visible content then form_of seen percent (words (upper content))
+    else Ok Blank
 
-unfoldable pub step_reading : List ℕ → Result Reading Code
-step_reading text = block_of text >>= (λ stmt. Ok (Step stmt))
+-- a text with its tokens
+abbrev pub words_of : List ℕ → List Token → WordsView
+words_of text tokens = record { line = text; tokens = tokens }
 
-unfoldable pub entry_reading : Bool → List ℕ → Result Reading Code
-entry_reading seen text = entry_of seen (words text)
+-- a block that is built; that it is not built comes after all else that its line breaks
+unfoldable pub step_of : Result BlockView ℕ → Result ReadingView ℕ
+step_of (Ok block) = if is_built block.statement then Ok (Step block) else Err (shown NotBuilt)
+step_of (Err code) = Err code
 
--- what a text with a token says: behind '%' a header, else a block in the programs and a job line before them
-unfoldable pub form_of : Bool → Bool → Bool → List ℕ → Result Reading Code
-form_of seen in_programs percent text =
-    if percent then header_reading text
-    else if in_programs then step_reading text
-    else entry_reading seen text
+abbrev pub tokens_reading : Bool → List ℕ → Result (List Token) ScanFault → Result ReadingView ℕ
+tokens_reading compensation text (Ok []) = Ok Blank
+tokens_reading compensation text (Ok (token ∷ tokens)) = step_of (statement_of (words_of text (token ∷ tokens)) compensation)
+tokens_reading compensation text (Err (fault.OpenText place)) = Err (shown OpenText)
+tokens_reading compensation text (Err _) = Err (shown BadByte)
 
--- a line without a token says nothing
-unfoldable pub token_reading : Bool → Bool → List ℕ → Result Reading Code
-token_reading seen in_programs raw =
-    if has_token raw then form_of seen in_programs (begins_with_percent raw) (text_of raw) else Ok Blank
+-- what a line of a program says, where the job accepts tool radius compensation or not
+unfoldable pub block_reading : Bool → List ℕ → Result ReadingView ℕ
+block_reading compensation text = tokens_reading compensation text (tokens_of text)
 
-abbrev pub unless_broken : Option Code → Result Reading Code → Result Reading Code
-unless_broken None reading = reading
-unless_broken (Some code) reading = Err code
+abbrev pub with_shown : Result ReadingView Code → Result ReadingView ℕ
+with_shown (Ok reading) = Ok reading
+with_shown (Err code) = Err (shown code)
 
--- what a line says, where a line before it has a token or not, and the programs have begun or not
-unfoldable pub reading_of : Bool → Bool → List ℕ → Result Reading Code
+-- what a line says, where a line before it has a token or not, and the programs have begun or not: a reading, or the code of its refusal.
+-- A job cannot accept compensation yet.
+unfoldable pub reading_of : Bool → Bool → List ℕ → Result ReadingView ℕ
 reading_of seen in_programs raw =
-    if nat_lt 512 (length raw) then Err LineTooLong
-    else unless_broken (byte_rule (text_of raw)) (token_reading seen in_programs raw)
+    if nat_lt 512 (length raw) then Err (shown LineTooLong)
+    else if in_programs && not (begins_with_percent raw) then block_reading false (text_of raw)
+    else with_shown (entry_reading seen (begins_with_percent raw) (before_comment (text_of raw)))
+
+-- the call gives what is read, or the rule that is broken
+abbrev pub GivesForm : Result Reading Code → Result ReadingView Code → Type 0
+GivesForm (Ok reading) read = read ≡ Ok (reading_view reading)
+GivesForm (Err code) read = read ≡ Err code
+
+-- the call gives what is read, or the code of the refusal; it may want memory at any time
+abbrev pub Gives : Result Reading LineFault → Result ReadingView ℕ → Type 0
+Gives (Ok reading) read = read ≡ Ok (reading_view reading)
+Gives (Err (Broken code)) read = read ≡ Err code
+Gives (Err NoMemory) read = Unit {0}
+
+-- the parameter numbers of a block fit
+abbrev pub ReadingFits : ReadingView → Type 0
+ReadingFits (Step block) = StatementFits block.statement
+ReadingFits _ = Unit {0}
+
+-- a refusal's code has a text
+abbrev pub FaultIsListed : LineFault → Type 0
+FaultIsListed (Broken code) = IsRefusalCode code
+FaultIsListed NoMemory = Unit {0}

@@ -1,29 +1,25 @@
 -- What a line breaks against what the lines before it told.
-use Rattle.std.specs.Prelude.{ℕ, ℤ, ◌-◌, Bool, true, false, not, ◌&&◌, ◌||◌, if◌then◌else◌, ◌==◌, nat_lt, nat_le, List, length, slice_get, position, find, Result, Ok, Err, Option, Some, None}
-use Rattle.std.specs.List.{list_any, list_all}
+use Rattle.std.specs.Prelude.{ℕ, Bool, true, false, not, ◌&&◌, ◌||◌, if◌then◌else◌, ◌==◌, nat_lt, nat_le, List, length, slice_get, position, find, Option, Some, None}
+use Rattle.std.specs.List.{list_any}
 use Rattle.std.specs.Option.{option_and_then, option_map}
 use Rattle.std.specs.Map.{keys_of}
 use Rattle.std.specs.Str.{bytes_eq}
+use Rattle.job_lines.specs.Code.{shown}
+use Rattle.job_lines.specs.declared.code.Code.{Code}
+use Rattle.job_lines.specs.declared.code.Code.TheVariants.{NotDeclared, DeclaredTwice, OwnerDiffers, TooMany, NameRepeated, NotInLibrary, NotBuilt}
+use Rattle.job_lines.specs.declared.item.AxisName.{AxisName}
+use Rattle.job_lines.specs.declared.item.NamedSide.{NamedSide}
+use Rattle.job_lines.specs.declared.item.Item.{Item}
+use Rattle.job_lines.specs.declared.item.Item.TheVariants.{Channel, Axis, Geo, Zone}
 use Rattle.nc_faults.specs.declared.Refusal.{Refusal}
-use Rattle.tape_job.specs.declared.code.Code.{Code}
-use Rattle.tape_job.specs.declared.code.Code.TheVariants.{NotDeclared, DeclaredTwice, OwnerDiffers, TooMany, NameRepeated, NotInLibrary, NotBuilt}
-use Rattle.tape_job.specs.declared.item.AxisName.{AxisName}
-use Rattle.tape_job.specs.declared.item.NamedSide.{NamedSide}
-use Rattle.tape_job.specs.declared.item.Item.{Item}
-use Rattle.tape_job.specs.declared.item.Item.TheVariants.{Channel, Axis, Geo, Zone}
-use Rattle.tape_job.specs.declared.reading.Reading.{Reading}
-use Rattle.tape_job.specs.declared.reading.Reading.TheVariants.{Blank, First, Entry, Header, Step}
 use Rattle.tape_job.specs.declared.job.AxisLine.{AxisLine}
 use Rattle.tape_job.specs.declared.job.Side.{Side}
-use Rattle.tape_job.specs.declared.job.Block.{Block}
-use Rattle.tape_job.specs.declared.job.Stmt.{Stmt}
-use Rattle.tape_job.specs.declared.job.Stmt.TheVariants.{Move, End}
-use Rattle.tape_job.specs.Code.{refusal}
 use Rattle.tape_job.specs.Job.{JobView, ProgramView}
+use Rattle.tape_job.specs.Reading.{ReadingView, Blank, First, Entry, Header, Step}
 
--- the last of a list
-abbrev pub last : {A : Type 0} → List A → Option A
-last xs = slice_get xs (length xs - 1)
+-- the refusal of a line by a rule
+unfoldable pub refusal : Code → ℕ → Refusal
+refusal code line = record { code = shown code; line = line }
 
 unfoldable pub has_channel : JobView → ℕ → Bool
 has_channel job channel = list_any (λ line. line.channel == channel) job.channels
@@ -148,65 +144,13 @@ header_rule job name =
     else if nat_le 256 (length job.programs) then Some TooMany
     else None
 
-abbrev pub is_name : List ℕ → Option (List ℕ) → Bool
-is_name name None = false
-is_name name (Some other) = bytes_eq name other
-
--- each channel that has the program has the slot
-unfoldable pub all_have_slot : JobView → List ℕ → ℕ → Bool
-all_have_slot job name slot = list_all (λ line. not (is_name name line.program) || has_slot job line.channel slot) job.channels
-
-abbrev pub lacks_slot : JobView → List ℕ → ℕ → Option ℤ → Bool
-lacks_slot job name slot None = false
-lacks_slot job name slot (Some end) = not (all_have_slot job name slot)
-
--- an end without a slot, 0 for X and 2 for Z
-unfoldable pub lacks_slots : JobView → List ℕ → Stmt → Bool
-lacks_slots job name (Move x z) = lacks_slot job name 0 x || lacks_slot job name 2 z
-lacks_slots job name End = false
-
--- what a block breaks: a 901st block and an end without a slot are not built yet
-unfoldable pub block_rule : JobView → Stmt → Option (List ℕ × ProgramView) → Option Code
-block_rule job stmt None = None
-block_rule job stmt (Some (name, program)) =
-    if nat_le 900 (length program.blocks) || lacks_slots job name stmt then Some NotBuilt else None
-
 -- what a line breaks
-unfoldable pub rule_of : JobView → Reading → Option Code
+unfoldable pub rule_of : JobView → ReadingView → Option Code
 rule_of job Blank = None
 rule_of job First = None
 rule_of job (Entry item) = item_rule job item
 rule_of job (Header name) = header_rule job name
-rule_of job (Step stmt) = block_rule job stmt (last job.programs)
-
-abbrev pub code_by : JobView → Result Reading Code → Option Code
-code_by job (Ok reading) = rule_of job reading
-code_by job (Err code) = Some code
-
-abbrev pub is_end : Stmt → Bool
-is_end End = true
-is_end (Move x z) = false
-
--- what is tried at the end of a program: it has a block, else its header is refused, and its last block is the end, else that block
-abbrev pub open_line : ℕ → Option Block → Option ℕ
-open_line header None = Some header
-open_line header (Some block) = if is_end block.stmt then None else Some block.line
-
--- the line of a program's end, where its last block so far is one
-abbrev pub ended_line : Option Block → Option ℕ
-ended_line None = None
-ended_line (Some block) = if is_end block.stmt then Some block.line else None
-
-abbrev pub refused_line : Option ℕ → Option Refusal
-refused_line line = option_map (refusal NotBuilt) line
-
--- the refusal where the last program ends here
-unfoldable pub closing : List (List ℕ × ProgramView) → Option Refusal
-closing programs = option_and_then (λ program. refused_line (open_line program.1.line (last program.1.blocks))) (last programs)
-
--- the refusal where the last program goes on here
-unfoldable pub going_on : List (List ℕ × ProgramView) → Option Refusal
-going_on programs = option_and_then (λ program. refused_line (ended_line (last program.1.blocks))) (last programs)
+rule_of job (Step block) = None
 
 abbrev pub is_known : List (List ℕ × ProgramView) → Option (List ℕ) → Bool
 is_known programs None = true

@@ -1,14 +1,13 @@
 -- What holds of every accepted job.
-use Rattle.std.specs.Prelude.{◌≡◌, ◌≢◌, ℕ, ◌<◌, ◌≤◌, ℤ, ◌≤ℤ◌, unsigned_abs, true, ⊤, List, [], ◌∷◌, ◌++◌, length, slice_get, Option, Some, IfSome, IsSomeAnd}
+use Rattle.std.specs.Prelude.{◌≡◌, ◌≢◌, ℕ, ◌<◌, ◌≤◌, ℤ, ◌≤ℤ◌, unsigned_abs, true, List, length, slice_get, Option, Some, IfSome, IsSomeAnd}
 use Rattle.std.specs.List.{All, Any, AllPairs}
 use Rattle.std.specs.Option.{option_and_then}
+use Rattle.nc_blocks.specs.Indices.{StatementFits}
 use Rattle.tape_job.specs.declared.job.AxisLine.{AxisLine}
-use Rattle.tape_job.specs.declared.job.Block.{Block}
 use Rattle.tape_job.specs.declared.job.GeoLine.{GeoLine}
 use Rattle.tape_job.specs.declared.job.Side.{Side}
-use Rattle.tape_job.specs.declared.job.Stmt.{Stmt}
-use Rattle.tape_job.specs.declared.job.Stmt.TheVariants.{Move, End}
 use Rattle.tape_job.specs.declared.job.ZoneLine.{ZoneLine}
+use Rattle.tape_job.specs.Built.{is_built}
 use Rattle.tape_job.specs.Job.{JobView, ProgramView}
 
 -- at most 10,000 millimetres in size
@@ -57,31 +56,9 @@ pub record IsSoundZone (job : JobView) (zone : ZoneLine) : Type 0 where
   pub carriers : AllPairs HaveOtherCarriers zone.sides
   pub ranges : All (λ side. IsSoundRange side.lo side.hi) zone.sides
 
--- each channel that has the program has the slot
-abbrev pub HasSlot : JobView → List ℕ → ℕ → Type 0
-HasSlot job name slot = All (λ line. line.program ≡ Some name → Any (λ g. (g.channel ≡ line.channel) × (g.slot ≡ slot)) job.geo) job.channels
-
--- an end in reach, in a slot that each channel with the program has
-abbrev pub IsSoundEnd : JobView → List ℕ → ℕ → ℤ → Type 0
-IsSoundEnd job name slot at = IsInReach at × HasSlot job name slot
-
-abbrev pub IsSoundStatement : JobView → List ℕ → Stmt → Type 0
-IsSoundStatement job name (Move x z) = IfSome x (IsSoundEnd job name 0) × IfSome z (IsSoundEnd job name 2)
-IsSoundStatement job name End = ⊤
-
--- the last block and no other is the program end
-pub record EndsOnce (blocks : List Block) : Type 0 where
-  pub motions : List Block
-  pub end : Block
-  pub all : blocks ≡ motions ++ end ∷ []
-  pub is_end : end.stmt ≡ End
-  pub moves : All (λ block. block.stmt ≢ End) motions
-
--- a program of 1 to 900 blocks
-pub record IsSoundProgram (job : JobView) (name : List ℕ) (program : ProgramView) : Type 0 where
-  pub few : length program.blocks ≤ 900
-  pub ends : EndsOnce program.blocks
-  pub statements : All (λ block. IsSoundStatement job name block.stmt) program.blocks
+-- each block is one that is built
+abbrev pub IsSoundProgram : ProgramView → Type 0
+IsSoundProgram program = All (λ block. is_built block.1.statement ≡ true) program.blocks
 
 pub record IsSoundJob (job : JobView) : Type 0 where
   pub channel_numbers : AllPairs (λ line other. line.channel ≢ other.channel) job.channels
@@ -101,4 +78,8 @@ pub record IsSoundJob (job : JobView) : Type 0 where
   pub zones : All (IsSoundZone job) job.zones
   pub few_programs : length job.programs ≤ 256
   pub program_names : AllPairs (λ program other. program.0 ≢ other.0) job.programs
-  pub programs : All (λ program. IsSoundProgram job program.0 program.1) job.programs
+  pub programs : All (λ program. IsSoundProgram program.1) job.programs
+
+-- the number of each parameter that a block names is one of the 1,000
+abbrev pub BlocksFit : JobView → Type 0
+BlocksFit job = All (λ program. All (λ block. StatementFits block.1.statement) program.1.blocks) job.programs

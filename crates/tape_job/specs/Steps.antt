@@ -1,17 +1,16 @@
 -- The same, one line after the other.
 use Rattle.std.specs.Prelude.{◌≡◌, ℕ, ◌||◌, List, [], ◌∷◌, ◌++◌, Result, Ok, Err, Option, Some, None}
+use Rattle.nc_blocks.specs.Statement.{BlockView}
 use Rattle.nc_faults.specs.declared.Refusal.{Refusal}
-use Rattle.tape_job.specs.declared.code.Code.{Code}
 use Rattle.tape_job.specs.declared.fault.JobFault.{JobFault}
 use Rattle.tape_job.specs.declared.fault.JobFault.TheVariants.{Refused, NoMemory}
 use Rattle.tape_job.specs.declared.job.Job.{Job}
-use Rattle.tape_job.specs.declared.job.Block.{Block}
 use Rattle.tape_job.specs.declared.reading.Reading.{Reading}
 use Rattle.tape_job.specs.Job.{JobView, ProgramView}
-use Rattle.tape_job.specs.Lines.{Line, has_token}
-use Rattle.tape_job.specs.Reading.{reading_of}
-use Rattle.tape_job.specs.Told.{Told, begins_program, channel_from, axis_from, geo_from, zone_from, block_from, name_from}
-use Rattle.tape_job.specs.Read.{trial, line_refusal, end_trial, answer}
+use Rattle.tape_job.specs.Lines.{Line, has_token, begins_with_percent}
+use Rattle.tape_job.specs.Reading.{ReadingView, reading_view, reading_of}
+use Rattle.tape_job.specs.Told.{Told, channel_from, axis_from, geo_from, zone_from, block_from, name_from}
+use Rattle.tape_job.specs.Read.{trial, end_trial, answer}
 use Rattle.tape_job.specs.Rules.{rule_of}
 
 -- a list with one more at its end, if there is one
@@ -20,12 +19,12 @@ with_entry xs None = xs
 with_entry xs (Some x) = xs ++ x ∷ []
 
 -- the last program with one more block
-abbrev pub with_block : List (List ℕ × ProgramView) → Block → List (List ℕ × ProgramView)
+abbrev pub with_block : List (List ℕ × ProgramView) → ℕ × BlockView → List (List ℕ × ProgramView)
 with_block [] block = []
 with_block (program ∷ []) block = (program.0, record { line = program.1.line; blocks = program.1.blocks ++ block ∷ [] }) ∷ []
 with_block (program ∷ next ∷ programs) block = program ∷ with_block (next ∷ programs) block
 
-abbrev pub with_block_of : List (List ℕ × ProgramView) → Option Block → List (List ℕ × ProgramView)
+abbrev pub with_block_of : List (List ℕ × ProgramView) → Option (ℕ × BlockView) → List (List ℕ × ProgramView)
 with_block_of programs None = programs
 with_block_of programs (Some block) = with_block programs block
 
@@ -34,7 +33,7 @@ with_header programs number None = programs
 with_header programs number (Some name) = programs ++ (name, record { line = number; blocks = [] }) ∷ []
 
 -- the job with what one more line says
-unfoldable pub with_line : JobView → ℕ → Result Reading Code → JobView
+unfoldable pub with_line : JobView → ℕ → Result ReadingView ℕ → JobView
 with_line job number reading = record {
   channels = with_entry job.channels (channel_from number reading);
   axes = with_entry job.axes (axis_from number reading);
@@ -46,7 +45,7 @@ with_line job number reading = record {
 unfoldable pub tell : Told → Line → Told
 tell told line = record {
   seen = told.seen || has_token line.1;
-  in_programs = told.in_programs || begins_program line.1;
+  in_programs = told.in_programs || begins_with_percent line.1;
   job = with_line told.job line.0 (reading_of told.seen told.in_programs line.1);
 }
 
@@ -62,15 +61,10 @@ unfoldable pub finish : Result Told Refusal → Result JobView Refusal
 finish (Ok told) = answer (end_trial told) told.job
 finish (Err refused) = Err refused
 
--- the call gives what a line says, or its refusal; it may want memory at any time
-abbrev pub Reads : Told → Line → Result Reading JobFault → Type 0
-Reads told line (Ok reading) = (reading_of told.seen told.in_programs line.1 ≡ Ok reading) × (rule_of told.job reading ≡ None)
-Reads told line (Err (Refused refused)) = line_refusal told line ≡ Some refused
-Reads told line (Err NoMemory) = Unit {0}
-
--- the same, and what is tried before it
+-- the call gives what a line says that breaks no rule, or its refusal; it may want memory at any time
 abbrev pub Admits : Told → Line → Result Reading JobFault → Type 0
-Admits told line (Ok reading) = (trial told line ≡ None) × (reading_of told.seen told.in_programs line.1 ≡ Ok reading) × (rule_of told.job reading ≡ None)
+Admits told line (Ok reading) =
+    (trial told line ≡ None) × (reading_of told.seen told.in_programs line.1 ≡ Ok (reading_view reading)) × (rule_of told.job (reading_view reading) ≡ None)
 Admits told line (Err (Refused refused)) = trial told line ≡ Some refused
 Admits told line (Err NoMemory) = Unit {0}
 

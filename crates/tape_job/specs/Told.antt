@@ -1,35 +1,28 @@
 -- What lines tell together.
-use Rattle.std.specs.Prelude.{ℕ, Bool, true, ◌&&◌, List, [], ◌∷◌, ◌++◌, Result, Ok, Option, Some, None}
+use Rattle.std.specs.Prelude.{ℕ, Bool, true, List, [], ◌∷◌, ◌++◌, Result, Ok, Option, Some, None}
 use Rattle.std.specs.List.{list_any, cons_option}
 use Rattle.std.specs.Option.{option_map}
-use Rattle.tape_job.specs.declared.code.Code.{Code}
-use Rattle.tape_job.specs.declared.item.Item.TheVariants.{Channel, Axis, Geo, Zone}
-use Rattle.tape_job.specs.declared.reading.Reading.{Reading}
-use Rattle.tape_job.specs.declared.reading.Reading.TheVariants.{Entry, Header, Step}
+use Rattle.job_lines.specs.declared.item.Item.TheVariants.{Channel, Axis, Geo, Zone}
+use Rattle.nc_blocks.specs.Statement.{BlockView}
 use Rattle.tape_job.specs.declared.job.ChannelLine.{ChannelLine}
 use Rattle.tape_job.specs.declared.job.AxisLine.{AxisLine}
 use Rattle.tape_job.specs.declared.job.GeoLine.{GeoLine}
 use Rattle.tape_job.specs.declared.job.ZoneLine.{ZoneLine}
 use Rattle.tape_job.specs.declared.job.Side.{Side}
-use Rattle.tape_job.specs.declared.job.Block.{Block}
 use Rattle.tape_job.specs.Job.{JobView, ProgramView}
 use Rattle.tape_job.specs.Lines.{Line, has_token, begins_with_percent}
-use Rattle.tape_job.specs.Reading.{reading_of}
+use Rattle.tape_job.specs.Reading.{ReadingView, Entry, Header, Step, reading_of}
 use Rattle.tape_job.specs.Rules.{axis_of, side_of}
 
--- what lines have told: whether one has a token, whether one begins a program, and the job so far
+-- what lines have told: whether one has a token, whether one begins with '%', where the programs begin, and the job so far
 pub record Told : Type 0 where
   pub seen : Bool
   pub in_programs : Bool
   pub job : JobView
 
--- a line with '%' at its beginning is the end of the job list and of the program before it
-unfoldable pub begins_program : List ℕ → Bool
-begins_program raw = begins_with_percent raw && has_token raw
-
 -- what a line says that follows the given lines
-abbrev pub reading_after : List Line → List ℕ → Result Reading Code
-reading_after before raw = reading_of (list_any (λ line. has_token line.1) before) (list_any (λ line. begins_program line.1) before) raw
+abbrev pub reading_after : List Line → List ℕ → Result ReadingView ℕ
+reading_after before raw = reading_of (list_any (λ line. has_token line.1) before) (list_any (λ line. begins_with_percent line.1) before) raw
 
 -- what each line gives in the light of the lines before it
 abbrev pub entries : {A : Type 0} → (List Line → Line → Option A) → List Line → List Line → List A
@@ -37,18 +30,18 @@ entries give before [] = []
 entries give before (line ∷ lines) = cons_option (give before line) (entries give (before ++ line ∷ []) lines)
 
 -- what a line of the input tells by what it says
-abbrev pub channel_from : ℕ → Result Reading Code → Option ChannelLine
+abbrev pub channel_from : ℕ → Result ReadingView ℕ → Option ChannelLine
 channel_from number (Ok (Entry (Channel channel program))) = Some (record { line = number; channel = channel; program = Some program; starts = true })
 channel_from number reading = None
 
-abbrev pub axis_from : ℕ → Result Reading Code → Option AxisLine
+abbrev pub axis_from : ℕ → Result ReadingView ℕ → Option AxisLine
 axis_from number (Ok (Entry (Axis name owner at))) = Some (record { line = number; letter = name.letter; number = name.number; owner = Some owner; at = at })
 axis_from number reading = None
 
 abbrev pub geo_line : ℕ → ℕ → ℕ → Option ℕ → Option GeoLine
 geo_line number channel slot axis = option_map (λ axis. record { line = number; channel = channel; slot = slot; axis = axis }) axis
 
-abbrev pub geo_from : List AxisLine → ℕ → Result Reading Code → Option GeoLine
+abbrev pub geo_from : List AxisLine → ℕ → Result ReadingView ℕ → Option GeoLine
 geo_from axes number (Ok (Entry (Geo channel slot axis))) = geo_line number channel slot (axis_of axes axis)
 geo_from axes number reading = None
 
@@ -57,15 +50,15 @@ zone_line number zone group holder (Some x) (Some y) (Some z) =
     Some (record { line = number; zone = zone; group = group; holder = Some holder; on = true; sides = x ∷ y ∷ z ∷ [] })
 zone_line number zone group holder x y z = None
 
-abbrev pub zone_from : List AxisLine → ℕ → Result Reading Code → Option ZoneLine
+abbrev pub zone_from : List AxisLine → ℕ → Result ReadingView ℕ → Option ZoneLine
 zone_from axes number (Ok (Entry (Zone zone group holder x y z))) = zone_line number zone group holder (side_of axes x) (side_of axes y) (side_of axes z)
 zone_from axes number reading = None
 
-abbrev pub block_from : ℕ → Result Reading Code → Option Block
-block_from number (Ok (Step stmt)) = Some (record { line = number; stmt = stmt })
+abbrev pub block_from : ℕ → Result ReadingView ℕ → Option (ℕ × BlockView)
+block_from number (Ok (Step block)) = Some (number, block)
 block_from number reading = None
 
-abbrev pub name_from : Result Reading Code → Option (List ℕ)
+abbrev pub name_from : Result ReadingView ℕ → Option (List ℕ)
 name_from (Ok (Header name)) = Some name
 name_from reading = None
 
@@ -74,7 +67,7 @@ abbrev pub until_header : {A : Type 0} → Option (List ℕ) → Option A → Li
 until_header None one more = cons_option one more
 until_header (Some name) one more = []
 
-abbrev pub blocks_in : List Line → List Line → List Block
+abbrev pub blocks_in : List Line → List Line → List (ℕ × BlockView)
 blocks_in before [] = []
 blocks_in before (line ∷ lines) =
     until_header (name_from (reading_after before line.1)) (block_from line.0 (reading_after before line.1)) (blocks_in (before ++ line ∷ []) lines)
@@ -96,7 +89,7 @@ axes_in lines = entries (λ before line. axis_from line.0 (reading_after before 
 unfoldable pub told : List Line → Told
 told lines = record {
   seen = list_any (λ line. has_token line.1) lines;
-  in_programs = list_any (λ line. begins_program line.1) lines;
+  in_programs = list_any (λ line. begins_with_percent line.1) lines;
   job = record {
     channels = entries (λ before line. channel_from line.0 (reading_after before line.1)) [] lines;
     axes = axes_in lines;

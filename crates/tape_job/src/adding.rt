@@ -1,18 +1,21 @@
 //! What a line adds to a job.
 ghost use Rattle.std.specs.Prelude.{◌≡◌, [], ◌∷◌, ◌++◌, false, OnOk};
+ghost use Rattle.nc_blocks.specs.Statement.{view_of};
 ghost use Rattle.tape_job.specs.Steps.{with_block};
 ghost use Rattle.tape_job.specs.Rules.{has_program};
 
-use crate::item::{AxisName, Item, NamedSide};
 use crate::reading::Reading;
-use crate::{AxisLine, Block, ChannelLine, GeoLine, Job, NameText, Program, Stmt, ZoneLine};
+use crate::{AxisLine, ChannelLine, GeoLine, Job, Program, ZoneLine};
 use axis_sets::{ChannelId, ZoneId};
 use indexmap::IndexMap;
+use job_lines::{AxisName, Item, NamedSide};
 use micro_units::Um;
+use nc_blocks::{Block, NameText};
 use std::alloc::{AllocError, Global};
 
 impl Program {
     ghost use Rattle.std.specs.Prelude.{◌≡◌, [], ◌∷◌, ◌++◌, OnOk};
+    ghost use Rattle.nc_blocks.specs.Statement.{view_of};
 
     /// A program without blocks.
     fn new(alloc: Global, line: u32) -> Program
@@ -25,10 +28,10 @@ impl Program {
     }
 
     /// Puts a block behind the others.
-    fn push(&mut self, line: u32, stmt: Stmt) -> Result<(), AllocError>
-        ensures { OnOk result (self.new ≡ record self.old { blocks = self.old.blocks ++ record { line = line; stmt = stmt } ∷ [] }) }
+    fn push(&mut self, line: u32, block: Block) -> Result<(), AllocError>
+        ensures { OnOk result (self.new ≡ record self.old { blocks = self.old.blocks ++ (line, view_of block) ∷ [] }) }
     {
-        self.blocks.push(Block { line, stmt })?;
+        self.blocks.push((line, block))?;
         Ok(())
     }
 }
@@ -50,12 +53,12 @@ fn insert_program(
 fn push_block(
     programs: &mut IndexMap<NameText, Program>,
     line: u32,
-    stmt: Stmt,
+    block: Block,
 ) -> Result<(), AllocError>
-    ensures { OnOk result (programs.new.entries ≡ with_block programs.old.entries (record { line = line; stmt = stmt })) }
+    ensures { OnOk result (programs.new.entries ≡ with_block programs.old.entries (line, view_of block)) }
 {
     match programs.last_mut() {
-        Some(program) => program.push(line, stmt),
+        Some(program) => program.push(line, block),
         None => Ok(()),
     }
 }
@@ -66,7 +69,8 @@ impl Job {
     ghost use Rattle.tape_job.specs.Told.{geo_line, zone_line};
     ghost use Rattle.tape_job.specs.Rules.{axis_of, side_of, has_program, rule_of};
     ghost use Rattle.std.specs.Prelude.{Ok};
-    ghost use Rattle.tape_job.specs.declared.reading.Reading.TheVariants.{Entry};
+    ghost use Rattle.nc_blocks.specs.Statement.{view_of};
+    ghost use Rattle.tape_job.specs.Reading.{Entry, reading_view};
 
     /// A job of which nothing is told.
     pub(crate) fn new(alloc: Global) -> Job
@@ -207,13 +211,13 @@ impl Job {
     }
 
     /// Adds a block to the last program, if there is one.
-    fn add_block(&mut self, line: u32, stmt: Stmt) -> Result<(), AllocError>
+    fn add_block(&mut self, line: u32, block: Block) -> Result<(), AllocError>
         ensures { OnOk result (self.new ≡ record self.old {
           programs = with_block self.old.programs
-              (record { line = line; stmt = stmt });
+              (line, view_of block);
         }) }
     {
-        push_block(&mut self.programs, line, stmt)
+        push_block(&mut self.programs, line, block)
     }
 
     /// Adds what a line says that breaks no rule.
@@ -224,14 +228,14 @@ impl Job {
         line: u32,
         reading: Reading,
     ) -> Result<(), AllocError>
-        requires { rule_of self.old reading ≡ None }
-        ensures { OnOk result (self.new ≡ with_line self.old line (Ok reading)) }
+        requires { rule_of self.old (reading_view reading) ≡ None }
+        ensures { OnOk result (self.new ≡ with_line self.old line (Ok (reading_view reading))) }
     {
         match reading {
             Reading::Blank | Reading::First => Ok(()),
             Reading::Entry(item) => self.add_item(line, item),
             Reading::Header(name) => self.add_program(alloc, line, name),
-            Reading::Step(stmt) => self.add_block(line, stmt),
+            Reading::Step(block) => self.add_block(line, block),
         }
     }
 }

@@ -1,8 +1,8 @@
 //! A job: what its lines declare, and its programs.
-use crate::NameText;
 use axis_sets::{AxisId, ChannelId, ZoneId};
 use indexmap::IndexMap;
 use micro_units::Um;
+use nc_blocks::{Block, NameText};
 use std::marker::Model;
 
 /// An accepted job: the lines of its job list in their order, and its library of programs in the order of the input.
@@ -21,9 +21,13 @@ pub struct Job {
 }
 
 impl Model for Job {
+    ghost use Rattle.std.specs.Coded.{codes};
+    ghost use Rattle.tape_job.specs.TreeCode.{tree_code};
     ghost use Rattle.tape_job.specs.Job.{JobView};
 
     ghost Value = { JobView };
+
+    ghost coded = { Prim.hlevel (codes, tree_code) };
 
     ghost view = { λ j. record {
       channels = j.channels.items;
@@ -41,7 +45,7 @@ pub struct ChannelLine {
     pub line: u32,
     /// The channel that it declares.
     pub channel: ChannelId,
-    /// The name of the selected program, at most its first 32 bytes.
+    /// The name of the selected program in upper case, at most its first 32 bytes.
     pub program: Option<NameText>,
     /// Whether the channel starts running.
     pub starts: bool,
@@ -108,37 +112,19 @@ pub struct Side {
 pub struct Program {
     /// The line of its header, counted from 1.
     pub line: u32,
-    /// Its blocks.
-    pub blocks: Vec<Block>,
+    /// Its blocks, each with the line of the input that it is.
+    pub blocks: Vec<(u32, Block)>,
 }
 
 impl Model for Program {
-    ghost use Rattle.tape_job.specs.Job.{ProgramView};
+    ghost use Rattle.std.specs.Prelude.{map};
+    ghost use Rattle.std.specs.Coded.{codes};
+    ghost use Rattle.tape_job.specs.TreeCode.{tree_code};
+    ghost use Rattle.tape_job.specs.Job.{ProgramView, block_entry};
 
     ghost Value = { ProgramView };
 
-    ghost view = { λ p. record { line = p.line; blocks = p.blocks.items } };
-}
+    ghost coded = { Prim.hlevel (codes, tree_code) };
 
-/// A block of a program.
-#[derive(Clone, Copy, Debug, PartialEq, Eq)]
-pub struct Block {
-    /// The line of the input, counted from 1.
-    pub line: u32,
-    /// What it says.
-    pub stmt: Stmt,
-}
-
-/// What a block says.
-#[derive(Clone, Copy, Debug, PartialEq, Eq)]
-pub enum Stmt {
-    /// A move along a straight line, at rapid or at feed, to the given ends; a slot without an end keeps its position.
-    Move {
-        /// The end of slot X, in workpiece coordinates.
-        x: Option<Um>,
-        /// The end of slot Z.
-        z: Option<Um>,
-    },
-    /// The end of the program.
-    End,
+    ghost view = { λ p. record { line = p.line; blocks = map block_entry p.blocks.items } };
 }

@@ -1,15 +1,11 @@
 //! Lines of bytes, their texts and their words.
-ghost use Rattle.std.specs.Prelude.{◌≡◌, ◌∷◌, ◌<◌, IfOk, map, length, position};
-ghost use Rattle.tape_job.specs.Lines.{is_feed, is_blank, is_semicolon, raw_lines, text_of, before_comment, words, is_visible, has_token, begins_with_percent};
+ghost use Rattle.std.specs.Prelude.{◌≡◌, ◌∷◌, ◌<◌, ◌≤◌, IfOk, map, length, position};
+ghost use Rattle.block_scanner.specs.Bytes.{is_semicolon};
+ghost use Rattle.nc_blocks.specs.Names.{upper};
+ghost use Rattle.tape_job.specs.Lines.{is_feed, raw_lines, text_of, before_comment, words, is_visible, has_token, begins_with_percent};
 
+use block_scanner::is_blank;
 use std::alloc::{AllocError, Global};
-
-/// Whether the byte separates words.
-pub(crate) fn is_blank(byte: u8) -> bool
-    ensures { result ≡ is_blank byte }
-{
-    byte == b' ' || byte == b'\t'
-}
 
 /// The place of the first line feed.
 fn feed_in(bytes: &[u8]) -> Option<usize>
@@ -34,7 +30,8 @@ pub(crate) fn first_line(bytes: &[u8]) -> (&[u8], &[u8])
 /// The text of a line, without its line end.
 #[tactic(auto, unfolding(crate::specs::Lines::text_of))]
 pub(crate) fn text_in(raw: &[u8]) -> &[u8]
-    ensures { result.now ≡ text_of raw.now }
+    ensures value { result.now ≡ text_of raw.now }
+    ensures shorter { length result.now ≤ length raw.now }
 {
     match raw {
         [front @ .., b'\n'] => match front {
@@ -84,6 +81,15 @@ pub(crate) fn begins_with_percent(raw: &[u8]) -> bool
     ensures { result ≡ begins_with_percent raw.now }
 {
     raw.first() == Some(&b'%')
+}
+
+/// The text in upper case.
+pub(crate) fn upper_in(alloc: Global, text: &[u8]) -> Result<Vec<u8>, AllocError>
+    ensures { IfOk result (λ v. v.items ≡ upper text.now) }
+{
+    text.iter()
+        .map(|byte| byte.to_ascii_uppercase())
+        .collect(alloc)
 }
 
 /// The words of a text.

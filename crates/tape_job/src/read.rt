@@ -1,6 +1,7 @@
 //! An input, read whole.
-ghost use Rattle.std.specs.Prelude.{◌≤◌, length};
-ghost use Rattle.tape_job.specs.Read.{read_of, GivesRead};
+ghost use Rattle.std.specs.Prelude.{◌≤◌, length, IfOk, IfErr};
+ghost use Rattle.tape_job.specs.Read.{read_of, GivesRead, IsListed};
+ghost use Rattle.tape_job.specs.SoundJob.{BlocksFit};
 
 use crate::lines::first_line;
 use crate::reader::Reader;
@@ -8,9 +9,13 @@ use crate::{Job, JobFault};
 use std::alloc::Global;
 
 /// Reads an input: its job, or the first refusal of a line that is tried and broken.
+///
+/// The parameter numbers that blocks name are at most 999, and a refusal's code is one of those with a text.
 pub fn read_job(alloc: Global, bytes: &[u8]) -> Result<Job, JobFault>
     requires { length bytes.now ≤ 8388609 }
-    ensures { GivesRead result (read_of bytes.now) }
+    ensures exact { GivesRead result (read_of bytes.now) }
+    ensures indices { IfOk result BlocksFit }
+    ensures listed { IfErr result IsListed }
 {
     let mut reader = Reader::new(alloc);
     let mut rest = bytes;

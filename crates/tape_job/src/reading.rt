@@ -1,15 +1,19 @@
 //! What a line says by itself.
-ghost use Rattle.std.specs.Prelude.{◌≡◌, ◌<◌, map, IfOk};
+ghost use Rattle.std.specs.Prelude.{◌≡◌, ◌≤◌, ◌==◌, map, length, IfOk, IfErr};
 ghost use Rattle.std.specs.List.{list_any};
-ghost use Rattle.tape_job.specs.Code.{Gives};
-ghost use Rattle.tape_job.specs.Reading.{is_letter_of, is_job_word, is_job_words, is_job_line, is_bad_byte, is_later_byte, byte_rule, entry_of, header_reading, step_reading, entry_reading, form_of, token_reading, reading_of};
+ghost use Rattle.job_lines.specs.Code.{shown};
+ghost use Rattle.block_scanner.specs.Scanned.{IsScanned};
+ghost use Rattle.nc_blocks.specs.Names.{upper};
+ghost use Rattle.nc_syntax.specs.Blocks.{statement_of};
+ghost use Rattle.tape_job.specs.Reading.{is_job_line, is_bad_byte, entry_of, header_entry, form_of, entry_reading, step_of, block_reading, with_shown, reading_of, GivesForm, Gives, reading_view, ReadingFits, FaultIsListed};
 
-use crate::block::block_in;
-use crate::code::{Code, LineFault};
-use crate::header::header_in;
-use crate::item::{Item, item_in};
-use crate::lines::{before_comment, begins_with_percent, has_token, text_in, words_of};
-use crate::{NameText, Stmt};
+use crate::built::is_built;
+use crate::lines::{before_comment, begins_with_percent, is_visible, text_in, upper_in, words_of};
+use block_scanner::{ScanFault, Words, scan};
+use job_lines::{Code, Item, header_in, item_in};
+use nc_expressions::SyntaxFault;
+use nc_blocks::{Block, NameText};
+use nc_syntax::statement;
 use std::alloc::{AllocError, Global};
 
 /// What a line says by itself.
@@ -24,50 +28,54 @@ pub(crate) enum Reading {
     /// The header of a program, with its name.
     Header(NameText),
     /// A block of a program.
-    Step(Stmt),
+    Step(Block),
 }
 
-/// Whether the byte is this letter, as a capital or small.
-#[tactic(auto, unfolding(crate::specs::Reading::is_letter_of))]
-fn is_letter_of(capital: u8, byte: u8) -> bool
-    requires { capital < 128 }
-    ensures { result ≡ is_letter_of capital byte }
-{
-    byte == capital || byte == capital + 32
+/// Why a line gives nothing.
+#[derive(Clone, Copy, Debug, PartialEq, Eq)]
+pub(crate) enum LineFault {
+    /// It is refused with this code.
+    Broken(u16),
+    /// Memory ran out.
+    NoMemory,
 }
 
-/// Whether the word is JOB, in any case.
-#[tactic(auto, unfolding(crate::specs::Reading::is_job_word))]
-fn is_job_word(word: &[u8]) -> bool
-    ensures { result ≡ is_job_word word.now }
-{
-    match word {
-        [j, o, b] => is_letter_of(b'J', *j) && is_letter_of(b'O', *o) && is_letter_of(b'B', *b),
-        _ => false,
+impl From<Code> for LineFault {
+    ghost use Rattle.std.specs.Prelude.{◌≡◌};
+    ghost use Rattle.job_lines.specs.Code.{shown};
+    ghost use Rattle.tape_job.specs.Reading.{FaultIsListed};
+    ghost use Rattle.tape_job.specs.declared.reading.LineFault.TheVariants.{Broken};
+
+    ghost from_gives = { λ code fault. (fault ≡ Broken (shown code)) × FaultIsListed fault };
+
+    fn from(code: Code) -> LineFault {
+        LineFault::Broken(code.shown())
     }
 }
 
-/// Whether the words are those of the job line, in any case.
-#[tactic(auto, unfolding(crate::specs::Reading::is_job_words))]
-fn is_job_words(words: &[&[u8]]) -> bool
-    ensures { result ≡ is_job_words (map (λ word. word.now) words.now) }
+impl From<AllocError> for LineFault {
+    ghost use Rattle.std.specs.Prelude.{◌≡◌};
+    ghost use Rattle.tape_job.specs.declared.reading.LineFault.TheVariants.{NoMemory};
+
+    ghost from_gives = { λ _ fault. fault ≡ NoMemory };
+
+    fn from(_error: AllocError) -> LineFault {
+        LineFault::NoMemory
+    }
+}
+
+/// Whether the words are those of the job line.
+#[tactic(auto, unfolding(crate::specs::Reading::is_job_line))]
+fn is_job_line(words: &[&[u8]]) -> bool
+    ensures { result ≡ is_job_line (map (λ word. word.now) words.now) }
 {
     match words {
-        [job, version] => is_job_word(job) && *version == b"1".as_slice(),
+        [job, version] => *job == b"JOB".as_slice() && *version == b"1".as_slice(),
         _ => false,
     }
 }
 
-/// Whether the line is the job line, in any case and with any comment.
-#[tactic(auto, unfolding(crate::specs::Reading::is_job_line))]
-pub(crate) fn is_job_line(alloc: Global, raw: &[u8]) -> Result<bool, AllocError>
-    ensures { IfOk result (λ job. job ≡ is_job_line raw.now) }
-{
-    let words = words_of(alloc, before_comment(text_in(raw)))?;
-    Ok(is_job_words(words.as_slice()))
-}
-
-/// Whether no line may have the byte.
+/// Whether the byte may not stand outside the comment of a line that is no block.
 #[tactic(auto, unfolding(crate::specs::Reading::is_bad_byte))]
 fn is_bad_byte(byte: u8) -> bool
     ensures { result ≡ is_bad_byte byte }
@@ -75,125 +83,116 @@ fn is_bad_byte(byte: u8) -> bool
     (byte < 32 && byte != b'\t') || byte > 126
 }
 
-/// Whether the byte is a small letter or begins a comment.
-#[tactic(auto, unfolding(crate::specs::Reading::is_later_byte))]
-fn is_later_byte(byte: u8) -> bool
-    ensures { result ≡ is_later_byte byte }
-{
-    byte.is_ascii_lowercase() || byte == b';'
-}
-
-/// Whether the text has a byte that no line may have.
+/// Whether such a byte stands in the text.
 fn has_bad_byte(text: &[u8]) -> bool
     ensures { result ≡ list_any is_bad_byte text.now }
 {
     text.iter().any(|byte| is_bad_byte(*byte))
 }
 
-/// Whether the text has a small letter or a comment.
-fn has_later_byte(text: &[u8]) -> bool
-    ensures { result ≡ list_any is_later_byte text.now }
-{
-    text.iter().any(|byte| is_later_byte(*byte))
-}
-
-/// The rule that a byte of the text breaks.
-#[tactic(auto, unfolding(crate::specs::Reading::byte_rule))]
-fn byte_rule(text: &[u8]) -> Option<Code>
-    ensures { result ≡ byte_rule text.now }
-{
-    if has_bad_byte(text) {
-        Some(Code::BadByte)
-    } else if has_later_byte(text) {
-        Some(Code::NotBuilt)
-    } else {
-        None
-    }
-}
-
-/// What a job line says.
+/// What the words of a job line say.
 #[tactic(auto, unfolding(crate::specs::Reading::entry_of))]
-fn entry_in(seen: bool, words: &[&[u8]]) -> Result<Reading, Code>
-    ensures { result ≡ entry_of seen (map (λ word. word.now) words.now) }
+fn entry_in(words: &[&[u8]]) -> Result<Reading, Code>
+    ensures exact { GivesForm result (entry_of (map (λ word. word.now) words.now)) }
+    ensures fits { IfOk result (λ reading. ReadingFits (reading_view reading)) }
 {
-    if !seen {
-        return Ok(Reading::First);
-    }
     match words {
         [kind, args @ ..] => Ok(Reading::Entry(item_in(kind, args)?)),
         [] => Err(Code::UnknownJobLine),
     }
 }
 
-/// What the header of a program says.
-#[tactic(auto, unfolding(crate::specs::Reading::header_reading))]
-fn header_reading_in(alloc: Global, text: &[u8]) -> Result<Reading, LineFault>
-    ensures { Gives result (header_reading text.now) }
+/// What the words of a header say.
+#[tactic(auto, unfolding(crate::specs::Reading::header_entry))]
+fn header_entry_in(words: &[&[u8]]) -> Result<Reading, Code>
+    ensures exact { GivesForm result (header_entry (map (λ word. word.now) words.now)) }
+    ensures fits { IfOk result (λ reading. ReadingFits (reading_view reading)) }
 {
-    let words = words_of(alloc, text)?;
-    let name = header_in(words.as_slice())?;
-    Ok(Reading::Header(name))
+    Ok(Reading::Header(header_in(words)?))
 }
 
-/// What a block says.
-#[tactic(auto, unfolding(crate::specs::Reading::step_reading))]
-fn step_reading_in(alloc: Global, text: &[u8]) -> Result<Reading, LineFault>
-    ensures { Gives result (step_reading text.now) }
+/// What the words of a line say that is no block, in upper case.
+#[tactic(auto, unfolding(crate::specs::Reading::form_of))]
+fn form_in(seen: bool, percent: bool, words: &[&[u8]]) -> Result<Reading, Code>
+    ensures exact { GivesForm result (form_of seen percent (map (λ word. word.now) words.now)) }
+    ensures fits { IfOk result (λ reading. ReadingFits (reading_view reading)) }
 {
-    let stmt = block_in(alloc, text)?;
-    Ok(Reading::Step(stmt))
+    if !seen {
+        return if is_job_line(words) {
+            Ok(Reading::First)
+        } else {
+            Err(Code::NoJobLine)
+        };
+    }
+    if percent {
+        header_entry_in(words)
+    } else {
+        entry_in(words)
+    }
 }
 
-/// What a job line says.
+/// What a line says that is no block, from what stands before its comment.
 #[tactic(auto, unfolding(crate::specs::Reading::entry_reading))]
-fn entry_reading_in(alloc: Global, seen: bool, text: &[u8]) -> Result<Reading, LineFault>
-    ensures { Gives result (entry_reading seen text.now) }
+fn entry_reading_in(
+    alloc: Global,
+    seen: bool,
+    percent: bool,
+    content: &[u8],
+) -> Result<Reading, LineFault>
+    ensures exact { Gives result (with_shown (entry_reading seen percent content.now)) }
+    ensures fits { IfOk result (λ reading. ReadingFits (reading_view reading)) }
+    ensures listed { IfErr result FaultIsListed }
 {
-    let words = words_of(alloc, text)?;
-    let reading = entry_in(seen, words.as_slice())?;
+    if has_bad_byte(content) {
+        return Err(LineFault::from(Code::BadByte));
+    }
+    if !is_visible(content) {
+        return Ok(Reading::Blank);
+    }
+    let upper = upper_in(alloc, content)?;
+    let words = words_of(alloc, upper.as_slice())?;
+    let reading = form_in(seen, percent, words.as_slice())?;
     Ok(reading)
 }
 
-/// What the text of a line says, which has only allowed bytes.
-#[tactic(auto, unfolding(crate::specs::Reading::form_of))]
-fn form_in(
-    alloc: Global,
-    seen: bool,
-    in_programs: bool,
-    percent: bool,
-    text: &[u8],
-) -> Result<Reading, LineFault>
-    ensures { Gives result (form_of seen in_programs percent text.now) }
+/// Whether a line has no tokens.
+fn has_no_tokens(words: &Words<'_>) -> bool
+    ensures { result ≡ (length words.now.tokens == 0) }
 {
-    if percent {
-        header_reading_in(alloc, text)
-    } else if in_programs {
-        step_reading_in(alloc, text)
-    } else {
-        entry_reading_in(alloc, seen, text)
+    words.tokens.is_empty()
+}
+
+/// What a line of a program says, from its tokens.
+#[tactic(auto, unfolding(crate::specs::Reading::step_of))]
+fn step_in(alloc: Global, words: &Words<'_>, compensation: bool) -> Result<Reading, LineFault>
+    requires { IsScanned words.now }
+    ensures exact { Gives result (step_of (statement_of words.now compensation)) }
+    ensures fits { IfOk result (λ reading. ReadingFits (reading_view reading)) }
+    ensures listed { IfErr result FaultIsListed }
+{
+    match statement(alloc, words, compensation) {
+        Ok(block) if is_built(&block.stmt) => Ok(Reading::Step(block)),
+        Ok(_) => Err(LineFault::from(Code::NotBuilt)),
+        Err(SyntaxFault::Refused(code)) => Err(LineFault::Broken(code)),
+        Err(SyntaxFault::NoMemory) => Err(LineFault::NoMemory),
     }
 }
 
-/// What a line says that has only allowed bytes.
-#[tactic(auto, unfolding(crate::specs::Reading::token_reading))]
-fn token_reading_in(
-    alloc: Global,
-    seen: bool,
-    in_programs: bool,
-    raw: &[u8],
-) -> Result<Reading, LineFault>
-    ensures { Gives result (token_reading seen in_programs raw.now) }
+/// What a line of a program says.
+#[tactic(auto, using(crate::proofs::ReadingLemmas::block_from_scan, crate::proofs::ReadingLemmas::block_without_tokens, crate::proofs::ReadingLemmas::block_with_bad_byte, crate::proofs::ReadingLemmas::block_with_open_text))]
+fn block_reading_in(alloc: Global, compensation: bool, text: &[u8]) -> Result<Reading, LineFault>
+    requires { length text.now ≤ 512 }
+    ensures exact { Gives result (block_reading compensation text.now) }
+    ensures fits { IfOk result (λ reading. ReadingFits (reading_view reading)) }
+    ensures listed { IfErr result FaultIsListed }
 {
-    if !has_token(raw) {
-        return Ok(Reading::Blank);
+    match scan(alloc, text) {
+        Ok(words) if has_no_tokens(&words) => Ok(Reading::Blank),
+        Ok(words) => step_in(alloc, &words, compensation),
+        Err(ScanFault::BadByte(_)) => Err(LineFault::from(Code::BadByte)),
+        Err(ScanFault::OpenText(_)) => Err(LineFault::from(Code::OpenText)),
+        Err(ScanFault::NoMemory) => Err(LineFault::NoMemory),
     }
-    form_in(
-        alloc,
-        seen,
-        in_programs,
-        begins_with_percent(raw),
-        text_in(raw),
-    )
 }
 
 /// What a line says, where a line before it has a token or not, and the programs have begun or not.
@@ -204,13 +203,17 @@ pub(crate) fn reading_in(
     in_programs: bool,
     raw: &[u8],
 ) -> Result<Reading, LineFault>
-    ensures { Gives result (reading_of seen in_programs raw.now) }
+    ensures exact { Gives result (reading_of seen in_programs raw.now) }
+    ensures fits { IfOk result (λ reading. ReadingFits (reading_view reading)) }
+    ensures listed { IfErr result FaultIsListed }
 {
     if raw.len() > 512 {
-        return Err(LineFault::Broken(Code::LineTooLong));
+        return Err(LineFault::from(Code::LineTooLong));
     }
-    match byte_rule(text_in(raw)) {
-        Some(code) => Err(LineFault::Broken(code)),
-        None => token_reading_in(alloc, seen, in_programs, raw),
+    let percent = begins_with_percent(raw);
+    if in_programs && !percent {
+        block_reading_in(alloc, false, text_in(raw))
+    } else {
+        entry_reading_in(alloc, seen, percent, before_comment(text_in(raw)))
     }
 }

@@ -3,10 +3,9 @@ ghost use Rattle.std.specs.Prelude.{◌≡◌, position};
 ghost use Rattle.std.specs.Option.{option_copied};
 ghost use Rattle.tape_job.specs.Rules.{is_named, axis_at, is_channel, is_owned_line, side_with, is_carrier, same_carrier, same_axis};
 
-use crate::code::Code;
-use crate::item::{AxisName, Item, NamedSide};
 use crate::{AxisLine, Job, Side};
 use axis_sets::{AxisId, ChannelId, ZoneId};
+use job_lines::{AxisName, Code, Item, NamedSide};
 
 /// Whether the axis has this name.
 fn is_named(name: AxisName, line: &AxisLine) -> bool
@@ -108,7 +107,7 @@ impl Job {
 
     /// Whether the channel has the slot.
     #[tactic(auto, unfolding(crate::specs::Rules::has_slot))]
-    pub(crate) fn has_slot(&self, channel: ChannelId, slot: u8) -> bool
+    fn has_slot(&self, channel: ChannelId, slot: u8) -> bool
         ensures { result ≡ has_slot self.now channel slot }
     {
         self.geo

@@ -1,15 +1,13 @@
 -- Laws of the boxes of a zone.
-use Rattle.std.proofs.Common.{◌≡◌, ℕ, ℤ, pos, zero, suc, ◌+◌, ◌<◌, ◌≤◌, ◌==◌, Bool, true, false, cond, inl, inr, All, List, [], ◌∷◌, ◌++◌, refl, ap, sym, ◌∙◌, append_assoc, arith, Option, None, Some, length, get_or, find, map, eqb-true}
+use Rattle.std.proofs.Common.{◌≡◌, ℕ, ℤ, pos, ◌+◌, ◌<◌, ◌≤◌, ◌==◌, Bool, true, false, cond, inl, inr, All, List, [], ◌∷◌, ◌++◌, refl, ap, sym, ◌∙◌, arith, None, length, find, map, eqb-true}
 use mathlib.Core.Path.{fun_ext}
 use Rattle.std.proofs.Math.ListN.{get_or-eq_default}
 use Rattle.std.proofs.lemmas.Bool.Decides.{eqb_tells}
 use Rattle.std.proofs.lemmas.List.Elements.{All-tail}
-use Rattle.std.specs.Option.{option_map_or}
-use Rattle.swept_boxes.specs.Ranges.{RangesView}
 use Rattle.tape_job.specs.declared.job.ZoneLine.{ZoneLine}
 use Rattle.turnmill.specs.Channels.{positions_in}
 use Rattle.path_geometry.specs.Motions.{axes_of}
-use Rattle.turnmill.specs.ZoneBoxes.{zone_box, low_in, high_in, after, moves_zone, walk, boxes_of, Opened, Waiting, Moving, PlaceBox, moving_box, standing_box, shown_box, boxes_during, moving_boxes, IsFit}
+use Rattle.turnmill.specs.ZoneBoxes.{zone_box, low_in, high_in, after, moves_zone, walk, boxes_of, Waiting, Moving, PlaceBox, moving_box, standing_box, shown_box, boxes_during, moving_boxes}
 use Rattle.turnmill.specs.declared.channels.Item.{Item}
 use Rattle.turnmill.specs.declared.zone_boxes.ZoneBox.{ZoneBox}
 use Rattle.turnmill.proofs.Positions.{le_or_lt}

@@ -1,5 +1,5 @@
 -- What an input calls for, by how it was read.
-use Rattle.std.proofs.Common.{◌≡◌, ℕ, ◌+◌, ◌<◌, ◌≤◌, nat_le, Bool, true, false, if◌then◌else◌, List, [], ◌∷◌, ◌++◌, length, drop, Option, None, Some, Result, Ok, Err, IfSome, IfOk, IsErr, IsErrAnd, IsOkAnd, refl, ap, sym, ◌∙◌, ◌⊎◌, inr, arith, length-append}
+use Rattle.std.proofs.Common.{◌≡◌, ℕ, ◌+◌, ◌≤◌, nat_le, Bool, true, false, if◌then◌else◌, List, [], length, drop, Option, None, Some, Result, Ok, Err, IfSome, IfOk, IsErr, IsErrAnd, IsOkAnd, refl, ap, sym, ◌∙◌, ◌⊎◌, inr, arith, length-append}
 use Rattle.std.proofs.Math.Seq.{drop-append_seam}
 use Rattle.std.proofs.lemmas.List.{append-nil}
 use Rattle.std.proofs.lemmas.Bool.{le-leb, leb-true}
@@ -17,7 +17,8 @@ use Rattle.turnmill.specs.declared.check.Status.{Status}
 use Rattle.turnmill.specs.declared.check.Status.TheVariants as ends
 use Rattle.turnmill.proofs.Soundness.{sound_at_all_speeds}
 use Rattle.turnmill.specs.declared.stretches.Verdict.{Verdict}
-use Rattle.turnmill.specs.declared.stretches.Verdict.TheVariants.{Yes, No}
+use Rattle.turnmill.specs.declared.stretches.Verdict.TheVariants.{Yes, No, Undecided}
+use Rattle.turnmill.specs.declared.stretches.Verdict.TheVariants as verdicts
 
 -- a source that lost as many bytes as are too many had them
 pub TakesTooMany-lost : (old new : Option (List ℕ)) (bytes : List ℕ) → length bytes ≡ 8388609 → Loses old new bytes → TakesTooMany old new
@@ -57,6 +58,8 @@ yes_by (Ok job) is = by_verdict (verdict_of job) is
     by_verdict : (verdict : Verdict) → status_of verdict ≡ ends.Yes → verdict ≡ Yes
     by_verdict Yes is = refl
     by_verdict (No first second) is = absurd cc
+    by_verdict (Undecided count budget) is = absurd cc
+    by_verdict (verdicts.Alarm channel alarm) is = absurd cc
 yes_by (Err refusal) is = absurd cc
 
 yes_chosen : (long : Bool) (input : List ℕ) → (chosen long input).status ≡ ends.Yes → IsOkAnd (read_of input) (λ job. verdict_of job ≡ Yes)
@@ -75,6 +78,8 @@ refused_by (Ok job) is = absurd (by_verdict (verdict_of job) is)
     by_verdict : (verdict : Verdict) → status_of verdict ≡ ends.Refused → ⊥
     by_verdict Yes is = cc
     by_verdict (No first second) is = cc
+    by_verdict (Undecided count budget) is = cc
+    by_verdict (verdicts.Alarm channel alarm) is = cc
 refused_by (Err refusal) is = refl
 
 refused_chosen : (long : Bool) (input : List ℕ) → (chosen long input).status ≡ ends.Refused

@@ -11,7 +11,8 @@ use Rattle.tape_job.specs.declared.job.ZoneLine.{ZoneLine}
 use Rattle.turnmill.proofs.PositionLemmas.{Joins, AllJoin, after_is, left_at-nil, left_at-cons}
 use Rattle.turnmill.proofs.SomeLemmas.{SomeOf}
 use Rattle.path_geometry.specs.Path.{Point, IsOnPath, along}
-use Rattle.turnmill.specs.SmallSteps.{end_in, left_at, StandsAt, IsAlong, IsAtPlace}
+use Rattle.turnmill.specs.LeftAt.{end_in, left_at}
+use Rattle.turnmill.specs.SmallSteps.{StandsAt, IsAlong, IsAtPlace}
 use Rattle.path_geometry.specs.Motions.{axes_of}
 use Rattle.turnmill.specs.ZoneBoxes.{IsStraight, after, has_axis, moves_zone, PlaceBox, Opened, Waiting, Moving, close, closed, next_open, walk, boxes_of}
 use Rattle.turnmill.specs.declared.channels.Item.{Item}
@@ -31,24 +32,24 @@ stays_there item at axis none = after_is item at axis ∙ by_end (end_in axis it
     by_end (Some to) none = absurd cc
 
 -- the start and the end of a motion that joins are points of its path
-pub along_at_start : (n : ℕ) (at : ℕ → ℤ) (item : Item) (under : ℕ) → Joins n at item → 0 < under → IsAlong at item (standing at under)
-along_at_start n at item under joins some = record { path = by_motion item.motion joins.0 starts; others = λ axis none. refl }
+pub along_at_start : (at : ℕ → ℤ) (item : Item) (under : ℕ) → Joins at item → 0 < under → IsAlong at item (standing at under)
+along_at_start at item under joins some = record { path = by_motion item.motion joins.0 starts; others = λ axis none. refl }
   where
     starts : All (λ e. at e.0 *ℤ pos under ≡ e.1 *ℤ pos under) (axes_of item.motion)
-    starts = All-weaker (λ e. (e.0 < n) × (e.1 ≡ at e.0) × (e.2 ≡ after item at e.0)) (λ e. at e.0 *ℤ pos under ≡ e.1 *ℤ pos under)
-        (λ e joined. ap (λ x. x *ℤ pos under) (sym joined.1)) (axes_of item.motion) joins.1
+    starts = All-weaker (λ e. (e.1 ≡ at e.0) × (e.2 ≡ after item at e.0)) (λ e. at e.0 *ℤ pos under ≡ e.1 *ℤ pos under)
+        (λ e joined. ap (λ x. x *ℤ pos under) (sym joined.0)) (axes_of item.motion) joins.1
 
     by_motion : (motion : Motion) → IsStraight motion → All (λ e. at e.0 *ℤ pos under ≡ e.1 *ℤ pos under) (axes_of motion) → IsOnPath motion (standing at under)
     by_motion (Line ends) straight begun = start_on_line ends (standing at under) some begun
     by_motion (Rapid ends) straight begun = absurd straight
     by_motion (Kind.Arc arc) straight begun = absurd straight
 
-pub along_at_end : (n : ℕ) (at : ℕ → ℤ) (item : Item) (under : ℕ) → Joins n at item → 0 < under → IsAlong at item (standing (after item at) under)
-along_at_end n at item under joins some = record { path = by_motion item.motion joins.0 ends_there; others = λ axis none. ap (λ x. x *ℤ pos under) (stays_there item at axis none) }
+pub along_at_end : (at : ℕ → ℤ) (item : Item) (under : ℕ) → Joins at item → 0 < under → IsAlong at item (standing (after item at) under)
+along_at_end at item under joins some = record { path = by_motion item.motion joins.0 ends_there; others = λ axis none. ap (λ x. x *ℤ pos under) (stays_there item at axis none) }
   where
     ends_there : All (λ e. after item at e.0 *ℤ pos under ≡ e.2 *ℤ pos under) (axes_of item.motion)
-    ends_there = All-weaker (λ e. (e.0 < n) × (e.1 ≡ at e.0) × (e.2 ≡ after item at e.0)) (λ e. after item at e.0 *ℤ pos under ≡ e.2 *ℤ pos under)
-        (λ e joined. ap (λ x. x *ℤ pos under) (sym joined.2)) (axes_of item.motion) joins.1
+    ends_there = All-weaker (λ e. (e.1 ≡ at e.0) × (e.2 ≡ after item at e.0)) (λ e. after item at e.0 *ℤ pos under ≡ e.2 *ℤ pos under)
+        (λ e joined. ap (λ x. x *ℤ pos under) (sym joined.1)) (axes_of item.motion) joins.1
 
     by_motion : (motion : Motion) → IsStraight motion → All (λ e. after item at e.0 *ℤ pos under ≡ e.2 *ℤ pos under) (axes_of motion) → IsOnPath motion (standing (after item at) under)
     by_motion (Line ends) straight ended = end_on_line ends (standing (after item at) under) some ended
@@ -78,9 +79,9 @@ OpenCovers zone (Waiting from began) point = IsCovered zone began None point
 OpenCovers zone (Moving from item began) point = IsCovered zone began (Some item) point
 
 -- the zone's axes stand where the open box leaves them
-abbrev Fits : ZoneLine → ℕ → Opened → (ℕ → ℤ) → Type 0
-Fits zone n (Waiting from began) at = (axis : ℕ) → has_axis zone axis ≡ true → at axis ≡ began axis
-Fits zone n (Moving from item began) at = Joins n began item × ((axis : ℕ) → has_axis zone axis ≡ true → at axis ≡ after item began axis)
+abbrev Fits : ZoneLine → Opened → (ℕ → ℤ) → Type 0
+Fits zone (Waiting from began) at = (axis : ℕ) → has_axis zone axis ≡ true → at axis ≡ began axis
+Fits zone (Moving from item began) at = Joins began item × ((axis : ℕ) → has_axis zone axis ≡ true → at axis ≡ after item began axis)
 
 closes : (zone : ZoneLine) (k : ℕ) (point : Point) (place : ℕ) (current : Opened) → from_of current ≤ k → k < place → OpenCovers zone current point
     → Covers zone k point (close place current)
@@ -88,21 +89,21 @@ closes zone k point place (Waiting from began) low high covers = record { from =
 closes zone k point place (Moving from item began) low high covers = record { from = low; upto = high; covered = covers }
 
 -- a point where the zone's axes stand as the open box leaves them is covered by it
-stand_covered : (zone : ZoneLine) (n : ℕ) (current : Opened) (at : ℕ → ℤ) (point : Point) → 0 < point.under → Fits zone n current at
+stand_covered : (zone : ZoneLine) (current : Opened) (at : ℕ → ℤ) (point : Point) → 0 < point.under → Fits zone current at
     → ((axis : ℕ) → has_axis zone axis ≡ true → StandsAt point axis (at axis)) → OpenCovers zone current point
-stand_covered zone n (Waiting from began) at point some fits stands = λ axis has. stands axis has ∙ ap (λ x. x *ℤ pos point.under) (fits axis has)
-stand_covered zone n (Moving from item began) at point some fits stands = (
+stand_covered zone (Waiting from began) at point some fits stands = λ axis has. stands axis has ∙ ap (λ x. x *ℤ pos point.under) (fits axis has)
+stand_covered zone (Moving from item began) at point some fits stands = (
   fits.0.0,
   standing (after item began) point.under,
-  along_at_end n began item point.under fits.0 some,
+  along_at_end began item point.under fits.0 some,
   refl,
   λ axis has. sym (stands axis has ∙ ap (λ x. x *ℤ pos point.under) (fits.1 axis has)),
 )
 
-start_covered : (zone : ZoneLine) (n : ℕ) (item : Item) (at : ℕ → ℤ) (point : Point) → 0 < point.under → Joins n at item
+start_covered : (zone : ZoneLine) (item : Item) (at : ℕ → ℤ) (point : Point) → 0 < point.under → Joins at item
     → ((axis : ℕ) → has_axis zone axis ≡ true → StandsAt point axis (at axis)) → IsCovered zone at (Some item) point
-start_covered zone n item at point some joins stands =
-    (joins.0, standing at point.under, along_at_start n at item point.under joins some, refl, λ axis has. sym (stands axis has))
+start_covered zone item at point some joins stands =
+    (joins.0, standing at point.under, along_at_start at item point.under joins some, refl, λ axis has. sym (stands axis has))
 
 -- ---- motions that do not move the zone
 
@@ -133,78 +134,78 @@ not_moved zone item axis none has =
     not_found (λ e. e.0 == axis) (axes_of item.motion) (apart_axes zone axis has (axes_of item.motion) none) in
     rw nothing refl
 
-fits_on : (zone : ZoneLine) (n : ℕ) (current : Opened) (at : ℕ → ℤ) (item : Item) → moves_zone zone item ≡ false → Fits zone n current at → Fits zone n current (after item at)
-fits_on zone n (Waiting from began) at item none fits = λ axis has. stays_there item at axis (not_moved zone item axis none has) ∙ fits axis has
-fits_on zone n (Moving from before began) at item none fits = (fits.0, λ axis has. stays_there item at axis (not_moved zone item axis none has) ∙ fits.1 axis has)
+fits_on : (zone : ZoneLine) (current : Opened) (at : ℕ → ℤ) (item : Item) → moves_zone zone item ≡ false → Fits zone current at → Fits zone current (after item at)
+fits_on zone (Waiting from began) at item none fits = λ axis has. stays_there item at axis (not_moved zone item axis none has) ∙ fits axis has
+fits_on zone (Moving from before began) at item none fits = (fits.0, λ axis has. stays_there item at axis (not_moved zone item axis none has) ∙ fits.1 axis has)
 
 -- ---- the walk
 
 -- a point that the open box covers, at a place that it holds, is covered by one of the boxes that come of it
-kept : (zone : ZoneLine) (n : ℕ) (k : ℕ) (point : Point) → 0 < point.under → (place : ℕ) (current : Opened) (at : ℕ → ℤ) (items : List Item)
-    → AllJoin n at items → Fits zone n current at → from_of current ≤ k → k < place → OpenCovers zone current point
+kept : (zone : ZoneLine) (k : ℕ) (point : Point) → 0 < point.under → (place : ℕ) (current : Opened) (at : ℕ → ℤ) (items : List Item)
+    → AllJoin at items → Fits zone current at → from_of current ≤ k → k < place → OpenCovers zone current point
     → SomeOf (Covers zone k point) (walk zone place current at items)
-kept zone n k point some place current at [] joins fits low high covers = inl (closes zone k point place current low high covers)
-kept zone n k point some place current at (item ∷ items) joins fits low high covers =
+kept zone k point some place current at [] joins fits low high covers = inl (closes zone k point place current low high covers)
+kept zone k point some place current at (item ∷ items) joins fits low high covers =
     by_moves (moves_zone zone item) refl current fits low covers
-    (λ current' fits' low' covers'. kept zone n k point some (place + 1) current' (after item at) items joins.1 fits' low' (omega arith) covers')
+    (λ current' fits' low' covers'. kept zone k point some (place + 1) current' (after item at) items joins.1 fits' low' (omega arith) covers')
   where
     Rest : Type 0
-    Rest = (current' : Opened) → Fits zone n current' (after item at) → from_of current' ≤ k → OpenCovers zone current' point
+    Rest = (current' : Opened) → Fits zone current' (after item at) → from_of current' ≤ k → OpenCovers zone current' point
         → SomeOf (Covers zone k point) (walk zone (place + 1) current' (after item at) items)
 
-    by_moves : (b : Bool) → moves_zone zone item ≡ b → (current : Opened) → Fits zone n current at → from_of current ≤ k → OpenCovers zone current point → Rest
+    by_moves : (b : Bool) → moves_zone zone item ≡ b → (current : Opened) → Fits zone current at → from_of current ≤ k → OpenCovers zone current point → Rest
         → SomeOf (Covers zone k point) (cond b (closed place current ++ walk zone (place + 1) (next_open place at current item) (after item at) items) (walk zone (place + 1) current (after item at) items))
     by_moves true moves (Waiting from began) fits low covers rest =
         rest (Moving from item at) (joins.0, λ axis has. refl) low
-        (start_covered zone n item at point some joins.0 (λ axis has. covers axis has ∙ ap (λ x. x *ℤ pos point.under) (sym (fits axis has))))
+        (start_covered zone item at point some joins.0 (λ axis has. covers axis has ∙ ap (λ x. x *ℤ pos point.under) (sym (fits axis has))))
     by_moves true moves (Moving from before began) fits low covers rest = inl (closes zone k point place (Moving from before began) low high covers)
-    by_moves false moves current fits low covers rest = rest current (fits_on zone n current at item moves fits) low covers
+    by_moves false moves current fits low covers rest = rest current (fits_on zone current at item moves fits) low covers
 
 IsAlong-same : (p q : ℕ → ℤ) → ((axis : ℕ) → p axis ≡ q axis) → (item : Item) (point : Point) → IsAlong p item point → IsAlong q item point
 IsAlong-same p q same item point along = record { path = along.path; others = λ axis none. along.others axis none ∙ ap (λ x. x *ℤ pos point.under) (same axis) }
 
 -- a point on a motion is covered by one of the boxes
-at_motion : (zone : ZoneLine) (n : ℕ) (point : Point) → 0 < point.under → (place : ℕ) (current : Opened) (at : ℕ → ℤ) (items : List Item)
-    → AllJoin n at items → Fits zone n current at → from_of current ≤ place → (m k : ℕ) → k ≡ place + m → (item : Item) → slice_get items m ≡ Some item
+at_motion : (zone : ZoneLine) (point : Point) → 0 < point.under → (place : ℕ) (current : Opened) (at : ℕ → ℤ) (items : List Item)
+    → AllJoin at items → Fits zone current at → from_of current ≤ place → (m k : ℕ) → k ≡ place + m → (item : Item) → slice_get items m ≡ Some item
     → IsAlong (left_at (take m items) at) item point → SomeOf (Covers zone k point) (walk zone place current at items)
-at_motion zone n point some place current at [] joins fits low m k is item found on = absurd cc
-at_motion zone n point some place current at (first ∷ items) joins fits low zero k is item found on =
+at_motion zone point some place current at [] joins fits low m k is item found on = absurd cc
+at_motion zone point some place current at (first ∷ items) joins fits low zero k is item found on =
     let same : first ≡ item = cc in
     let here : IsAlong at first point = IsAlong-same (left_at [] at) at (left_at-nil at) first point (subst (λ i. IsAlong (left_at [] at) i point) (sym same) on) in
     by_moves (moves_zone zone first) refl current fits low here
   where
-    by_moves : (b : Bool) → moves_zone zone first ≡ b → (current : Opened) → Fits zone n current at → from_of current ≤ place → IsAlong at first point
+    by_moves : (b : Bool) → moves_zone zone first ≡ b → (current : Opened) → Fits zone current at → from_of current ≤ place → IsAlong at first point
         → SomeOf (Covers zone k point) (cond b (closed place current ++ walk zone (place + 1) (next_open place at current first) (after first at) items) (walk zone (place + 1) current (after first at) items))
     by_moves true moves (Waiting from began) fits low here =
-        kept zone n k point some (place + 1) (Moving from first at) (after first at) items joins.1 (joins.0, λ axis has. refl) (omega arith) (omega arith) (joins.0.0, point, here, refl, λ axis has. refl)
+        kept zone k point some (place + 1) (Moving from first at) (after first at) items joins.1 (joins.0, λ axis has. refl) (omega arith) (omega arith) (joins.0.0, point, here, refl, λ axis has. refl)
     by_moves true moves (Moving from before began) fits low here =
-        inr (kept zone n k point some (place + 1) (Moving place first at) (after first at) items joins.1 (joins.0, λ axis has. refl) (omega arith) (omega arith) (joins.0.0, point, here, refl, λ axis has. refl))
+        inr (kept zone k point some (place + 1) (Moving place first at) (after first at) items joins.1 (joins.0, λ axis has. refl) (omega arith) (omega arith) (joins.0.0, point, here, refl, λ axis has. refl))
     by_moves false moves current fits low here =
-        kept zone n k point some (place + 1) current (after first at) items joins.1 (fits_on zone n current at first moves fits) (omega arith) (omega arith)
-        (stand_covered zone n current at point some fits (λ axis has. here.others axis (not_moved zone first axis moves has)))
-at_motion zone n point some place current at (first ∷ items) joins fits low (suc m) k is item found on =
+        kept zone k point some (place + 1) current (after first at) items joins.1 (fits_on zone current at first moves fits) (omega arith) (omega arith)
+        (stand_covered zone current at point some fits (λ axis has. here.others axis (not_moved zone first axis moves has)))
+at_motion zone point some place current at (first ∷ items) joins fits low (suc m) k is item found on =
     by_moves (moves_zone zone first) refl current fits low
-    (λ current' fits' low'. at_motion zone n point some (place + 1) current' (after first at) items joins.1 fits' low' m k (omega arith) item found
+    (λ current' fits' low'. at_motion zone point some (place + 1) current' (after first at) items joins.1 fits' low' m k (omega arith) item found
     (IsAlong-same (left_at (first ∷ take m items) at) (left_at (take m items) (after first at)) (left_at-cons first (take m items) at) item point on))
   where
     Rest : Type 0
-    Rest = (current' : Opened) → Fits zone n current' (after first at) → from_of current' ≤ place + 1 → SomeOf (Covers zone k point) (walk zone (place + 1) current' (after first at) items)
+    Rest = (current' : Opened) → Fits zone current' (after first at) → from_of current' ≤ place + 1 → SomeOf (Covers zone k point) (walk zone (place + 1) current' (after first at) items)
 
-    by_moves : (b : Bool) → moves_zone zone first ≡ b → (current : Opened) → Fits zone n current at → from_of current ≤ place → Rest
+    by_moves : (b : Bool) → moves_zone zone first ≡ b → (current : Opened) → Fits zone current at → from_of current ≤ place → Rest
         → SomeOf (Covers zone k point) (cond b (closed place current ++ walk zone (place + 1) (next_open place at current first) (after first at) items) (walk zone (place + 1) current (after first at) items))
     by_moves true moves (Waiting from began) fits low rest = rest (Moving from first at) (joins.0, λ axis has. refl) (omega arith)
     by_moves true moves (Moving from before began) fits low rest = inr (rest (Moving place first at) (joins.0, λ axis has. refl) (omega arith))
-    by_moves false moves current fits low rest = rest current (fits_on zone n current at first moves fits) (omega arith)
+    by_moves false moves current fits low rest = rest current (fits_on zone current at first moves fits) (omega arith)
 
 -- wherever a channel is in a span with these motions, some box of the zone holds that place and covers the zone's axes
-pub box_covers : (zone : ZoneLine) (n : ℕ) (at : ℕ → ℤ) (items : List Item) → AllJoin n at items → (place : ℕ) (point : Point) → IsAtPlace at items place point
+pub box_covers : (zone : ZoneLine) (at : ℕ → ℤ) (items : List Item) → AllJoin at items → (place : ℕ) (point : Point) → IsAtPlace at items place point
     → (0 < point.under) × SomeOf (Covers zone place point) (boxes_of zone at items)
 unfolding boxes_of
-box_covers zone n at items joins zero point stands = (
+box_covers zone at items joins zero point stands = (
   stands.fraction,
-  kept zone n 0 point stands.fraction 1 (Waiting 0 at) at items joins (λ axis has. refl) (omega arith) (omega arith) (λ axis has. stands.stand axis),
+  kept zone 0 point stands.fraction 1 (Waiting 0 at) at items joins (λ axis has. refl) (omega arith) (omega arith) (λ axis has. stands.stand axis),
 )
-box_covers zone n at items joins (suc m) point there = by_item (slice_get items m) refl there
+box_covers zone at items joins (suc m) point there = by_item (slice_get items m) refl there
   where
     fraction_of : (motion : Motion) → IsOnPath motion point → 0 < point.under
     fraction_of (Line ends) on = on.fraction
@@ -216,7 +217,7 @@ box_covers zone n at items joins (suc m) point there = by_item (slice_get items 
     by_item None found none = absurd none
     by_item (Some item) found on =
         let some : 0 < point.under = fraction_of item.motion on.path in
-        (some, at_motion zone n point some 1 (Waiting 0 at) at items joins (λ axis has. refl) (omega arith) m (suc m) (omega arith) item found on)
+        (some, at_motion zone point some 1 (Waiting 0 at) at items joins (λ axis has. refl) (omega arith) m (suc m) (omega arith) item found on)
 
 -- the one box of a zone whose holder stands covers it
 pub standing_covers : (zone : ZoneLine) (at : ℕ → ℤ) (point : Point) → ((axis : ℕ) → has_axis zone axis ≡ true → StandsAt point axis (at axis))

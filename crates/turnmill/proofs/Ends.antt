@@ -1,5 +1,5 @@
 -- Small steps do not get stuck.
-use Rattle.std.proofs.Common.{◌≡◌, ◌⊎◌, ◌∙◌, ℕ, zero, suc, ℤ, pos, ◌+◌, ◌-◌, ◌*ℤ◌, ◌≤◌, ◌<◌, Bool, true, false, cond, ◌==◌, List, [], ◌∷◌, length, take, Option, None, Some, IfSome, IsSomeAnd, IsTrue, slice_get, All, refl, sym, ap, subst, arith}
+use Rattle.std.proofs.Common.{◌≡◌, ◌∙◌, ℕ, zero, suc, ℤ, pos, ◌-◌, ◌*ℤ◌, ◌≤◌, true, List, [], ◌∷◌, length, take, Option, None, Some, IfSome, IsSomeAnd, IsTrue, slice_get, refl, sym, ap, subst, arith}
 use Rattle.std.proofs.lemmas.Bool.{eq-eqb}
 use Rattle.std.proofs.lemmas.List.Elements.{All-weaker}
 use Rattle.std.specs.Option.{option_map_or}
@@ -8,13 +8,14 @@ use Rattle.tape_job.specs.Job.{JobView}
 use Rattle.tape_job.specs.declared.job.ChannelLine.{ChannelLine}
 use Rattle.turnmill.proofs.CoverLemmas.{standing, along_at_end}
 use Rattle.turnmill.proofs.NoJumps.{has_acted}
-use Rattle.turnmill.proofs.PositionLemmas.{Joins, AllJoin, joins_at}
-use Rattle.turnmill.proofs.Soundness.{motions_join}
+use Rattle.turnmill.proofs.PositionLemmas.{AllJoin, joins_at}
+use Rattle.turnmill.proofs.Runs.{motions_join}
 use Rattle.turnmill.proofs.StateLemmas.{WellPlaced, well_placed, WellPlaced-opening, not_ended, run_place, board_first}
 use Rattle.turnmill.proofs.ZoneLemmas.{some_at}
 use Rattle.turnmill.specs.Channels.{start_position, items_of}
 use Rattle.turnmill.specs.Safety.{CanEnd}
-use Rattle.turnmill.specs.SmallSteps.{end_in, left_at, StandsAt, IsStanding, IsAlong, IsEndOf, IsAtPlace, IsAtEnd, Spot, State, opening, span_of, has_ended, is_running, motions_of, board_position, beginning, present, SmallStep, Advance, Act, after_step, IsLawful, AreLawful, reached}
+use Rattle.turnmill.specs.LeftAt.{left_at}
+use Rattle.turnmill.specs.SmallSteps.{IsAlong, IsEndOf, IsAtPlace, IsAtEnd, Spot, State, opening, span_of, has_ended, is_running, motions_of, board_position, present, SmallStep, Advance, Act, after_step, IsLawful, AreLawful, reached}
 use Rattle.turnmill.specs.Stretches.{channel_line}
 use Rattle.path_geometry.specs.Motions.{axes_of}
 use Rattle.turnmill.specs.ZoneBoxes.{after}
@@ -30,32 +31,32 @@ place_within at items (suc n) point there = within items n (λ item. IsAlong (le
     within (x ∷ xs) zero P some = omega arith
     within (x ∷ xs) (suc k) P some = let rest = within xs k P some in omega arith
 
-motions_join_all : (job : JobView) (channel : ℕ) → AllJoin (length job.axes) (start_position job) (motions_of job channel)
+motions_join_all : (job : JobView) (channel : ℕ) → AllJoin (start_position job) (motions_of job channel)
 unfolding motions_of
 motions_join_all job channel = by_line (channel_line job channel)
   where
-    by_line : (o : Option ChannelLine) → AllJoin (length job.axes) (start_position job) (option_map_or (items_of job) o [])
+    by_line : (o : Option ChannelLine) → AllJoin (start_position job) (option_map_or (items_of job) o [])
     by_line None = tt
     by_line (Some line) = motions_join job line
 
 -- ---- the end of the last motion
 
-last_end : (n : ℕ) (at : ℕ → ℤ) (items : List Item) → AllJoin n at items → (place : ℕ) → length items ≡ suc place
+last_end : (at : ℕ → ℤ) (items : List Item) → AllJoin at items → (place : ℕ) → length items ≡ suc place
     → (point : Point) × IsAtPlace at items (suc place) point × IsAtEnd items (suc place) point
-last_end n at items joins place long = of_item (some_at items place (omega arith))
+last_end at items joins place long = of_item (some_at items place (omega arith))
   where
     of_item : (item : Item) × (slice_get items place ≡ Some item) → (point : Point) × IsAtPlace at items (suc place) point × IsAtEnd items (suc place) point
     of_item (item, is) =
         let before = left_at (take place items) at in
-        let joined = joins_at n at items joins place item is in
+        let joined = joins_at at items joins place item is in
         let less : suc place - 1 ≡ place = omega arith in (
           standing (after item before) 1,
-          subst (λ (o : Option Item). IsSomeAnd o (λ i. IsAlong before i (standing (after item before) 1))) (sym is) (along_at_end n before item 1 joined (omega arith)),
+          subst (λ (o : Option Item). IsSomeAnd o (λ i. IsAlong before i (standing (after item before) 1))) (sym is) (along_at_end before item 1 joined (omega arith)),
           (
             sym long,
             subst (λ (o : Option Item). IfSome o (λ i. IsEndOf i (standing (after item before) 1))) (sym (ap (slice_get items) less ∙ is))
-                (All-weaker (λ e. (e.0 < n) × (e.1 ≡ before e.0) × (e.2 ≡ after item before e.0)) (λ e. after item before e.0 *ℤ pos 1 ≡ e.2 *ℤ pos 1)
-                (λ e at_end. ap (λ x. x *ℤ pos 1) (sym at_end.2)) (axes_of item.motion) joined.1),
+                (All-weaker (λ e. (e.1 ≡ before e.0) × (e.2 ≡ after item before e.0)) (λ e. after item before e.0 *ℤ pos 1 ≡ e.2 *ℤ pos 1)
+                (λ e at_end. ap (λ x. x *ℤ pos 1) (sym at_end.1)) (axes_of item.motion) joined.1),
           ),
         )
 
@@ -112,7 +113,7 @@ goes_on job state placed channel running = by_length (length (motions_of job cha
         no_last [] long k = tt
         no_last (item ∷ items) long k = absurd cc
     by_length (suc n) long =
-        let last = last_end (length job.axes) (start_position job) (motions_of job channel) (motions_join_all job channel) n long in
+        let last = last_end (start_position job) (motions_of job channel) (motions_join_all job channel) n long in
         advances job state placed channel running (suc n) last.0 (omega (arith, within)) last.1 last.2
 
 pub can_end : (job : JobView) → CanEnd job

@@ -17,7 +17,7 @@ use Rattle.tape_job.specs.declared.job.Stmt.TheVariants.{Move, End}
 use Rattle.turnmill.specs.Channels.{position_after, programmed, start_position, is_slot, end_from, ends_from, item_from, items_after, items_of, blocks_of, program_named, IsInReach, IsRunnable}
 use Rattle.turnmill.specs.ZoneBoxes.{IsFit}
 use Rattle.turnmill.specs.declared.channels.Item.{Item}
-use Rattle.turnmill.proofs.PositionLemmas.{ends_between}
+use Rattle.turnmill.proofs.BlockMotions.{ends_between}
 
 -- ---- where an axis stands
 
@@ -120,7 +120,6 @@ item_fit job channel before block runnable reach here = by_stmt block.line block
             once = ends_once start end 0 (length job.axes) starts ends;
             in_range = All-weaker (IsEnd 0 (0 + length job.axes)) (λ e. IsInRange e.1 × IsInRange e.2) (λ e is. (is.2, is.3)) (ends_between start end 0 (length job.axes)) all;
           };
-          straight = tt;
           within = All-weaker (IsEnd 0 (0 + length job.axes)) (λ e. e.0 < 16) (λ e is. omega arith) (ends_between start end 0 (length job.axes)) all;
         }
     by_stmt line End own = tt
@@ -154,3 +153,35 @@ blocks_reach job line runnable = by_name line.program
 pub items_fit : (job : JobView) (line : ChannelLine) → IsRunnable job → All IsFit (items_of job line)
 unfolding items_of
 items_fit job line runnable = items_after_fit job line.channel [] (blocks_of job line) runnable (All-nil (λ b. IsInReach b.stmt)) (blocks_reach job line runnable)
+
+-- ---- their number
+
+items_after_few : (job : JobView) (channel : ℕ) (before blocks : List Block) → length (items_after job channel before blocks) ≤ length blocks
+items_after_few job channel before [] = omega arith
+items_after_few job channel before (block ∷ blocks) =
+    by_item (item_from job channel (position_after job channel before) block) (items_after_few job channel (before ++ block ∷ []) blocks)
+  where
+    by_item : (o : Option Item) → length (items_after job channel (before ++ block ∷ []) blocks) ≤ length blocks
+        → length (cons_option o (items_after job channel (before ++ block ∷ []) blocks)) ≤ length (block ∷ blocks)
+    by_item None rest = omega arith
+    by_item (Some item) rest = omega arith
+
+blocks_few : (job : JobView) (line : ChannelLine) → IsRunnable job → length (blocks_of job line) ≤ 100000
+unfolding blocks_of
+blocks_few job line runnable = by_name line.program
+  where
+    by_program : (o : Option ProgramView) → IfSome o (λ p. length p.blocks ≤ 100000) → length (option_map_or (λ p. p.blocks) o []) ≤ 100000
+    by_program None few = omega arith
+    by_program (Some program) few = few
+
+    by_name : (o : Option (List ℕ)) → length (option_map_or (λ p. p.blocks) (option_and_then (program_named job) o) []) ≤ 100000
+    by_name None = omega arith
+    by_name (Some name) = by_program (lookup (bytes_eq name) job.programs) (All-lookup (λ p. length p.blocks ≤ 100000) (bytes_eq name) job.programs runnable.few)
+
+-- a job that can be run has few motions
+pub items_few : (job : JobView) (line : ChannelLine) → IsRunnable job → length (items_of job line) ≤ 100000
+unfolding items_of
+items_few job line runnable =
+    let few = items_after_few job line.channel [] (blocks_of job line) in
+    let short = blocks_few job line runnable in
+    omega arith

@@ -1,14 +1,12 @@
 -- The verdict of the comparison is that of the definition.
-use Rattle.std.proofs.Common.{◌≡◌, ℕ, ℤ, zero, suc, ◌==◌, ◌&&◌, ◌||◌, not, cond, nat_lt, Bool, true, false, inl, inr, List, [], ◌∷◌, ◌++◌, map, filter, length, refl, ap, sym, subst, ◌∙◌, arith, Option, None, Some, find, unwrap_or, eqb-true}
-use mathlib.Core.Path.{fun_ext}
-use Rattle.std.specs.List.{flat_map, filter_map, range_with_len, list_any}
-use Rattle.std.specs.Option.{option_map, option_map_or, option_and_then, option_or, option_to_list}
+use Rattle.std.proofs.Common.{◌≡◌, ℕ, ◌==◌, ◌&&◌, ◌||◌, not, cond, nat_lt, Bool, true, false, inl, inr, List, [], ◌∷◌, ◌++◌, map, filter, refl, ap, sym, ◌∙◌, Option, None, Some, find, unwrap_or, eqb-true}
+use Rattle.std.specs.List.{flat_map}
+use Rattle.std.specs.Option.{option_map, option_map_or, option_and_then, option_or}
 use Rattle.std.proofs.lemmas.Bool.Decides.{eqb_tells}
 use Rattle.std.proofs.lemmas.List.Folds.{find-append}
 use Rattle.swept_boxes.specs.Cover.{cover_of}
 use Rattle.swept_boxes.specs.Pieces.{pieces_at}
 use Rattle.swept_boxes.specs.Ranges.{RangesView}
-use Rattle.swept_boxes.specs.declared.Box3.{Box3}
 use Rattle.path_geometry.specs.declared.motion.Motion.{Motion}
 use Rattle.path_geometry.specs.declared.motion.Motion.TheVariants.{Line, Rapid}
 use Rattle.path_geometry.specs.declared.motion.Motion.TheVariants as Kind
@@ -17,11 +15,14 @@ use Rattle.tape_job.specs.Job.{JobView}
 use Rattle.tape_job.specs.declared.job.ChannelLine.{ChannelLine}
 use Rattle.tape_job.specs.declared.job.ZoneLine.{ZoneLine}
 use Rattle.turnmill.proofs.SomeLemmas.{found_passes}
-use Rattle.turnmill.proofs.StraightLemmas.{OfItem, MovesStraight, AllMoveStraight, items_straight, boxes_straight}
-use Rattle.turnmill.specs.ChannelRun.{run_of}
-use Rattle.turnmill.specs.Channels.{positions_in, start_position, position_after, blocks_of, items_of, StandsAfter}
-use Rattle.turnmill.specs.Clash.{own_clock, is_open_at, may_overlap, zones_in_order, pairs_by_group, zone_pairs, BoxPlace, box_pairs, stretch_pairs, pairs_of_zones, compared_pairs, boxes_meet, depth_of, pair_meets, name_of, verdict_of}
-use Rattle.turnmill.specs.ShownStretches.{run_stretch, end_stretch, shown_stretch, held_zone, HeldView, is_run, same_kind, do_overlap, first_some, first_touched, first_lines, named, first_in_stretches, first_against, first_of_zones, first_meeting, verdict_by}
+use Rattle.turnmill.proofs.Runs.{motions_join}
+use Rattle.turnmill.proofs.StraightLemmas.{OfItem, MovesStraight, AllMoveStraight, joined_straight, boxes_straight}
+use Rattle.turnmill.specs.ChannelRun.{RunView, run_of, runs_of, run_in}
+use Rattle.turnmill.specs.Channels.{start_position, items_of}
+use Rattle.turnmill.specs.FirstAnswer.{first_some}
+use Rattle.turnmill.specs.LeftAt.{left_at}
+use Rattle.turnmill.specs.Clash.{own_clock, is_open_at, may_overlap, zones_in_order, pairs_by_group, zone_pairs, BoxPlace, box_pairs, stretch_pairs, pairs_of_zones, compared_pairs, boxes_meet, pair_meets, name_of, pairs_verdict}
+use Rattle.turnmill.specs.ShownStretches.{run_stretch, end_stretch, shown_stretch, held_zone, same_kind, do_overlap, first_touched, first_lines, named, first_in_stretches, first_against, first_of_zones, first_meeting, verdict_by}
 use Rattle.turnmill.specs.Stretches.{Event, Stretch, spans_of, stretches_from, channel_line, stretches_of}
 use Rattle.turnmill.specs.StretchView.{StretchView}
 use Rattle.turnmill.specs.ZoneBoxes.{IsStraight, PlaceBox, zone_box, low_in, high_in, boxes_of, shown_box, moving_box, standing_box, piece_boxes, moves_zone, has_axis}
@@ -29,7 +30,6 @@ use Rattle.turnmill.specs.declared.channels.Item.{Item}
 use Rattle.turnmill.specs.declared.stretches.PlaceName.{PlaceName}
 use Rattle.turnmill.specs.declared.stretches.StretchKind.{StretchKind}
 use Rattle.turnmill.specs.declared.stretches.StretchKind.TheVariants.{Run, End}
-use Rattle.turnmill.specs.declared.stretches.Verdict.{Verdict}
 use Rattle.turnmill.specs.declared.zone_boxes.ZoneBox.{ZoneBox}
 
 -- ---- the first answer
@@ -178,21 +178,21 @@ first_by_covers job zone other s t c d e k p q =
 -- ---- stretches that may overlap
 
 -- with no coordination a channel runs up to its first event, and stands after it
-abbrev first_of : ℕ → StretchKind → Option Event
+abbrev pub first_of : ℕ → StretchKind → Option Event
 first_of c Run = None
 first_of c End = Some (record { channel = c; place = 1 })
 
-abbrev last_of : ℕ → StretchKind → Option Event
+abbrev pub last_of : ℕ → StretchKind → Option Event
 last_of c Run = Some (record { channel = c; place = 1 })
 last_of c End = None
 
 -- the stretch of a channel
-record IsHeld (s : Stretch) : Type 0 where
-  channel : ℕ
-  held : s.channel ≡ Some channel
-  begins : s.first ≡ first_of channel s.kind
-  ends : s.last ≡ last_of channel s.kind
-  straight : AllMoveStraight s.boxes
+pub record IsHeld (s : Stretch) : Type 0 where
+  pub channel : ℕ
+  pub held : s.channel ≡ Some channel
+  pub begins : s.first ≡ first_of channel s.kind
+  pub ends : s.last ≡ last_of channel s.kind
+  pub straight : AllMoveStraight s.boxes
 
 or_true : (b : Bool) → (b || true) ≡ true
 or_true true = refl
@@ -225,7 +225,7 @@ overlap_at c d Run End = and_true (nat_lt (cond {A = ℕ} (c == d) 1 0) 1) ∙ a
 overlap_at c d End Run = apart (d == c) ∙ ap not (eqb-turned d c) ∙ sym (or_false (not (c == d)))
 overlap_at c d End End = sym (or_true (not (c == d)))
 
-overlap_is : (zone other : ZoneLine) (s t : Stretch) → IsHeld s → IsHeld t → may_overlap own_clock s t ≡ do_overlap (shown_stretch zone s) (shown_stretch other t)
+pub overlap_is : (zone other : ZoneLine) (s t : Stretch) → IsHeld s → IsHeld t → may_overlap own_clock s t ≡ do_overlap (shown_stretch zone s) (shown_stretch other t)
 unfolding may_overlap do_overlap shown_stretch
 overlap_is zone other s t p q =
     ap (λ (l : Option Event). open_at l t.first t.last s.first) p.ends
@@ -251,7 +251,7 @@ stretches_by_covers job zone other s t p q =
 
 -- ---- zones
 
-abbrev AllHeld : List Stretch → Type 0
+abbrev pub AllHeld : List Stretch → Type 0
 AllHeld [] = Unit {0}
 AllHeld (s ∷ ss) = IsHeld s × AllHeld ss
 
@@ -259,15 +259,15 @@ first_some-held : {Y : Type 0} (f g : Stretch → Option Y) → ((s : Stretch) �
 first_some-held f g same [] all = refl
 first_some-held f g same (s ∷ ss) all = rw (same s all.0, first_some-held f g same ss all.1) refl
 
-all_held : (job : JobView) (zone : ZoneLine) → AllHeld (stretches_of job zone)
+pub all_held : (job : JobView) (zone : ZoneLine) → AllHeld (stretches_of job zone)
 unfolding stretches_of spans_of boxes_of moves_zone has_axis
 all_held job zone = by_holder zone.holder refl
   where
     by_line : (c : ℕ) (o : Option ChannelLine) → AllHeld (option_map_or (λ line. stretches_from zone c 0 (spans_of job line)) o [])
     by_line c None = tt
     by_line c (Some line) = (
-      record { channel = c; held = refl; begins = refl; ends = refl; straight = boxes_straight zone (start_position job) (items_of job line) (items_straight job line) },
-      (record { channel = c; held = refl; begins = refl; ends = refl; straight = boxes_straight zone (position_after job line.channel (blocks_of job line)) [] tt }, tt),
+      record { channel = c; held = refl; begins = refl; ends = refl; straight = boxes_straight zone (start_position job) (items_of job line) (joined_straight (start_position job) (items_of job line) (motions_join job line)) },
+      (record { channel = c; held = refl; begins = refl; ends = refl; straight = boxes_straight zone (left_at (items_of job line) (start_position job)) [] tt }, tt),
     )
 
     by_holder : (h : Option ℕ) → zone.holder ≡ h → AllHeld (stretches_of job zone)
@@ -322,39 +322,51 @@ groups_by_covers job (zone ∷ zones) =
     with_other zone other = unless (zone.group == other.group) _ _ (zones_by_covers job zone other)
 
 -- the verdict on the zones with their stretches is that of the definition
-pub verdict_is : (job : JobView) → verdict_by (first_meeting (map (held_zone job) (zones_in_order job))) ≡ verdict_of job
-unfolding verdict_of compared_pairs zone_pairs of_pair
+pub verdict_is : (job : JobView) → verdict_by (first_meeting (map (held_zone job) (zones_in_order job))) ≡ pairs_verdict job
+unfolding pairs_verdict compared_pairs zone_pairs of_pair
 verdict_is job =
     ap verdict_by (sym (find-flat_map names_of (pair_meets job) (λ (pair : ZoneLine × ZoneLine). pairs_of_zones own_clock job pair.0 pair.1) (pairs_by_group (zones_in_order job)) ∙ groups_by_covers job (zones_in_order job)))
     ∙ by_found (find (pair_meets job) (compared_pairs job)) refl
   where
-    by_found : (o : Option (BoxPlace × BoxPlace)) → find (pair_meets job) (compared_pairs job) ≡ o → verdict_by (option_map names_of (find (pair_meets job) (compared_pairs job))) ≡ verdict_of job
+    by_found : (o : Option (BoxPlace × BoxPlace)) → find (pair_meets job) (compared_pairs job) ≡ o → verdict_by (option_map names_of (find (pair_meets job) (compared_pairs job))) ≡ pairs_verdict job
     by_found None e = rw e refl
     by_found (Some pair) e = rw e refl
 
 -- ---- the stretches of a zone whose channel was run
 
+-- the run of a channel is that of its CHANNEL line
+pub run_in-runs_of : (job : JobView) (channel : ℕ) → run_in (runs_of job) channel ≡ option_map (run_of job) (channel_line job channel)
+unfolding run_in runs_of run_of
+run_in-runs_of job channel = find-map (λ (run : RunView). run.channel == channel) (run_of job) job.channels
+
 -- the stretches of a zone come from the run of its holder
-pub run_stretches : (job : JobView) (zone : ZoneLine) (line : ChannelLine) (at : List ℤ) → option_and_then (channel_line job) zone.holder ≡ Some line
-    → StandsAfter job line.channel (blocks_of job line) at
-    → run_stretch job zone (run_of job line) ∷ end_stretch zone (run_of job line) (positions_in at) ∷ [] ≡ map (shown_stretch zone) (stretches_of job zone)
+pub run_stretches : (job : JobView) (zone : ZoneLine) (run : RunView) → option_and_then (run_in (runs_of job)) zone.holder ≡ Some run
+    → run_stretch job zone run ∷ end_stretch job zone run ∷ [] ≡ map (shown_stretch zone) (stretches_of job zone)
 unfolding stretches_of spans_of shown_stretch run_stretch end_stretch run_of
-run_stretches job zone line at found stands = by_holder zone.holder refl found
+run_stretches job zone run found = by_holder zone.holder refl found
   where
-    ends : positions_in at ≡ position_after job line.channel (blocks_of job line)
-    ends = fun_ext stands
+    Goal : Type 0
+    Goal = run_stretch job zone run ∷ end_stretch job zone run ∷ [] ≡ map (shown_stretch zone) (stretches_of job zone)
 
-    by_holder : (h : Option ℕ) → zone.holder ≡ h → option_and_then (channel_line job) h ≡ Some line
-        → run_stretch job zone (run_of job line) ∷ end_stretch zone (run_of job line) (positions_in at) ∷ [] ≡ map (shown_stretch zone) (stretches_of job zone)
-    by_holder None e k = cc
-    by_holder (Some c) e k =
-        let same : line.channel ≡ c = eqb-true line.channel c (found_passes (λ other. other.channel == c) job.channels line k) in
-        rw (e, k, ends, ← same) refl
+    by_line : (c : ℕ) → zone.holder ≡ Some c → (o : Option ChannelLine) → channel_line job c ≡ o → option_map (run_of job) o ≡ Some run → Goal
+    by_line c e None k is = absurd cc
+    by_line c e (Some line) k is =
+        let same : line.channel ≡ c = eqb-true line.channel c (found_passes (λ (other : ChannelLine). other.channel == c) job.channels line k) in
+        let ran : run_of job line ≡ run = cc in
+        rw (← ran, e, k, ← same) refl
 
-pub no_stretches : (job : JobView) (zone : ZoneLine) → option_and_then (channel_line job) zone.holder ≡ None → [] ≡ map (shown_stretch zone) (stretches_of job zone)
+    by_holder : (h : Option ℕ) → zone.holder ≡ h → option_and_then (run_in (runs_of job)) h ≡ Some run → Goal
+    by_holder None e k = absurd cc
+    by_holder (Some c) e k = by_line c e (channel_line job c) refl (sym (run_in-runs_of job c) ∙ k)
+
+pub no_stretches : (job : JobView) (zone : ZoneLine) → option_and_then (run_in (runs_of job)) zone.holder ≡ None → [] ≡ map (shown_stretch zone) (stretches_of job zone)
 unfolding stretches_of
 no_stretches job zone none = by_holder zone.holder refl none
   where
-    by_holder : (h : Option ℕ) → zone.holder ≡ h → option_and_then (channel_line job) h ≡ None → [] ≡ map (shown_stretch zone) (stretches_of job zone)
+    by_line : (c : ℕ) → zone.holder ≡ Some c → (o : Option ChannelLine) → channel_line job c ≡ o → option_map (run_of job) o ≡ None → [] ≡ map (shown_stretch zone) (stretches_of job zone)
+    by_line c e None k is = rw (e, k) refl
+    by_line c e (Some line) k is = absurd cc
+
+    by_holder : (h : Option ℕ) → zone.holder ≡ h → option_and_then (run_in (runs_of job)) h ≡ None → [] ≡ map (shown_stretch zone) (stretches_of job zone)
     by_holder None e k = rw e refl
-    by_holder (Some c) e k = rw (e, k) refl
+    by_holder (Some c) e k = by_line c e (channel_line job c) refl (sym (run_in-runs_of job c) ∙ k)

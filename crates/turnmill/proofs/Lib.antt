@@ -1,5 +1,8 @@
 pub mod SomeLemmas
 pub mod PositionLemmas
+pub mod BlockMotions
+pub mod BlockOwners
+pub mod Runs
 pub mod CoverLemmas
 pub mod PieceLemmas
 pub mod ZoneLemmas
@@ -16,6 +19,8 @@ pub mod CheckLemmas
 pub mod MeetLemmas
 pub mod StraightLemmas
 pub mod JudgeLemmas
+pub mod CountLemmas
+pub mod VerdictLemmas
 pub mod FitLemmas
 pub mod ReportLemmas
 pub mod RunnableLemmas

@@ -1,5 +1,5 @@
 -- When two boxes meet, as a test.
-use Rattle.std.proofs.Common.{◌≡◌, ℕ, ℤ, ◌≤ℤ◌, zero, suc, ◌<◌, ◌&&◌, Bool, true, false, arith, refl, sym}
+use Rattle.std.proofs.Common.{◌≡◌, ℕ, ℤ, ◌≤ℤ◌, zero, suc, ◌&&◌, Bool, true, false, arith, refl}
 use mathlib.Core.Logic.{◌↔◌}
 use Rattle.std.proofs.lemmas.Bool.{cases_from_iff}
 use Rattle.std.proofs.lemmas.Int.{ints}

@@ -1,4 +1,4 @@
--- No axis jumps: neither between two motions nor where a channel ends its program.
+-- No axis jumps: neither between two motions nor where a channel acts.
 use Rattle.std.proofs.Common.{◌≡◌, ◌⊎◌, ◌∙◌, ℕ, zero, suc, ℤ, pos, ◌+◌, ◌-◌, ◌*ℤ◌, true, cond, ◌==◌, List, [], ◌∷◌, length, take, find, nat_lt, Option, None, Some, option_map, unwrap_or, IfSome, IsSomeAnd, slice_get, All, inl, inr, refl, sym, ap, subst, arith}
 use Rattle.std.proofs.lemmas.Bool.{eqb-true, eq-eqb, ne_eqb, lt-ltb, cases_eq}
 use Rattle.std.proofs.lemmas.List.Sums.{sum_by_push}
@@ -9,11 +9,12 @@ use Rattle.tape_job.specs.Job.{JobView}
 use Rattle.tape_job.specs.declared.job.ChannelLine.{ChannelLine}
 use Rattle.turnmill.proofs.PositionLemmas.{begins_at_left, after_is, left_at-nil, left_at-cons}
 use Rattle.turnmill.proofs.SomeLemmas.{found_passes, All-found}
-use Rattle.turnmill.proofs.Soundness.{motions_join}
+use Rattle.turnmill.proofs.Runs.{motions_join}
 use Rattle.turnmill.proofs.StateLemmas.{WellPlaced, WellPlaced-step, well_placed, WellPlaced-opening, not_ended, run_place, board_last, end_place, one_under}
 use Rattle.turnmill.specs.Channels.{start_position, items_of}
 use Rattle.turnmill.specs.Safety.{axis_owner, axis_position, fraction_of, NoJump}
-use Rattle.turnmill.specs.SmallSteps.{end_in, left_at, StandsAt, IsAlong, IsEndOf, IsAtPlace, IsAtEnd, Spot, State, opening, span_of, has_ended, motions_of, board_position, beginning, present, Act, after_step, IsLawful, reached}
+use Rattle.turnmill.specs.LeftAt.{end_in, left_at}
+use Rattle.turnmill.specs.SmallSteps.{StandsAt, IsAlong, IsEndOf, IsAtPlace, IsAtEnd, Spot, State, opening, span_of, has_ended, motions_of, board_position, beginning, present, Act, after_step, IsLawful, reached}
 use Rattle.turnmill.specs.Stretches.{channel_line}
 use Rattle.path_geometry.specs.Motions.{axes_of}
 use Rattle.turnmill.specs.ZoneBoxes.{after}
@@ -29,7 +30,7 @@ begins_there job channel place item is = by_line (channel_line job channel) is
     by_line : (o : Option ChannelLine) → slice_get (option_map_or (items_of job) o []) place ≡ Some item
         → All (λ e. e.1 ≡ left_at (take place (option_map_or (items_of job) o [])) (start_position job) e.0) (axes_of item.motion)
     by_line None is = absurd cc
-    by_line (Some line) is = begins_at_left (length job.axes) (start_position job) (items_of job line) (motions_join job line) place item is
+    by_line (Some line) is = begins_at_left (start_position job) (items_of job line) (motions_join job line) place item is
 
 -- ---- at the end of the last motion
 

@@ -17,7 +17,8 @@ use Rattle.tape_job.specs.declared.job.ZoneLine.{ZoneLine}
 use Rattle.turnmill.proofs.CoverLemmas.{Covers, IsCovered}
 use Rattle.turnmill.proofs.SomeLemmas.{SomeOf, SomeOf-weaker, SomeOf-map, found_passes, All-found}
 use Rattle.path_geometry.specs.Path.{Point, IsOnPath}
-use Rattle.turnmill.specs.SmallSteps.{end_in, StandsAt, IsAlong}
+use Rattle.turnmill.specs.LeftAt.{end_in}
+use Rattle.turnmill.specs.SmallSteps.{StandsAt, IsAlong}
 use Rattle.path_geometry.specs.Motions.{axes_of}
 use Rattle.turnmill.specs.ZoneBoxes.{IsStraight, has_axis, PlaceBox, zone_box, low_in, high_in, piece_boxes}
 use Rattle.turnmill.specs.declared.channels.Item.{Item}

@@ -1,17 +1,12 @@
--- Where motions leave the axes of a channel: the rule over motions, the rule over blocks, and one motion after another say the same.
-use Rattle.std.proofs.Common.{◌≡◌, ◌⊎◌, ◌∙◌, ℕ, zero, suc, ℤ, ◌+◌, ◌<◌, ◌≤◌, ◌==◌, List, [], ◌∷◌, ◌++◌, length, take, filter_map, find, Option, None, Some, option_map, option_and_then, unwrap_or, slice_get, All, inl, inr, refl, sym, ap, subst, arith}
-use Rattle.std.proofs.lemmas.Bool.{eq-eqb, ne_eqb, cases_eq}
-use Rattle.std.proofs.lemmas.List.Elements.{All-nil, All-cons, All-weaker, filter_map-append}
+-- Where motions leave the axes of a channel: the rule over all motions, and one motion after another say the same.
+use Rattle.std.proofs.Common.{◌≡◌, ◌∙◌, ℕ, zero, suc, ℤ, ◌+◌, ◌<◌, ◌≤◌, ◌==◌, List, [], ◌∷◌, length, get_or, drop, drop-cons, add-one, take, filter_map, find, Option, None, Some, option_map, unwrap_or, slice_get, All, refl, sym, ap, subst}
+use mathlib.Core.Path.{fun_ext}
+use Rattle.std.proofs.Math.ListN.{drop_of_length-le}
+use Rattle.std.proofs.lemmas.List.Elements.{All-weaker}
 use Rattle.std.specs.Prelude.{⊤}
-use Rattle.std.specs.List.{last_or, cons_option, range_with_len}
+use Rattle.std.specs.List.{last_or, cons_option}
 use Rattle.std.specs.Option.{option_map_or}
-use Rattle.path_geometry.specs.declared.motion.Motion.TheVariants.{Line}
-use Rattle.tape_job.specs.Job.{JobView}
-use Rattle.tape_job.specs.declared.job.Block.{Block}
-use Rattle.tape_job.specs.declared.job.Stmt.{Stmt}
-use Rattle.tape_job.specs.declared.job.Stmt.TheVariants.{Move, End}
-use Rattle.turnmill.specs.Channels.{programmed, start_position, position_after, end_from, ends_from, item_from, items_after}
-use Rattle.turnmill.specs.SmallSteps.{end_in, left_at}
+use Rattle.turnmill.specs.LeftAt.{end_in, left_at}
 use Rattle.path_geometry.specs.Motions.{axes_of}
 use Rattle.turnmill.specs.ZoneBoxes.{after, IsStraight}
 use Rattle.turnmill.specs.declared.channels.Item.{Item}
@@ -56,161 +51,53 @@ left_at-cons item items at axis =
     by_end None = refl
     by_end (Some x) = refl
 
--- ---- the ends of a block's motion
+-- the motions from the next on, from where it leaves the axes
+pub left_at_next : (items : List Item) (k : ℕ) (d : Item) → k < length items → (before next : ℕ → ℤ) → ((axis : ℕ) → next axis ≡ after (get_or items k d) before axis)
+    → (axis : ℕ) → left_at (drop (k + 1) items) next axis ≡ left_at (drop k items) before axis
+left_at_next items k d within before next moved axis =
+    let same : next ≡ after (get_or items k d) before = fun_ext moved in
+    let rest : drop k items ≡ get_or items k d ∷ drop (k + 1) items = rw add-one (drop-cons items k d within) in
+    ap (λ (p : ℕ → ℤ). left_at (drop (k + 1) items) p axis) same
+    ∙ sym (left_at-cons (get_or items k d) (drop (k + 1) items) before axis)
+    ∙ ap (λ (xs : List Item). left_at xs before axis) (sym rest)
 
--- the ends of the axes from `low` on, n in number, to which `end` gives an end
-abbrev pub ends_between : (ℕ → ℤ) → (ℕ → Option ℤ) → ℕ → ℕ → List (ℕ × ℤ × ℤ)
-ends_between start end low n = filter_map (λ axis. option_map (λ to. (axis, start axis, to)) (end axis)) (range_with_len low n)
-
-find_below : (start : ℕ → ℤ) (end : ℕ → Option ℤ) (low n axis : ℕ) → axis < low → find (λ e. e.0 == axis) (ends_between start end low n) ≡ None
-find_below start end low zero axis below = refl
-find_below start end low (suc n) axis below = by_end (end low) (find_below start end (low + 1) n axis (omega arith))
-  where
-    by_end : (o : Option ℤ) → find (λ e. e.0 == axis) (ends_between start end (low + 1) n) ≡ None
-        → find (λ e. e.0 == axis) (cons_option (option_map (λ to. (low, start low, to)) o) (ends_between start end (low + 1) n)) ≡ None
-    by_end None rest = rest
-    by_end (Some to) rest = rw (ne_eqb low axis (λ same. omega arith)) rest
-
-find_within : (start : ℕ → ℤ) (end : ℕ → Option ℤ) (low n axis : ℕ) → low ≤ axis → axis < low + n
-    → find (λ e. e.0 == axis) (ends_between start end low n) ≡ option_map (λ to. (axis, start axis, to)) (end axis)
-find_within start end low zero axis above within = absurd (omega arith)
-find_within start end low (suc n) axis above within = by_order (cases_eq low axis) (find_within start end (low + 1) n axis)
-  where
-    here : (o : Option ℤ) → find (λ e. e.0 == low) (cons_option (option_map (λ to. (low, start low, to)) o) (ends_between start end (low + 1) n)) ≡ option_map (λ to. (low, start low, to)) o
-    here None = find_below start end (low + 1) n low (omega arith)
-    here (Some to) = rw (eq-eqb low low refl) refl
-
-    past : (o : Option ℤ) → (low ≡ axis → ⊥) → find (λ e. e.0 == axis) (cons_option (option_map (λ to. (low, start low, to)) o) (ends_between start end (low + 1) n)) ≡ find (λ e. e.0 == axis) (ends_between start end (low + 1) n)
-    past None other = refl
-    past (Some to) other = rw (ne_eqb low axis other) refl
-
-    by_order : (low ≡ axis) ⊎ (low ≡ axis → ⊥) → (low + 1 ≤ axis → axis < low + 1 + n → find (λ e. e.0 == axis) (ends_between start end (low + 1) n) ≡ option_map (λ to. (axis, start axis, to)) (end axis))
-        → find (λ e. e.0 == axis) (ends_between start end low (suc n)) ≡ option_map (λ to. (axis, start axis, to)) (end axis)
-    by_order (inl same) rest = subst (λ a. find (λ e. e.0 == a) (ends_between start end low (suc n)) ≡ option_map (λ to. (a, start a, to)) (end a)) same (here (end low))
-    by_order (inr other) rest = past (end low) other ∙ rest (omega arith) (omega arith)
-
-pub ends_all : (P : ℕ × ℤ × ℤ → Type 0) (start : ℕ → ℤ) (end : ℕ → Option ℤ) (low n : ℕ)
-    → ((axis : ℕ) (to : ℤ) → axis < low + n → end axis ≡ Some to → P (axis, start axis, to)) → All P (ends_between start end low n)
-ends_all P start end low zero each = All-nil P
-ends_all P start end low (suc n) each = by_end (end low) refl (ends_all P start end (low + 1) n (λ axis to within is. each axis to (omega arith) is))
-  where
-    by_end : (o : Option ℤ) → end low ≡ o → All P (ends_between start end (low + 1) n) → All P (cons_option (option_map (λ to. (low, start low, to)) o) (ends_between start end (low + 1) n))
-    by_end None is rest = rest
-    by_end (Some to) is rest = All-cons P (low, start low, to) (ends_between start end (low + 1) n) (each low to (omega arith) is) rest
-
--- ---- blocks and their motions
-
-module _ (job : JobView) (channel : ℕ) where
-  -- the end that the motion of a block gives an axis is the position that the block programs for it
-  item_end : (before : List Block) (block : Block) (axis : ℕ) → axis < length job.axes
-      → option_and_then (λ item. end_in axis item) (item_from job channel (position_after job channel before) block) ≡ programmed job channel block.stmt axis
-  unfolding item_from end_in end_from ends_from programmed
-  item_end before block axis within = by_stmt block.line block.stmt
-    where
-      ends_to : (o : Option ℤ) → option_map (λ (e : ℕ × ℤ × ℤ). e.2) (option_map (λ (to : ℤ). (axis, position_after job channel before axis, to)) o) ≡ o
-      ends_to None = refl
-      ends_to (Some to) = refl
-
-      by_stmt : (line : ℕ) (stmt : Stmt) → option_and_then (λ item. end_in axis item) (item_from job channel (position_after job channel before) (record { line = line; stmt = stmt })) ≡ programmed job channel stmt axis
-      by_stmt line (Move x z) =
-          ap (option_map (λ (e : ℕ × ℤ × ℤ). e.2)) (find_within (position_after job channel before) (programmed job channel (Move x z)) 0 (length job.axes) axis (omega arith) (omega arith))
-          ∙ ends_to (programmed job channel (Move x z) axis)
-      by_stmt line End = refl
-
-  filter_map-cons_option : (axis : ℕ) (o : Option Item) (items : List Item)
-      → filter_map (λ item. end_in axis item) (cons_option o items) ≡ cons_option (option_and_then (λ item. end_in axis item) o) (filter_map (λ item. end_in axis item) items)
-  filter_map-cons_option axis None items = refl
-  filter_map-cons_option axis (Some item) items = refl
-
-  -- the ends that the motions give an axis are the positions that the blocks program for it
-  ends_are : (axis : ℕ) → axis < length job.axes → (before blocks : List Block)
-      → filter_map (λ item. end_in axis item) (items_after job channel before blocks) ≡ filter_map (λ block. programmed job channel block.stmt axis) blocks
-  ends_are axis within before [] = refl
-  ends_are axis within before (block ∷ blocks) =
-      filter_map-cons_option axis (item_from job channel (position_after job channel before) block) (items_after job channel (before ++ block ∷ []) blocks)
-      ∙ ap (λ o. cons_option o (filter_map (λ item. end_in axis item) (items_after job channel (before ++ block ∷ []) blocks))) (item_end before block axis within)
-      ∙ ap (cons_option (programmed job channel block.stmt axis)) (ends_are axis within (before ++ block ∷ []) blocks)
-
-  -- so the motions of some blocks leave an axis where the blocks do
-  pub left_at-items_after : (axis : ℕ) → axis < length job.axes → (blocks : List Block)
-      → left_at (items_after job channel [] blocks) (start_position job) axis ≡ position_after job channel blocks axis
-  unfolding left_at position_after
-  left_at-items_after axis within blocks = ap (λ ends. unwrap_or (last_or None ends) (start_position job axis)) (ends_are axis within [] blocks)
-
-  position_after-push : (before : List Block) (block : Block) (axis : ℕ)
-      → position_after job channel (before ++ block ∷ []) axis ≡ unwrap_or (programmed job channel block.stmt axis) (position_after job channel before axis)
-  unfolding position_after
-  position_after-push before block axis =
-      ap (λ ends. unwrap_or (last_or None ends) (start_position job axis)) (filter_map-append (λ b. programmed job channel b.stmt axis) before (block ∷ []))
-      ∙ pushed (filter_map (λ b. programmed job channel b.stmt axis) before) (programmed job channel block.stmt axis) None
-    where
-      pushed : (ends : List ℤ) (end : Option ℤ) (o : Option ℤ)
-          → unwrap_or (last_or o (ends ++ cons_option end [])) (start_position job axis) ≡ unwrap_or end (unwrap_or (last_or o ends) (start_position job axis))
-      pushed [] None o = refl
-      pushed [] (Some to) o = refl
-      pushed (e ∷ ends) end o = pushed ends end (Some e)
+-- none are left
+pub left_at_done : (items : List Item) (k : ℕ) → length items ≤ k → (before : ℕ → ℤ) (axis : ℕ) → left_at (drop k items) before axis ≡ before axis
+left_at_done items k over before axis = ap (λ (xs : List Item). left_at xs before axis) (drop_of_length-le items over) ∙ left_at-nil before axis
 
 -- ---- motions that join
 
--- a motion is straight, begins where its axes stand, and leaves them at its ends; they are axes below n
-abbrev pub Joins : ℕ → (ℕ → ℤ) → Item → Type 0
-Joins n at item = IsStraight item.motion × All (λ e. (e.0 < n) × (e.1 ≡ at e.0) × (e.2 ≡ after item at e.0)) (axes_of item.motion)
+-- a motion is straight, begins where its axes stand, and leaves them at its ends
+abbrev pub Joins : (ℕ → ℤ) → Item → Type 0
+Joins at item = IsStraight item.motion × All (λ e. (e.1 ≡ at e.0) × (e.2 ≡ after item at e.0)) (axes_of item.motion)
 
-abbrev pub AllJoin : ℕ → (ℕ → ℤ) → List Item → Type 0
-AllJoin n at [] = ⊤
-AllJoin n at (item ∷ items) = Joins n at item × AllJoin n (after item at) items
+-- so does each of them, one after the other
+abbrev pub AllJoin : (ℕ → ℤ) → List Item → Type 0
+AllJoin at [] = ⊤
+AllJoin at (item ∷ items) = Joins at item × AllJoin (after item at) items
 
-module _ (job : JobView) (channel : ℕ) where
-  -- what is left to do of a list of blocks after one of them
-  abbrev Rest : List Block → List Block → Type 0
-  Rest before blocks = (at : ℕ → ℤ) → ((axis : ℕ) → axis < length job.axes → at axis ≡ position_after job channel before axis)
-      → AllJoin (length job.axes) at (items_after job channel before blocks)
-
-  join_step : (before blocks : List Block) (line : ℕ) (stmt : Stmt) → Rest (before ++ (record { line = line; stmt = stmt }) ∷ []) blocks
-      → Rest before ((record { line = line; stmt = stmt }) ∷ blocks)
-  unfolding item_from end_from ends_from programmed
-  join_step before blocks line (Move x z) rest at same =
-      let block : Block = record { line = line; stmt = Move x z } in
-      let item : Item = record { line = line; motion = Line (record { axes = ends_from job channel (position_after job channel before) (Move x z) }) } in
-      let left : (axis : ℕ) → axis < length job.axes → after item at axis ≡ unwrap_or (programmed job channel (Move x z) axis) (at axis) =
-      λ axis within. after_is item at axis ∙ ap (λ o. unwrap_or o (at axis)) (item_end job channel before block axis within) in (
-        (
-          tt,
-          ends_all (λ e. (e.0 < length job.axes) × (e.1 ≡ at e.0) × (e.2 ≡ after item at e.0)) (position_after job channel before) (programmed job channel (Move x z)) 0 (length job.axes)
-              (λ axis to within is. (omega arith, sym (same axis (omega arith)), sym (left axis (omega arith) ∙ ap (λ o. unwrap_or o (at axis)) is))),
-        ),
-        rest (after item at) (λ axis within. left axis within ∙ ap (unwrap_or (programmed job channel (Move x z) axis)) (same axis within) ∙ sym (position_after-push job channel before block axis)),
-      )
-  join_step before blocks line End rest at same =
-      rest at (λ axis within. same axis within ∙ sym (position_after-push job channel before (record { line = line; stmt = End }) axis))
-
-  -- the motions of blocks join, whatever blocks came before
-  pub AllJoin-items_after : (before blocks : List Block) → Rest before blocks
-  AllJoin-items_after before [] at same = tt
-  AllJoin-items_after before (block ∷ blocks) at same = join_step before blocks block.line block.stmt (AllJoin-items_after (before ++ block ∷ []) blocks) at same
-
-Joins-same : (n : ℕ) (p q : ℕ → ℤ) → ((axis : ℕ) → p axis ≡ q axis) → (item : Item) → Joins n p item → Joins n q item
-Joins-same n p q same item joins = (
+Joins-same : (p q : ℕ → ℤ) → ((axis : ℕ) → p axis ≡ q axis) → (item : Item) → Joins p item → Joins q item
+Joins-same p q same item joins = (
   joins.0,
-  All-weaker (λ e. (e.0 < n) × (e.1 ≡ p e.0) × (e.2 ≡ after item p e.0)) (λ e. (e.0 < n) × (e.1 ≡ q e.0) × (e.2 ≡ after item q e.0))
-      (λ e joined. (joined.0, joined.1 ∙ same e.0, joined.2 ∙ after_is item p e.0 ∙ ap (unwrap_or (end_in e.0 item)) (same e.0) ∙ sym (after_is item q e.0)))
+  All-weaker (λ e. (e.1 ≡ p e.0) × (e.2 ≡ after item p e.0)) (λ e. (e.1 ≡ q e.0) × (e.2 ≡ after item q e.0))
+      (λ e joined. (joined.0 ∙ same e.0, joined.1 ∙ after_is item p e.0 ∙ ap (unwrap_or (end_in e.0 item)) (same e.0) ∙ sym (after_is item q e.0)))
       (axes_of item.motion) joins.1,
 )
 
 -- each of them joins onto those before it
-pub joins_at : (n : ℕ) (at : ℕ → ℤ) (items : List Item) → AllJoin n at items → (place : ℕ) (item : Item) → slice_get items place ≡ Some item
-    → Joins n (left_at (take place items) at) item
-joins_at n at [] joins place item is = absurd cc
-joins_at n at (first ∷ items) joins zero item is =
+pub joins_at : (at : ℕ → ℤ) (items : List Item) → AllJoin at items → (place : ℕ) (item : Item) → slice_get items place ≡ Some item
+    → Joins (left_at (take place items) at) item
+joins_at at [] joins place item is = absurd cc
+joins_at at (first ∷ items) joins zero item is =
     let same : first ≡ item = cc in
-    subst (λ i. Joins n (left_at [] at) i) same (Joins-same n at (left_at [] at) (λ axis. sym (left_at-nil at axis)) first joins.0)
-joins_at n at (first ∷ items) joins (suc place) item is =
-    Joins-same n (left_at (take place items) (after first at)) (left_at (first ∷ take place items) at)
-    (λ axis. sym (left_at-cons first (take place items) at axis)) item (joins_at n (after first at) items joins.1 place item is)
+    subst (λ i. Joins (left_at [] at) i) same (Joins-same at (left_at [] at) (λ axis. sym (left_at-nil at axis)) first joins.0)
+joins_at at (first ∷ items) joins (suc place) item is =
+    Joins-same (left_at (take place items) (after first at)) (left_at (first ∷ take place items) at)
+    (λ axis. sym (left_at-cons first (take place items) at axis)) item (joins_at (after first at) items joins.1 place item is)
 
 -- and begins where they left the axes
-pub begins_at_left : (n : ℕ) (at : ℕ → ℤ) (items : List Item) → AllJoin n at items → (place : ℕ) (item : Item) → slice_get items place ≡ Some item
+pub begins_at_left : (at : ℕ → ℤ) (items : List Item) → AllJoin at items → (place : ℕ) (item : Item) → slice_get items place ≡ Some item
     → All (λ e. e.1 ≡ left_at (take place items) at e.0) (axes_of item.motion)
-begins_at_left n at items joins place item is =
-    All-weaker (λ e. (e.0 < n) × (e.1 ≡ left_at (take place items) at e.0) × (e.2 ≡ after item (left_at (take place items) at) e.0))
-    (λ e. e.1 ≡ left_at (take place items) at e.0) (λ e joined. joined.1) (axes_of item.motion) (joins_at n at items joins place item is).1
+begins_at_left at items joins place item is =
+    All-weaker (λ e. (e.1 ≡ left_at (take place items) at e.0) × (e.2 ≡ after item (left_at (take place items) at) e.0))
+    (λ e. e.1 ≡ left_at (take place items) at e.0) (λ e joined. joined.0) (axes_of item.motion) (joins_at at items joins place item is).1

@@ -1,5 +1,5 @@
 -- Laws of rows of numbers.
-use Rattle.std.proofs.Common.{◌≡◌, ℕ, zero, suc, ◌+◌, List, [], ◌∷◌, ◌++◌, refl, ap, sym, ◌∙◌, add-one, zero-add, add_comm, append-nil, arith, Option, None, Some, map, length, get_or}
+use Rattle.std.proofs.Common.{◌≡◌, ℕ, zero, suc, ◌+◌, List, [], ◌∷◌, ◌++◌, refl, ap, ◌∙◌, add-one, zero-add, add_comm, append-nil, arith, Option, None, Some, map, length, get_or}
 use Rattle.std.specs.Option.{option_to_list}
 use Rattle.std.proofs.Common.{ℤ, w32}
 use Rattle.std.proofs.lemmas.Int.{to_z-of_z}

@@ -1,5 +1,5 @@
 -- An accepted job can be run.
-use Rattle.std.proofs.Common.{◌≡◌, ℕ, ℤ, ◌<◌, All, List, [], ◌∷◌, Option, None, Some, IfSome, IfOk, Result, Ok, Err, refl}
+use Rattle.std.proofs.Common.{◌≡◌, ℕ, ℤ, List, Option, None, Some, IfSome, IfOk, Result, Ok, Err, refl, arith}
 use Rattle.nc_faults.specs.declared.Refusal.{Refusal}
 use Rattle.tape_job.proofs.SoundJobs.{accepted_sound}
 use Rattle.tape_job.specs.Job.{JobView}
@@ -8,7 +8,7 @@ use Rattle.tape_job.specs.SoundJob.{IsSoundJob, IsSoundStatement, IsSoundEnd}
 use Rattle.tape_job.specs.declared.job.Stmt.{Stmt}
 use Rattle.tape_job.specs.declared.job.Stmt.TheVariants.{Move, End}
 use Rattle.path_geometry.specs.Motions.{IsInRange}
-use Rattle.turnmill.specs.Channels.{HasFewAxes, IsInReach, IsRunnable}
+use Rattle.turnmill.specs.Channels.{IsInReach, IsRunnable}
 
 end_in_range : (job : JobView) (name : List ℕ) (slot : ℕ) (o : Option ℤ) → IfSome o (IsSoundEnd job name slot) → IfSome o IsInRange
 end_in_range job name slot None h = tt
@@ -23,6 +23,7 @@ runnable job sound = record {
   axes = record { few = sound.few_axes; slots = sound.slot_axes };
   starts = sound.positions;
   values = λ k program within j block inside. statement_in_reach job _ _ ((sound.programs k program within).statements j block inside);
+  few = λ k program within. let short = (sound.programs k program within).few in omega arith;
 }
 
 -- what an input is read as is a job in which all this holds, or no job

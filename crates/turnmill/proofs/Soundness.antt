@@ -1,14 +1,12 @@
 -- The verdict YES is sound at all speeds.
-use Rattle.std.proofs.Common.{◌≡◌, ◌≢◌, ◌⊎◌, ◌∙◌, ℕ, zero, suc, ℤ, pos, ◌*ℤ◌, ◌<◌, Bool, true, false, cond, ◌||◌, ◌==◌, List, [], ◌∷◌, length, get_or, find, Option, None, Some, option_and_then, IfSome, IsSomeAnd, slice_get, All, Contains, inl, inr, refl, sym, ap, subst, arith}
+use Rattle.std.proofs.Common.{◌≡◌, ◌≢◌, ◌⊎◌, ◌∙◌, ℕ, zero, suc, ℤ, pos, ◌*ℤ◌, ◌<◌, Bool, true, false, cond, ◌||◌, ◌==◌, List, [], ◌∷◌, length, get_or, find, Option, None, Some, IfSome, IsSomeAnd, All, Contains, inl, inr, refl, sym, ap, subst, arith}
 use Rattle.std.proofs.lemmas.Bool.{false≢true, eqb-true, eq-eqb, cases_Bool}
 use Rattle.std.proofs.lemmas.List.Elements.{All-head, All-tail, All-contains}
-use Rattle.std.proofs.lemmas.Option.{slice_get_within}
 use Rattle.std.specs.Prelude.{Result, Ok, Err, IfOk}
 use Rattle.std.specs.List.{list_any}
 use Rattle.number_laws.specs.Fractions.{Fraction, IsIn}
 use Rattle.swept_boxes.specs.Boxes.{SpacePoint, IsInBox}
 use Rattle.tape_job.specs.Job.{JobView}
-use Rattle.tape_job.specs.declared.job.AxisLine.{AxisLine}
 use Rattle.tape_job.specs.declared.job.ChannelLine.{ChannelLine}
 use Rattle.tape_job.specs.declared.job.Side.{Side}
 use Rattle.tape_job.specs.declared.job.ZoneLine.{ZoneLine}
@@ -16,14 +14,16 @@ use Rattle.turnmill.proofs.CoverLemmas.{Covers, box_covers, standing_covers}
 use Rattle.turnmill.proofs.OwnerLemmas.{one_owner}
 use Rattle.turnmill.proofs.PairLemmas.{is_in_order, some_zone_pair, IsCurrent, IsCut-own_clock, HasBox, some_box_pair, pair_is}
 use Rattle.turnmill.proofs.PieceLemmas.{AxesWithin, some_piece}
-use Rattle.turnmill.proofs.PositionLemmas.{AllJoin, AllJoin-items_after, left_at-items_after}
+use Rattle.turnmill.proofs.Runs.{motions_join}
 use Rattle.turnmill.proofs.SomeLemmas.{SomeOf, SomeOf-weaker, SomeOf-flat_map, none_found, found_passes}
 use Rattle.turnmill.proofs.StateLemmas.{WellPlaced, well_placed, WellPlaced-opening, run_place, end_place, first_span_of, later_span_of, board_last, one_under}
+use Rattle.turnmill.proofs.VerdictLemmas.{none_meets}
 use Rattle.turnmill.proofs.ZoneLemmas.{FractionsWithin, in_zone_box}
-use Rattle.turnmill.specs.Channels.{start_position, position_after, blocks_of, items_of}
-use Rattle.turnmill.specs.Clash.{own_clock, zones_in_order, zone_pairs, BoxPlace, pairs_of_zones, compared_pairs, depth_of, pair_meets, verdict_of}
+use Rattle.turnmill.specs.Channels.{start_position, items_of}
+use Rattle.turnmill.specs.Clash.{own_clock, zones_in_order, zone_pairs, pairs_of_zones, compared_pairs, depth_of, pair_meets, verdict_of}
 use Rattle.turnmill.specs.Safety.{axis_owner, axis_position, fraction_of, IsInZone, ZonesMeet, NoneMeet, SafeAlways}
-use Rattle.turnmill.specs.SmallSteps.{left_at, StandsAt, IsAtPlace, Spot, State, opening, span_of, has_ended, motions_of, board_position, beginning, present, reached}
+use Rattle.turnmill.specs.LeftAt.{left_at}
+use Rattle.turnmill.specs.SmallSteps.{StandsAt, IsAtPlace, Spot, State, opening, span_of, has_ended, motions_of, board_position, beginning, present, reached}
 use Rattle.tape_job.specs.SoundJob.{IsDeclared, first_owner, IsCarriedBy, IsSoundZone, IsSoundJob}
 use Rattle.turnmill.specs.Stretches.{Stretch, channel_line, spans_of, stretches_from, stretches_of}
 use Rattle.turnmill.specs.ZoneBoxes.{is_carrier, has_axis, PlaceBox, boxes_of, piece_boxes}
@@ -51,11 +51,6 @@ motions_are : (job : JobView) (channel : ℕ) (line : ChannelLine) → channel_l
 unfolding motions_of
 motions_are job channel line is = rw is refl
 
--- the motions of a channel join, from where the job puts its axes
-pub motions_join : (job : JobView) (line : ChannelLine) → AllJoin (length job.axes) (start_position job) (items_of job line)
-unfolding items_of position_after
-motions_join job line = AllJoin-items_after job line.channel [] (blocks_of job line) (start_position job) (λ axis within. refl)
-
 -- ---- axes of a zone
 
 carried_side : {X : Type 0} (P : X → Type 0) (test : X → Bool) (xs : List X) → All P xs → list_any test xs ≡ true → (x : X) × P x × (test x ≡ true)
@@ -78,14 +73,6 @@ carrier_owned job zone sound axis has = by_side (carried_side (IsCarriedBy job z
     by_side : (side : Side) × IsCarriedBy job zone.holder side × (is_carrier axis side.carrier ≡ true) → first_owner job axis ≡ zone.holder
     by_side (side, owned, is) = by_carrier side.carrier owned is
 
-owned_within : (job : JobView) (axis channel : ℕ) → first_owner job axis ≡ Some channel → axis < length job.axes
-unfolding first_owner
-owned_within job axis channel owned = by_line (slice_get job.axes axis) refl owned
-  where
-    by_line : (o : Option AxisLine) → slice_get job.axes axis ≡ o → option_and_then (λ line. line.owner) o ≡ Some channel → axis < length job.axes
-    by_line None is owned = absurd cc
-    by_line (Some line) is owned = slice_get_within job.axes axis line is
-
 -- ---- where a zone is
 
 stretches_are : (job : JobView) (zone : ZoneLine) (channel : ℕ) (line : ChannelLine) → zone.holder ≡ Some channel → channel_line job channel ≡ Some line
@@ -93,15 +80,13 @@ stretches_are : (job : JobView) (zone : ZoneLine) (channel : ℕ) (line : Channe
 unfolding stretches_of
 stretches_are job zone channel line held is = rw (held, is) refl
 
--- an ended channel stands where its last span begins: its motions leave its axes where its blocks do
+-- an ended channel stands where its last span begins, which is where its motions leave its axes
 ended_position : (job : JobView) (state : State) (channel : ℕ) (line : ChannelLine) → channel_line job channel ≡ Some line → has_ended state channel ≡ true
-    → (axis : ℕ) → axis < length job.axes → board_position job state channel axis ≡ position_after job line.channel (blocks_of job line) axis *ℤ pos 1
-unfolding items_of
-ended_position job state channel line is e axis within =
+    → (axis : ℕ) → board_position job state channel axis ≡ left_at (items_of job line) (start_position job) axis *ℤ pos 1
+ended_position job state channel line is e axis =
     ap (λ (p : ℕ → ℤ). p axis) (board_last job state channel e)
     ∙ ap (λ items. left_at items (start_position job) axis) (motions_are job channel line is)
-    ∙ left_at-items_after job line.channel axis within (blocks_of job line)
-    ∙ one_under (position_after job line.channel (blocks_of job line) axis)
+    ∙ one_under (left_at (items_of job line) (start_position job) axis)
 
 -- some box of a current stretch of the zone covers its axes where its holder is
 zone_has_box : (job : JobView) (state : State) → WellPlaced job state → (zone : ZoneLine) → IsSoundZone job zone → (channel : ℕ) → zone.holder ≡ Some channel
@@ -119,7 +104,7 @@ zone_has_box job state placed zone sound channel held line is = by_ended (cases_
     running : has_ended state channel ≡ false → Goal (stretches_from zone channel 0 (spans_of job line))
     running e =
         let motions = motions_are job channel line is in
-        let covered = box_covers zone (length job.axes) (start_position job) (items_of job line) (motions_join job line) spot.place spot.point
+        let covered = box_covers zone (start_position job) (items_of job line) (motions_join job line) spot.place spot.point
         (subst (λ (items : List Item). IsAtPlace (start_position job) items spot.place spot.point) motions (run_place job state channel placed e)) in
         let first = first_span_of state channel e in
         (covered.0, inl (record { begun = tt; not_over = omega arith }, covered.1))
@@ -128,9 +113,9 @@ zone_has_box job state placed zone sound channel held line is = by_ended (cases_
     ended e =
         let here = end_place job state channel placed e in
         let later = later_span_of state channel e in
-        let at = position_after job line.channel (blocks_of job line) in
+        let at = left_at (items_of job line) (start_position job) in
         let stands : (axis : ℕ) → has_axis zone axis ≡ true → StandsAt (record { top = board_position job state channel; under = 1 }) axis (at axis) =
-        λ axis has. ended_position job state channel line is e axis (owned_within job axis channel (carrier_owned job zone sound axis has ∙ held)) in (
+        λ axis has. ended_position job state channel line is e axis in (
           subst (λ (s : Spot). 0 < s.point.under) (sym here) (omega arith),
           inr (inl (
             record { begun = omega arith; not_over = tt },
@@ -183,14 +168,6 @@ zone_in_pieces job state placed zone sound point in_zone = by_holder zone.holder
 
 -- ---- the verdict
 
-no_pair_meets : (job : JobView) → verdict_of job ≡ Yes → find (pair_meets job) (compared_pairs job) ≡ None
-unfolding verdict_of
-no_pair_meets job says = by_found (find (pair_meets job) (compared_pairs job)) refl
-  where
-    by_found : (o : Option (BoxPlace × BoxPlace)) → find (pair_meets job) (compared_pairs job) ≡ o → find (pair_meets job) (compared_pairs job) ≡ None
-    by_found None is = is
-    by_found (Some pair) is = let named = rw is at says in absurd cc
-
 -- two zones of different groups are compared in every state, and what meets there is a pair that meets
 zones_meet_in_pair : (job : JobView) → IsSoundJob job → (state : State) → WellPlaced job state → (zone other : ZoneLine) → Contains job.zones zone → Contains job.zones other
     → zone.group ≢ other.group → ZonesMeet job state zone other → SomeOf (λ pair. pair_meets job pair ≡ true) (compared_pairs job)
@@ -220,7 +197,7 @@ unfolding NoneMeet
 sound_at_all_speeds job sound says = record {
   one_owner = λ steps lawful. one_owner job sound (reached opening steps);
   none_meet = λ steps lawful zone other in_job in_job' apart on on' meet.
-      none_found (pair_meets job) (compared_pairs job) (no_pair_meets job says)
+      none_found (pair_meets job) (compared_pairs job) (none_meets job says)
       (zones_meet_in_pair job sound (reached opening steps) (well_placed job opening steps (WellPlaced-opening job) lawful) zone other in_job in_job' apart meet);
 }
 

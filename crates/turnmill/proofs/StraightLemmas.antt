@@ -1,16 +1,9 @@
 -- The boxes of a job's zones belong to straight motions.
 use Rattle.std.proofs.Common.{ℕ, ℤ, ◌+◌, Bool, true, false, cond, List, [], ◌∷◌, ◌++◌, Option, None, Some}
 use Rattle.std.specs.Prelude.{⊤}
-use Rattle.std.specs.List.{cons_option}
-use Rattle.path_geometry.specs.declared.motion.Motion.TheVariants.{Line}
-use Rattle.tape_job.specs.Job.{JobView}
-use Rattle.tape_job.specs.declared.job.Block.{Block}
-use Rattle.tape_job.specs.declared.job.ChannelLine.{ChannelLine}
-use Rattle.tape_job.specs.declared.job.Stmt.{Stmt}
-use Rattle.tape_job.specs.declared.job.Stmt.TheVariants.{Move, End}
 use Rattle.tape_job.specs.declared.job.ZoneLine.{ZoneLine}
-use Rattle.turnmill.specs.Channels.{position_after, item_from, items_after, items_of, blocks_of}
-use Rattle.turnmill.specs.ZoneBoxes.{IsStraight, PlaceBox, Opened, Waiting, Moving, close, closed, next_open, walk, boxes_of, after, moves_zone}
+use Rattle.turnmill.proofs.PositionLemmas.{AllJoin}
+use Rattle.turnmill.specs.ZoneBoxes.{IsStraight, PlaceBox, Opened, Waiting, Moving, closed, next_open, walk, boxes_of, after, moves_zone}
 use Rattle.turnmill.specs.declared.channels.Item.{Item}
 
 -- ---- motions
@@ -19,29 +12,14 @@ abbrev pub AllStraight : List Item → Type 0
 AllStraight [] = ⊤
 AllStraight (item ∷ items) = IsStraight item.motion × AllStraight items
 
+-- motions that join are straight
+pub joined_straight : (at : ℕ → ℤ) (items : List Item) → AllJoin at items → AllStraight items
+joined_straight at [] joins = tt
+joined_straight at (item ∷ items) joins = (joins.0.0, joined_straight (after item at) items joins.1)
+
 abbrev pub OfItem : Option Item → Type 0
 OfItem None = ⊤
 OfItem (Some item) = IsStraight item.motion
-
-cons_straight : (o : Option Item) (items : List Item) → OfItem o → AllStraight items → AllStraight (cons_option o items)
-cons_straight None items here rest = rest
-cons_straight (Some item) items here rest = (here, rest)
-
-item_straight : (job : JobView) (channel : ℕ) (at : ℕ → ℤ) (line : ℕ) (stmt : Stmt) → OfItem (item_from job channel at (record { line = line; stmt = stmt }))
-unfolding item_from
-item_straight job channel at line (Move x z) = tt
-item_straight job channel at line End = tt
-
-items_after_straight : (job : JobView) (channel : ℕ) (before blocks : List Block) → AllStraight (items_after job channel before blocks)
-items_after_straight job channel before [] = tt
-items_after_straight job channel before (block ∷ blocks) =
-    cons_straight (item_from job channel (position_after job channel before) block) (items_after job channel (before ++ block ∷ []) blocks)
-    (item_straight job channel (position_after job channel before) block.line block.stmt) (items_after_straight job channel (before ++ block ∷ []) blocks)
-
--- the motions of a channel are straight
-pub items_straight : (job : JobView) (line : ChannelLine) → AllStraight (items_of job line)
-unfolding items_of
-items_straight job line = items_after_straight job line.channel [] (blocks_of job line)
 
 -- ---- boxes
 

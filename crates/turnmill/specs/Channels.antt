@@ -5,13 +5,14 @@ use Rattle.std.specs.Option.{option_map, option_map_or, option_and_then}
 use Rattle.std.specs.Map.{lookup}
 use Rattle.std.specs.Str.{bytes_eq}
 use Rattle.path_geometry.specs.Motions.{IsInRange}
-use Rattle.path_geometry.specs.declared.motion.Motion.{Motion}
 use Rattle.path_geometry.specs.declared.motion.Motion.TheVariants.{Line}
 use Rattle.tape_job.specs.Job.{JobView, ProgramView}
 use Rattle.tape_job.specs.declared.job.ChannelLine.{ChannelLine}
 use Rattle.tape_job.specs.declared.job.Block.{Block}
 use Rattle.tape_job.specs.declared.job.Stmt.{Stmt}
 use Rattle.tape_job.specs.declared.job.Stmt.TheVariants.{Move, End}
+use Rattle.turnmill.specs.declared.channels.ChannelEnd.{ChannelEnd}
+use Rattle.turnmill.specs.declared.channels.ChannelEnd.TheVariants.{Ended}
 use Rattle.turnmill.specs.declared.channels.Item.{Item}
 
 -- the program of this name
@@ -49,11 +50,12 @@ abbrev pub IsInReach : Stmt → Type 0
 IsInReach (Move x z) = IfSome x IsInRange × IfSome z IsInRange
 IsInReach End = ⊤
 
--- the job can be run: its axes start in range, and its blocks program positions in range
+-- the job can be run: its axes start in range, and its programs have few blocks, which program positions in range
 pub record IsRunnable (job : JobView) : Type 0 where
   pub axes : HasFewAxes job
   pub starts : All (λ line. IsInRange line.at) job.axes
   pub values : All (λ program. All (λ block. IsInReach block.stmt) program.1.blocks) job.programs
+  pub few : All (λ program. length program.1.blocks ≤ 100000) job.programs
 
 -- a row of positions says where each axis is; beyond the row it is at 0
 abbrev pub positions_in : List ℤ → ℕ → ℤ
@@ -97,5 +99,6 @@ is_end End = true
 unfoldable pub end_line_in : List Block → ℕ
 end_line_in blocks = option_map_or (λ block. block.line) (find (λ block. is_end block.stmt) blocks) 0
 
-abbrev pub end_line : JobView → ChannelLine → ℕ
-end_line job line = end_line_in (blocks_of job line)
+-- how the run of a channel ends: with its program, whose blocks cause no alarm
+abbrev pub end_of : JobView → ChannelLine → ChannelEnd
+end_of job line = Ended (end_line_in (blocks_of job line))

@@ -1,19 +1,22 @@
 -- Which boxes are compared, and the verdict.
-use Rattle.std.specs.Prelude.{ℕ, ℤ, ◌+◌, ◌==◌, ◌&&◌, not, nat_lt, Bool, true, false, if◌then◌else◌, List, [], ◌∷◌, ◌++◌, map, length, Option, None, Some, find, filter}
+use Rattle.std.specs.Prelude.{ℕ, ◌==◌, ◌&&◌, not, nat_lt, Bool, true, if◌then◌else◌, List, [], ◌∷◌, ◌++◌, map, length, Option, None, Some, find, filter}
 use Rattle.std.specs.Int.{int_max, int_min}
 use Rattle.std.specs.Int.RustNames.{int_le}
-use Rattle.std.specs.List.{flat_map, filter_map, range_with_len, list_all, list_any, zip}
-use Rattle.std.specs.Option.{option_map_or}
+use Rattle.std.specs.List.{flat_map, filter_map, range_with_len, list_any}
+use Rattle.std.specs.Option.{option_map, option_map_or, option_and_then}
+use Rattle.nc_faults.specs.declared.Alarm.{Alarm}
 use Rattle.swept_boxes.specs.Boxes.{low_of, high_of}
 use Rattle.swept_boxes.specs.declared.Box3.{Box3}
 use Rattle.tape_job.specs.Job.{JobView}
 use Rattle.tape_job.specs.declared.job.ZoneLine.{ZoneLine}
 use Rattle.turnmill.specs.ZoneBoxes.{PlaceBox, piece_boxes}
+use Rattle.turnmill.specs.ChannelRun.{RunView, runs_of, run_in, alarm_in}
+use Rattle.turnmill.specs.FirstAnswer.{first_some}
 use Rattle.turnmill.specs.Stretches.{Event, Stretch, stretches_of}
-use Rattle.turnmill.specs.declared.channels.Item.{Item}
 use Rattle.turnmill.specs.declared.stretches.PlaceName.{PlaceName}
 use Rattle.turnmill.specs.declared.stretches.Verdict.{Verdict}
-use Rattle.turnmill.specs.declared.stretches.Verdict.TheVariants.{Yes, No}
+use Rattle.turnmill.specs.declared.stretches.Verdict.TheVariants.{Yes, No, Undecided}
+use Rattle.turnmill.specs.declared.stretches.Verdict.TheVariants as verdicts
 
 -- how many events of the other channel are this event or before it, by channel, place and other channel
 abbrev pub Clock : Type 0
@@ -89,10 +92,38 @@ pair_meets job pair = list_any (λ left. list_any (λ right. boxes_meet left rig
 unfoldable pub name_of : BoxPlace → PlaceName
 name_of place = record { zone = place.zone.zone; channel = place.stretch.channel; kind = place.stretch.kind; line = option_map_or (λ item. item.line) place.box.motion place.stretch.line }
 
--- the verdict: the first compared pair that meets, or YES
-unfoldable pub verdict_of : JobView → Verdict
-verdict_of job = verdict_by (find (pair_meets job) (compared_pairs job))
+-- how many pairs of boxes may be compared
+abbrev pub budget_of : JobView → ℕ
+budget_of job = 1000000
+
+-- the alarm that stops a channel, if there is a run of it that ends with one
+unfoldable pub alarm_of : List RunView → ℕ → Option Alarm
+alarm_of runs channel = option_and_then (λ run. alarm_in run.end) (run_in runs channel)
+
+-- the channel with this alarm
+abbrev pub stop_of : List RunView → ℕ → Option (ℕ × Alarm)
+stop_of runs channel = option_map (λ alarm. (channel, alarm)) (alarm_of runs channel)
+
+-- the lowest channel that an alarm stops, with the alarm
+unfoldable pub first_alarm : List RunView → Option (ℕ × Alarm)
+first_alarm runs = first_some (stop_of runs) (range_with_len 1 8)
+
+-- NO with the first compared pair that meets, or YES
+unfoldable pub pairs_verdict : JobView → Verdict
+pairs_verdict job = verdict_by (find (pair_meets job) (compared_pairs job))
   where
     verdict_by : Option (BoxPlace × BoxPlace) → Verdict
     verdict_by None = Yes
     verdict_by (Some pair) = No (name_of pair.0) (name_of pair.1)
+
+-- UNDECIDED where more pairs are to be compared than may be, and else NO or YES
+unfoldable pub boxes_verdict : JobView → Verdict
+boxes_verdict job = if nat_lt (budget_of job) (pair_count job) then Undecided (pair_count job) (budget_of job) else pairs_verdict job
+
+-- the verdict, the first that fits: ALARM where a channel is stopped, UNDECIDED, NO, YES
+unfoldable pub verdict_of : JobView → Verdict
+verdict_of job = verdict_by (first_alarm (runs_of job))
+  where
+    verdict_by : Option (ℕ × Alarm) → Verdict
+    verdict_by (Some stopped) = verdicts.Alarm stopped.0 stopped.1
+    verdict_by None = boxes_verdict job

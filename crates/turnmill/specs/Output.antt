@@ -10,7 +10,8 @@ use Rattle.turnmill.specs.Report.{report_bytes, refusal_bytes}
 use Rattle.turnmill.specs.declared.check.Status.{Status}
 use Rattle.turnmill.specs.declared.check.Status.TheVariants as ends
 use Rattle.turnmill.specs.declared.stretches.Verdict.{Verdict}
-use Rattle.turnmill.specs.declared.stretches.Verdict.TheVariants.{Yes, No}
+use Rattle.turnmill.specs.declared.stretches.Verdict.TheVariants.{Yes, No, Undecided}
+use Rattle.turnmill.specs.declared.stretches.Verdict.TheVariants as verdicts
 
 pub record Output : Type 0 where
   pub status : Status
@@ -20,6 +21,8 @@ pub record Output : Type 0 where
 abbrev pub status_of : Verdict → Status
 status_of Yes = ends.Yes
 status_of (No first second) = ends.No
+status_of (Undecided count budget) = ends.Undecided
+status_of (verdicts.Alarm channel alarm) = ends.Alarm
 
 -- a job calls for its report, a refusal for its line
 unfoldable pub output_by : Result JobView Refusal → Output
@@ -49,6 +52,8 @@ IsVerdict status = ⊥
 abbrev pub IsReadWhole : Status → Type 0
 IsReadWhole ends.Yes = ⊤
 IsReadWhole ends.No = ⊤
+IsReadWhole ends.Alarm = ⊤
+IsReadWhole ends.Undecided = ⊤
 IsReadWhole ends.Refused = ⊤
 IsReadWhole status = ⊥
 

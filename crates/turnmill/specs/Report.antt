@@ -1,22 +1,26 @@
 -- The report of a job, and the line of a refused input. Each line ends with a line feed, and its words are separated by one blank.
-use Rattle.std.specs.Prelude.{ℕ, ℤ, pos, negsuc, suc, ◌==◌, nat_lt, if◌then◌else◌, ◌/◌, ◌%◌, List, [], ◌++◌, Option, unwrap_or, find, slice_get, codes, encode_utf8}
+use Rattle.std.specs.Prelude.{ℕ, ℤ, pos, negsuc, suc, nat_lt, if◌then◌else◌, ◌/◌, ◌%◌, List, [], ◌++◌, unwrap_or, slice_get, codes, encode_utf8}
 use Rattle.std.specs.Fmt.{decimal}
 use Rattle.std.specs.List.{flat_map, range_with_len}
 use Rattle.std.specs.Option.{option_map_or}
-use Rattle.nc_faults.specs.Texts.{refusal_text_of}
+use Rattle.nc_faults.specs.Texts.{refusal_text_of, alarm_text_of}
+use Rattle.nc_faults.specs.declared.Alarm.{Alarm}
 use Rattle.nc_faults.specs.declared.Refusal.{Refusal}
 use Rattle.path_geometry.specs.declared.motion.Arc.{Arc}
 use Rattle.path_geometry.specs.declared.motion.Motion.{Motion}
 use Rattle.path_geometry.specs.declared.motion.Motion.TheVariants.{Line, Rapid}
 use Rattle.path_geometry.specs.declared.motion.Motion.TheVariants as Kind
 use Rattle.tape_job.specs.Job.{JobView}
-use Rattle.turnmill.specs.ChannelRun.{RunView}
+use Rattle.turnmill.specs.ChannelRun.{RunView, run_in}
+use Rattle.turnmill.specs.declared.channels.ChannelEnd.{ChannelEnd}
+use Rattle.turnmill.specs.declared.channels.ChannelEnd.TheVariants.{Ended, Alarmed}
 use Rattle.turnmill.specs.declared.channels.Item.{Item}
 use Rattle.turnmill.specs.declared.stretches.PlaceName.{PlaceName}
 use Rattle.turnmill.specs.declared.stretches.StretchKind.{StretchKind}
 use Rattle.turnmill.specs.declared.stretches.StretchKind.TheVariants.{Run, End}
 use Rattle.turnmill.specs.declared.stretches.Verdict.{Verdict}
-use Rattle.turnmill.specs.declared.stretches.Verdict.TheVariants.{Yes, No}
+use Rattle.turnmill.specs.declared.stretches.Verdict.TheVariants.{Yes, No, Undecided}
+use Rattle.turnmill.specs.declared.stretches.Verdict.TheVariants as verdicts
 
 -- so many micrometres, as millimetres with three decimals
 unfoldable pub millimetres_text : ℕ → List ℕ
@@ -58,17 +62,18 @@ motion_text job (Kind.Arc arc) = arc_text job arc
 unfoldable pub motion_line : JobView → Item → List ℕ
 motion_line job item = decimal item.line ++ (codes " " ++ (motion_text job item.motion ++ codes "\n"))
 
--- the trace line of the program end at this line of the input, and the state of its channel
-unfoldable pub end_lines : ℕ → List ℕ
-end_lines line = decimal line ++ (codes " END\nSTATE ENDED " ++ (decimal line ++ codes "\n"))
+-- the state of a channel that an alarm stopped
+unfoldable pub alarm_line : Alarm → List ℕ
+alarm_line alarm = codes "STATE ALARM " ++ (decimal alarm.line ++ (codes " " ++ (decimal alarm.code ++ (codes " " ++ (alarm_text_of alarm.code ++ codes "\n")))))
+
+-- the trace line of the program end and the state of its channel, or the state of a channel that an alarm stopped
+unfoldable pub end_lines : ChannelEnd → List ℕ
+end_lines (Ended line) = decimal line ++ (codes " END\nSTATE ENDED " ++ (decimal line ++ codes "\n"))
+end_lines (Alarmed alarm) = alarm_line alarm
 
 -- the lines of a channel
 unfoldable pub channel_lines : JobView → RunView → List ℕ
-channel_lines job run = codes "CHANNEL " ++ (decimal run.channel ++ (codes "\n" ++ (flat_map (motion_line job) run.items ++ end_lines run.end_line)))
-
--- the run of a channel
-unfoldable pub run_in : List RunView → ℕ → Option RunView
-run_in runs channel = find (λ run. run.channel == channel) runs
+channel_lines job run = codes "CHANNEL " ++ (decimal run.channel ++ (codes "\n" ++ (flat_map (motion_line job) run.items ++ end_lines run.end)))
 
 -- the lines of the channel of this number, if the job has it
 unfoldable pub lines_of : JobView → List RunView → ℕ → List ℕ
@@ -91,6 +96,8 @@ place_text place = codes "ZONE " ++ (decimal place.zone ++ (codes " CHANNEL " ++
 unfoldable pub verdict_line : Verdict → List ℕ
 verdict_line Yes = codes "VERDICT YES\n"
 verdict_line (No place other) = codes "VERDICT NO " ++ (place_text place ++ (codes " " ++ (place_text other ++ codes "\n")))
+verdict_line (Undecided count budget) = codes "VERDICT UNDECIDED COUNT " ++ (decimal count ++ (codes " BUDGET " ++ (decimal budget ++ codes "\n")))
+verdict_line (verdicts.Alarm channel alarm) = codes "VERDICT ALARM CHANNEL " ++ (decimal channel ++ (codes " LINE " ++ (decimal alarm.line ++ (codes " CODE " ++ (decimal alarm.code ++ codes "\n")))))
 
 -- the report of a job
 unfoldable pub report_bytes : JobView → List RunView → Verdict → List ℕ

@@ -1,11 +1,13 @@
 -- The stretches of a zone as the comparison takes them, and the first two boxes that meet.
-use Rattle.std.specs.Prelude.{ℕ, ℤ, ◌==◌, ◌||◌, not, Bool, true, false, if◌then◌else◌, List, [], ◌∷◌, map, Option, None, Some, find, unwrap_or}
+use Rattle.std.specs.Prelude.{ℕ, ◌==◌, ◌||◌, not, Bool, true, false, if◌then◌else◌, List, [], ◌∷◌, map, Option, None, Some, find, unwrap_or}
 use Rattle.std.specs.Option.{option_map, option_or}
 use Rattle.tape_job.specs.Job.{JobView}
 use Rattle.tape_job.specs.declared.job.ZoneLine.{ZoneLine}
-use Rattle.turnmill.specs.ChannelRun.{RunView}
+use Rattle.turnmill.specs.ChannelRun.{RunView, line_of_end}
 use Rattle.turnmill.specs.Channels.{start_position}
 use Rattle.turnmill.specs.Clash.{boxes_meet}
+use Rattle.turnmill.specs.FirstAnswer.{first_some}
+use Rattle.turnmill.specs.LeftAt.{left_at}
 use Rattle.turnmill.specs.StretchView.{StretchView}
 use Rattle.turnmill.specs.Stretches.{Stretch, stretches_of}
 use Rattle.turnmill.specs.ZoneBoxes.{boxes_of, shown_box}
@@ -20,8 +22,8 @@ use Rattle.turnmill.specs.declared.zone_boxes.ZoneBox.{ZoneBox}
 unfoldable pub run_stretch : JobView → ZoneLine → RunView → StretchView
 run_stretch job zone run = record { kind = Run; channel = run.channel; boxes = map (shown_box zone 0) (boxes_of zone (start_position job) run.items) }
 
-unfoldable pub end_stretch : ZoneLine → RunView → (ℕ → ℤ) → StretchView
-end_stretch zone run at = record { kind = End; channel = run.channel; boxes = map (shown_box zone run.end_line) (boxes_of zone at []) }
+unfoldable pub end_stretch : JobView → ZoneLine → RunView → StretchView
+end_stretch job zone run = record { kind = End; channel = run.channel; boxes = map (shown_box zone (line_of_end run.end)) (boxes_of zone (left_at run.items (start_position job)) []) }
 
 -- a stretch as the comparison takes it
 unfoldable pub shown_stretch : ZoneLine → Stretch → StretchView
@@ -48,11 +50,6 @@ same_kind End kind = not (is_run kind)
 -- two stretches may overlap but where one channel's run and its end are compared
 unfoldable pub do_overlap : StretchView → StretchView → Bool
 do_overlap left right = not (left.channel == right.channel) || same_kind left.kind right.kind
-
--- the first answer among the elements
-abbrev pub first_some : {X Y : Type 0} → (X → Option Y) → List X → Option Y
-first_some f [] = None
-first_some f (x ∷ xs) = option_or (f x) (first_some f xs)
 
 -- the lines of the first box of the second list that meets this one
 unfoldable pub first_touched : List ZoneBox → ZoneBox → Option (ℕ × ℕ)

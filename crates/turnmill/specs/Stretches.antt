@@ -4,7 +4,9 @@ use Rattle.std.specs.Option.{option_map_or}
 use Rattle.tape_job.specs.Job.{JobView}
 use Rattle.tape_job.specs.declared.job.ChannelLine.{ChannelLine}
 use Rattle.tape_job.specs.declared.job.ZoneLine.{ZoneLine}
-use Rattle.turnmill.specs.Channels.{start_position, position_after, blocks_of, items_of, end_line}
+use Rattle.turnmill.specs.ChannelRun.{line_of_end}
+use Rattle.turnmill.specs.Channels.{start_position, items_of, end_of}
+use Rattle.turnmill.specs.LeftAt.{left_at}
 use Rattle.turnmill.specs.ZoneBoxes.{PlaceBox, boxes_of}
 use Rattle.turnmill.specs.declared.channels.Item.{Item}
 use Rattle.turnmill.specs.declared.stretches.StretchKind.{StretchKind}
@@ -22,11 +24,11 @@ pub record Span : Type 0 where
   pub start : ℕ → ℤ
   pub items : List Item
 
--- a channel runs from its start, and stands after its program end
+-- a channel runs from its start, and stands after its program end or its alarm
 unfoldable pub spans_of : JobView → ChannelLine → List Span
 spans_of job line =
     record { kind = Run; line = 0; start = start_position job; items = items_of job line }
-    ∷ record { kind = End; line = end_line job line; start = position_after job line.channel (blocks_of job line); items = [] }
+    ∷ record { kind = End; line = line_of_end (end_of job line); start = left_at (items_of job line) (start_position job); items = [] }
     ∷ []
 
 -- a stretch of a zone: its kind, channel and line as they are printed, its first and last event, and its boxes

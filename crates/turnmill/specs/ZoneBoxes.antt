@@ -1,7 +1,7 @@
 -- The boxes of a zone: where its sides stand, and the boxes that a channel's motions give it.
-use Rattle.std.specs.Prelude.{◌<◌, All, ℕ, ℤ, ◌+ℤ◌, ◌-ℤ◌, ◌+◌, ◌==◌, Bool, true, false, if◌then◌else◌, List, [], ◌∷◌, ◌++◌, map, length, ⊤, Option, None, Some, find}
+use Rattle.std.specs.Prelude.{◌<◌, All, ℕ, ℤ, ◌+ℤ◌, ◌-ℤ◌, ◌+◌, ◌==◌, Bool, true, false, if◌then◌else◌, List, [], ◌∷◌, ◌++◌, map, ⊤, Option, None, Some, find}
 use Rattle.std.specs.List.{list_any}
-use Rattle.std.specs.Option.{option_map, option_map_or}
+use Rattle.std.specs.Option.{option_map_or}
 use Rattle.swept_boxes.specs.Cover.{cover_of}
 use Rattle.path_geometry.specs.Motions.{axes_of, IsSound}
 use Rattle.swept_boxes.specs.Pieces.{pieces_at}
@@ -121,10 +121,9 @@ IsStraight (Line ends) = ⊤
 IsStraight (Rapid ends) = ⊥
 IsStraight (Kind.Arc arc) = ⊥
 
--- a motion is sound and straight, and moves axes of the row of positions
+-- a motion is sound, and moves axes of the row of positions
 pub record IsFit (item : Item) : Type 0 where
   pub sound : IsSound item.motion
-  pub straight : IsStraight item.motion
   pub within : All (λ e. e.0 < 16) (axes_of item.motion)
 
 -- the boxes as they are compared where motions are not cut: the line that names it, and the zone box of the cover of its motion, or where it stands

@@ -1,12 +1,13 @@
 //! What each channel does: the motions of its program, and where they leave its axes.
-ghost use Rattle.std.specs.Prelude.{◌≡◌, ℕ, ◌<◌, ◌≤◌, [], ◌++◌, length, IfOk, OnOk, find, unwrap_or};
+ghost use Rattle.std.specs.Prelude.{◌≡◌, ℕ, ◌<◌, ◌≤◌, [], ◌++◌, length, IfOk, OnOk, find, unwrap_or, option_copied};
 ghost use Rattle.std.specs.Option.{option_to_list};
 ghost use Rattle.turnmill.specs.Channels as model;
-ghost use Rattle.turnmill.specs.ChannelRun.{run_of};
+ghost use Rattle.turnmill.specs.ChannelRun.{run_of, run_in, alarm_in, line_of_end};
 
 use arrayvec::ArrayVec;
 use axis_sets::{AxisId, ChannelId};
 use micro_units::Um;
+use nc_faults::Alarm;
 use path_geometry::{Ends, Motion};
 use std::alloc::{AllocError, Global};
 use std::marker::Model;
@@ -186,15 +187,24 @@ fn make_items(
     Ok(items)
 }
 
-/// What a channel does from its start to its program end.
+/// How the run of a channel ends.
+#[derive(Clone, Copy, Debug, PartialEq, Eq)]
+pub enum ChannelEnd {
+    /// The block at this line ends the program.
+    Ended(u32),
+    /// This alarm stops the channel.
+    Alarmed(Alarm),
+}
+
+/// What a channel does from its start to its program end, or to the alarm that stops it.
 #[derive(Debug, Drop)]
 pub struct ChannelRun {
     /// The channel.
     pub channel: ChannelId,
     /// Its motions, in the order in which it makes them.
     pub items: Vec<Item>,
-    /// The line of the block that ends its program.
-    pub end_line: u32,
+    /// How its run ends.
+    pub end: ChannelEnd,
 }
 
 impl Model for ChannelRun {
@@ -202,7 +212,38 @@ impl Model for ChannelRun {
 
     ghost Value = { RunView };
 
-    ghost view = { λ run. record { channel = run.channel; items = run.items.items; end_line = run.end_line } };
+    ghost view = { λ run. record { channel = run.channel; items = run.items.items; end = run.end } };
+}
+
+/// The run of a channel, if there is one.
+#[tactic(auto, unfolding(crate::specs::ChannelRun::run_in))]
+pub fn run_in(runs: &[ChannelRun], channel: ChannelId) -> Option<&ChannelRun>
+    ensures { option_copied result ≡ run_in runs.now channel }
+{
+    runs.iter().find(|run| {
+        let run: &ChannelRun = run;
+        run.channel == channel
+    })
+}
+
+/// The alarm that stops the channel, if one does.
+pub fn alarm_in(end: &ChannelEnd) -> Option<Alarm>
+    ensures { result ≡ alarm_in end.now }
+{
+    match end {
+        ChannelEnd::Ended(_) => None,
+        ChannelEnd::Alarmed(alarm) => Some(*alarm),
+    }
+}
+
+/// The line of the block that ends the program or alarms.
+pub fn line_of_end(end: &ChannelEnd) -> u32
+    ensures { result ≡ line_of_end end.now }
+{
+    match end {
+        ChannelEnd::Ended(line) => *line,
+        ChannelEnd::Alarmed(alarm) => alarm.line,
+    }
 }
 
 /// Whether a statement ends the program.
@@ -233,23 +274,17 @@ fn end_line_in(blocks: &[Block]) -> u32
     }
 }
 
-/// Runs the program that a CHANNEL line selects, and answers where the axes stand at its end, too.
-pub fn run_channel(
-    alloc: Global,
-    job: &Job,
-    line: &ChannelLine,
-) -> Result<(ChannelRun, Positions), AllocError>
+/// Runs the program that a CHANNEL line selects.
+pub fn run_channel(alloc: Global, job: &Job, line: &ChannelLine) -> Result<ChannelRun, AllocError>
     requires { model.HasFewAxes job.now }
-    ensures run { IfOk result (λ answer. answer.0 ≡ run_of job.now line.now) }
-    ensures stands { IfOk result (λ answer. model.StandsAfter job.now line.now.channel (model.blocks_of job.now line.now) answer.1) }
+    ensures { IfOk result (λ run. run ≡ run_of job.now line.now) }
 {
     let blocks = blocks_of(job, line);
     let mut at = start_positions(job);
     let items = make_items(alloc, job, line.channel, blocks, &mut at)?;
-    let run = ChannelRun {
+    Ok(ChannelRun {
         channel: line.channel,
         items,
-        end_line: end_line_in(blocks),
-    };
-    Ok((run, at))
+        end: ChannelEnd::Ended(end_line_in(blocks)),
+    })
 }

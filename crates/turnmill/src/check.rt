@@ -125,6 +125,8 @@ fn status_of(verdict: &Verdict) -> Status
     ensures { result ≡ status_of verdict.now }
 {
     match verdict {
+        Verdict::Alarm(_, _) => Status::Alarm,
+        Verdict::Undecided { .. } => Status::Undecided,
         Verdict::No(_, _) => Status::No,
         Verdict::Yes => Status::Yes,
     }

@@ -1,7 +1,8 @@
-//! The verdict: the first two boxes that meet, of zones that may not.
+//! The first two boxes that meet, of zones that may not.
 ghost use Rattle.std.specs.Prelude.{◌≡◌, ◌==◌, All, IfOk, Option, None, Some, find, map, option_map};
 ghost use Rattle.turnmill.specs.Channels.{HasFewAxes};
 ghost use Rattle.turnmill.specs.Clash as model;
+ghost use Rattle.turnmill.specs.FirstAnswer.{first_some};
 ghost use Rattle.turnmill.specs.ShownStretches as shown;
 ghost use Rattle.turnmill.specs.StretchView.{StretchView};
 
@@ -53,7 +54,7 @@ fn same_kind(left: StretchKind, right: StretchKind) -> bool
 
 /// Whether two stretches may overlap: all but one channel's run and its end.
 #[tactic(auto, unfolding(crate::specs::ShownStretches::do_overlap))]
-fn do_overlap(left: &Stretch, right: &Stretch) -> bool
+pub fn do_overlap(left: &Stretch, right: &Stretch) -> bool
     ensures { result ≡ shown.do_overlap left.now right.now }
 {
     left.channel != right.channel || same_kind(left.kind, right.kind)
@@ -159,7 +160,7 @@ fn first_of_zones(held: &HeldZone, other: &HeldZone) -> Option<(PlaceName, Place
 
 /// The names of the first two boxes of this zone and a later one that meet.
 fn first_with(held: &HeldZone, others: &[HeldZone]) -> Option<(PlaceName, PlaceName)>
-    ensures { result ≡ shown.first_some (shown.first_of_zones held.now) others.now }
+    ensures { result ≡ first_some (shown.first_of_zones held.now) others.now }
 {
     for other in others {
         if let Some(names) = first_of_zones(held, other) {
@@ -181,7 +182,7 @@ fn first_meeting(zones: &[HeldZone]) -> Option<(PlaceName, PlaceName)>
     None
 }
 
-/// The verdict on zones that stand in ascending order.
+/// NO with the names of the first two boxes that meet, or YES, on zones that stand in ascending order.
 pub fn verdict_on(zones: &[HeldZone]) -> Verdict
     ensures { result ≡ shown.verdict_by (shown.first_meeting zones.now) }
 {

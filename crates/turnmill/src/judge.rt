@@ -1,56 +1,63 @@
 //! Runs a job and judges it.
 ghost use Rattle.std.specs.Prelude.{◌≡◌, ◌==◌, IfOk, find, map, option_and_then, option_copied};
-ghost use Rattle.turnmill.specs.ChannelRun.{runs_of, run_of};
+ghost use Rattle.turnmill.specs.ChannelRun.{runs_of, run_in};
 ghost use Rattle.turnmill.specs.Channels.{IsRunnable};
 ghost use Rattle.turnmill.specs.Clash as model;
 ghost use Rattle.turnmill.specs.ShownStretches as shown;
-ghost use Rattle.turnmill.specs.Stretches.{channel_line, stretches_of};
+ghost use Rattle.turnmill.specs.Stretches.{stretches_of};
 
-use crate::channels::{ChannelRun, run_channel};
+use crate::channels::{ChannelRun, alarm_in, run_channel, run_in};
 use crate::clash::{HeldZone, verdict_on};
+use crate::pair_counts::count_pairs;
 use crate::stretches::{Stretch, Verdict, stretches_of_run};
 use axis_sets::ChannelId;
+use nc_faults::Alarm;
 use std::alloc::{AllocError, Global};
-use tape_job::{ChannelLine, Job, ZoneLine};
+use tape_job::{Job, ZoneLine};
 
-/// The CHANNEL line of a channel.
-fn line_of(job: &Job, channel: ChannelId) -> Option<&ChannelLine>
-    ensures { option_copied result ≡ channel_line job.now channel }
-{
-    job.channels.iter().find(|line| line.channel == channel)
-}
+/// How many pairs of boxes may be compared.
+const BUDGET: u32 = 1_000_000;
 
-/// The CHANNEL line of the channel that holds a zone.
-fn holder_line<'a>(job: &'a Job, zone: &ZoneLine) -> Option<&'a ChannelLine>
-    ensures { option_copied result ≡ option_and_then (channel_line job.now) zone.now.holder }
+/// The run of the channel that holds a zone.
+fn holder_run<'a>(runs: &'a [ChannelRun], zone: &ZoneLine) -> Option<&'a ChannelRun>
+    ensures { option_copied result ≡ option_and_then (run_in runs.now) zone.now.holder }
 {
     match zone.holder {
-        Some(holder) => line_of(job, holder),
+        Some(holder) => run_in(runs, holder),
         None => None,
     }
 }
 
-/// The stretches of a zone, from a run of the channel that holds it.
-fn held_stretches(alloc: Global, job: &Job, zone: &ZoneLine) -> Result<Vec<Stretch>, AllocError>
-    requires { IsRunnable job.now }
+/// The stretches of a zone, from the run of the channel that holds it.
+fn held_stretches(
+    alloc: Global,
+    job: &Job,
+    runs: &[ChannelRun],
+    zone: &ZoneLine,
+) -> Result<Vec<Stretch>, AllocError>
+    requires runnable { IsRunnable job.now }
+    requires ran { runs.now ≡ runs_of job.now }
     ensures { IfOk result (λ stretches. stretches.items ≡ map (shown.shown_stretch zone.now) (stretches_of job.now zone.now)) }
 {
-    match holder_line(job, zone) {
-        Some(line) => {
-            let (run, at) = run_channel(alloc, job, line)?;
-            stretches_of_run(alloc, job, zone, &run, &at)
-        }
+    match holder_run(runs, zone) {
+        Some(run) => stretches_of_run(alloc, job, zone, run),
         None => Ok(Vec::new(alloc)),
     }
 }
 
 /// A zone with its stretches.
 #[tactic(auto, unfolding(crate::specs::ShownStretches::held_zone))]
-fn held_zone(alloc: Global, job: &Job, zone: &ZoneLine) -> Result<HeldZone, AllocError>
-    requires { IsRunnable job.now }
+fn held_zone(
+    alloc: Global,
+    job: &Job,
+    runs: &[ChannelRun],
+    zone: &ZoneLine,
+) -> Result<HeldZone, AllocError>
+    requires runnable { IsRunnable job.now }
+    requires ran { runs.now ≡ runs_of job.now }
     ensures { IfOk result (λ held. held ≡ shown.held_zone job.now zone.now) }
 {
-    let stretches = held_stretches(alloc, job, zone)?;
+    let stretches = held_stretches(alloc, job, runs, zone)?;
     Ok(HeldZone {
         zone: *zone,
         stretches,
@@ -69,14 +76,15 @@ fn zone_numbered(job: &Job, number: u8) -> Option<ZoneLine>
 
 /// The zones with their stretches, in ascending order of their numbers.
 #[tactic(auto, unfolding(crate::specs::Clash::zones_in_order))]
-fn held_zones(alloc: Global, job: &Job) -> Result<Vec<HeldZone>, AllocError>
-    requires { IsRunnable job.now }
+fn held_zones(alloc: Global, job: &Job, runs: &[ChannelRun]) -> Result<Vec<HeldZone>, AllocError>
+    requires runnable { IsRunnable job.now }
+    requires ran { runs.now ≡ runs_of job.now }
     ensures { IfOk result (λ zones. zones.items ≡ map (shown.held_zone job.now) (model.zones_in_order job.now)) }
 {
     let mut zones = Vec::new(alloc);
     for index in 0..32 {
         if let Some(zone) = zone_numbered(job, index + 1) {
-            zones.push(held_zone(alloc, job, &zone)?)?;
+            zones.push(held_zone(alloc, job, runs, &zone)?)?;
         }
     }
     Ok(zones)
@@ -90,10 +98,63 @@ fn run_channels(alloc: Global, job: &Job) -> Result<Vec<ChannelRun>, AllocError>
 {
     let mut runs = Vec::new(alloc);
     for line in &job.channels {
-        let (run, _) = run_channel(alloc, job, line)?;
-        runs.push(run)?;
+        runs.push(run_channel(alloc, job, line)?)?;
     }
     Ok(runs)
+}
+
+/// The alarm that stops a channel, if there is a run of it that ends with one.
+#[tactic(auto, unfolding(crate::specs::Clash::alarm_of))]
+fn alarm_of(runs: &[ChannelRun], channel: ChannelId) -> Option<Alarm>
+    ensures { result ≡ model.alarm_of runs.now channel }
+{
+    match run_in(runs, channel) {
+        Some(run) => alarm_in(&run.end),
+        None => None,
+    }
+}
+
+/// The lowest channel that an alarm stops, with the alarm.
+#[tactic(auto, unfolding(crate::specs::Clash::first_alarm))]
+fn first_alarm(runs: &[ChannelRun]) -> Option<(ChannelId, Alarm)>
+    ensures { result ≡ model.first_alarm runs.now }
+{
+    for number in 1..9 {
+        let channel = ChannelId { number };
+        if let Some(alarm) = alarm_of(runs, channel) {
+            return Some((channel, alarm));
+        }
+    }
+    None
+}
+
+/// The verdict by the boxes alone. They are not compared where there are too many pairs.
+fn judge_boxes(alloc: Global, job: &Job, runs: &[ChannelRun]) -> Result<Verdict, AllocError>
+    requires runnable { IsRunnable job.now }
+    requires ran { runs.now ≡ runs_of job.now }
+    ensures { IfOk result (λ verdict. verdict ≡ model.boxes_verdict job.now) }
+{
+    let zones = held_zones(alloc, job, runs)?;
+    let count = count_pairs(&zones);
+    if count > u64::from(BUDGET) {
+        return Ok(Verdict::Undecided {
+            count,
+            budget: BUDGET,
+        });
+    }
+    Ok(verdict_on(&zones))
+}
+
+/// The verdict on these runs. There are no boxes where a channel is stopped.
+fn judge(alloc: Global, job: &Job, runs: &[ChannelRun]) -> Result<Verdict, AllocError>
+    requires runnable { IsRunnable job.now }
+    requires ran { runs.now ≡ runs_of job.now }
+    ensures { IfOk result (λ verdict. verdict ≡ model.verdict_of job.now) }
+{
+    match first_alarm(runs) {
+        Some(stopped) => Ok(Verdict::Alarm(stopped.0, stopped.1)),
+        None => judge_boxes(alloc, job, runs),
+    }
 }
 
 /// Runs every channel of a job, and judges the job.
@@ -103,7 +164,6 @@ pub fn check_job(alloc: Global, job: &Job) -> Result<(Vec<ChannelRun>, Verdict),
     ensures verdict { IfOk result (λ answer. answer.1 ≡ model.verdict_of job.now) }
 {
     let runs = run_channels(alloc, job)?;
-    let zones = held_zones(alloc, job)?;
-    let verdict = verdict_on(&zones);
+    let verdict = judge(alloc, job, &runs)?;
     Ok((runs, verdict))
 }

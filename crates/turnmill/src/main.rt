@@ -6,6 +6,7 @@ mod check;
 mod clash;
 mod judge;
 mod laws;
+mod pair_counts;
 mod report;
 #[cfg(test)]
 mod state_search;

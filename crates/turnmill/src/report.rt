@@ -1,15 +1,15 @@
 //! The text of the report.
-ghost use Rattle.std.specs.Prelude.{◌≡◌, ◌++◌, IfOk, OnOk, string_bytes, unwrap_or};
+ghost use Rattle.std.specs.Prelude.{◌≡◌, ◌++◌, All, IfOk, OnOk, string_bytes, unwrap_or};
 ghost use Rattle.std.specs.List.{flat_map};
-ghost use Rattle.std.specs.Option.{option_copied};
-ghost use Rattle.nc_faults.specs.Texts.{IsRefusalCode};
+ghost use Rattle.nc_faults.specs.Texts.{IsAlarmCode, IsRefusalCode};
+ghost use Rattle.turnmill.specs.ChannelRun.{HasKnownCode};
 ghost use Rattle.turnmill.specs.Report as model;
 
-use crate::channels::{ChannelRun, Item};
+use crate::channels::{ChannelEnd, ChannelRun, Item, run_in};
 use crate::stretches::{PlaceName, StretchKind, Verdict};
 use axis_sets::{AxisId, ChannelId};
 use micro_units::Um;
-use nc_faults::{Refusal, refusal_text};
+use nc_faults::{Alarm, Refusal, alarm_text, refusal_text};
 use path_geometry::{Arc, Ends, Motion};
 use std::alloc::{AllocError, Global};
 use tape_job::Job;
@@ -147,34 +147,41 @@ fn push_motion_lines(out: &mut String, job: &Job, items: &[Item]) -> Result<(), 
     Ok(())
 }
 
-/// Writes the trace line of the program end, and the state of its channel.
-#[tactic(auto, unfolding(crate::specs::Report::end_lines))]
-fn push_end_lines(out: &mut String, line: u32) -> Result<(), AllocError>
-    ensures { OnOk result (string_bytes out.new ≡ string_bytes out.old ++ model.end_lines line) }
+/// Writes the state of a channel that an alarm stopped.
+#[tactic(auto, unfolding(crate::specs::Report::alarm_line))]
+fn push_alarm_line(out: &mut String, alarm: &Alarm) -> Result<(), AllocError>
+    requires { IsAlarmCode alarm.now.code }
+    ensures { OnOk result (string_bytes out.new ≡ string_bytes out.old ++ model.alarm_line alarm.now) }
 {
-    write!(out, "{line} END\nSTATE ENDED {line}\n")
+    let line = alarm.line;
+    let code = alarm.code;
+    let text = alarm_text(code);
+    write!(out, "STATE ALARM {line} {code} {text}\n")
+}
+
+/// Writes the trace line of the program end and the state of its channel, or the state of a channel that
+/// an alarm stopped.
+#[tactic(auto, unfolding(crate::specs::Report::end_lines))]
+fn push_end_lines(out: &mut String, end: &ChannelEnd) -> Result<(), AllocError>
+    requires { HasKnownCode end.now }
+    ensures { OnOk result (string_bytes out.new ≡ string_bytes out.old ++ model.end_lines end.now) }
+{
+    match end {
+        ChannelEnd::Ended(line) => write!(out, "{line} END\nSTATE ENDED {line}\n"),
+        ChannelEnd::Alarmed(alarm) => push_alarm_line(out, alarm),
+    }
 }
 
 /// Writes the lines of a channel.
 #[tactic(auto, unfolding(crate::specs::Report::channel_lines))]
 fn push_channel_lines(out: &mut String, job: &Job, run: &ChannelRun) -> Result<(), AllocError>
+    requires { HasKnownCode run.now.end }
     ensures { OnOk result (string_bytes out.new ≡ string_bytes out.old ++ model.channel_lines job.now run.now) }
 {
     let channel = run.channel.number;
     write!(out, "CHANNEL {channel}\n")?;
     push_motion_lines(out, job, run.items.as_slice())?;
-    push_end_lines(out, run.end_line)
-}
-
-/// The run of a channel.
-#[tactic(auto, unfolding(crate::specs::Report::run_in))]
-fn run_in(runs: &[ChannelRun], channel: ChannelId) -> Option<&ChannelRun>
-    ensures { option_copied result ≡ model.run_in runs.now channel }
-{
-    runs.iter().find(|run| {
-        let run: &ChannelRun = run;
-        run.channel == channel
-    })
+    push_end_lines(out, &run.end)
 }
 
 /// Writes the lines of a channel, if the job has it.
@@ -185,6 +192,7 @@ fn push_lines_of(
     runs: &[ChannelRun],
     channel: ChannelId,
 ) -> Result<(), AllocError>
+    requires { All (λ run. HasKnownCode run.end) runs.now }
     ensures { OnOk result (string_bytes out.new ≡ string_bytes out.old ++ model.lines_of job.now runs.now channel) }
 {
     match run_in(runs, channel) {
@@ -196,6 +204,7 @@ fn push_lines_of(
 /// Writes the lines of all channels, in ascending order.
 #[tactic(auto, unfolding(crate::specs::Report::all_lines))]
 fn push_all_lines(out: &mut String, job: &Job, runs: &[ChannelRun]) -> Result<(), AllocError>
+    requires { All (λ run. HasKnownCode run.end) runs.now }
     ensures { OnOk result (string_bytes out.new ≡ string_bytes out.old ++ model.all_lines job.now runs.now) }
 {
     for number in 1..9 {
@@ -251,6 +260,18 @@ fn push_verdict_line(out: &mut String, verdict: &Verdict) -> Result<(), AllocErr
             push_place(out, other)?;
             out.push_str("\n")
         }
+        Verdict::Undecided { count, budget } => {
+            write!(out, "VERDICT UNDECIDED COUNT {count} BUDGET {budget}\n")
+        }
+        Verdict::Alarm(channel, alarm) => {
+            let channel = channel.number;
+            let line = alarm.line;
+            let code = alarm.code;
+            write!(
+                out,
+                "VERDICT ALARM CHANNEL {channel} LINE {line} CODE {code}\n"
+            )
+        }
     }
 }
 
@@ -262,6 +283,7 @@ pub fn report_text(
     runs: &[ChannelRun],
     verdict: &Verdict,
 ) -> Result<String, AllocError>
+    requires { All (λ run. HasKnownCode run.end) runs.now }
     ensures { IfOk result (λ text. string_bytes text ≡ model.report_bytes job.now runs.now verdict.now) }
 {
     let mut out = String::from_str(alloc, "TURNMILL 1\n")?;
@@ -322,6 +344,36 @@ mod tests {
         assert_eq!(rt;
             out.as_str(),
             "VERDICT NO ZONE 1 CHANNEL 1 RUN 15 ZONE 32 CHANNEL 0 END 0\n"
+        );
+        Ok(())
+    }
+
+    #[test]
+    fn other_verdicts(rt: HostRuntime) -> Result<(), Fail> {
+        let stopped = Verdict::Alarm(ChannelId { number: 2 }, Alarm { code: 13, line: 40 });
+        let undecided = Verdict::Undecided {
+            count: 1_000_001,
+            budget: 1_000_000,
+        };
+        let mut out = String::new(rt.alloc());
+        push_verdict_line(&mut out, &stopped)?;
+        push_verdict_line(&mut out, &undecided)?;
+        assert_eq!(rt;
+            out.as_str(),
+            "VERDICT ALARM CHANNEL 2 LINE 40 CODE 13\nVERDICT UNDECIDED COUNT 1000001 BUDGET 1000000\n"
+        );
+        Ok(())
+    }
+
+    #[tactic(auto, unfolding(nc_faults::specs::Texts::IsAlarmCode, nc_faults::specs::Texts::alarm_texts))]
+    #[test]
+    fn ends(rt: HostRuntime) -> Result<(), Fail> {
+        let mut out = String::new(rt.alloc());
+        push_end_lines(&mut out, &ChannelEnd::Ended(7))?;
+        push_end_lines(&mut out, &ChannelEnd::Alarmed(Alarm { code: 2, line: 40 }))?;
+        assert_eq!(rt;
+            out.as_str(),
+            "7 END\nSTATE ENDED 7\nSTATE ALARM 40 2 division by zero\n"
         );
         Ok(())
     }

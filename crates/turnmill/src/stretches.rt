@@ -1,12 +1,14 @@
 //! The stretches of each zone, and the verdict's words.
-ghost use Rattle.std.specs.Prelude.{◌≡◌, [], ◌∷◌, All, IfOk, map};
+ghost use Rattle.std.specs.Prelude.{◌≡◌, ℕ, [], ◌∷◌, All, IfOk, map};
 ghost use Rattle.turnmill.specs.Channels.{positions_in, start_position, HasFewAxes};
+ghost use Rattle.turnmill.specs.LeftAt.{left_at};
 ghost use Rattle.turnmill.specs.ShownStretches as model;
 ghost use Rattle.turnmill.specs.ZoneBoxes.{IsFit};
 
-use crate::channels::{ChannelRun, Positions, start_positions};
-use crate::zone_boxes::{ZoneBox, boxes_of};
+use crate::channels::{ChannelRun, Item, Positions, line_of_end, start_positions};
+use crate::zone_boxes::{ZoneBox, boxes_of, settle};
 use axis_sets::{ChannelId, ZoneId};
+use nc_faults::Alarm;
 use std::alloc::{AllocError, Global};
 use std::marker::Model;
 use tape_job::{Job, ZoneLine};
@@ -16,7 +18,7 @@ use tape_job::{Job, ZoneLine};
 pub enum StretchKind {
     /// It runs its program.
     Run,
-    /// Its program has ended.
+    /// Its program has ended, or an alarm has stopped it.
     End,
 }
 
@@ -36,7 +38,16 @@ pub struct PlaceName {
 /// The verdict on a job.
 #[derive(Clone, Copy, Debug, PartialEq, Eq)]
 pub enum Verdict {
-    /// These two boxes meet.
+    /// This alarm stops this channel, the lowest that one stops.
+    Alarm(ChannelId, Alarm),
+    /// More pairs of boxes are to be compared than may be.
+    Undecided {
+        /// How many are to be compared.
+        count: u64,
+        /// How many may be compared.
+        budget: u32,
+    },
+    /// These two boxes meet, the first that do.
     No(PlaceName, PlaceName),
     /// No two compared boxes meet.
     Yes,
@@ -80,19 +91,35 @@ fn run_stretch(
     })
 }
 
-/// The stretch after its program end, at which its axes stand here.
+/// Where these motions leave the axes of a job.
+fn end_positions(job: &Job, items: &[Item]) -> Positions
+    requires axes { HasFewAxes job.now }
+    requires fit { All IsFit items.now }
+    ensures { (axis : ℕ) → positions_in result axis ≡ left_at items.now (start_position job.now) axis }
+{
+    let mut at = start_positions(job);
+    for item in items {
+        settle(item, &mut at);
+    }
+    at
+}
+
+/// The stretch after its program end or its alarm.
 fn end_stretch(
     alloc: Global,
+    job: &Job,
     zone: &ZoneLine,
     run: &ChannelRun,
-    at: &Positions,
 ) -> Result<Stretch, AllocError>
-    ensures { IfOk result (λ s. s ≡ model.end_stretch zone.now run.now (positions_in at.now)) }
+    requires axes { HasFewAxes job.now }
+    requires fit { All IsFit run.now.items }
+    ensures { IfOk result (λ s. s ≡ model.end_stretch job.now zone.now run.now) }
 {
+    let at = end_positions(job, &run.items);
     Ok(Stretch {
         kind: StretchKind::End,
         channel: run.channel,
-        boxes: boxes_of(alloc, zone, run.end_line, at, &[])?,
+        boxes: boxes_of(alloc, zone, line_of_end(&run.end), &at, &[])?,
     })
 }
 
@@ -102,14 +129,13 @@ pub fn stretches_of_run(
     job: &Job,
     zone: &ZoneLine,
     run: &ChannelRun,
-    at: &Positions,
 ) -> Result<Vec<Stretch>, AllocError>
     requires axes { HasFewAxes job.now }
     requires fit { All IsFit run.now.items }
-    ensures { IfOk result (λ s. s.items ≡ model.run_stretch job.now zone.now run.now ∷ model.end_stretch zone.now run.now (positions_in at.now) ∷ []) }
+    ensures { IfOk result (λ s. s.items ≡ model.run_stretch job.now zone.now run.now ∷ model.end_stretch job.now zone.now run.now ∷ []) }
 {
     let mut stretches = Vec::new(alloc);
     stretches.push(run_stretch(alloc, job, zone, run)?)?;
-    stretches.push(end_stretch(alloc, zone, run, at)?)?;
+    stretches.push(end_stretch(alloc, job, zone, run)?)?;
     Ok(stretches)
 }

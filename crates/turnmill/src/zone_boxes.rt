@@ -142,7 +142,7 @@ fn after(item: &Item, at: &Positions, index: usize) -> Um
 }
 
 /// Puts the axes where a motion leaves them.
-fn settle(item: &Item, at: &mut Positions)
+pub fn settle(item: &Item, at: &mut Positions)
     requires { All (λ e. e.0 < 16) (axes_of item.now.motion) }
     ensures { (axis : ℕ) → positions_in at.new axis ≡ model.after item.now (positions_in at.old) axis }
 {

@@ -1,4 +1,4 @@
-use Rattle.std.proofs.Common.{◌≡◌, ◌<◌, ◌∙◌, ℕ, ℤ, length, List, Option, option_map, sym, subst, arith}
+use Rattle.std.proofs.Common.{◌≡◌, ℕ, length, option_map, subst, arith}
 use Rattle.std.specs.List.{filter_map, range_with_len}
 use Rattle.channel_machine.specs.Motions as model
 use Rattle.channel_machine.proofs.Moves.{moves_on, moves_not}

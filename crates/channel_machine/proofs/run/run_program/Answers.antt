@@ -1,5 +1,5 @@
 use Rattle.std.proofs.Common.{map, arith}
-use Rattle.channel_machine.specs.Run.{placed_view, IsReady}
+use Rattle.channel_machine.specs.Run.{placed_view}
 use Rattle.channel_machine.proofs.Runs.{begins, runs_out, is_spent, stops, ends, goes_on}
 use Rattle.channel_machine.proofs.Positions.{stands_more}
 use Rattle.channel_machine.proofs.Steps.{viewed_at, none_past}

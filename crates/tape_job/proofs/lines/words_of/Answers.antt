@@ -1,7 +1,7 @@
 use Rattle.std.proofs.Common.{rules, tests, not, ◌==◌, length}
 use Rattle.std.proofs.lemmas.Iterator.Consumers.{map_from_collect, YieldsList-from_filter}
 use Rattle.std.proofs.lemmas.Iterator.Splits.{YieldsList-from_slice_split}
-use Rattle.tape_job.specs.Lines.{is_blank}
+use Rattle.block_scanner.specs.Bytes.{is_blank}
 use Rattle.tape_job.proofs.lines.words_of.Goals as goal
 
 pub returns : goal.returns

@@ -1,4 +1,4 @@
-use Rattle.std.proofs.Common.{◌≡◌, ℕ, ◌<◌, ◌≤◌, unwrap_or, length}
+use Rattle.std.proofs.Common.{◌≡◌, ℕ, ◌<◌, ◌≤◌, unwrap_or}
 use Rattle.turnmill.specs.Channels as model
 use Rattle.turnmill.proofs.channels.advance.Given as goal
 

@@ -1,4 +1,4 @@
-use Rattle.std.proofs.Common.{◌≡◌, ℕ, ℤ, Option, ◌+◌, ◌≤◌, length, arith, ap, sym, ◌∙◌, ◌++◌, ◌∷◌, [], length-append}
+use Rattle.std.proofs.Common.{ℕ, ℤ, Option, arith, sym, ◌∙◌, length-append}
 use Rattle.turnmill.specs.Channels as model
 use Rattle.turnmill.proofs.Ranges.{filter_map-range_some, filter_map-range_none}
 use Rattle.turnmill.proofs.channels.ends_from.Goals as goal

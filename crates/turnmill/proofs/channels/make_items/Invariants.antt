@@ -1,4 +1,4 @@
-use Rattle.std.proofs.Common.{◌≡◌, ℕ, [], take, length}
+use Rattle.std.proofs.Common.{◌≡◌, [], take}
 use Rattle.turnmill.specs.Channels as model
 use Rattle.turnmill.proofs.channels.make_items.Given as goal
 

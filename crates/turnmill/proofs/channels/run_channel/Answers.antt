@@ -1,4 +1,4 @@
-use Rattle.std.proofs.Common.{◌≡◌, refl, ap}
+use Rattle.std.proofs.Common.{refl}
 use Rattle.turnmill.specs.Channels.{items_of}
 use Rattle.turnmill.specs.ChannelRun.{run_of}
 use Rattle.turnmill.proofs.Positions.{stands_at_start}
@@ -9,7 +9,4 @@ make_items-requires-clause-start c = stands_at_start c.args.job.now c.args.line.
 
 pub returns : goal.returns
 unfolding run_of items_of
-returns c = record {
-  run = rw (← c.blocks_of-blocks.ensures, ← c.in_ok-items.ensures.items, ← c.end_line_in.ensures) refl;
-  stands = rw (← c.blocks_of-blocks.ensures) c.in_ok-items.ensures.stands;
-}
+returns c = rw (← c.blocks_of-blocks.ensures, ← c.in_ok-items.ensures.items, ← c.end_line_in.ensures) refl

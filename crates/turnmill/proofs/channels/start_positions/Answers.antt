@@ -1,4 +1,4 @@
-use Rattle.std.proofs.Common.{◌<◌, ◌≤◌, ℕ, arith}
+use Rattle.std.proofs.Common.{◌≤◌, arith}
 use Rattle.turnmill.proofs.Positions.{all_start}
 use Rattle.turnmill.proofs.channels.start_positions.Goals as goal
 

@@ -1,5 +1,5 @@
 -- What the output of an input says of the call.
-use Rattle.std.proofs.Common.{◌≡◌, ◌∙◌, sym}
+use Rattle.std.proofs.Common.{◌∙◌, sym}
 use Rattle.turnmill.proofs.CheckLemmas.{Answers-long, safe_at_yes, refused_wrote, refused_ends}
 use Rattle.turnmill.proofs.RunnableLemmas.{read_sound}
 use Rattle.turnmill.proofs.check.check_words.Goals as goal

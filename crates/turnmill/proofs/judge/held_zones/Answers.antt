@@ -1,4 +1,4 @@
-use Rattle.std.proofs.Common.{◌≡◌, ◌==◌, ℕ, Option, find, sym, ap, ◌∙◌}
+use Rattle.std.proofs.Common.{◌==◌, ℕ, Option, find, sym, ◌∙◌}
 use Rattle.tape_job.specs.declared.job.ZoneLine.{ZoneLine}
 use Rattle.turnmill.specs.ShownStretches as shown
 use Rattle.turnmill.proofs.Ranges.{map-range_some, map-range_none}

@@ -1,7 +1,12 @@
-use Rattle.std.proofs.Common.{refl}
+use Rattle.std.proofs.Common.{◌≡◌, refl}
+use mathlib.Core.Path.{fun_ext}
+use Rattle.turnmill.specs.Channels.{positions_in, start_position}
+use Rattle.turnmill.specs.LeftAt.{left_at}
 use Rattle.turnmill.specs.ShownStretches.{end_stretch}
 use Rattle.turnmill.proofs.stretches.end_stretch.Goals as goal
 
 pub returns : goal.returns
 unfolding end_stretch
-returns c = rw (← c.run.view_is, c.in_ok-boxes_of.ensures) refl
+returns c =
+    let at : positions_in c.end_positions-at.result ≡ left_at c.deref.result.now (start_position c.args.job.now) = fun_ext c.end_positions-at.ensures in
+    rw (← c.run.view_is, c.in_ok-boxes_of.ensures, c.line_of_end.ensures, at, c.deref.ensures.value) refl

@@ -1,4 +1,4 @@
-use Rattle.std.proofs.Common.{◌≡◌, ℕ, ℤ, refl}
+use Rattle.std.proofs.Common.{◌≡◌, refl}
 use mathlib.Core.Path.{fun_ext}
 use Rattle.turnmill.specs.Channels.{positions_in, start_position}
 use Rattle.turnmill.specs.ShownStretches.{run_stretch}

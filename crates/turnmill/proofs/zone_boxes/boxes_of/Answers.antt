@@ -1,4 +1,4 @@
-use Rattle.std.proofs.Common.{◌≡◌, ◌==◌, List, length, sym, ap, ◌∙◌}
+use Rattle.std.proofs.Common.{◌==◌, List, length, sym, ap, ◌∙◌}
 use Rattle.turnmill.specs.Channels.{positions_in}
 use Rattle.turnmill.specs.ZoneBoxes.{standing_box}
 use Rattle.turnmill.specs.declared.zone_boxes.ZoneBox.{ZoneBox}

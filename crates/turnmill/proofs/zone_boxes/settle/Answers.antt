@@ -1,4 +1,4 @@
-use Rattle.std.proofs.Common.{◌≡◌, ◌<◌, ◌≤◌, ℕ, arith, length}
+use Rattle.std.proofs.Common.{◌≤◌, arith}
 use Rattle.turnmill.proofs.BoxLemmas.{all_after}
 use Rattle.turnmill.proofs.zone_boxes.settle.Goals as goal
 

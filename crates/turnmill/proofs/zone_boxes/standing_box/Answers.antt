@@ -1,4 +1,4 @@
-use Rattle.std.proofs.Common.{◌≡◌, ap, ◌∙◌}
+use Rattle.std.proofs.Common.{ap, ◌∙◌}
 use Rattle.swept_boxes.specs.declared.Box3.{Box3}
 use Rattle.turnmill.specs.Channels.{positions_in}
 use Rattle.turnmill.specs.ZoneBoxes.{standing_box}

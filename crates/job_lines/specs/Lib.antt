@@ -1,0 +1,5 @@
+pub mod Code
+pub mod Header
+pub mod Item
+pub mod Length
+pub mod Numbers

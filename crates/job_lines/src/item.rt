@@ -1,0 +1,335 @@
+//! Job lines, each read by itself.
+ghost use Rattle.std.specs.Prelude.{◌≡◌, map};
+ghost use Rattle.job_lines.specs.Item.{channel_of, zone_of, axis_name_of, owner_of, slot_of, carrier_of, named_side_of, channel_item_of, channel_line, axis_item_of, axis_line, geo_item_of, geo_line, state_of, zone_item_of, zone_line, job_line, is_later_kind, item_of};
+
+use crate::code::Code;
+use crate::length::length_in;
+use crate::numbers::number_within;
+use axis_sets::{ChannelId, ZoneId};
+use micro_units::Um;
+use nc_blocks::NameText;
+
+/// The name of an axis.
+#[derive(Clone, Copy, Debug, PartialEq, Eq)]
+pub struct AxisName {
+    /// Its letter, in upper case.
+    pub letter: u8,
+    /// Its number, 1 to 99.
+    pub number: u8,
+}
+
+/// A direction of a zone whose axis is a name.
+#[derive(Clone, Copy, Debug, PartialEq, Eq)]
+pub struct NamedSide {
+    /// The axis that carries it, with true where it goes against the axis.
+    pub carrier: Option<(AxisName, bool)>,
+    /// The lower end.
+    pub lo: Um,
+    /// The upper end.
+    pub hi: Um,
+}
+
+/// What a job line says by itself.
+#[derive(Debug, Drop)]
+pub enum Item {
+    /// A channel that runs a program from the start.
+    Channel(ChannelId, NameText),
+    /// An axis, its owner and its position at the start.
+    Axis(AxisName, ChannelId, Um),
+    /// A slot of a channel, and the axis in it.
+    Geo(ChannelId, u8, AxisName),
+    /// A zone, its group, its holder and its directions.
+    Zone(ZoneId, u8, ChannelId, NamedSide, NamedSide, NamedSide),
+}
+
+/// The channel that the word names: 1 or 2 as yet.
+#[tactic(auto, unfolding(crate::specs::Item::channel_of))]
+fn channel_in(word: &[u8]) -> Result<ChannelId, Code>
+    ensures { result ≡ channel_of word.now }
+{
+    match number_within(1, 8, word) {
+        Some(number) if number <= 2 => Ok(ChannelId { number }),
+        Some(_) => Err(Code::NotBuilt),
+        None => Err(Code::OutOfRange),
+    }
+}
+
+/// The zone that the word names.
+#[tactic(auto, unfolding(crate::specs::Item::zone_of))]
+fn zone_in(word: &[u8]) -> Result<ZoneId, Code>
+    ensures { result ≡ zone_of word.now }
+{
+    match number_within(1, 32, word) {
+        Some(number) => Ok(ZoneId { number }),
+        None => Err(Code::OutOfRange),
+    }
+}
+
+/// The group that the word names, which has the range of a zone.
+#[tactic(auto, unfolding(crate::specs::Item::zone_of))]
+fn group_in(word: &[u8]) -> Result<u8, Code>
+    ensures { result ≡ zone_of word.now }
+{
+    match number_within(1, 32, word) {
+        Some(number) => Ok(number),
+        None => Err(Code::OutOfRange),
+    }
+}
+
+/// The axis name that the word is.
+#[tactic(auto, unfolding(crate::specs::Item::axis_name_of))]
+fn axis_name_in(word: &[u8]) -> Result<AxisName, Code>
+    ensures { result ≡ axis_name_of word.now }
+{
+    let [letter, digits @ ..] = word else {
+        return Err(Code::OutOfRange);
+    };
+    if !b"ABCUVWXYZ".contains(letter) {
+        return Err(Code::OutOfRange);
+    }
+    match number_within(1, 99, digits) {
+        Some(number) => Ok(AxisName {
+            letter: *letter,
+            number,
+        }),
+        None => Err(Code::OutOfRange),
+    }
+}
+
+/// The channel that owns an axis or holds a zone.
+#[tactic(auto, unfolding(crate::specs::Item::owner_of))]
+fn owner_in(word: &[u8]) -> Result<ChannelId, Code>
+    ensures { result ≡ owner_of word.now }
+{
+    if word == b"FREE".as_slice() {
+        return Err(Code::NotBuilt);
+    }
+    channel_in(word)
+}
+
+/// The slot that the word names.
+#[tactic(auto, unfolding(crate::specs::Item::slot_of))]
+fn slot_in(word: &[u8]) -> Result<u8, Code>
+    ensures { result ≡ slot_of word.now }
+{
+    if word == b"X".as_slice() {
+        Ok(0)
+    } else if word == b"Y".as_slice() {
+        Ok(1)
+    } else if word == b"Z".as_slice() {
+        Ok(2)
+    } else {
+        Err(Code::OutOfRange)
+    }
+}
+
+/// The carrier of a direction.
+#[tactic(auto, unfolding(crate::specs::Item::carrier_of))]
+fn carrier_in(word: &[u8]) -> Result<Option<(AxisName, bool)>, Code>
+    ensures { result ≡ carrier_of word.now }
+{
+    match word {
+        [b'-'] => Ok(None),
+        [b'+', name @ ..] => Ok(Some((axis_name_in(name)?, false))),
+        [b'-', name @ ..] => Ok(Some((axis_name_in(name)?, true))),
+        _ => Err(Code::OutOfRange),
+    }
+}
+
+/// A direction of a zone.
+#[tactic(auto, unfolding(crate::specs::Item::named_side_of))]
+fn named_side_in(carrier: &[u8], lo: &[u8], hi: &[u8]) -> Result<NamedSide, Code>
+    ensures { result ≡ named_side_of carrier.now lo.now hi.now }
+{
+    let carrier = carrier_in(carrier)?;
+    let lo = length_in(lo)?;
+    let hi = length_in(hi)?;
+    if lo.micrometres > hi.micrometres {
+        return Err(Code::OutOfRange);
+    }
+    Ok(NamedSide { carrier, lo, hi })
+}
+
+/// The channel that runs a program from the start.
+#[tactic(auto, unfolding(crate::specs::Item::channel_item_of))]
+fn channel_item_in(channel: &[u8], program: &[u8], start: &[u8]) -> Result<Item, Code>
+    ensures { result ≡ channel_item_of channel.now program.now start.now }
+{
+    if start != b"START".as_slice() {
+        return Err(Code::UnknownJobLine);
+    }
+    let channel = channel_in(channel)?;
+    Ok(Item::Channel(channel, NameText::of_word(program)))
+}
+
+/// What follows CHANNEL.
+#[tactic(auto, unfolding(crate::specs::Item::channel_line))]
+fn channel_line_in(args: &[&[u8]]) -> Result<Item, Code>
+    ensures { result ≡ channel_line (map (λ word. word.now) args.now) }
+{
+    match args {
+        [_] | [_, _] => Err(Code::NotBuilt),
+        [channel, program, start] => channel_item_in(channel, program, start),
+        _ => Err(Code::UnknownJobLine),
+    }
+}
+
+/// An axis, its owner and its position.
+#[tactic(auto, unfolding(crate::specs::Item::axis_item_of))]
+fn axis_item_in(name: &[u8], owner: &[u8], at: &[u8]) -> Result<Item, Code>
+    ensures { result ≡ axis_item_of name.now owner.now at.now }
+{
+    let name = axis_name_in(name)?;
+    let owner = owner_in(owner)?;
+    let at = length_in(at)?;
+    Ok(Item::Axis(name, owner, at))
+}
+
+/// What follows AXIS.
+#[tactic(auto, unfolding(crate::specs::Item::axis_line))]
+fn axis_line_in(args: &[&[u8]]) -> Result<Item, Code>
+    ensures { result ≡ axis_line (map (λ word. word.now) args.now) }
+{
+    match args {
+        [name, owner, at] => axis_item_in(name, owner, at),
+        _ => Err(Code::UnknownJobLine),
+    }
+}
+
+/// A slot of a channel, and the axis in it.
+#[tactic(auto, unfolding(crate::specs::Item::geo_item_of))]
+fn geo_item_in(channel: &[u8], slot: &[u8], axis: &[u8]) -> Result<Item, Code>
+    ensures { result ≡ geo_item_of channel.now slot.now axis.now }
+{
+    let channel = channel_in(channel)?;
+    let slot = slot_in(slot)?;
+    let axis = axis_name_in(axis)?;
+    Ok(Item::Geo(channel, slot, axis))
+}
+
+/// What follows GEO.
+#[tactic(auto, unfolding(crate::specs::Item::geo_line))]
+fn geo_line_in(args: &[&[u8]]) -> Result<Item, Code>
+    ensures { result ≡ geo_line (map (λ word. word.now) args.now) }
+{
+    match args {
+        [channel, slot, axis] => geo_item_in(channel, slot, axis),
+        _ => Err(Code::UnknownJobLine),
+    }
+}
+
+/// Whether a zone is on.
+#[tactic(auto, unfolding(crate::specs::Item::state_of))]
+fn state_in(word: &[u8]) -> Result<bool, Code>
+    ensures { result ≡ state_of word.now }
+{
+    if word == b"ON".as_slice() {
+        Ok(true)
+    } else if word == b"OFF".as_slice() {
+        Err(Code::NotBuilt)
+    } else {
+        Err(Code::UnknownJobLine)
+    }
+}
+
+/// A zone.
+#[tactic(auto, unfolding(crate::specs::Item::zone_item_of))]
+fn zone_item_in(
+    zone: &[u8],
+    group: &[u8],
+    holder: &[u8],
+    state: &[u8],
+    cx: &[u8],
+    lx: &[u8],
+    hx: &[u8],
+    cy: &[u8],
+    ly: &[u8],
+    hy: &[u8],
+    cz: &[u8],
+    lz: &[u8],
+    hz: &[u8],
+) -> Result<Item, Code>
+    ensures { result ≡ zone_item_of zone.now group.now holder.now state.now cx.now lx.now hx.now cy.now ly.now hy.now cz.now lz.now hz.now }
+{
+    let _on = state_in(state)?;
+    let zone = zone_in(zone)?;
+    let group = group_in(group)?;
+    let holder = owner_in(holder)?;
+    let x = named_side_in(cx, lx, hx)?;
+    let y = named_side_in(cy, ly, hy)?;
+    let z = named_side_in(cz, lz, hz)?;
+    Ok(Item::Zone(zone, group, holder, x, y, z))
+}
+
+/// What follows ZONE.
+#[tactic(auto, unfolding(crate::specs::Item::zone_line))]
+fn zone_line_in(args: &[&[u8]]) -> Result<Item, Code>
+    ensures { result ≡ zone_line (map (λ word. word.now) args.now) }
+{
+    match args {
+        [
+            zone,
+            group,
+            holder,
+            state,
+            cx,
+            lx,
+            hx,
+            cy,
+            ly,
+            hy,
+            cz,
+            lz,
+            hz,
+        ] => zone_item_in(
+            zone, group, holder, state, cx, lx, hx, cy, ly, hy, cz, lz, hz,
+        ),
+        _ => Err(Code::UnknownJobLine),
+    }
+}
+
+/// What follows JOB behind the first job line.
+#[tactic(auto, unfolding(crate::specs::Item::job_line))]
+fn job_line_in(args: &[&[u8]]) -> Result<Item, Code>
+    ensures { result ≡ job_line (map (λ word. word.now) args.now) }
+{
+    match args {
+        [_] => Err(Code::DeclaredTwice),
+        _ => Err(Code::UnknownJobLine),
+    }
+}
+
+/// Whether the word begins a job line that is not built yet.
+#[tactic(auto, unfolding(crate::specs::Item::is_later_kind))]
+fn is_later_kind(kind: &[u8]) -> bool
+    ensures { result ≡ is_later_kind kind.now }
+{
+    kind == b"OFFSET".as_slice()
+        || kind == b"MARGIN".as_slice()
+        || kind == b"DEPTH".as_slice()
+        || kind == b"BUDGET".as_slice()
+        || kind == b"COMPENSATION".as_slice()
+        || kind == b"SKIP".as_slice()
+}
+
+/// What a job line says, from its first word and the others, all in upper case.
+#[tactic(auto, unfolding(crate::specs::Item::item_of))]
+pub fn item_in(kind: &[u8], args: &[&[u8]]) -> Result<Item, Code>
+    ensures { result ≡ item_of kind.now (map (λ word. word.now) args.now) }
+{
+    if kind == b"CHANNEL".as_slice() {
+        channel_line_in(args)
+    } else if kind == b"AXIS".as_slice() {
+        axis_line_in(args)
+    } else if kind == b"GEO".as_slice() {
+        geo_line_in(args)
+    } else if kind == b"ZONE".as_slice() {
+        zone_line_in(args)
+    } else if kind == b"JOB".as_slice() {
+        job_line_in(args)
+    } else if is_later_kind(kind) {
+        Err(Code::NotBuilt)
+    } else {
+        Err(Code::UnknownJobLine)
+    }
+}

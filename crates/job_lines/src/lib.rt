@@ -1,0 +1,15 @@
+//! Lines of a job list, each read by itself: what a job line says, and the name in the header of a program.
+#![tactic(auto)]
+
+mod code;
+mod header;
+mod item;
+mod length;
+mod numbers;
+
+pub use code::Code;
+pub use header::header_in;
+pub use item::{AxisName, Item, NamedSide, item_in};
+
+#[cfg(test)]
+mod tests;

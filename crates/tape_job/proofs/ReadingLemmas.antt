@@ -1,0 +1,45 @@
+-- What a line of a program says, from its scanned tokens.
+use Rattle.std.proofs.Common.{◌≡◌, ◌∙◌, ℕ, Bool, true, false, ◌==◌, List, [], ◌∷◌, Result, Ok, Err, length, ap, sym, refl, true≢false, rules, arith}
+use Rattle.block_scanner.specs.Tokens.{tokens_of}
+use Rattle.block_scanner.specs.WordsView.{WordsView}
+use Rattle.block_scanner.specs.declared.ScanFault.{ScanFault}
+use Rattle.block_scanner.specs.declared.ScanFault.TheVariants as fault
+use Rattle.block_scanner.specs.declared.Token.{Token}
+use Rattle.job_lines.specs.Code.{shown}
+use Rattle.job_lines.specs.declared.code.Code.TheVariants.{BadByte, OpenText}
+use Rattle.nc_syntax.specs.Blocks.{statement_of}
+use Rattle.tape_job.specs.Reading.{ReadingView, Blank, words_of, step_of, tokens_reading, block_reading}
+
+some_tokens : (compensation : Bool) (text : List ℕ) (tokens : List Token) → (length tokens == 0) ≡ false
+    → tokens_reading compensation text (Ok tokens) ≡ step_of (statement_of (words_of text tokens) compensation)
+some_tokens compensation text [] some = absurd (true≢false some)
+some_tokens compensation text (token ∷ tokens) some = refl
+
+no_tokens : (compensation : Bool) (text : List ℕ) (tokens : List Token) → (length tokens == 0) ≡ true → tokens_reading compensation text (Ok tokens) ≡ Ok Blank
+no_tokens compensation text [] none = refl
+no_tokens compensation text (token ∷ tokens) none =
+    let empty : length (token ∷ tokens) ≡ 0 = search (rules, none) in
+    absurd (omega arith)
+
+-- a scanned line that has tokens says what they spell
+pub block_from_scan : (compensation : Bool) (text : List ℕ) (words : WordsView) → words.line ≡ text → tokens_of text ≡ Ok words.tokens → (length words.tokens == 0) ≡ false
+    → block_reading compensation text ≡ step_of (statement_of words compensation)
+unfolding block_reading
+block_from_scan compensation text words line tokens some =
+    ap (tokens_reading compensation text) tokens ∙ some_tokens compensation text words.tokens some
+    ∙ ap (λ line. step_of (statement_of (words_of line words.tokens) compensation)) (sym line)
+
+pub block_without_tokens : (compensation : Bool) (text : List ℕ) (tokens : List Token) → tokens_of text ≡ Ok tokens → (length tokens == 0) ≡ true
+    → block_reading compensation text ≡ Ok Blank
+unfolding block_reading
+block_without_tokens compensation text tokens scanned none = ap (tokens_reading compensation text) scanned ∙ no_tokens compensation text tokens none
+
+pub block_with_bad_byte : (compensation : Bool) (text : List ℕ) (place : ℕ) → tokens_of text ≡ Err (fault.BadByte place)
+    → block_reading compensation text ≡ Err (shown BadByte)
+unfolding block_reading
+block_with_bad_byte compensation text place scanned = ap (tokens_reading compensation text) scanned
+
+pub block_with_open_text : (compensation : Bool) (text : List ℕ) (place : ℕ) → tokens_of text ≡ Err (fault.OpenText place)
+    → block_reading compensation text ≡ Err (shown OpenText)
+unfolding block_reading
+block_with_open_text compensation text place scanned = ap (tokens_reading compensation text) scanned

@@ -1,0 +1,6 @@
+use Rattle.tape_job.specs.Reading.{reading_view}
+use Rattle.tape_job.proofs.FitLemmas.{line_fits}
+use Rattle.tape_job.proofs.reader.Reader.line.Goals as goal
+
+pub returns-in-Ok-clause-fits : goal.returns-in-Ok-clause-fits
+returns-in-Ok-clause-fits c = λ all. line_fits c.args.self.now c.tell.new.self (c.args.number, c.args.raw.now) (reading_view c.in_ok-reading.reading) c.in_ok-reading.ensures.exact.1 c.in_ok-reading.ensures.fits all c.in-Ok.ensures

@@ -1,0 +1,5 @@
+use Rattle.turnmill.proofs.VerdictLemmas.{known_runs}
+use Rattle.turnmill.proofs.check.job_output.Goals as goal
+
+pub report_text-requires : goal.report_text-requires
+report_text-requires c = rw (c.deref.ensures.value, c.in_ok-runs.ensures.runs) (known_runs c.args.job.now c.requires)
