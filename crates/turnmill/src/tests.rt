@@ -66,7 +66,7 @@ fn job_source(
 #[test]
 fn answers_inputs(rt: HostRuntime) -> Result<(), Fail> {
     let alloc = rt.alloc();
-    let rows: [(&str, &str, Status, &str); 8] = [
+    let rows: [(&str, &str, Status, &str); 9] = [
         ("", "", Status::Refused, "REFUSED 1 1 no job line\n"),
         (
             ONE,
@@ -75,7 +75,13 @@ fn answers_inputs(rt: HostRuntime) -> Result<(), Fail> {
             "TURNMILL 1\nCHANNEL 1\n9 END\nSTATE ENDED 9\nVERDICT YES\n",
         ),
         (ONE, MOVES, Status::Yes, MOVES_OUTPUT),
-        // The lower channel of two that alarms is named, and boxes that meet are not.
+        (
+            ONE,
+            "X=7/2\nX=7 DIV 2\nX=7 MOD 2\nR1=2/3 X=R1*1000\nR1=1/0\n",
+            Status::Alarm,
+            "TURNMILL 1\nCHANNEL 1\n9 LINE X1=3.500\n10 LINE X1=3.000\n11 LINE X1=1.000\n12 LINE X1=666.667\nSTATE ALARM 13 2 division by zero\nVERDICT ALARM CHANNEL 1 LINE 13 CODE 2\n",
+        ),
+        // The lower of two channels that alarm is named. Two zones that meet are not.
         (
             TWO,
             "R1=1/0\n%_N_B_MPF\nG1 X10 F0.2\nG1 Y5\n",
