@@ -11,11 +11,11 @@ use Rattle.tape_job.specs.declared.job.ZoneLine.{ZoneLine}
 use Rattle.turnmill.proofs.PositionLemmas.{Joins, AllJoin, after_is, left_at-nil, left_at-cons}
 use Rattle.turnmill.proofs.SomeLemmas.{SomeOf}
 use Rattle.path_geometry.specs.Path.{Point, IsOnPath, along}
-use Rattle.turnmill.specs.LeftAt.{end_in, left_at}
+use Rattle.channel_machine.specs.Motions.{end_in, left_at, IsStraight}
 use Rattle.turnmill.specs.SmallSteps.{StandsAt, IsAlong, IsAtPlace}
 use Rattle.path_geometry.specs.Motions.{axes_of}
-use Rattle.turnmill.specs.ZoneBoxes.{IsStraight, after, has_axis, moves_zone, PlaceBox, Opened, Waiting, Moving, close, closed, next_open, walk, boxes_of}
-use Rattle.turnmill.specs.declared.channels.Item.{Item}
+use Rattle.turnmill.specs.ZoneBoxes.{after, has_axis, moves_zone, PlaceBox, Opened, Waiting, Moving, close, closed, next_open, walk, boxes_of}
+use Rattle.channel_machine.specs.declared.motions.Item.{Item}
 
 -- ---- the ends of a path
 

@@ -14,12 +14,12 @@ use Rattle.turnmill.proofs.StateLemmas.{WellPlaced, well_placed, WellPlaced-open
 use Rattle.turnmill.proofs.ZoneLemmas.{some_at}
 use Rattle.turnmill.specs.Channels.{start_position, items_of}
 use Rattle.turnmill.specs.Safety.{CanEnd}
-use Rattle.turnmill.specs.LeftAt.{left_at}
+use Rattle.channel_machine.specs.Motions.{left_at}
 use Rattle.turnmill.specs.SmallSteps.{IsAlong, IsEndOf, IsAtPlace, IsAtEnd, Spot, State, opening, span_of, has_ended, is_running, motions_of, board_position, present, SmallStep, Advance, Act, after_step, IsLawful, AreLawful, reached}
 use Rattle.turnmill.specs.Stretches.{channel_line}
 use Rattle.path_geometry.specs.Motions.{axes_of}
 use Rattle.turnmill.specs.ZoneBoxes.{after}
-use Rattle.turnmill.specs.declared.channels.Item.{Item}
+use Rattle.channel_machine.specs.declared.motions.Item.{Item}
 
 -- a place is at most the number of the motions
 place_within : (at : ℕ → ℤ) (items : List Item) (place : ℕ) (point : Point) → IsAtPlace at items place point → place ≤ length items

@@ -20,13 +20,13 @@ use Rattle.turnmill.proofs.StraightLemmas.{OfItem, MovesStraight, AllMoveStraigh
 use Rattle.turnmill.specs.ChannelRun.{RunView, run_of, runs_of, run_in}
 use Rattle.turnmill.specs.Channels.{start_position, items_of}
 use Rattle.turnmill.specs.FirstAnswer.{first_some}
-use Rattle.turnmill.specs.LeftAt.{left_at}
+use Rattle.channel_machine.specs.Motions.{left_at, IsStraight}
 use Rattle.turnmill.specs.Clash.{own_clock, is_open_at, may_overlap, zones_in_order, pairs_by_group, zone_pairs, BoxPlace, box_pairs, stretch_pairs, pairs_of_zones, compared_pairs, boxes_meet, pair_meets, name_of, pairs_verdict}
 use Rattle.turnmill.specs.ShownStretches.{run_stretch, end_stretch, shown_stretch, held_zone, same_kind, do_overlap, first_touched, first_lines, named, first_in_stretches, first_against, first_of_zones, first_meeting, verdict_by}
 use Rattle.turnmill.specs.Stretches.{Event, Stretch, spans_of, stretches_from, channel_line, stretches_of}
 use Rattle.turnmill.specs.StretchView.{StretchView}
-use Rattle.turnmill.specs.ZoneBoxes.{IsStraight, PlaceBox, zone_box, low_in, high_in, boxes_of, shown_box, moving_box, standing_box, piece_boxes, moves_zone, has_axis}
-use Rattle.turnmill.specs.declared.channels.Item.{Item}
+use Rattle.turnmill.specs.ZoneBoxes.{PlaceBox, zone_box, low_in, high_in, boxes_of, shown_box, moving_box, standing_box, piece_boxes, moves_zone, has_axis}
+use Rattle.channel_machine.specs.declared.motions.Item.{Item}
 use Rattle.turnmill.specs.declared.stretches.PlaceName.{PlaceName}
 use Rattle.turnmill.specs.declared.stretches.StretchKind.{StretchKind}
 use Rattle.turnmill.specs.declared.stretches.StretchKind.TheVariants.{Run, End}

@@ -1,7 +1,5 @@
 pub mod SomeLemmas
 pub mod PositionLemmas
-pub mod BlockMotions
-pub mod BlockOwners
 pub mod Runs
 pub mod CoverLemmas
 pub mod PieceLemmas
@@ -21,6 +19,5 @@ pub mod StraightLemmas
 pub mod JudgeLemmas
 pub mod CountLemmas
 pub mod VerdictLemmas
-pub mod FitLemmas
 pub mod ReportLemmas
 pub mod RunnableLemmas

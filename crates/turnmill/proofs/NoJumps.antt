@@ -13,12 +13,12 @@ use Rattle.turnmill.proofs.Runs.{motions_join}
 use Rattle.turnmill.proofs.StateLemmas.{WellPlaced, WellPlaced-step, well_placed, WellPlaced-opening, not_ended, run_place, board_last, end_place, one_under}
 use Rattle.turnmill.specs.Channels.{start_position, items_of}
 use Rattle.turnmill.specs.Safety.{axis_owner, axis_position, fraction_of, NoJump}
-use Rattle.turnmill.specs.LeftAt.{end_in, left_at}
+use Rattle.channel_machine.specs.Motions.{end_in, left_at}
 use Rattle.turnmill.specs.SmallSteps.{StandsAt, IsAlong, IsEndOf, IsAtPlace, IsAtEnd, Spot, State, opening, span_of, has_ended, motions_of, board_position, beginning, present, Act, after_step, IsLawful, reached}
 use Rattle.turnmill.specs.Stretches.{channel_line}
 use Rattle.path_geometry.specs.Motions.{axes_of}
 use Rattle.turnmill.specs.ZoneBoxes.{after}
-use Rattle.turnmill.specs.declared.channels.Item.{Item}
+use Rattle.channel_machine.specs.declared.motions.Item.{Item}
 
 -- ---- between motions
 

@@ -17,11 +17,11 @@ use Rattle.tape_job.specs.declared.job.ZoneLine.{ZoneLine}
 use Rattle.turnmill.proofs.CoverLemmas.{Covers, IsCovered}
 use Rattle.turnmill.proofs.SomeLemmas.{SomeOf, SomeOf-weaker, SomeOf-map, found_passes, All-found}
 use Rattle.path_geometry.specs.Path.{Point, IsOnPath}
-use Rattle.turnmill.specs.LeftAt.{end_in}
+use Rattle.channel_machine.specs.Motions.{end_in, IsStraight}
 use Rattle.turnmill.specs.SmallSteps.{StandsAt, IsAlong}
 use Rattle.path_geometry.specs.Motions.{axes_of}
-use Rattle.turnmill.specs.ZoneBoxes.{IsStraight, has_axis, PlaceBox, zone_box, low_in, high_in, piece_boxes}
-use Rattle.turnmill.specs.declared.channels.Item.{Item}
+use Rattle.turnmill.specs.ZoneBoxes.{has_axis, PlaceBox, zone_box, low_in, high_in, piece_boxes}
+use Rattle.channel_machine.specs.declared.motions.Item.{Item}
 
 -- ---- the pieces of a motion
 

@@ -6,10 +6,10 @@ use Rattle.std.proofs.lemmas.List.Elements.{All-weaker}
 use Rattle.std.specs.Prelude.{⊤}
 use Rattle.std.specs.List.{last_or, cons_option}
 use Rattle.std.specs.Option.{option_map_or}
-use Rattle.turnmill.specs.LeftAt.{end_in, left_at}
+use Rattle.channel_machine.specs.Motions.{end_in, left_at, IsStraight}
 use Rattle.path_geometry.specs.Motions.{axes_of}
-use Rattle.turnmill.specs.ZoneBoxes.{after, IsStraight}
-use Rattle.turnmill.specs.declared.channels.Item.{Item}
+use Rattle.turnmill.specs.ZoneBoxes.{after}
+use Rattle.channel_machine.specs.declared.motions.Item.{Item}
 
 -- ---- the last of a list
 

@@ -1,29 +1,71 @@
 -- An accepted job can be run.
-use Rattle.std.proofs.Common.{◌≡◌, ℕ, ℤ, List, Option, None, Some, IfSome, IfOk, Result, Ok, Err, refl, arith}
+use Rattle.std.proofs.Common.{◌≡◌, ℕ, ◌≤◌, ◌<◌, ◌==◌, ◌&&◌, ◌||◌, codes, nat_le, nat_lt, Bool, true, false, List, [], ◌∷◌, length, filter, IfOk, Result, Ok, Err, refl, arith}
+use Rattle.std.proofs.lemmas.Bool.{and_parts, false≢true, leb-true, lt-ltb}
+use Rattle.std.specs.List.{list_all}
+use Rattle.std.specs.Str.{bytes_eq}
+use Rattle.channel_machine.specs.Built as machine
+use Rattle.nc_blocks.specs.declared.blocks.Measure.{Measure}
+use Rattle.nc_blocks.specs.declared.blocks.Measure.TheVariants.{Modal, Absolute, Incremental}
+use Rattle.nc_blocks.specs.Statement.{WordView, Assign, AssignAt, G, Axis, Radius, Aux, End, Statement, Empty, WordBlock, Proc, Message}
 use Rattle.nc_faults.specs.declared.Refusal.{Refusal}
 use Rattle.tape_job.proofs.SoundJobs.{accepted_sound}
+use Rattle.tape_job.specs.Built.{is_slot, is_built_word, are_built, is_built, is_g}
 use Rattle.tape_job.specs.Job.{JobView}
 use Rattle.tape_job.specs.Read.{read_of}
-use Rattle.tape_job.specs.SoundJob.{IsSoundJob, IsSoundStatement, IsSoundEnd}
-use Rattle.tape_job.specs.declared.job.Stmt.{Stmt}
-use Rattle.tape_job.specs.declared.job.Stmt.TheVariants.{Move, End}
-use Rattle.path_geometry.specs.Motions.{IsInRange}
-use Rattle.turnmill.specs.Channels.{IsInReach, IsRunnable}
+use Rattle.tape_job.specs.SoundJob.{IsSoundJob, BlocksFit}
+use Rattle.turnmill.specs.Channels.{HasFewAxes, IsRunnable}
 
-end_in_range : (job : JobView) (name : List ℕ) (slot : ℕ) (o : Option ℤ) → IfSome o (IsSoundEnd job name slot) → IfSome o IsInRange
-end_in_range job name slot None h = tt
-end_in_range job name slot (Some at) h = h.0
+-- ---- the blocks that jobs have are those that the machine executes
 
-statement_in_reach : (job : JobView) (name : List ℕ) (stmt : Stmt) → IsSoundStatement job name stmt → IsInReach stmt
-statement_in_reach job name (Move x z) h = (end_in_range job name 0 x h.0, end_in_range job name 2 z h.1)
-statement_in_reach job name End h = tt
+both : (a b : Bool) → a ≡ true → b ≡ true → (a && b) ≡ true
+both true true p q = refl
+both true false p q = absurd cc
+both false b p q = absurd cc
 
-pub runnable : (job : JobView) → IsSoundJob job → IsRunnable job
-runnable job sound = record {
+or_turned : (a b c : Bool) → ((a || b) || c) ≡ true → (a || (b || c)) ≡ true
+or_turned true b c e = refl
+or_turned false b c e = e
+
+word_built : (word : WordView) → is_built_word word ≡ true → machine.is_built_word word ≡ true
+unfolding is_built_word is_slot
+word_built (Assign index value) built = refl
+word_built (AssignAt index value) built = refl
+word_built (G group code) built =
+    let parts = and_parts (group == 1) (nat_le code 1) built in
+    let low : code ≤ 1 = leb-true code 1 parts.1 in
+    both (group == 1) (nat_lt code 2) parts.0 (lt-ltb code 2 (omega arith))
+word_built (Axis address Modal value) built =
+    let x = bytes_eq address (codes "X") in
+    let y = bytes_eq address (codes "Y") in
+    let z = bytes_eq address (codes "Z") in
+    both (x || (y || z)) true (or_turned x y z (and_parts ((x || y) || z) true built).0) refl
+word_built (Axis address Absolute value) built = absurd (false≢true (and_parts (is_slot address) false built).1)
+word_built (Axis address Incremental value) built = absurd (false≢true (and_parts (is_slot address) false built).1)
+word_built (Radius value) built = absurd cc
+word_built (Aux address index operand) built = refl
+word_built End built = refl
+
+words_built : (words : List WordView) → list_all is_built_word words ≡ true → list_all machine.is_built_word words ≡ true
+words_built [] built = refl
+words_built (word ∷ words) built =
+    let parts = and_parts (is_built_word word) (list_all is_built_word words) built in
+    both (machine.is_built_word word) (list_all machine.is_built_word words) (word_built word parts.0) (words_built words parts.1)
+
+statement_built : (statement : Statement) → is_built statement ≡ true → machine.is_built statement ≡ true
+unfolding is_built are_built
+statement_built Empty built = refl
+statement_built (WordBlock words) built = words_built words (and_parts (list_all is_built_word words) (nat_le (length (filter is_g words)) 1) built).0
+statement_built (Proc name) built = refl
+statement_built Message built = refl
+statement_built statement built = absurd cc
+
+-- ---- accepted jobs
+
+pub runnable : (job : JobView) → IsSoundJob job → BlocksFit job → IsRunnable job
+runnable job sound fit = record {
   axes = record { few = sound.few_axes; slots = sound.slot_axes };
   starts = sound.positions;
-  values = λ k program within j block inside. statement_in_reach job _ _ ((sound.programs k program within).statements j block inside);
-  few = λ k program within. let short = (sound.programs k program within).few in omega arith;
+  blocks = λ k program within j block inside. (statement_built _ (sound.programs k program within j block inside), fit k program within j block inside);
 }
 
 -- what an input is read as is a job in which all this holds, or no job

@@ -22,12 +22,12 @@ use Rattle.turnmill.proofs.ZoneLemmas.{FractionsWithin, in_zone_box}
 use Rattle.turnmill.specs.Channels.{start_position, items_of}
 use Rattle.turnmill.specs.Clash.{own_clock, zones_in_order, zone_pairs, pairs_of_zones, compared_pairs, depth_of, pair_meets, verdict_of}
 use Rattle.turnmill.specs.Safety.{axis_owner, axis_position, fraction_of, IsInZone, ZonesMeet, NoneMeet, SafeAlways}
-use Rattle.turnmill.specs.LeftAt.{left_at}
+use Rattle.channel_machine.specs.Motions.{left_at}
 use Rattle.turnmill.specs.SmallSteps.{StandsAt, IsAtPlace, Spot, State, opening, span_of, has_ended, motions_of, board_position, beginning, present, reached}
 use Rattle.tape_job.specs.SoundJob.{IsDeclared, first_owner, IsCarriedBy, IsSoundZone, IsSoundJob}
 use Rattle.turnmill.specs.Stretches.{Stretch, channel_line, spans_of, stretches_from, stretches_of}
 use Rattle.turnmill.specs.ZoneBoxes.{is_carrier, has_axis, PlaceBox, boxes_of, piece_boxes}
-use Rattle.turnmill.specs.declared.channels.Item.{Item}
+use Rattle.channel_machine.specs.declared.motions.Item.{Item}
 use Rattle.turnmill.specs.declared.stretches.Verdict.TheVariants.{Yes}
 
 -- ---- channels of the job

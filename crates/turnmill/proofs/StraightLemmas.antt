@@ -3,8 +3,9 @@ use Rattle.std.proofs.Common.{ℕ, ℤ, ◌+◌, Bool, true, false, cond, List, 
 use Rattle.std.specs.Prelude.{⊤}
 use Rattle.tape_job.specs.declared.job.ZoneLine.{ZoneLine}
 use Rattle.turnmill.proofs.PositionLemmas.{AllJoin}
-use Rattle.turnmill.specs.ZoneBoxes.{IsStraight, PlaceBox, Opened, Waiting, Moving, closed, next_open, walk, boxes_of, after, moves_zone}
-use Rattle.turnmill.specs.declared.channels.Item.{Item}
+use Rattle.channel_machine.specs.Motions.{IsStraight}
+use Rattle.turnmill.specs.ZoneBoxes.{PlaceBox, Opened, Waiting, Moving, closed, next_open, walk, boxes_of, after, moves_zone}
+use Rattle.channel_machine.specs.declared.motions.Item.{Item}
 
 -- ---- motions
 

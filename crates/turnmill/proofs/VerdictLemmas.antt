@@ -9,7 +9,8 @@ use Rattle.tape_job.specs.Job.{JobView}
 use Rattle.turnmill.proofs.Runs.{good_run}
 use Rattle.turnmill.proofs.SomeLemmas.{All-found}
 use Rattle.turnmill.specs.ZoneBoxes.{IsFit}
-use Rattle.turnmill.specs.ChannelRun.{RunView, HasKnownCode, run_of, runs_of, run_in}
+use Rattle.channel_machine.specs.Run.{IsListedEnd}
+use Rattle.turnmill.specs.ChannelRun.{RunView, run_of, runs_of, run_in}
 use Rattle.turnmill.specs.Channels.{IsRunnable}
 use Rattle.turnmill.specs.FirstAnswer.{first_some}
 use Rattle.turnmill.specs.Clash.{BoxPlace, alarm_of, stop_of, first_alarm, compared_pairs, pair_count, pair_meets, pairs_verdict, boxes_verdict, verdict_of}
@@ -69,9 +70,9 @@ none_meets job says = by_alarm (first_alarm (runs_of job)) refl
     by_alarm (Some stopped) e = let alarmed = rw e at says in absurd cc
 
 -- the alarms of the runs have their texts
-pub known_runs : (job : JobView) → IsRunnable job → All (λ (run : RunView). HasKnownCode run.end) (runs_of job)
+pub known_runs : (job : JobView) → IsRunnable job → All (λ (run : RunView). IsListedEnd run.end) (runs_of job)
 unfolding runs_of run_of
-known_runs job runnable = All-map (λ (run : RunView). HasKnownCode run.end) (run_of job) job.channels (λ k d within. (good_run job runnable (get_or job.channels k d)).known)
+known_runs job runnable = All-map (λ (run : RunView). IsListedEnd run.end) (run_of job) job.channels (λ k d within. (good_run job runnable (get_or job.channels k d)).known)
 
 fit_runs : (job : JobView) → IsRunnable job → All (λ (run : RunView). All IsFit run.items) (runs_of job)
 unfolding runs_of run_of

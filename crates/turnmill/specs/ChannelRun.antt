@@ -1,13 +1,12 @@
 -- What a contract sees of the run of a channel.
-use Rattle.std.specs.Prelude.{ℕ, ◌==◌, List, map, find, Option, None, Some, ⊤}
-use Rattle.nc_faults.specs.Texts.{IsAlarmCode}
+use Rattle.std.specs.Prelude.{ℕ, ◌==◌, List, map, find, Option, None, Some}
+use Rattle.channel_machine.specs.declared.motions.Item.{Item}
+use Rattle.channel_machine.specs.declared.run.ChannelEnd.{ChannelEnd}
+use Rattle.channel_machine.specs.declared.run.ChannelEnd.TheVariants.{Ended, Alarmed}
 use Rattle.nc_faults.specs.declared.Alarm.{Alarm}
 use Rattle.tape_job.specs.Job.{JobView}
 use Rattle.tape_job.specs.declared.job.ChannelLine.{ChannelLine}
 use Rattle.turnmill.specs.Channels.{items_of, end_of}
-use Rattle.turnmill.specs.declared.channels.ChannelEnd.{ChannelEnd}
-use Rattle.turnmill.specs.declared.channels.ChannelEnd.TheVariants.{Ended, Alarmed}
-use Rattle.turnmill.specs.declared.channels.Item.{Item}
 
 -- the channel, its motions, and how its run ends
 pub record RunView : Type 0 where
@@ -36,8 +35,3 @@ line_of_end (Alarmed alarm) = alarm.line
 abbrev pub alarm_in : ChannelEnd → Option Alarm
 alarm_in (Ended line) = None
 alarm_in (Alarmed alarm) = Some alarm
-
--- an alarm has a code of the table
-abbrev pub HasKnownCode : ChannelEnd → Type 0
-HasKnownCode (Ended line) = ⊤
-HasKnownCode (Alarmed alarm) = IsAlarmCode alarm.code

@@ -1,5 +1,4 @@
 pub mod Channels
-pub mod LeftAt
 pub mod ChannelRun
 pub mod ZoneBoxes
 pub mod Stretches

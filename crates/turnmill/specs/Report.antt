@@ -12,9 +12,9 @@ use Rattle.path_geometry.specs.declared.motion.Motion.TheVariants.{Line, Rapid}
 use Rattle.path_geometry.specs.declared.motion.Motion.TheVariants as Kind
 use Rattle.tape_job.specs.Job.{JobView}
 use Rattle.turnmill.specs.ChannelRun.{RunView, run_in}
-use Rattle.turnmill.specs.declared.channels.ChannelEnd.{ChannelEnd}
-use Rattle.turnmill.specs.declared.channels.ChannelEnd.TheVariants.{Ended, Alarmed}
-use Rattle.turnmill.specs.declared.channels.Item.{Item}
+use Rattle.channel_machine.specs.declared.run.ChannelEnd.{ChannelEnd}
+use Rattle.channel_machine.specs.declared.run.ChannelEnd.TheVariants.{Ended, Alarmed}
+use Rattle.channel_machine.specs.declared.motions.Item.{Item}
 use Rattle.turnmill.specs.declared.stretches.PlaceName.{PlaceName}
 use Rattle.turnmill.specs.declared.stretches.StretchKind.{StretchKind}
 use Rattle.turnmill.specs.declared.stretches.StretchKind.TheVariants.{Run, End}

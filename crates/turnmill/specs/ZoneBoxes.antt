@@ -12,7 +12,7 @@ use Rattle.path_geometry.specs.declared.motion.Motion.TheVariants.{Line, Rapid}
 use Rattle.path_geometry.specs.declared.motion.Motion.TheVariants as Kind
 use Rattle.tape_job.specs.declared.job.Side.{Side}
 use Rattle.tape_job.specs.declared.job.ZoneLine.{ZoneLine}
-use Rattle.turnmill.specs.declared.channels.Item.{Item}
+use Rattle.channel_machine.specs.declared.motions.Item.{Item}
 use Rattle.turnmill.specs.declared.zone_boxes.ZoneBox.{ZoneBox}
 
 -- where the axes stand after a motion: at its ends, and elsewhere where they stood
@@ -114,12 +114,6 @@ piece_boxes zone depth box = piece_boxes_by box.motion
     piece_boxes_by : Option Item → List Box3
     piece_boxes_by None = zone_box zone box.at box.at ∷ []
     piece_boxes_by (Some item) = map (λ ranges. zone_box zone (low_in ranges box.at) (high_in ranges box.at)) (pieces_at item.motion depth)
-
--- a motion goes along a straight line
-abbrev pub IsStraight : Motion → Type 0
-IsStraight (Line ends) = ⊤
-IsStraight (Rapid ends) = ⊥
-IsStraight (Kind.Arc arc) = ⊥
 
 -- a motion is sound, and moves axes of the row of positions
 pub record IsFit (item : Item) : Type 0 where

@@ -1,134 +1,25 @@
-//! What each channel does: the motions of its program, and where they leave its axes.
-ghost use Rattle.std.specs.Prelude.{◌≡◌, ℕ, ◌<◌, ◌≤◌, [], ◌++◌, length, IfOk, OnOk, find, unwrap_or, option_copied};
-ghost use Rattle.std.specs.Option.{option_to_list};
+//! What each channel does: the run of the program that its CHANNEL line selects.
+ghost use Rattle.std.specs.Prelude.{◌≡◌, ◌==◌, ◌&&◌, ℕ, ◌≤◌, All, IfOk, find, length, map, option_and_then, option_copied};
+ghost use Rattle.channel_machine.specs.Motions.{positions_in};
+ghost use Rattle.channel_machine.specs.Run as machine;
 ghost use Rattle.turnmill.specs.Channels as model;
 ghost use Rattle.turnmill.specs.ChannelRun.{run_of, run_in, alarm_in, line_of_end};
 
-use arrayvec::ArrayVec;
 use axis_sets::{AxisId, ChannelId};
+use channel_machine::{ChannelEnd, Item, Positions, SetUp, run_program};
 use micro_units::Um;
 use nc_faults::Alarm;
-use path_geometry::{Ends, Motion};
 use std::alloc::{AllocError, Global};
 use std::marker::Model;
-use tape_job::{Block, ChannelLine, Job, Stmt};
+use tape_job::{ChannelLine, GeoLine, Job, Program};
 
-/// Where each axis is, by its place among the AXIS lines.
-pub type Positions = [Um; 16];
-
-/// A motion of a channel, with the line of its block.
-#[derive(Clone, Debug, PartialEq, Eq, Drop)]
-pub struct Item {
-    /// The line of the block, counted from 1.
-    pub line: u32,
-    /// The motion that the block makes.
-    pub motion: Motion,
-}
-
-/// The blocks of the program that a CHANNEL line selects.
-#[tactic(auto, unfolding(crate::specs::Channels::blocks_of))]
-fn blocks_of<'a>(job: &'a Job, line: &ChannelLine) -> &'a [Block]
-    ensures { result.now ≡ model.blocks_of job.now line.now }
+/// The program that a CHANNEL line selects.
+fn selected<'a>(job: &'a Job, line: &ChannelLine) -> Option<&'a Program>
+    ensures { option_copied result ≡ option_and_then (model.program_named job.now) line.now.program }
 {
-    let Some(name) = &line.program else {
-        return &[];
-    };
-    match job.programs.get(name) {
-        Some(program) => program.blocks.as_slice(),
-        None => &[],
-    }
-}
-
-/// Whether an axis is this slot of a channel: 0, 1, 2 for X, Y, Z.
-#[tactic(auto, unfolding(crate::specs::Channels::is_slot))]
-fn is_slot(job: &Job, channel: ChannelId, slot: u8, axis: AxisId) -> bool
-    ensures { result ≡ model.is_slot job.now channel slot axis }
-{
-    job.geo.iter().any(|line| line.channel == channel && line.slot == slot && line.axis == axis)
-}
-
-/// The position that a statement of a channel programs for an axis.
-#[tactic(auto, unfolding(crate::specs::Channels::programmed))]
-fn programmed(job: &Job, channel: ChannelId, stmt: &Stmt, axis: AxisId) -> Option<Um>
-    ensures { result ≡ model.programmed job.now channel stmt.now axis }
-{
-    match stmt {
-        Stmt::Move { x, z } => {
-            if is_slot(job, channel, 0, axis) {
-                *x
-            } else if is_slot(job, channel, 2, axis) {
-                *z
-            } else {
-                None
-            }
-        }
-        Stmt::End => None,
-    }
-}
-
-/// An axis that a statement programs, from where it stands to the programmed position.
-#[tactic(auto, unfolding(crate::specs::Channels::end_from))]
-fn end_from(
-    job: &Job,
-    channel: ChannelId,
-    at: &Positions,
-    stmt: &Stmt,
-    index: usize,
-) -> Option<(AxisId, Um, Um)>
-    requires { index < 16 }
-    ensures { result ≡ model.end_from job.now channel (model.positions_in at.now) stmt.now index }
-{
-    let axis = AxisId { index: index as u8 };
-    match programmed(job, channel, stmt, axis) {
-        Some(end) => Some((axis, at[index], end)),
+    match &line.program {
+        Some(name) => job.programs.get(name),
         None => None,
-    }
-}
-
-/// The ends of the motion that a statement makes from where the axes stand, in the order of the AXIS lines.
-#[tactic(auto, unfolding(crate::specs::Channels::ends_from))]
-fn ends_from(job: &Job, channel: ChannelId, at: &Positions, stmt: &Stmt) -> Ends
-    requires { length job.now.axes ≤ 16 }
-    ensures { result.axes ≡ model.ends_from job.now channel (model.positions_in at.now) stmt.now }
-{
-    let mut axes = ArrayVec::new();
-    for index in 0..job.axes.len() {
-        if let Some(end) = end_from(job, channel, at, stmt, index) {
-            axes.push(end);
-        }
-    }
-    Ends { axes }
-}
-
-/// Puts the axes where a statement leaves them.
-#[tactic(auto, using(crate::proofs::Positions::programmed_beyond))]
-fn advance(job: &Job, channel: ChannelId, stmt: &Stmt, at: &mut Positions)
-    requires { model.HasFewAxes job.now }
-    ensures { (axis : ℕ) → model.positions_in at.new axis ≡ unwrap_or (model.programmed job.now channel stmt.now axis) (model.positions_in at.old axis) }
-{
-    for index in 0..job.axes.len() {
-        let axis = AxisId { index: index as u8 };
-        if let Some(end) = programmed(job, channel, stmt, axis) {
-            at[index] = end;
-        }
-    }
-}
-
-/// The motion that a block makes from where the axes stand; the program end makes none.
-#[tactic(auto, unfolding(crate::specs::Channels::item_from))]
-fn item_from(job: &Job, channel: ChannelId, at: &Positions, block: &Block) -> Option<Item>
-    requires { length job.now.axes ≤ 16 }
-    ensures { result ≡ model.item_from job.now channel (model.positions_in at.now) block.now }
-{
-    match block.stmt {
-        Stmt::Move { .. } => {
-            let ends = ends_from(job, channel, at, &block.stmt);
-            Some(Item {
-                line: block.line,
-                motion: Motion::Line(ends),
-            })
-        }
-        Stmt::End => None,
     }
 }
 
@@ -146,7 +37,8 @@ fn start_position(job: &Job, index: usize) -> Um
 /// Where the job puts its axes.
 pub fn start_positions(job: &Job) -> Positions
     requires { length job.now.axes ≤ 16 }
-    ensures { (axis : ℕ) → model.positions_in result axis ≡ model.start_position job.now axis }
+    ensures row { result ≡ model.start_row job.now }
+    ensures each { (axis : ℕ) → positions_in result axis ≡ model.start_position job.now axis }
 {
     let mut at = [Um { micrometres: 0 }; 16];
     for index in 0..16 {
@@ -155,45 +47,40 @@ pub fn start_positions(job: &Job) -> Positions
     at
 }
 
-/// Adds the item, if there is one.
-fn push_some(items: &mut Vec<Item>, item: Option<Item>) -> Result<(), AllocError>
-    ensures { OnOk result (items.new.items ≡ items.old.items ++ option_to_list item) }
+/// The GEO line of a slot of a channel: 0, 1, 2 for X, Y, Z.
+#[tactic(auto, unfolding(crate::specs::Channels::slot_line))]
+fn slot_line(job: &Job, channel: ChannelId, slot: u8) -> Option<GeoLine>
+    ensures { result ≡ model.slot_line job.now channel slot }
 {
-    if let Some(item) = item {
-        items.push(item)?;
-    }
-    Ok(())
+    job.geo
+        .iter()
+        .copied()
+        .find(|line| line.channel == channel && line.slot == slot)
 }
 
-/// Makes the motions of the blocks, and puts the axes where they leave them.
-fn make_items(
-    alloc: Global,
-    job: &Job,
-    channel: ChannelId,
-    blocks: &[Block],
-    at: &mut Positions,
-) -> Result<Vec<Item>, AllocError>
-    requires axes { model.HasFewAxes job.now }
-    requires start { model.StandsAfter job.now channel [] at.old }
-    ensures items { IfOk result (λ items. items.items ≡ model.items_after job.now channel [] blocks.now) }
-    ensures stands { OnOk result (model.StandsAfter job.now channel blocks.now at.new) }
+/// The axis in a slot of a channel.
+fn slot_axis(job: &Job, channel: ChannelId, slot: u8) -> Option<AxisId>
+    ensures { result ≡ model.slot_axis job.now channel slot }
 {
-    let mut items = Vec::new(alloc);
-    for block in blocks {
-        let item = item_from(job, channel, at, block);
-        push_some(&mut items, item)?;
-        advance(job, channel, &block.stmt, at);
+    match slot_line(job, channel, slot) {
+        Some(line) => Some(line.axis),
+        None => None,
     }
-    Ok(items)
 }
 
-/// How the run of a channel ends.
-#[derive(Clone, Copy, Debug, PartialEq, Eq)]
-pub enum ChannelEnd {
-    /// The block at this line ends the program.
-    Ended(u32),
-    /// This alarm stops the channel.
-    Alarmed(Alarm),
+/// What a channel has at its start.
+#[tactic(auto, unfolding(crate::specs::Channels::set_up_of))]
+fn set_up(job: &Job, channel: ChannelId) -> SetUp
+    requires { length job.now.axes ≤ 16 }
+    ensures { result ≡ model.set_up_of job.now channel }
+{
+    let x = slot_axis(job, channel, 0);
+    let y = slot_axis(job, channel, 1);
+    let z = slot_axis(job, channel, 2);
+    SetUp {
+        slots: [x, y, z],
+        start: start_positions(job),
+    }
 }
 
 /// What a channel does from its start to its program end, or to the alarm that stops it.
@@ -246,45 +133,36 @@ pub fn line_of_end(end: &ChannelEnd) -> u32
     }
 }
 
-/// Whether a statement ends the program.
-fn is_end(stmt: &Stmt) -> bool
-    ensures { result ≡ model.is_end stmt.now }
+/// Runs the program that a CHANNEL line selects; where there is none, one without a block.
+fn run_selected(
+    alloc: Global,
+    job: &Job,
+    line: &ChannelLine,
+) -> Result<channel_machine::ChannelRun, AllocError>
+    requires { model.IsRunnable job.now }
+    ensures { IfOk result (λ run. machine.told run ≡ model.program_run job.now line.now) }
 {
-    match stmt {
-        Stmt::Move { .. } => false,
-        Stmt::End => true,
+    let set_up = set_up(job, line.channel);
+    match selected(job, line) {
+        Some(program) => run_program(alloc, &set_up, program.line, &program.blocks),
+        None => run_program(alloc, &set_up, 0, &[]),
     }
 }
 
-/// The block that ends a program.
-fn program_end(blocks: &[Block]) -> Option<Block>
-    ensures { result ≡ find (λ block. model.is_end block.stmt) blocks.now }
-{
-    blocks.iter().copied().find(|block| is_end(&block.stmt))
-}
-
-/// The line of the block that ends a program.
-#[tactic(auto, unfolding(crate::specs::Channels::end_line_in))]
-fn end_line_in(blocks: &[Block]) -> u32
-    ensures { result ≡ model.end_line_in blocks.now }
-{
-    match program_end(blocks) {
-        Some(block) => block.line,
-        None => 0,
-    }
-}
-
-/// Runs the program that a CHANNEL line selects.
-pub fn run_channel(alloc: Global, job: &Job, line: &ChannelLine) -> Result<ChannelRun, AllocError>
-    requires { model.HasFewAxes job.now }
+/// Runs the channel of a CHANNEL line.
+#[tactic(auto, unfolding(crate::specs::ChannelRun::run_of))]
+pub fn run_channel(
+    alloc: Global,
+    job: &Job,
+    line: &ChannelLine,
+) -> Result<ChannelRun, AllocError>
+    requires { model.IsRunnable job.now }
     ensures { IfOk result (λ run. run ≡ run_of job.now line.now) }
 {
-    let blocks = blocks_of(job, line);
-    let mut at = start_positions(job);
-    let items = make_items(alloc, job, line.channel, blocks, &mut at)?;
+    let run = run_selected(alloc, job, line)?;
     Ok(ChannelRun {
         channel: line.channel,
-        items,
-        end: ChannelEnd::Ended(end_line_in(blocks)),
+        items: run.items,
+        end: run.end,
     })
 }

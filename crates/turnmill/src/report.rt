@@ -1,13 +1,14 @@
 //! The text of the report.
 ghost use Rattle.std.specs.Prelude.{◌≡◌, ◌++◌, All, IfOk, OnOk, string_bytes, unwrap_or};
 ghost use Rattle.std.specs.List.{flat_map};
+ghost use Rattle.channel_machine.specs.Run.{IsListedEnd};
 ghost use Rattle.nc_faults.specs.Texts.{IsAlarmCode, IsRefusalCode};
-ghost use Rattle.turnmill.specs.ChannelRun.{HasKnownCode};
 ghost use Rattle.turnmill.specs.Report as model;
 
-use crate::channels::{ChannelEnd, ChannelRun, Item, run_in};
+use crate::channels::{ChannelRun, run_in};
 use crate::stretches::{PlaceName, StretchKind, Verdict};
 use axis_sets::{AxisId, ChannelId};
+use channel_machine::{ChannelEnd, Item};
 use micro_units::Um;
 use nc_faults::{Alarm, Refusal, alarm_text, refusal_text};
 use path_geometry::{Arc, Ends, Motion};
@@ -163,7 +164,7 @@ fn push_alarm_line(out: &mut String, alarm: &Alarm) -> Result<(), AllocError>
 /// an alarm stopped.
 #[tactic(auto, unfolding(crate::specs::Report::end_lines))]
 fn push_end_lines(out: &mut String, end: &ChannelEnd) -> Result<(), AllocError>
-    requires { HasKnownCode end.now }
+    requires { IsListedEnd end.now }
     ensures { OnOk result (string_bytes out.new ≡ string_bytes out.old ++ model.end_lines end.now) }
 {
     match end {
@@ -175,7 +176,7 @@ fn push_end_lines(out: &mut String, end: &ChannelEnd) -> Result<(), AllocError>
 /// Writes the lines of a channel.
 #[tactic(auto, unfolding(crate::specs::Report::channel_lines))]
 fn push_channel_lines(out: &mut String, job: &Job, run: &ChannelRun) -> Result<(), AllocError>
-    requires { HasKnownCode run.now.end }
+    requires { IsListedEnd run.now.end }
     ensures { OnOk result (string_bytes out.new ≡ string_bytes out.old ++ model.channel_lines job.now run.now) }
 {
     let channel = run.channel.number;
@@ -192,7 +193,7 @@ fn push_lines_of(
     runs: &[ChannelRun],
     channel: ChannelId,
 ) -> Result<(), AllocError>
-    requires { All (λ run. HasKnownCode run.end) runs.now }
+    requires { All (λ run. IsListedEnd run.end) runs.now }
     ensures { OnOk result (string_bytes out.new ≡ string_bytes out.old ++ model.lines_of job.now runs.now channel) }
 {
     match run_in(runs, channel) {
@@ -204,7 +205,7 @@ fn push_lines_of(
 /// Writes the lines of all channels, in ascending order.
 #[tactic(auto, unfolding(crate::specs::Report::all_lines))]
 fn push_all_lines(out: &mut String, job: &Job, runs: &[ChannelRun]) -> Result<(), AllocError>
-    requires { All (λ run. HasKnownCode run.end) runs.now }
+    requires { All (λ run. IsListedEnd run.end) runs.now }
     ensures { OnOk result (string_bytes out.new ≡ string_bytes out.old ++ model.all_lines job.now runs.now) }
 {
     for number in 1..9 {
@@ -283,7 +284,7 @@ pub fn report_text(
     runs: &[ChannelRun],
     verdict: &Verdict,
 ) -> Result<String, AllocError>
-    requires { All (λ run. HasKnownCode run.end) runs.now }
+    requires { All (λ run. IsListedEnd run.end) runs.now }
     ensures { IfOk result (λ text. string_bytes text ≡ model.report_bytes job.now runs.now verdict.now) }
 {
     let mut out = String::from_str(alloc, "TURNMILL 1\n")?;

@@ -1,13 +1,14 @@
 //! The stretches of each zone, and the verdict's words.
 ghost use Rattle.std.specs.Prelude.{◌≡◌, ℕ, [], ◌∷◌, All, IfOk, map};
-ghost use Rattle.turnmill.specs.Channels.{positions_in, start_position, HasFewAxes};
-ghost use Rattle.turnmill.specs.LeftAt.{left_at};
+ghost use Rattle.channel_machine.specs.Motions.{left_at, positions_in};
+ghost use Rattle.turnmill.specs.Channels.{start_position, HasFewAxes};
 ghost use Rattle.turnmill.specs.ShownStretches as model;
 ghost use Rattle.turnmill.specs.ZoneBoxes.{IsFit};
 
-use crate::channels::{ChannelRun, Item, Positions, line_of_end, start_positions};
+use crate::channels::{ChannelRun, line_of_end, start_positions};
 use crate::zone_boxes::{ZoneBox, boxes_of, settle};
 use axis_sets::{ChannelId, ZoneId};
+use channel_machine::{Item, Positions};
 use nc_faults::Alarm;
 use std::alloc::{AllocError, Global};
 use std::marker::Model;

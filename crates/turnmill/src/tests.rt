@@ -66,7 +66,7 @@ fn job_source(
 #[test]
 fn answers_inputs(rt: HostRuntime) -> Result<(), Fail> {
     let alloc = rt.alloc();
-    let rows: [(&str, &str, Status, &str); 6] = [
+    let rows: [(&str, &str, Status, &str); 9] = [
         ("", "", Status::Refused, "REFUSED 1 1 no job line\n"),
         (
             ONE,
@@ -75,6 +75,25 @@ fn answers_inputs(rt: HostRuntime) -> Result<(), Fail> {
             "TURNMILL 1\nCHANNEL 1\n9 END\nSTATE ENDED 9\nVERDICT YES\n",
         ),
         (ONE, MOVES, Status::Yes, MOVES_OUTPUT),
+        (
+            ONE,
+            "X=7/2\nX=7 DIV 2\nX=7 MOD 2\nR1=2/3 X=R1*1000\nR1=1/0\n",
+            Status::Alarm,
+            "TURNMILL 1\nCHANNEL 1\n9 LINE X1=3.500\n10 LINE X1=3.000\n11 LINE X1=1.000\n12 LINE X1=666.667\nSTATE ALARM 13 2 division by zero\nVERDICT ALARM CHANNEL 1 LINE 13 CODE 2\n",
+        ),
+        // The lower of two channels that alarm is named. Two zones that meet are not.
+        (
+            TWO,
+            "R1=1/0\n%_N_B_MPF\nG1 X10 F0.2\nG1 Y5\n",
+            Status::Alarm,
+            "TURNMILL 1\nCHANNEL 1\nSTATE ALARM 15 2 division by zero\nCHANNEL 2\n17 LINE X2=10.000\nSTATE ALARM 18 14 no such axis\nVERDICT ALARM CHANNEL 1 LINE 15 CODE 2\n",
+        ),
+        (
+            TWO,
+            "G1 X100\nM30\n%_N_B_MPF\nG1 X100\n",
+            Status::Alarm,
+            "TURNMILL 1\nCHANNEL 1\n15 LINE X1=100.000\n16 END\nSTATE ENDED 16\nCHANNEL 2\n18 LINE X2=100.000\nSTATE ALARM 18 9 no program end\nVERDICT ALARM CHANNEL 2 LINE 18 CODE 9\n",
+        ),
         (
             TWO,
             "G1 X10.001\nM30\n%_N_B_MPF\nG1 X-10\nM30\n",
@@ -102,6 +121,72 @@ fn answers_inputs(rt: HostRuntime) -> Result<(), Fail> {
             status
         );
         assert_eq!(rt; sink.bytes(), output.as_bytes());
+    }
+    Ok(())
+}
+
+// A program that moves so often, alternately to 1 and to 0.
+fn push_moves(out: &mut String, name: &str, moves: u32) -> Result<(), AllocError> {
+    write!(out, "%_N_{name}_MPF\n")?;
+    for number in 0..moves {
+        if number % 2 == 0 {
+            out.push_str("G1 X1\n")?;
+        } else {
+            out.push_str("G1 X0\n")?;
+        }
+    }
+    out.push_str("M30\n")
+}
+
+// A job of two channels that move so often, each below its own zone.
+fn busy_job(alloc: Global, first: u32, second: u32) -> Result<String, AllocError> {
+    let mut out = String::from_str(
+        alloc,
+        "JOB 1
+CHANNEL 1 A START
+CHANNEL 2 B START
+AXIS X1 1 0
+AXIS X2 2 0
+GEO 1 X X1
+GEO 2 X X2
+ZONE 1 1 1 ON +X1 0 10 - 0 10 - 0 10
+ZONE 2 2 2 ON +X2 0 10 - 20 30 - 0 10
+",
+    )?;
+    push_moves(&mut out, "A", first)?;
+    push_moves(&mut out, "B", second)?;
+    Ok(out)
+}
+
+// Each zone has a box for each motion, and one at the end.
+#[test]
+fn compares_as_many_pairs_as_the_budget_allows(rt: HostRuntime) -> Result<(), Fail> {
+    let alloc = rt.alloc();
+    let rows: [(u32, u32, Status, &str); 3] = [
+        (999, 999, Status::Yes, "VERDICT YES\n"),
+        (
+            999,
+            1000,
+            Status::Undecided,
+            "VERDICT UNDECIDED COUNT 1001000 BUDGET 1000000\n",
+        ),
+        (
+            100,
+            9_900,
+            Status::Undecided,
+            "VERDICT UNDECIDED COUNT 1000001 BUDGET 1000000\n",
+        ),
+    ];
+    for (first, second, status, verdict) in rows {
+        let text = busy_job(alloc, first, second)?;
+        let mut source = MemSource::new(text.as_bytes().to_vec(alloc)?, 4096, Vec::new(alloc));
+        let mut sink = MemSink::new(alloc, 4096, Vec::new(alloc));
+        assert_eq!(rt;
+            check_words(alloc, &["check"], &mut source, &mut sink),
+            status,
+            "{first} {second}"
+        );
+        assert!(rt; sink.bytes().ends_with(verdict.as_bytes()), "{first} {second}");
     }
     Ok(())
 }

@@ -1,12 +1,12 @@
 //! The boxes of a zone, from where its axes are.
 ghost use Rattle.std.specs.Prelude.{◌≡◌, ◌==◌, ◌<◌, ℕ, ◌++◌, All, IfOk, OnOk, find, map};
+ghost use Rattle.channel_machine.specs.Motions.{positions_in};
 ghost use Rattle.path_geometry.specs.Motions.{IsSound, axes_of};
-ghost use Rattle.turnmill.specs.Channels.{positions_in};
 ghost use Rattle.turnmill.specs.ZoneBoxes as model;
 
-use crate::channels::{Item, Positions};
 use arrayvec::ArrayVec;
 use axis_sets::AxisId;
+use channel_machine::{Item, Positions};
 use micro_units::Um;
 use std::alloc::{AllocError, Global};
 use swept_boxes::{Box3, Ranges, cover};

@@ -1,6 +1,14 @@
-use Rattle.std.proofs.Common.{◌≤◌, arith}
-use Rattle.turnmill.proofs.Positions.{all_start}
+use Rattle.std.proofs.Common.{◌≡◌, ◌∙◌, ◌<◌, ◌≤◌, ℕ, ℤ, List, ap, sym, arith}
+use Rattle.channel_machine.specs.Motions.{positions_in}
+use Rattle.turnmill.specs.Channels.{start_row}
+use Rattle.turnmill.proofs.Positions.{row_is, whole_row}
 use Rattle.turnmill.proofs.channels.start_positions.Goals as goal
 
 pub returns : goal.returns
-returns c = all_start c.args.job.now c.loop-index.at c.requires c.loop-index.invariant.long (λ k h. c.loop-index.invariant.put k (let here : 16 ≤ c.loop-index.index = omega arith in omega arith))
+returns c =
+    let row : c.loop-index.at ≡ start_row c.args.job.now =
+    whole_row c.args.job.now c.loop-index.at c.requires c.loop-index.invariant.long (λ k h. c.loop-index.invariant.put k (let here : 16 ≤ c.loop-index.index = omega arith in omega arith)) in
+    record {
+      row = row;
+      each = λ axis. ap (λ (at : List ℤ). positions_in at axis) row ∙ row_is c.args.job.now axis;
+    }

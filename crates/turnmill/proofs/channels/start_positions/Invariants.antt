@@ -1,9 +1,10 @@
 use Rattle.std.proofs.Common.{◌≡◌, ℕ, ◌<◌, length}
-use Rattle.turnmill.specs.Channels as model
+use Rattle.channel_machine.specs.Motions.{positions_in}
+use Rattle.turnmill.specs.Channels.{start_position}
 use Rattle.turnmill.proofs.channels.start_positions.Given as goal
 
 abbrev pub invariant-loop-index : goal.invariant-loop-index
 invariant-loop-index l = record {
-  put : (k : ℕ) → k < l.index → model.positions_in l.at k ≡ model.start_position l.job k;
+  put : (k : ℕ) → k < l.index → positions_in l.at k ≡ start_position l.job k;
   long : length l.at ≡ 16;
 }

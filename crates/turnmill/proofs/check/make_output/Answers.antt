@@ -1,22 +1,19 @@
 -- An input that is not too long calls for what it is read as.
-use Rattle.tape_job.proofs.RefusalLemmas.{refusal_in_table}
 use Rattle.tape_job.proofs.SoundJobs.{accepted_sound}
 use Rattle.turnmill.proofs.CheckLemmas.{output_of-short}
 use Rattle.turnmill.proofs.RunnableLemmas.{runnable}
 use Rattle.turnmill.proofs.check.make_output.Goals as goal
 
 pub job_output-requires : goal.job_output-requires
-job_output-requires c = runnable c.in-Ok.job (accepted_sound c.args.bytes.now c.in-Ok.job c.in-Ok.ensures)
+job_output-requires c = runnable c.in-Ok.job (accepted_sound c.args.bytes.now c.in-Ok.job c.in-Ok.ensures.exact) c.in-Ok.ensures.indices
 
 pub refusal_output-requires : goal.refusal_output-requires
-refusal_output-requires c =
-    let read = rw c.in-Err-Refused.field-0-is at c.in-Err-Refused.ensures in
-    rw read at (refusal_in_table c.args.bytes.now)
+refusal_output-requires c = rw c.in-Err-Refused.field-0-is at c.in-Err-Refused.ensures.listed
 
 pub returns-in-Ok : goal.returns-in-Ok
-returns-in-Ok c = rw (output_of-short c.args.bytes.now c.requires, c.in-Ok.ensures) c.job_output.ensures
+returns-in-Ok c = rw (output_of-short c.args.bytes.now c.requires, c.in-Ok.ensures.exact) c.job_output.ensures
 
 pub returns-in-Err-Refused : goal.returns-in-Err-Refused
 returns-in-Err-Refused c =
-    let read = rw c.in-Err-Refused.field-0-is at c.in-Err-Refused.ensures in
+    let read = rw c.in-Err-Refused.field-0-is at c.in-Err-Refused.ensures.exact in
     rw (output_of-short c.args.bytes.now c.requires, read) c.refusal_output.ensures

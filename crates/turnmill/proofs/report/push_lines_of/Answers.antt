@@ -1,8 +1,9 @@
 use Rattle.std.proofs.Common.{◌==◌, sym}
-use Rattle.turnmill.specs.ChannelRun.{RunView, HasKnownCode, run_in}
+use Rattle.channel_machine.specs.Run.{IsListedEnd}
+use Rattle.turnmill.specs.ChannelRun.{RunView, run_in}
 use Rattle.turnmill.proofs.SomeLemmas.{All-found}
 use Rattle.turnmill.proofs.report.push_lines_of.Goals as goal
 
 pub push_channel_lines-requires : goal.push_channel_lines-requires
 unfolding run_in
-push_channel_lines-requires c = All-found (λ (run : RunView). HasKnownCode run.end) (λ run. run.channel == c.args.channel) c.args.runs.now _ c.requires (sym c.in-Some.ensures)
+push_channel_lines-requires c = All-found (λ (run : RunView). IsListedEnd run.end) (λ run. run.channel == c.args.channel) c.args.runs.now _ c.requires (sym c.in-Some.ensures)
