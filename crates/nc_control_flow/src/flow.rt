@@ -1,6 +1,6 @@
 //! A resolved program, and what follows each of its blocks.
 
-ghost use Rattle.std.specs.Prelude.{◌≡◌, ◌+◌, ◌<◌, ◌^◌, length, vec_len, option_copied, slice_get, IfOk};
+ghost use Rattle.std.specs.Prelude.{◌≡◌, ◌+◌, ◌<◌, ◌^◌, length, vec_len, option_copied, slice_get, IfOk, IsSome, ◌↔◌};
 ghost use Rattle.nc_control_flow.specs.Parts.{views};
 
 use crate::index::Index;
@@ -102,7 +102,8 @@ impl Flow {
 
     /// The block at a place, with its line; None past the last block.
     pub fn block(&self, pc: u32) -> Option<&(u32, Block)>
-        ensures { option_copied result ≡ slice_get self.now pc }
+        ensures block { option_copied result ≡ slice_get self.now pc }
+        ensures found { IsSome result ↔ (pc < length self.now) }
     {
         self.blocks.get(pc as usize)
     }

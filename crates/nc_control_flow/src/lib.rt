@@ -16,3 +16,6 @@ mod structures;
 pub use flow::{Flow, Next, Outcome, resolve};
 pub use nest::Nest;
 pub use repeats::Repeats;
+
+#[cfg(test)]
+mod tests;

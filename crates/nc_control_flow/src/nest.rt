@@ -75,6 +75,12 @@ impl Model for Nest {
     ghost view = { λ n. n.«open».items };
 }
 
+impl Default for Nest {
+    fn default() -> Nest {
+        Nest::new()
+    }
+}
+
 impl Nest {
     ghost use Rattle.std.specs.Prelude.{[]};
 

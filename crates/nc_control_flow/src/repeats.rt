@@ -49,6 +49,12 @@ impl Model for Repeats {
     ghost invariant = { λ r. All OwnFits r.running.items };
 }
 
+impl Default for Repeats {
+    fn default() -> Repeats {
+        Repeats::new()
+    }
+}
+
 impl Repeats {
     /// None runs.
     pub fn new() -> Repeats

@@ -1,0 +1,17 @@
+-- The places to which subprograms return, the latest first.
+use Rattle.std.specs.Prelude.{◌≡◌, ℕ, ◌==◌, List, [], ◌∷◌, length, Option, Some, None, Result, Ok, Err, if◌then◌else◌}
+use Rattle.nc_subprograms.specs.declared.Place.{Place}
+
+-- the level of the main program and those of 15 calls are the most; one more is alarm 6
+abbrev pub called : List Place → Place → Result (List Place) ℕ
+called stack place = if length stack == 15 then Err 6 else Ok (place ∷ stack)
+
+-- after a fault the stack is unchanged
+abbrev pub Calls : Result (List Place) ℕ → Result Unit ℕ → List Place → List Place → Type 0
+Calls (Ok stack) result old new = (result ≡ Ok tt) × (new ≡ stack)
+Calls (Err code) result old new = (result ≡ Err code) × (new ≡ old)
+
+-- the latest place is the one that is returned to; the main level returns to none
+abbrev pub Returns : List Place → Option Place → List Place → Type 0
+Returns [] result new = (result ≡ None) × (new ≡ [])
+Returns (place ∷ stack) result new = (result ≡ Some place) × (new ≡ stack)
