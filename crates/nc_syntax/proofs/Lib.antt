@@ -1,1 +1,4 @@
 pub mod Broken
+pub mod FormRefusals
+pub mod RefusedWords
+pub mod BlockRefusals

@@ -1,11 +1,12 @@
 //! The block of a line.
 
-ghost use Rattle.std.specs.Prelude.{◌≡◌, ◌<◌, ◌≤◌, ◌+◌, length, IfOk};
+ghost use Rattle.std.specs.Prelude.{◌≡◌, ◌<◌, ◌≤◌, ◌+◌, length, IfOk, IfErr};
 ghost use Rattle.std.specs.Bool.{OnTrue};
 ghost use Rattle.block_scanner.specs.Scanned.{IsScanned};
 ghost use Rattle.nc_syntax.specs.Blocks.{skip_of, has_number, number_at, label_at, head_of, block_of, statement_of};
 ghost use Rattle.nc_blocks.specs.Indices.{StatementFits};
 ghost use Rattle.nc_blocks.specs.Reading.{Gives};
+ghost use Rattle.nc_blocks.specs.Refusals.{IsListed};
 ghost use Rattle.nc_blocks.specs.Statement.{statement_view, view_of};
 
 use crate::bodies::body_at;
@@ -111,14 +112,13 @@ fn block_of(alloc: Global, words: &Words<'_>) -> Result<Block, SyntaxFault>
     }
 }
 
-/// Reads one scanned line of a part program.
-///
-/// `compensation` says whether the job accepts tool radius compensation. `Refused` has the code of
-/// the first broken rule: the leftmost refused word; else 21 where a number is out of range; else
-/// what is wrong with the form, at the leftmost place at which the line goes on to no form.
-/// `NoMemory` says nothing of the line.
+/// Reads as the definition does.
 #[tactic(auto, unfolding(crate::specs::Blocks::statement_of))]
-pub fn statement(alloc: Global, words: &Words<'_>, compensation: bool) -> Result<Block, SyntaxFault>
+fn statement_exactly(
+    alloc: Global,
+    words: &Words<'_>,
+    compensation: bool,
+) -> Result<Block, SyntaxFault>
     requires { IsScanned words.now }
     ensures exact { Gives view_of (statement_of words.now compensation) result }
     ensures indices { IfOk result (λ b. StatementFits (statement_view b.stmt)) }
@@ -133,4 +133,20 @@ pub fn statement(alloc: Global, words: &Words<'_>, compensation: bool) -> Result
             }
         }
     }
+}
+
+/// Reads one scanned line of a part program.
+///
+/// `compensation` says whether the job accepts tool radius compensation. `Refused` has the code of
+/// the first broken rule: the leftmost refused word; else 21 where a number is out of range; else
+/// what is wrong with the form, at the leftmost place at which the line goes on to no form.
+/// `NoMemory` says nothing of the line.
+#[tactic(auto, using(crate::proofs::BlockRefusals::refusals_listed))]
+pub fn statement(alloc: Global, words: &Words<'_>, compensation: bool) -> Result<Block, SyntaxFault>
+    requires { IsScanned words.now }
+    ensures exact { Gives view_of (statement_of words.now compensation) result }
+    ensures listed { IfErr result IsListed }
+    ensures indices { IfOk result (λ b. StatementFits (statement_view b.stmt)) }
+{
+    statement_exactly(alloc, words, compensation)
 }
