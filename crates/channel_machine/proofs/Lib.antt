@@ -1,4 +1,5 @@
 pub mod AlarmLaws
+pub mod BuiltLaws
 pub mod Ends
 pub mod MotionLaws
 pub mod Moves

@@ -1,5 +1,5 @@
 -- Which statements a channel can execute today.
-use Rattle.std.specs.Prelude.{ℕ, ◌==◌, nat_lt, ◌&&◌, ◌||◌, Bool, true, false, List, codes}
+use Rattle.std.specs.Prelude.{ℕ, ◌==◌, nat_lt, nat_le, ◌&&◌, ◌||◌, Bool, true, false, List, filter, length, codes}
 use Rattle.std.specs.List.{list_all}
 use Rattle.std.specs.Str.{bytes_eq}
 use Rattle.nc_blocks.specs.declared.blocks.Measure.{Measure}
@@ -25,10 +25,18 @@ is_built_word (Radius value) = false
 is_built_word (Aux name index operand) = true
 is_built_word End = true
 
+abbrev pub is_g : WordView → Bool
+is_g (G group code) = true
+is_g word = false
+
+-- these words, with one word of a group at most
+abbrev pub are_built : List WordView → Bool
+are_built words = list_all is_built_word words && nat_le (length (filter is_g words)) 1
+
 -- blocks without a body, heads, messages, and blocks of these words
 abbrev pub is_built : Statement → Bool
 is_built Empty = true
-is_built (WordBlock words) = list_all is_built_word words
+is_built (WordBlock words) = are_built words
 is_built (Proc name) = true
 is_built Message = true
 is_built statement = false

@@ -1,6 +1,6 @@
 //! Which statements a channel can execute.
 
-ghost use Rattle.std.specs.Prelude.{◌≡◌, map};
+ghost use Rattle.std.specs.Prelude.{◌≡◌, filter, length, map};
 ghost use Rattle.std.specs.List.{list_all};
 ghost use Rattle.nc_blocks.specs.Statement.{statement_view, word_view};
 ghost use Rattle.channel_machine.specs.Built as model;
@@ -28,8 +28,8 @@ fn is_built_word(word: &Word) -> bool
     }
 }
 
-/// Whether a channel can execute these words.
-fn are_built(words: &[Word]) -> bool
+/// Whether each of these words is built.
+fn all_built(words: &[Word]) -> bool
     ensures { result ≡ list_all model.is_built_word (map word_view words.now) }
 {
     for word in words {
@@ -38,6 +38,28 @@ fn are_built(words: &[Word]) -> bool
         }
     }
     true
+}
+
+/// Whether this is a word of a group.
+fn is_g(word: &Word) -> bool
+    ensures { result ≡ model.is_g (word_view word.now) }
+{
+    matches!(word, Word::G(_, _))
+}
+
+/// How many of these words are words of a group.
+fn count_g(words: &[Word]) -> usize
+    ensures { result ≡ length (filter (λ word. model.is_g (word_view word)) words.now) }
+{
+    words.iter().filter(|word| is_g(word)).count()
+}
+
+/// Whether a channel can execute these words.
+#[tactic(auto, using(crate::proofs::BuiltLaws::count_views))]
+fn are_built(words: &[Word]) -> bool
+    ensures { result ≡ model.are_built (map word_view words.now) }
+{
+    all_built(words) && count_g(words) <= 1
 }
 
 /// Whether a channel can execute this statement.

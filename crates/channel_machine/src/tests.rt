@@ -1,4 +1,4 @@
-//! Programs, and what a channel does with them by another program that was written from the rules.
+//! Programs, with what another program worked out from the rules for each of them.
 
 ghost use Rattle.std.specs.Prelude.{◌<◌, All, IfOk, IsTrue};
 ghost use Rattle.nc_blocks.specs.Indices.{StatementFits};
@@ -192,6 +192,23 @@ fn long_programs_run(rt: HostRuntime) -> Result<(), Fail> {
         let blocks = idle_blocks(alloc, *count)?;
         let run = run_program(alloc, &set_up(), 1, blocks.as_slice())?;
         assert_eq!(rt; said(alloc, &run)?.as_str(), *expected);
+    }
+    Ok(())
+}
+
+/// Lines of words that no channel can execute.
+static NOT_BUILT: [&str; 7] = [
+    "G0 X5 G1", "G2 X5", "G33 Z5", "X=IC(5)", "X5 I5", "CR=5", "X1=5",
+];
+
+#[test]
+fn other_words_are_not_built(rt: HostRuntime) -> Result<(), Fail> {
+    let alloc = rt.alloc();
+    for line in &NOT_BUILT {
+        let bytes = line.as_bytes();
+        assert!(rt; bytes.len() <= 512);
+        let words = scan(alloc, bytes)?;
+        assert!(rt; !is_built(&words_form(alloc, &words, 0)?), "{line}");
     }
     Ok(())
 }
