@@ -1,1 +1,134 @@
-//! Job lines read from texts.
+//! Job lines and headers, read from their words.
+use crate::*;
+use axis_sets::{ChannelId, ZoneId};
+use micro_units::Um;
+use std::test::Fail;
+
+#[test]
+fn reads_job_lines(rt: HostRuntime) -> Result<(), Fail> {
+    match item_in(b"CHANNEL", &[b"2", b"LEFT_1", b"START"]) {
+        Ok(Item::Channel(channel, program)) => {
+            assert_eq!(rt; channel, ChannelId { number: 2 });
+            assert_eq!(rt; program.as_bytes(), b"LEFT_1".as_slice());
+        }
+        _ => return Err(Fail::from("no channel")),
+    }
+    let name = AxisName {
+        letter: b'X',
+        number: 2,
+    };
+    match item_in(b"AXIS", &[b"X2", b"1", b"-100.25"]) {
+        Ok(Item::Axis(axis, owner, at)) => {
+            assert_eq!(rt; axis, name);
+            assert_eq!(rt; owner, ChannelId { number: 1 });
+            assert_eq!(rt;
+                at,
+                Um {
+                    micrometres: -100_250
+                }
+            );
+        }
+        _ => return Err(Fail::from("no axis")),
+    }
+    match item_in(b"GEO", &[b"1", b"Z", b"X2"]) {
+        Ok(Item::Geo(channel, slot, axis)) => {
+            assert!(rt; channel == ChannelId { number: 1 } && slot == 2 && axis == name)
+        }
+        _ => return Err(Fail::from("no slot")),
+    }
+    let words = [
+        b"32".as_slice(),
+        b"5",
+        b"1",
+        b"ON",
+        b"-X2",
+        b"-10",
+        b"10.125",
+        b"-",
+        b"0",
+        b"0",
+        b"-",
+        b"1",
+        b"1",
+    ];
+    match item_in(b"ZONE", &words) {
+        Ok(Item::Zone(zone, group, _, x, _, _)) => {
+            assert!(rt; zone == ZoneId { number: 32 } && group == 5);
+            assert!(rt; x.carrier == Some((name, true)) && x.hi.micrometres == 10_125);
+        }
+        _ => return Err(Fail::from("no zone")),
+    }
+    Ok(())
+}
+
+#[test]
+fn refuses_job_lines(rt: HostRuntime) {
+    let cases = [
+        (item_in(b"FOO", &[]), Code::UnknownJobLine),
+        (item_in(b"AXIS", &[b"X2", b"1"]), Code::UnknownJobLine),
+        (
+            item_in(b"CHANNEL", &[b"x", b"A", b"STRAT"]),
+            Code::UnknownJobLine,
+        ),
+        (item_in(b"AXIS", &[b"X02", b"1", b"0"]), Code::OutOfRange),
+        (item_in(b"AXIS", &[b"X2", b"9", b"0"]), Code::OutOfRange),
+        (
+            item_in(b"AXIS", &[b"X2", b"1", b"10000.001"]),
+            Code::OutOfRange,
+        ),
+        (item_in(b"JOB", &[b"1"]), Code::DeclaredTwice),
+        (item_in(b"AXIS", &[b"X2", b"FREE", b"0"]), Code::NotBuilt),
+        (item_in(b"MARGIN", &[b"1"]), Code::NotBuilt),
+    ];
+    for (item, code) in cases {
+        match item {
+            Err(refused) => assert_eq!(rt; refused, code),
+            Ok(_) => assert!(rt; false, "a line that breaks a rule is read"),
+        }
+    }
+}
+
+#[test]
+fn reads_headers(rt: HostRuntime) -> Result<(), Fail> {
+    let cases = [
+        (b"%_N_A_MPF".as_slice(), b"A".as_slice()),
+        (b"%_N_LEFT_1_SPF", b"LEFT_1"),
+        (b"%_N_A_MPF_MPF", b"A_MPF"),
+        (
+            b"%_N_ABCDEFGHIJKLMNOPQRSTUVWX_MPF",
+            b"ABCDEFGHIJKLMNOPQRSTUVWX",
+        ),
+    ];
+    for (word, name) in cases {
+        let header = header_in(&[word]).ok().ok_or("no header")?;
+        assert_eq!(rt; header.as_bytes(), name);
+    }
+    let broken = [
+        b"%_N__MPF".as_slice(),
+        b"%_N_ABCDEFGHIJKLMNOPQRSTUVWXY_MPF",
+        b"%_N_A-_MPF",
+        b"%_N_A",
+    ];
+    for word in broken {
+        assert_eq!(rt; header_in(&[word]).err(), Some(Code::BadHeader));
+    }
+    assert_eq!(rt; header_in(&[b"%_N_A_MPF", b"X"]).err(), Some(Code::BadHeader));
+    Ok(())
+}
+
+#[test]
+fn shows_codes(rt: HostRuntime) {
+    let codes = [
+        (Code::NoJobLine, 1),
+        (Code::LineTooLong, 2),
+        (Code::BadByte, 3),
+        (Code::NameRepeated, 9),
+        (Code::BadHeader, 10),
+        (Code::OpenText, 20),
+        (Code::NotInLibrary, 60),
+        (Code::NotBuilt, 60),
+    ];
+    for (code, shown) in codes {
+        assert_eq!(rt; code.shown(), shown);
+    }
+}

@@ -1,5 +1,7 @@
--- What a line of a program says, from its scanned tokens.
-use Rattle.std.proofs.Common.{◌≡◌, ◌∙◌, ℕ, Bool, true, false, ◌==◌, List, [], ◌∷◌, Result, Ok, Err, length, ap, sym, refl, true≢false, rules, arith}
+-- What a line of a program says, from its scanned tokens, and the codes by which it is refused.
+use Rattle.std.proofs.Common.{◌≡◌, ◌∙◌, ℕ, Bool, true, false, ◌&&◌, ◌||◌, ◌==◌, List, [], ◌∷◌, Result, Ok, Err, length, ap, sym, subst, refl, true≢false, rules, arith}
+use Rattle.std.specs.List.{list_any, list_all}
+use Rattle.std.proofs.lemmas.Bool.{eqb-true}
 use Rattle.block_scanner.specs.Tokens.{tokens_of}
 use Rattle.block_scanner.specs.WordsView.{WordsView}
 use Rattle.block_scanner.specs.declared.ScanFault.{ScanFault}
@@ -7,6 +9,8 @@ use Rattle.block_scanner.specs.declared.ScanFault.TheVariants as fault
 use Rattle.block_scanner.specs.declared.Token.{Token}
 use Rattle.job_lines.specs.Code.{shown}
 use Rattle.job_lines.specs.declared.code.Code.TheVariants.{BadByte, OpenText}
+use Rattle.nc_blocks.specs.Refusals.{block_refusals, IsBlockRefusal}
+use Rattle.nc_faults.specs.Texts.{refusal_texts, has_code, IsRefusalCode}
 use Rattle.nc_syntax.specs.Blocks.{statement_of}
 use Rattle.tape_job.specs.Reading.{ReadingView, Blank, words_of, step_of, tokens_reading, block_reading}
 
@@ -43,3 +47,22 @@ pub block_with_open_text : (compensation : Bool) (text : List ℕ) (place : ℕ)
     → block_reading compensation text ≡ Err (shown OpenText)
 unfolding block_reading
 block_with_open_text compensation text place scanned = ap (tokens_reading compensation text) scanned
+
+one_of_codes : (code other : ℕ) (same found here all : Bool) → (other == code) ≡ same → here ≡ has_code refusal_texts other → here && all ≡ true → same || found ≡ true
+    → (all ≡ true → found ≡ true → has_code refusal_texts code ≡ true) → has_code refusal_texts code ≡ true
+one_of_codes code other true found true all same here each some rest = subst (λ c. has_code refusal_texts c ≡ true) (eqb-true other code same) (sym here)
+one_of_codes code other true found false all same here each some rest = absurd (true≢false (sym each))
+one_of_codes code other false found true all same here each some rest = rest each some
+one_of_codes code other false found false all same here each some rest = absurd (true≢false (sym each))
+
+one_has_text : (code : ℕ) (codes : List ℕ) → list_all (λ other. has_code refusal_texts other) codes ≡ true → list_any (λ other. other == code) codes ≡ true
+    → has_code refusal_texts code ≡ true
+one_has_text code [] each some = absurd (true≢false (sym some))
+one_has_text code (other ∷ codes) each some =
+    one_of_codes code other (other == code) (list_any (λ o. o == code) codes) (has_code refusal_texts other) (list_all (λ o. has_code refusal_texts o) codes)
+    refl refl each some (one_has_text code codes)
+
+-- each code by which a block is refused has a text
+pub block_refusal_has_text : (code : ℕ) → IsBlockRefusal code → IsRefusalCode code
+unfolding IsBlockRefusal IsRefusalCode block_refusals refusal_texts
+block_refusal_has_text code is = one_has_text code block_refusals refl is

@@ -163,7 +163,7 @@ fn has_no_tokens(words: &Words<'_>) -> bool
 }
 
 /// What a line of a program says, from its tokens.
-#[tactic(auto, unfolding(crate::specs::Reading::step_of))]
+#[tactic(auto, using(crate::proofs::ReadingLemmas::block_refusal_has_text), unfolding(crate::specs::Reading::step_of))]
 fn step_in(alloc: Global, words: &Words<'_>, compensation: bool) -> Result<Reading, LineFault>
     requires { IsScanned words.now }
     ensures exact { Gives result (step_of (statement_of words.now compensation)) }

@@ -1,1 +1,171 @@
 //! Whole jobs, and each refusal, read from texts.
+use crate::*;
+use axis_sets::{AxisId, ChannelId, ZoneId};
+use micro_units::Um;
+use nc_blocks::{Stmt, Word};
+use std::alloc::Global;
+use std::test::Fail;
+
+/// The job of a text, or none where it is refused or memory runs out.
+fn job_of(alloc: Global, text: &str) -> Option<Job> {
+    let bytes = text.as_bytes();
+    if bytes.len() > 8_388_609 {
+        return None;
+    }
+    match read_job(alloc, bytes) {
+        Ok(job) => Some(job),
+        Err(_) => None,
+    }
+}
+
+/// The code and the line of the refusal of an input, or none where it is accepted or memory runs out.
+fn refusal_of(alloc: Global, bytes: &[u8]) -> Option<(u16, u32)> {
+    if bytes.len() > 8_388_609 {
+        return None;
+    }
+    match read_job(alloc, bytes) {
+        Err(JobFault::Refused(refused)) => Some((refused.code, refused.line)),
+        _ => None,
+    }
+}
+
+#[test]
+fn reads_channels_and_axes(rt: HostRuntime) -> Result<(), Fail> {
+    let text =
+        "\nJob 1 ; any case\r\nChannel 2 left_1 start\nAXIS x2 2 -100.25\nGEO 2 Z X2\n%_N_LEFT_1_MPF\nM30";
+    let job = job_of(rt.alloc(), text).ok_or("no job")?;
+    let line = job.channels.first().ok_or("no channel")?;
+    let channel = ChannelId { number: 2 };
+    assert!(rt; line.line == 3 && line.channel == channel && line.starts);
+    let program = line.program.as_ref().ok_or("no program")?;
+    assert_eq!(rt; program.as_bytes(), b"LEFT_1".as_slice());
+    let owner = Some(channel);
+    let at = Um {
+        micrometres: -100_250,
+    };
+    assert_eq!(rt;
+        job.axes.first(),
+        Some(&AxisLine {
+            line: 4,
+            letter: b'X',
+            number: 2,
+            owner,
+            at
+        })
+    );
+    let axis = AxisId { index: 0 };
+    assert_eq!(rt;
+        job.geo.first(),
+        Some(&GeoLine {
+            line: 5,
+            channel,
+            slot: 2,
+            axis
+        })
+    );
+    Ok(())
+}
+
+#[test]
+fn reads_a_zone(rt: HostRuntime) -> Result<(), Fail> {
+    let text =
+        "JOB 1\nCHANNEL 1 A START\nAXIS Z9 1 0\nZONE 32 5 1 ON -Z9 -10 10.125 - 0 0 - 1 1\n%_N_A_MPF\nM30";
+    let job = job_of(rt.alloc(), text).ok_or("no job")?;
+    let zone = job.zones.first().ok_or("no zone")?;
+    assert!(rt; zone.line == 4 && zone.zone == ZoneId { number: 32 } && zone.group == 5 && zone.on);
+    assert_eq!(rt; zone.holder, Some(ChannelId { number: 1 }));
+    let carrier = Some((AxisId { index: 0 }, true));
+    let lo = Um {
+        micrometres: -10_000,
+    };
+    let hi = Um {
+        micrometres: 10_125,
+    };
+    assert_eq!(rt; zone.sides.first(), Some(&Side { carrier, lo, hi }));
+    Ok(())
+}
+
+#[test]
+fn reads_programs(rt: HostRuntime) -> Result<(), Fail> {
+    let text =
+        "JOB 1\n%_n_a_1_spf ; a subprogram\nn10 g1 x5 r1=2 ; a block\n\n; no block\nM30\n%_N_B_MPF";
+    let job = job_of(rt.alloc(), text).ok_or("no job")?;
+    assert_eq!(rt; job.programs.len(), 2);
+    let (name, program) = job.programs.first().ok_or("no program")?;
+    assert_eq!(rt; name.as_bytes(), b"A_1".as_slice());
+    assert_eq!(rt; program.line, 2);
+    let (line, block) = program.blocks.first().ok_or("no block")?;
+    assert!(rt; *line == 3 && block.number == Some(10));
+    match &block.stmt {
+        Stmt::Words(words) => assert_eq!(rt; words.len(), 3),
+        _ => return Err(Fail::from("no words")),
+    }
+    let (line, block) = program.blocks.last().ok_or("no block")?;
+    assert_eq!(rt; *line, 6);
+    match &block.stmt {
+        Stmt::Words(words) => match words.first() {
+            Some(Word::End) => {}
+            _ => return Err(Fail::from("no end")),
+        },
+        _ => return Err(Fail::from("no words")),
+    }
+    let (name, program) = job.programs.last().ok_or("no program")?;
+    assert_eq!(rt; name.as_bytes(), b"B".as_slice());
+    assert!(rt; program.line == 7 && program.blocks.is_empty());
+    Ok(())
+}
+
+#[test]
+fn tries_each_rule_in_order(rt: HostRuntime) {
+    let cases = [
+        (b"".as_slice(), Some((1, 1))),
+        (b"\n ;x\n", Some((1, 1))),
+        (b"\nJOB 01\n", Some((1, 2))),
+        (b"%_N_A_MPF\n", Some((1, 1))),
+        (b"JOB 2 \x01\n", Some((3, 1))),
+        (b"\n\x01\n", Some((3, 2))),
+        (b"JOB 1 ;\x01\n", None),
+        (b"JOB 1\nJOB 1\n", Some((60, 2))),
+        (b"JOB 1\nFOO\n", Some((60, 2))),
+        (b"JOB 1\nCHANNEL 1 A START\n%_N_B_MPF\n", Some((60, 2))),
+        (b"JOB 1\n%_N_A\n", Some((10, 2))),
+        (b"JOB 1\n%_N_A_MPF x\n", Some((10, 2))),
+        (b"JOB 1\n%_N_A_MPF\n%_n_a_spf\n", Some((9, 3))),
+        (b"JOB 1\n%_N_A_MPF\n%_N_A_SPF\x01\n", Some((3, 3))),
+        (b"JOB 1\n%_N_A_MPF\nX5 \x01 \"a\n", Some((3, 3))),
+        (b"JOB 1\n%_N_A_MPF\nX5 \"a \x01\n", Some((20, 3))),
+        (b"JOB 1\n%_N_A_MPF\nMSG(\"a;b\") ;\x01 \"\n", None),
+        (b"JOB 1\n%_N_A_MPF\nG2 $\n", Some((44, 3))),
+        (b"JOB 1\n%_N_A_MPF\nG2 X5 5\n", Some((22, 3))),
+        (b"JOB 1\n%_N_A_MPF\nG2 X5\n", Some((60, 3))),
+        (b"JOB 1\n%_N_A_MPF\nG0 G1 X5\n", Some((60, 3))),
+        (b"JOB 1\n%_N_A_MPF\nX=IC(5)\n", Some((60, 3))),
+        (b"JOB 1\n%_N_A_MPF\nGOTOF END_1\n", Some((60, 3))),
+        (b"JOB 1\n%_N_A_MPF\n%_N_A_MPF\nG2\n", Some((9, 3))),
+    ];
+    for (bytes, refusal) in cases {
+        assert_eq!(rt; refusal_of(rt.alloc(), bytes), refusal, "of {bytes:?}");
+    }
+}
+
+#[test]
+fn counts_the_line_end(rt: HostRuntime) -> Result<(), Fail> {
+    let cases = [
+        (511, "\n", None),
+        (512, "\n", Some((2, 2))),
+        (510, "\r\n", None),
+        (511, "\r\n", Some((2, 2))),
+        (512, "", None),
+        (513, "", Some((2, 2))),
+    ];
+    for (bytes, end, refusal) in cases {
+        let mut text = String::new(rt.alloc());
+        text.push_str("JOB 1\n")?;
+        for _ in 0..bytes {
+            text.push(';')?;
+        }
+        text.push_str(end)?;
+        assert_eq!(rt; refusal_of(rt.alloc(), text.as_bytes()), refusal, "of {bytes} bytes");
+    }
+    Ok(())
+}

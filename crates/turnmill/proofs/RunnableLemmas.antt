@@ -51,10 +51,26 @@ words_built (word ∷ words) built =
     let parts = and_parts (is_built_word word) (list_all is_built_word words) built in
     both (machine.is_built_word word) (list_all machine.is_built_word words) (word_built word parts.0) (words_built words parts.1)
 
+same_g : (word : WordView) → is_g word ≡ machine.is_g word
+same_g (Assign index value) = refl
+same_g (AssignAt index value) = refl
+same_g (G group code) = refl
+same_g (Axis address measure value) = refl
+same_g (Radius value) = refl
+same_g (Aux address index operand) = refl
+same_g End = refl
+
+count_g : (words : List WordView) → filter is_g words ≡ filter machine.is_g words
+count_g [] = refl
+count_g (word ∷ words) = rw (same_g word, count_g words) refl
+
 statement_built : (statement : Statement) → is_built statement ≡ true → machine.is_built statement ≡ true
 unfolding is_built are_built
 statement_built Empty built = refl
-statement_built (WordBlock words) built = words_built words (and_parts (list_all is_built_word words) (nat_le (length (filter is_g words)) 1) built).0
+statement_built (WordBlock words) built =
+    let parts = and_parts (list_all is_built_word words) (nat_le (length (filter is_g words)) 1) built in
+    both (list_all machine.is_built_word words) (nat_le (length (filter machine.is_g words)) 1) (words_built words parts.0)
+    (rw (← count_g words) parts.1)
 statement_built (Proc name) built = refl
 statement_built Message built = refl
 statement_built statement built = absurd cc
