@@ -15,7 +15,7 @@ use std::collections::HashMap;
 pub(crate) type Name = ArrayVec<u8, 32>;
 
 /// The label with these bytes.
-pub(crate) fn name_of(bytes: &[u8]) -> Name
+fn name_of(bytes: &[u8]) -> Name
     requires { length bytes.now ≤ 32 }
     ensures { result.items ≡ bytes.now }
 {
@@ -27,7 +27,7 @@ pub(crate) fn name_of(bytes: &[u8]) -> Name
 }
 
 /// Notes one more place of a label.
-pub(crate) fn note_label(
+fn note_label(
     alloc: Global,
     labels: &mut HashMap<Name, Vec<u32>>,
     name: &[u8],
@@ -45,7 +45,7 @@ pub(crate) fn note_label(
 }
 
 /// Notes one more place of a block number.
-pub(crate) fn note_number(
+fn note_number(
     alloc: Global,
     numbers: &mut HashMap<u32, Vec<u32>>,
     number: u32,
