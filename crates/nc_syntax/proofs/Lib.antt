@@ -1,2 +1,3 @@
 pub mod Broken
 pub mod Standings
+pub mod Marked
