@@ -1,3 +1,4 @@
 pub mod Broken
 pub mod Standings
 pub mod Marked
+pub mod Chained
