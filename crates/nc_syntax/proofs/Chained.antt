@@ -3,9 +3,9 @@ use Rattle.std.proofs.Common.{◌≡◌, ℕ, zero, suc, ◌+◌, ◌-◌, ◌<�
 use Rattle.std.specs.Prelude.{IsTrue}
 use Rattle.block_scanner.specs.declared.Token.{Token}
 use Rattle.block_scanner.specs.declared.Words.{Words}
-use Rattle.nc_syntax.specs.Reading.{◌>>=◌}
-use Rattle.nc_syntax.specs.Lists.{Item, go_on, listed, list_at}
-use Rattle.nc_syntax.proofs.Listing.{list_goes_on, list_ends}
+use Rattle.nc_expressions.specs.Value.{◌>>=◌}
+use Rattle.nc_blocks.specs.Lists.{Item, go_on, listed, list_at}
+use Rattle.nc_blocks.proofs.Listing.{list_goes_on, list_ends}
 use Rattle.nc_syntax.proofs.Marked.{bound, same_pair}
 
 abbrev pub not_empty : {A : Type 0} → List A → Bool

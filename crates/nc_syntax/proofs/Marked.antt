@@ -5,13 +5,14 @@ use Rattle.std.proofs.lemmas.Bool.{leb-true, le-leb}
 use Rattle.std.specs.Cmp.Derive.{both_true}
 use Rattle.block_scanner.specs.declared.Words.{Words}
 use Rattle.nc_expressions.specs.Symbols.{index_of}
-use Rattle.nc_syntax.specs.declared.pieces.Piece.{Piece}
-use Rattle.nc_syntax.specs.declared.pieces.Piece.TheVariants as piece
-use Rattle.nc_syntax.specs.Names.{name_of}
-use Rattle.nc_syntax.specs.Pieces.{piece_at, text_at}
-use Rattle.nc_syntax.specs.Marks.{code_of, ended, end_at, assign_of, assign_at, open_of, open_at, close_of, close_at, close_bracket_of, close_bracket_at, comma_of, comma_at, is_keyword, keyword_at}
-use Rattle.nc_syntax.specs.Reading.{◌>>=◌, after_sign_of, after_sign, signed, constant_of, constant_at, is_digits, whole, block_number, block_number_of, block_number_at, index_or, index_of_piece, index_at, label_of, label_at}
-use Rattle.nc_syntax.specs.Frames.{is_digits_piece, has_digits}
+use Rattle.nc_blocks.specs.declared.pieces.Piece.{Piece}
+use Rattle.nc_blocks.specs.declared.pieces.Piece.TheVariants as piece
+use Rattle.nc_blocks.specs.Names.{name_of}
+use Rattle.nc_blocks.specs.Pieces.{piece_at, text_at}
+use Rattle.nc_blocks.specs.Marks.{code_of, ended, end_at, assign_of, assign_at, open_of, open_at, close_of, close_at, close_bracket_of, close_bracket_at, comma_of, comma_at, is_keyword, keyword_at}
+use Rattle.nc_expressions.specs.Value.{◌>>=◌}
+use Rattle.nc_blocks.specs.Reading.{after_sign_of, after_sign, signed, constant_of, constant_at, is_digits, whole, block_number, block_number_of, block_number_at, index_or, index_of_piece, index_at, label_of, label_at}
+use Rattle.nc_blocks.specs.AxisNames.{is_digits_piece, has_digits}
 use Rattle.nc_syntax.specs.Standing.{IsKeyword, IsSignedNumber, IsDigits, IsBlockNumber, IsIndex}
 use Rattle.nc_syntax.specs.Spelled.{IsNameOf}
 

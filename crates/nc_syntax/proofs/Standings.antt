@@ -29,11 +29,12 @@ use Rattle.nc_expressions.specs.Tree.{Tree}
 use Rattle.nc_expressions.proofs.Beginnings.{length-symbols_of}
 use Rattle.nc_expressions.proofs.Complete.{complete}
 use Rattle.nc_expressions.proofs.Sound.{sound}
-use Rattle.nc_syntax.specs.declared.pieces.Piece.{Piece}
-use Rattle.nc_syntax.specs.declared.pieces.Piece.TheVariants as piece
-use Rattle.nc_syntax.specs.Pieces.{sign_piece, number_piece, plain_piece, piece_of, found_piece, piece_at, found_text, text_at}
-use Rattle.nc_syntax.specs.Marks.{is_name, is_keyword, word_code}
-use Rattle.nc_syntax.specs.Reading.{expression_at, in_words, value_at}
+use Rattle.nc_blocks.specs.declared.pieces.Piece.{Piece}
+use Rattle.nc_blocks.specs.declared.pieces.Piece.TheVariants as piece
+use Rattle.nc_blocks.specs.Pieces.{sign_piece, number_piece, plain_piece, piece_of, found_piece, piece_at, found_text, text_at}
+use Rattle.nc_blocks.specs.Pieces.{is_name}
+use Rattle.nc_blocks.specs.Marks.{is_keyword, word_code}
+use Rattle.nc_blocks.specs.Reading.{expression_at, in_words, value_at}
 use Rattle.nc_syntax.specs.Standing.{IsExpressionText}
 use Rattle.nc_expressions.specs.Stops.{stop_at}
 

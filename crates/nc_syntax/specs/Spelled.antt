@@ -4,24 +4,25 @@ use Rattle.std.specs.List.{IsDistinct}
 use Rattle.block_scanner.specs.declared.Words.{Words}
 use Rattle.word_tables.specs.Tables.{is_table_word}
 use Rattle.nc_expressions.specs.Tree.{Tree, Number}
-use Rattle.nc_syntax.specs.declared.blocks.CoordWord.{CoordWord}
-use Rattle.nc_syntax.specs.declared.blocks.CoordWord.TheVariants as coord
-use Rattle.nc_syntax.specs.declared.blocks.FrameWord.{FrameWord}
-use Rattle.nc_syntax.specs.declared.blocks.FrameWord.TheVariants as frame
-use Rattle.nc_syntax.specs.declared.blocks.JumpTo.{JumpTo}
-use Rattle.nc_syntax.specs.declared.blocks.Target.{Target}
-use Rattle.nc_syntax.specs.declared.blocks.Target.TheVariants as target
-use Rattle.nc_syntax.specs.declared.blocks.Way.{Way}
-use Rattle.nc_syntax.specs.declared.blocks.Way.TheVariants.{Forward, Backward, Either, Optional}
-use Rattle.nc_syntax.specs.declared.pieces.Piece.TheVariants as piece
-use Rattle.nc_syntax.specs.Names.{name_of}
-use Rattle.nc_syntax.specs.Pieces.{piece_at, text_at}
-use Rattle.nc_syntax.specs.Reading.{is_digits}
+use Rattle.nc_blocks.specs.declared.blocks.CoordWord.{CoordWord}
+use Rattle.nc_blocks.specs.declared.blocks.CoordWord.TheVariants as coord
+use Rattle.nc_blocks.specs.declared.blocks.FrameWord.{FrameWord}
+use Rattle.nc_blocks.specs.declared.blocks.FrameWord.TheVariants as frame
+use Rattle.nc_blocks.specs.declared.blocks.JumpTo.{JumpTo}
+use Rattle.nc_blocks.specs.declared.blocks.Target.{Target}
+use Rattle.nc_blocks.specs.declared.blocks.Target.TheVariants as target
+use Rattle.nc_blocks.specs.declared.blocks.Way.{Way}
+use Rattle.nc_blocks.specs.declared.blocks.Way.TheVariants.{Forward, Backward, Either, Optional}
+use Rattle.nc_blocks.specs.declared.pieces.Piece.TheVariants as piece
+use Rattle.nc_blocks.specs.Names.{name_of}
+use Rattle.nc_blocks.specs.Pieces.{piece_at, text_at}
+use Rattle.nc_blocks.specs.Reading.{is_digits}
 use Rattle.nc_syntax.specs.Frames.{axis_of}
-use Rattle.nc_syntax.specs.Coordination.{unquoted, is_wait}
+use Rattle.nc_blocks.specs.Texts.{unquoted}
+use Rattle.nc_syntax.specs.Coordination.{is_wait}
 use Rattle.nc_syntax.specs.Standing.{IsKeyword, IsExpressionText, IsSignedNumber, IsBlockNumber, IsIndex, IsEnclosed, IsAssigned, IsAxisName, AreListed, AreSeparated}
 use Rattle.nc_syntax.specs.SpelledWords.{IsWord}
-use Rattle.nc_syntax.specs.Statement.{OperandView, Value, Text, AxisName, Statement, Empty, WordBlock, Jump, IfJump, If, Else, EndIf, While, EndWhile, Repeat, Until, Loop, EndLoop, For, EndFor, Case, RepeatFrom, RepeatBlock, Call, Return, Proc, Shape, Turn, Coord, Message, BlockView, WordView}
+use Rattle.nc_blocks.specs.Statement.{OperandView, Value, Text, AxisName, Statement, Empty, WordBlock, Jump, IfJump, If, Else, EndIf, While, EndWhile, Repeat, Until, Loop, EndLoop, For, EndFor, Case, RepeatFrom, RepeatBlock, Call, Return, Proc, Shape, Turn, Coord, Message, BlockView, WordView}
 
 -- this name alone
 abbrev pub IsAlone : Words → ℕ → ℕ → List ℕ → Type 0

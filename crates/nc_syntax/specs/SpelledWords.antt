@@ -3,15 +3,15 @@ use Rattle.std.specs.Prelude.{◌≡◌, ℕ, ℤ, ◌+◌, ◌||◌, ◌⊎◌,
 use Rattle.block_scanner.specs.declared.Words.{Words}
 use Rattle.word_tables.specs.GroupWords.{word_by_number, word_by_name}
 use Rattle.nc_expressions.specs.Tree.{Tree, Number}
-use Rattle.nc_syntax.specs.declared.blocks.Measure.{Measure}
-use Rattle.nc_syntax.specs.declared.blocks.Measure.TheVariants.{Modal, Absolute, Incremental}
-use Rattle.nc_syntax.specs.declared.pieces.Piece.TheVariants as piece
-use Rattle.nc_syntax.specs.Names.{upper}
-use Rattle.nc_syntax.specs.Pieces.{piece_at, text_at}
-use Rattle.nc_syntax.specs.Coordination.{unquoted}
-use Rattle.nc_syntax.specs.Wording.{is_slot_letter, is_centre_letter, is_aux_letter, is_program_end, is_spindle_word}
+use Rattle.nc_blocks.specs.declared.blocks.Measure.{Measure}
+use Rattle.nc_blocks.specs.declared.blocks.Measure.TheVariants.{Modal, Absolute, Incremental}
+use Rattle.nc_blocks.specs.declared.pieces.Piece.TheVariants as piece
+use Rattle.nc_blocks.specs.Names.{upper}
+use Rattle.nc_blocks.specs.Pieces.{piece_at, text_at}
+use Rattle.nc_blocks.specs.Texts.{unquoted}
+use Rattle.nc_blocks.specs.Wording.{is_slot_letter, is_centre_letter, is_aux_letter, is_program_end, is_spindle_word}
 use Rattle.nc_syntax.specs.Standing.{IsKeyword, IsExpressionText, IsSignedNumber, IsDigits, IsIndex, IsEnclosed, IsBracketed, IsAssigned, IsAxisName}
-use Rattle.nc_syntax.specs.Statement.{OperandView, Value, Text, AxisName, WordView, Assign, AssignAt, G, Axis, Radius, Aux, End}
+use Rattle.nc_blocks.specs.Statement.{OperandView, Value, Text, AxisName, WordView, Assign, AssignAt, G, Axis, Radius, Aux, End}
 
 -- a word of a group: G with its number, or its name
 abbrev pub IsGroupWord : Words → ℕ → ℕ → ℕ → ℕ → Type 0

@@ -4,11 +4,11 @@ use Rattle.block_scanner.specs.declared.Words.{Words}
 use Rattle.nc_expressions.specs.Symbols.{symbols_of, index_of}
 use Rattle.nc_expressions.specs.Syntax.{Syntax, spelling, tree, IsExpression}
 use Rattle.nc_expressions.specs.Tree.{Tree}
-use Rattle.nc_syntax.specs.declared.pieces.Piece.TheVariants as piece
-use Rattle.nc_syntax.specs.Pieces.{piece_at, text_at}
-use Rattle.nc_syntax.specs.Marks.{is_keyword}
-use Rattle.nc_syntax.specs.Reading.{is_digits, whole}
-use Rattle.nc_syntax.specs.Frames.{is_axis_letter}
+use Rattle.nc_blocks.specs.declared.pieces.Piece.TheVariants as piece
+use Rattle.nc_blocks.specs.Pieces.{piece_at, text_at}
+use Rattle.nc_blocks.specs.Marks.{is_keyword}
+use Rattle.nc_blocks.specs.Reading.{is_digits, whole}
+use Rattle.nc_blocks.specs.AxisNames.{is_axis_letter}
 
 -- this name stands there
 abbrev pub IsKeyword : Words → ℕ → List ℕ → Type 0
