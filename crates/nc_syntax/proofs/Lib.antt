@@ -2,3 +2,4 @@ pub mod Broken
 pub mod Standings
 pub mod Marked
 pub mod Chained
+pub mod WordLaws

@@ -37,9 +37,13 @@ pub taken : {A : Type 0} (b : Bool) (x : Result A ℕ) (code : ℕ) (y : A) → 
 taken true x code y h = (refl, h)
 taken false x code y h = cc
 
-pub one_of : {A : Type 0} (b : Bool) (x y : Result A ℕ) (z : A) → cond b x y ≡ Ok z → ((b ≡ true) × (x ≡ Ok z)) ⊎ ((b ≡ false) × (y ≡ Ok z))
-one_of true x y z h = inl (refl, h)
-one_of false x y z h = inr (refl, h)
+-- what follows from either side of a choice follows from the choice
+pub one_of : {A C : Type 0} (b : Bool) (x y : Result A ℕ) (z : A) → cond b x y ≡ Ok z → (b ≡ true → x ≡ Ok z → C) → (b ≡ false → y ≡ Ok z → C) → C
+one_of true x y z h f g = f refl h
+one_of false x y z h f g = g refl h
+
+pub refused : {A C : Type 0} (code : ℕ) (x : A) → ◌≡◌ {A = Result A ℕ} (Err code) (Ok x) → C
+refused code x h = cc
 
 pub parts_true : (a b : Bool) → (a && b) ≡ true → (a ≡ true) × (b ≡ true)
 parts_true true b h = (refl, h)
