@@ -3,3 +3,4 @@ pub mod Standings
 pub mod Marked
 pub mod Chained
 pub mod WordLaws
+pub mod WordsRead

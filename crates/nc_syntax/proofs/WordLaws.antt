@@ -90,7 +90,7 @@ pub assign_is : (p : Piece) → is_assign p ≡ true → p ≡ piece.Assign
 assign_is piece.Assign h = refl
 assign_is p h = cc
 
-text_is : (p : Piece) → is_text p ≡ true → p ≡ piece.Text
+pub text_is : (p : Piece) → is_text p ≡ true → p ≡ piece.Text
 text_is piece.Text h = refl
 text_is p h = cc
 
