@@ -4,3 +4,4 @@ pub mod Marked
 pub mod Chained
 pub mod WordLaws
 pub mod WordsRead
+pub mod WordBlocks

@@ -133,15 +133,15 @@ measured_only words at end Incremental t h f =
     rw (other_keyword words at (codes "IC") (codes "AC") h.0 refl, h.0, enclosed_only words (at + 1) end t h.1) refl
 
 -- from the letter on
-letter_read : (words : Words) (at b : ℕ) → piece_at words at ≡ piece.Letter b → word_at words at ≡ lettered_word words b at
+pub letter_read : (words : Words) (at b : ℕ) → piece_at words at ≡ piece.Letter b → word_at words at ≡ lettered_word words b at
 unfolding word_at
 letter_read words at b h = ap (word_of_piece words at) h
 
-name_read : (words : Words) (at : ℕ) → piece_at words at ≡ piece.Name → word_at words at ≡ name_word words (text_at words at) (at + 1)
+pub name_read : (words : Words) (at : ℕ) → piece_at words at ≡ piece.Name → word_at words at ≡ name_word words (text_at words at) (at + 1)
 unfolding word_at
 name_read words at h = ap (word_of_piece words at) h
 
-assign_read : (words : Words) (at end i : ℕ) (t : Tree) → IsWord words at end (Assign i t) → Behind words end → word_at words at ≡ Ok (Assign i t, end)
+pub assign_read : (words : Words) (at end i : ℕ) (t : Tree) → IsWord words at end (Assign i t) → Behind words end → word_at words at ≡ Ok (Assign i t, end)
 unfolding lettered_word assignment_at
 assign_read words at end i t h f =
     let place : at + 1 + 1 ≡ at + 2 = omega arith in
@@ -156,19 +156,19 @@ assign_at_read words at end i t h f =
     ∙ rw (h.2.1, bracketed_only words (at + 1) h.0 i h.2, assigned_only words h.0 end t h.3 (behind_follows words end f)) refl
 
 -- axis names and plain axes
-axis_letters : (P : ℕ → Type 0) (b : ℕ) → is_axis_letter b ≡ true → P 65 → P 66 → P 67 → P 85 → P 86 → P 87 → P 88 → P 89 → P 90 → P b
+pub axis_letters : (P : ℕ → Type 0) (b : ℕ) → is_axis_letter b ≡ true → P 65 → P 66 → P 67 → P 85 → P 86 → P 87 → P 88 → P 89 → P 90 → P b
 axis_letters P b h a1 a2 a3 a4 a5 a6 a7 a8 a9 =
     or_cases _ _ h (λ h. or_cases _ _ h (λ h. or_cases _ _ h (λ h. or_cases _ _ h (λ h. or_cases _ _ h (λ h. or_cases _ _ h (λ h. or_cases _ _ h (λ h. or_cases _ _ h
       (λ h. letter_case P b 65 h a1) (λ h. letter_case P b 66 h a2)) (λ h. letter_case P b 67 h a3)) (λ h. letter_case P b 85 h a4)) (λ h. letter_case P b 86 h a5))
       (λ h. letter_case P b 87 h a6)) (λ h. letter_case P b 88 h a7)) (λ h. letter_case P b 89 h a8)) (λ h. letter_case P b 90 h a9)
 
-plain_letters : (P : ℕ → Type 0) (b : ℕ) → (is_slot_letter b || is_centre_letter b) ≡ true → P 88 → P 89 → P 90 → P 73 → P 74 → P 75 → P b
+pub plain_letters : (P : ℕ → Type 0) (b : ℕ) → (is_slot_letter b || is_centre_letter b) ≡ true → P 88 → P 89 → P 90 → P 73 → P 74 → P 75 → P b
 plain_letters P b h a1 a2 a3 a4 a5 a6 =
     or_cases _ _ h
       (λ h. or_cases _ _ h (λ h. or_cases _ _ h (λ h. letter_case P b 88 h a1) (λ h. letter_case P b 89 h a2)) (λ h. letter_case P b 90 h a3))
       (λ h. or_cases _ _ h (λ h. or_cases _ _ h (λ h. letter_case P b 73 h a4) (λ h. letter_case P b 74 h a5)) (λ h. letter_case P b 75 h a6))
 
-aux_letters : (P : ℕ → Type 0) (b : ℕ) → is_aux_letter b ≡ true → P 77 → P 83 → P 84 → P 68 → P 70 → P 72 → P b
+pub aux_letters : (P : ℕ → Type 0) (b : ℕ) → is_aux_letter b ≡ true → P 77 → P 83 → P 84 → P 68 → P 70 → P 72 → P b
 aux_letters P b h a1 a2 a3 a4 a5 a6 =
     or_cases _ _ h (λ h. or_cases _ _ h (λ h. or_cases _ _ h (λ h. or_cases _ _ h (λ h. or_cases _ _ h
       (λ h. letter_case P b 77 h a1) (λ h. letter_case P b 83 h a2)) (λ h. letter_case P b 84 h a3)) (λ h. letter_case P b 68 h a4))
@@ -235,7 +235,7 @@ signed_no_assign words at end z h =
         ]
     ]
 
-axis_read : (words : Words) (at end : ℕ) (address : List ℕ) (m : Measure) (t : Tree) → IsAxisWord words at end address m t → Behind words end →
+pub axis_read : (words : Words) (at end : ℕ) (address : List ℕ) (m : Measure) (t : Tree) → IsAxisWord words at end address m t → Behind words end →
     word_at words at ≡ Ok (Axis address m t, end)
 unfolding letter_word measured_word
 axis_read words at end address m t h f =
@@ -316,7 +316,7 @@ spindle_read words at end address bracket operand h f =
     name_read words at h.2
     ∙ rw (spindle_no_radius (text_at words at) h.3, h.3, bracket_only words (at + 1) h.0 bracket h.4 h.5.0, assigned_only words h.0 end h.1 h.5 (behind_follows words end f), h.6, h.7) refl
 
-aux_only : (words : Words) (at end : ℕ) (address : List ℕ) (bracket : Option Tree) (operand : OperandView) → IsAux words at end address bracket operand →
+pub aux_only : (words : Words) (at end : ℕ) (address : List ℕ) (bracket : Option Tree) (operand : OperandView) → IsAux words at end address bracket operand →
     Behind words end → word_at words at ≡ Ok (Aux address bracket operand, end)
 aux_only words at end address bracket operand h f =
     elim h [
@@ -330,7 +330,7 @@ aux_only words at end address bracket operand h f =
         ]
     ]
 
-program_end_read : (words : Words) (at end : ℕ) → IsProgramEnd words at end → Behind words end → word_at words at ≡ Ok (End, end)
+pub program_end_read : (words : Words) (at end : ℕ) → IsProgramEnd words at end → Behind words end → word_at words at ≡ Ok (End, end)
 unfolding numbered_aux has_digits_assign
 program_end_read words at end h f =
     let place : end ≡ at + 1 + 1 = omega (arith, h.4) in
