@@ -5,3 +5,4 @@ pub mod Chained
 pub mod WordLaws
 pub mod WordsRead
 pub mod WordBlocks
+pub mod FormNames
