@@ -200,3 +200,234 @@ same_first a b h = rw h refl
 same_inner : (a b : List ℕ) → str_to_ascii_lowercase a ≡ str_to_ascii_lowercase b → is_inner_name a ≡ is_inner_name b
 unfolding is_inner_name
 same_inner a b h = rw h refl
+
+none_of : {A : Type 0} (o : Option A) → ((x : A) → o ≡ Some x → ⊥) → o ≡ None
+none_of None h = refl
+none_of (Some x) h = absurd (h x refl)
+
+first_names : (f : Form) → is_first_name (form_name f) ≡ true
+unfolding is_control_name is_frame_name is_coordination_name is_message_name is_first_name
+first_names (form.Jump Forward) = refl
+first_names (form.Jump Backward) = refl
+first_names (form.Jump Either) = refl
+first_names (form.Jump Optional) = refl
+first_names (form.Control control.If) = refl
+first_names (form.Control control.Else) = refl
+first_names (form.Control control.EndIf) = refl
+first_names (form.Control control.While) = refl
+first_names (form.Control control.EndWhile) = refl
+first_names (form.Control control.Until) = refl
+first_names (form.Control control.Loop) = refl
+first_names (form.Control control.EndLoop) = refl
+first_names (form.Control control.For) = refl
+first_names (form.Control control.EndFor) = refl
+first_names (form.Control control.Case) = refl
+first_names (form.Control control.Repeat) = refl
+first_names (form.Control control.RepeatBlock) = refl
+first_names (form.Control control.Return) = refl
+first_names (form.Control control.Proc) = refl
+first_names (form.Shape frame.Trans) = refl
+first_names (form.Shape frame.Atrans) = refl
+first_names (form.Shape frame.Scale) = refl
+first_names (form.Shape frame.Ascale) = refl
+first_names (form.Shape frame.Mirror) = refl
+first_names (form.Shape frame.Amirror) = refl
+first_names (form.Turn false) = refl
+first_names (form.Turn true) = refl
+first_names (form.Coord coord.WaitM) = refl
+first_names (form.Coord coord.WaitMC) = refl
+first_names (form.Coord coord.SetM) = refl
+first_names (form.Coord coord.ClearM) = refl
+first_names (form.Coord coord.Init) = refl
+first_names (form.Coord coord.Start) = refl
+first_names (form.Coord coord.WaitE) = refl
+first_names (form.Coord coord.Release) = refl
+first_names (form.Coord coord.Get) = refl
+first_names (form.Coord coord.CProt) = refl
+first_names form.Msg = refl
+first_names form.Stopre = refl
+first_names form.Setms = refl
+first_names form.Workpiece = refl
+
+-- no first name is the name of a group's word
+no_group : (f : Form) → word_by_name (form_name f) ≡ None
+unfolding word_by_name
+no_group (form.Jump Forward) = refl
+no_group (form.Jump Backward) = refl
+no_group (form.Jump Either) = refl
+no_group (form.Jump Optional) = refl
+no_group (form.Control control.If) = refl
+no_group (form.Control control.Else) = refl
+no_group (form.Control control.EndIf) = refl
+no_group (form.Control control.While) = refl
+no_group (form.Control control.EndWhile) = refl
+no_group (form.Control control.Until) = refl
+no_group (form.Control control.Loop) = refl
+no_group (form.Control control.EndLoop) = refl
+no_group (form.Control control.For) = refl
+no_group (form.Control control.EndFor) = refl
+no_group (form.Control control.Case) = refl
+no_group (form.Control control.Repeat) = refl
+no_group (form.Control control.RepeatBlock) = refl
+no_group (form.Control control.Return) = refl
+no_group (form.Control control.Proc) = refl
+no_group (form.Shape frame.Trans) = refl
+no_group (form.Shape frame.Atrans) = refl
+no_group (form.Shape frame.Scale) = refl
+no_group (form.Shape frame.Ascale) = refl
+no_group (form.Shape frame.Mirror) = refl
+no_group (form.Shape frame.Amirror) = refl
+no_group (form.Turn false) = refl
+no_group (form.Turn true) = refl
+no_group (form.Coord coord.WaitM) = refl
+no_group (form.Coord coord.WaitMC) = refl
+no_group (form.Coord coord.SetM) = refl
+no_group (form.Coord coord.ClearM) = refl
+no_group (form.Coord coord.Init) = refl
+no_group (form.Coord coord.Start) = refl
+no_group (form.Coord coord.WaitE) = refl
+no_group (form.Coord coord.Release) = refl
+no_group (form.Coord coord.Get) = refl
+no_group (form.Coord coord.CProt) = refl
+no_group form.Msg = refl
+no_group form.Stopre = refl
+no_group form.Setms = refl
+no_group form.Workpiece = refl
+
+-- the forms of their names
+named_forms : (f : Form) → form_of (form_name f) ≡ Some f
+unfolding form_of way_of structure_name control_name frame_form_name coordination_form_name
+named_forms (form.Jump Forward) = refl
+named_forms (form.Jump Backward) = refl
+named_forms (form.Jump Either) = refl
+named_forms (form.Jump Optional) = refl
+named_forms (form.Control control.If) = refl
+named_forms (form.Control control.Else) = refl
+named_forms (form.Control control.EndIf) = refl
+named_forms (form.Control control.While) = refl
+named_forms (form.Control control.EndWhile) = refl
+named_forms (form.Control control.Until) = refl
+named_forms (form.Control control.Loop) = refl
+named_forms (form.Control control.EndLoop) = refl
+named_forms (form.Control control.For) = refl
+named_forms (form.Control control.EndFor) = refl
+named_forms (form.Control control.Case) = refl
+named_forms (form.Control control.Repeat) = refl
+named_forms (form.Control control.RepeatBlock) = refl
+named_forms (form.Control control.Return) = refl
+named_forms (form.Control control.Proc) = refl
+named_forms (form.Shape frame.Trans) = refl
+named_forms (form.Shape frame.Atrans) = refl
+named_forms (form.Shape frame.Scale) = refl
+named_forms (form.Shape frame.Ascale) = refl
+named_forms (form.Shape frame.Mirror) = refl
+named_forms (form.Shape frame.Amirror) = refl
+named_forms (form.Turn false) = refl
+named_forms (form.Turn true) = refl
+named_forms (form.Coord coord.WaitM) = refl
+named_forms (form.Coord coord.WaitMC) = refl
+named_forms (form.Coord coord.SetM) = refl
+named_forms (form.Coord coord.ClearM) = refl
+named_forms (form.Coord coord.Init) = refl
+named_forms (form.Coord coord.Start) = refl
+named_forms (form.Coord coord.WaitE) = refl
+named_forms (form.Coord coord.Release) = refl
+named_forms (form.Coord coord.Get) = refl
+named_forms (form.Coord coord.CProt) = refl
+named_forms form.Msg = refl
+named_forms form.Stopre = refl
+named_forms form.Setms = refl
+named_forms form.Workpiece = refl
+
+first_is_table : (text : List ℕ) → is_first_name text ≡ true → is_table_word text ≡ true
+unfolding is_table_word
+first_is_table text h = rw h refl
+
+form_is_table : (text : List ℕ) (f : Form) → form_of text ≡ Some f → is_table_word text ≡ true
+form_is_table text f h =
+    first_is_table text (same_first text (form_name f) (same_letters text (form_name f) (form_found text f h)) ∙ first_names f)
+
+no_form_of_program : (text : List ℕ) → is_table_word text ≡ false → form_of text ≡ None
+no_form_of_program text h = none_of (form_of text) (λ f e. let t = form_is_table text f e in let no : true ≡ false = sym t ∙ h in cc)
+
+-- the names of words begin no form, and stand in a table
+inner_is_table : (a b : Bool) → b ≡ true → (a || b) ≡ true
+inner_is_table true b h = refl
+inner_is_table false b h = h
+
+or_more : (a b : Bool) → a ≡ true → (a || b) ≡ true
+or_more true b h = refl
+or_more false b h = cc
+
+inner_word : (text k : List ℕ) → is_word text k ≡ true → is_inner_name k ≡ true → form_of k ≡ None → (form_of text ≡ None) × (is_table_word text ≡ true)
+unfolding is_table_word
+inner_word text k h i n =
+    let same = same_letters text k h in
+    let e : is_inner_name text ≡ true = same_inner text k same ∙ i in
+    (same_form text k same ∙ n, or_more _ _ (or_more _ _ (or_more _ _ (inner_is_table _ _ e))))
+
+group_word_name : (text : List ℕ) (w : GWord) → word_by_name text ≡ Some w → (form_of text ≡ None) × (is_table_word text ≡ true)
+unfolding is_table_word
+group_word_name text w h =
+    let some : is_some (word_by_name text) ≡ true = ap is_some h in
+    (none_of (form_of text) (λ f e. let no : true ≡ false = sym (form_found text f e) ∙ not_in_group text (form_name f) w h (no_group f) in cc),
+     or_more _ _ (inner_is_table _ _ some))
+
+pub names_no_form : (text : List ℕ) → NamesWord text → (form_of text ≡ None) × (is_table_word text ≡ true)
+unfolding is_spindle_word is_inner_name form_of way_of structure_name control_name frame_form_name coordination_form_name
+names_no_form text h =
+    elim h [
+      | inl a ↦ inner_word text (codes "CR") a refl refl
+      | inr b ↦ elim b [
+          | inl c ↦ or_cases _ _ c (λ c. or_cases _ _ c (λ c. or_cases _ _ c
+              (λ c. inner_word text (codes "SPOS") c refl refl) (λ c. inner_word text (codes "SPOSA") c refl refl))
+              (λ c. inner_word text (codes "LIMS") c refl refl)) (λ c. inner_word text (codes "SF") c refl refl)
+          | inr c ↦ group_word_name text c.0 c.1
+        ]
+    ]
+
+-- bodies
+pub form_read : (words : Words) (at : ℕ) (f : Form) → IsKeyword words at (form_name f) → body_at words at ≡ form_body words f (at + 1)
+unfolding body_at named_body
+form_read words at f h =
+    let text = text_at words at in
+    let e : form_of text ≡ Some f = same_form text (form_name f) (same_letters text (form_name f) (keyword_text words at (form_name f) h)) ∙ named_forms f in
+    ap (λ p. body_of words at p) (keyword_piece words at (form_name f) h) ∙ ap (λ o. named_form words o text at) e
+
+pub word_name_read : (words : Words) (at : ℕ) → piece_at words at ≡ piece.Name → NamesWord (text_at words at) → body_at words at ≡ words_form words at
+unfolding body_at named_body
+word_name_read words at h n =
+    let text = text_at words at in
+    let e = names_no_form text n in
+    ap (λ p. body_of words at p) h ∙ ap (λ o. named_form words o text at) e.0 ∙ ap (λ b. cond b (words_form words at) (call_form words (name_of text) (at + 1))) e.1
+
+pub program_name_read : (words : Words) (at : ℕ) → piece_at words at ≡ piece.Name → is_table_word (text_at words at) ≡ false →
+    body_at words at ≡ call_form words (name_of (text_at words at)) (at + 1)
+unfolding body_at named_body
+program_name_read words at h n =
+    let text = text_at words at in
+    ap (λ p. body_of words at p) h ∙ ap (λ o. named_form words o text at) (no_form_of_program text n)
+    ∙ ap (λ b. cond b (words_form words at) (call_form words (name_of text) (at + 1))) n
+
+-- how a jump searches
+way_cases : (words : Words) (at : ℕ) (way : Way) (p : Piece) → piece_at words at ≡ p → way_of_piece p (text_at words at) ≡ Some way → IsKeyword words at (way_name way)
+way_cases words at way piece.Name e h = keyword_of words at (way_name way) e (way_found (text_at words at) way h)
+way_cases words at way p e h = cc
+
+pub way_at_found : (words : Words) (at : ℕ) (way : Way) → way_at words at ≡ Some way → IsKeyword words at (way_name way)
+unfolding way_at
+way_at_found words at way h = way_cases words at way (piece_at words at) refl h
+
+named_ways : (way : Way) → way_of (way_name way) ≡ Some way
+unfolding way_of
+named_ways Forward = refl
+named_ways Backward = refl
+named_ways Either = refl
+named_ways Optional = refl
+
+pub way_at_only : (words : Words) (at : ℕ) (way : Way) → IsKeyword words at (way_name way) → way_at words at ≡ Some way
+unfolding way_at
+way_at_only words at way h =
+    let text = text_at words at in
+    ap (λ p. way_of_piece p text) (keyword_piece words at (way_name way) h)
+    ∙ same_way text (way_name way) (same_letters text (way_name way) (keyword_text words at (way_name way) h)) ∙ named_ways way
