@@ -6,3 +6,4 @@ pub mod WordLaws
 pub mod WordsRead
 pub mod WordBlocks
 pub mod FormNames
+pub mod JumpLaws
