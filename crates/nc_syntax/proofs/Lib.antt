@@ -7,3 +7,5 @@ pub mod WordsRead
 pub mod WordBlocks
 pub mod FormNames
 pub mod JumpLaws
+pub mod StructureLaws
+pub mod FrameLaws

@@ -318,7 +318,7 @@ item_found words at x more next h =
     let s = item_same b.0 words x more next b.2 in
     (word_found words at next x (b.1 ∙ ap (λ (p : WordView × ℕ). Ok p) s.0), s.1)
 
-end_is : (p : Piece) → not (is_end p) ≡ false → p ≡ piece.End
+pub end_is : (p : Piece) → not (is_end p) ≡ false → p ≡ piece.End
 end_is piece.End h = refl
 end_is p h = cc
 

@@ -225,7 +225,7 @@ signed_no_word words at end z h f =
         ]
     ]
 
-signed_no_assign : (words : Words) (at end : ℕ) (z : ℤ) → IsSignedNumber words at end z → is_assign (piece_at words at) ≡ false
+pub signed_no_assign : (words : Words) (at end : ℕ) (z : ℤ) → IsSignedNumber words at end z → is_assign (piece_at words at) ≡ false
 signed_no_assign words at end z h =
     elim h [
       | inl a ↦ ap is_assign a.0
