@@ -9,3 +9,4 @@ pub mod FormNames
 pub mod JumpLaws
 pub mod StructureLaws
 pub mod FrameLaws
+pub mod CoordinationLaws
