@@ -10,3 +10,4 @@ pub mod JumpLaws
 pub mod StructureLaws
 pub mod FrameLaws
 pub mod CoordinationLaws
+pub mod MessageLaws

@@ -175,11 +175,11 @@ repeat_block_only words at label o n h =
     rw (label_only words (at + 1) label n, times_only words (at + 1 + 1) o (subst Q place h)) refl
 
 -- calls
-open_piece : (p : Piece) → is_open p ≡ true → p ≡ piece.Open
+pub open_piece : (p : Piece) → is_open p ≡ true → p ≡ piece.Open
 open_piece piece.Open h = refl
 open_piece p h = cc
 
-close_piece : (p : Piece) → is_close p ≡ true → p ≡ piece.Close
+pub close_piece : (p : Piece) → is_close p ≡ true → p ≡ piece.Close
 close_piece piece.Close h = refl
 close_piece p h = cc
 
