@@ -209,7 +209,7 @@ token_tells : (line : List ℕ) (before : Option Token) (t : Token) → Tells (p
 unfolding symbol_of
 token_tells line before t h = token_tells' (touches_number before t && is_exponent t.kind (text_of line t)) t (text_of line t) h
 
-symbol_there : (line : List ℕ) (before : Option Token) (tokens : List Token) (at : ℕ) (t : Token) → slice_get tokens at ≡ Some t →
+pub symbol_there : (line : List ℕ) (before : Option Token) (tokens : List Token) (at : ℕ) (t : Token) → slice_get tokens at ≡ Some t →
     (last : Option Token) × (slice_get (symbols_behind line before tokens) at ≡ Some (symbol_of line last t))
 symbol_there line before [] at t h = cc
 symbol_there line before (u ∷ us) zero t h =
