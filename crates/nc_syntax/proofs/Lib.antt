@@ -11,3 +11,4 @@ pub mod StructureLaws
 pub mod FrameLaws
 pub mod CoordinationLaws
 pub mod MessageLaws
+pub mod BodyLaws

@@ -283,7 +283,7 @@ call_found words at name s w h =
     let p = parentheses_found words at b.0 b.1 in
     (b.0, a.0, p, passes_found words b.0 a.0 (parentheses_within words at b.0 p w) b.2, sym same)
 
-call_only : (words : Words) (at middle n : ℕ) (name : List ℕ) → IsParentheses words at middle → IsPasses words middle (length words.tokens.items) n → call_form words name at ≡ Ok (Call name n)
+pub call_only : (words : Words) (at middle n : ℕ) (name : List ℕ) → IsParentheses words at middle → IsPasses words middle (length words.tokens.items) n → call_form words name at ≡ Ok (Call name n)
 unfolding call_form call_passes
 call_only words at middle n name p h = rw (parentheses_only words at middle p (passes_open words middle n h), passes_only words middle n h) refl
 
@@ -304,7 +304,7 @@ number_name_found digits name h =
     let same : 76 ∷ digits ≡ name = cc in
     (b.0, leb-true (length digits) 31 b.1, sym same)
 
-number_name_only : (digits : List ℕ) → is_digits digits ≡ true → length digits ≤ 31 → number_name digits ≡ Ok (76 ∷ digits)
+pub number_name_only : (digits : List ℕ) → is_digits digits ≡ true → length digits ≤ 31 → number_name digits ≡ Ok (76 ∷ digits)
 unfolding number_name
 number_name_only digits h w = rw (both (is_digits digits) (nat_le (length digits) 31) h (le-leb (length digits) 31 w)) refl
 
