@@ -123,7 +123,7 @@ axis_within words at end x h =
     ]
 
 -- X, Y or Z
-axis_letter : (p : Piece) (axis : ℕ) → axis_of p ≡ Some axis → (b : ℕ) × (p ≡ piece.Letter b)
+pub axis_letter : (p : Piece) (axis : ℕ) → axis_of p ≡ Some axis → (b : ℕ) × (p ≡ piece.Letter b)
 axis_letter (piece.Letter b) axis h = (b, refl)
 axis_letter p axis h = cc
 

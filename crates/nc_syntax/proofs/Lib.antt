@@ -12,3 +12,4 @@ pub mod FrameLaws
 pub mod CoordinationLaws
 pub mod MessageLaws
 pub mod BodyLaws
+pub mod BlockLaws

@@ -38,7 +38,7 @@ alone_form_found words at word s x k h =
 pub alone_form_only : (words : Words) (at : ℕ) (word : List ℕ) (s : Statement) → IsAlone words at (length words.tokens.items) word → alone words (at + 1) s ≡ Ok s
 alone_form_only words at word s h = alone_only words (at + 1) s (at_line_end words (at + 1) (sym h.1))
 
-letter_piece : (p : Piece) (b : ℕ) → is_letter p b ≡ true → p ≡ piece.Letter b
+pub letter_piece : (p : Piece) (b : ℕ) → is_letter p b ≡ true → p ≡ piece.Letter b
 letter_piece (piece.Letter k) b h = ap (λ n. piece.Letter n) (eqb-true k b h)
 letter_piece p b h = cc
 

@@ -282,7 +282,7 @@ starts_behind words at h =
     ]
 
 -- lists of words
-behind_list : (words : Words) (at end : ℕ) (xs : List WordView) → AreListed (IsWord words) at end xs → piece_at words end ≡ piece.End →
+pub behind_list : (words : Words) (at end : ℕ) (xs : List WordView) → AreListed (IsWord words) at end xs → piece_at words end ≡ piece.End →
     Behind words at × (not (is_end (piece_at words at)) ≡ not_empty xs)
 behind_list words at end [] h e =
     let P = λ (n : ℕ). piece_at words n ≡ piece.End in
