@@ -14,14 +14,19 @@ use Rattle.nc_blocks.specs.declared.pieces.Piece.{Piece}
 use Rattle.nc_blocks.specs.declared.pieces.Piece.TheVariants as piece
 use Rattle.nc_blocks.specs.Names.{name_of}
 use Rattle.nc_blocks.specs.Pieces.{piece_at, text_at, is_name}
-use Rattle.nc_blocks.specs.Reading.{block_number_at}
-use Rattle.nc_blocks.specs.Statement.{OperandView, WordView, Assign, AssignAt, G, Axis, Radius, Aux, End, Statement, Empty, WordBlock, Jump, IfJump, If, Else, EndIf, While, EndWhile, Repeat, Until, Loop, EndLoop, For, EndFor, Case, RepeatFrom, RepeatBlock, Call, Return, Proc, Shape, Turn, Coord, Message, BlockView}
+use Rattle.nc_blocks.specs.Reading.{block_number_at, Gives}
+use Rattle.nc_blocks.specs.declared.blocks.Block.{Block}
+use Rattle.nc_expressions.specs.declared.faults.SyntaxFault.{SyntaxFault}
+use Rattle.std.specs.Prelude.{IfOk}
+use Rattle.word_tables.specs.Refused.{refused_word}
+use Rattle.word_tables.specs.LargeNumbers.{has_large_number}
+use Rattle.nc_blocks.specs.Statement.{OperandView, WordView, Assign, AssignAt, G, Axis, Radius, Aux, End, Statement, Empty, WordBlock, Jump, IfJump, If, Else, EndIf, While, EndWhile, Repeat, Until, Loop, EndLoop, For, EndFor, Case, RepeatFrom, RepeatBlock, Call, Return, Proc, Shape, Turn, Coord, Message, BlockView, view_of}
 use Rattle.nc_syntax.specs.Structures.{is_letter}
 use Rattle.nc_syntax.specs.Bodies.{is_number, body_at}
-use Rattle.nc_syntax.specs.Blocks.{is_slash, is_colon, skip_of, has_number, number_at, label_at, head_of, with_label, block_of}
+use Rattle.nc_syntax.specs.Blocks.{is_slash, is_colon, skip_of, has_number, number_at, label_at, head_of, with_label, block_of, unless_refused, statement_of}
 use Rattle.nc_syntax.specs.Standing.{IsKeyword, IsExpressionText, AreListed}
 use Rattle.nc_syntax.specs.SpelledWords.{IsAxisWord, IsBracket, IsAux, IsWord}
-use Rattle.nc_syntax.specs.Spelled.{IsNameOf, IsAlone, IsTarget, IsJump, IsTimes, IsFrameAxis, IsAngle, IsCall, IsMessage, AreWords, IsSpelled, IsSkip, IsNumber, IsLabel, Spells}
+use Rattle.nc_syntax.specs.Spelled.{IsNameOf, IsAlone, IsTarget, IsJump, IsTimes, IsFrameAxis, IsAngle, IsCall, IsMessage, AreWords, IsSpelled, IsSkip, IsNumber, IsLabel, Spells, IsAccepted}
 use Rattle.nc_syntax.proofs.Standings.{piece_within, keyword_piece, expression_begins}
 use Rattle.nc_syntax.proofs.Marked.{bound, one_of, refused, parts_true, same_pair, block_number_found, block_number_only}
 use Rattle.nc_syntax.proofs.WordLaws.{name_is}
@@ -353,3 +358,26 @@ block_only words b h =
 pub one_block : (words : Words) (a b : BlockView) → Spells words a → Spells words b → a ≡ b
 one_block words a b h k =
     let e : ◌≡◌ {A = Result BlockView ℕ} (Ok a) (Ok b) = sym (block_only words a h) ∙ block_only words b k in cc
+
+-- the same of the answer for a line
+unless_found : (o : Option ℕ) (large : Bool) (r : Result BlockView ℕ) (b : BlockView) → unless_refused o large r ≡ Ok b → r ≡ Ok b
+unless_found (Some code) large r b h = cc
+unless_found None true r b h = cc
+unless_found None false r b h = h
+
+pub statement_found : (words : Words) (compensation : Bool) (r : Result Block SyntaxFault) → Gives view_of (statement_of words compensation) r →
+    IfOk r (λ b. Spells words (view_of b))
+unfolding statement_of
+statement_found words compensation (Ok b) h =
+    block_found words (view_of b) (unless_found (refused_word compensation words.line.now words.tokens.items) (has_large_number words.line.now words.tokens.items) (block_of words) (view_of b) h)
+statement_found words compensation (Err e) h = tt
+
+pub statement_only : (words : Words) (compensation : Bool) (r : Result Block SyntaxFault) → Gives view_of (statement_of words compensation) r →
+    (b : BlockView) → IsAccepted words compensation → Spells words b → Gives view_of (Ok b) r
+unfolding statement_of
+statement_only words compensation r h b a s =
+    let read : statement_of words compensation ≡ Ok b = rw (a.0, a.1) (block_only words b s) in
+    let P = λ (x : Result BlockView ℕ). Gives view_of x r in
+    subst P read h
+
+pub ruleset answers = (statement_found, statement_only)

@@ -2,6 +2,8 @@
 use Rattle.std.specs.Prelude.{◌≡◌, ℕ, ℤ, pos, ◌+◌, ◌*◌, ◌<◌, ◌≤◌, ◌==◌, ◌⊎◌, Bool, true, false, IsTrue, IsFalse, List, [], ◌∷◌, map, length, Option, Some, None, codes}
 use Rattle.std.specs.List.{IsDistinct}
 use Rattle.block_scanner.specs.declared.Words.{Words}
+use Rattle.word_tables.specs.LargeNumbers.{has_large_number}
+use Rattle.word_tables.specs.Refused.{refused_word}
 use Rattle.word_tables.specs.Tables.{is_table_word}
 use Rattle.nc_expressions.specs.Tree.{Tree, Number}
 use Rattle.nc_blocks.specs.declared.blocks.CoordWord.{CoordWord}
@@ -273,3 +275,8 @@ unfoldable pub Spells : Words → BlockView → Type 0
 Spells words block =
     (number : ℕ) × (label : ℕ) × (body : ℕ) × IsSkip words 0 number block.skip × IsNumber words number label block.number
     × IsLabel words label body block.label × IsSpelled words body (length words.tokens.items) block.statement
+
+-- no refused word stands in the line, and no number that is out of range
+abbrev pub IsAccepted : Words → Bool → Type 0
+IsAccepted words compensation =
+    (refused_word compensation words.line.now words.tokens.items ≡ None) × IsFalse (has_large_number words.line.now words.tokens.items)

@@ -1,12 +1,13 @@
 //! The block of a line.
 
-ghost use Rattle.std.specs.Prelude.{◌≡◌, ◌<◌, ◌≤◌, ◌+◌, length, IfOk};
+ghost use Rattle.std.specs.Prelude.{◌≡◌, ◌<◌, ◌≤◌, ◌+◌, length, IfOk, Ok};
 ghost use Rattle.std.specs.Bool.{OnTrue};
 ghost use Rattle.block_scanner.specs.Scanned.{IsScanned};
+ghost use Rattle.nc_syntax.specs.Spelled.{Spells, IsAccepted};
 ghost use Rattle.nc_syntax.specs.Blocks.{skip_of, has_number, number_at, label_at, head_of, block_of, statement_of};
 ghost use Rattle.nc_blocks.specs.Indices.{StatementFits};
 ghost use Rattle.nc_blocks.specs.Reading.{Gives};
-ghost use Rattle.nc_blocks.specs.Statement.{statement_view, view_of};
+ghost use Rattle.nc_blocks.specs.Statement.{BlockView, statement_view, view_of};
 
 use crate::bodies::body_at;
 use block_scanner::Words;
@@ -111,14 +112,13 @@ fn block_of(alloc: Global, words: &Words<'_>) -> Result<Block, SyntaxFault>
     }
 }
 
-/// Reads one scanned line of a part program.
-///
-/// `compensation` says whether the job accepts tool radius compensation. `Refused` has the code of
-/// the first broken rule: the leftmost refused word; else 21 where a number is out of range; else
-/// what is wrong with the form, at the leftmost place at which the line goes on to no form.
-/// `NoMemory` says nothing of the line.
+/// Reads one scanned line as its definition does.
 #[tactic(auto, unfolding(crate::specs::Blocks::statement_of))]
-pub fn statement(alloc: Global, words: &Words<'_>, compensation: bool) -> Result<Block, SyntaxFault>
+fn read_exactly(
+    alloc: Global,
+    words: &Words<'_>,
+    compensation: bool,
+) -> Result<Block, SyntaxFault>
     requires { IsScanned words.now }
     ensures exact { Gives view_of (statement_of words.now compensation) result }
     ensures indices { IfOk result (λ b. StatementFits (statement_view b.stmt)) }
@@ -133,4 +133,24 @@ pub fn statement(alloc: Global, words: &Words<'_>, compensation: bool) -> Result
             }
         }
     }
+}
+
+/// Reads one scanned line of a part program.
+///
+/// `compensation` says whether the job accepts tool radius compensation. `Refused` has the code of
+/// the first broken rule: the leftmost refused word; else 21 where a number is out of range; else
+/// what is wrong with the form, at the leftmost place at which the line goes on to no form.
+/// `NoMemory` says nothing of the line.
+#[tactic(auto, using(crate::proofs::BlockLaws::answers))]
+pub fn statement(alloc: Global, words: &Words<'_>, compensation: bool) -> Result<Block, SyntaxFault>
+    requires { IsScanned words.now }
+
+    // What is read is spelled so, and what is spelled so is read: one block at most.
+    ensures found { IfOk result (λ b. Spells words.now (view_of b)) }
+    ensures only { (b : BlockView) → IsAccepted words.now compensation → Spells words.now b → Gives view_of (Ok b) result }
+
+    ensures exact { Gives view_of (statement_of words.now compensation) result }
+    ensures indices { IfOk result (λ b. StatementFits (statement_view b.stmt)) }
+{
+    read_exactly(alloc, words, compensation)
 }
