@@ -2,3 +2,17 @@ pub mod Broken
 pub mod FormRefusals
 pub mod RefusedWords
 pub mod BlockRefusals
+pub mod Standings
+pub mod Marked
+pub mod Chained
+pub mod WordLaws
+pub mod WordsRead
+pub mod WordBlocks
+pub mod FormNames
+pub mod JumpLaws
+pub mod StructureLaws
+pub mod FrameLaws
+pub mod CoordinationLaws
+pub mod MessageLaws
+pub mod BodyLaws
+pub mod BlockLaws

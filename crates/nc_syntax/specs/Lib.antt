@@ -4,3 +4,6 @@ pub mod Frames
 pub mod Coordination
 pub mod Bodies
 pub mod Blocks
+pub mod Standing
+pub mod SpelledWords
+pub mod Spelled

@@ -5,10 +5,12 @@ mod bodies;
 mod coordination;
 mod frames;
 mod jumps;
+mod laws;
 mod messages;
 mod statements;
 mod structures;
 
+pub use laws::one_block_at_most;
 pub use nc_blocks::{
     Block, CoordWord, FrameWord, JumpTo, Measure, NameText, Operand, Stmt, Target, Way, Word,
 };

@@ -1,13 +1,14 @@
 //! The block of a line.
 
-ghost use Rattle.std.specs.Prelude.{◌≡◌, ◌<◌, ◌≤◌, ◌+◌, length, IfOk, IfErr};
+ghost use Rattle.std.specs.Prelude.{◌≡◌, ◌<◌, ◌≤◌, ◌+◌, length, IfOk, IfErr, Ok};
 ghost use Rattle.std.specs.Bool.{OnTrue};
 ghost use Rattle.block_scanner.specs.Scanned.{IsScanned};
+ghost use Rattle.nc_syntax.specs.Spelled.{Spells, IsAccepted};
 ghost use Rattle.nc_syntax.specs.Blocks.{skip_of, has_number, number_at, label_at, head_of, block_of, statement_of};
 ghost use Rattle.nc_blocks.specs.Indices.{StatementFits};
 ghost use Rattle.nc_blocks.specs.Reading.{Gives};
 ghost use Rattle.nc_blocks.specs.Refusals.{IsListed};
-ghost use Rattle.nc_blocks.specs.Statement.{statement_view, view_of};
+ghost use Rattle.nc_blocks.specs.Statement.{BlockView, statement_view, view_of};
 
 use crate::bodies::body_at;
 use block_scanner::Words;
