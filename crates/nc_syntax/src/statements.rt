@@ -115,7 +115,7 @@ fn block_of(alloc: Global, words: &Words<'_>) -> Result<Block, SyntaxFault>
 
 /// Reads as the definition does.
 #[tactic(auto, unfolding(crate::specs::Blocks::statement_of))]
-fn statement_exactly(
+fn read_exactly(
     alloc: Global,
     words: &Words<'_>,
     compensation: bool,
@@ -149,5 +149,5 @@ pub fn statement(alloc: Global, words: &Words<'_>, compensation: bool) -> Result
     ensures listed { IfErr result IsListed }
     ensures indices { IfOk result (λ b. StatementFits (statement_view b.stmt)) }
 {
-    statement_exactly(alloc, words, compensation)
+    read_exactly(alloc, words, compensation)
 }
