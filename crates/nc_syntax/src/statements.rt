@@ -115,11 +115,7 @@ fn block_of(alloc: Global, words: &Words<'_>) -> Result<Block, SyntaxFault>
 
 /// Reads as the definition does.
 #[tactic(auto, unfolding(crate::specs::Blocks::statement_of))]
-fn read_exactly(
-    alloc: Global,
-    words: &Words<'_>,
-    compensation: bool,
-) -> Result<Block, SyntaxFault>
+fn read_exactly(alloc: Global, words: &Words<'_>, compensation: bool) -> Result<Block, SyntaxFault>
     requires { IsScanned words.now }
     ensures exact { Gives view_of (statement_of words.now compensation) result }
     ensures indices { IfOk result (λ b. StatementFits (statement_view b.stmt)) }
