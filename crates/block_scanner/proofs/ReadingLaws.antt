@@ -7,7 +7,7 @@ use Rattle.block_scanner.specs.declared.Kind.{Kind}
 use Rattle.block_scanner.specs.declared.ScanFault.{ScanFault}
 use Rattle.block_scanner.specs.declared.ScanFault.TheVariants.{BadByte, OpenText, NoMemory}
 use Rattle.block_scanner.specs.declared.Token.{Token}
-use Rattle.block_scanner.specs.declared.Words.{Words}
+use Rattle.block_scanner.specs.WordsView.{WordsView}
 use Rattle.block_scanner.specs.declared.beginnings.Front.{Front}
 use Rattle.block_scanner.specs.declared.beginnings.Front.TheVariants.{Blank, Comment, Stands, Forbidden, Unclosed}
 use Rattle.block_scanner.specs.Bytes.{is_blank}
@@ -230,7 +230,7 @@ pub says : (line : List ℕ) → Says line (tokens_of line)
 says line = says_it line (tokens_of line) (reads (length line) 0 line (omega arith))
 
 -- an answer with the tokens or the fault of the line is what the line says
-pub answers : (line : List ℕ) (answer : Result Words ScanFault) → Scans line answer → Answers line answer
+pub answers : (line : List ℕ) (answer : Result WordsView ScanFault) → Scans line answer → Answers line answer
 answers line (Ok words) h = subst (λ (o : Result (List Token) ScanFault). Says line o) h.1 (says line)
 answers line (Err (BadByte place)) h = subst (λ (o : Result (List Token) ScanFault). Says line o) h (says line)
 answers line (Err (OpenText place)) h = subst (λ (o : Result (List Token) ScanFault). Says line o) h (says line)
@@ -257,13 +257,13 @@ formed line ts h =
     let said = subst (λ (o : Result (List Token) ScanFault). Says line o) h (says line) in
     formed_from ts 0 line line said.0 said.1 refl said.2
 
-pub formed_answer : (line : List ℕ) (answer : Result Words ScanFault) → Scans line answer → IfOk answer (λ words. AreFormed line words.tokens.items)
-formed_answer line (Ok words) h = formed line words.tokens.items h.1
+pub formed_answer : (line : List ℕ) (answer : Result WordsView ScanFault) → Scans line answer → IfOk answer (λ words. AreFormed line words.tokens)
+formed_answer line (Ok words) h = formed line words.tokens h.1
 formed_answer line (Err e) h = tt
 
 -- each token of a scanned line has the form of its kind
-pub formed_at : (words : Words) (tokens : List Token) (i : ℕ) (d : Token) → IsScanned words → tokens ≡ words.tokens.items → i < length words.tokens.items
-    → HasForm (get_or tokens i d).kind (text_of words.line.now (get_or tokens i d))
+pub formed_at : (words : WordsView) (tokens : List Token) (i : ℕ) (d : Token) → IsScanned words → tokens ≡ words.tokens → i < length words.tokens
+    → HasForm (get_or tokens i d).kind (text_of words.line (get_or tokens i d))
 formed_at words tokens i d scanned same within =
-    let has = λ (ts : List Token). HasForm (get_or ts i d).kind (text_of words.line.now (get_or ts i d)) in
-    subst has (sym same) (formed words.line.now words.tokens.items scanned.read i d within)
+    let has = λ (ts : List Token). HasForm (get_or ts i d).kind (text_of words.line (get_or ts i d)) in
+    subst has (sym same) (formed words.line words.tokens scanned.read i d within)

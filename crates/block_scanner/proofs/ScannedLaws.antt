@@ -1,7 +1,7 @@
 -- Where the tokens of a line stand.
 use Rattle.std.proofs.Common.{◌≡◌, ℕ, zero, suc, ◌<◌, ◌≤◌, List, [], ◌∷◌, length, get_or, arith, sym, subst}
 use Rattle.block_scanner.specs.declared.Token.{Token}
-use Rattle.block_scanner.specs.declared.Words.{Words}
+use Rattle.block_scanner.specs.WordsView.{WordsView}
 use Rattle.block_scanner.specs.Scanned.{InOrder, IsScanned, IsTokenOf}
 
 -- tokens in order end where they may at the latest
@@ -21,9 +21,9 @@ order_at (t ∷ ts) from to (suc i) d h within =
     (omega arith, behind.1, behind.2)
 
 -- each token of a scanned line is one of this line
-pub scanned_at : (words : Words) (tokens : List Token) (i : ℕ) (d : Token) → IsScanned words → tokens ≡ words.tokens.items → i < length words.tokens.items
-    → IsTokenOf words.line.now (get_or tokens i d)
+pub scanned_at : (words : WordsView) (tokens : List Token) (i : ℕ) (d : Token) → IsScanned words → tokens ≡ words.tokens → i < length words.tokens
+    → IsTokenOf words.line (get_or tokens i d)
 scanned_at words tokens i d scanned same within =
-    let at = order_at words.tokens.items 0 (length words.line.now) i d scanned.ordered within in
-    let is = λ (ts : List Token). IsTokenOf words.line.now (get_or ts i d) in
+    let at = order_at words.tokens 0 (length words.line) i d scanned.ordered within in
+    let is = λ (ts : List Token). IsTokenOf words.line (get_or ts i d) in
     subst is (sym same) (at.1, at.2)

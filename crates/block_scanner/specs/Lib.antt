@@ -5,3 +5,4 @@ pub mod Signs
 pub mod Texts
 pub mod Tokenisation
 pub mod Tokens
+pub mod WordsView

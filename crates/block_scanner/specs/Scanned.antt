@@ -1,7 +1,7 @@
 -- Tokens that stand in order in a line.
 use Rattle.std.specs.Prelude.{◌≡◌, ℕ, ◌<◌, ◌≤◌, List, [], ◌∷◌, length, Ok}
 use Rattle.block_scanner.specs.declared.Token.{Token}
-use Rattle.block_scanner.specs.declared.Words.{Words}
+use Rattle.block_scanner.specs.WordsView.{WordsView}
 use Rattle.block_scanner.specs.Tokens.{tokens_of}
 
 -- from one place to another, tokens stand one behind the other, and none is empty
@@ -14,8 +14,8 @@ abbrev pub IsTokenOf : List ℕ → Token → Type 0
 IsTokenOf line token = (token.start < token.end) × (token.end ≤ length line)
 
 -- what `scan` gives of a line of at most 512 bytes: the tokens of the line, in order, and no more of them than bytes
-pub record IsScanned (words : Words) : Type 0 where
-  pub read : tokens_of words.line.now ≡ Ok words.tokens.items
-  pub ordered : InOrder 0 words.tokens.items (length words.line.now)
-  pub few : length words.tokens.items ≤ length words.line.now
-  pub short : length words.line.now ≤ 512
+pub record IsScanned (words : WordsView) : Type 0 where
+  pub read : tokens_of words.line ≡ Ok words.tokens
+  pub ordered : InOrder 0 words.tokens (length words.line)
+  pub few : length words.tokens ≤ length words.line
+  pub short : length words.line ≤ 512

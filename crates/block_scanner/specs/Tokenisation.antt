@@ -7,7 +7,7 @@ use Rattle.block_scanner.specs.declared.Kind.TheVariants.{Letter, Name, Number, 
 use Rattle.block_scanner.specs.declared.ScanFault.{ScanFault}
 use Rattle.block_scanner.specs.declared.ScanFault.TheVariants.{BadByte, OpenText, NoMemory}
 use Rattle.block_scanner.specs.declared.Token.{Token}
-use Rattle.block_scanner.specs.declared.Words.{Words}
+use Rattle.block_scanner.specs.WordsView.{WordsView}
 use Rattle.block_scanner.specs.Bytes.{is_blank, is_quote, is_name_start, is_name_part}
 use Rattle.block_scanner.specs.Signs.{spelling}
 use Rattle.block_scanner.specs.Texts.{text_of}
@@ -81,8 +81,8 @@ Says line (Err (OpenText place)) = IsOpenText line place
 Says line (Err NoMemory) = ⊥
 
 -- the answer is what the line says, or memory ran out
-abbrev pub Answers : List ℕ → Result Words ScanFault → Type 0
-Answers line (Ok words) = IsTokenisation line words.tokens.items
+abbrev pub Answers : List ℕ → Result WordsView ScanFault → Type 0
+Answers line (Ok words) = IsTokenisation line words.tokens
 Answers line (Err (BadByte place)) = IsBadByte line place
 Answers line (Err (OpenText place)) = IsOpenText line place
 Answers line (Err NoMemory) = Unit {0}

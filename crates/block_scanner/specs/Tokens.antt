@@ -3,7 +3,7 @@ use Rattle.std.specs.Prelude.{◌≡◌, ℕ, zero, suc, ◌+◌, List, [], ◌�
 use Rattle.block_scanner.specs.declared.ScanFault.{ScanFault}
 use Rattle.block_scanner.specs.declared.ScanFault.TheVariants.{BadByte, OpenText, NoMemory}
 use Rattle.block_scanner.specs.declared.Token.{Token}
-use Rattle.block_scanner.specs.declared.Words.{Words}
+use Rattle.block_scanner.specs.WordsView.{WordsView}
 use Rattle.block_scanner.specs.declared.beginnings.Front.{Front}
 use Rattle.block_scanner.specs.declared.beginnings.Front.TheVariants.{Blank, Comment, Stands, Forbidden, Unclosed}
 use Rattle.block_scanner.specs.Front.{front}
@@ -32,8 +32,8 @@ abbrev pub tokens_of : List ℕ → Result (List Token) ScanFault
 tokens_of line = tokens_from 0 line 0
 
 -- the answer has the tokens or the fault of the line, or memory ran out
-abbrev pub Scans : List ℕ → Result Words ScanFault → Type 0
-Scans line (Ok words) = (words.line.now ≡ line) × (tokens_of line ≡ Ok words.tokens.items)
+abbrev pub Scans : List ℕ → Result WordsView ScanFault → Type 0
+Scans line (Ok words) = (words.line ≡ line) × (tokens_of line ≡ Ok words.tokens)
 Scans line (Err (BadByte at)) = tokens_of line ≡ Err (BadByte at)
 Scans line (Err (OpenText at)) = tokens_of line ≡ Err (OpenText at)
 Scans line (Err NoMemory) = Unit {0}

@@ -15,6 +15,7 @@ pub use laws::lines_say_one_thing;
 pub use scanning::scan;
 use smallvec::SmallVec;
 use std::alloc::AllocFailed;
+use std::marker::Model;
 use thiserror::Error;
 
 /// A sign of the language.
@@ -87,12 +88,20 @@ pub struct Token {
 }
 
 /// A line and its tokens, in order.
-#[derive(Clone, Debug, PartialEq, Eq, Drop)]
+#[derive(Debug, Drop)]
 pub struct Words<'a> {
     /// The line.
     pub line: &'a [u8],
     /// Its tokens.
     pub tokens: SmallVec<Token, 24>,
+}
+
+impl<'a> Model for Words<'a> {
+    ghost use Rattle.block_scanner.specs.WordsView.{WordsView};
+
+    ghost Value = { WordsView };
+
+    ghost view = { λ w. record { line = w.line.now; tokens = w.tokens.items } };
 }
 
 impl Words<'_> {
@@ -103,18 +112,18 @@ impl Words<'_> {
     /// The token with this number, counted from 0.
     pub fn token(&self, index: usize) -> Token
         requires scanned { IsScanned self.now }
-        requires within { index < length self.now.tokens.items }
-        ensures read { result ≡ slice_index_or self.now.tokens.items index result }
-        ensures stands { IsTokenOf self.now.line.now result }
-        ensures formed { HasForm result.kind (text_of self.now.line.now result) }
+        requires within { index < length self.now.tokens }
+        ensures read { result ≡ slice_index_or self.now.tokens index result }
+        ensures stands { IsTokenOf self.now.line result }
+        ensures formed { HasForm result.kind (text_of self.now.line result) }
     {
         self.tokens[index]
     }
 
     /// The bytes of a token of this line.
     pub fn text(&self, token: &Token) -> &[u8]
-        requires { IsTokenOf self.now.line.now token.now }
-        ensures { result.now ≡ text_of self.now.line.now token.now }
+        requires { IsTokenOf self.now.line token.now }
+        ensures { result.now ≡ text_of self.now.line token.now }
     {
         &self.line[token.start as usize..token.end as usize]
     }

@@ -19,7 +19,7 @@ pub fn scan(alloc: Global, line: &[u8]) -> Result<Words<'_>, ScanFault>
     requires { length line.now ≤ 512 }
     ensures exact { Scans line.now result }
     ensures said { Answers line.now result }
-    ensures formed { IfOk result (λ words. AreFormed line.now words.tokens.items) }
+    ensures formed { IfOk result (λ words. AreFormed line.now words.tokens) }
     ensures scanned { IfOk result (λ words. IsScanned words) }
 {
     scan_from_left(alloc, line)

@@ -1,3 +1,5 @@
 pub mod Places
 pub mod Passing
 pub mod Listing
+pub mod Refusals
+pub mod WordRefusals

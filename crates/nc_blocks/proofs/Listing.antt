@@ -9,7 +9,7 @@ use Rattle.std.specs.List.{list_any}
 use Rattle.std.proofs.lemmas.List.{drop_more, drop_all, length-drop, map-append}
 use Rattle.block_scanner.specs.declared.Kind.TheVariants as kind
 use Rattle.block_scanner.specs.declared.Token.{Token}
-use Rattle.block_scanner.specs.declared.Words.{Words}
+use Rattle.block_scanner.specs.WordsView.{WordsView}
 use Rattle.nc_expressions.specs.Value.{◌>>=◌}
 use Rattle.nc_blocks.specs.Lists.{Item, go_on, listed, list_at}
 
@@ -76,8 +76,8 @@ list_refused item before at tokens code e =
     ]
 
 -- a list begins with nothing before it
-pub list_begins : {A : Type 0} (item : List A → ℕ → Result (Item A) ℕ) (words : Words) (at : ℕ) →
-    listed item [] at (drop at words.tokens.items) zero ≡ list_at item words at
+pub list_begins : {A : Type 0} (item : List A → ℕ → Result (Item A) ℕ) (words : WordsView) (at : ℕ) →
+    listed item [] at (drop at words.tokens) zero ≡ list_at item words at
 unfolding list_at
 list_begins item words at = refl
 
@@ -87,48 +87,48 @@ map_push f xs x = map-append f xs (x ∷ [])
 pub ruleset list_steps = (list_goes_on, list_ends, list_refused, list_begins, map_push)
 
 -- the list so far and one thing more, where another one follows
-pub list_more : {X A : Type 0} (item : List A → ℕ → Result (Item A) ℕ) (view : X → A) (words : Words) (start at next : ℕ) (before after : List X) (x : X) (more : Bool) →
-    listed item (map view before) at (drop at words.tokens.items) zero ≡ list_at item words start →
-    item (map view before) at ≡ Ok (view x, more, next) → more ≡ true → at < next → next ≤ length words.tokens.items → after ≡ before ++ x ∷ [] →
-    listed item (map view after) next (drop next words.tokens.items) zero ≡ list_at item words start
+pub list_more : {X A : Type 0} (item : List A → ℕ → Result (Item A) ℕ) (view : X → A) (words : WordsView) (start at next : ℕ) (before after : List X) (x : X) (more : Bool) →
+    listed item (map view before) at (drop at words.tokens) zero ≡ list_at item words start →
+    item (map view before) at ≡ Ok (view x, more, next) → more ≡ true → at < next → next ≤ length words.tokens → after ≡ before ++ x ∷ [] →
+    listed item (map view after) next (drop next words.tokens) zero ≡ list_at item words start
 list_more item view words start at next before after x more so_far e is above within pushed =
     let e' = e ∙ ap (λ m. Ok (view x, m, next)) is in
     let grown : map view after ≡ map view before ++ view x ∷ [] = ap (map view) pushed ∙ map_push view before x in
-    ap (λ xs. listed item xs next (drop next words.tokens.items) zero) grown
-    ∙ sym (list_goes_on item (map view before) at words.tokens.items (view x) next e' above within)
+    ap (λ xs. listed item xs next (drop next words.tokens) zero) grown
+    ∙ sym (list_goes_on item (map view before) at words.tokens (view x) next e' above within)
     ∙ so_far
 
 -- the list so far and the last thing
-pub list_last : {X A : Type 0} (item : List A → ℕ → Result (Item A) ℕ) (view : X → A) (words : Words) (start at next : ℕ) (before after : List X) (x : X) (more : Bool) →
-    listed item (map view before) at (drop at words.tokens.items) zero ≡ list_at item words start →
-    item (map view before) at ≡ Ok (view x, more, next) → more ≡ false → at < next → next ≤ length words.tokens.items → after ≡ before ++ x ∷ [] →
+pub list_last : {X A : Type 0} (item : List A → ℕ → Result (Item A) ℕ) (view : X → A) (words : WordsView) (start at next : ℕ) (before after : List X) (x : X) (more : Bool) →
+    listed item (map view before) at (drop at words.tokens) zero ≡ list_at item words start →
+    item (map view before) at ≡ Ok (view x, more, next) → more ≡ false → at < next → next ≤ length words.tokens → after ≡ before ++ x ∷ [] →
     list_at item words start ≡ Ok (map view after, next)
 list_last item view words start at next before after x more so_far e is above within pushed =
     let e' = e ∙ ap (λ m. Ok (view x, m, next)) is in
     let grown : map view after ≡ map view before ++ view x ∷ [] = ap (map view) pushed ∙ map_push view before x in
     sym so_far
-    ∙ list_ends item (map view before) at words.tokens.items (view x) next e' above within
+    ∙ list_ends item (map view before) at words.tokens (view x) next e' above within
     ∙ ap (λ xs. Ok (xs, next)) (sym grown)
 
 -- the same of lists that the code holds as they are
-pub plain_more : {A : Type 0} (item : List A → ℕ → Result (Item A) ℕ) (words : Words) (start at next : ℕ) (before after : List A) (x : A) (more : Bool) →
-    listed item before at (drop at words.tokens.items) zero ≡ list_at item words start →
-    item before at ≡ Ok (x, more, next) → more ≡ true → at < next → next ≤ length words.tokens.items → after ≡ before ++ x ∷ [] →
-    listed item after next (drop next words.tokens.items) zero ≡ list_at item words start
+pub plain_more : {A : Type 0} (item : List A → ℕ → Result (Item A) ℕ) (words : WordsView) (start at next : ℕ) (before after : List A) (x : A) (more : Bool) →
+    listed item before at (drop at words.tokens) zero ≡ list_at item words start →
+    item before at ≡ Ok (x, more, next) → more ≡ true → at < next → next ≤ length words.tokens → after ≡ before ++ x ∷ [] →
+    listed item after next (drop next words.tokens) zero ≡ list_at item words start
 plain_more item words start at next before after x more so_far e is above within pushed =
     let e' = e ∙ ap (λ m. Ok (x, m, next)) is in
-    ap (λ xs. listed item xs next (drop next words.tokens.items) zero) pushed
-    ∙ sym (list_goes_on item before at words.tokens.items x next e' above within)
+    ap (λ xs. listed item xs next (drop next words.tokens) zero) pushed
+    ∙ sym (list_goes_on item before at words.tokens x next e' above within)
     ∙ so_far
 
-pub plain_last : {A : Type 0} (item : List A → ℕ → Result (Item A) ℕ) (words : Words) (start at next : ℕ) (before after : List A) (x : A) (more : Bool) →
-    listed item before at (drop at words.tokens.items) zero ≡ list_at item words start →
-    item before at ≡ Ok (x, more, next) → more ≡ false → at < next → next ≤ length words.tokens.items → after ≡ before ++ x ∷ [] →
+pub plain_last : {A : Type 0} (item : List A → ℕ → Result (Item A) ℕ) (words : WordsView) (start at next : ℕ) (before after : List A) (x : A) (more : Bool) →
+    listed item before at (drop at words.tokens) zero ≡ list_at item words start →
+    item before at ≡ Ok (x, more, next) → more ≡ false → at < next → next ≤ length words.tokens → after ≡ before ++ x ∷ [] →
     list_at item words start ≡ Ok (after, next)
 plain_last item words start at next before after x more so_far e is above within pushed =
     let e' = e ∙ ap (λ m. Ok (x, m, next)) is in
     sym so_far
-    ∙ list_ends item before at words.tokens.items x next e' above within
+    ∙ list_ends item before at words.tokens x next e' above within
     ∙ ap (λ xs. Ok (xs, next)) (sym pushed)
 
 -- what holds of all so far and of one more holds of all

@@ -3,7 +3,7 @@ use Rattle.std.proofs.Common.{◌≡◌, ℕ, ◌<◌, ◌≤◌, List, length, 
 use Rattle.std.specs.Prelude.{slice_get}
 use Rattle.std.proofs.lemmas.Option.{slice_get_read, slice_get_past}
 use Rattle.block_scanner.specs.declared.Token.{Token}
-use Rattle.block_scanner.specs.declared.Words.{Words}
+use Rattle.block_scanner.specs.WordsView.{WordsView}
 use Rattle.block_scanner.specs.Texts.{text_of}
 use Rattle.nc_expressions.specs.declared.symbols.Symbol.{Symbol}
 use Rattle.nc_expressions.specs.Symbols.{symbols_of}
@@ -12,10 +12,10 @@ use Rattle.nc_blocks.specs.declared.pieces.Piece.{Piece}
 use Rattle.nc_blocks.specs.declared.pieces.Piece.TheVariants as piece
 use Rattle.nc_blocks.specs.Pieces.{piece_of, piece_at, text_at}
 
-token_read : (words : Words) (at : ℕ) (t : Token) → at < length words.tokens.items → t ≡ get_or words.tokens.items at t → slice_get words.tokens.items at ≡ Some t
-token_read words at t h is = slice_get_read words.tokens.items (length words.tokens.items) at t refl h is
+token_read : (words : WordsView) (at : ℕ) (t : Token) → at < length words.tokens → t ≡ get_or words.tokens at t → slice_get words.tokens at ≡ Some t
+token_read words at t h is = slice_get_read words.tokens (length words.tokens) at t refl h is
 
-pub piece_read : (words : Words) (at : ℕ) (t : Token) (s : Symbol) (p : Piece) → at < length words.tokens.items → t ≡ get_or words.tokens.items at t →
+pub piece_read : (words : WordsView) (at : ℕ) (t : Token) (s : Symbol) (p : Piece) → at < length words.tokens → t ≡ get_or words.tokens at t →
     s ≡ get_or (symbols_of words) at s → p ≡ piece_of t s → p ≡ piece_at words at
 unfolding piece_at
 piece_read words at t s p h is is' e =
@@ -23,13 +23,13 @@ piece_read words at t s p h is is' e =
     let b = within_line words at s h is' in
     rw (a, b) e
 
-pub piece_past : (words : Words) (at : ℕ) → length words.tokens.items ≤ at → piece.End ≡ piece_at words at
+pub piece_past : (words : WordsView) (at : ℕ) → length words.tokens ≤ at → piece.End ≡ piece_at words at
 unfolding piece_at
-piece_past words at h = rw (slice_get_past words.tokens.items at h) refl
+piece_past words at h = rw (slice_get_past words.tokens at h) refl
 
 pub ruleset places = (piece_read, piece_past)
 
-pub text_read : (words : Words) (at : ℕ) (t : Token) (text : List ℕ) → at < length words.tokens.items → t ≡ get_or words.tokens.items at t →
-    text ≡ text_of words.line.now t → text ≡ text_at words at
+pub text_read : (words : WordsView) (at : ℕ) (t : Token) (text : List ℕ) → at < length words.tokens → t ≡ get_or words.tokens at t →
+    text ≡ text_of words.line t → text ≡ text_at words at
 unfolding text_at
 text_read words at t text h is e = rw (token_read words at t h is) e

@@ -1,6 +1,6 @@
 -- Axis names: the letter of an axis, and digits.
 use Rattle.std.specs.Prelude.{ℕ, ◌+◌, ◌==◌, ◌&&◌, ◌||◌, Bool, false, List}
-use Rattle.block_scanner.specs.declared.Words.{Words}
+use Rattle.block_scanner.specs.WordsView.{WordsView}
 use Rattle.nc_blocks.specs.declared.pieces.Piece.{Piece}
 use Rattle.nc_blocks.specs.declared.pieces.Piece.TheVariants as piece
 use Rattle.nc_blocks.specs.Pieces.{piece_at, text_at, is_assign}
@@ -20,13 +20,13 @@ is_digits_piece (piece.Number z) text = is_digits text
 is_digits_piece one text = false
 
 -- a number of digits alone stands there
-unfoldable pub has_digits : Words → ℕ → Bool
+unfoldable pub has_digits : WordsView → ℕ → Bool
 has_digits words at = is_digits_piece (piece_at words at) (text_at words at)
 
 -- an axis name: a letter of an axis, and digits
-unfoldable pub has_axis_name : Words → ℕ → Bool
+unfoldable pub has_axis_name : WordsView → ℕ → Bool
 has_axis_name words at = is_axis_start (piece_at words at) && has_digits words (at + 1)
 
 -- an axis name and =
-unfoldable pub has_axis_word : Words → ℕ → Bool
+unfoldable pub has_axis_word : WordsView → ℕ → Bool
 has_axis_word words at = has_axis_name words at && is_assign (piece_at words (at + 2))

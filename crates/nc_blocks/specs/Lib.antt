@@ -8,3 +8,4 @@ pub mod Lists
 pub mod Statement
 pub mod Indices
 pub mod Wording
+pub mod Refusals

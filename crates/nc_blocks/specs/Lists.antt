@@ -1,7 +1,7 @@
 -- Lists of things that stand one behind the other in a line.
 use Rattle.std.specs.Prelude.{ℕ, zero, suc, ◌+◌, ◌-◌, Bool, true, false, List, [], ◌∷◌, ◌++◌, drop, Result, Ok, Err}
 use Rattle.block_scanner.specs.declared.Token.{Token}
-use Rattle.block_scanner.specs.declared.Words.{Words}
+use Rattle.block_scanner.specs.WordsView.{WordsView}
 use Rattle.nc_expressions.specs.Value.{◌>>=◌}
 
 -- one thing is read: it, whether another one follows, and the place behind it or where the next one begins
@@ -19,5 +19,5 @@ listed item before at (token ∷ tokens) zero = item before at >>= λ one. go_on
 listed item before at (token ∷ tokens) (suc more) = listed item before (at + 1) tokens more
 
 -- the things that stand from a place on, one at least, and the place behind them
-unfoldable pub list_at : {A : Type 0} → (List A → ℕ → Result (Item A) ℕ) → Words → ℕ → Result (List A × ℕ) ℕ
-list_at item words at = listed item [] at (drop at words.tokens.items) 0
+unfoldable pub list_at : {A : Type 0} → (List A → ℕ → Result (Item A) ℕ) → WordsView → ℕ → Result (List A × ℕ) ℕ
+list_at item words at = listed item [] at (drop at words.tokens) 0

@@ -5,7 +5,7 @@ use Rattle.block_scanner.specs.declared.Kind.TheVariants as kind
 use Rattle.block_scanner.specs.declared.Sign.{Sign}
 use Rattle.block_scanner.specs.declared.Sign.TheVariants as sign
 use Rattle.block_scanner.specs.declared.Token.{Token}
-use Rattle.block_scanner.specs.declared.Words.{Words}
+use Rattle.block_scanner.specs.WordsView.{WordsView}
 use Rattle.block_scanner.specs.Texts.{text_of}
 use Rattle.nc_expressions.specs.declared.symbols.Symbol.{Symbol}
 use Rattle.nc_expressions.specs.declared.symbols.Symbol.TheVariants as symbol
@@ -57,16 +57,16 @@ found_piece (Some token) None = piece.End
 found_piece (Some token) (Some one) = piece_of token one
 
 -- what stands at a place
-unfoldable pub piece_at : Words → ℕ → Piece
-piece_at words at = found_piece (slice_get words.tokens.items at) (slice_get (symbols_of words) at)
+unfoldable pub piece_at : WordsView → ℕ → Piece
+piece_at words at = found_piece (slice_get words.tokens at) (slice_get (symbols_of words) at)
 
 abbrev pub found_text : List ℕ → Option Token → List ℕ
 found_text line (Some token) = text_of line token
 found_text line None = []
 
 -- the text of the token at a place
-unfoldable pub text_at : Words → ℕ → List ℕ
-text_at words at = found_text words.line.now (slice_get words.tokens.items at)
+unfoldable pub text_at : WordsView → ℕ → List ℕ
+text_at words at = found_text words.line (slice_get words.tokens at)
 
 -- the end of the line stands nowhere
 abbrev pub Stands : Piece → Type 0 → Type 0

@@ -3,7 +3,7 @@ use Rattle.std.specs.Prelude.{◌≡◌, ℕ, ℤ, ◌+◌, ◌/◌, ◌&&◌, n
 use Rattle.std.specs.List.{list_all}
 use Rattle.std.specs.Char.{is_ascii_digit}
 use Rattle.std.specs.Int.RustNames.{unsigned_abs}
-use Rattle.block_scanner.specs.declared.Words.{Words}
+use Rattle.block_scanner.specs.WordsView.{WordsView}
 use Rattle.nc_expressions.specs.declared.trees.Expr.{Expr}
 use Rattle.nc_expressions.specs.declared.faults.SyntaxFault.{SyntaxFault}
 use Rattle.nc_expressions.specs.declared.faults.SyntaxFault.TheVariants.{Refused, NoMemory}
@@ -28,15 +28,15 @@ abbrev pub placed_tree : Expr × ℕ → Tree × ℕ
 placed_tree p = (tree_of p.0, p.1)
 
 -- the expression at a place
-unfoldable pub expression_at : Words → ℕ → Result (Tree × ℕ) ℕ
+unfoldable pub expression_at : WordsView → ℕ → Result (Tree × ℕ) ℕ
 expression_at words at = expr_at (symbols_of words) at
 
-abbrev pub in_words : Words → ℕ → Result (Tree × ℕ) ℕ → Result (Tree × ℕ) ℕ
+abbrev pub in_words : WordsView → ℕ → Result (Tree × ℕ) ℕ → Result (Tree × ℕ) ℕ
 in_words words stop (Ok p) = Ok p
 in_words words stop (Err code) = Err (if code == 22 then word_code words stop else code)
 
 -- the same in a word block: where another form's first name stands at the place of the refusal, it is 24
-unfoldable pub value_at : Words → ℕ → Result (Tree × ℕ) ℕ
+unfoldable pub value_at : WordsView → ℕ → Result (Tree × ℕ) ℕ
 value_at words at = in_words words (stop_at (symbols_of words) at) (expression_at words at)
 
 abbrev pub after_sign_of : Piece → ℕ → ℕ
@@ -45,7 +45,7 @@ after_sign_of piece.Minus at = at + 1
 after_sign_of one at = at
 
 -- the place behind a sign, if one stands there
-unfoldable pub after_sign : Words → ℕ → ℕ
+unfoldable pub after_sign : WordsView → ℕ → ℕ
 after_sign words at = after_sign_of (piece_at words at) at
 
 abbrev pub signed : Piece → ℤ → ℤ
@@ -57,7 +57,7 @@ constant_of first (piece.Number z) next code = Ok (signed first z, next)
 constant_of first one next code = Err code
 
 -- a number with its sign if it has one, and the place behind it; or this refusal
-unfoldable pub constant_at : Words → ℕ → ℕ → Result (ℤ × ℕ) ℕ
+unfoldable pub constant_at : WordsView → ℕ → ℕ → Result (ℤ × ℕ) ℕ
 constant_at words at code = constant_of (piece_at words at) (piece_at words (after_sign words at)) (after_sign words at + 1) code
 
 -- the texts of N, P and parameters
@@ -76,7 +76,7 @@ abbrev pub block_number_of : Piece → List ℕ → Result ℕ ℕ
 block_number_of (piece.Number z) text = block_number text z
 block_number_of one text = Err 22
 
-unfoldable pub block_number_at : Words → ℕ → Result ℕ ℕ
+unfoldable pub block_number_at : WordsView → ℕ → Result ℕ ℕ
 block_number_at words at = block_number_of (piece_at words at) (text_at words at)
 
 abbrev pub index_or : Option ℕ → ℕ → Result ℕ ℕ
@@ -88,7 +88,7 @@ index_of_piece (piece.Number z) code = index_or (index_of z) 22
 index_of_piece one code = Err code
 
 -- the parameter that a number names, or this refusal where none stands there
-unfoldable pub index_at : Words → ℕ → ℕ → Result ℕ ℕ
+unfoldable pub index_at : WordsView → ℕ → ℕ → Result ℕ ℕ
 index_at words at code = index_of_piece (piece_at words at) code
 
 abbrev pub label_of : Piece → List ℕ → Result (List ℕ) ℕ
@@ -96,5 +96,5 @@ label_of piece.Name text = Ok (name_of text)
 label_of one text = Err 22
 
 -- the name at a place
-unfoldable pub label_at : Words → ℕ → Result (List ℕ) ℕ
+unfoldable pub label_at : WordsView → ℕ → Result (List ℕ) ℕ
 label_at words at = label_of (piece_at words at) (text_at words at)

@@ -1,7 +1,7 @@
 -- The words of a word block.
 use Rattle.std.specs.Prelude.{ℕ, ℤ, pos, ◌+◌, ◌==◌, ◌&&◌, ◌||◌, not, Bool, true, false, List, [], ◌∷◌, Option, Some, None, Result, Ok, Err, if◌then◌else◌, codes}
 use Rattle.std.specs.Ordering.{int_eq}
-use Rattle.block_scanner.specs.declared.Words.{Words}
+use Rattle.block_scanner.specs.WordsView.{WordsView}
 use Rattle.g_groups.specs.declared.GWord.{GWord}
 use Rattle.word_tables.specs.GroupWords.{word_by_number, word_by_name}
 use Rattle.word_tables.specs.Tables.{is_first_name}
@@ -22,11 +22,11 @@ use Rattle.nc_blocks.specs.Texts.{unquoted}
 use Rattle.nc_blocks.specs.Statement.{Statement, WordBlock, WordView, Assign, AssignAt, G, Axis, Radius, Aux, End, OperandView, Value, Text}
 
 -- = and an expression
-unfoldable pub assigned_at : Words → ℕ → Result (Tree × ℕ) ℕ
+unfoldable pub assigned_at : WordsView → ℕ → Result (Tree × ℕ) ℕ
 assigned_at words at = assign_at words at (word_code words at) >>= λ behind. value_at words behind
 
 -- [ expr ]
-unfoldable pub bracketed_at : Words → ℕ → Result (Tree × ℕ) ℕ
+unfoldable pub bracketed_at : WordsView → ℕ → Result (Tree × ℕ) ℕ
 bracketed_at words at = do
   p ← value_at words (at + 1)
   behind ← close_bracket_at words p.1 (word_code words p.1)
@@ -37,7 +37,7 @@ is_open_bracket piece.OpenBracket = true
 is_open_bracket one = false
 
 -- an assignment to a parameter, behind its R
-unfoldable pub assignment_at : Words → ℕ → Result (WordView × ℕ) ℕ
+unfoldable pub assignment_at : WordsView → ℕ → Result (WordView × ℕ) ℕ
 assignment_at words at =
     if is_open_bracket (piece_at words at)
     then (bracketed_at words at >>= λ i. assigned_at words i.1 >>= λ p. Ok (AssignAt i.0 p.0, p.1))
@@ -53,11 +53,11 @@ g_of_piece (piece.Number z) next code = group_word (word_by_number z) next 57
 g_of_piece one next code = Err code
 
 -- a word G, behind its letter
-unfoldable pub g_at : Words → ℕ → Result (WordView × ℕ) ℕ
+unfoldable pub g_at : WordsView → ℕ → Result (WordView × ℕ) ℕ
 g_at words at = g_of_piece (piece_at words at) (at + 1) (word_code words at)
 
 -- ( expr )
-unfoldable pub enclosed_value : Words → ℕ → Result (Tree × ℕ) ℕ
+unfoldable pub enclosed_value : WordsView → ℕ → Result (Tree × ℕ) ℕ
 enclosed_value words at = do
   first ← open_at words at (word_code words at)
   p ← value_at words first
@@ -68,32 +68,32 @@ abbrev pub measured : Measure → Tree × ℕ → Result (Measure × Tree × ℕ
 measured m p = Ok (m, p.0, p.1)
 
 -- behind the = of an axis word: AC ( expr ), IC ( expr ) or an expression
-unfoldable pub measured_at : Words → ℕ → Result (Measure × Tree × ℕ) ℕ
+unfoldable pub measured_at : WordsView → ℕ → Result (Measure × Tree × ℕ) ℕ
 measured_at words at =
     if is_keyword words at (codes "AC") then (enclosed_value words (at + 1) >>= measured Absolute)
     else if is_keyword words at (codes "IC") then (enclosed_value words (at + 1) >>= measured Incremental)
     else (value_at words at >>= measured Modal)
 
 -- an axis word with =, of this address
-unfoldable pub measured_word : Words → List ℕ → ℕ → Result (WordView × ℕ) ℕ
+unfoldable pub measured_word : WordsView → List ℕ → ℕ → Result (WordView × ℕ) ℕ
 measured_word words address at = measured_at words at >>= λ p. Ok (Axis address p.0 p.1, p.2)
 
 -- a letter of an axis or a centre, with its value behind it: = and so on, or a number with its sign
-unfoldable pub letter_word : Words → ℕ → ℕ → Result (WordView × ℕ) ℕ
+unfoldable pub letter_word : WordsView → ℕ → ℕ → Result (WordView × ℕ) ℕ
 letter_word words letter at =
     if is_assign (piece_at words at) then measured_word words (letter ∷ []) (at + 1)
     else (constant_at words at (word_code words (after_sign words at)) >>= λ p. Ok (Axis (letter ∷ []) Modal (Number p.0), p.1))
 
 -- an axis name and = behind it
-unfoldable pub axis_word_at : Words → ℕ → ℕ → Result (WordView × ℕ) ℕ
+unfoldable pub axis_word_at : WordsView → ℕ → ℕ → Result (WordView × ℕ) ℕ
 axis_word_at words letter at = measured_word words (letter ∷ text_at words (at + 1)) (at + 3)
 
 -- X, Y or Z: an axis name, or the letter alone
-unfoldable pub slot_word_at : Words → ℕ → ℕ → Result (WordView × ℕ) ℕ
+unfoldable pub slot_word_at : WordsView → ℕ → ℕ → Result (WordView × ℕ) ℕ
 slot_word_at words letter at = if has_axis_word words at then axis_word_at words letter at else letter_word words letter (at + 1)
 
 -- another letter of axes: with digits and = only
-unfoldable pub other_axis_at : Words → ℕ → ℕ → Result (WordView × ℕ) ℕ
+unfoldable pub other_axis_at : WordsView → ℕ → ℕ → Result (WordView × ℕ) ℕ
 other_axis_at words letter at =
     if has_axis_word words at then axis_word_at words letter at
     else if has_axis_name words at then Err (word_code words (at + 2))
@@ -107,37 +107,37 @@ abbrev pub plain_aux : ℕ → ℤ → WordView
 plain_aux letter z = if is_program_end letter z then End else Aux (letter ∷ []) None (Value (Number z))
 
 -- an expression or a text behind =
-unfoldable pub aux_value : Words → ℕ → Result (OperandView × ℕ) ℕ
+unfoldable pub aux_value : WordsView → ℕ → Result (OperandView × ℕ) ℕ
 aux_value words at =
     if is_text (piece_at words at) then Ok (Text (unquoted (text_at words at)), at + 1)
     else (value_at words at >>= λ p. Ok (Value p.0, p.1))
 
-unfoldable pub has_digits_assign : Words → ℕ → Bool
+unfoldable pub has_digits_assign : WordsView → ℕ → Bool
 has_digits_assign words at = has_digits words at && is_assign (piece_at words (at + 1))
 
 -- M, S, T, D, F or H with a number, or with digits, = and an expression
-unfoldable pub numbered_aux : Words → ℕ → ℤ → ℕ → Result (WordView × ℕ) ℕ
+unfoldable pub numbered_aux : WordsView → ℕ → ℤ → ℕ → Result (WordView × ℕ) ℕ
 numbered_aux words letter z at =
     if has_digits_assign words at
     then (value_at words (at + 2) >>= λ p. Ok (Aux (letter ∷ text_at words at) None (Value p.0), p.1))
     else Ok (plain_aux letter z, at + 1)
 
-abbrev pub aux_of : Words → ℕ → ℕ → Piece → Result (WordView × ℕ) ℕ
+abbrev pub aux_of : WordsView → ℕ → ℕ → Piece → Result (WordView × ℕ) ℕ
 aux_of words letter at (piece.Number z) = numbered_aux words letter z at
 aux_of words letter at one =
     if is_assign one then (aux_value words (at + 1) >>= λ p. Ok (Aux (letter ∷ []) None p.0, p.1)) else Err (word_code words at)
 
 -- M, S, T, D, F or H, behind the letter
-unfoldable pub aux_at : Words → ℕ → ℕ → Result (WordView × ℕ) ℕ
+unfoldable pub aux_at : WordsView → ℕ → ℕ → Result (WordView × ℕ) ℕ
 aux_at words letter at = aux_of words letter at (piece_at words at)
 
 -- [ expr ], if it stands there, and the place behind
-unfoldable pub bracket_at : Words → ℕ → Result (Option Tree × ℕ) ℕ
+unfoldable pub bracket_at : WordsView → ℕ → Result (Option Tree × ℕ) ℕ
 bracket_at words at =
     if is_open_bracket (piece_at words at) then (bracketed_at words at >>= λ p. Ok (Some p.0, p.1)) else Ok (None, at)
 
 -- SPOS, SPOSA, LIMS and SF, behind the name
-unfoldable pub spindle_at : Words → List ℕ → ℕ → Result (WordView × ℕ) ℕ
+unfoldable pub spindle_at : WordsView → List ℕ → ℕ → Result (WordView × ℕ) ℕ
 spindle_at words text at = bracket_at words at >>= λ i. assigned_at words i.1 >>= λ p. Ok (Aux (upper text) i.0 (Value p.0), p.1)
 
 unfoldable pub is_spindle_word : List ℕ → Bool
@@ -149,7 +149,7 @@ abbrev pub name_code : List ℕ → ℕ
 name_code text = if is_first_name text then 24 else 27
 
 -- a word that is a name of this text, behind it
-unfoldable pub name_word : Words → List ℕ → ℕ → Result (WordView × ℕ) ℕ
+unfoldable pub name_word : WordsView → List ℕ → ℕ → Result (WordView × ℕ) ℕ
 name_word words text at =
     if is_word text (codes "CR") then (assigned_at words at >>= λ p. Ok (Radius p.0, p.1))
     else if is_spindle_word text then spindle_at words text at
@@ -167,7 +167,7 @@ abbrev pub is_aux_letter : ℕ → Bool
 is_aux_letter b = (b == 77) || (b == 83) || (b == 84) || (b == 68) || (b == 70) || (b == 72)
 
 -- a word that begins with a letter; 82 is 'R', 71 is 'G'
-unfoldable pub lettered_word : Words → ℕ → ℕ → Result (WordView × ℕ) ℕ
+unfoldable pub lettered_word : WordsView → ℕ → ℕ → Result (WordView × ℕ) ℕ
 lettered_word words letter at =
     if letter == 82 then assignment_at words (at + 1)
     else if letter == 71 then g_at words (at + 1)
@@ -177,19 +177,19 @@ lettered_word words letter at =
     else if is_axis_letter letter then other_axis_at words letter at
     else Err 27
 
-abbrev pub word_of_piece : Words → ℕ → Piece → Result (WordView × ℕ) ℕ
+abbrev pub word_of_piece : WordsView → ℕ → Piece → Result (WordView × ℕ) ℕ
 word_of_piece words at (piece.Letter b) = lettered_word words b at
 word_of_piece words at piece.Name = name_word words (text_at words at) (at + 1)
 word_of_piece words at one = Err 22
 
 -- the word at a place, and the place behind it
-unfoldable pub word_at : Words → ℕ → Result (WordView × ℕ) ℕ
+unfoldable pub word_at : WordsView → ℕ → Result (WordView × ℕ) ℕ
 word_at words at = word_of_piece words at (piece_at words at)
 
 -- the same, and whether another one follows
-unfoldable pub word_item_at : Words → ℕ → Result (Item WordView) ℕ
+unfoldable pub word_item_at : WordsView → ℕ → Result (Item WordView) ℕ
 word_item_at words at = word_at words at >>= λ p. Ok (p.0, not (is_end (piece_at words p.1)), p.1)
 
 -- a word block
-unfoldable pub words_form : Words → ℕ → Result Statement ℕ
+unfoldable pub words_form : WordsView → ℕ → Result Statement ℕ
 words_form words at = list_at (λ before. word_item_at words) words at >>= λ p. Ok (WordBlock p.0)

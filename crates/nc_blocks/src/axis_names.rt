@@ -24,7 +24,7 @@ fn is_axis_letter(letter: u8) -> bool
 pub(crate) fn has_digits(words: &Words<'_>, at: usize) -> bool
     requires { IsScanned words.now }
     ensures value { result ≡ has_digits words.now at }
-    ensures within { OnTrue result (at < length words.now.tokens.items) }
+    ensures within { OnTrue result (at < length words.now.tokens) }
 {
     match piece_at(words, at) {
         Piece::Number(_) => is_digits(text_at(words, at)),
@@ -37,7 +37,7 @@ pub(crate) fn has_digits(words: &Words<'_>, at: usize) -> bool
 pub fn has_axis_name(words: &Words<'_>, at: usize) -> bool
     requires { IsScanned words.now }
     ensures value { result ≡ has_axis_name words.now at }
-    ensures within { OnTrue result (at + 1 < length words.now.tokens.items) }
+    ensures within { OnTrue result (at + 1 < length words.now.tokens) }
 {
     match piece_at(words, at) {
         Piece::Letter(letter) => is_axis_letter(letter) && has_digits(words, at + 1),
@@ -50,7 +50,7 @@ pub fn has_axis_name(words: &Words<'_>, at: usize) -> bool
 pub fn has_axis_word(words: &Words<'_>, at: usize) -> bool
     requires { IsScanned words.now }
     ensures value { result ≡ has_axis_word words.now at }
-    ensures within { OnTrue result (at + 2 < length words.now.tokens.items) }
+    ensures within { OnTrue result (at + 2 < length words.now.tokens) }
 {
     if has_axis_name(words, at) {
         matches!(piece_at(words, at + 2), Piece::Assign)

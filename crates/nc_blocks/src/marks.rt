@@ -67,7 +67,7 @@ pub fn end_at(words: &Words<'_>, at: usize) -> Result<usize, u16>
 pub fn assign_at(words: &Words<'_>, at: usize, code: u16) -> Result<usize, u16>
     requires { IsScanned words.now }
     ensures value { result ≡ assign_at words.now at code }
-    ensures within { IfOk result (λ p. (at < p) × (p ≤ length words.now.tokens.items)) }
+    ensures within { IfOk result (λ p. (at < p) × (p ≤ length words.now.tokens)) }
 {
     match piece_at(words, at) {
         Piece::Assign => Ok(at + 1),
@@ -80,7 +80,7 @@ pub fn assign_at(words: &Words<'_>, at: usize, code: u16) -> Result<usize, u16>
 pub fn open_at(words: &Words<'_>, at: usize, code: u16) -> Result<usize, u16>
     requires { IsScanned words.now }
     ensures value { result ≡ open_at words.now at code }
-    ensures within { IfOk result (λ p. (at < p) × (p ≤ length words.now.tokens.items)) }
+    ensures within { IfOk result (λ p. (at < p) × (p ≤ length words.now.tokens)) }
 {
     match piece_at(words, at) {
         Piece::Open => Ok(at + 1),
@@ -93,7 +93,7 @@ pub fn open_at(words: &Words<'_>, at: usize, code: u16) -> Result<usize, u16>
 pub fn close_at(words: &Words<'_>, at: usize, code: u16) -> Result<usize, u16>
     requires { IsScanned words.now }
     ensures value { result ≡ close_at words.now at code }
-    ensures within { IfOk result (λ p. (at < p) × (p ≤ length words.now.tokens.items)) }
+    ensures within { IfOk result (λ p. (at < p) × (p ≤ length words.now.tokens)) }
 {
     match piece_at(words, at) {
         Piece::Close => Ok(at + 1),
@@ -106,7 +106,7 @@ pub fn close_at(words: &Words<'_>, at: usize, code: u16) -> Result<usize, u16>
 pub(crate) fn close_bracket_at(words: &Words<'_>, at: usize, code: u16) -> Result<usize, u16>
     requires { IsScanned words.now }
     ensures value { result ≡ close_bracket_at words.now at code }
-    ensures within { IfOk result (λ p. (at < p) × (p ≤ length words.now.tokens.items)) }
+    ensures within { IfOk result (λ p. (at < p) × (p ≤ length words.now.tokens)) }
 {
     match piece_at(words, at) {
         Piece::CloseBracket => Ok(at + 1),
@@ -119,7 +119,7 @@ pub(crate) fn close_bracket_at(words: &Words<'_>, at: usize, code: u16) -> Resul
 pub fn comma_at(words: &Words<'_>, at: usize) -> Result<usize, u16>
     requires { IsScanned words.now }
     ensures value { result ≡ comma_at words.now at }
-    ensures within { IfOk result (λ p. (at < p) × (p ≤ length words.now.tokens.items)) }
+    ensures within { IfOk result (λ p. (at < p) × (p ≤ length words.now.tokens)) }
 {
     match piece_at(words, at) {
         Piece::Comma => Ok(at + 1),
@@ -132,7 +132,7 @@ pub fn comma_at(words: &Words<'_>, at: usize) -> Result<usize, u16>
 pub fn is_keyword(words: &Words<'_>, at: usize, word: &[u8]) -> bool
     requires { IsScanned words.now }
     ensures value { result ≡ is_keyword words.now at word.now }
-    ensures within { OnTrue result (at < length words.now.tokens.items) }
+    ensures within { OnTrue result (at < length words.now.tokens) }
 {
     match piece_at(words, at) {
         Piece::Name => is_word(text_at(words, at), word),
@@ -145,7 +145,7 @@ pub fn is_keyword(words: &Words<'_>, at: usize, word: &[u8]) -> bool
 pub fn keyword_at(words: &Words<'_>, at: usize, word: &[u8]) -> Result<usize, u16>
     requires { IsScanned words.now }
     ensures value { result ≡ keyword_at words.now at word.now }
-    ensures within { IfOk result (λ p. (at < p) × (p ≤ length words.now.tokens.items)) }
+    ensures within { IfOk result (λ p. (at < p) × (p ≤ length words.now.tokens)) }
 {
     if is_keyword(words, at, word) {
         Ok(at + 1)

@@ -117,7 +117,7 @@ fn piece_of(token: Token, symbol: Symbol) -> Piece
 pub fn piece_at(words: &Words<'_>, at: usize) -> Piece
     requires { IsScanned words.now }
     ensures value { result ≡ piece_at words.now at }
-    ensures within { Stands result (at < length words.now.tokens.items) }
+    ensures within { Stands result (at < length words.now.tokens) }
 {
     if at < words.tokens.len() {
         piece_of(words.token(at), symbol_at(words, at))
@@ -130,7 +130,7 @@ pub fn piece_at(words: &Words<'_>, at: usize) -> Piece
 #[tactic(auto, using(crate::proofs::Places::text_read))]
 pub fn text_at<'a>(words: &'a Words<'_>, at: usize) -> &'a [u8]
     requires scanned { IsScanned words.now }
-    requires within { at < length words.now.tokens.items }
+    requires within { at < length words.now.tokens }
     ensures { result.now ≡ text_at words.now at }
 {
     let token = words.token(at);

@@ -24,9 +24,9 @@ pub fn expression_at(
     at: usize,
 ) -> Result<(Expr, usize), SyntaxFault>
     requires scanned { IsScanned words.now }
-    requires within { at ≤ length words.now.tokens.items }
+    requires within { at ≤ length words.now.tokens }
     ensures exact { Gives placed_tree (expression_at words.now at) result }
-    ensures within { IfOk result (λ p. (at < p.1) × (p.1 ≤ length words.now.tokens.items)) }
+    ensures within { IfOk result (λ p. (at < p.1) × (p.1 ≤ length words.now.tokens)) }
     ensures indices { IfOk result (λ p. IndicesFit (tree_of p.0)) }
 {
     parse_expr(alloc, words, at)
@@ -40,9 +40,9 @@ pub(crate) fn value_at(
     at: usize,
 ) -> Result<(Expr, usize), SyntaxFault>
     requires scanned { IsScanned words.now }
-    requires within { at ≤ length words.now.tokens.items }
+    requires within { at ≤ length words.now.tokens }
     ensures exact { Gives placed_tree (value_at words.now at) result }
-    ensures within { IfOk result (λ p. (at < p.1) × (p.1 ≤ length words.now.tokens.items)) }
+    ensures within { IfOk result (λ p. (at < p.1) × (p.1 ≤ length words.now.tokens)) }
     ensures indices { IfOk result (λ p. IndicesFit (tree_of p.0)) }
 {
     match expression_at(alloc, words, at) {
@@ -63,9 +63,9 @@ pub(crate) fn value_at(
 #[tactic(auto, unfolding(crate::specs::Reading::after_sign))]
 pub(crate) fn after_sign(words: &Words<'_>, at: usize) -> usize
     requires scanned { IsScanned words.now }
-    requires within { at ≤ length words.now.tokens.items }
+    requires within { at ≤ length words.now.tokens }
     ensures value { result ≡ after_sign words.now at }
-    ensures within { (at ≤ result) × (result ≤ length words.now.tokens.items) }
+    ensures within { (at ≤ result) × (result ≤ length words.now.tokens) }
 {
     match piece_at(words, at) {
         Piece::Plus | Piece::Minus => at + 1,
@@ -89,9 +89,9 @@ fn signed(first: Piece, number: Num) -> Num
 #[tactic(auto, unfolding(crate::specs::Reading::constant_at))]
 pub fn constant_at(words: &Words<'_>, at: usize, code: u16) -> Result<(Num, usize), u16>
     requires scanned { IsScanned words.now }
-    requires within { at ≤ length words.now.tokens.items }
+    requires within { at ≤ length words.now.tokens }
     ensures value { result ≡ constant_at words.now at code }
-    ensures within { IfOk result (λ p. (at < p.1) × (p.1 ≤ length words.now.tokens.items)) }
+    ensures within { IfOk result (λ p. (at < p.1) × (p.1 ≤ length words.now.tokens)) }
 {
     let place = after_sign(words, at);
     match piece_at(words, place) {
@@ -125,7 +125,7 @@ fn block_number(text: &[u8], number: Num) -> Result<u32, u16>
 pub fn block_number_at(words: &Words<'_>, at: usize) -> Result<u32, u16>
     requires { IsScanned words.now }
     ensures value { result ≡ block_number_at words.now at }
-    ensures within { IfOk result (λ _. at < length words.now.tokens.items) }
+    ensures within { IfOk result (λ _. at < length words.now.tokens) }
 {
     match piece_at(words, at) {
         Piece::Number(number) => block_number(text_at(words, at), number),
@@ -139,7 +139,7 @@ pub fn block_number_at(words: &Words<'_>, at: usize) -> Result<u32, u16>
 pub fn index_at(words: &Words<'_>, at: usize, code: u16) -> Result<u16, u16>
     requires { IsScanned words.now }
     ensures value { result ≡ index_at words.now at code }
-    ensures within { IfOk result (λ i. (i ≤ 999) × (at < length words.now.tokens.items)) }
+    ensures within { IfOk result (λ i. (i ≤ 999) × (at < length words.now.tokens)) }
 {
     match piece_at(words, at) {
         Piece::Number(number) => match index_of(number) {
@@ -155,7 +155,7 @@ pub fn index_at(words: &Words<'_>, at: usize, code: u16) -> Result<u16, u16>
 pub fn label_at(words: &Words<'_>, at: usize) -> Result<NameText, u16>
     requires { IsScanned words.now }
     ensures value { result ≡ label_at words.now at }
-    ensures within { IfOk result (λ _. at < length words.now.tokens.items) }
+    ensures within { IfOk result (λ _. at < length words.now.tokens) }
 {
     match piece_at(words, at) {
         Piece::Name => Ok(NameText::of_word(text_at(words, at))),

@@ -31,7 +31,7 @@ fn assigned_at(alloc: Global, words: &Words<'_>, at: usize) -> Result<(Expr, usi
     requires { IsScanned words.now }
     ensures exact { Gives placed_tree (assigned_at words.now at) result }
     ensures indices { IfOk result (λ p. IndicesFit (tree_of p.0)) }
-    ensures within { IfOk result (λ p. (at < p.1) × (p.1 ≤ length words.now.tokens.items)) }
+    ensures within { IfOk result (λ p. (at < p.1) × (p.1 ≤ length words.now.tokens)) }
 {
     match assign_at(words, at, word_code(words, at)) {
         Ok(behind) => value_at(alloc, words, behind),
@@ -43,10 +43,10 @@ fn assigned_at(alloc: Global, words: &Words<'_>, at: usize) -> Result<(Expr, usi
 #[tactic(auto, using(crate::proofs::Passing::passing), unfolding(crate::specs::Wording::bracketed_at))]
 fn bracketed_at(alloc: Global, words: &Words<'_>, at: usize) -> Result<(Expr, usize), SyntaxFault>
     requires scanned { IsScanned words.now }
-    requires within { at < length words.now.tokens.items }
+    requires within { at < length words.now.tokens }
     ensures exact { Gives placed_tree (bracketed_at words.now at) result }
     ensures indices { IfOk result (λ p. IndicesFit (tree_of p.0)) }
-    ensures within { IfOk result (λ p. (at < p.1) × (p.1 ≤ length words.now.tokens.items)) }
+    ensures within { IfOk result (λ p. (at < p.1) × (p.1 ≤ length words.now.tokens)) }
 {
     let (index, end) = value_at(alloc, words, at + 1)?;
     match close_bracket_at(words, end, word_code(words, end)) {
@@ -61,7 +61,7 @@ fn assignment_at(alloc: Global, words: &Words<'_>, at: usize) -> Result<(Word, u
     requires { IsScanned words.now }
     ensures exact { Gives placed_word (assignment_at words.now at) result }
     ensures indices { IfOk result (λ p. WordFits (word_view p.0)) }
-    ensures within { IfOk result (λ p. (at < p.1) × (p.1 ≤ length words.now.tokens.items)) }
+    ensures within { IfOk result (λ p. (at < p.1) × (p.1 ≤ length words.now.tokens)) }
 {
     match piece_at(words, at) {
         Piece::OpenBracket => {
@@ -97,7 +97,7 @@ fn g_at(words: &Words<'_>, at: usize) -> Result<(Word, usize), SyntaxFault>
     requires { IsScanned words.now }
     ensures exact { Gives placed_word (g_at words.now at) result }
     ensures indices { IfOk result (λ p. WordFits (word_view p.0)) }
-    ensures within { IfOk result (λ p. (at < p.1) × (p.1 ≤ length words.now.tokens.items)) }
+    ensures within { IfOk result (λ p. (at < p.1) × (p.1 ≤ length words.now.tokens)) }
 {
     match piece_at(words, at) {
         Piece::Number(number) => group_word(group_word_by_number(number), at + 1, 57),
@@ -111,7 +111,7 @@ fn enclosed_value(alloc: Global, words: &Words<'_>, at: usize) -> Result<(Expr, 
     requires { IsScanned words.now }
     ensures exact { Gives placed_tree (enclosed_value words.now at) result }
     ensures indices { IfOk result (λ p. IndicesFit (tree_of p.0)) }
-    ensures within { IfOk result (λ p. (at < p.1) × (p.1 ≤ length words.now.tokens.items)) }
+    ensures within { IfOk result (λ p. (at < p.1) × (p.1 ≤ length words.now.tokens)) }
 {
     match open_at(words, at, word_code(words, at)) {
         Ok(first) => {
@@ -133,10 +133,10 @@ fn measured_at(
     at: usize,
 ) -> Result<(Measure, Expr, usize), SyntaxFault>
     requires scanned { IsScanned words.now }
-    requires within { at ≤ length words.now.tokens.items }
+    requires within { at ≤ length words.now.tokens }
     ensures exact { Gives placed_measure (measured_at words.now at) result }
     ensures indices { IfOk result (λ p. IndicesFit (tree_of p.1)) }
-    ensures within { IfOk result (λ p. (at < p.2) × (p.2 ≤ length words.now.tokens.items)) }
+    ensures within { IfOk result (λ p. (at < p.2) × (p.2 ≤ length words.now.tokens)) }
 {
     if is_keyword(words, at, b"AC") {
         let (value, end) = enclosed_value(alloc, words, at + 1)?;
@@ -159,10 +159,10 @@ fn measured_word(
     at: usize,
 ) -> Result<(Word, usize), SyntaxFault>
     requires scanned { IsScanned words.now }
-    requires within { at ≤ length words.now.tokens.items }
+    requires within { at ≤ length words.now.tokens }
     ensures exact { Gives placed_word (measured_word words.now address.items at) result }
     ensures indices { IfOk result (λ p. WordFits (word_view p.0)) }
-    ensures within { IfOk result (λ p. (at < p.1) × (p.1 ≤ length words.now.tokens.items)) }
+    ensures within { IfOk result (λ p. (at < p.1) × (p.1 ≤ length words.now.tokens)) }
 {
     let (measure, value, end) = measured_at(alloc, words, at)?;
     Ok((Word::Axis(address, measure, value), end))
@@ -177,10 +177,10 @@ fn letter_word(
     at: usize,
 ) -> Result<(Word, usize), SyntaxFault>
     requires scanned { IsScanned words.now }
-    requires within { at ≤ length words.now.tokens.items }
+    requires within { at ≤ length words.now.tokens }
     ensures exact { Gives placed_word (letter_word words.now letter at) result }
     ensures indices { IfOk result (λ p. WordFits (word_view p.0)) }
-    ensures within { IfOk result (λ p. (at < p.1) × (p.1 ≤ length words.now.tokens.items)) }
+    ensures within { IfOk result (λ p. (at < p.1) × (p.1 ≤ length words.now.tokens)) }
 {
     let address = address(alloc, letter, &[])?;
     match piece_at(words, at) {
@@ -204,10 +204,10 @@ fn axis_word_at(
     at: usize,
 ) -> Result<(Word, usize), SyntaxFault>
     requires scanned { IsScanned words.now }
-    requires within { at + 2 < length words.now.tokens.items }
+    requires within { at + 2 < length words.now.tokens }
     ensures exact { Gives placed_word (axis_word_at words.now letter at) result }
     ensures indices { IfOk result (λ p. WordFits (word_view p.0)) }
-    ensures within { IfOk result (λ p. (at < p.1) × (p.1 ≤ length words.now.tokens.items)) }
+    ensures within { IfOk result (λ p. (at < p.1) × (p.1 ≤ length words.now.tokens)) }
 {
     let address = address(alloc, letter, text_at(words, at + 1))?;
     measured_word(alloc, words, address, at + 3)
@@ -222,10 +222,10 @@ fn slot_word_at(
     at: usize,
 ) -> Result<(Word, usize), SyntaxFault>
     requires scanned { IsScanned words.now }
-    requires within { at < length words.now.tokens.items }
+    requires within { at < length words.now.tokens }
     ensures exact { Gives placed_word (slot_word_at words.now letter at) result }
     ensures indices { IfOk result (λ p. WordFits (word_view p.0)) }
-    ensures within { IfOk result (λ p. (at < p.1) × (p.1 ≤ length words.now.tokens.items)) }
+    ensures within { IfOk result (λ p. (at < p.1) × (p.1 ≤ length words.now.tokens)) }
 {
     if has_axis_word(words, at) {
         axis_word_at(alloc, words, letter, at)
@@ -245,7 +245,7 @@ fn other_axis_at(
     requires { IsScanned words.now }
     ensures exact { Gives placed_word (other_axis_at words.now letter at) result }
     ensures indices { IfOk result (λ p. WordFits (word_view p.0)) }
-    ensures within { IfOk result (λ p. (at < p.1) × (p.1 ≤ length words.now.tokens.items)) }
+    ensures within { IfOk result (λ p. (at < p.1) × (p.1 ≤ length words.now.tokens)) }
 {
     if has_axis_word(words, at) {
         axis_word_at(alloc, words, letter, at)
@@ -282,10 +282,10 @@ fn plain_aux(alloc: Global, letter: u8, number: Num) -> Result<Word, AllocError>
 #[tactic(auto, using(crate::proofs::Passing::passing), unfolding(crate::specs::Wording::aux_value))]
 fn aux_value(alloc: Global, words: &Words<'_>, at: usize) -> Result<(Operand, usize), SyntaxFault>
     requires scanned { IsScanned words.now }
-    requires within { at ≤ length words.now.tokens.items }
+    requires within { at ≤ length words.now.tokens }
     ensures exact { Gives placed_operand (aux_value words.now at) result }
     ensures indices { IfOk result (λ p. OperandFits (operand_view p.0)) }
-    ensures within { IfOk result (λ p. (at < p.1) × (p.1 ≤ length words.now.tokens.items)) }
+    ensures within { IfOk result (λ p. (at < p.1) × (p.1 ≤ length words.now.tokens)) }
 {
     match piece_at(words, at) {
         Piece::Text => {
@@ -304,7 +304,7 @@ fn aux_value(alloc: Global, words: &Words<'_>, at: usize) -> Result<(Operand, us
 fn has_digits_assign(words: &Words<'_>, at: usize) -> bool
     requires { IsScanned words.now }
     ensures value { result ≡ has_digits_assign words.now at }
-    ensures within { OnTrue result (at + 1 < length words.now.tokens.items) }
+    ensures within { OnTrue result (at + 1 < length words.now.tokens) }
 {
     if has_digits(words, at) {
         matches!(piece_at(words, at + 1), Piece::Assign)
@@ -323,10 +323,10 @@ fn numbered_aux(
     at: usize,
 ) -> Result<(Word, usize), SyntaxFault>
     requires scanned { IsScanned words.now }
-    requires within { at < length words.now.tokens.items }
+    requires within { at < length words.now.tokens }
     ensures exact { Gives placed_word (numbered_aux words.now letter number at) result }
     ensures indices { IfOk result (λ p. WordFits (word_view p.0)) }
-    ensures within { IfOk result (λ p. (at < p.1) × (p.1 ≤ length words.now.tokens.items)) }
+    ensures within { IfOk result (λ p. (at < p.1) × (p.1 ≤ length words.now.tokens)) }
 {
     if has_digits_assign(words, at) {
         let address = address(alloc, letter, text_at(words, at))?;
@@ -348,7 +348,7 @@ fn aux_at(
     requires { IsScanned words.now }
     ensures exact { Gives placed_word (aux_at words.now letter at) result }
     ensures indices { IfOk result (λ p. WordFits (word_view p.0)) }
-    ensures within { IfOk result (λ p. (at < p.1) × (p.1 ≤ length words.now.tokens.items)) }
+    ensures within { IfOk result (λ p. (at < p.1) × (p.1 ≤ length words.now.tokens)) }
 {
     match piece_at(words, at) {
         Piece::Number(number) => numbered_aux(alloc, words, letter, number, at),
@@ -393,7 +393,7 @@ fn spindle_at(
     requires { IsScanned words.now }
     ensures exact { Gives placed_word (spindle_at words.now text.now at) result }
     ensures indices { IfOk result (λ p. WordFits (word_view p.0)) }
-    ensures within { IfOk result (λ p. (at < p.1) × (p.1 ≤ length words.now.tokens.items)) }
+    ensures within { IfOk result (λ p. (at < p.1) × (p.1 ≤ length words.now.tokens)) }
 {
     let name = upper_text(alloc, text)?;
     let (index, end) = bracket_at(alloc, words, at)?;
@@ -428,10 +428,10 @@ fn name_word(
     at: usize,
 ) -> Result<(Word, usize), SyntaxFault>
     requires scanned { IsScanned words.now }
-    requires within { at ≤ length words.now.tokens.items }
+    requires within { at ≤ length words.now.tokens }
     ensures exact { Gives placed_word (name_word words.now text.now at) result }
     ensures indices { IfOk result (λ p. WordFits (word_view p.0)) }
-    ensures within { IfOk result (λ p. (at ≤ p.1) × (p.1 ≤ length words.now.tokens.items)) }
+    ensures within { IfOk result (λ p. (at ≤ p.1) × (p.1 ≤ length words.now.tokens)) }
 {
     if is_word(text, b"CR") {
         let (value, end) = assigned_at(alloc, words, at)?;
@@ -452,10 +452,10 @@ fn lettered_word(
     at: usize,
 ) -> Result<(Word, usize), SyntaxFault>
     requires scanned { IsScanned words.now }
-    requires within { at < length words.now.tokens.items }
+    requires within { at < length words.now.tokens }
     ensures exact { Gives placed_word (lettered_word words.now letter at) result }
     ensures indices { IfOk result (λ p. WordFits (word_view p.0)) }
-    ensures within { IfOk result (λ p. (at < p.1) × (p.1 ≤ length words.now.tokens.items)) }
+    ensures within { IfOk result (λ p. (at < p.1) × (p.1 ≤ length words.now.tokens)) }
 {
     match letter {
         b'R' => assignment_at(alloc, words, at + 1),
@@ -474,7 +474,7 @@ fn word_at(alloc: Global, words: &Words<'_>, at: usize) -> Result<(Word, usize),
     requires { IsScanned words.now }
     ensures exact { Gives placed_word (word_at words.now at) result }
     ensures indices { IfOk result (λ p. WordFits (word_view p.0)) }
-    ensures within { IfOk result (λ p. (at < p.1) × (p.1 ≤ length words.now.tokens.items)) }
+    ensures within { IfOk result (λ p. (at < p.1) × (p.1 ≤ length words.now.tokens)) }
 {
     match piece_at(words, at) {
         Piece::Letter(letter) => lettered_word(alloc, words, letter, at),
@@ -493,7 +493,7 @@ fn word_item_at(
     requires { IsScanned words.now }
     ensures exact { Gives word_item (word_item_at words.now at) result }
     ensures indices { IfOk result (λ p. WordFits (word_view p.0)) }
-    ensures within { IfOk result (λ p. (at < p.2) × (p.2 ≤ length words.now.tokens.items)) }
+    ensures within { IfOk result (λ p. (at < p.2) × (p.2 ≤ length words.now.tokens)) }
 {
     let (word, end) = word_at(alloc, words, at)?;
     let more = !matches!(piece_at(words, end), Piece::End);
@@ -508,7 +508,7 @@ fn words_at(
     start: usize,
 ) -> Result<(Vec<Word>, usize), SyntaxFault>
     requires scanned { IsScanned words.now }
-    requires within { start ≤ length words.now.tokens.items }
+    requires within { start ≤ length words.now.tokens }
     ensures exact { Gives word_items (list_at (λ _. word_item_at words.now) words.now start) result }
     ensures indices { IfOk result (λ p. All WordFits (map word_view p.0.items)) }
 {
@@ -529,7 +529,7 @@ fn words_at(
 #[tactic(auto, using(crate::proofs::Passing::passing), unfolding(crate::specs::Wording::words_form))]
 pub fn words_form(alloc: Global, words: &Words<'_>, at: usize) -> Result<Stmt, SyntaxFault>
     requires scanned { IsScanned words.now }
-    requires within { at ≤ length words.now.tokens.items }
+    requires within { at ≤ length words.now.tokens }
     ensures exact { Gives statement_view (words_form words.now at) result }
     ensures indices { IfOk result (λ s. StatementFits (statement_view s)) }
 {

@@ -5,7 +5,7 @@ use Rattle.std.proofs.lemmas.Bool.{cases_lt}
 use Rattle.std.proofs.lemmas.List.{take_all, drop_all}
 use Rattle.std.proofs.lemmas.Option.{slice_get_read, slice_get_past}
 use Rattle.block_scanner.specs.declared.Token.{Token}
-use Rattle.block_scanner.specs.declared.Words.{Words}
+use Rattle.block_scanner.specs.WordsView.{WordsView}
 use Rattle.nc_expressions.specs.declared.symbols.Symbol.{Symbol}
 use Rattle.nc_expressions.specs.Symbols.{symbol_of, symbols_behind, symbols_of, token_before}
 
@@ -33,18 +33,18 @@ symbol_behind line before [] at t d h is = absurd (omega arith)
 symbol_behind line before (u ∷ us) zero t d h is = ap (λ (x : Token). symbol_of line before x) (sym is)
 symbol_behind line before (u ∷ us) (suc at) t d h is = symbol_behind line (Some u) us at t d (omega arith) is
 
-pub symbol_read : (words : Words) (at : ℕ) (t : Token) (s : Symbol) → at < length words.tokens.items → t ≡ get_or words.tokens.items at t →
-    s ≡ symbol_of words.line.now (token_before None words.tokens.items at) t → s ≡ get_or (symbols_of words) at s
+pub symbol_read : (words : WordsView) (at : ℕ) (t : Token) (s : Symbol) → at < length words.tokens → t ≡ get_or words.tokens at t →
+    s ≡ symbol_of words.line (token_before None words.tokens at) t → s ≡ get_or (symbols_of words) at s
 unfolding symbols_of
-symbol_read words at t s h is e = e ∙ sym (symbol_behind words.line.now None words.tokens.items at t s h is)
+symbol_read words at t s h is e = e ∙ sym (symbol_behind words.line None words.tokens at t s h is)
 
 pub length-symbols_behind : (line : List ℕ) (before : Option Token) (tokens : List Token) → length (symbols_behind line before tokens) ≡ length tokens
 length-symbols_behind line before [] = refl
 length-symbols_behind line before (t ∷ ts) = ap suc (length-symbols_behind line (Some t) ts)
 
-pub length-symbols_of : (words : Words) → length (symbols_of words) ≡ length words.tokens.items
+pub length-symbols_of : (words : WordsView) → length (symbols_of words) ≡ length words.tokens
 unfolding symbols_of
-length-symbols_of words = length-symbols_behind words.line.now None words.tokens.items
+length-symbols_of words = length-symbols_behind words.line None words.tokens
 
 -- the first two bytes of a text, or all of a shorter one
 pub take_min : (xs : List ℕ) (n : ℕ) → take (min (length xs) n) xs ≡ take n xs
@@ -65,10 +65,10 @@ drop_min xs n =
 
 pub ruleset split_short = (take_min, drop_min)
 
-pub within_line : (words : Words) (at : ℕ) (s : Symbol) → at < length words.tokens.items → s ≡ get_or (symbols_of words) at s → slice_get (symbols_of words) at ≡ Some s
-within_line words at s h is = slice_get_read (symbols_of words) (length words.tokens.items) at s (sym (length-symbols_of words)) h is
+pub within_line : (words : WordsView) (at : ℕ) (s : Symbol) → at < length words.tokens → s ≡ get_or (symbols_of words) at s → slice_get (symbols_of words) at ≡ Some s
+within_line words at s h is = slice_get_read (symbols_of words) (length words.tokens) at s (sym (length-symbols_of words)) h is
 
-pub past_line : (words : Words) (at : ℕ) → length words.tokens.items ≤ at → slice_get (symbols_of words) at ≡ None
+pub past_line : (words : WordsView) (at : ℕ) → length words.tokens ≤ at → slice_get (symbols_of words) at ≡ None
 past_line words at h = slice_get_past (symbols_of words) at (omega (arith, length-symbols_of words))
 
 pub ruleset read_at = (within_line, past_line)

@@ -3,7 +3,7 @@ use Rattle.std.proofs.Common.{◌≡◌, ℕ, ℤ, pos, negsuc, ◌+◌, ◌<◌
 use Rattle.std.specs.Prelude.{◌/◌, ◌%◌, ◌==◌, ◌&&◌, nat_lt}
 use Rattle.std.proofs.lemmas.Bool.Decides.{Decides-ltb}
 use Rattle.std.proofs.lemmas.List.{length-drop, length-append}
-use Rattle.block_scanner.specs.declared.Words.{Words}
+use Rattle.block_scanner.specs.WordsView.{WordsView}
 use Rattle.nc_expressions.specs.declared.trees.Expr.{Expr}
 use Rattle.nc_expressions.specs.declared.faults.SyntaxFault.{SyntaxFault}
 use Rattle.nc_expressions.specs.declared.faults.SyntaxFault.TheVariants.{Refused, NoMemory}
@@ -64,9 +64,9 @@ fits_indices (Called g x) n f = fits_indices x (n + 1) f.2
 fits_indices (Grouped x) n f = fits_indices x (n + 1) f.2
 fits_indices (Chained op a b) n f = (fits_indices a n f.2, fits_indices b n f.3)
 
-pub found_of : (words : Words) (start : ℕ) (r : Result (Expr × ℕ) SyntaxFault) → start ≤ length words.tokens.items →
+pub found_of : (words : WordsView) (start : ℕ) (r : Result (Expr × ℕ) SyntaxFault) → start ≤ length words.tokens →
     Reads (symbols_of words) (read all_limits (drop start (symbols_of words))) r →
-    IfOk r (λ p. (start < p.1) × (p.1 ≤ length words.tokens.items) × Found (drop start (symbols_of words)) (tree_of p.0) (drop p.1 (symbols_of words)))
+    IfOk r (λ p. (start < p.1) × (p.1 ≤ length words.tokens) × Found (drop start (symbols_of words)) (tree_of p.0) (drop p.1 (symbols_of words)))
 found_of words start (Ok p) within h =
     let ss = symbols_of words in
     let f = sound (drop start ss) (tree_of p.0) (drop p.1 ss) h.1 in

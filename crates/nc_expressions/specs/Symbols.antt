@@ -9,7 +9,7 @@ use Rattle.block_scanner.specs.declared.Kind.TheVariants as kind
 use Rattle.block_scanner.specs.declared.Sign.{Sign}
 use Rattle.block_scanner.specs.declared.Sign.TheVariants as sign
 use Rattle.block_scanner.specs.declared.Token.{Token}
-use Rattle.block_scanner.specs.declared.Words.{Words}
+use Rattle.block_scanner.specs.WordsView.{WordsView}
 use Rattle.block_scanner.specs.Texts.{text_of}
 use Rattle.micro_units.specs.NumberText.{number_of}
 use Rattle.nc_expressions.specs.declared.trees.UnaryOp.TheVariants as unary
@@ -118,8 +118,8 @@ symbols_behind line before [] = []
 symbols_behind line before (token ∷ tokens) = symbol_of line before token ∷ symbols_behind line (Some token) tokens
 
 -- the symbols of a line
-unfoldable pub symbols_of : Words → List Symbol
-symbols_of words = symbols_behind words.line.now None words.tokens.items
+unfoldable pub symbols_of : WordsView → List Symbol
+symbols_of words = symbols_behind words.line None words.tokens
 
 -- the token before a place
 abbrev pub token_before : Option Token → List Token → ℕ → Option Token

@@ -29,7 +29,7 @@ fn parse_exactly(
     start: usize,
 ) -> Result<(Expr, usize), SyntaxFault>
     requires scanned { IsScanned words.now }
-    requires within { start ≤ length words.now.tokens.items }
+    requires within { start ≤ length words.now.tokens }
     ensures { Reads (symbols_of words.now) (read all_limits (drop start (symbols_of words.now))) result }
 {
     let mut pending = Vec::new(alloc);
@@ -67,10 +67,10 @@ pub fn parse_expr(
     start: usize,
 ) -> Result<(Expr, usize), SyntaxFault>
     requires scanned { IsScanned words.now }
-    requires within { start ≤ length words.now.tokens.items }
+    requires within { start ≤ length words.now.tokens }
 
     // What is read is spelled so, and what is spelled so is read: one tree at most.
-    ensures found { IfOk result (λ p. (start < p.1) × (p.1 ≤ length words.now.tokens.items)
+    ensures found { IfOk result (λ p. (start < p.1) × (p.1 ≤ length words.now.tokens)
         × Found (drop start (symbols_of words.now)) (tree_of p.0) (drop p.1 (symbols_of words.now))) }
     ensures only { (x : Syntax) (rest : List Symbol) → IsExpression x → Follows rest →
         drop start (symbols_of words.now) ≡ spelling x ++ rest → Reads (symbols_of words.now) (Ok (tree x, rest)) result }
@@ -151,7 +151,7 @@ fn number_at(words: &Words<'_>, at: usize) -> Result<Num, u16>
 #[tactic(auto, unfolding(crate::specs::Parsing::constant_at))]
 pub fn parse_constant(words: &Words<'_>, start: usize) -> Result<(Expr, usize), u16>
     requires scanned { IsScanned words.now }
-    requires within { start ≤ length words.now.tokens.items }
+    requires within { start ≤ length words.now.tokens }
     ensures value { GivesConstant (constant_at (symbols_of words.now) start) result }
     ensures indices { IfOk result (λ p. IndicesFit (tree_of p.0)) }
 {

@@ -16,9 +16,9 @@ use std::alloc::{AllocError, Global};
 #[tactic(auto, using(crate::proofs::Stopped::stops))]
 pub fn expr_stop(alloc: Global, words: &Words<'_>, start: usize) -> Result<usize, AllocError>
     requires scanned { IsScanned words.now }
-    requires within { start ≤ length words.now.tokens.items }
+    requires within { start ≤ length words.now.tokens }
     ensures value { IfOk result (λ at. at ≡ stop_at (symbols_of words.now) start) }
-    ensures within { IfOk result (λ at. at ≤ length words.now.tokens.items) }
+    ensures within { IfOk result (λ at. at ≤ length words.now.tokens) }
 {
     let mut pending = Vec::new(alloc);
     let mut mode = Mode::Wants;

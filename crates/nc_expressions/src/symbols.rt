@@ -208,8 +208,8 @@ fn touches_number(before: Option<Token>, token: Token) -> bool
 #[tactic(auto, using(crate::proofs::Beginnings::befores))]
 fn token_before(words: &Words<'_>, at: usize) -> Option<Token>
     requires scanned { IsScanned words.now }
-    requires within { at < length words.now.tokens.items }
-    ensures { result ≡ token_before None words.now.tokens.items at }
+    requires within { at < length words.now.tokens }
+    ensures { result ≡ token_before None words.now.tokens at }
 {
     if at == 0 {
         None
@@ -221,8 +221,8 @@ fn token_before(words: &Words<'_>, at: usize) -> Option<Token>
 /// What a token means to an expression, with the token before it.
 #[tactic(auto, unfolding(crate::specs::Symbols::symbol_of))]
 fn symbol_of(words: &Words<'_>, before: Option<Token>, token: Token) -> Symbol
-    requires { IsTokenOf words.now.line.now token }
-    ensures { result ≡ symbol_of words.now.line.now before token }
+    requires { IsTokenOf words.now.line token }
+    ensures { result ≡ symbol_of words.now.line before token }
 {
     let text = words.text(&token);
     if touches_number(before, token) && is_exponent(token.kind, text) {
@@ -236,7 +236,7 @@ fn symbol_of(words: &Words<'_>, before: Option<Token>, token: Token) -> Symbol
 #[tactic(auto, using(crate::proofs::Beginnings::symbol_read))]
 pub fn symbol_at(words: &Words<'_>, at: usize) -> Symbol
     requires scanned { IsScanned words.now }
-    requires within { at < length words.now.tokens.items }
+    requires within { at < length words.now.tokens }
     ensures { result ≡ slice_index_or (symbols_of words.now) at result }
 {
     symbol_of(words, token_before(words, at), words.token(at))

@@ -2,7 +2,7 @@
 use Rattle.std.proofs.Common.{◌≡◌, ℕ, ◌+◌, ◌<◌, ◌≤◌, List, [], ◌∷◌, length, refl, ap, sym, ◌∙◌, subst, inl, inr, Option, Some, None, Result, Ok, Err, Bool, true, false, cond, arith}
 use Rattle.std.specs.Prelude.{ℤ, ◌⊎◌, ◌==◌, ◌&&◌, codes}
 use Rattle.std.proofs.lemmas.Bool.{eqb-true}
-use Rattle.block_scanner.specs.declared.Words.{Words}
+use Rattle.block_scanner.specs.WordsView.{WordsView}
 use Rattle.word_tables.specs.Tables.{is_table_word}
 use Rattle.nc_expressions.specs.Value.{◌>>=◌}
 use Rattle.nc_blocks.specs.declared.pieces.Piece.{Piece}
@@ -31,18 +31,18 @@ use Rattle.nc_syntax.proofs.FrameLaws.{shape_form_found, shape_form_only, turn_f
 use Rattle.nc_syntax.proofs.CoordinationLaws.{coordination_form_found, coordination_form_only}
 use Rattle.nc_syntax.proofs.MessageLaws.{msg_form_found, msg_form_only, setms_form_found, setms_form_only, workpiece_form_found, workpiece_form_only}
 
-abbrev IsDone : Words → ℕ → Statement → Type 0
-IsDone words at s = IsSpelled words at (length words.tokens.items) s
+abbrev IsDone : WordsView → ℕ → Statement → Type 0
+IsDone words at s = IsSpelled words at (length words.tokens) s
 
 -- forms behind their names
-alone_done : (words : Words) (at : ℕ) (word : List ℕ) (s x : Statement) → IsKeyword words at word → alone words (at + 1) s ≡ Ok x →
-    (IsAlone words at (length words.tokens.items) word → IsDone words at s) → IsDone words at x
+alone_done : (words : WordsView) (at : ℕ) (word : List ℕ) (s x : Statement) → IsKeyword words at word → alone words (at + 1) s ≡ Ok x →
+    (IsAlone words at (length words.tokens) word → IsDone words at s) → IsDone words at x
 alone_done words at word s x k h f =
     let a = alone_form_found words at word s x k h in
     let P = λ (y : Statement). IsDone words at y in
     subst P a.1 (f a.0)
 
-while_found : (words : Words) (at : ℕ) (s : Statement) → IsKeyword words at (codes "WHILE") → form_body words (form.Control control.While) (at + 1) ≡ Ok s → IsDone words at s
+while_found : (words : WordsView) (at : ℕ) (s : Statement) → IsKeyword words at (codes "WHILE") → form_body words (form.Control control.While) (at + 1) ≡ Ok s → IsDone words at s
 unfolding form_body control_form IsSpelled
 while_found words at s k h =
     let b = bound _ _ _ h in
@@ -50,7 +50,7 @@ while_found words at s k h =
     let P = λ (y : Statement). IsDone words at y in
     subst P same (k, last_found words (at + 1) b.0 b.1)
 
-until_found : (words : Words) (at : ℕ) (s : Statement) → IsKeyword words at (codes "UNTIL") → form_body words (form.Control control.Until) (at + 1) ≡ Ok s → IsDone words at s
+until_found : (words : WordsView) (at : ℕ) (s : Statement) → IsKeyword words at (codes "UNTIL") → form_body words (form.Control control.Until) (at + 1) ≡ Ok s → IsDone words at s
 unfolding form_body control_form IsSpelled
 until_found words at s k h =
     let b = bound _ _ _ h in
@@ -58,7 +58,7 @@ until_found words at s k h =
     let P = λ (y : Statement). IsDone words at y in
     subst P same (k, last_found words (at + 1) b.0 b.1)
 
-form_done : (words : Words) (at : ℕ) (f : Form) (s : Statement) → IsKeyword words at (form_name f) → form_body words f (at + 1) ≡ Ok s → IsDone words at s
+form_done : (words : WordsView) (at : ℕ) (f : Form) (s : Statement) → IsKeyword words at (form_name f) → form_body words f (at + 1) ≡ Ok s → IsDone words at s
 unfolding form_body control_form IsSpelled
 form_done words at (form.Jump way) s k h = jump_form_found words at way s k h
 form_done words at (form.Control control.If) s k h = if_form_found words at s k h
@@ -84,14 +84,14 @@ form_done words at form.Stopre s k h = alone_done words at (codes "STOPRE") Mess
 form_done words at form.Setms s k h = setms_form_found words at s k h
 form_done words at form.Workpiece s k h = workpiece_form_found words at s k h
 
-words_done : (words : Words) (at : ℕ) (s : Statement) → words_form words at ≡ Ok s → IsDone words at s
+words_done : (words : WordsView) (at : ℕ) (s : Statement) → words_form words at ≡ Ok s → IsDone words at s
 unfolding IsSpelled
 words_done words at s h =
     let f = words_form_found words at s h in
     let P = λ (y : Statement). IsDone words at y in
     subst P (sym f.1) f.2
 
-named_cases : (words : Words) (at : ℕ) (s : Statement) (o : Option Form) → piece_at words at ≡ piece.Name → form_of (text_at words at) ≡ o →
+named_cases : (words : WordsView) (at : ℕ) (s : Statement) (o : Option Form) → piece_at words at ≡ piece.Name → form_of (text_at words at) ≡ o →
     named_form words o (text_at words at) at ≡ Ok s → IsDone words at s
 named_cases words at s (Some f) n e h = form_done words at f s (keyword_of words at (form_name f) n (form_found (text_at words at) f e)) h
 named_cases words at s None n e h =
@@ -103,7 +103,7 @@ number_piece_is : (p : Piece) → is_number p ≡ true → (z : ℤ) × (p ≡ p
 number_piece_is (piece.Number z) h = (z, refl)
 number_piece_is p h = cc
 
-letter_done : (words : Words) (at b : ℕ) (s : Statement) → piece_at words at ≡ piece.Letter b → lettered_body words b at ≡ Ok s → IsDone words at s
+letter_done : (words : WordsView) (at b : ℕ) (s : Statement) → piece_at words at ≡ piece.Letter b → lettered_body words b at ≡ Ok s → IsDone words at s
 unfolding lettered_body
 letter_done words at b s l h =
     one_of _ _ _ _ h
@@ -112,7 +112,7 @@ letter_done words at b s l h =
           number_call_found words at n.0 s (l ∙ ap (λ k. piece.Letter k) (eqb-true b 76 p.0)) n.1 f)
       (λ t f. words_done words at s f)
 
-body_cases : (words : Words) (at : ℕ) (s : Statement) (p : Piece) → at ≤ length words.tokens.items → piece_at words at ≡ p → body_of words at p ≡ Ok s → IsDone words at s
+body_cases : (words : WordsView) (at : ℕ) (s : Statement) (p : Piece) → at ≤ length words.tokens → piece_at words at ≡ p → body_of words at p ≡ Ok s → IsDone words at s
 unfolding named_body IsSpelled
 body_cases words at s piece.End w e h =
     let same : Empty ≡ s = cc in
@@ -122,16 +122,16 @@ body_cases words at s piece.Name w e h = named_cases words at s (form_of (text_a
 body_cases words at s (piece.Letter b) w e h = letter_done words at b s e h
 body_cases words at s p w e h = words_done words at s h
 
-pub body_found : (words : Words) (at : ℕ) (s : Statement) → at ≤ length words.tokens.items → body_at words at ≡ Ok s → IsDone words at s
+pub body_found : (words : WordsView) (at : ℕ) (s : Statement) → at ≤ length words.tokens → body_at words at ≡ Ok s → IsDone words at s
 unfolding body_at
 body_found words at s w h = body_cases words at s (piece_at words at) w refl h
 
 -- what is spelled is read
-letter_words : (words : Words) (at b : ℕ) → piece_at words at ≡ piece.Letter b → (b == 76) ≡ false → body_at words at ≡ words_form words at
+letter_words : (words : WordsView) (at b : ℕ) → piece_at words at ≡ piece.Letter b → (b == 76) ≡ false → body_at words at ≡ words_form words at
 unfolding body_at lettered_body
 letter_words words at b l h = ap (λ p. body_of words at p) l ∙ rw h refl
 
-words_only : (words : Words) (at : ℕ) (xs : List WordView) → AreWords words at (length words.tokens.items) xs → body_at words at ≡ Ok (WordBlock xs)
+words_only : (words : WordsView) (at : ℕ) (xs : List WordView) → AreWords words at (length words.tokens) xs → body_at words at ≡ Ok (WordBlock xs)
 words_only words at [] h = absurd h
 words_only words at (x ∷ xs) h =
     elim (word_starts words at h.0 x h.1) [
@@ -139,20 +139,20 @@ words_only words at (x ∷ xs) h =
       | inr a ↦ word_name_read words at a.0 a.1 ∙ words_form_only words at (x ∷ xs) h
     ]
 
-call_only_at : (words : Words) (at from middle n : ℕ) (name : List ℕ) → from ≡ at → IsParentheses words from middle → IsPasses words middle (length words.tokens.items) n →
+call_only_at : (words : WordsView) (at from middle n : ℕ) (name : List ℕ) → from ≡ at → IsParentheses words from middle → IsPasses words middle (length words.tokens) n →
     call_form words name at ≡ Ok (Call name n)
 call_only_at words at from middle n name e p h =
     let P = λ (k : ℕ). IsParentheses words k middle in call_only words at middle n name (subst P e p) h
 
-number_call_only : (words : Words) (at from middle n : ℕ) (z : ℤ) → piece_at words at ≡ piece.Letter 76 → piece_at words (at + 1) ≡ piece.Number z →
-    number_name (text_at words (at + 1)) ≡ Ok (76 ∷ text_at words (at + 1)) → from ≡ at + 2 → IsParentheses words from middle → IsPasses words middle (length words.tokens.items) n →
+number_call_only : (words : WordsView) (at from middle n : ℕ) (z : ℤ) → piece_at words at ≡ piece.Letter 76 → piece_at words (at + 1) ≡ piece.Number z →
+    number_name (text_at words (at + 1)) ≡ Ok (76 ∷ text_at words (at + 1)) → from ≡ at + 2 → IsParentheses words from middle → IsPasses words middle (length words.tokens) n →
     body_at words at ≡ Ok (Call (76 ∷ text_at words (at + 1)) n)
 unfolding body_at lettered_body number_call_form
 number_call_only words at from middle n z l k d e p h =
     ap (λ q. body_of words at q) l
     ∙ rw (k, d, call_only_at words (at + 1 + 1) from middle n (76 ∷ text_at words (at + 1)) (omega (arith, e)) p h) refl
 
-calls_only : (words : Words) (at : ℕ) (name : List ℕ) (n : ℕ) → IsCall words at (length words.tokens.items) name n → body_at words at ≡ Ok (Call name n)
+calls_only : (words : WordsView) (at : ℕ) (name : List ℕ) (n : ℕ) → IsCall words at (length words.tokens) name n → body_at words at ≡ Ok (Call name n)
 calls_only words at name n h =
     elim h.2 [
       | inl a ↦ program_name_read words at a.0.0 a.1 ∙ call_only_at words (at + 1) h.0 h.1 n (name_of (text_at words at)) a.2 h.3 h.4
@@ -161,7 +161,7 @@ calls_only words at name n h =
           ∙ ap (λ (x : List ℕ). Ok (Call x n)) (sym a.5)
     ]
 
-message_only : (words : Words) (at : ℕ) → IsMessage words at (length words.tokens.items) → body_at words at ≡ Ok Message
+message_only : (words : WordsView) (at : ℕ) → IsMessage words at (length words.tokens) → body_at words at ≡ Ok Message
 unfolding form_body
 message_only words at h =
     elim h [
@@ -175,11 +175,11 @@ message_only words at h =
         ]
     ]
 
-empty_only : (words : Words) (at : ℕ) → length words.tokens.items ≡ at → body_at words at ≡ Ok Empty
+empty_only : (words : WordsView) (at : ℕ) → length words.tokens ≡ at → body_at words at ≡ Ok Empty
 unfolding body_at
 empty_only words at h = ap (λ p. body_of words at p) (at_line_end words at (sym h))
 
-pub body_only : (words : Words) (at : ℕ) (s : Statement) → IsDone words at s → body_at words at ≡ Ok s
+pub body_only : (words : WordsView) (at : ℕ) (s : Statement) → IsDone words at s → body_at words at ≡ Ok s
 unfolding form_body control_form IsSpelled
 body_only words at Empty h = empty_only words at h
 body_only words at (WordBlock xs) h = words_only words at xs h

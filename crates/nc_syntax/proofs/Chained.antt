@@ -2,7 +2,7 @@
 use Rattle.std.proofs.Common.{◌≡◌, ℕ, zero, suc, ◌+◌, ◌-◌, ◌<◌, ◌≤◌, List, [], ◌∷◌, ◌++◌, length, drop, refl, ap, sym, ◌∙◌, subst, Result, Ok, Err, Bool, true, false, arith, append_assoc}
 use Rattle.std.specs.Prelude.{IsTrue}
 use Rattle.block_scanner.specs.declared.Token.{Token}
-use Rattle.block_scanner.specs.declared.Words.{Words}
+use Rattle.block_scanner.specs.WordsView.{WordsView}
 use Rattle.nc_expressions.specs.Value.{◌>>=◌}
 use Rattle.nc_blocks.specs.Lists.{Item, go_on, listed, list_at}
 use Rattle.nc_blocks.proofs.Listing.{list_goes_on, list_ends}
@@ -58,11 +58,11 @@ listed_found item forward (t ∷ ts) (suc more) before at xs end h =
 
 pub list_found : {A : Type 0} (item : List A → ℕ → Result (Item A) ℕ) →
     ((before : List A) (at : ℕ) (x : A) (more : Bool) (next : ℕ) → item before at ≡ Ok (x, more, next) → at < next) →
-    (words : Words) (at : ℕ) (xs : List A) (end : ℕ) → list_at item words at ≡ Ok (xs, end) →
+    (words : WordsView) (at : ℕ) (xs : List A) (end : ℕ) → list_at item words at ≡ Ok (xs, end) →
     IsTrue (not_empty xs) × Steps item [] at end xs
 unfolding list_at
 list_found {A = A} item forward words at xs end h =
-    let l = listed_found item forward (drop at words.tokens.items) 0 [] at xs end h in
+    let l = listed_found item forward (drop at words.tokens) 0 [] at xs end h in
     let same : at + 0 ≡ at = omega arith in
     let P = λ (n : ℕ). Steps item [] n end l.0 in
     let Q = λ (ys : List A). IsTrue (not_empty ys) × Steps item [] at end ys in
@@ -82,7 +82,7 @@ listed_only item tokens (x ∷ (y ∷ ys)) before at end h some within =
     ∙ listed_only item tokens (y ∷ ys) (before ++ x ∷ []) h.0 end h.3 refl within
     ∙ ap (λ zs. Ok (zs, end)) (append_assoc before (x ∷ []) (y ∷ ys))
 
-pub list_only : {A : Type 0} (item : List A → ℕ → Result (Item A) ℕ) (words : Words) (xs : List A) (at end : ℕ) →
-    Steps item [] at end xs → IsTrue (not_empty xs) → end ≤ length words.tokens.items → list_at item words at ≡ Ok (xs, end)
+pub list_only : {A : Type 0} (item : List A → ℕ → Result (Item A) ℕ) (words : WordsView) (xs : List A) (at end : ℕ) →
+    Steps item [] at end xs → IsTrue (not_empty xs) → end ≤ length words.tokens → list_at item words at ≡ Ok (xs, end)
 unfolding list_at
-list_only item words xs at end h some within = listed_only item words.tokens.items xs [] at end h some within
+list_only item words xs at end h some within = listed_only item words.tokens xs [] at end h some within

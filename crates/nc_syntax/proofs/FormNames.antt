@@ -3,7 +3,7 @@ use Rattle.std.proofs.Common.{◌≡◌, ℕ, ◌+◌, ◌<◌, ◌≤◌, List,
 use Rattle.std.specs.Prelude.{◌⊎◌, ◌||◌, is_some, codes}
 use Rattle.std.specs.Option.{option_or}
 use Rattle.std.specs.Str.{str_to_ascii_lowercase}
-use Rattle.block_scanner.specs.declared.Words.{Words}
+use Rattle.block_scanner.specs.WordsView.{WordsView}
 use Rattle.g_groups.specs.declared.GWord.{GWord}
 use Rattle.word_tables.specs.GroupWords.{word_by_name}
 use Rattle.word_tables.specs.RefusedNames.{refused_name}
@@ -387,21 +387,21 @@ names_no_form text h =
     ]
 
 -- bodies
-pub form_read : (words : Words) (at : ℕ) (f : Form) → IsKeyword words at (form_name f) → body_at words at ≡ form_body words f (at + 1)
+pub form_read : (words : WordsView) (at : ℕ) (f : Form) → IsKeyword words at (form_name f) → body_at words at ≡ form_body words f (at + 1)
 unfolding body_at named_body
 form_read words at f h =
     let text = text_at words at in
     let e : form_of text ≡ Some f = same_form text (form_name f) (same_letters text (form_name f) (keyword_text words at (form_name f) h)) ∙ named_forms f in
     ap (λ p. body_of words at p) (keyword_piece words at (form_name f) h) ∙ ap (λ o. named_form words o text at) e
 
-pub word_name_read : (words : Words) (at : ℕ) → piece_at words at ≡ piece.Name → NamesWord (text_at words at) → body_at words at ≡ words_form words at
+pub word_name_read : (words : WordsView) (at : ℕ) → piece_at words at ≡ piece.Name → NamesWord (text_at words at) → body_at words at ≡ words_form words at
 unfolding body_at named_body
 word_name_read words at h n =
     let text = text_at words at in
     let e = names_no_form text n in
     ap (λ p. body_of words at p) h ∙ ap (λ o. named_form words o text at) e.0 ∙ ap (λ b. cond b (words_form words at) (call_form words (name_of text) (at + 1))) e.1
 
-pub program_name_read : (words : Words) (at : ℕ) → piece_at words at ≡ piece.Name → is_table_word (text_at words at) ≡ false →
+pub program_name_read : (words : WordsView) (at : ℕ) → piece_at words at ≡ piece.Name → is_table_word (text_at words at) ≡ false →
     body_at words at ≡ call_form words (name_of (text_at words at)) (at + 1)
 unfolding body_at named_body
 program_name_read words at h n =
@@ -410,11 +410,11 @@ program_name_read words at h n =
     ∙ ap (λ b. cond b (words_form words at) (call_form words (name_of text) (at + 1))) n
 
 -- how a jump searches
-way_cases : (words : Words) (at : ℕ) (way : Way) (p : Piece) → piece_at words at ≡ p → way_of_piece p (text_at words at) ≡ Some way → IsKeyword words at (way_name way)
+way_cases : (words : WordsView) (at : ℕ) (way : Way) (p : Piece) → piece_at words at ≡ p → way_of_piece p (text_at words at) ≡ Some way → IsKeyword words at (way_name way)
 way_cases words at way piece.Name e h = keyword_of words at (way_name way) e (way_found (text_at words at) way h)
 way_cases words at way p e h = cc
 
-pub way_at_found : (words : Words) (at : ℕ) (way : Way) → way_at words at ≡ Some way → IsKeyword words at (way_name way)
+pub way_at_found : (words : WordsView) (at : ℕ) (way : Way) → way_at words at ≡ Some way → IsKeyword words at (way_name way)
 unfolding way_at
 way_at_found words at way h = way_cases words at way (piece_at words at) refl h
 
@@ -425,7 +425,7 @@ named_ways Backward = refl
 named_ways Either = refl
 named_ways Optional = refl
 
-pub way_at_only : (words : Words) (at : ℕ) (way : Way) → IsKeyword words at (way_name way) → way_at words at ≡ Some way
+pub way_at_only : (words : WordsView) (at : ℕ) (way : Way) → IsKeyword words at (way_name way) → way_at words at ≡ Some way
 unfolding way_at
 way_at_only words at way h =
     let text = text_at words at in

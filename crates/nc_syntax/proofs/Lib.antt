@@ -1,4 +1,7 @@
 pub mod Broken
+pub mod FormRefusals
+pub mod RefusedWords
+pub mod BlockRefusals
 pub mod Standings
 pub mod Marked
 pub mod Chained

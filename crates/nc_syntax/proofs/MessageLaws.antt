@@ -10,7 +10,7 @@ use Rattle.block_scanner.specs.declared.Kind.TheVariants as kind
 use Rattle.block_scanner.specs.declared.Sign.{Sign}
 use Rattle.block_scanner.specs.declared.Sign.TheVariants as sign
 use Rattle.block_scanner.specs.declared.Token.{Token}
-use Rattle.block_scanner.specs.declared.Words.{Words}
+use Rattle.block_scanner.specs.WordsView.{WordsView}
 use Rattle.nc_expressions.specs.declared.symbols.Symbol.{Symbol}
 use Rattle.nc_expressions.specs.declared.symbols.Symbol.TheVariants as symbol
 use Rattle.nc_expressions.specs.Symbols.{symbols_of, symbol_of, touches_number, is_exponent, kind_symbol, sign_symbol}
@@ -35,16 +35,16 @@ use Rattle.nc_syntax.proofs.JumpLaws.{keyword_within, alone_found, alone_only}
 use Rattle.nc_syntax.proofs.StructureLaws.{alone_form_found, alone_form_only, open_piece}
 use Rattle.nc_syntax.proofs.CoordinationLaws.{close_last}
 
-abbrev IsDone : Words → ℕ → Statement → Type 0
-IsDone words at s = IsSpelled words at (length words.tokens.items) s
+abbrev IsDone : WordsView → ℕ → Statement → Type 0
+IsDone words at s = IsSpelled words at (length words.tokens) s
 
 -- MSG
-text_cases : (words : Words) (at close : ℕ) (b : Bool) → is_text (piece_at words (at + 2)) ≡ b → close ≡ cond b (at + 2 + 1) (at + 2) →
+text_cases : (words : WordsView) (at close : ℕ) (b : Bool) → is_text (piece_at words (at + 2)) ≡ b → close ≡ cond b (at + 2 + 1) (at + 2) →
     (close ≡ at + 2) ⊎ ((piece_at words (at + 2) ≡ piece.Text) × (close ≡ at + 3))
 text_cases words at close true e h = inr (text_is (piece_at words (at + 2)) e, omega (arith, h))
 text_cases words at close false e h = inl h
 
-pub msg_form_found : (words : Words) (at : ℕ) (s : Statement) → IsKeyword words at (codes "MSG") → msg_form words (at + 1) ≡ Ok s → IsDone words at s
+pub msg_form_found : (words : WordsView) (at : ℕ) (s : Statement) → IsKeyword words at (codes "MSG") → msg_form words (at + 1) ≡ Ok s → IsDone words at s
 unfolding msg_form IsSpelled
 msg_form_found words at s k h =
     let a = bound _ _ _ h in
@@ -61,26 +61,26 @@ msg_form_found words at s k h =
     let P = λ (x : Statement). IsDone words at x in
     subst P e.1 (inl (close, k, o.0, text_cases words at close (is_text (piece_at words (at + 2))) refl refl, shut, close_last words close shut last))
 
-msg_read : (words : Words) (at close : ℕ) → piece_at words (at + 1) ≡ piece.Open → after_text words (at + 1 + 1) ≡ close → piece_at words close ≡ piece.Close →
-    length words.tokens.items ≡ close + 1 → msg_form words (at + 1) ≡ Ok Message
+msg_read : (words : WordsView) (at close : ℕ) → piece_at words (at + 1) ≡ piece.Open → after_text words (at + 1 + 1) ≡ close → piece_at words close ≡ piece.Close →
+    length words.tokens ≡ close + 1 → msg_form words (at + 1) ≡ Ok Message
 unfolding msg_form
 msg_read words at close o t c e =
     let Q = λ (n : ℕ). piece_at words n ≡ piece.Close in
     rw (open_only words (at + 1) 22 o, close_only words (after_text words (at + 1 + 1)) 22 (subst Q (sym t) c), t) (alone_only words (close + 1) Message (at_line_end words (close + 1) (sym e)))
 
-no_text_read : (words : Words) (at close : ℕ) → close ≡ at + 2 → piece_at words close ≡ piece.Close → after_text words (at + 1 + 1) ≡ close
+no_text_read : (words : WordsView) (at close : ℕ) → close ≡ at + 2 → piece_at words close ≡ piece.Close → after_text words (at + 1 + 1) ≡ close
 no_text_read words at close h c =
     let place : close ≡ at + 1 + 1 = omega (arith, h) in
     let Q = λ (n : ℕ). piece_at words n ≡ piece.Close in
     rw (subst Q place c) (sym place)
 
-text_read : (words : Words) (at close : ℕ) → piece_at words (at + 2) ≡ piece.Text → close ≡ at + 3 → after_text words (at + 1 + 1) ≡ close
+text_read : (words : WordsView) (at close : ℕ) → piece_at words (at + 2) ≡ piece.Text → close ≡ at + 3 → after_text words (at + 1 + 1) ≡ close
 text_read words at close t h =
     let place : at + 2 ≡ at + 1 + 1 = omega arith in
     let Q = λ (n : ℕ). piece_at words n ≡ piece.Text in
     rw (subst Q place t) (omega (arith, h))
 
-pub msg_form_only : (words : Words) (at : ℕ) → IsMsg words at (length words.tokens.items) → msg_form words (at + 1) ≡ Ok Message
+pub msg_form_only : (words : WordsView) (at : ℕ) → IsMsg words at (length words.tokens) → msg_form words (at + 1) ≡ Ok Message
 unfolding msg_form
 msg_form_only words at h =
     elim h.3 [
@@ -89,7 +89,7 @@ msg_form_only words at h =
     ]
 
 -- SETMS
-enclosed_found : (words : Words) (at end : ℕ) → enclosed_at words at ≡ Ok end → (t : Tree) × IsEnclosed words at end t
+enclosed_found : (words : WordsView) (at end : ℕ) → enclosed_at words at ≡ Ok end → (t : Tree) × IsEnclosed words at end t
 unfolding enclosed_at
 enclosed_found words at end h =
     let a = bound _ _ _ h in
@@ -99,12 +99,12 @@ enclosed_found words at end h =
     let P = λ (n : ℕ). IsExpressionText words n b.0.1 b.0.0 in
     (b.0.0, (b.0.1, o.0, subst P o.1 (expression_found words a.0 b.0.1 b.0.0 b.1), c.0, c.1))
 
-enclosed_only : (words : Words) (at end : ℕ) (t : Tree) → IsEnclosed words at end t → enclosed_at words at ≡ Ok end
+enclosed_only : (words : WordsView) (at end : ℕ) (t : Tree) → IsEnclosed words at end t → enclosed_at words at ≡ Ok end
 unfolding enclosed_at
 enclosed_only words at end t h =
     rw (open_only words at 22 h.1, expression_only words (at + 1) h.0 t h.2 (follows_piece words h.0 piece.Close h.3 tt tt), close_only words h.0 22 h.3, h.4) refl
 
-pub setms_form_found : (words : Words) (at : ℕ) (s : Statement) → IsKeyword words at (codes "SETMS") → setms_form words (at + 1) ≡ Ok s → IsDone words at s
+pub setms_form_found : (words : WordsView) (at : ℕ) (s : Statement) → IsKeyword words at (codes "SETMS") → setms_form words (at + 1) ≡ Ok s → IsDone words at s
 unfolding setms_form IsSpelled
 setms_form_found words at s k h =
     let P = λ (x : Statement). IsDone words at x in
@@ -118,12 +118,12 @@ setms_form_found words at s k h =
           subst P b.1 (inr (inr (inl (k, inr (x.0, subst R (x.1.4 ∙ sym last) x.1))))))
       (λ o e. let a = alone_form_found words at (codes "SETMS") Message s k e in subst P a.1 (inr (inr (inl (k, inl a.0.1)))))
 
-pub setms_form_only : (words : Words) (at : ℕ) → IsSetms words at (length words.tokens.items) → setms_form words (at + 1) ≡ Ok Message
+pub setms_form_only : (words : WordsView) (at : ℕ) → IsSetms words at (length words.tokens) → setms_form words (at + 1) ≡ Ok Message
 unfolding setms_form
 setms_form_only words at h =
     elim h.1 [
       | inl a ↦ let e = at_line_end words (at + 1) (sym a) in rw e (alone_only words (at + 1) Message e)
-      | inr a ↦ let all = length words.tokens.items in
+      | inr a ↦ let all = length words.tokens in
           rw (a.1.1, enclosed_only words (at + 1) all a.0 a.1) (alone_only words all Message (at_line_end words all refl))
     ]
 
@@ -142,11 +142,11 @@ close_sign line last t h =
     let u : Token = record { kind = kind.Sign sign.CloseParenthesis; start = t.start; end = t.end } in
     rw h (ap (λ (s : Symbol). piece_of u s) (no_exponent_close (touches_number last u)))
 
-close_stands : (words : Words) (i : ℕ) (t : Token) → slice_get words.tokens.items i ≡ Some t → is_close_kind t.kind ≡ true → piece_at words i ≡ piece.Close
+close_stands : (words : WordsView) (i : ℕ) (t : Token) → slice_get words.tokens i ≡ Some t → is_close_kind t.kind ≡ true → piece_at words i ≡ piece.Close
 unfolding piece_at symbols_of
 close_stands words i t e h =
-    let s = symbol_there words.line.now None words.tokens.items i t e in
-    rw (e, s.1) (close_sign words.line.now s.0 t (kind_is t.kind h))
+    let s = symbol_there words.line None words.tokens i t e in
+    rw (e, s.1) (close_sign words.line s.0 t (kind_is t.kind h))
 
 sign_closes : (s : Sign) → sign_piece s ≡ piece.Close → is_close_kind (kind.Sign s) ≡ true
 unfolding sign_piece
@@ -196,9 +196,9 @@ token_closes None p h = cc
 token_closes (Some t) None h = cc
 token_closes (Some t) (Some s) h = (t, refl, piece_closes t s h)
 
-close_token : (words : Words) (i : ℕ) → piece_at words i ≡ piece.Close → (t : Token) × (slice_get words.tokens.items i ≡ Some t) × (is_close_kind t.kind ≡ true)
+close_token : (words : WordsView) (i : ℕ) → piece_at words i ≡ piece.Close → (t : Token) × (slice_get words.tokens i ≡ Some t) × (is_close_kind t.kind ≡ true)
 unfolding piece_at
-close_token words i h = token_closes (slice_get words.tokens.items i) (slice_get (symbols_of words) i) h
+close_token words i h = token_closes (slice_get words.tokens i) (slice_get (symbols_of words) i) h
 
 -- the last token of a line
 abbrev closes : Token → Bool
@@ -250,7 +250,7 @@ broken_is : (p : Piece) → is_broken p ≡ true → p ≡ piece.Broken
 broken_is piece.Broken h = refl
 broken_is p h = cc
 
-broken_found : (words : Words) (n at : ℕ) → has_broken words at n ≡ false → (place : ℕ) → at ≤ place → place < at + n → piece_at words place ≡ piece.Broken → ⊥
+broken_found : (words : WordsView) (n at : ℕ) → has_broken words at n ≡ false → (place : ℕ) → at ≤ place → place < at + n → piece_at words place ≡ piece.Broken → ⊥
 unfolding has_broken
 broken_found words zero at h place low high e = omega (arith, low, high)
 broken_found words (suc n) at h place low high e =
@@ -261,7 +261,7 @@ broken_found words (suc n) at h place low high e =
           let no : true ≡ false = sym (ap is_broken e) ∙ ap (λ k. is_broken (piece_at words k)) same ∙ p.0 in cc
     ]
 
-broken_only : (words : Words) (n at : ℕ) → ((place : ℕ) → at ≤ place → place < at + n → piece_at words place ≡ piece.Broken → ⊥) → has_broken words at n ≡ false
+broken_only : (words : WordsView) (n at : ℕ) → ((place : ℕ) → at ≤ place → place < at + n → piece_at words place ≡ piece.Broken → ⊥) → has_broken words at n ≡ false
 unfolding has_broken
 broken_only words zero at f = refl
 broken_only words (suc n) at f =
@@ -269,7 +269,7 @@ broken_only words (suc n) at f =
       (false_of (is_broken (piece_at words at)) (λ k. f at (omega arith) (omega arith) (broken_is (piece_at words at) k)))
       (broken_only words n (at + 1) (λ place low high e. f place (omega (arith, low)) (omega (arith, high)) e))
 
-between : (words : Words) (at i : ℕ) → piece_at words (at + 1) ≡ piece.Open → piece_at words i ≡ piece.Close → at + 1 ≤ i → at + 1 < i
+between : (words : WordsView) (at i : ℕ) → piece_at words (at + 1) ≡ piece.Open → piece_at words i ≡ piece.Close → at + 1 ≤ i → at + 1 < i
 between words at i o c w =
     elim (cases_lt (at + 1) i) [
       | inl h ↦ h
@@ -277,7 +277,7 @@ between words at i o c w =
           let no : piece.Close ≡ piece.Open = sym c ∙ ap (piece_at words) same ∙ o in cc
     ]
 
-unbroken : (words : Words) (at close place : ℕ) → piece_at words close ≡ piece.Close → ((place : ℕ) → at + 1 < place → place < close → piece_at words place ≡ piece.Broken → ⊥) →
+unbroken : (words : WordsView) (at close place : ℕ) → piece_at words close ≡ piece.Close → ((place : ℕ) → at + 1 < place → place < close → piece_at words place ≡ piece.Broken → ⊥) →
     at + 1 < place → place < close + 1 → piece_at words place ≡ piece.Broken → ⊥
 unbroken words at close place c f low high e =
     elim (cases_lt place close) [
@@ -287,7 +287,7 @@ unbroken words at close place c f low high e =
     ]
 
 -- WORKPIECE
-pub workpiece_form_found : (words : Words) (at : ℕ) (s : Statement) → IsKeyword words at (codes "WORKPIECE") → workpiece_form words (at + 1) ≡ Ok s → IsDone words at s
+pub workpiece_form_found : (words : WordsView) (at : ℕ) (s : Statement) → IsKeyword words at (codes "WORKPIECE") → workpiece_form words (at + 1) ≡ Ok s → IsDone words at s
 unfolding workpiece_form IsSpelled
 workpiece_form_found words at s k h =
     let P = λ (x : Statement). IsDone words at x in
@@ -298,18 +298,18 @@ workpiece_form_found words at s k h =
       (λ c e. refused 22 s e)
       (λ c e. let f = alone_found words b.0 Message s e in
           let w = piece_within words (at + 1) piece.Open o.0 tt in
-          let t = last_found words.tokens.items b.0 (omega (arith, w)) b.1 (past_end words b.0 f.0) in
+          let t = last_found words.tokens b.0 (omega (arith, w)) b.1 (past_end words b.0 f.0) in
           let shut = close_stands words t.1 t.0 t.2 t.3 in
           let apart : at + 1 < t.1 = between words at t.1 o.0 shut (omega (arith, w, t.4)) in
           let Q = λ (n : ℕ). (place : ℕ) → n ≤ place → place < n + (b.0 - n) → piece_at words place ≡ piece.Broken → ⊥ in
           let g = subst Q o.1 (broken_found words (b.0 - a.0) a.0 c) in
           subst P f.1 (inr (inr (inr (t.1, k, o.0, apart, (λ place low high e. g place (omega (arith, low)) (omega (arith, high, t.5, apart)) e), shut, sym t.4, refl)))))
 
-pub workpiece_form_only : (words : Words) (at : ℕ) → IsWorkpiece words at (length words.tokens.items) → workpiece_form words (at + 1) ≡ Ok Message
+pub workpiece_form_only : (words : WordsView) (at : ℕ) → IsWorkpiece words at (length words.tokens) → workpiece_form words (at + 1) ≡ Ok Message
 unfolding workpiece_form
 workpiece_form_only words at h =
-    let all = length words.tokens.items in
+    let all = length words.tokens in
     let t = close_token words h.0 h.5 in
-    let l = last_only words.tokens.items h.0 t.0 t.1 t.2 (sym h.6) in
+    let l = last_only words.tokens h.0 t.0 t.1 t.2 (sym h.6) in
     let f = broken_only words (all - (at + 1 + 1)) (at + 1 + 1) (λ place low high e. unbroken words at h.0 place h.5 h.4 (omega (arith, low)) (omega (arith, high, h.6, h.3)) e) in
     rw (open_only words (at + 1) 22 h.2, l, f) (alone_only words all Message (at_line_end words all refl))

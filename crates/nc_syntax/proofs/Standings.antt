@@ -13,7 +13,7 @@ use Rattle.block_scanner.specs.declared.Kind.TheVariants as kind
 use Rattle.block_scanner.specs.declared.Sign.{Sign}
 use Rattle.block_scanner.specs.declared.Sign.TheVariants as sign
 use Rattle.block_scanner.specs.declared.Token.{Token}
-use Rattle.block_scanner.specs.declared.Words.{Words}
+use Rattle.block_scanner.specs.WordsView.{WordsView}
 use Rattle.block_scanner.specs.Texts.{text_of}
 use Rattle.micro_units.specs.NumberText.{number_of}
 use Rattle.nc_expressions.specs.declared.trees.BinaryOp.TheVariants.{Add, Sub, Div}
@@ -216,26 +216,26 @@ symbol_there line before (u ∷ us) zero t h =
     let e : u ≡ t = cc in (before, ap (λ x. Some (symbol_of line before x)) e)
 symbol_there line before (u ∷ us) (suc at) t h = symbol_there line (Some u) us at t h
 
-piece_symbol' : (words : Words) (at : ℕ) (o : Option Token) → slice_get words.tokens.items at ≡ o → Tells (found_piece o (slice_get (symbols_of words) at)) →
-    slice_get (symbols_of words) at ≡ Some (symbol_for (found_piece o (slice_get (symbols_of words) at)) (found_text words.line.now o))
+piece_symbol' : (words : WordsView) (at : ℕ) (o : Option Token) → slice_get words.tokens at ≡ o → Tells (found_piece o (slice_get (symbols_of words) at)) →
+    slice_get (symbols_of words) at ≡ Some (symbol_for (found_piece o (slice_get (symbols_of words) at)) (found_text words.line o))
 unfolding symbols_of
 piece_symbol' words at None e h = absurd h
 piece_symbol' words at (Some t) e h =
-    let s = symbol_there words.line.now None words.tokens.items at t e in
+    let s = symbol_there words.line None words.tokens at t e in
     let P = λ (o : Option Symbol). Tells (found_piece (Some t) o) in
-    let Q = λ (o : Option Symbol). o ≡ Some (symbol_for (found_piece (Some t) o) (text_of words.line.now t)) in
-    subst Q (sym s.1) (ap (λ x. Some x) (token_tells words.line.now s.0 t (subst P s.1 h)))
+    let Q = λ (o : Option Symbol). o ≡ Some (symbol_for (found_piece (Some t) o) (text_of words.line t)) in
+    subst Q (sym s.1) (ap (λ x. Some x) (token_tells words.line s.0 t (subst P s.1 h)))
 
 -- the symbol of a piece that tells it
-pub piece_symbol : (words : Words) (at : ℕ) (p : Piece) → piece_at words at ≡ p → Tells p → slice_get (symbols_of words) at ≡ Some (symbol_for p (text_at words at))
+pub piece_symbol : (words : WordsView) (at : ℕ) (p : Piece) → piece_at words at ≡ p → Tells p → slice_get (symbols_of words) at ≡ Some (symbol_for p (text_at words at))
 unfolding piece_at text_at
 piece_symbol words at p e h =
     let P = λ (q : Piece). Tells q in
-    piece_symbol' words at (slice_get words.tokens.items at) refl (subst P (sym e) h)
-    ∙ ap (λ q. Some (symbol_for q (found_text words.line.now (slice_get words.tokens.items at)))) e
+    piece_symbol' words at (slice_get words.tokens at) refl (subst P (sym e) h)
+    ∙ ap (λ q. Some (symbol_for q (found_text words.line (slice_get words.tokens at)))) e
 
 -- it stands within the line
-pub piece_within : (words : Words) (at : ℕ) (p : Piece) → piece_at words at ≡ p → Tells p → at < length words.tokens.items
+pub piece_within : (words : WordsView) (at : ℕ) (p : Piece) → piece_at words at ≡ p → Tells p → at < length words.tokens
 piece_within words at p e h = omega (arith, slice_get_within (symbols_of words) at _ (piece_symbol words at p e h), length-symbols_of words)
 
 drop_there : {X : Type 0} (xs : List X) (i : ℕ) (x : X) → slice_get xs i ≡ Some x → drop i xs ≡ x ∷ drop (i + 1) xs
@@ -243,7 +243,7 @@ drop_there xs i x h =
     drop_more xs i x (slice_get_within xs i x h) ∙ ap (λ y. y ∷ drop (i + 1) xs) (get_or_from_slice_get xs i x x h)
 
 -- the symbols from there on
-pub symbols_from : (words : Words) (at : ℕ) (p : Piece) → piece_at words at ≡ p → Tells p →
+pub symbols_from : (words : WordsView) (at : ℕ) (p : Piece) → piece_at words at ≡ p → Tells p →
     drop at (symbols_of words) ≡ symbol_for p (text_at words at) ∷ drop (at + 1) (symbols_of words)
 symbols_from words at p e h = drop_there (symbols_of words) at _ (piece_symbol words at p e h)
 
@@ -304,19 +304,19 @@ both_true true b h = h
 both_true false b h = cc
 
 -- what stands past the end
-end_of : (words : Words) (at : ℕ) (o : Option Token) (p : Option Symbol) → slice_get words.tokens.items at ≡ o → slice_get (symbols_of words) at ≡ p →
-    found_piece o p ≡ piece.End → length words.tokens.items ≤ at
+end_of : (words : WordsView) (at : ℕ) (o : Option Token) (p : Option Symbol) → slice_get words.tokens at ≡ o → slice_get (symbols_of words) at ≡ p →
+    found_piece o p ≡ piece.End → length words.tokens ≤ at
 end_of words at o None e f h =
-    elim (cases_lt at (length words.tokens.items)) [
+    elim (cases_lt at (length words.tokens)) [
       | inl i ↦ absurd (omega (arith, slice_missing (symbols_of words) at f, length-symbols_of words))
       | inr i ↦ i
     ]
-end_of words at None (Some s) e f h = let i = slice_missing words.tokens.items at e in i
+end_of words at None (Some s) e f h = let i = slice_missing words.tokens at e in i
 end_of words at (Some t) (Some s) e f h = absurd (never_end t s h)
 
-pub past_end : (words : Words) (at : ℕ) → piece_at words at ≡ piece.End → length words.tokens.items ≤ at
+pub past_end : (words : WordsView) (at : ℕ) → piece_at words at ≡ piece.End → length words.tokens ≤ at
 unfolding piece_at
-past_end words at h = end_of words at (slice_get words.tokens.items at) (slice_get (symbols_of words) at) refl refl h
+past_end words at h = end_of words at (slice_get words.tokens at) (slice_get (symbols_of words) at) refl refl h
 
 -- what can stand behind an expression
 follows_cons : (s : Symbol) (ss : List Symbol) → Follows (s ∷ []) → Follows (s ∷ ss)
@@ -324,12 +324,12 @@ follows_cons (symbol.Operator op) ss h = absurd h
 follows_cons symbol.Exponent ss h = absurd h
 follows_cons s ss h = tt
 
-pub follows_piece : (words : Words) (at : ℕ) (p : Piece) → piece_at words at ≡ p → Tells p → Follows (symbol_for p (text_at words at) ∷ []) → Follows (drop at (symbols_of words))
+pub follows_piece : (words : WordsView) (at : ℕ) (p : Piece) → piece_at words at ≡ p → Tells p → Follows (symbol_for p (text_at words at) ∷ []) → Follows (drop at (symbols_of words))
 follows_piece words at p e h f =
     let P : List Symbol → Type 0 = λ ss. Follows ss in
     subst P (sym (symbols_from words at p e h)) (follows_cons (symbol_for p (text_at words at)) (drop (at + 1) (symbols_of words)) f)
 
-pub follows_end : (words : Words) (at : ℕ) → piece_at words at ≡ piece.End → Follows (drop at (symbols_of words))
+pub follows_end : (words : WordsView) (at : ℕ) → piece_at words at ≡ piece.End → Follows (drop at (symbols_of words))
 follows_end words at h =
     let P : List Symbol → Type 0 = λ ss. Follows ss in
     subst P (sym (drop_all at (symbols_of words) (omega (arith, past_end words at h, length-symbols_of words)))) tt
@@ -338,15 +338,15 @@ letter_follows : (b : Bool) → Follows (cond b symbol.Letter symbol.Other ∷ [
 letter_follows true = tt
 letter_follows false = tt
 
-pub follows_letter : (words : Words) (at b : ℕ) → piece_at words at ≡ piece.Letter b → Follows (drop at (symbols_of words))
+pub follows_letter : (words : WordsView) (at b : ℕ) → piece_at words at ≡ piece.Letter b → Follows (drop at (symbols_of words))
 follows_letter words at b h = follows_piece words at (piece.Letter b) h tt (letter_follows (b == 82))
 
 -- names
-pub keyword_piece : (words : Words) (at : ℕ) (word : List ℕ) → is_keyword words at word ≡ true → piece_at words at ≡ piece.Name
+pub keyword_piece : (words : WordsView) (at : ℕ) (word : List ℕ) → is_keyword words at word ≡ true → piece_at words at ≡ piece.Name
 unfolding is_keyword
 keyword_piece words at word h = named_piece (piece_at words at) (is_word (text_at words at) word) h
 
-pub keyword_text : (words : Words) (at : ℕ) (word : List ℕ) → is_keyword words at word ≡ true → is_word (text_at words at) word ≡ true
+pub keyword_text : (words : WordsView) (at : ℕ) (word : List ℕ) → is_keyword words at word ≡ true → is_word (text_at words at) word ≡ true
 unfolding is_keyword
 keyword_text words at word h = both_true (is_name (piece_at words at)) (is_word (text_at words at) word) h
 
@@ -354,7 +354,7 @@ pub same_symbol : (a b : List ℕ) → str_to_ascii_lowercase a ≡ str_to_ascii
 unfolding name_symbol value_symbol
 same_symbol a b h = rw h refl
 
-pub follows_keyword : (words : Words) (at : ℕ) (word : List ℕ) → is_keyword words at word ≡ true → Follows (name_symbol word ∷ []) → Follows (drop at (symbols_of words))
+pub follows_keyword : (words : WordsView) (at : ℕ) (word : List ℕ) → is_keyword words at word ≡ true → Follows (name_symbol word ∷ []) → Follows (drop at (symbols_of words))
 follows_keyword words at word h f =
     let e = same_symbol (text_at words at) word (same_letters (text_at words at) word (keyword_text words at word h)) in
     let P : Symbol → Type 0 = λ s. Follows (s ∷ []) in
@@ -423,15 +423,15 @@ part_of xs ys at end h i e =
     ap (λ zs. take (end - at) zs) e ∙ ap (λ k. take k (ys ++ drop end xs)) (sym n) ∙ take-append_seam ys (drop end xs)
 
 -- an expression stands within the line, and begins as one does
-pub expression_within : (words : Words) (at end : ℕ) (t : Tree) → IsExpressionText words at end t → (at < end) × (end ≤ length words.tokens.items)
+pub expression_within : (words : WordsView) (at end : ℕ) (t : Tree) → IsExpressionText words at end t → (at < end) × (end ≤ length words.tokens)
 expression_within words at end t h =
     (part_short (symbols_of words) at end (omega (arith, spelled h.0, ap length h.4)), h.3)
 
-pub expression_rest : (words : Words) (at end : ℕ) (t : Tree) (h : IsExpressionText words at end t) → drop at (symbols_of words) ≡ spelling h.0 ++ drop end (symbols_of words)
+pub expression_rest : (words : WordsView) (at end : ℕ) (t : Tree) (h : IsExpressionText words at end t) → drop at (symbols_of words) ≡ spelling h.0 ++ drop end (symbols_of words)
 expression_rest words at end t h =
     part_rest (symbols_of words) at end (expression_within words at end t h).0 ∙ ap (λ ss. ss ++ drop end (symbols_of words)) h.4
 
-pub expression_begins : (words : Words) (at end : ℕ) (t : Tree) (p : Piece) → IsExpressionText words at end t → piece_at words at ≡ p → Tells p → Begins (symbol_for p (text_at words at))
+pub expression_begins : (words : WordsView) (at end : ℕ) (t : Tree) (p : Piece) → IsExpressionText words at end t → piece_at words at ≡ p → Tells p → Begins (symbol_for p (text_at words at))
 expression_begins words at end t p h e tells =
     begins h.0 (drop end (symbols_of words)) _ (drop (at + 1) (symbols_of words)) (sym (expression_rest words at end t h) ∙ symbols_from words at p e tells)
 
@@ -443,7 +443,7 @@ placed_found all (Ok p) t end h =
     (p.1, ap (λ x. Ok (x, p.1)) tree_is, sym (ap (λ (q : Tree × ℕ). q.1) e))
 placed_found all (Err code) t end h = cc
 
-pub expression_found : (words : Words) (at end : ℕ) (t : Tree) → expression_at words at ≡ Ok (t, end) → IsExpressionText words at end t
+pub expression_found : (words : WordsView) (at end : ℕ) (t : Tree) → expression_at words at ≡ Ok (t, end) → IsExpressionText words at end t
 unfolding expression_at expr_at
 expression_found words at end t h =
     let ss = symbols_of words in
@@ -458,7 +458,7 @@ expression_found words at end t h =
     let within : end ≤ length ss = omega (arith, p.2) in
     (f.0, f.1, f.2, omega (arith, within, length-symbols_of words), part_of ss (spelling f.0) at end (omega (arith, place, m)) within (f.4 ∙ ap (λ ys. spelling f.0 ++ ys) (sym left)))
 
-pub expression_only : (words : Words) (at end : ℕ) (t : Tree) → IsExpressionText words at end t → Follows (drop end (symbols_of words)) → expression_at words at ≡ Ok (t, end)
+pub expression_only : (words : WordsView) (at end : ℕ) (t : Tree) → IsExpressionText words at end t → Follows (drop end (symbols_of words)) → expression_at words at ≡ Ok (t, end)
 unfolding expression_at expr_at
 expression_only words at end t h f =
     let ss = symbols_of words in
@@ -469,15 +469,15 @@ expression_only words at end t h f =
     ap (placed (length ss)) e ∙ ap (λ n. Ok (tree h.0, n)) place ∙ ap (λ x. Ok (x, end)) h.2
 
 -- the same in a word block
-in_words_found : (words : Words) (stop : ℕ) (r : Result (Tree × ℕ) ℕ) (p : Tree × ℕ) → in_words words stop r ≡ Ok p → r ≡ Ok p
+in_words_found : (words : WordsView) (stop : ℕ) (r : Result (Tree × ℕ) ℕ) (p : Tree × ℕ) → in_words words stop r ≡ Ok p → r ≡ Ok p
 in_words_found words stop (Ok q) p h = h
 in_words_found words stop (Err code) p h = cc
 
-pub value_found : (words : Words) (at end : ℕ) (t : Tree) → value_at words at ≡ Ok (t, end) → IsExpressionText words at end t
+pub value_found : (words : WordsView) (at end : ℕ) (t : Tree) → value_at words at ≡ Ok (t, end) → IsExpressionText words at end t
 unfolding value_at
 value_found words at end t h =
     expression_found words at end t (in_words_found words (stop_at (symbols_of words) at) (expression_at words at) (t, end) h)
 
-pub value_only : (words : Words) (at end : ℕ) (t : Tree) → IsExpressionText words at end t → Follows (drop end (symbols_of words)) → value_at words at ≡ Ok (t, end)
+pub value_only : (words : WordsView) (at end : ℕ) (t : Tree) → IsExpressionText words at end t → Follows (drop end (symbols_of words)) → value_at words at ≡ Ok (t, end)
 unfolding value_at
 value_only words at end t h f = ap (in_words words (stop_at (symbols_of words) at)) (expression_only words at end t h f)

@@ -3,7 +3,7 @@ use Rattle.std.proofs.Common.{◌≡◌, ℕ, ◌+◌, ◌<◌, ◌≤◌, List,
 use Rattle.std.specs.Prelude.{ℤ, ◌⊎◌, ◌==◌, ◌&&◌, ◌||◌, not, IsTrue, codes}
 use Rattle.std.specs.Option.{option_or}
 use Rattle.std.specs.Str.{bytes_eq, str_to_ascii_lowercase}
-use Rattle.block_scanner.specs.declared.Words.{Words}
+use Rattle.block_scanner.specs.WordsView.{WordsView}
 use Rattle.g_groups.specs.declared.GWord.{GWord}
 use Rattle.g_groups.specs.Groups.{Spelling, g as numbered, name as named, Group, code_of, groups}
 use Rattle.word_tables.specs.GroupWords.{word_among, word_in, is_name as writes_name, word_by_number, word_by_name}
@@ -90,7 +90,7 @@ group_follows text w h =
       (not_in_group text (codes "AND") w h refl) (not_in_group text (codes "OR") w h refl) (not_in_group text (codes "XOR") w h refl))
 
 -- a word of a group, and a radius
-group_read : (words : Words) (at end group code : ℕ) → IsGroupWord words at end group code → word_at words at ≡ Ok (G group code, end)
+group_read : (words : WordsView) (at end group code : ℕ) → IsGroupWord words at end group code → word_at words at ≡ Ok (G group code, end)
 unfolding lettered_word g_at name_word
 group_read words at end group code h =
     elim h [
@@ -100,14 +100,14 @@ group_read words at end group code h =
           name_read words at a.0 ∙ rw (group_no_radius text w a.1, group_no_spindle text w a.1, a.1, a.2) refl
     ]
 
-radius_read : (words : Words) (at end : ℕ) (t : Tree) → IsWord words at end (Radius t) → Behind words end → word_at words at ≡ Ok (Radius t, end)
+radius_read : (words : WordsView) (at end : ℕ) (t : Tree) → IsWord words at end (Radius t) → Behind words end → word_at words at ≡ Ok (Radius t, end)
 unfolding name_word
 radius_read words at end t h f =
     name_read words at (keyword_piece words at (codes "CR") h.0)
     ∙ rw (keyword_text words at (codes "CR") h.0, assigned_only words (at + 1) end t h.1 (behind_follows words end f)) refl
 
 -- what is spelled as a word is read so
-pub word_only : (words : Words) (at end : ℕ) (x : WordView) → IsWord words at end x → Behind words end → word_at words at ≡ Ok (x, end)
+pub word_only : (words : WordsView) (at end : ℕ) (x : WordView) → IsWord words at end x → Behind words end → word_at words at ≡ Ok (x, end)
 word_only words at end (Assign i t) h f = assign_read words at end i t h f
 word_only words at end (AssignAt i t) h f = assign_at_read words at end i t h f
 word_only words at end (G group code) h f = group_read words at end group code h
@@ -117,18 +117,18 @@ word_only words at end (Aux address bracket operand) h f = aux_only words at end
 word_only words at end End h f = program_end_read words at end h f
 
 -- a word stands within the line
-pub enclosed_within : (words : Words) (at end : ℕ) (t : Tree) → IsEnclosed words at end t → (at + 1 < end) × (end ≤ length words.tokens.items)
+pub enclosed_within : (words : WordsView) (at end : ℕ) (t : Tree) → IsEnclosed words at end t → (at + 1 < end) × (end ≤ length words.tokens)
 enclosed_within words at end t h =
     let e = expression_within words (at + 1) h.0 t h.2 in
     let c = piece_within words h.0 piece.Close h.3 tt in
     (omega (arith, e.0, h.4), omega (arith, c, h.4))
 
-measured_within : (words : Words) (at end : ℕ) (m : Measure) (t : Tree) → IsMeasured words at end m t → (at < end) × (end ≤ length words.tokens.items)
+measured_within : (words : WordsView) (at end : ℕ) (m : Measure) (t : Tree) → IsMeasured words at end m t → (at < end) × (end ≤ length words.tokens)
 measured_within words at end Modal t h = expression_within words at end t h
 measured_within words at end Absolute t h = let w = enclosed_within words (at + 1) end t h.1 in (omega (arith, w.0), w.1)
 measured_within words at end Incremental t h = let w = enclosed_within words (at + 1) end t h.1 in (omega (arith, w.0), w.1)
 
-pub signed_within : (words : Words) (at end : ℕ) (z : ℤ) → IsSignedNumber words at end z → (at < end) × (end ≤ length words.tokens.items)
+pub signed_within : (words : WordsView) (at end : ℕ) (z : ℤ) → IsSignedNumber words at end z → (at < end) × (end ≤ length words.tokens)
 signed_within words at end z h =
     elim h [
       | inl a ↦ let w = piece_within words at (piece.Number z) a.0 tt in (omega (arith, a.1), omega (arith, a.1, w))
@@ -138,7 +138,7 @@ signed_within words at end z h =
         ]
     ]
 
-operand_within : (words : Words) (at end : ℕ) (o : OperandView) → IsOperand words at end o → (at < end) × (end ≤ length words.tokens.items)
+operand_within : (words : WordsView) (at end : ℕ) (o : OperandView) → IsOperand words at end o → (at < end) × (end ≤ length words.tokens)
 operand_within words at end (Value t) h = expression_within words at end t h
 operand_within words at end (Text bytes) h = let w = piece_within words at piece.Text h.0 tt in (omega (arith, h.2), omega (arith, h.2, w))
 operand_within words at end (AxisName name) h = absurd h
@@ -147,49 +147,49 @@ operand_within words at end (AxisName name) h = absurd h
 nearer : (at next end all : ℕ) → at ≤ next → (next < end) × (end ≤ all) → (at < end) × (end ≤ all)
 nearer at next end all h w = (omega (arith, w.0), w.1)
 
-axis_within : (words : Words) (at end : ℕ) (address : List ℕ) (m : Measure) (t : Tree) → IsAxisWord words at end address m t → (at < end) × (end ≤ length words.tokens.items)
+axis_within : (words : WordsView) (at end : ℕ) (address : List ℕ) (m : Measure) (t : Tree) → IsAxisWord words at end address m t → (at < end) × (end ≤ length words.tokens)
 axis_within words at end address m t h =
     elim h [
-      | inl a ↦ nearer at (at + 1) end (length words.tokens.items) (omega arith) (signed_within words (at + 1) end a.1 a.3)
+      | inl a ↦ nearer at (at + 1) end (length words.tokens) (omega arith) (signed_within words (at + 1) end a.1 a.3)
       | inr b ↦ elim b [
-          | inl c ↦ nearer at (at + 2) end (length words.tokens.items) (omega arith) (measured_within words (at + 2) end m t c.3)
-          | inr c ↦ nearer at (at + 3) end (length words.tokens.items) (omega arith) (measured_within words (at + 3) end m t c.2)
+          | inl c ↦ nearer at (at + 2) end (length words.tokens) (omega arith) (measured_within words (at + 2) end m t c.3)
+          | inr c ↦ nearer at (at + 3) end (length words.tokens) (omega arith) (measured_within words (at + 3) end m t c.2)
         ]
     ]
 
-pub assigned_within : (words : Words) (at end : ℕ) (t : Tree) → IsAssigned words at end t → (at < end) × (end ≤ length words.tokens.items)
-assigned_within words at end t h = nearer at (at + 1) end (length words.tokens.items) (omega arith) (expression_within words (at + 1) end t h.1)
+pub assigned_within : (words : WordsView) (at end : ℕ) (t : Tree) → IsAssigned words at end t → (at < end) × (end ≤ length words.tokens)
+assigned_within words at end t h = nearer at (at + 1) end (length words.tokens) (omega arith) (expression_within words (at + 1) end t h.1)
 
-bracket_forward : (words : Words) (at end : ℕ) (i : Option Tree) → IsBracket words at end i → at ≤ end
+bracket_forward : (words : WordsView) (at end : ℕ) (i : Option Tree) → IsBracket words at end i → at ≤ end
 bracket_forward words at end None h = omega (arith, h)
 bracket_forward words at end (Some t) h = let e = expression_within words (at + 1) h.0 t h.2 in omega (arith, e.0, h.4)
 
-aux_within : (words : Words) (at end : ℕ) (address : List ℕ) (bracket : Option Tree) (operand : OperandView) → IsAux words at end address bracket operand →
-    (at < end) × (end ≤ length words.tokens.items)
+aux_within : (words : WordsView) (at end : ℕ) (address : List ℕ) (bracket : Option Tree) (operand : OperandView) → IsAux words at end address bracket operand →
+    (at < end) × (end ≤ length words.tokens)
 aux_within words at end address bracket operand h =
     elim h [
       | inl a ↦ let w = piece_within words (at + 1) (piece.Number a.1.1) a.1.3 tt in (omega (arith, a.1.7), omega (arith, a.1.7, w))
       | inr b ↦ elim b [
-          | inl a ↦ nearer at (at + 2) end (length words.tokens.items) (omega arith) (operand_within words (at + 2) end operand a.1.3)
+          | inl a ↦ nearer at (at + 2) end (length words.tokens) (omega arith) (operand_within words (at + 2) end operand a.1.3)
           | inr c ↦ elim c [
-              | inl a ↦ nearer at (at + 2) end (length words.tokens.items) (omega arith) (assigned_within words (at + 2) end a.1.1 a.1.4)
-              | inr d ↦ nearer at d.0 end (length words.tokens.items) (let f = bracket_forward words (at + 1) d.0 bracket d.4 in omega (arith, f)) (assigned_within words d.0 end d.1 d.5)
+              | inl a ↦ nearer at (at + 2) end (length words.tokens) (omega arith) (assigned_within words (at + 2) end a.1.1 a.1.4)
+              | inr d ↦ nearer at d.0 end (length words.tokens) (let f = bracket_forward words (at + 1) d.0 bracket d.4 in omega (arith, f)) (assigned_within words d.0 end d.1 d.5)
             ]
         ]
     ]
 
-pub word_within : (words : Words) (at end : ℕ) (x : WordView) → IsWord words at end x → (at < end) × (end ≤ length words.tokens.items)
-word_within words at end (Assign i t) h = nearer at (at + 2) end (length words.tokens.items) (omega arith) (assigned_within words (at + 2) end t h.2)
+pub word_within : (words : WordsView) (at end : ℕ) (x : WordView) → IsWord words at end x → (at < end) × (end ≤ length words.tokens)
+word_within words at end (Assign i t) h = nearer at (at + 2) end (length words.tokens) (omega arith) (assigned_within words (at + 2) end t h.2)
 word_within words at end (AssignAt i t) h =
     let e = expression_within words (at + 1 + 1) h.2.0 i h.2.2 in
-    nearer at h.0 end (length words.tokens.items) (omega (arith, e.0, h.2.4)) (assigned_within words h.0 end t h.3)
+    nearer at h.0 end (length words.tokens) (omega (arith, e.0, h.2.4)) (assigned_within words h.0 end t h.3)
 word_within words at end (G group code) h =
     elim h [
       | inl a ↦ let w = piece_within words (at + 1) (piece.Number a.0) a.2 tt in (omega (arith, a.4), omega (arith, a.4, w))
       | inr a ↦ let w = piece_within words at piece.Name a.0 tt in (omega (arith, a.2), omega (arith, a.2, w))
     ]
 word_within words at end (Axis address m t) h = axis_within words at end address m t h
-word_within words at end (Radius t) h = nearer at (at + 1) end (length words.tokens.items) (omega arith) (assigned_within words (at + 1) end t h.1)
+word_within words at end (Radius t) h = nearer at (at + 1) end (length words.tokens) (omega arith) (assigned_within words (at + 1) end t h.1)
 word_within words at end (Aux address bracket operand) h = aux_within words at end address bracket operand h
 word_within words at end End h = let w = piece_within words (at + 1) (piece.Number h.0) h.2 tt in (omega (arith, h.4), omega (arith, h.4, w))
 
@@ -197,7 +197,7 @@ word_within words at end End h = let w = piece_within words (at + 1) (piece.Numb
 abbrev pub NamesWord : List ℕ → Type 0
 NamesWord text = (is_word text (codes "CR") ≡ true) ⊎ ((is_spindle_word text ≡ true) ⊎ ((w : GWord) × (word_by_name text ≡ Some w)))
 
-abbrev pub StartsWord : Words → ℕ → Type 0
+abbrev pub StartsWord : WordsView → ℕ → Type 0
 StartsWord words at =
     ((b : ℕ) × (piece_at words at ≡ piece.Letter b) × ((b == 76) ≡ false) × ((b == 78) ≡ false))
     ⊎ ((piece_at words at ≡ piece.Name) × NamesWord (text_at words at))
@@ -205,20 +205,20 @@ StartsWord words at =
 abbrev Apart : ℕ → Type 0
 Apart b = ((b == 76) ≡ false) × ((b == 78) ≡ false)
 
-starts_letter : (words : Words) (at b : ℕ) → piece_at words at ≡ piece.Letter b → Apart b → StartsWord words at
+starts_letter : (words : WordsView) (at b : ℕ) → piece_at words at ≡ piece.Letter b → Apart b → StartsWord words at
 starts_letter words at b h a = inl (b, h, a.0, a.1)
 
-plain_starts : (words : Words) (at b : ℕ) → IsPlainAxis words at b → StartsWord words at
+plain_starts : (words : WordsView) (at b : ℕ) → IsPlainAxis words at b → StartsWord words at
 plain_starts words at b h =
     let P : ℕ → Type 0 = λ k. Apart k in
     starts_letter words at b h.0 (plain_letters P b h.1 (refl, refl) (refl, refl) (refl, refl) (refl, refl) (refl, refl) (refl, refl))
 
-aux_starts : (words : Words) (at b : ℕ) → IsAuxLetter words at b → StartsWord words at
+aux_starts : (words : WordsView) (at b : ℕ) → IsAuxLetter words at b → StartsWord words at
 aux_starts words at b h =
     let P : ℕ → Type 0 = λ k. Apart k in
     starts_letter words at b h.0 (aux_letters P b h.1 (refl, refl) (refl, refl) (refl, refl) (refl, refl) (refl, refl) (refl, refl))
 
-axis_starts : (words : Words) (at end : ℕ) (address : List ℕ) (m : Measure) (t : Tree) → IsAxisWord words at end address m t → StartsWord words at
+axis_starts : (words : WordsView) (at end : ℕ) (address : List ℕ) (m : Measure) (t : Tree) → IsAxisWord words at end address m t → StartsWord words at
 axis_starts words at end address m t h =
     elim h [
       | inl a ↦ plain_starts words at a.0 a.2
@@ -229,7 +229,7 @@ axis_starts words at end address m t h =
         ]
     ]
 
-aux_word_starts : (words : Words) (at end : ℕ) (address : List ℕ) (bracket : Option Tree) (operand : OperandView) → IsAux words at end address bracket operand → StartsWord words at
+aux_word_starts : (words : WordsView) (at end : ℕ) (address : List ℕ) (bracket : Option Tree) (operand : OperandView) → IsAux words at end address bracket operand → StartsWord words at
 aux_word_starts words at end address bracket operand h =
     elim h [
       | inl a ↦ aux_starts words at a.1.0 a.1.2
@@ -242,7 +242,7 @@ aux_word_starts words at end address bracket operand h =
         ]
     ]
 
-pub word_starts : (words : Words) (at end : ℕ) (x : WordView) → IsWord words at end x → StartsWord words at
+pub word_starts : (words : WordsView) (at end : ℕ) (x : WordView) → IsWord words at end x → StartsWord words at
 word_starts words at end (Assign i t) h = starts_letter words at 82 h.0 (refl, refl)
 word_starts words at end (AssignAt i t) h = starts_letter words at 82 h.1 (refl, refl)
 word_starts words at end (G group code) h =
@@ -274,7 +274,7 @@ names_follow text h =
         ]
     ]
 
-starts_behind : (words : Words) (at : ℕ) → StartsWord words at → Behind words at × (is_end (piece_at words at) ≡ false)
+starts_behind : (words : WordsView) (at : ℕ) → StartsWord words at → Behind words at × (is_end (piece_at words at) ≡ false)
 starts_behind words at h =
     elim h [
       | inl a ↦ (inr (inl (a.0, a.1)), ap is_end a.1)
@@ -282,7 +282,7 @@ starts_behind words at h =
     ]
 
 -- lists of words
-pub behind_list : (words : Words) (at end : ℕ) (xs : List WordView) → AreListed (IsWord words) at end xs → piece_at words end ≡ piece.End →
+pub behind_list : (words : WordsView) (at end : ℕ) (xs : List WordView) → AreListed (IsWord words) at end xs → piece_at words end ≡ piece.End →
     Behind words at × (not (is_end (piece_at words at)) ≡ not_empty xs)
 behind_list words at end [] h e =
     let P = λ (n : ℕ). piece_at words n ≡ piece.End in
@@ -291,7 +291,7 @@ behind_list words at end [] h e =
 behind_list words at end (x ∷ xs) h e =
     let s = starts_behind words at (word_starts words at h.0 x h.1) in (s.0, ap not s.1)
 
-words_steps : (words : Words) (xs before : List WordView) (at end : ℕ) → AreListed (IsWord words) at end xs → piece_at words end ≡ piece.End →
+words_steps : (words : WordsView) (xs before : List WordView) (at end : ℕ) → AreListed (IsWord words) at end xs → piece_at words end ≡ piece.End →
     Steps (λ ys. word_item_at words) before at end xs
 unfolding word_item_at
 words_steps words [] before at end h e = h
@@ -300,7 +300,7 @@ words_steps words (x ∷ xs) before at end h e =
     let w = word_within words at h.0 x h.1 in
     (h.0, w.0, rw (word_only words at h.0 x h.1 b.0, b.1) refl, words_steps words xs (before ++ x ∷ []) h.0 end h.2 e)
 
-item_same : (p : WordView × ℕ) (words : Words) (x : WordView) (more : Bool) (next : ℕ) →
+item_same : (p : WordView × ℕ) (words : WordsView) (x : WordView) (more : Bool) (next : ℕ) →
     ◌≡◌ {A = Result (Item WordView) ℕ} (Ok (p.0, not (is_end (piece_at words p.1)), p.1)) (Ok (x, more, next)) →
     (p ≡ (x, next)) × (not (is_end (piece_at words next)) ≡ more)
 item_same p words x more next h =
@@ -310,7 +310,7 @@ item_same p words x more next h =
     let b : not (is_end (piece_at words p.1)) ≡ more = ap (λ (q : WordView × Bool × ℕ). q.1) same in
     (ap (λ (y : WordView). (y, p.1)) a ∙ ap (λ (n : ℕ). (x, n)) c, ap (λ (n : ℕ). not (is_end (piece_at words n))) (sym c) ∙ b)
 
-item_found : (words : Words) (at : ℕ) (x : WordView) (more : Bool) (next : ℕ) → word_item_at words at ≡ Ok (x, more, next) →
+item_found : (words : WordsView) (at : ℕ) (x : WordView) (more : Bool) (next : ℕ) → word_item_at words at ≡ Ok (x, more, next) →
     IsWord words at next x × (not (is_end (piece_at words next)) ≡ more)
 unfolding word_item_at
 item_found words at x more next h =
@@ -322,13 +322,13 @@ pub end_is : (p : Piece) → not (is_end p) ≡ false → p ≡ piece.End
 end_is piece.End h = refl
 end_is p h = cc
 
-steps_words : (words : Words) (xs before : List WordView) (at end : ℕ) → Steps (λ ys. word_item_at words) before at end xs →
-    AreListed (IsWord words) at end xs × (IsTrue (not_empty xs) → (piece_at words end ≡ piece.End) × (end ≤ length words.tokens.items))
+steps_words : (words : WordsView) (xs before : List WordView) (at end : ℕ) → Steps (λ ys. word_item_at words) before at end xs →
+    AreListed (IsWord words) at end xs × (IsTrue (not_empty xs) → (piece_at words end ≡ piece.End) × (end ≤ length words.tokens))
 steps_words words [] before at end h = (h, λ i. cc)
 steps_words words (x ∷ []) before at end h =
     let i = item_found words at x false h.0 h.2 in
     let w = word_within words at h.0 x i.0 in
-    let P = λ (n : ℕ). (piece_at words n ≡ piece.End) × (n ≤ length words.tokens.items) in
+    let P = λ (n : ℕ). (piece_at words n ≡ piece.End) × (n ≤ length words.tokens) in
     ((h.0, i.0, h.3), λ k. subst P (sym h.3) (end_is (piece_at words h.0) i.1, w.1))
 steps_words words (x ∷ (y ∷ ys)) before at end h =
     let i = item_found words at x true h.0 h.2 in
@@ -336,22 +336,22 @@ steps_words words (x ∷ (y ∷ ys)) before at end h =
     ((h.0, i.0, r.0), λ k. r.1 refl)
 
 -- the end of the line
-pub line_end : (words : Words) (end : ℕ) → piece_at words end ≡ piece.End → end ≤ length words.tokens.items → end ≡ length words.tokens.items
+pub line_end : (words : WordsView) (end : ℕ) → piece_at words end ≡ piece.End → end ≤ length words.tokens → end ≡ length words.tokens
 line_end words end h w = omega (arith, past_end words end h, w)
 
-pub at_line_end : (words : Words) (end : ℕ) → end ≡ length words.tokens.items → piece_at words end ≡ piece.End
+pub at_line_end : (words : WordsView) (end : ℕ) → end ≡ length words.tokens → piece_at words end ≡ piece.End
 at_line_end words end h = sym (piece_past words end (omega (arith, h)))
 
-are_words : (words : Words) (at end : ℕ) (xs : List WordView) → AreListed (IsWord words) at end xs → IsTrue (not_empty xs) → AreWords words at end xs
+are_words : (words : WordsView) (at end : ℕ) (xs : List WordView) → AreListed (IsWord words) at end xs → IsTrue (not_empty xs) → AreWords words at end xs
 are_words words at end [] h k = cc
 are_words words at end (x ∷ xs) h k = h
 
-listed_words : (words : Words) (at end : ℕ) (xs : List WordView) → AreWords words at end xs → AreListed (IsWord words) at end xs × IsTrue (not_empty xs)
+listed_words : (words : WordsView) (at end : ℕ) (xs : List WordView) → AreWords words at end xs → AreListed (IsWord words) at end xs × IsTrue (not_empty xs)
 listed_words words at end [] h = absurd h
 listed_words words at end (x ∷ xs) h = (h, refl)
 
-pub words_form_found : (words : Words) (at : ℕ) (s : Statement) → words_form words at ≡ Ok s →
-    (xs : List WordView) × (s ≡ WordBlock xs) × AreWords words at (length words.tokens.items) xs
+pub words_form_found : (words : WordsView) (at : ℕ) (s : Statement) → words_form words at ≡ Ok s →
+    (xs : List WordView) × (s ≡ WordBlock xs) × AreWords words at (length words.tokens) xs
 unfolding words_form
 words_form_found words at s h =
     let b = bound _ _ _ h in
@@ -361,12 +361,12 @@ words_form_found words at s h =
     let e = r.1 l.0 in
     let same : WordBlock b.0.0 ≡ s = cc in
     let P = λ (n : ℕ). AreListed (IsWord words) at n b.0.0 in
-    (b.0.0, sym same, are_words words at (length words.tokens.items) b.0.0 (subst P (line_end words b.0.1 e.0 e.1) r.0) l.0)
+    (b.0.0, sym same, are_words words at (length words.tokens) b.0.0 (subst P (line_end words b.0.1 e.0 e.1) r.0) l.0)
 
-pub words_form_only : (words : Words) (at : ℕ) (xs : List WordView) → AreWords words at (length words.tokens.items) xs → words_form words at ≡ Ok (WordBlock xs)
+pub words_form_only : (words : WordsView) (at : ℕ) (xs : List WordView) → AreWords words at (length words.tokens) xs → words_form words at ≡ Ok (WordBlock xs)
 unfolding words_form
 words_form_only words at xs h =
-    let l = listed_words words at (length words.tokens.items) xs h in
-    let all = length words.tokens.items in
+    let l = listed_words words at (length words.tokens) xs h in
+    let all = length words.tokens in
     let s = words_steps words xs [] at all l.0 (at_line_end words all refl) in
     rw (list_only (λ ys. word_item_at words) words xs at all s l.1 (omega arith)) refl

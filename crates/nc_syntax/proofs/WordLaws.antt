@@ -1,8 +1,8 @@
--- Words: what is read as a word is spelled so.
+-- WordsView: what is read as a word is spelled so.
 use Rattle.std.proofs.Common.{◌≡◌, ℕ, ◌+◌, ◌<◌, ◌≤◌, List, [], ◌∷◌, length, refl, ap, sym, ◌∙◌, subst, inl, inr, Option, Some, None, Result, Ok, Err, Bool, true, false, cond, arith}
 use Rattle.std.specs.Prelude.{ℤ, ◌⊎◌, ◌==◌, ◌&&◌, ◌||◌, codes}
 use Rattle.std.proofs.lemmas.Bool.{eqb-true}
-use Rattle.block_scanner.specs.declared.Words.{Words}
+use Rattle.block_scanner.specs.WordsView.{WordsView}
 use Rattle.g_groups.specs.declared.GWord.{GWord}
 use Rattle.word_tables.specs.GroupWords.{word_by_number, word_by_name}
 use Rattle.nc_expressions.specs.Symbols.{is_word}
@@ -40,7 +40,7 @@ measured_moved P m k t u b d e h =
     let Q = λ (p : Measure × Tree × ℕ). P p.2 p.0 p.1 in
     subst Q same h
 
-pub assigned_found : (words : Words) (at end : ℕ) (t : Tree) → assigned_at words at ≡ Ok (t, end) → IsAssigned words at end t
+pub assigned_found : (words : WordsView) (at end : ℕ) (t : Tree) → assigned_at words at ≡ Ok (t, end) → IsAssigned words at end t
 unfolding assigned_at
 assigned_found words at end t h =
     let b = bound (assign_at words at (word_code words at)) (λ behind. value_at words behind) (t, end) h in
@@ -48,7 +48,7 @@ assigned_found words at end t h =
     let P = λ (n : ℕ). IsExpressionText words n end t in
     (a.0, subst P a.1 (value_found words b.0 end t b.2))
 
-pub bracketed_found : (words : Words) (at end : ℕ) (t : Tree) → piece_at words at ≡ piece.OpenBracket → bracketed_at words at ≡ Ok (t, end) → IsBracketed words at end t
+pub bracketed_found : (words : WordsView) (at end : ℕ) (t : Tree) → piece_at words at ≡ piece.OpenBracket → bracketed_at words at ≡ Ok (t, end) → IsBracketed words at end t
 unfolding bracketed_at
 bracketed_found words at end t o h =
     let b = bound (value_at words (at + 1)) _ (t, end) h in
@@ -57,7 +57,7 @@ bracketed_found words at end t o h =
     let P = λ (n : ℕ) (x : Tree). IsBracketed words at n x in
     moved P b.0.0 t c.0 end c.2 (b.0.1, o, value_found words (at + 1) b.0.1 b.0.0 b.1, k.0, k.1)
 
-pub enclosed_found : (words : Words) (at end : ℕ) (t : Tree) → enclosed_value words at ≡ Ok (t, end) → IsEnclosed words at end t
+pub enclosed_found : (words : WordsView) (at end : ℕ) (t : Tree) → enclosed_value words at ≡ Ok (t, end) → IsEnclosed words at end t
 unfolding enclosed_value
 enclosed_found words at end t h =
     let a = bound _ _ _ h in
@@ -69,7 +69,7 @@ enclosed_found words at end t h =
     let Q = λ (n : ℕ). IsExpressionText words n b.0.1 b.0.0 in
     moved P b.0.0 t c.0 end c.2 (b.0.1, o.0, subst Q o.1 (value_found words a.0 b.0.1 b.0.0 b.1), k.0, k.1)
 
-measured_found : (words : Words) (at end : ℕ) (m : Measure) (t : Tree) → measured_at words at ≡ Ok (m, t, end) → IsMeasured words at end m t
+measured_found : (words : WordsView) (at end : ℕ) (m : Measure) (t : Tree) → measured_at words at ≡ Ok (m, t, end) → IsMeasured words at end m t
 unfolding measured_at
 measured_found words at end m t h =
     let P = λ (n : ℕ) (k : Measure) (x : Tree). IsMeasured words at n k x in
@@ -95,7 +95,7 @@ text_is piece.Text h = refl
 text_is p h = cc
 
 -- an assignment to a parameter
-assignment_found : (words : Words) (at end : ℕ) (x : WordView) → piece_at words at ≡ piece.Letter 82 → assignment_at words (at + 1) ≡ Ok (x, end) → IsWord words at end x
+assignment_found : (words : WordsView) (at end : ℕ) (x : WordView) → piece_at words at ≡ piece.Letter 82 → assignment_at words (at + 1) ≡ Ok (x, end) → IsWord words at end x
 unfolding assignment_at
 assignment_found words at end x r h =
     let P = λ (n : ℕ) (y : WordView). IsWord words at n y in
@@ -118,7 +118,7 @@ group_found (Some w) next code x end h =
     let p = same_pair (G w.group w.code) x next end h in (w, refl, sym p.0, sym p.1)
 group_found None next code x end h = cc
 
-g_cases : (words : Words) (at end : ℕ) (x : WordView) (p : Piece) → piece_at words at ≡ piece.Letter 71 → piece_at words (at + 1) ≡ p →
+g_cases : (words : WordsView) (at end : ℕ) (x : WordView) (p : Piece) → piece_at words at ≡ piece.Letter 71 → piece_at words (at + 1) ≡ p →
     g_of_piece p (at + 1 + 1) (word_code words (at + 1)) ≡ Ok (x, end) → IsWord words at end x
 g_cases words at end x (piece.Number z) l e h =
     let g = group_found (word_by_number z) (at + 1 + 1) 57 x end h in
@@ -126,12 +126,12 @@ g_cases words at end x (piece.Number z) l e h =
     subst P (sym g.2) (inl (z, l, e, g.1, omega (arith, g.3)))
 g_cases words at end x p l e h = cc
 
-g_found : (words : Words) (at end : ℕ) (x : WordView) → piece_at words at ≡ piece.Letter 71 → g_at words (at + 1) ≡ Ok (x, end) → IsWord words at end x
+g_found : (words : WordsView) (at end : ℕ) (x : WordView) → piece_at words at ≡ piece.Letter 71 → g_at words (at + 1) ≡ Ok (x, end) → IsWord words at end x
 unfolding g_at
 g_found words at end x l h = g_cases words at end x (piece_at words (at + 1)) l refl h
 
 -- axes
-letter_found : (words : Words) (at letter end : ℕ) (x : WordView) → IsPlainAxis words at letter → letter_word words letter (at + 1) ≡ Ok (x, end) → IsWord words at end x
+letter_found : (words : WordsView) (at letter end : ℕ) (x : WordView) → IsPlainAxis words at letter → letter_word words letter (at + 1) ≡ Ok (x, end) → IsWord words at end x
 unfolding letter_word measured_word
 letter_found words at letter end x l h =
     let P = λ (n : ℕ) (y : WordView). IsWord words at n y in
@@ -145,13 +145,13 @@ letter_found words at letter end x l h =
           moved P (Axis (letter ∷ []) Modal (Number b.0.0)) x b.0.1 end b.2
             (inl (letter, b.0.0, l, constant_found words (at + 1) (word_code words (after_sign words (at + 1))) b.0.0 b.0.1 b.1, refl, refl, refl)))
 
-pub axis_name_found : (words : Words) (at letter : ℕ) → piece_at words at ≡ piece.Letter letter → has_axis_name words at ≡ true → IsAxisName words at (letter ∷ text_at words (at + 1))
+pub axis_name_found : (words : WordsView) (at letter : ℕ) → piece_at words at ≡ piece.Letter letter → has_axis_name words at ≡ true → IsAxisName words at (letter ∷ text_at words (at + 1))
 unfolding has_axis_name
 axis_name_found words at letter l h =
     let p = parts_true (is_axis_start (piece_at words at)) (has_digits words (at + 1)) h in
     (letter, l, sym (ap is_axis_start l) ∙ p.0, digits_found words (at + 1) p.1, refl)
 
-axis_word_found : (words : Words) (at letter end : ℕ) (x : WordView) → piece_at words at ≡ piece.Letter letter → has_axis_word words at ≡ true →
+axis_word_found : (words : WordsView) (at letter end : ℕ) (x : WordView) → piece_at words at ≡ piece.Letter letter → has_axis_word words at ≡ true →
     axis_word_at words letter at ≡ Ok (x, end) → IsWord words at end x
 unfolding has_axis_word axis_word_at measured_word
 axis_word_found words at letter end x l h k =
@@ -169,7 +169,7 @@ or_right : (a b : Bool) → b ≡ true → (a || b) ≡ true
 or_right true b h = refl
 or_right false b h = h
 
-slot_found : (words : Words) (at letter end : ℕ) (x : WordView) → piece_at words at ≡ piece.Letter letter → is_slot_letter letter ≡ true →
+slot_found : (words : WordsView) (at letter end : ℕ) (x : WordView) → piece_at words at ≡ piece.Letter letter → is_slot_letter letter ≡ true →
     slot_word_at words letter at ≡ Ok (x, end) → IsWord words at end x
 unfolding slot_word_at
 slot_found words at letter end x l s h =
@@ -177,7 +177,7 @@ slot_found words at letter end x l s h =
       (λ is ae. axis_word_found words at letter end x l is ae)
       (λ is ae. letter_found words at letter end x (l, or_left (is_slot_letter letter) (is_centre_letter letter) s) ae)
 
-other_axis_found : (words : Words) (at letter end : ℕ) (x : WordView) → piece_at words at ≡ piece.Letter letter →
+other_axis_found : (words : WordsView) (at letter end : ℕ) (x : WordView) → piece_at words at ≡ piece.Letter letter →
     other_axis_at words letter at ≡ Ok (x, end) → IsWord words at end x
 unfolding other_axis_at
 other_axis_found words at letter end x l h =
@@ -191,7 +191,7 @@ other_axis_found words at letter end x l h =
 program_end_letter : (letter : ℕ) (z : ℤ) → is_program_end letter z ≡ true → letter ≡ 77
 program_end_letter letter z h = eqb-true letter 77 (parts_true (letter == 77) _ h).0
 
-plain_aux_cases : (words : Words) (at letter end : ℕ) (z : ℤ) (x : WordView) (b : Bool) → is_program_end letter z ≡ b → IsAuxLetter words at letter → piece_at words (at + 1) ≡ piece.Number z →
+plain_aux_cases : (words : WordsView) (at letter end : ℕ) (z : ℤ) (x : WordView) (b : Bool) → is_program_end letter z ≡ b → IsAuxLetter words at letter → piece_at words (at + 1) ≡ piece.Number z →
     cond b End (Aux (letter ∷ []) None (Value (Number z))) ≡ x → end ≡ at + 2 → IsWord words at end x
 plain_aux_cases words at letter end z x true e l n h place =
     let m = program_end_letter letter z e in
@@ -201,7 +201,7 @@ plain_aux_cases words at letter end z x false e l n h place =
     let P = λ (y : WordView). IsWord words at end y in
     subst P h (inl (refl, (letter, z, l, n, e, refl, refl, place)))
 
-numbered_found : (words : Words) (at letter end : ℕ) (z : ℤ) (x : WordView) → IsAuxLetter words at letter → piece_at words (at + 1) ≡ piece.Number z →
+numbered_found : (words : WordsView) (at letter end : ℕ) (z : ℤ) (x : WordView) → IsAuxLetter words at letter → piece_at words (at + 1) ≡ piece.Number z →
     numbered_aux words letter z (at + 1) ≡ Ok (x, end) → IsWord words at end x
 unfolding numbered_aux has_digits_assign
 numbered_found words at letter end z x l n h =
@@ -219,7 +219,7 @@ numbered_found words at letter end z x l n h =
       (λ is ae. let p = same_pair (plain_aux letter z) x (at + 1 + 1) end ae in
           plain_aux_cases words at letter end z x (is_program_end letter z) refl l n p.0 (omega (arith, p.1)))
 
-operand_found : (words : Words) (at end : ℕ) (o : OperandView) → aux_value words at ≡ Ok (o, end) → IsOperand words at end o
+operand_found : (words : WordsView) (at end : ℕ) (o : OperandView) → aux_value words at ≡ Ok (o, end) → IsOperand words at end o
 unfolding aux_value
 operand_found words at end o h =
     let P = λ (k : ℕ) (y : OperandView). IsOperand words at k y in
@@ -227,7 +227,7 @@ operand_found words at end o h =
       (λ is ae. moved P (Text (unquoted (text_at words at))) o (at + 1) end ae (text_is (piece_at words at) is, refl, refl))
       (λ is ae. let b = bound _ _ _ ae in moved P (Value b.0.0) o b.0.1 end b.2 (value_found words at b.0.1 b.0.0 b.1))
 
-aux_other : (words : Words) (at letter end : ℕ) (x : WordView) (p : Piece) → IsAuxLetter words at letter → piece_at words (at + 1) ≡ p →
+aux_other : (words : WordsView) (at letter end : ℕ) (x : WordView) (p : Piece) → IsAuxLetter words at letter → piece_at words (at + 1) ≡ p →
     cond (is_assign p) (◌>>=◌ {B = WordView × ℕ} (aux_value words (at + 1 + 1)) (λ q. Ok (Aux (letter ∷ []) None q.0, q.1))) (Err (word_code words (at + 1))) ≡ Ok (x, end) → IsWord words at end x
 aux_other words at letter end x p l e h =
     let P = λ (k : ℕ) (y : WordView). IsWord words at k y in
@@ -238,16 +238,16 @@ aux_other words at letter end x p l e h =
     moved P (Aux (letter ∷ []) None b.0.0) x b.0.1 end b.2
       (inr (inl (refl, (letter, l, e ∙ assign_is p t.0, subst R place (operand_found words (at + 1 + 1) b.0.1 b.0.0 b.1), refl))))
 
-aux_cases : (words : Words) (at letter end : ℕ) (x : WordView) (p : Piece) → IsAuxLetter words at letter → piece_at words (at + 1) ≡ p →
+aux_cases : (words : WordsView) (at letter end : ℕ) (x : WordView) (p : Piece) → IsAuxLetter words at letter → piece_at words (at + 1) ≡ p →
     aux_of words letter (at + 1) p ≡ Ok (x, end) → IsWord words at end x
 aux_cases words at letter end x (piece.Number z) l e h = numbered_found words at letter end z x l e h
 aux_cases words at letter end x p l e h = aux_other words at letter end x p l e h
 
-aux_found : (words : Words) (at letter end : ℕ) (x : WordView) → IsAuxLetter words at letter → aux_at words letter (at + 1) ≡ Ok (x, end) → IsWord words at end x
+aux_found : (words : WordsView) (at letter end : ℕ) (x : WordView) → IsAuxLetter words at letter → aux_at words letter (at + 1) ≡ Ok (x, end) → IsWord words at end x
 unfolding aux_at
 aux_found words at letter end x l h = aux_cases words at letter end x (piece_at words (at + 1)) l refl h
 
-bracket_found : (words : Words) (at end : ℕ) (i : Option Tree) → bracket_at words at ≡ Ok (i, end) → IsBracket words at end i
+bracket_found : (words : WordsView) (at end : ℕ) (i : Option Tree) → bracket_at words at ≡ Ok (i, end) → IsBracket words at end i
 unfolding bracket_at
 bracket_found words at end i h =
     let P = λ (k : ℕ) (j : Option Tree). IsBracket words at k j in
@@ -256,7 +256,7 @@ bracket_found words at end i h =
           moved P (Some b.0.0) i b.0.1 end b.2 (bracketed_found words at b.0.1 b.0.0 (open_bracket_is (piece_at words at) is) b.1))
       (λ is ae. moved P None i at end ae refl)
 
-spindle_found : (words : Words) (at end : ℕ) (x : WordView) → piece_at words at ≡ piece.Name → is_spindle_word (text_at words at) ≡ true →
+spindle_found : (words : WordsView) (at end : ℕ) (x : WordView) → piece_at words at ≡ piece.Name → is_spindle_word (text_at words at) ≡ true →
     spindle_at words (text_at words at) (at + 1) ≡ Ok (x, end) → IsWord words at end x
 unfolding spindle_at
 spindle_found words at end x n s h =
@@ -270,11 +270,11 @@ pub name_is : (p : Piece) → is_name p ≡ true → p ≡ piece.Name
 name_is piece.Name h = refl
 name_is p h = cc
 
-pub keyword_of : (words : Words) (at : ℕ) (word : List ℕ) → piece_at words at ≡ piece.Name → is_word (text_at words at) word ≡ true → IsKeyword words at word
+pub keyword_of : (words : WordsView) (at : ℕ) (word : List ℕ) → piece_at words at ≡ piece.Name → is_word (text_at words at) word ≡ true → IsKeyword words at word
 unfolding is_keyword
 keyword_of words at word n h = ap (λ p. is_name p && is_word (text_at words at) word) n ∙ h
 
-name_word_found : (words : Words) (at end : ℕ) (x : WordView) → piece_at words at ≡ piece.Name → name_word words (text_at words at) (at + 1) ≡ Ok (x, end) → IsWord words at end x
+name_word_found : (words : WordsView) (at end : ℕ) (x : WordView) → piece_at words at ≡ piece.Name → name_word words (text_at words at) (at + 1) ≡ Ok (x, end) → IsWord words at end x
 unfolding name_word
 name_word_found words at end x n h =
     let P = λ (k : ℕ) (y : WordView). IsWord words at k y in
@@ -287,10 +287,10 @@ name_word_found words at end x n h =
               let Q = λ (y : WordView). IsWord words at end y in
               subst Q (sym g.2) (inr (n, g.1, g.3))))
 
-letter_is : (words : Words) (at b k : ℕ) → piece_at words at ≡ piece.Letter b → (b == k) ≡ true → piece_at words at ≡ piece.Letter k
+letter_is : (words : WordsView) (at b k : ℕ) → piece_at words at ≡ piece.Letter b → (b == k) ≡ true → piece_at words at ≡ piece.Letter k
 letter_is words at b k l h = l ∙ ap (λ n. piece.Letter n) (eqb-true b k h)
 
-lettered_found : (words : Words) (at letter end : ℕ) (x : WordView) → piece_at words at ≡ piece.Letter letter → lettered_word words letter at ≡ Ok (x, end) → IsWord words at end x
+lettered_found : (words : WordsView) (at letter end : ℕ) (x : WordView) → piece_at words at ≡ piece.Letter letter → lettered_word words letter at ≡ Ok (x, end) → IsWord words at end x
 unfolding lettered_word
 lettered_found words at letter end x l h =
     one_of _ _ _ _ h
@@ -305,12 +305,12 @@ lettered_found words at letter end x l h =
                       (λ et ee. aux_found words at letter end x (l, et) ee)
                       (λ et ee. other_axis_found words at letter end x l (taken _ _ _ _ ee).1)))))
 
-word_cases : (words : Words) (at end : ℕ) (x : WordView) (p : Piece) → piece_at words at ≡ p → word_of_piece words at p ≡ Ok (x, end) → IsWord words at end x
+word_cases : (words : WordsView) (at end : ℕ) (x : WordView) (p : Piece) → piece_at words at ≡ p → word_of_piece words at p ≡ Ok (x, end) → IsWord words at end x
 word_cases words at end x (piece.Letter b) e h = lettered_found words at b end x e h
 word_cases words at end x piece.Name e h = name_word_found words at end x e h
 word_cases words at end x p e h = cc
 
 -- what is read as a word is spelled so
-pub word_found : (words : Words) (at end : ℕ) (x : WordView) → word_at words at ≡ Ok (x, end) → IsWord words at end x
+pub word_found : (words : WordsView) (at end : ℕ) (x : WordView) → word_at words at ≡ Ok (x, end) → IsWord words at end x
 unfolding word_at
 word_found words at end x h = word_cases words at end x (piece_at words at) refl h

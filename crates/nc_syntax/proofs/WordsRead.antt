@@ -1,10 +1,10 @@
--- Words: what is spelled as a word is read so, where another word or the end of the line stands behind it.
+-- WordsView: what is spelled as a word is read so, where another word or the end of the line stands behind it.
 use Rattle.std.proofs.Common.{◌≡◌, ℕ, ◌+◌, ◌<◌, ◌≤◌, List, [], ◌∷◌, length, drop, refl, ap, sym, ◌∙◌, subst, inl, inr, Option, Some, None, Result, Ok, Err, Bool, true, false, cond, arith}
 use Rattle.std.specs.Prelude.{ℤ, ◌⊎◌, ◌==◌, ◌&&◌, ◌||◌, codes}
 use Rattle.std.specs.Option.{option_or}
 use Rattle.std.specs.Str.{bytes_eq, str_to_ascii_lowercase}
 use Rattle.std.proofs.lemmas.Bool.{eqb-true}
-use Rattle.block_scanner.specs.declared.Words.{Words}
+use Rattle.block_scanner.specs.WordsView.{WordsView}
 use Rattle.g_groups.specs.declared.GWord.{GWord}
 use Rattle.g_groups.specs.Groups.{Spelling, g as numbered, name as named, Group, code_of, groups}
 use Rattle.word_tables.specs.GroupWords.{word_among, word_in, is_name as writes_name, word_by_number, word_by_name}
@@ -63,30 +63,30 @@ same_word a b v h = ap (λ l. bytes_eq l (str_to_ascii_lowercase v)) h
 pub other_word : (text w v : List ℕ) → is_word text w ≡ true → is_word w v ≡ false → is_word text v ≡ false
 other_word text w v h n = same_word text w v (same_letters text w h) ∙ n
 
-pub other_keyword : (words : Words) (at : ℕ) (w v : List ℕ) → IsKeyword words at w → is_word w v ≡ false → is_keyword words at v ≡ false
+pub other_keyword : (words : WordsView) (at : ℕ) (w v : List ℕ) → IsKeyword words at w → is_word w v ≡ false → is_keyword words at v ≡ false
 unfolding is_keyword
 other_keyword words at w v h n =
     last_false (is_name (piece_at words at)) (is_word (text_at words at) v) (other_word (text_at words at) w v (keyword_text words at w h) n)
 
 -- no expression begins with this name
-pub no_keyword : (words : Words) (at end : ℕ) (t : Tree) (word : List ℕ) → IsExpressionText words at end t → (Begins (name_symbol word) → ⊥) → is_keyword words at word ≡ false
+pub no_keyword : (words : WordsView) (at end : ℕ) (t : Tree) (word : List ℕ) → IsExpressionText words at end t → (Begins (name_symbol word) → ⊥) → is_keyword words at word ≡ false
 no_keyword words at end t word h never = false_of (is_keyword words at word) (λ k.
     let e = same_symbol (text_at words at) word (same_letters (text_at words at) word (keyword_text words at word k)) in
     let P : Symbol → Type 0 = λ s. Begins s in
     never (subst P e (expression_begins words at end t piece.Name h (keyword_piece words at word k) tt)))
 
-pub no_text : (words : Words) (at end : ℕ) (t : Tree) → IsExpressionText words at end t → is_text (piece_at words at) ≡ false
+pub no_text : (words : WordsView) (at end : ℕ) (t : Tree) → IsExpressionText words at end t → is_text (piece_at words at) ≡ false
 no_text words at end t h = false_of (is_text (piece_at words at)) (λ k.
     expression_begins words at end t piece.Text h (text_is (piece_at words at) k) tt)
 
 -- what can stand behind a word: the end, a letter, or a name that goes on with no expression
-abbrev pub Behind : Words → ℕ → Type 0
+abbrev pub Behind : WordsView → ℕ → Type 0
 Behind words at =
     (piece_at words at ≡ piece.End)
     ⊎ (((b : ℕ) × (piece_at words at ≡ piece.Letter b))
     ⊎ ((piece_at words at ≡ piece.Name) × Follows (drop at (symbols_of words))))
 
-pub behind_follows : (words : Words) (at : ℕ) → Behind words at → Follows (drop at (symbols_of words))
+pub behind_follows : (words : WordsView) (at : ℕ) → Behind words at → Follows (drop at (symbols_of words))
 behind_follows words at h =
     elim h [
       | inl a ↦ follows_end words at a
@@ -96,7 +96,7 @@ behind_follows words at h =
         ]
     ]
 
-pub behind_assign : (words : Words) (at : ℕ) → Behind words at → is_assign (piece_at words at) ≡ false
+pub behind_assign : (words : WordsView) (at : ℕ) → Behind words at → is_assign (piece_at words at) ≡ false
 behind_assign words at h =
     elim h [
       | inl a ↦ ap is_assign a
@@ -107,23 +107,23 @@ behind_assign words at h =
     ]
 
 -- parts of words
-pub assigned_only : (words : Words) (at end : ℕ) (t : Tree) → IsAssigned words at end t → Follows (drop end (symbols_of words)) → assigned_at words at ≡ Ok (t, end)
+pub assigned_only : (words : WordsView) (at end : ℕ) (t : Tree) → IsAssigned words at end t → Follows (drop end (symbols_of words)) → assigned_at words at ≡ Ok (t, end)
 unfolding assigned_at
 assigned_only words at end t h f = rw (assign_only words at (word_code words at) h.0) (value_only words (at + 1) end t h.1 f)
 
-pub bracketed_only : (words : Words) (at end : ℕ) (t : Tree) → IsBracketed words at end t → bracketed_at words at ≡ Ok (t, end)
+pub bracketed_only : (words : WordsView) (at end : ℕ) (t : Tree) → IsBracketed words at end t → bracketed_at words at ≡ Ok (t, end)
 unfolding bracketed_at
 bracketed_only words at end t h =
     rw (value_only words (at + 1) h.0 t h.2 (follows_piece words h.0 piece.CloseBracket h.3 tt tt), close_bracket_only words h.0 (word_code words h.0) h.3)
       (ap (λ n. Ok (t, n)) (sym h.4))
 
-pub enclosed_only : (words : Words) (at end : ℕ) (t : Tree) → IsEnclosed words at end t → enclosed_value words at ≡ Ok (t, end)
+pub enclosed_only : (words : WordsView) (at end : ℕ) (t : Tree) → IsEnclosed words at end t → enclosed_value words at ≡ Ok (t, end)
 unfolding enclosed_value
 enclosed_only words at end t h =
     rw (open_only words at (word_code words at) h.1, value_only words (at + 1) h.0 t h.2 (follows_piece words h.0 piece.Close h.3 tt tt), close_only words h.0 (word_code words h.0) h.3)
       (ap (λ n. Ok (t, n)) (sym h.4))
 
-measured_only : (words : Words) (at end : ℕ) (m : Measure) (t : Tree) → IsMeasured words at end m t → Follows (drop end (symbols_of words)) →
+measured_only : (words : WordsView) (at end : ℕ) (m : Measure) (t : Tree) → IsMeasured words at end m t → Follows (drop end (symbols_of words)) →
     measured_at words at ≡ Ok (m, t, end)
 unfolding measured_at name_symbol value_symbol
 measured_only words at end Modal t h f =
@@ -133,15 +133,15 @@ measured_only words at end Incremental t h f =
     rw (other_keyword words at (codes "IC") (codes "AC") h.0 refl, h.0, enclosed_only words (at + 1) end t h.1) refl
 
 -- from the letter on
-pub letter_read : (words : Words) (at b : ℕ) → piece_at words at ≡ piece.Letter b → word_at words at ≡ lettered_word words b at
+pub letter_read : (words : WordsView) (at b : ℕ) → piece_at words at ≡ piece.Letter b → word_at words at ≡ lettered_word words b at
 unfolding word_at
 letter_read words at b h = ap (word_of_piece words at) h
 
-pub name_read : (words : Words) (at : ℕ) → piece_at words at ≡ piece.Name → word_at words at ≡ name_word words (text_at words at) (at + 1)
+pub name_read : (words : WordsView) (at : ℕ) → piece_at words at ≡ piece.Name → word_at words at ≡ name_word words (text_at words at) (at + 1)
 unfolding word_at
 name_read words at h = ap (word_of_piece words at) h
 
-pub assign_read : (words : Words) (at end i : ℕ) (t : Tree) → IsWord words at end (Assign i t) → Behind words end → word_at words at ≡ Ok (Assign i t, end)
+pub assign_read : (words : WordsView) (at end i : ℕ) (t : Tree) → IsWord words at end (Assign i t) → Behind words end → word_at words at ≡ Ok (Assign i t, end)
 unfolding lettered_word assignment_at
 assign_read words at end i t h f =
     let place : at + 1 + 1 ≡ at + 2 = omega arith in
@@ -149,7 +149,7 @@ assign_read words at end i t h f =
     letter_read words at 82 h.0
     ∙ rw (h.1.1, index_only words (at + 1) (word_code words (at + 1)) i h.1, assigned_only words (at + 1 + 1) end t (subst P (sym place) h.2) (behind_follows words end f)) refl
 
-pub assign_at_read : (words : Words) (at end : ℕ) (i t : Tree) → IsWord words at end (AssignAt i t) → Behind words end → word_at words at ≡ Ok (AssignAt i t, end)
+pub assign_at_read : (words : WordsView) (at end : ℕ) (i t : Tree) → IsWord words at end (AssignAt i t) → Behind words end → word_at words at ≡ Ok (AssignAt i t, end)
 unfolding lettered_word assignment_at
 assign_at_read words at end i t h f =
     letter_read words at 82 h.1
@@ -174,30 +174,30 @@ aux_letters P b h a1 a2 a3 a4 a5 a6 =
       (λ h. letter_case P b 77 h a1) (λ h. letter_case P b 83 h a2)) (λ h. letter_case P b 84 h a3)) (λ h. letter_case P b 68 h a4))
       (λ h. letter_case P b 70 h a5)) (λ h. letter_case P b 72 h a6)
 
-pub axis_name_only : (words : Words) (at : ℕ) (address : List ℕ) → IsAxisName words at address → has_axis_name words at ≡ true
+pub axis_name_only : (words : WordsView) (at : ℕ) (address : List ℕ) → IsAxisName words at address → has_axis_name words at ≡ true
 unfolding has_axis_name
 axis_name_only words at address h =
     both (is_axis_start (piece_at words at)) (has_digits words (at + 1)) (ap is_axis_start h.1 ∙ h.2) (digits_only words (at + 1) h.3)
 
-axis_word_only : (words : Words) (at : ℕ) (address : List ℕ) → IsAxisName words at address → piece_at words (at + 2) ≡ piece.Assign → has_axis_word words at ≡ true
+axis_word_only : (words : WordsView) (at : ℕ) (address : List ℕ) → IsAxisName words at address → piece_at words (at + 2) ≡ piece.Assign → has_axis_word words at ≡ true
 unfolding has_axis_word
 axis_word_only words at address h a = both (has_axis_name words at) (is_assign (piece_at words (at + 2))) (axis_name_only words at address h) (ap is_assign a)
 
-no_assign_behind : (words : Words) (at : ℕ) → is_assign (piece_at words (at + 2)) ≡ false → has_axis_word words at ≡ false
+no_assign_behind : (words : WordsView) (at : ℕ) → is_assign (piece_at words (at + 2)) ≡ false → has_axis_word words at ≡ false
 unfolding has_axis_word
 no_assign_behind words at h = last_false (has_axis_name words at) (is_assign (piece_at words (at + 2))) h
 
-no_digits_behind : (words : Words) (at : ℕ) → has_digits words (at + 1) ≡ false → has_axis_word words at ≡ false
+no_digits_behind : (words : WordsView) (at : ℕ) → has_digits words (at + 1) ≡ false → has_axis_word words at ≡ false
 unfolding has_axis_word has_axis_name
 no_digits_behind words at h =
     first_false (is_axis_start (piece_at words at) && has_digits words (at + 1)) (is_assign (piece_at words (at + 2)))
       (last_false (is_axis_start (piece_at words at)) (has_digits words (at + 1)) h)
 
-pub no_digits : (words : Words) (at : ℕ) (p : Piece) → piece_at words at ≡ p → ((text : List ℕ) → is_digits_piece p text ≡ false) → has_digits words at ≡ false
+pub no_digits : (words : WordsView) (at : ℕ) (p : Piece) → piece_at words at ≡ p → ((text : List ℕ) → is_digits_piece p text ≡ false) → has_digits words at ≡ false
 unfolding has_digits
 no_digits words at p h f = ap (λ q. is_digits_piece q (text_at words at)) h ∙ f (text_at words at)
 
-named_axis_read : (words : Words) (at : ℕ) (address : List ℕ) (h : IsAxisName words at address) → piece_at words (at + 2) ≡ piece.Assign →
+named_axis_read : (words : WordsView) (at : ℕ) (address : List ℕ) (h : IsAxisName words at address) → piece_at words (at + 2) ≡ piece.Assign →
     word_at words at ≡ measured_word words (h.0 ∷ text_at words (at + 1)) (at + 3)
 unfolding lettered_word slot_word_at other_axis_at axis_word_at
 named_axis_read words at address h a =
@@ -206,14 +206,14 @@ named_axis_read words at address h a =
     letter_read words at h.0 h.1
     ∙ axis_letters P h.0 h.2 (rw t refl) (rw t refl) (rw t refl) (rw t refl) (rw t refl) (rw t refl) (rw t refl) (rw t refl) (rw t refl)
 
-plain_axis_read : (words : Words) (at letter : ℕ) → IsPlainAxis words at letter → has_axis_word words at ≡ false → word_at words at ≡ letter_word words letter (at + 1)
+plain_axis_read : (words : WordsView) (at letter : ℕ) → IsPlainAxis words at letter → has_axis_word words at ≡ false → word_at words at ≡ letter_word words letter (at + 1)
 unfolding lettered_word slot_word_at
 plain_axis_read words at letter h t =
     let P : ℕ → Type 0 = λ b. lettered_word words b at ≡ letter_word words b (at + 1) in
     letter_read words at letter h.0 ∙ plain_letters P letter h.1 (rw t refl) (rw t refl) (rw t refl) refl refl refl
 
 -- a number with its sign behind a plain axis
-signed_no_word : (words : Words) (at end : ℕ) (z : ℤ) → IsSignedNumber words (at + 1) end z → Behind words end → has_axis_word words at ≡ false
+signed_no_word : (words : WordsView) (at end : ℕ) (z : ℤ) → IsSignedNumber words (at + 1) end z → Behind words end → has_axis_word words at ≡ false
 signed_no_word words at end z h f =
     elim h [
       | inl a ↦ let place : end ≡ at + 2 = omega (arith, a.1) in
@@ -225,7 +225,7 @@ signed_no_word words at end z h f =
         ]
     ]
 
-pub signed_no_assign : (words : Words) (at end : ℕ) (z : ℤ) → IsSignedNumber words at end z → is_assign (piece_at words at) ≡ false
+pub signed_no_assign : (words : WordsView) (at end : ℕ) (z : ℤ) → IsSignedNumber words at end z → is_assign (piece_at words at) ≡ false
 signed_no_assign words at end z h =
     elim h [
       | inl a ↦ ap is_assign a.0
@@ -235,7 +235,7 @@ signed_no_assign words at end z h =
         ]
     ]
 
-pub axis_read : (words : Words) (at end : ℕ) (address : List ℕ) (m : Measure) (t : Tree) → IsAxisWord words at end address m t → Behind words end →
+pub axis_read : (words : WordsView) (at end : ℕ) (address : List ℕ) (m : Measure) (t : Tree) → IsAxisWord words at end address m t → Behind words end →
     word_at words at ≡ Ok (Axis address m t, end)
 unfolding letter_word measured_word
 axis_read words at end address m t h f =
@@ -253,13 +253,13 @@ axis_read words at end address m t h f =
     ]
 
 -- words that move nothing
-aux_read : (words : Words) (at letter : ℕ) (p : Piece) → IsAuxLetter words at letter → piece_at words (at + 1) ≡ p → word_at words at ≡ aux_of words letter (at + 1) p
+aux_read : (words : WordsView) (at letter : ℕ) (p : Piece) → IsAuxLetter words at letter → piece_at words (at + 1) ≡ p → word_at words at ≡ aux_of words letter (at + 1) p
 unfolding lettered_word aux_at
 aux_read words at letter p h e =
     let P : ℕ → Type 0 = λ b. lettered_word words b at ≡ aux_of words b (at + 1) (piece_at words (at + 1)) in
     letter_read words at letter h.0 ∙ aux_letters P letter h.1 refl refl refl refl refl refl ∙ ap (aux_of words letter (at + 1)) e
 
-numbered_read : (words : Words) (at end : ℕ) (address : List ℕ) (operand : OperandView) → IsNumberedAux words at end address operand → Behind words end →
+numbered_read : (words : WordsView) (at end : ℕ) (address : List ℕ) (operand : OperandView) → IsNumberedAux words at end address operand → Behind words end →
     word_at words at ≡ Ok (Aux address None operand, end)
 unfolding numbered_aux has_digits_assign
 numbered_read words at end address operand h f =
@@ -268,14 +268,14 @@ numbered_read words at end address operand h f =
     let none = last_false (has_digits words (at + 1)) (is_assign (piece_at words (at + 1 + 1))) (subst P place (behind_assign words end f)) in
     aux_read words at h.0 (piece.Number h.1) h.2 h.3 ∙ rw (none, h.4, h.5, h.6, place) refl
 
-operand_only : (words : Words) (at end : ℕ) (o : OperandView) → IsOperand words at end o → Follows (drop end (symbols_of words)) → aux_value words at ≡ Ok (o, end)
+operand_only : (words : WordsView) (at end : ℕ) (o : OperandView) → IsOperand words at end o → Follows (drop end (symbols_of words)) → aux_value words at ≡ Ok (o, end)
 unfolding aux_value
 operand_only words at end (Value t) h f =
     rw (no_text words at end t h, value_only words at end t h f) refl
 operand_only words at end (Text bytes) h f = rw (h.0, h.1, h.2) refl
 operand_only words at end (AxisName name) h f = absurd h
 
-assigned_aux_read : (words : Words) (at end : ℕ) (address : List ℕ) (operand : OperandView) → IsAssignedAux words at end address operand → Behind words end →
+assigned_aux_read : (words : WordsView) (at end : ℕ) (address : List ℕ) (operand : OperandView) → IsAssignedAux words at end address operand → Behind words end →
     word_at words at ≡ Ok (Aux address None operand, end)
 assigned_aux_read words at end address operand h f =
     let place : at + 1 + 1 ≡ at + 2 = omega arith in
@@ -283,7 +283,7 @@ assigned_aux_read words at end address operand h f =
     aux_read words at h.0 piece.Assign h.1 h.2
     ∙ rw (operand_only words (at + 1 + 1) end operand (subst P (sym place) h.3) (behind_follows words end f), h.4) refl
 
-extended_read : (words : Words) (at end : ℕ) (address : List ℕ) (operand : OperandView) → IsExtendedAux words at end address operand → Behind words end →
+extended_read : (words : WordsView) (at end : ℕ) (address : List ℕ) (operand : OperandView) → IsExtendedAux words at end address operand → Behind words end →
     word_at words at ≡ Ok (Aux address None operand, end)
 unfolding numbered_aux has_digits_assign
 extended_read words at end address operand h f =
@@ -302,21 +302,21 @@ spindle_no_radius text h =
       (λ h. other_word text (codes "SPOS") (codes "CR") h refl) (λ h. other_word text (codes "SPOSA") (codes "CR") h refl))
       (λ h. other_word text (codes "LIMS") (codes "CR") h refl)) (λ h. other_word text (codes "SF") (codes "CR") h refl)
 
-bracket_only : (words : Words) (at end : ℕ) (i : Option Tree) → IsBracket words at end i → piece_at words end ≡ piece.Assign → bracket_at words at ≡ Ok (i, end)
+bracket_only : (words : WordsView) (at end : ℕ) (i : Option Tree) → IsBracket words at end i → piece_at words end ≡ piece.Assign → bracket_at words at ≡ Ok (i, end)
 unfolding bracket_at
 bracket_only words at end None h a =
     let P = λ (n : ℕ). piece_at words n ≡ piece.Assign in
     rw (subst P h a) (ap (λ n. Ok (None, n)) (sym h))
 bracket_only words at end (Some t) h a = rw (h.1, bracketed_only words at end t h) refl
 
-spindle_read : (words : Words) (at end : ℕ) (address : List ℕ) (bracket : Option Tree) (operand : OperandView) → IsSpindleWord words at end address bracket operand →
+spindle_read : (words : WordsView) (at end : ℕ) (address : List ℕ) (bracket : Option Tree) (operand : OperandView) → IsSpindleWord words at end address bracket operand →
     Behind words end → word_at words at ≡ Ok (Aux address bracket operand, end)
 unfolding name_word spindle_at
 spindle_read words at end address bracket operand h f =
     name_read words at h.2
     ∙ rw (spindle_no_radius (text_at words at) h.3, h.3, bracket_only words (at + 1) h.0 bracket h.4 h.5.0, assigned_only words h.0 end h.1 h.5 (behind_follows words end f), h.6, h.7) refl
 
-pub aux_only : (words : Words) (at end : ℕ) (address : List ℕ) (bracket : Option Tree) (operand : OperandView) → IsAux words at end address bracket operand →
+pub aux_only : (words : WordsView) (at end : ℕ) (address : List ℕ) (bracket : Option Tree) (operand : OperandView) → IsAux words at end address bracket operand →
     Behind words end → word_at words at ≡ Ok (Aux address bracket operand, end)
 aux_only words at end address bracket operand h f =
     elim h [
@@ -330,7 +330,7 @@ aux_only words at end address bracket operand h f =
         ]
     ]
 
-pub program_end_read : (words : Words) (at end : ℕ) → IsProgramEnd words at end → Behind words end → word_at words at ≡ Ok (End, end)
+pub program_end_read : (words : WordsView) (at end : ℕ) → IsProgramEnd words at end → Behind words end → word_at words at ≡ Ok (End, end)
 unfolding numbered_aux has_digits_assign
 program_end_read words at end h f =
     let place : end ≡ at + 1 + 1 = omega (arith, h.4) in

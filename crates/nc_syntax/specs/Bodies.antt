@@ -1,7 +1,7 @@
 -- What the body of a block says: its first token chooses the form.
 use Rattle.std.specs.Prelude.{ℕ, ◌+◌, ◌==◌, ◌&&◌, Bool, true, false, List, Option, Some, None, Result, Ok, if◌then◌else◌, codes}
 use Rattle.std.specs.Option.{option_or}
-use Rattle.block_scanner.specs.declared.Words.{Words}
+use Rattle.block_scanner.specs.WordsView.{WordsView}
 use Rattle.word_tables.specs.Tables.{is_table_word}
 use Rattle.nc_expressions.specs.Symbols.{is_word}
 use Rattle.nc_blocks.specs.declared.blocks.CoordWord.{CoordWord}
@@ -88,7 +88,7 @@ form_of text =
     (option_or (structure_name text) (option_or (control_name text) (option_or (frame_name text) (coordination_name text))))
 
 -- the form of a control word, behind its name
-unfoldable pub control_form : Words → Control → ℕ → Result Statement ℕ
+unfoldable pub control_form : WordsView → Control → ℕ → Result Statement ℕ
 control_form words control.If at = if_form words at
 control_form words control.Else at = alone words at Else
 control_form words control.EndIf at = alone words at EndIf
@@ -106,7 +106,7 @@ control_form words control.Return at = alone words at Return
 control_form words control.Proc at = proc_form words at
 
 -- the form of a coordination word, behind its name
-unfoldable pub coordination_form : Words → CoordWord → ℕ → Result Statement ℕ
+unfoldable pub coordination_form : WordsView → CoordWord → ℕ → Result Statement ℕ
 coordination_form words coord.WaitM at = arguments_form words coord.WaitM at
 coordination_form words coord.WaitMC at = arguments_form words coord.WaitMC at
 coordination_form words coord.SetM at = arguments_form words coord.SetM at
@@ -119,7 +119,7 @@ coordination_form words coord.Get at = axes_form words coord.Get at
 coordination_form words coord.CProt at = cprot_form words coord.CProt at
 
 -- a form, behind its first name
-unfoldable pub form_body : Words → Form → ℕ → Result Statement ℕ
+unfoldable pub form_body : WordsView → Form → ℕ → Result Statement ℕ
 form_body words (form.Jump way) at = jump_form words way at
 form_body words (form.Control which) at = control_form words which at
 form_body words (form.Shape which) at = shape_form words which at
@@ -130,13 +130,13 @@ form_body words form.Stopre at = alone words at Message
 form_body words form.Setms at = setms_form words at
 form_body words form.Workpiece at = workpiece_form words at
 
-abbrev pub named_form : Words → Option Form → List ℕ → ℕ → Result Statement ℕ
+abbrev pub named_form : WordsView → Option Form → List ℕ → ℕ → Result Statement ℕ
 named_form words (Some which) text at = form_body words which (at + 1)
 named_form words None text at =
     if is_table_word text then words_form words at else call_form words (name_of text) (at + 1)
 
 -- a body that begins with a name: a form, a call or a word block
-unfoldable pub named_body : Words → List ℕ → ℕ → Result Statement ℕ
+unfoldable pub named_body : WordsView → List ℕ → ℕ → Result Statement ℕ
 named_body words text at = named_form words (form_of text) text at
 
 abbrev pub is_number : Piece → Bool
@@ -144,16 +144,16 @@ is_number (piece.Number z) = true
 is_number one = false
 
 -- a body that begins with this letter: L with digits is a call; 76 is 'L'
-unfoldable pub lettered_body : Words → ℕ → ℕ → Result Statement ℕ
+unfoldable pub lettered_body : WordsView → ℕ → ℕ → Result Statement ℕ
 lettered_body words letter at =
     if (letter == 76) && is_number (piece_at words (at + 1)) then number_call_form words (at + 1) else words_form words at
 
-abbrev pub body_of : Words → ℕ → Piece → Result Statement ℕ
+abbrev pub body_of : WordsView → ℕ → Piece → Result Statement ℕ
 body_of words at piece.End = Ok Empty
 body_of words at piece.Name = named_body words (text_at words at) at
 body_of words at (piece.Letter b) = lettered_body words b at
 body_of words at one = words_form words at
 
 -- the body from a place on
-unfoldable pub body_at : Words → ℕ → Result Statement ℕ
+unfoldable pub body_at : WordsView → ℕ → Result Statement ℕ
 body_at words at = body_of words at (piece_at words at)

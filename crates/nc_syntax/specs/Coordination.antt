@@ -2,7 +2,7 @@
 use Rattle.std.specs.Prelude.{ℕ, zero, suc, ◌+◌, ◌-◌, ◌==◌, ◌||◌, Bool, true, false, List, [], ◌∷◌, length, Option, Some, None, Result, Ok, Err, reverse, position, if◌then◌else◌, codes}
 use Rattle.std.specs.Str.{bytes_eq}
 use Rattle.block_scanner.specs.declared.Token.{Token}
-use Rattle.block_scanner.specs.declared.Words.{Words}
+use Rattle.block_scanner.specs.WordsView.{WordsView}
 use Rattle.nc_blocks.specs.declared.blocks.CoordWord.{CoordWord}
 use Rattle.nc_blocks.specs.declared.pieces.Piece.{Piece}
 use Rattle.nc_blocks.specs.declared.pieces.Piece.TheVariants as piece
@@ -22,17 +22,17 @@ separator_of piece.Close next = Ok (false, next)
 separator_of one next = Err 22
 
 -- behind an argument a comma stands, and another one follows, or `)`
-unfoldable pub separator_at : Words → ℕ → Result (Bool × ℕ) ℕ
+unfoldable pub separator_at : WordsView → ℕ → Result (Bool × ℕ) ℕ
 separator_at words at = separator_of (piece_at words at) (at + 1)
 
 -- an argument that is an expression
-unfoldable pub argument_at : Words → ℕ → Result (Item OperandView) ℕ
+unfoldable pub argument_at : WordsView → ℕ → Result (Item OperandView) ℕ
 argument_at words at = do
   p ← expression_at words at
   q ← separator_at words p.1
   Ok (Value p.0, q.0, q.1)
 
-abbrev pub axis_of_piece : Words → ℕ → Piece → Result (List ℕ × ℕ) ℕ
+abbrev pub axis_of_piece : WordsView → ℕ → Piece → Result (List ℕ × ℕ) ℕ
 axis_of_piece words at (piece.Letter b) =
     if has_axis_name words at then Ok (b ∷ text_at words (at + 1), at + 2)
     else if (b == 88) || (b == 89) || (b == 90) then Ok (b ∷ [], at + 1)
@@ -40,39 +40,39 @@ axis_of_piece words at (piece.Letter b) =
 axis_of_piece words at one = Err 22
 
 -- an axis name, or a slot letter: X, Y or Z; and the place behind it
-unfoldable pub axis_at : Words → ℕ → Result (List ℕ × ℕ) ℕ
+unfoldable pub axis_at : WordsView → ℕ → Result (List ℕ × ℕ) ℕ
 axis_at words at = axis_of_piece words at (piece_at words at)
 
 -- an argument that is an axis
-unfoldable pub axis_argument_at : Words → ℕ → Result (Item OperandView) ℕ
+unfoldable pub axis_argument_at : WordsView → ℕ → Result (Item OperandView) ℕ
 axis_argument_at words at = do
   p ← axis_at words at
   q ← separator_at words p.1
   Ok (AxisName p.0, q.0, q.1)
 
 -- ( and one argument or more, and ), behind which nothing stands
-unfoldable pub arguments_form : Words → CoordWord → ℕ → Result Statement ℕ
+unfoldable pub arguments_form : WordsView → CoordWord → ℕ → Result Statement ℕ
 arguments_form words which at = do
   first ← open_at words at 22
   p ← list_at (λ before. argument_at words) words first
   alone words p.1 (Coord which p.0)
 
 -- the same of axes
-unfoldable pub axes_form : Words → CoordWord → ℕ → Result Statement ℕ
+unfoldable pub axes_form : WordsView → CoordWord → ℕ → Result Statement ℕ
 axes_form words which at = do
   first ← open_at words at 22
   p ← list_at (λ before. axis_argument_at words) words first
   alone words p.1 (Coord which p.0)
 
 -- CLEARM, behind its name: its parentheses may be empty
-unfoldable pub clear_form : Words → CoordWord → ℕ → Result Statement ℕ
+unfoldable pub clear_form : WordsView → CoordWord → ℕ → Result Statement ℕ
 clear_form words which at =
     if is_close (piece_at words (at + 1))
     then (open_at words at 22 >>= λ first. alone words (at + 2) (Coord which []))
     else arguments_form words which at
 
 -- the text at a place
-unfoldable pub quoted_at : Words → ℕ → Result (List ℕ) ℕ
+unfoldable pub quoted_at : WordsView → ℕ → Result (List ℕ) ℕ
 quoted_at words at = if is_text (piece_at words at) then Ok (unquoted (text_at words at)) else Err 22
 
 -- the texts "N" and "S"
@@ -80,15 +80,15 @@ abbrev pub is_wait : List ℕ → Bool
 is_wait text = bytes_eq text (codes "N") || bytes_eq text (codes "S")
 
 -- the third argument of INIT: "N" or "S", as written
-unfoldable pub wait_at : Words → ℕ → Result (List ℕ) ℕ
+unfoldable pub wait_at : WordsView → ℕ → Result (List ℕ) ℕ
 wait_at words at = quoted_at words at >>= λ text. if is_wait text then Ok text else Err 22
 
-abbrev pub wait_behind : Words → Bool × ℕ → Result (Option (List ℕ) × ℕ) ℕ
+abbrev pub wait_behind : WordsView → Bool × ℕ → Result (Option (List ℕ) × ℕ) ℕ
 wait_behind words (false, next) = Ok (None, next)
 wait_behind words (true, next) = wait_at words next >>= λ text. close_at words (next + 1) 22 >>= λ end. Ok (Some text, end)
 
 -- ) or a third argument and ), and the place behind
-unfoldable pub last_of_init : Words → ℕ → Result (Option (List ℕ) × ℕ) ℕ
+unfoldable pub last_of_init : WordsView → ℕ → Result (Option (List ℕ) × ℕ) ℕ
 last_of_init words at = separator_at words at >>= λ q. wait_behind words q
 
 abbrev pub third : Option (List ℕ) → List OperandView
@@ -96,7 +96,7 @@ third None = []
 third (Some text) = Text text ∷ []
 
 -- ( expr ,
-unfoldable pub opened_value : Words → ℕ → Result (OperandView × ℕ) ℕ
+unfoldable pub opened_value : WordsView → ℕ → Result (OperandView × ℕ) ℕ
 opened_value words at = do
   first ← open_at words at 22
   p ← expression_at words first
@@ -104,7 +104,7 @@ opened_value words at = do
   Ok (Value p.0, behind)
 
 -- INIT, behind its name
-unfoldable pub init_form : Words → CoordWord → ℕ → Result Statement ℕ
+unfoldable pub init_form : WordsView → CoordWord → ℕ → Result Statement ℕ
 init_form words which at = do
   channel ← opened_value words at
   program ← quoted_at words channel.1
@@ -112,7 +112,7 @@ init_form words which at = do
   alone words more.1 (Coord which (channel.0 ∷ Text program ∷ third more.0))
 
 -- CPROT, behind its name
-unfoldable pub cprot_form : Words → CoordWord → ℕ → Result Statement ℕ
+unfoldable pub cprot_form : WordsView → CoordWord → ℕ → Result Statement ℕ
 cprot_form words which at = do
   zone ← opened_value words at
   state ← expression_at words zone.1
@@ -120,25 +120,25 @@ cprot_form words which at = do
   alone words end (Coord which (zone.0 ∷ Value state.0 ∷ []))
 
 -- the place behind a text, if one stands there
-abbrev pub after_text : Words → ℕ → ℕ
+abbrev pub after_text : WordsView → ℕ → ℕ
 after_text words at = if is_text (piece_at words at) then at + 1 else at
 
 -- MSG, behind its name
-unfoldable pub msg_form : Words → ℕ → Result Statement ℕ
+unfoldable pub msg_form : WordsView → ℕ → Result Statement ℕ
 msg_form words at = do
   first ← open_at words at 22
   end ← close_at words (after_text words first) 22
   alone words end Message
 
 -- ( expr ), and the place behind
-unfoldable pub enclosed_at : Words → ℕ → Result ℕ ℕ
+unfoldable pub enclosed_at : WordsView → ℕ → Result ℕ ℕ
 enclosed_at words at = do
   first ← open_at words at 22
   p ← expression_at words first
   close_at words p.1 22
 
 -- SETMS, behind its name
-unfoldable pub setms_form : Words → ℕ → Result Statement ℕ
+unfoldable pub setms_form : WordsView → ℕ → Result Statement ℕ
 setms_form words at =
     if is_open (piece_at words at) then (enclosed_at words at >>= λ end. alone words end Message) else alone words at Message
 
@@ -155,13 +155,13 @@ is_broken piece.Broken = true
 is_broken one = false
 
 -- something that fits no form stands at one of so many places
-unfoldable pub has_broken : Words → ℕ → ℕ → Bool
+unfoldable pub has_broken : WordsView → ℕ → ℕ → Bool
 has_broken words at zero = false
 has_broken words at (suc more) = is_broken (piece_at words at) || has_broken words (at + 1) more
 
 -- WORKPIECE, behind its name: ( and anything up to the last `)` of the line
-unfoldable pub workpiece_form : Words → ℕ → Result Statement ℕ
+unfoldable pub workpiece_form : WordsView → ℕ → Result Statement ℕ
 workpiece_form words at = do
   first ← open_at words at 22
-  end ← last_close words.tokens.items
+  end ← last_close words.tokens
   if has_broken words first (end - first) then Err 22 else alone words end Message

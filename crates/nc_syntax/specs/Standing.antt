@@ -1,6 +1,6 @@
 -- What stands in a line, from one place up to another: expressions, numbers, names and lists.
 use Rattle.std.specs.Prelude.{◌≡◌, ℕ, ℤ, neg_ℤ, ◌+◌, ◌*◌, pos, ◌≤◌, ◌⊎◌, IsTrue, List, [], ◌∷◌, length, slice_range, Option, Some, None}
-use Rattle.block_scanner.specs.declared.Words.{Words}
+use Rattle.block_scanner.specs.WordsView.{WordsView}
 use Rattle.nc_expressions.specs.Symbols.{symbols_of, index_of}
 use Rattle.nc_expressions.specs.Syntax.{Syntax, spelling, tree, IsExpression}
 use Rattle.nc_expressions.specs.Tree.{Tree}
@@ -11,52 +11,52 @@ use Rattle.nc_blocks.specs.Reading.{is_digits, whole}
 use Rattle.nc_blocks.specs.AxisNames.{is_axis_letter}
 
 -- this name stands there
-abbrev pub IsKeyword : Words → ℕ → List ℕ → Type 0
+abbrev pub IsKeyword : WordsView → ℕ → List ℕ → Type 0
 IsKeyword words at word = IsTrue (is_keyword words at word)
 
 -- the symbols from one place up to another are an expression of this tree
-abbrev pub IsExpressionText : Words → ℕ → ℕ → Tree → Type 0
+abbrev pub IsExpressionText : WordsView → ℕ → ℕ → Tree → Type 0
 IsExpressionText words at end t =
-    (x : Syntax) × IsExpression x × (tree x ≡ t) × (end ≤ length words.tokens.items) × (slice_range (symbols_of words) at end ≡ spelling x)
+    (x : Syntax) × IsExpression x × (tree x ≡ t) × (end ≤ length words.tokens) × (slice_range (symbols_of words) at end ≡ spelling x)
 
 -- a number, with its sign if it has one
-abbrev pub IsSignedNumber : Words → ℕ → ℕ → ℤ → Type 0
+abbrev pub IsSignedNumber : WordsView → ℕ → ℕ → ℤ → Type 0
 IsSignedNumber words at end z =
     ((piece_at words at ≡ piece.Number z) × (end ≡ at + 1))
     ⊎ (((piece_at words at ≡ piece.Plus) × (piece_at words (at + 1) ≡ piece.Number z) × (end ≡ at + 2))
     ⊎ ((size : ℤ) × (piece_at words at ≡ piece.Minus) × (piece_at words (at + 1) ≡ piece.Number size) × (z ≡ neg_ℤ size) × (end ≡ at + 2)))
 
 -- a number of digits alone
-abbrev pub IsDigits : Words → ℕ → Type 0
+abbrev pub IsDigits : WordsView → ℕ → Type 0
 IsDigits words at = (z : ℤ) × (piece_at words at ≡ piece.Number z) × IsTrue (is_digits (text_at words at))
 
 -- the number of a block: one to eight digits
-abbrev pub IsBlockNumber : Words → ℕ → ℕ → Type 0
+abbrev pub IsBlockNumber : WordsView → ℕ → ℕ → Type 0
 IsBlockNumber words at n =
     (z : ℤ) × (piece_at words at ≡ piece.Number z) × IsTrue (is_digits (text_at words at)) × (length (text_at words at) ≤ 8) × (n ≡ whole z)
 
 -- the number of a parameter
-abbrev pub IsIndex : Words → ℕ → ℕ → Type 0
+abbrev pub IsIndex : WordsView → ℕ → ℕ → Type 0
 IsIndex words at i = (z : ℤ) × (piece_at words at ≡ piece.Number z) × (index_of z ≡ Some i)
 
 -- ( expr )
-abbrev pub IsEnclosed : Words → ℕ → ℕ → Tree → Type 0
+abbrev pub IsEnclosed : WordsView → ℕ → ℕ → Tree → Type 0
 IsEnclosed words at end t =
     (close : ℕ) × (piece_at words at ≡ piece.Open) × IsExpressionText words (at + 1) close t
     × (piece_at words close ≡ piece.Close) × (end ≡ close + 1)
 
 -- [ expr ]
-abbrev pub IsBracketed : Words → ℕ → ℕ → Tree → Type 0
+abbrev pub IsBracketed : WordsView → ℕ → ℕ → Tree → Type 0
 IsBracketed words at end t =
     (close : ℕ) × (piece_at words at ≡ piece.OpenBracket) × IsExpressionText words (at + 1) close t
     × (piece_at words close ≡ piece.CloseBracket) × (end ≡ close + 1)
 
 -- = expr
-abbrev pub IsAssigned : Words → ℕ → ℕ → Tree → Type 0
+abbrev pub IsAssigned : WordsView → ℕ → ℕ → Tree → Type 0
 IsAssigned words at end t = (piece_at words at ≡ piece.Assign) × IsExpressionText words (at + 1) end t
 
 -- an axis name: a letter of an axis, and digits
-abbrev pub IsAxisName : Words → ℕ → List ℕ → Type 0
+abbrev pub IsAxisName : WordsView → ℕ → List ℕ → Type 0
 IsAxisName words at name =
     (letter : ℕ) × (piece_at words at ≡ piece.Letter letter) × IsTrue (is_axis_letter letter) × IsDigits words (at + 1)
     × (name ≡ letter ∷ text_at words (at + 1))
@@ -67,12 +67,12 @@ AreListed Item at end [] = end ≡ at
 AreListed Item at end (x ∷ xs) = (middle : ℕ) × Item at middle x × AreListed Item middle end xs
 
 -- a comma before each of them
-abbrev pub AreBehindCommas : {A : Type 0} → Words → (ℕ → ℕ → A → Type 0) → ℕ → ℕ → List A → Type 0
+abbrev pub AreBehindCommas : {A : Type 0} → WordsView → (ℕ → ℕ → A → Type 0) → ℕ → ℕ → List A → Type 0
 AreBehindCommas words Item at end [] = end ≡ at
 AreBehindCommas words Item at end (x ∷ xs) =
     (middle : ℕ) × (piece_at words at ≡ piece.Comma) × Item (at + 1) middle x × AreBehindCommas words Item middle end xs
 
 -- one at least, with commas between them
-abbrev pub AreSeparated : {A : Type 0} → Words → (ℕ → ℕ → A → Type 0) → ℕ → ℕ → List A → Type 0
+abbrev pub AreSeparated : {A : Type 0} → WordsView → (ℕ → ℕ → A → Type 0) → ℕ → ℕ → List A → Type 0
 AreSeparated words Item at end [] = ⊥
 AreSeparated words Item at end (x ∷ xs) = (middle : ℕ) × Item at middle x × AreBehindCommas words Item middle end xs

@@ -4,7 +4,7 @@ use Rattle.std.specs.List.{list_any}
 use Rattle.block_scanner.specs.declared.Kind.{Kind}
 use Rattle.block_scanner.specs.declared.Kind.TheVariants as kind
 use Rattle.block_scanner.specs.declared.Sign.TheVariants as sign
-use Rattle.block_scanner.specs.declared.Words.{Words}
+use Rattle.block_scanner.specs.WordsView.{WordsView}
 use Rattle.nc_expressions.specs.Tree.{Tree}
 use Rattle.nc_blocks.specs.declared.pieces.Piece.{Piece}
 use Rattle.nc_blocks.specs.declared.pieces.Piece.TheVariants as piece
@@ -16,11 +16,11 @@ use Rattle.nc_blocks.specs.Reading.{is_digits, expression_at, index_at, label_at
 use Rattle.nc_blocks.specs.Statement.{Statement, For, RepeatFrom, RepeatBlock, Repeat, Call, Proc}
 
 -- this statement, where nothing stands behind it
-unfoldable pub alone : Words → ℕ → Statement → Result Statement ℕ
+unfoldable pub alone : WordsView → ℕ → Statement → Result Statement ℕ
 alone words at statement = end_at words at >>= λ end. Ok statement
 
 -- an expression behind which nothing stands
-unfoldable pub last_expression : Words → ℕ → Result Tree ℕ
+unfoldable pub last_expression : WordsView → ℕ → Result Tree ℕ
 last_expression words at = do
   p ← expression_at words at
   end ← end_at words p.1
@@ -31,21 +31,21 @@ is_letter (piece.Letter b) letter = b == letter
 is_letter one letter = false
 
 -- R digits =, and the place behind it; 82 is 'R'
-unfoldable pub counter_at : Words → ℕ → Result (ℕ × ℕ) ℕ
+unfoldable pub counter_at : WordsView → ℕ → Result (ℕ × ℕ) ℕ
 counter_at words at =
     if is_letter (piece_at words at) 82
     then (index_at words (at + 1) 22 >>= λ i. assign_at words (at + 2) 22 >>= λ behind. Ok (i, behind))
     else Err 22
 
 -- an expression and TO, and the place behind
-unfoldable pub first_value : Words → ℕ → Result (Tree × ℕ) ℕ
+unfoldable pub first_value : WordsView → ℕ → Result (Tree × ℕ) ℕ
 first_value words at = do
   p ← expression_at words at
   behind ← keyword_at words p.1 (codes "TO")
   Ok (p.0, behind)
 
 -- FOR, behind its name
-unfoldable pub for_form : Words → ℕ → Result Statement ℕ
+unfoldable pub for_form : WordsView → ℕ → Result Statement ℕ
 for_form words at = do
   counter ← counter_at words at
   first ← first_value words counter.1
@@ -53,21 +53,21 @@ for_form words at = do
   Ok (For counter.0 first.0 last)
 
 -- P=expr, or nothing, behind which nothing stands; 80 is 'P'
-unfoldable pub times_at : Words → ℕ → Result (Option Tree) ℕ
+unfoldable pub times_at : WordsView → ℕ → Result (Option Tree) ℕ
 times_at words at =
     if is_letter (piece_at words at) 80
     then (assign_at words (at + 1) 22 >>= λ behind. last_expression words behind >>= λ t. Ok (Some t))
     else end_at words at >>= λ end. Ok None
 
 -- REPEAT, behind its name: with a label, or of a loop
-unfoldable pub repeat_form : Words → ℕ → Result Statement ℕ
+unfoldable pub repeat_form : WordsView → ℕ → Result Statement ℕ
 repeat_form words at =
     if is_name (piece_at words at)
     then (times_at words (at + 1) >>= λ times. Ok (RepeatFrom (name_of (text_at words at)) times))
     else alone words at Repeat
 
 -- REPEATB, behind its name
-unfoldable pub repeat_block_form : Words → ℕ → Result Statement ℕ
+unfoldable pub repeat_block_form : WordsView → ℕ → Result Statement ℕ
 repeat_block_form words at = do
   label ← label_at words at
   times ← times_at words (at + 1)
@@ -78,8 +78,8 @@ is_close_kind (kind.Sign sign.CloseParenthesis) = true
 is_close_kind one = false
 
 -- some `)` stands in the line
-unfoldable pub has_close : Words → Bool
-has_close words = list_any (λ token. is_close_kind token.kind) words.tokens.items
+unfoldable pub has_close : WordsView → Bool
+has_close words = list_any (λ token. is_close_kind token.kind) words.tokens
 
 abbrev pub is_close : Piece → Bool
 is_close piece.Close = true
@@ -90,7 +90,7 @@ is_open piece.Open = true
 is_open one = false
 
 -- ( ) behind a call, if they stand there, and the place behind; anything between them is 58
-unfoldable pub parentheses_at : Words → ℕ → Result ℕ ℕ
+unfoldable pub parentheses_at : WordsView → ℕ → Result ℕ ℕ
 parentheses_at words at =
     if is_open (piece_at words at)
     then (if is_close (piece_at words (at + 1)) then Ok (at + 2) else if has_close words then Err (code_at words (at + 1) 58) else Err 22)
@@ -106,18 +106,18 @@ count_of_piece (piece.Number z) = pass_count z
 count_of_piece one = Err 22
 
 -- P with a number behind a call, or 1, behind which nothing stands
-unfoldable pub passes_at : Words → ℕ → Result ℕ ℕ
+unfoldable pub passes_at : WordsView → ℕ → Result ℕ ℕ
 passes_at words at =
     if is_letter (piece_at words at) 80
     then (count_of_piece (piece_at words (at + 1)) >>= λ n. end_at words (at + 2) >>= λ end. Ok n)
     else end_at words at >>= λ end. Ok 1
 
 -- how often a program is called, behind its name
-unfoldable pub call_passes : Words → ℕ → Result ℕ ℕ
+unfoldable pub call_passes : WordsView → ℕ → Result ℕ ℕ
 call_passes words at = parentheses_at words at >>= λ behind. passes_at words behind
 
 -- a call, behind its name
-unfoldable pub call_form : Words → List ℕ → ℕ → Result Statement ℕ
+unfoldable pub call_form : WordsView → List ℕ → ℕ → Result Statement ℕ
 call_form words name at = call_passes words at >>= λ passes. Ok (Call name passes)
 
 -- the name of a program that is L and digits: at most 31 of them, as they are written; 76 is 'L'
@@ -125,11 +125,11 @@ unfoldable pub number_name : List ℕ → Result (List ℕ) ℕ
 number_name digits = if is_digits digits && nat_le (length digits) 31 then Ok (76 ∷ digits) else Err 22
 
 -- a call of L and digits, behind the L
-unfoldable pub number_call_form : Words → ℕ → Result Statement ℕ
+unfoldable pub number_call_form : WordsView → ℕ → Result Statement ℕ
 number_call_form words at = number_name (text_at words at) >>= λ name. call_form words name (at + 1)
 
 -- PROC, behind its name
-unfoldable pub proc_form : Words → ℕ → Result Statement ℕ
+unfoldable pub proc_form : WordsView → ℕ → Result Statement ℕ
 proc_form words at = do
   name ← label_at words at
   alone words (if is_keyword words (at + 1) (codes "DISPLOF") then at + 2 else at + 1) (Proc name)

@@ -229,7 +229,7 @@ fn control_form(
     at: usize,
 ) -> Result<Stmt, SyntaxFault>
     requires scanned { IsScanned words.now }
-    requires within { at ≤ length words.now.tokens.items }
+    requires within { at ≤ length words.now.tokens }
     ensures exact { Gives statement_view (control_form words.now which at) result }
     ensures indices { IfOk result (λ s. StatementFits (statement_view s)) }
 {
@@ -261,7 +261,7 @@ fn coordination_form(
     at: usize,
 ) -> Result<Stmt, SyntaxFault>
     requires scanned { IsScanned words.now }
-    requires within { at ≤ length words.now.tokens.items }
+    requires within { at ≤ length words.now.tokens }
     ensures exact { Gives statement_view (coordination_form words.now which at) result }
     ensures indices { IfOk result (λ s. StatementFits (statement_view s)) }
 {
@@ -282,7 +282,7 @@ fn coordination_form(
 #[tactic(auto, unfolding(crate::specs::Bodies::form_body))]
 fn form_body(alloc: Global, words: &Words<'_>, form: Form, at: usize) -> Result<Stmt, SyntaxFault>
     requires scanned { IsScanned words.now }
-    requires within { at ≤ length words.now.tokens.items }
+    requires within { at ≤ length words.now.tokens }
     ensures exact { Gives statement_view (form_body words.now form at) result }
     ensures indices { IfOk result (λ s. StatementFits (statement_view s)) }
 {
@@ -303,7 +303,7 @@ fn form_body(alloc: Global, words: &Words<'_>, form: Form, at: usize) -> Result<
 #[tactic(auto, unfolding(crate::specs::Bodies::named_body))]
 fn named_body(alloc: Global, words: &Words<'_>, text: &[u8], at: usize) -> Result<Stmt, SyntaxFault>
     requires scanned { IsScanned words.now }
-    requires within { at < length words.now.tokens.items }
+    requires within { at < length words.now.tokens }
     ensures exact { Gives statement_view (named_body words.now text.now at) result }
     ensures indices { IfOk result (λ s. StatementFits (statement_view s)) }
 {
@@ -328,7 +328,7 @@ fn lettered_body(
     at: usize,
 ) -> Result<Stmt, SyntaxFault>
     requires scanned { IsScanned words.now }
-    requires within { at < length words.now.tokens.items }
+    requires within { at < length words.now.tokens }
     ensures exact { Gives statement_view (lettered_body words.now letter at) result }
     ensures indices { IfOk result (λ s. StatementFits (statement_view s)) }
 {
@@ -348,7 +348,7 @@ fn lettered_body(
 #[tactic(auto, unfolding(crate::specs::Bodies::body_at))]
 pub(crate) fn body_at(alloc: Global, words: &Words<'_>, at: usize) -> Result<Stmt, SyntaxFault>
     requires scanned { IsScanned words.now }
-    requires within { at ≤ length words.now.tokens.items }
+    requires within { at ≤ length words.now.tokens }
     ensures exact { Gives statement_view (body_at words.now at) result }
     ensures indices { IfOk result (λ s. StatementFits (statement_view s)) }
 {

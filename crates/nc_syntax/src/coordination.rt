@@ -22,7 +22,7 @@ use std::alloc::{AllocError, Global};
 fn separator_at(words: &Words<'_>, at: usize) -> Result<(bool, usize), u16>
     requires { IsScanned words.now }
     ensures value { result ≡ separator_at words.now at }
-    ensures within { IfOk result (λ p. (at < p.1) × (p.1 ≤ length words.now.tokens.items)) }
+    ensures within { IfOk result (λ p. (at < p.1) × (p.1 ≤ length words.now.tokens)) }
 {
     match piece_at(words, at) {
         Piece::Comma => Ok((true, at + 1)),
@@ -39,10 +39,10 @@ fn argument_at(
     at: usize,
 ) -> Result<(Operand, bool, usize), SyntaxFault>
     requires scanned { IsScanned words.now }
-    requires within { at ≤ length words.now.tokens.items }
+    requires within { at ≤ length words.now.tokens }
     ensures exact { Gives operand_item (argument_at words.now at) result }
     ensures indices { IfOk result (λ p. OperandFits (operand_view p.0)) }
-    ensures within { IfOk result (λ p. (at < p.2) × (p.2 ≤ length words.now.tokens.items)) }
+    ensures within { IfOk result (λ p. (at < p.2) × (p.2 ≤ length words.now.tokens)) }
 {
     let (value, end) = expression_at(alloc, words, at)?;
     match separator_at(words, end) {
@@ -56,7 +56,7 @@ fn argument_at(
 fn axis_at(alloc: Global, words: &Words<'_>, at: usize) -> Result<(Vec<u8>, usize), SyntaxFault>
     requires { IsScanned words.now }
     ensures exact { Gives placed_bytes (axis_at words.now at) result }
-    ensures within { IfOk result (λ p. (at < p.1) × (p.1 ≤ length words.now.tokens.items)) }
+    ensures within { IfOk result (λ p. (at < p.1) × (p.1 ≤ length words.now.tokens)) }
 {
     match piece_at(words, at) {
         Piece::Letter(letter) => {
@@ -82,7 +82,7 @@ fn axis_argument_at(
     requires { IsScanned words.now }
     ensures exact { Gives operand_item (axis_argument_at words.now at) result }
     ensures indices { IfOk result (λ p. OperandFits (operand_view p.0)) }
-    ensures within { IfOk result (λ p. (at < p.2) × (p.2 ≤ length words.now.tokens.items)) }
+    ensures within { IfOk result (λ p. (at < p.2) × (p.2 ≤ length words.now.tokens)) }
 {
     let (axis, end) = axis_at(alloc, words, at)?;
     match separator_at(words, end) {
@@ -99,7 +99,7 @@ fn arguments_at(
     start: usize,
 ) -> Result<(Vec<Operand>, usize), SyntaxFault>
     requires scanned { IsScanned words.now }
-    requires within { start ≤ length words.now.tokens.items }
+    requires within { start ≤ length words.now.tokens }
     ensures exact { Gives operand_items (list_at (λ _. argument_at words.now) words.now start) result }
     ensures indices { IfOk result (λ p. All OperandFits (map operand_view p.0.items)) }
 {
@@ -123,7 +123,7 @@ fn axes_at(
     start: usize,
 ) -> Result<(Vec<Operand>, usize), SyntaxFault>
     requires scanned { IsScanned words.now }
-    requires within { start ≤ length words.now.tokens.items }
+    requires within { start ≤ length words.now.tokens }
     ensures exact { Gives operand_items (list_at (λ _. axis_argument_at words.now) words.now start) result }
     ensures indices { IfOk result (λ p. All OperandFits (map operand_view p.0.items)) }
 {
@@ -190,7 +190,7 @@ pub(crate) fn clear_form(
     at: usize,
 ) -> Result<Stmt, SyntaxFault>
     requires scanned { IsScanned words.now }
-    requires within { at ≤ length words.now.tokens.items }
+    requires within { at ≤ length words.now.tokens }
     ensures exact { Gives statement_view (clear_form words.now which at) result }
     ensures indices { IfOk result (λ s. StatementFits (statement_view s)) }
 {
@@ -208,7 +208,7 @@ pub(crate) fn clear_form(
 fn quoted_at(alloc: Global, words: &Words<'_>, at: usize) -> Result<Vec<u8>, SyntaxFault>
     requires { IsScanned words.now }
     ensures exact { Gives bytes_of (quoted_at words.now at) result }
-    ensures within { IfOk result (λ _. at < length words.now.tokens.items) }
+    ensures within { IfOk result (λ _. at < length words.now.tokens) }
 {
     match piece_at(words, at) {
         Piece::Text => Ok(same_text(alloc, unquoted(text_at(words, at)))?),
@@ -228,7 +228,7 @@ fn is_wait(text: &[u8]) -> bool
 fn wait_at(alloc: Global, words: &Words<'_>, at: usize) -> Result<Vec<u8>, SyntaxFault>
     requires { IsScanned words.now }
     ensures exact { Gives bytes_of (wait_at words.now at) result }
-    ensures within { IfOk result (λ _. at < length words.now.tokens.items) }
+    ensures within { IfOk result (λ _. at < length words.now.tokens) }
 {
     let text = quoted_at(alloc, words, at)?;
     if is_wait(&text) {
@@ -271,7 +271,7 @@ fn opened_value(
     requires { IsScanned words.now }
     ensures exact { Gives placed_operand (opened_value words.now at) result }
     ensures indices { IfOk result (λ p. OperandFits (operand_view p.0)) }
-    ensures within { IfOk result (λ p. p.1 ≤ length words.now.tokens.items) }
+    ensures within { IfOk result (λ p. p.1 ≤ length words.now.tokens) }
 {
     match open_at(words, at, 22) {
         Ok(first) => {

@@ -23,7 +23,7 @@ use std::alloc::Global;
 fn slot_at(words: &Words<'_>, at: usize) -> Option<u8>
     requires { IsScanned words.now }
     ensures value { result ≡ axis_of (piece_at words.now at) }
-    ensures within { IfSome result (λ _. at < length words.now.tokens.items) }
+    ensures within { IfSome result (λ _. at < length words.now.tokens) }
 {
     match piece_at(words, at) {
         Piece::Letter(b'X') => Some(0),
@@ -37,10 +37,10 @@ fn slot_at(words: &Words<'_>, at: usize) -> Option<u8>
 #[tactic(auto, using(nc_blocks::proofs::Passing::passing), unfolding(crate::specs::Frames::frame_value))]
 fn frame_value(alloc: Global, words: &Words<'_>, at: usize) -> Result<(Expr, usize), SyntaxFault>
     requires scanned { IsScanned words.now }
-    requires within { at ≤ length words.now.tokens.items }
+    requires within { at ≤ length words.now.tokens }
     ensures exact { Gives placed_tree (frame_value words.now at) result }
     ensures indices { IfOk result (λ p. IndicesFit (tree_of p.0)) }
-    ensures within { IfOk result (λ p. (at < p.1) × (p.1 ≤ length words.now.tokens.items)) }
+    ensures within { IfOk result (λ p. (at < p.1) × (p.1 ≤ length words.now.tokens)) }
 {
     match piece_at(words, at) {
         Piece::Assign => expression_at(alloc, words, at + 1),
@@ -76,7 +76,7 @@ fn frame_word_at(
     requires { IsScanned words.now }
     ensures exact { Gives frame_item (frame_word_at words.now (map frame_entry before.now) at) result }
     ensures indices { IfOk result (λ p. EntryFits (frame_entry p.0)) }
-    ensures within { IfOk result (λ p. (at < p.2) × (p.2 ≤ length words.now.tokens.items)) }
+    ensures within { IfOk result (λ p. (at < p.2) × (p.2 ≤ length words.now.tokens)) }
 {
     match slot_at(words, at) {
         None => Err(SyntaxFault::Refused(code_at(words, at, 24))),
@@ -99,7 +99,7 @@ fn frame_words_at(
     start: usize,
 ) -> Result<(Vec<(u8, Expr)>, usize), SyntaxFault>
     requires scanned { IsScanned words.now }
-    requires within { start ≤ length words.now.tokens.items }
+    requires within { start ≤ length words.now.tokens }
     ensures exact { Gives frame_items (list_at (frame_word_at words.now) words.now start) result }
     ensures indices { IfOk result (λ p. All EntryFits (map frame_entry p.0.items)) }
 {
@@ -124,7 +124,7 @@ pub(crate) fn shape_form(
     at: usize,
 ) -> Result<Stmt, SyntaxFault>
     requires scanned { IsScanned words.now }
-    requires within { at ≤ length words.now.tokens.items }
+    requires within { at ≤ length words.now.tokens }
     ensures exact { Gives statement_view (shape_form words.now which at) result }
     ensures indices { IfOk result (λ s. StatementFits (statement_view s)) }
 {

@@ -41,7 +41,7 @@ pub(crate) fn way_of(text: &[u8]) -> Option<Way>
 fn way_at(words: &Words<'_>, at: usize) -> Option<Way>
     requires { IsScanned words.now }
     ensures value { result ≡ way_at words.now at }
-    ensures within { IfSome result (λ _. at < length words.now.tokens.items) }
+    ensures within { IfSome result (λ _. at < length words.now.tokens) }
 {
     match piece_at(words, at) {
         Piece::Name => way_of(text_at(words, at)),
@@ -54,7 +54,7 @@ fn way_at(words: &Words<'_>, at: usize) -> Option<Way>
 fn target_at(words: &Words<'_>, at: usize) -> Result<(Target, usize), u16>
     requires { IsScanned words.now }
     ensures value { result ≡ target_at words.now at }
-    ensures within { IfOk result (λ p. (at < p.1) × (p.1 ≤ length words.now.tokens.items)) }
+    ensures within { IfOk result (λ p. (at < p.1) × (p.1 ≤ length words.now.tokens)) }
 {
     match piece_at(words, at) {
         Piece::Name => Ok((Target::Label(NameText::of_word(text_at(words, at))), at + 1)),
@@ -71,7 +71,7 @@ fn target_at(words: &Words<'_>, at: usize) -> Result<(Target, usize), u16>
 fn jump_at(words: &Words<'_>, way: Way, at: usize) -> Result<(JumpTo, usize), u16>
     requires { IsScanned words.now }
     ensures value { result ≡ jump_at words.now way at }
-    ensures within { IfOk result (λ p. (at < p.1) × (p.1 ≤ length words.now.tokens.items)) }
+    ensures within { IfOk result (λ p. (at < p.1) × (p.1 ≤ length words.now.tokens)) }
 {
     let (target, end) = target_at(words, at)?;
     Ok((JumpTo { way, target }, end))
@@ -92,7 +92,7 @@ fn last_jump_at(words: &Words<'_>, way: Way, at: usize) -> Result<JumpTo, u16>
 #[tactic(auto, using(nc_blocks::proofs::Passing::passing), unfolding(crate::specs::Jumps::if_form))]
 pub(crate) fn if_form(alloc: Global, words: &Words<'_>, at: usize) -> Result<Stmt, SyntaxFault>
     requires scanned { IsScanned words.now }
-    requires within { at ≤ length words.now.tokens.items }
+    requires within { at ≤ length words.now.tokens }
     ensures exact { Gives statement_view (if_form words.now at) result }
     ensures indices { IfOk result (λ s. StatementFits (statement_view s)) }
 {
@@ -115,7 +115,7 @@ fn case_value(alloc: Global, words: &Words<'_>, at: usize) -> Result<(Expr, usiz
     requires { IsScanned words.now }
     ensures exact { Gives placed_tree (case_value words.now at) result }
     ensures indices { IfOk result (λ p. IndicesFit (tree_of p.0)) }
-    ensures within { IfOk result (λ p. p.1 ≤ length words.now.tokens.items) }
+    ensures within { IfOk result (λ p. p.1 ≤ length words.now.tokens) }
 {
     match open_at(words, at, 22) {
         Ok(first) => {
@@ -134,7 +134,7 @@ fn case_value(alloc: Global, words: &Words<'_>, at: usize) -> Result<(Expr, usiz
 fn case_names_at(words: &Words<'_>, at: usize) -> Result<usize, u16>
     requires { IsScanned words.now }
     ensures value { result ≡ case_names words.now at }
-    ensures within { IfOk result (λ p. p ≤ length words.now.tokens.items) }
+    ensures within { IfOk result (λ p. p ≤ length words.now.tokens) }
 {
     let closed = close_at(words, at, 22)?;
     keyword_at(words, closed, b"OF")
@@ -152,7 +152,7 @@ fn begins_number(piece: Piece) -> bool
 fn named_jump(words: &Words<'_>, at: usize) -> Result<(JumpTo, usize), u16>
     requires { IsScanned words.now }
     ensures value { result ≡ named_jump words.now at }
-    ensures within { IfOk result (λ p. (at < p.1) × (p.1 ≤ length words.now.tokens.items)) }
+    ensures within { IfOk result (λ p. (at < p.1) × (p.1 ≤ length words.now.tokens)) }
 {
     match way_at(words, at) {
         Some(way) => jump_at(words, way, at + 1),
@@ -164,9 +164,9 @@ fn named_jump(words: &Words<'_>, at: usize) -> Result<(JumpTo, usize), u16>
 #[tactic(auto, unfolding(crate::specs::Jumps::pair_at))]
 fn pair_at(words: &Words<'_>, at: usize) -> Result<((Num, JumpTo), bool, usize), u16>
     requires scanned { IsScanned words.now }
-    requires within { at ≤ length words.now.tokens.items }
+    requires within { at ≤ length words.now.tokens }
     ensures value { result ≡ pair_at words.now at }
-    ensures within { IfOk result (λ p. (at < p.2) × (p.2 ≤ length words.now.tokens.items)) }
+    ensures within { IfOk result (λ p. (at < p.2) × (p.2 ≤ length words.now.tokens)) }
 {
     let (number, place) = constant_at(words, at, 22)?;
     let (jump, end) = named_jump(words, place)?;
@@ -177,9 +177,9 @@ fn pair_at(words: &Words<'_>, at: usize) -> Result<((Num, JumpTo), bool, usize),
 /// The same, with its refusal as that of the line.
 fn pair_item_at(words: &Words<'_>, at: usize) -> Result<((Num, JumpTo), bool, usize), SyntaxFault>
     requires scanned { IsScanned words.now }
-    requires within { at ≤ length words.now.tokens.items }
+    requires within { at ≤ length words.now.tokens }
     ensures exact { Gives (λ p. p) (pair_at words.now at) result }
-    ensures within { IfOk result (λ p. (at < p.2) × (p.2 ≤ length words.now.tokens.items)) }
+    ensures within { IfOk result (λ p. (at < p.2) × (p.2 ≤ length words.now.tokens)) }
 {
     match pair_at(words, at) {
         Ok(read) => Ok(read),
@@ -195,7 +195,7 @@ fn pairs_at(
     start: usize,
 ) -> Result<(Vec<(Num, JumpTo)>, usize), SyntaxFault>
     requires scanned { IsScanned words.now }
-    requires within { start ≤ length words.now.tokens.items }
+    requires within { start ≤ length words.now.tokens }
     ensures { Gives pair_items (list_at (λ _. pair_at words.now) words.now start) result }
 {
     let mut list = Vec::new(alloc);

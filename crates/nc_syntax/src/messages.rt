@@ -17,7 +17,7 @@ use std::alloc::Global;
 /// The place behind the text of a message, if it has one.
 fn after_text(words: &Words<'_>, at: usize) -> usize
     requires scanned { IsScanned words.now }
-    requires within { at ≤ length words.now.tokens.items }
+    requires within { at ≤ length words.now.tokens }
     ensures { result ≡ after_text words.now at }
 {
     match piece_at(words, at) {
@@ -78,8 +78,8 @@ pub(crate) fn setms_form(alloc: Global, words: &Words<'_>, at: usize) -> Result<
 
 /// How many tokens stand behind the last `)` of a line.
 fn behind_close(words: &Words<'_>) -> Option<usize>
-    ensures value { result ≡ position (λ token. is_close_kind token.kind) (reverse words.now.tokens.items) }
-    ensures within { IfSome result (λ back. back < length words.now.tokens.items) }
+    ensures value { result ≡ position (λ token. is_close_kind token.kind) (reverse words.now.tokens) }
+    ensures within { IfSome result (λ back. back < length words.now.tokens) }
 {
     words.tokens.iter().rev().position(|token| matches!(
         token.kind,
@@ -90,8 +90,8 @@ fn behind_close(words: &Words<'_>) -> Option<usize>
 /// The place behind the last `)` of a line.
 #[tactic(auto, unfolding(crate::specs::Coordination::last_close))]
 fn last_close(words: &Words<'_>) -> Result<usize, u16>
-    ensures value { result ≡ last_close words.now.tokens.items }
-    ensures within { IfOk result (λ p. p ≤ length words.now.tokens.items) }
+    ensures value { result ≡ last_close words.now.tokens }
+    ensures within { IfOk result (λ p. p ≤ length words.now.tokens) }
 {
     match behind_close(words) {
         Some(back) => Ok(words.tokens.len() - back),
@@ -110,7 +110,7 @@ fn is_broken(piece: Piece) -> bool
 #[tactic(auto, unfolding(crate::specs::Coordination::has_broken))]
 fn has_broken(words: &Words<'_>, start: usize, end: usize) -> bool
     requires scanned { IsScanned words.now }
-    requires within { end ≤ length words.now.tokens.items }
+    requires within { end ≤ length words.now.tokens }
     ensures { result ≡ has_broken words.now start (end - start) }
 {
     let mut at = start;

@@ -1,12 +1,13 @@
 //! The block of a line.
 
-ghost use Rattle.std.specs.Prelude.{◌≡◌, ◌<◌, ◌≤◌, ◌+◌, length, IfOk, Ok};
+ghost use Rattle.std.specs.Prelude.{◌≡◌, ◌<◌, ◌≤◌, ◌+◌, length, IfOk, IfErr, Ok};
 ghost use Rattle.std.specs.Bool.{OnTrue};
 ghost use Rattle.block_scanner.specs.Scanned.{IsScanned};
 ghost use Rattle.nc_syntax.specs.Spelled.{Spells, IsAccepted};
 ghost use Rattle.nc_syntax.specs.Blocks.{skip_of, has_number, number_at, label_at, head_of, block_of, statement_of};
 ghost use Rattle.nc_blocks.specs.Indices.{StatementFits};
 ghost use Rattle.nc_blocks.specs.Reading.{Gives};
+ghost use Rattle.nc_blocks.specs.Refusals.{IsListed};
 ghost use Rattle.nc_blocks.specs.Statement.{BlockView, statement_view, view_of};
 
 use crate::bodies::body_at;
@@ -21,7 +22,7 @@ use word_tables::{has_large_number, refused_word};
 fn skip_of(words: &Words<'_>) -> Result<(bool, usize), u16>
     requires { IsScanned words.now }
     ensures value { result ≡ skip_of words.now }
-    ensures within { IfOk result (λ p. p.1 ≤ length words.now.tokens.items) }
+    ensures within { IfOk result (λ p. p.1 ≤ length words.now.tokens) }
 {
     match piece_at(words, 0) {
         Piece::Slash => match piece_at(words, 1) {
@@ -37,7 +38,7 @@ fn skip_of(words: &Words<'_>) -> Result<(bool, usize), u16>
 fn has_number(words: &Words<'_>, at: usize) -> bool
     requires { IsScanned words.now }
     ensures value { result ≡ has_number words.now at }
-    ensures within { OnTrue result (at + 1 < length words.now.tokens.items) }
+    ensures within { OnTrue result (at + 1 < length words.now.tokens) }
 {
     match piece_at(words, at) {
         Piece::Letter(b'N') => matches!(piece_at(words, at + 1), Piece::Number(_)),
@@ -49,9 +50,9 @@ fn has_number(words: &Words<'_>, at: usize) -> bool
 #[tactic(auto, unfolding(crate::specs::Blocks::number_at))]
 fn number_at(words: &Words<'_>, at: usize) -> Result<(Option<u32>, usize), u16>
     requires scanned { IsScanned words.now }
-    requires within { at ≤ length words.now.tokens.items }
+    requires within { at ≤ length words.now.tokens }
     ensures value { result ≡ number_at words.now at }
-    ensures within { IfOk result (λ p. p.1 ≤ length words.now.tokens.items) }
+    ensures within { IfOk result (λ p. p.1 ≤ length words.now.tokens) }
 {
     if has_number(words, at) {
         let number = block_number_at(words, at + 1)?;
@@ -65,9 +66,9 @@ fn number_at(words: &Words<'_>, at: usize) -> Result<(Option<u32>, usize), u16>
 #[tactic(auto, unfolding(crate::specs::Blocks::label_at))]
 fn label_at(words: &Words<'_>, at: usize) -> (Option<NameText>, usize)
     requires scanned { IsScanned words.now }
-    requires within { at ≤ length words.now.tokens.items }
+    requires within { at ≤ length words.now.tokens }
     ensures value { result ≡ label_at words.now at }
-    ensures within { result.1 ≤ length words.now.tokens.items }
+    ensures within { result.1 ≤ length words.now.tokens }
 {
     match piece_at(words, at) {
         Piece::Name => match piece_at(words, at + 1) {
@@ -83,7 +84,7 @@ fn label_at(words: &Words<'_>, at: usize) -> (Option<NameText>, usize)
 fn head_of(words: &Words<'_>) -> Result<(bool, Option<u32>, usize), u16>
     requires { IsScanned words.now }
     ensures value { result ≡ head_of words.now }
-    ensures within { IfOk result (λ p. p.2 ≤ length words.now.tokens.items) }
+    ensures within { IfOk result (λ p. p.2 ≤ length words.now.tokens) }
 {
     let (skip, place) = skip_of(words)?;
     let (number, end) = number_at(words, place)?;
@@ -112,9 +113,9 @@ fn block_of(alloc: Global, words: &Words<'_>) -> Result<Block, SyntaxFault>
     }
 }
 
-/// Reads one scanned line as its definition does.
+/// Reads as the definition does.
 #[tactic(auto, unfolding(crate::specs::Blocks::statement_of))]
-fn read_exactly(
+fn statement_exactly(
     alloc: Global,
     words: &Words<'_>,
     compensation: bool,
@@ -150,7 +151,8 @@ pub fn statement(alloc: Global, words: &Words<'_>, compensation: bool) -> Result
     ensures only { (b : BlockView) → IsAccepted words.now compensation → Spells words.now b → Gives view_of (Ok b) result }
 
     ensures exact { Gives view_of (statement_of words.now compensation) result }
+    ensures listed { IfErr result IsListed }
     ensures indices { IfOk result (λ b. StatementFits (statement_view b.stmt)) }
 {
-    read_exactly(alloc, words, compensation)
+    statement_exactly(alloc, words, compensation)
 }

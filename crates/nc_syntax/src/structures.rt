@@ -39,7 +39,7 @@ pub(crate) fn last_expression(
     at: usize,
 ) -> Result<Expr, SyntaxFault>
     requires scanned { IsScanned words.now }
-    requires within { at ≤ length words.now.tokens.items }
+    requires within { at ≤ length words.now.tokens }
     ensures exact { Gives tree_of (last_expression words.now at) result }
     ensures indices { IfOk result (λ e. IndicesFit (tree_of e)) }
 {
@@ -55,7 +55,7 @@ pub(crate) fn last_expression(
 fn counter_at(words: &Words<'_>, at: usize) -> Result<(u16, usize), u16>
     requires { IsScanned words.now }
     ensures value { result ≡ counter_at words.now at }
-    ensures within { IfOk result (λ p. (p.0 ≤ 999) × (p.1 ≤ length words.now.tokens.items)) }
+    ensures within { IfOk result (λ p. (p.0 ≤ 999) × (p.1 ≤ length words.now.tokens)) }
 {
     match piece_at(words, at) {
         Piece::Letter(b'R') => {
@@ -71,10 +71,10 @@ fn counter_at(words: &Words<'_>, at: usize) -> Result<(u16, usize), u16>
 #[tactic(auto, using(nc_blocks::proofs::Passing::passing), unfolding(crate::specs::Structures::first_value))]
 fn first_value(alloc: Global, words: &Words<'_>, at: usize) -> Result<(Expr, usize), SyntaxFault>
     requires scanned { IsScanned words.now }
-    requires within { at ≤ length words.now.tokens.items }
+    requires within { at ≤ length words.now.tokens }
     ensures exact { Gives placed_tree (first_value words.now at) result }
     ensures indices { IfOk result (λ p. IndicesFit (tree_of p.0)) }
-    ensures within { IfOk result (λ p. p.1 ≤ length words.now.tokens.items) }
+    ensures within { IfOk result (λ p. p.1 ≤ length words.now.tokens) }
 {
     let (tree, end) = expression_at(alloc, words, at)?;
     match keyword_at(words, end, b"TO") {
@@ -168,9 +168,9 @@ fn has_close(words: &Words<'_>) -> bool
 #[tactic(auto, unfolding(crate::specs::Structures::parentheses_at))]
 fn parentheses_at(words: &Words<'_>, at: usize) -> Result<usize, u16>
     requires scanned { IsScanned words.now }
-    requires within { at ≤ length words.now.tokens.items }
+    requires within { at ≤ length words.now.tokens }
     ensures value { result ≡ parentheses_at words.now at }
-    ensures within { IfOk result (λ p. p ≤ length words.now.tokens.items) }
+    ensures within { IfOk result (λ p. p ≤ length words.now.tokens) }
 {
     match piece_at(words, at) {
         Piece::Open => match piece_at(words, at + 1) {
@@ -226,7 +226,7 @@ fn passes_at(words: &Words<'_>, at: usize) -> Result<u16, u16>
 #[tactic(auto, unfolding(crate::specs::Structures::call_passes))]
 fn call_passes(words: &Words<'_>, at: usize) -> Result<u16, u16>
     requires scanned { IsScanned words.now }
-    requires within { at ≤ length words.now.tokens.items }
+    requires within { at ≤ length words.now.tokens }
     ensures { result ≡ call_passes words.now at }
 {
     let behind = parentheses_at(words, at)?;
@@ -237,7 +237,7 @@ fn call_passes(words: &Words<'_>, at: usize) -> Result<u16, u16>
 #[tactic(auto, unfolding(crate::specs::Structures::call_form))]
 pub(crate) fn call_form(words: &Words<'_>, name: NameText, at: usize) -> Result<Stmt, SyntaxFault>
     requires scanned { IsScanned words.now }
-    requires within { at ≤ length words.now.tokens.items }
+    requires within { at ≤ length words.now.tokens }
     ensures exact { Gives statement_view (call_form words.now name at) result }
     ensures indices { IfOk result (λ s. StatementFits (statement_view s)) }
 {
@@ -263,7 +263,7 @@ fn number_name(digits: &[u8]) -> Result<NameText, u16>
 #[tactic(auto, unfolding(crate::specs::Structures::number_call_form))]
 pub(crate) fn number_call_form(words: &Words<'_>, at: usize) -> Result<Stmt, SyntaxFault>
     requires scanned { IsScanned words.now }
-    requires within { at < length words.now.tokens.items }
+    requires within { at < length words.now.tokens }
     ensures exact { Gives statement_view (number_call_form words.now at) result }
     ensures indices { IfOk result (λ s. StatementFits (statement_view s)) }
 {

@@ -12,7 +12,7 @@ use micro_units::{Num, NumFault};
 /// on are rounded before. Each number of the line counts, a block number too.
 pub fn has_large_number(words: &Words<'_>) -> bool
     requires { IsScanned words.now }
-    ensures { result ≡ has_large_number words.now.line.now words.now.tokens.items }
+    ensures { result ≡ has_large_number words.now.line words.now.tokens }
 {
     for index in 0..words.tokens.len() {
         if is_large_token(words, words.token(index)) {
@@ -25,8 +25,8 @@ pub fn has_large_number(words: &Words<'_>) -> bool
 /// Whether a token is a number out of range.
 #[tactic(auto, unfolding(crate::specs::LargeNumbers::is_large_kind))]
 fn is_large_token(words: &Words<'_>, token: Token) -> bool
-    requires { IsTokenOf words.now.line.now token }
-    ensures { result ≡ is_large_token words.now.line.now token }
+    requires { IsTokenOf words.now.line token }
+    ensures { result ≡ is_large_token words.now.line token }
 {
     match token.kind {
         Kind::Number => is_large(words.text(&token)),

@@ -17,8 +17,8 @@ use micro_units::Num;
 /// G41 and G42 are accepted with tool radius `compensation`.
 pub fn refused_word(words: &Words<'_>, compensation: bool) -> Option<u16>
     requires { IsScanned words.now }
-    ensures exact { result ≡ refused_word compensation words.now.line.now words.now.tokens.items }
-    ensures leftmost { IsLeftmost compensation words.now.line.now words.now.tokens.items result }
+    ensures exact { result ≡ refused_word compensation words.now.line words.now.tokens }
+    ensures leftmost { IsLeftmost compensation words.now.line words.now.tokens result }
 {
     refused_from_left(words, compensation)
 }
@@ -26,7 +26,7 @@ pub fn refused_word(words: &Words<'_>, compensation: bool) -> Option<u16>
 #[tactic(auto, using(crate::proofs::Lines::word_steps))]
 fn refused_from_left(words: &Words<'_>, compensation: bool) -> Option<u16>
     requires { IsScanned words.now }
-    ensures { result ≡ refused_word compensation words.now.line.now words.now.tokens.items }
+    ensures { result ≡ refused_word compensation words.now.line words.now.tokens }
 {
     for index in 0..words.tokens.len() {
         if let Some(code) = refused_at(words, compensation, index) {
@@ -40,8 +40,8 @@ fn refused_from_left(words: &Words<'_>, compensation: bool) -> Option<u16>
 #[tactic(auto, using(crate::proofs::Lines::first_at))]
 fn refused_at(words: &Words<'_>, compensation: bool, index: usize) -> Option<u16>
     requires scanned { IsScanned words.now }
-    requires within { index < length words.now.tokens.items }
-    ensures { result ≡ refused_first compensation words.now.line.now (drop index words.now.tokens.items) }
+    requires within { index < length words.now.tokens }
+    ensures { result ≡ refused_first compensation words.now.line (drop index words.now.tokens) }
 {
     refused_token(words, compensation, words.token(index), index + 1)
 }
@@ -50,9 +50,9 @@ fn refused_at(words: &Words<'_>, compensation: bool, index: usize) -> Option<u16
 #[tactic(auto, unfolding(crate::specs::Refused::refused_kind))]
 fn refused_token(words: &Words<'_>, compensation: bool, token: Token, next: usize) -> Option<u16>
     requires scanned { IsScanned words.now }
-    requires stands { IsTokenOf words.now.line.now token }
-    ensures { result ≡ refused_kind compensation words.now.line.now token.kind (text_of words.now.line.now token)
-        (drop next words.now.tokens.items) }
+    requires stands { IsTokenOf words.now.line token }
+    ensures { result ≡ refused_kind compensation words.now.line token.kind (text_of words.now.line token)
+        (drop next words.now.tokens) }
 {
     match token.kind {
         Kind::Letter(b'G') => refused_behind(words, compensation, next),
@@ -66,7 +66,7 @@ fn refused_token(words: &Words<'_>, compensation: bool, token: Token, next: usiz
 #[tactic(auto, using(crate::proofs::Lines::behind_at))]
 fn refused_behind(words: &Words<'_>, compensation: bool, index: usize) -> Option<u16>
     requires { IsScanned words.now }
-    ensures { result ≡ refused_behind compensation words.now.line.now (drop index words.now.tokens.items) }
+    ensures { result ≡ refused_behind compensation words.now.line (drop index words.now.tokens) }
 {
     if index < words.tokens.len() {
         refused_before(words, compensation, words.token(index))
@@ -78,8 +78,8 @@ fn refused_behind(words: &Words<'_>, compensation: bool, index: usize) -> Option
 /// The code of the letter G before a token.
 #[tactic(auto, unfolding(crate::specs::Refused::refused_before))]
 fn refused_before(words: &Words<'_>, compensation: bool, token: Token) -> Option<u16>
-    requires { IsTokenOf words.now.line.now token }
-    ensures { result ≡ refused_before compensation token.kind (text_of words.now.line.now token) }
+    requires { IsTokenOf words.now.line token }
+    ensures { result ≡ refused_before compensation token.kind (text_of words.now.line token) }
 {
     match token.kind {
         Kind::Number => refused_value(compensation, words.text(&token)),

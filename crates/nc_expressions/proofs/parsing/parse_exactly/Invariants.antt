@@ -12,4 +12,4 @@ invariant-loop-at l = record {
 }
 
 abbrev pub decreases-loop-at : goal.decreases-loop-at
-decreases-loop-at l = length l.words.tokens.items - l.at
+decreases-loop-at l = length l.words.tokens - l.at

@@ -8,10 +8,10 @@ use Rattle.nc_syntax.proofs.coordination.arguments_at.Given as goal
 
 abbrev pub invariant-loop-list : goal.invariant-loop-list
 invariant-loop-list l = record {
-  within : l.at ≤ length l.words.tokens.items;
-  so_far : listed (λ before. argument_at l.words) (map operand_view l.list.items) l.at (drop l.at l.words.tokens.items) 0 ≡ list_at (λ before. argument_at l.words) l.words l.start;
+  within : l.at ≤ length l.words.tokens;
+  so_far : listed (λ before. argument_at l.words) (map operand_view l.list.items) l.at (drop l.at l.words.tokens) 0 ≡ list_at (λ before. argument_at l.words) l.words l.start;
   fits : All OperandFits (map operand_view l.list.items);
 }
 
 abbrev pub decreases-loop-list : goal.decreases-loop-list
-decreases-loop-list l = length l.words.tokens.items - l.at
+decreases-loop-list l = length l.words.tokens - l.at

@@ -5,9 +5,9 @@ use Rattle.nc_syntax.proofs.jumps.pairs_at.Given as goal
 
 abbrev pub invariant-loop-list : goal.invariant-loop-list
 invariant-loop-list l = record {
-  within : l.at ≤ length l.words.tokens.items;
-  so_far : listed (λ before. pair_at l.words) l.list.items l.at (drop l.at l.words.tokens.items) 0 ≡ list_at (λ before. pair_at l.words) l.words l.start;
+  within : l.at ≤ length l.words.tokens;
+  so_far : listed (λ before. pair_at l.words) l.list.items l.at (drop l.at l.words.tokens) 0 ≡ list_at (λ before. pair_at l.words) l.words l.start;
 }
 
 abbrev pub decreases-loop-list : goal.decreases-loop-list
-decreases-loop-list l = length l.words.tokens.items - l.at
+decreases-loop-list l = length l.words.tokens - l.at

@@ -4,5 +4,5 @@ use Rattle.word_tables.proofs.large_numbers.has_large_number.Given as goal
 
 abbrev pub invariant-loop-index : goal.invariant-loop-index
 invariant-loop-index l =
-    has_large_number l.words.line.now l.words.tokens.items
-    ≡ has_large_number l.words.line.now (drop l.index l.words.tokens.items)
+    has_large_number l.words.line l.words.tokens
+    ≡ has_large_number l.words.line (drop l.index l.words.tokens)

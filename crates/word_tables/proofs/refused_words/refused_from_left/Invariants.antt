@@ -4,5 +4,5 @@ use Rattle.word_tables.proofs.refused_words.refused_from_left.Given as goal
 
 abbrev pub invariant-loop-index : goal.invariant-loop-index
 invariant-loop-index l =
-    refused_word l.compensation l.words.line.now l.words.tokens.items
-    ≡ refused_word l.compensation l.words.line.now (drop l.index l.words.tokens.items)
+    refused_word l.compensation l.words.line l.words.tokens
+    ≡ refused_word l.compensation l.words.line (drop l.index l.words.tokens)

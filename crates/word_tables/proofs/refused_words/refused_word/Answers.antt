@@ -5,6 +5,6 @@ use Rattle.word_tables.proofs.refused_words.refused_word.Goals as goal
 
 pub returns-clause-leftmost : goal.returns-clause-leftmost
 returns-clause-leftmost c =
-    let line = c.args.words.now.line.now in
-    let tokens = c.args.words.now.tokens.items in
+    let line = c.args.words.now.line in
+    let tokens = c.args.words.now.tokens in
     subst (λ (o : Option ℕ). IsLeftmost c.args.compensation line tokens o) (sym c.refused_from_left.ensures) (leftmost c.args.compensation line tokens)

@@ -1,0 +1,24 @@
+use Rattle.std.proofs.Common.{◌≡◌, ◌<◌, ◌∙◌, ℕ, ℤ, length, List, Option, option_map, sym, subst, arith}
+use Rattle.std.specs.List.{filter_map, range_with_len}
+use Rattle.channel_machine.specs.Motions as model
+use Rattle.channel_machine.proofs.Moves.{moves_on, moves_not}
+use Rattle.channel_machine.proofs.motions.move_axes.Goals as goal
+use Rattle.channel_machine.proofs.motions.move_axes.Goals.{in-Some, in_default}
+
+pub loop-index-preserved : goal.loop-index-preserved
+loop-index-preserved c =
+    let long : length c.args.programmed.now ≡ 16 = c.type_inv.programmed in
+    elim c.match-programmed-index.branch [
+      | in-Some w ↦ rw (w.at-is, w.axes-is, w.push.ensures.items)
+          (moves_on c.args.programmed.now c.args.at.now c.loop-index.index c.loop-index.at c.loop-index.axes.items c.loop-index.invariant
+          w.in-Some.value w.end_of-end.result _ _ c.loop-index-test.true long w.in-Some.is w.end_of-end.ensures)
+      | in_default w ↦ rw (w.at-is, w.axes-is)
+          (moves_not c.args.programmed.now c.args.at.now c.loop-index.index c.loop-index.at c.loop-index.axes.items c.loop-index.invariant
+          _ c.loop-index-test.true long w.in_default.is)
+    ]
+
+pub returns-clause-ends : goal.returns-clause-ends
+returns-clause-ends c =
+    let n : c.loop-index.index ≡ length c.args.programmed.now = omega arith in
+    subst (λ (n : ℕ). c.loop-index.axes.items ≡ filter_map (λ axis. option_map (λ to. (axis, model.positions_in c.args.at.now axis, to)) (model.end_for c.args.programmed.now axis)) (range_with_len 0 n))
+    n c.loop-index.invariant.ends

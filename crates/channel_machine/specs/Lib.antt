@@ -1,0 +1,4 @@
+pub mod Built
+pub mod Motions
+pub mod Words
+pub mod Run

@@ -1,0 +1,5 @@
+pub mod Repeating
+pub mod Finding
+pub mod Matched
+pub mod Indexed
+pub mod Resolving

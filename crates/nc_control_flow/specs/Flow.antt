@@ -1,0 +1,35 @@
+-- The next block.
+use Rattle.std.specs.Prelude.{◌≡◌, ℕ, ◌==◌, nat_lt, List, ◌∷◌, length, filter, Result, Ok, Err, if◌then◌else◌}
+use Rattle.nc_blocks.specs.Statement.{BlockView}
+use Rattle.nc_control_flow.specs.declared.flow.Outcome.{Outcome}
+use Rattle.nc_control_flow.specs.declared.flow.Move.{Move}
+use Rattle.nc_control_flow.specs.declared.flow.Move.TheVariants.{Onward, Leap, Start}
+use Rattle.nc_control_flow.specs.declared.flow.Next.{Next}
+use Rattle.nc_control_flow.specs.declared.flow.Next.TheVariants.{At, Past}
+use Rattle.nc_control_flow.specs.declared.repeats.Running.{Running}
+use Rattle.nc_control_flow.specs.declared.repeats.Control.TheVariants.{Done, Comes}
+use Rattle.nc_control_flow.specs.Parts.{statement_at}
+use Rattle.nc_control_flow.specs.Repetitions.{Going, is_within, settled}
+use Rattle.nc_control_flow.specs.Moves.{move_of}
+
+-- a leap ends the repetitions whose blocks it leaves; a seventeenth is alarm 32
+unfoldable pub going : ℕ → List Running → Move → Result Going ℕ
+going pc running Onward = Ok (settled (Done pc) running)
+going pc running (Leap place) = Ok (settled (Comes place) (filter (is_within place) running))
+going pc running (Start r) = if length running == 16 then Err 32 else Ok (settled (Comes r.first) (r ∷ running))
+
+abbrev pub gone : ℕ → List Running → Result Move ℕ → Result Going ℕ
+gone pc running (Ok move) = going pc running move
+gone pc running (Err code) = Err code
+
+-- where the block at a place goes on, with this outcome and while these repetitions run
+unfoldable pub next_block : ℕ → List BlockView → List Running → Outcome → Result Going ℕ
+next_block pc blocks running outcome = gone pc running (move_of pc blocks (statement_at pc blocks) outcome)
+
+abbrev pub next_at : List BlockView → ℕ → Next
+next_at blocks place = if nat_lt place (length blocks) then At place else Past
+
+-- after a fault the repetitions are unchanged
+abbrev pub Leads : List BlockView → Result Going ℕ → Result Next ℕ → List Running → List Running → Type 0
+Leads blocks (Ok going) result old new = (result ≡ Ok (next_at blocks going.place)) × (new ≡ going.running)
+Leads blocks (Err code) result old new = (result ≡ Err code) × (new ≡ old)

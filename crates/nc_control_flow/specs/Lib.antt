@@ -1,0 +1,12 @@
+pub mod Parts
+pub mod Nest
+pub mod Places
+pub mod Matching
+pub mod Structures
+pub mod Pending
+pub mod Targets
+pub mod Index
+pub mod Resolved
+pub mod Repetitions
+pub mod Moves
+pub mod Flow

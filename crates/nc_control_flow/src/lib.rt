@@ -1,0 +1,18 @@
+//! The next block of a part program: jumps, structures and repetitions.
+//!
+//! What follows a block is defined by search in the text of its program. `resolve` finds the
+//! structures and the places of labels and block numbers once, and `Flow::next` answers by them.
+#![tactic(auto)]
+
+mod flow;
+mod index;
+mod moves;
+mod nest;
+mod parts;
+mod places;
+mod repeats;
+mod structures;
+
+pub use flow::{Flow, Next, Outcome, resolve};
+pub use nest::Nest;
+pub use repeats::Repeats;
