@@ -1,12 +1,9 @@
 -- Blocks: what is read is spelled so, and what is spelled so is read; so a line spells one block at most.
-use Rattle.std.proofs.Common.{◌≡◌, ℕ, ◌+◌, ◌<◌, ◌≤◌, List, [], ◌∷◌, length, drop, refl, ap, sym, ◌∙◌, subst, inl, inr, Option, Some, None, Result, Ok, Err, Bool, true, false, cond, arith}
-use Rattle.std.specs.Prelude.{ℤ, ◌⊎◌, ◌==◌, ◌&&◌, codes}
+use Rattle.std.proofs.Common.{◌≡◌, ℕ, ◌+◌, ◌≤◌, List, [], ◌∷◌, length, refl, ap, sym, ◌∙◌, subst, inl, inr, Option, Some, None, Result, Ok, Err, Bool, true, false, cond, arith}
+use Rattle.std.specs.Prelude.{◌⊎◌, ◌==◌, ◌&&◌, codes}
 use Rattle.block_scanner.specs.WordsView.{WordsView}
-use Rattle.nc_expressions.specs.Syntax.{Follows}
-use Rattle.nc_expressions.specs.Symbols.{symbols_of}
 use Rattle.nc_expressions.specs.Tree.{Tree}
 use Rattle.nc_expressions.specs.Value.{◌>>=◌}
-use Rattle.nc_blocks.specs.declared.blocks.JumpTo.{JumpTo}
 use Rattle.nc_blocks.specs.declared.blocks.Measure.{Measure}
 use Rattle.nc_blocks.specs.declared.blocks.Target.{Target}
 use Rattle.nc_blocks.specs.declared.blocks.Target.TheVariants as target
@@ -22,16 +19,16 @@ use Rattle.word_tables.specs.Refused.{refused_word}
 use Rattle.word_tables.specs.LargeNumbers.{has_large_number}
 use Rattle.nc_blocks.specs.Statement.{OperandView, WordView, Assign, AssignAt, G, Axis, Radius, Aux, End, Statement, Empty, WordBlock, Jump, IfJump, If, Else, EndIf, While, EndWhile, Repeat, Until, Loop, EndLoop, For, EndFor, Case, RepeatFrom, RepeatBlock, Call, Return, Proc, Shape, Turn, Coord, Message, BlockView, view_of}
 use Rattle.nc_syntax.specs.Structures.{is_letter}
-use Rattle.nc_syntax.specs.Bodies.{is_number, body_at}
-use Rattle.nc_syntax.specs.Blocks.{is_slash, is_colon, skip_of, has_number, number_at, label_at, head_of, with_label, block_of, unless_refused, statement_of}
+use Rattle.nc_syntax.specs.Bodies.{is_number}
+use Rattle.nc_syntax.specs.Blocks.{is_slash, is_colon, skip_of, has_number, number_at, label_at, head_of, block_of, unless_refused, statement_of}
 use Rattle.nc_syntax.specs.Standing.{IsKeyword, IsExpressionText, AreListed}
 use Rattle.nc_syntax.specs.SpelledWords.{IsAxisWord, IsBracket, IsAux, IsWord}
-use Rattle.nc_syntax.specs.Spelled.{IsNameOf, IsAlone, IsTarget, IsJump, IsTimes, IsFrameAxis, IsAngle, IsCall, IsMessage, AreWords, IsSpelled, IsSkip, IsNumber, IsLabel, Spells, IsAccepted}
+use Rattle.nc_syntax.specs.Spelled.{IsAlone, IsTarget, IsFrameAxis, IsAngle, IsCall, IsMessage, AreWords, IsSpelled, IsSkip, IsNumber, IsLabel, Spells, IsAccepted}
 use Rattle.nc_syntax.proofs.Standings.{piece_within, keyword_piece, expression_begins}
 use Rattle.nc_syntax.proofs.Marked.{bound, one_of, refused, parts_true, same_pair, block_number_found, block_number_only}
 use Rattle.nc_syntax.proofs.WordLaws.{name_is}
 use Rattle.nc_syntax.proofs.WordsRead.{Behind, false_of, first_false, last_false}
-use Rattle.nc_syntax.proofs.WordBlocks.{StartsWord, word_starts, behind_list, at_line_end}
+use Rattle.nc_syntax.proofs.WordBlocks.{word_starts, behind_list, at_line_end}
 use Rattle.nc_syntax.proofs.StructureLaws.{letter_piece}
 use Rattle.nc_syntax.proofs.FrameLaws.{axis_letter}
 use Rattle.nc_syntax.proofs.BlockRefusals.{refusals_listed}
@@ -73,9 +70,9 @@ behind_no_colon words at h =
     elim h [
       | inl a ↦ ap is_colon a
       | inr b ↦ elim b [
-          | inl c ↦ ap is_colon c.1
-          | inr c ↦ ap is_colon c.0
-        ]
+        | inl c ↦ ap is_colon c.1
+        | inr c ↦ ap is_colon c.0
+      ]
     ]
 
 -- a word that is a name
@@ -88,9 +85,9 @@ axis_second words at end address m t h n =
     elim h [
       | inl a ↦ letter_or_name words at a.0 a.2.0 n
       | inr b ↦ elim b [
-          | inl c ↦ letter_or_name words at c.0 c.1.0 n
-          | inr c ↦ letter_or_name words at c.0.0 c.0.1 n
-        ]
+        | inl c ↦ letter_or_name words at c.0 c.1.0 n
+        | inr c ↦ letter_or_name words at c.0.0 c.0.1 n
+      ]
     ]
 
 bracket_second : (words : WordsView) (at end : ℕ) (o : Option Tree) → IsBracket words at end o → piece_at words end ≡ piece.Assign → is_colon (piece_at words at) ≡ false
@@ -104,12 +101,12 @@ aux_second words at end address bracket operand h n =
     elim h [
       | inl a ↦ letter_or_name words at a.1.0 a.1.2.0 n
       | inr b ↦ elim b [
-          | inl a ↦ letter_or_name words at a.1.0 a.1.1.0 n
-          | inr c ↦ elim c [
-              | inl a ↦ letter_or_name words at a.1.0 a.1.2.0 n
-              | inr d ↦ bracket_second words (at + 1) d.0 bracket d.4 d.5.0
-            ]
+        | inl a ↦ letter_or_name words at a.1.0 a.1.1.0 n
+        | inr c ↦ elim c [
+          | inl a ↦ letter_or_name words at a.1.0 a.1.2.0 n
+          | inr d ↦ bracket_second words (at + 1) d.0 bracket d.4 d.5.0
         ]
+      ]
     ]
 
 word_second : (words : WordsView) (at end : ℕ) (x : WordView) → IsWord words at end x → Behind words end → piece_at words at ≡ piece.Name → is_colon (piece_at words (at + 1)) ≡ false
@@ -148,9 +145,9 @@ call_second words at from name n h e =
     let P = λ (k : ℕ). is_colon (piece_at words k) ≡ false in
     subst P e (elim h.3 [
       | inl a ↦ subst P a (elim h.4 [
-          | inl b ↦ ap is_colon (at_line_end words h.1 (sym b.1))
-          | inr b ↦ ap is_colon b.0
-        ])
+        | inl b ↦ ap is_colon (at_line_end words h.1 (sym b.1))
+        | inr b ↦ ap is_colon b.0
+      ])
       | inr a ↦ ap is_colon a.0
     ])
 
@@ -166,15 +163,15 @@ message_begins words at h =
     elim h [
       | inl a ↦ named words at (codes "MSG") a.1 (ap is_colon a.2)
       | inr b ↦ elim b [
-          | inl a ↦ alone_begins words at (codes "STOPRE") a
-          | inr c ↦ elim c [
-              | inl a ↦ named words at (codes "SETMS") a.0 (elim a.1 [
-                  | inl d ↦ ap is_colon (at_line_end words (at + 1) (sym d))
-                  | inr d ↦ ap is_colon d.1.1
-                ])
-              | inr a ↦ named words at (codes "WORKPIECE") a.1 (ap is_colon a.2)
-            ]
+        | inl a ↦ alone_begins words at (codes "STOPRE") a
+        | inr c ↦ elim c [
+          | inl a ↦ named words at (codes "SETMS") a.0 (elim a.1 [
+            | inl d ↦ ap is_colon (at_line_end words (at + 1) (sym d))
+            | inr d ↦ ap is_colon d.1.1
+          ])
+          | inr a ↦ named words at (codes "WORKPIECE") a.1 (ap is_colon a.2)
         ]
+      ]
     ]
 
 body_begins : (words : WordsView) (at : ℕ) (s : Statement) → IsSpelled words at (length words.tokens) s → Begin words at
@@ -218,9 +215,9 @@ begin_no_number words at h =
     elim h [
       | inl a ↦ (ap (λ p. is_letter p 78) a, ap is_slash a, ap is_number a)
       | inr b ↦ elim b [
-          | inl c ↦ (ap (λ p. is_letter p 78) c.1 ∙ c.2, ap is_slash c.1, ap is_number c.1)
-          | inr c ↦ (ap (λ p. is_letter p 78) c.0, ap is_slash c.0, ap is_number c.0)
-        ]
+        | inl c ↦ (ap (λ p. is_letter p 78) c.1 ∙ c.2, ap is_slash c.1, ap is_number c.1)
+        | inr c ↦ (ap (λ p. is_letter p 78) c.0, ap is_slash c.0, ap is_number c.0)
+      ]
     ]
 
 label_no_number : (words : WordsView) (at end : ℕ) (o : Option (List ℕ)) (s : Statement) → IsLabel words at end o → IsSpelled words end (length words.tokens) s → NoNumber words at
@@ -238,14 +235,14 @@ skip_found : (words : WordsView) (b : Bool) (end : ℕ) → skip_of words ≡ Ok
 unfolding skip_of
 skip_found words b end h =
     one_of (is_slash (piece_at words 0)) (cond (is_number (piece_at words 1)) (Err 59) (Ok (true, 1))) (Ok (false, 0)) (b, end) h
-      (λ t e. one_of (is_number (piece_at words 1)) (Err 59) (Ok (true, 1)) (b, end) e
-          (λ k f. refused 59 (b, end) f)
-          (λ k f. let s = same_pair true b 1 end f in
-              let P : Bool → Type 0 = λ c. IsSkip words 0 end c in
-              subst P s.0 (slash_piece (piece_at words 0) t, sym s.1)))
-      (λ t e. let s = same_pair false b 0 end e in
-          let P : Bool → Type 0 = λ c. IsSkip words 0 end c in
-          subst P s.0 (sym s.1))
+    (λ t e. one_of (is_number (piece_at words 1)) (Err 59) (Ok (true, 1)) (b, end) e
+    (λ k f. refused 59 (b, end) f)
+    (λ k f. let s = same_pair true b 1 end f in
+    let P : Bool → Type 0 = λ c. IsSkip words 0 end c in
+    subst P s.0 (slash_piece (piece_at words 0) t, sym s.1)))
+    (λ t e. let s = same_pair false b 0 end e in
+    let P : Bool → Type 0 = λ c. IsSkip words 0 end c in
+    subst P s.0 (sym s.1))
 
 skip_only : (words : WordsView) (b : Bool) (end : ℕ) → IsSkip words 0 end b → NoSlash words end → skip_of words ≡ Ok (b, end)
 unfolding skip_of
@@ -261,14 +258,14 @@ unfolding number_at has_number
 number_found words at end o h =
     let P = λ (k : ℕ) (x : Option ℕ). IsNumber words at k x in
     one_of (is_letter (piece_at words at) 78 && is_number (piece_at words (at + 1))) (◌>>=◌ {B = Option ℕ × ℕ} (block_number_at words (at + 1)) (λ n. Ok (Some n, at + 2))) (Ok (None, at)) (o, end) h
-      (λ t e. let p = parts_true (is_letter (piece_at words at) 78) (is_number (piece_at words (at + 1))) t in
-          let b = bound (block_number_at words (at + 1)) (λ (n : ℕ). Ok (Some n, at + 2)) (o, end) e in
-          let s = same_pair (Some b.0) o (at + 2) end b.2 in
-          let Q = λ (x : Option ℕ). IsNumber words at end x in
-          subst Q s.0 (letter_piece (piece_at words at) 78 p.0, block_number_found words (at + 1) b.0 b.1, sym s.1))
-      (λ t e. let s = same_pair None o at end e in
-          let Q = λ (x : Option ℕ). IsNumber words at end x in
-          subst Q s.0 (sym s.1))
+    (λ t e. let p = parts_true (is_letter (piece_at words at) 78) (is_number (piece_at words (at + 1))) t in
+    let b = bound (block_number_at words (at + 1)) (λ (n : ℕ). Ok (Some n, at + 2)) (o, end) e in
+    let s = same_pair (Some b.0) o (at + 2) end b.2 in
+    let Q = λ (x : Option ℕ). IsNumber words at end x in
+    subst Q s.0 (letter_piece (piece_at words at) 78 p.0, block_number_found words (at + 1) b.0 b.1, sym s.1))
+    (λ t e. let s = same_pair None o at end e in
+    let Q = λ (x : Option ℕ). IsNumber words at end x in
+    subst Q s.0 (sym s.1))
 
 number_only : (words : WordsView) (at end : ℕ) (o : Option ℕ) → IsNumber words at end o → NoNumber words end → number_at words at ≡ Ok (o, end)
 unfolding number_at has_number
@@ -297,9 +294,9 @@ begin_no_label words at h =
     elim h [
       | inl a ↦ first_false (is_name (piece_at words at)) (is_colon (piece_at words (at + 1))) (ap is_name a)
       | inr b ↦ elim b [
-          | inl c ↦ first_false (is_name (piece_at words at)) (is_colon (piece_at words (at + 1))) (ap is_name c.1)
-          | inr c ↦ last_false (is_name (piece_at words at)) (is_colon (piece_at words (at + 1))) c.1
-        ]
+        | inl c ↦ first_false (is_name (piece_at words at)) (is_colon (piece_at words (at + 1))) (ap is_name c.1)
+        | inr c ↦ last_false (is_name (piece_at words at)) (is_colon (piece_at words (at + 1))) c.1
+      ]
     ]
 
 label_only : (words : WordsView) (at end : ℕ) (o : Option (List ℕ)) → IsLabel words at end o → Begin words end → label_at words at ≡ (o, end)
@@ -352,8 +349,12 @@ unfolding block_of head_of Spells
 block_only words b h =
     let start = body_begins words h.2 b.statement h.6 in
     let apart = label_no_number words h.1 h.2 b.label b.statement h.5 h.6 in
-    rw (skip_only words b.skip h.0 h.3 (number_no_slash words h.0 h.1 b.number h.4 apart), number_only words h.0 h.1 b.number h.4 apart,
-      label_only words h.1 h.2 b.label h.5 start, body_only words h.2 b.statement h.6) refl
+    rw (
+      skip_only words b.skip h.0 h.3 (number_no_slash words h.0 h.1 b.number h.4 apart),
+      number_only words h.0 h.1 b.number h.4 apart,
+      label_only words h.1 h.2 b.label h.5 start,
+      body_only words h.2 b.statement h.6,
+    ) refl
 
 -- a line spells one block at most
 pub one_block : (words : WordsView) (a b : BlockView) → Spells words a → Spells words b → a ≡ b

@@ -1,25 +1,20 @@
 -- Bodies: what is read is spelled so, and what is spelled so is read.
-use Rattle.std.proofs.Common.{◌≡◌, ℕ, ◌+◌, ◌<◌, ◌≤◌, List, [], ◌∷◌, length, refl, ap, sym, ◌∙◌, subst, inl, inr, Option, Some, None, Result, Ok, Err, Bool, true, false, cond, arith}
-use Rattle.std.specs.Prelude.{ℤ, ◌⊎◌, ◌==◌, ◌&&◌, codes}
+use Rattle.std.proofs.Common.{◌≡◌, ℕ, ◌+◌, ◌≤◌, List, [], ◌∷◌, length, refl, ap, sym, ◌∙◌, subst, inl, inr, Option, Some, None, Ok, true, false, arith}
+use Rattle.std.specs.Prelude.{ℤ, ◌==◌, codes}
 use Rattle.std.proofs.lemmas.Bool.{eqb-true}
 use Rattle.block_scanner.specs.WordsView.{WordsView}
-use Rattle.word_tables.specs.Tables.{is_table_word}
-use Rattle.nc_expressions.specs.Value.{◌>>=◌}
 use Rattle.nc_blocks.specs.declared.pieces.Piece.{Piece}
 use Rattle.nc_blocks.specs.declared.pieces.Piece.TheVariants as piece
 use Rattle.nc_blocks.specs.Names.{name_of}
 use Rattle.nc_blocks.specs.Pieces.{piece_at, text_at}
-use Rattle.nc_blocks.specs.Marks.{end_at}
 use Rattle.nc_blocks.specs.Statement.{WordView, Statement, Empty, WordBlock, Jump, IfJump, If, Else, EndIf, While, EndWhile, Repeat, Until, Loop, EndLoop, For, EndFor, Case, RepeatFrom, RepeatBlock, Call, Return, Proc, Shape, Turn, Coord, Message}
 use Rattle.nc_blocks.specs.Wording.{words_form}
-use Rattle.nc_syntax.specs.declared.bodies.Control.{Control}
 use Rattle.nc_syntax.specs.declared.bodies.Control.TheVariants as control
 use Rattle.nc_syntax.specs.declared.bodies.Form.{Form}
 use Rattle.nc_syntax.specs.declared.bodies.Form.TheVariants as form
-use Rattle.nc_syntax.specs.Structures.{alone, last_expression, call_form, number_name, number_call_form}
+use Rattle.nc_syntax.specs.Structures.{alone, call_form, number_name, number_call_form}
 use Rattle.nc_syntax.specs.Bodies.{form_of, control_form, form_body, named_form, named_body, is_number, lettered_body, body_of, body_at}
-use Rattle.nc_syntax.specs.Standing.{IsKeyword, IsExpressionText, AreListed}
-use Rattle.nc_syntax.specs.SpelledWords.{IsWord}
+use Rattle.nc_syntax.specs.Standing.{IsKeyword}
 use Rattle.nc_syntax.specs.Spelled.{IsAlone, IsParentheses, IsPasses, IsCall, IsMessage, AreWords, IsSpelled}
 use Rattle.nc_syntax.proofs.Marked.{bound, one_of, parts_true}
 use Rattle.nc_syntax.proofs.WordLaws.{keyword_of}
@@ -96,8 +91,8 @@ named_cases : (words : WordsView) (at : ℕ) (s : Statement) (o : Option Form) �
 named_cases words at s (Some f) n e h = form_done words at f s (keyword_of words at (form_name f) n (form_found (text_at words at) f e)) h
 named_cases words at s None n e h =
     one_of _ _ _ _ h
-      (λ t f. words_done words at s f)
-      (λ t f. name_call_found words at s n t f)
+    (λ t f. words_done words at s f)
+    (λ t f. name_call_found words at s n t f)
 
 number_piece_is : (p : Piece) → is_number p ≡ true → (z : ℤ) × (p ≡ piece.Number z)
 number_piece_is (piece.Number z) h = (z, refl)
@@ -107,10 +102,10 @@ letter_done : (words : WordsView) (at b : ℕ) (s : Statement) → piece_at word
 unfolding lettered_body
 letter_done words at b s l h =
     one_of _ _ _ _ h
-      (λ t f. let p = parts_true (b == 76) (is_number (piece_at words (at + 1))) t in
-          let n = number_piece_is (piece_at words (at + 1)) p.1 in
-          number_call_found words at n.0 s (l ∙ ap (λ k. piece.Letter k) (eqb-true b 76 p.0)) n.1 f)
-      (λ t f. words_done words at s f)
+    (λ t f. let p = parts_true (b == 76) (is_number (piece_at words (at + 1))) t in
+    let n = number_piece_is (piece_at words (at + 1)) p.1 in
+    number_call_found words at n.0 s (l ∙ ap (λ k. piece.Letter k) (eqb-true b 76 p.0)) n.1 f)
+    (λ t f. words_done words at s f)
 
 body_cases : (words : WordsView) (at : ℕ) (s : Statement) (p : Piece) → at ≤ length words.tokens → piece_at words at ≡ p → body_of words at p ≡ Ok s → IsDone words at s
 unfolding named_body IsSpelled
@@ -167,12 +162,12 @@ message_only words at h =
     elim h [
       | inl a ↦ form_read words at form.Msg a.1 ∙ msg_form_only words at a
       | inr b ↦ elim b [
-          | inl a ↦ form_read words at form.Stopre a.0 ∙ alone_form_only words at (codes "STOPRE") Message a
-          | inr c ↦ elim c [
-              | inl a ↦ form_read words at form.Setms a.0 ∙ setms_form_only words at a
-              | inr a ↦ form_read words at form.Workpiece a.1 ∙ workpiece_form_only words at a
-            ]
+        | inl a ↦ form_read words at form.Stopre a.0 ∙ alone_form_only words at (codes "STOPRE") Message a
+        | inr c ↦ elim c [
+          | inl a ↦ form_read words at form.Setms a.0 ∙ setms_form_only words at a
+          | inr a ↦ form_read words at form.Workpiece a.1 ∙ workpiece_form_only words at a
         ]
+      ]
     ]
 
 empty_only : (words : WordsView) (at : ℕ) → length words.tokens ≡ at → body_at words at ≡ Ok Empty

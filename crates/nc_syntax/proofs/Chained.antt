@@ -3,7 +3,6 @@ use Rattle.std.proofs.Common.{◌≡◌, ℕ, zero, suc, ◌+◌, ◌-◌, ◌<�
 use Rattle.std.specs.Prelude.{IsTrue}
 use Rattle.block_scanner.specs.declared.Token.{Token}
 use Rattle.block_scanner.specs.WordsView.{WordsView}
-use Rattle.nc_expressions.specs.Value.{◌>>=◌}
 use Rattle.nc_blocks.specs.Lists.{Item, go_on, listed, list_at}
 use Rattle.nc_blocks.proofs.Listing.{list_goes_on, list_ends}
 use Rattle.nc_syntax.proofs.Marked.{bound, same_pair}
@@ -50,7 +49,7 @@ listed_found {A = A} item forward (t ∷ ts) zero before at xs end h =
     let same : at ≡ at + zero = omega arith in
     let P = λ (n : ℕ). Listed item before n end xs in
     subst P same (go_found item before at b.0.0 b.0.1 b.0.2 rest xs end b.1 (forward before at b.0.0 b.0.1 b.0.2 b.1) b.2
-      (λ g. listed_found item forward ts (b.0.2 - (at + 1)) (before ++ b.0.0 ∷ []) (at + 1) xs end g))
+    (λ g. listed_found item forward ts (b.0.2 - (at + 1)) (before ++ b.0.0 ∷ []) (at + 1) xs end g))
 listed_found item forward (t ∷ ts) (suc more) before at xs end h =
     let same : at + 1 + more ≡ at + suc more = omega arith in
     let P = λ (n : ℕ). Listed item before n end xs in

@@ -1,35 +1,33 @@
 -- Coordination words: what is read is spelled so, and what is spelled so is read.
-use Rattle.std.proofs.Common.{◌≡◌, ℕ, ◌+◌, ◌<◌, ◌≤◌, List, [], ◌∷◌, ◌++◌, length, drop, refl, ap, sym, ◌∙◌, subst, inl, inr, Option, Some, None, Result, Ok, Err, Bool, true, false, cond, arith}
-use Rattle.std.specs.Prelude.{ℤ, ◌⊎◌, ◌==◌, ◌&&◌, ◌||◌, IsTrue, codes}
+use Rattle.std.proofs.Common.{◌≡◌, ℕ, ◌+◌, ◌<◌, List, [], ◌∷◌, ◌++◌, length, drop, refl, ap, sym, ◌∙◌, subst, inl, inr, Option, Some, None, Result, Ok, Bool, true, false, cond, arith}
+use Rattle.std.specs.Prelude.{◌⊎◌, ◌==◌, ◌||◌, IsTrue}
 use Rattle.block_scanner.specs.WordsView.{WordsView}
 use Rattle.nc_expressions.specs.Symbols.{symbols_of}
 use Rattle.nc_expressions.specs.Syntax.{Follows}
 use Rattle.nc_expressions.specs.Tree.{Tree}
-use Rattle.nc_expressions.specs.Value.{◌>>=◌}
 use Rattle.nc_blocks.specs.declared.blocks.CoordWord.{CoordWord}
 use Rattle.nc_blocks.specs.declared.blocks.CoordWord.TheVariants as coord
 use Rattle.nc_blocks.specs.declared.pieces.Piece.{Piece}
 use Rattle.nc_blocks.specs.declared.pieces.Piece.TheVariants as piece
-use Rattle.nc_blocks.specs.Pieces.{piece_at, text_at, is_text}
+use Rattle.nc_blocks.specs.Pieces.{piece_at, text_at}
 use Rattle.nc_blocks.specs.Texts.{unquoted}
-use Rattle.nc_blocks.specs.Marks.{end_at, open_at, close_at, comma_at, is_keyword}
-use Rattle.nc_blocks.specs.Reading.{expression_at}
-use Rattle.nc_blocks.specs.AxisNames.{is_axis_start, is_digits_piece, has_digits, has_axis_name}
+use Rattle.nc_blocks.specs.Marks.{open_at}
+use Rattle.nc_blocks.specs.AxisNames.{is_axis_start, has_digits, has_axis_name}
 use Rattle.nc_blocks.specs.Lists.{Item, list_at}
 use Rattle.nc_blocks.specs.Statement.{OperandView, Value, Text, AxisName, Statement, Coord}
 use Rattle.nc_syntax.specs.Frames.{axis_of}
 use Rattle.nc_syntax.specs.Structures.{alone, is_close}
 use Rattle.nc_syntax.specs.Coordination.{separator_of, separator_at, argument_at, axis_of_piece, axis_at, axis_argument_at, arguments_form, axes_form, clear_form, quoted_at, is_wait, wait_at, wait_behind, last_of_init, third, opened_value, init_form, cprot_form}
 use Rattle.nc_syntax.specs.Bodies.{coordination_form}
-use Rattle.nc_syntax.specs.Standing.{IsKeyword, IsExpressionText, IsAxisName, AreBehindCommas, AreSeparated}
+use Rattle.nc_syntax.specs.Standing.{IsKeyword, IsExpressionText, IsAxisName, AreSeparated}
 use Rattle.nc_syntax.specs.Spelled.{coordination_name, IsValue, IsAxis, IsText, IsInit, IsZoneState, AreArguments, IsCoordination, IsSpelled}
-use Rattle.nc_syntax.proofs.Standings.{piece_within, past_end, follows_piece, keyword_piece, expression_within, expression_begins, expression_found, expression_only}
-use Rattle.nc_syntax.proofs.Marked.{bound, taken, refused, one_of, same_pair, end_found, end_only, open_found, open_only, close_found, close_only, comma_found, comma_only}
+use Rattle.nc_syntax.proofs.Standings.{piece_within, follows_piece, expression_within, expression_begins, expression_found, expression_only}
+use Rattle.nc_syntax.proofs.Marked.{bound, taken, one_of, same_pair, open_found, open_only, close_found, close_only, comma_found, comma_only}
 use Rattle.nc_syntax.proofs.Chained.{not_empty, Steps, list_found, list_only}
 use Rattle.nc_syntax.proofs.WordLaws.{moved, text_is, axis_name_found}
 use Rattle.nc_syntax.proofs.WordsRead.{false_of, or_cases, letter_case, last_false, no_digits, axis_name_only}
-use Rattle.nc_syntax.proofs.WordBlocks.{line_end, at_line_end}
-use Rattle.nc_syntax.proofs.JumpLaws.{keyword_within, alone_found, alone_only}
+use Rattle.nc_syntax.proofs.WordBlocks.{at_line_end}
+use Rattle.nc_syntax.proofs.JumpLaws.{alone_found, alone_only}
 use Rattle.nc_syntax.proofs.StructureLaws.{behind_last, close_piece}
 
 -- behind an argument stands a comma, where another one follows, or `)`
@@ -95,9 +93,12 @@ list_steps words item R o w [] before at close h e = absurd h
 list_steps words item R o w (x ∷ []) before at close h e =
     let P = λ (n : ℕ). piece_at words n ≡ piece.Close in
     (h.0 + 1, (let k = w at h.0 x h.1 in omega (arith, k)), o at h.0 x false h.1 (subst P h.2 e), ap (λ n. n + 1) h.2)
-list_steps words item R o w (x ∷ (y ∷ ys)) before at close h e =
-    (h.0 + 1, (let k = w at h.0 x h.1 in omega (arith, k)), o at h.0 x true h.1 h.2.1,
-     list_steps words item R o w (y ∷ ys) (before ++ x ∷ []) (h.0 + 1) close (h.2.0, h.2.2, h.2.3) e)
+list_steps words item R o w (x ∷ (y ∷ ys)) before at close h e = (
+  h.0 + 1,
+  (let k = w at h.0 x h.1 in omega (arith, k)),
+  o at h.0 x true h.1 h.2.1,
+  list_steps words item R o w (y ∷ ys) (before ++ x ∷ []) (h.0 + 1) close (h.2.0, h.2.2, h.2.3) e,
+)
 
 some_list : (words : WordsView) (R : ℕ → ℕ → OperandView → Type 0) (at end : ℕ) (xs : List OperandView) → AreSeparated words R at end xs → IsTrue (not_empty xs)
 some_list words R at end [] h = absurd h
@@ -147,10 +148,10 @@ axis_cases : (words : WordsView) (at end : ℕ) (name : List ℕ) (p : Piece) �
 axis_cases words at end name (piece.Letter b) e h =
     let P = λ (n : ℕ) (y : List ℕ). IsAxis words at n (AxisName y) in
     one_of _ _ _ _ h
-      (λ t f. moved P (b ∷ text_at words (at + 1)) name (at + 2) end f (inl (axis_name_found words at b e t, refl)))
-      (λ t f. let c = taken _ _ _ _ f in
-          let s = slot_named b c.0 in
-          moved P (b ∷ []) name (at + 1) end c.1 (inr (b, s.0, e, s.1, refl, refl)))
+    (λ t f. moved P (b ∷ text_at words (at + 1)) name (at + 2) end f (inl (axis_name_found words at b e t, refl)))
+    (λ t f. let c = taken _ _ _ _ f in
+    let s = slot_named b c.0 in
+    moved P (b ∷ []) name (at + 1) end c.1 (inr (b, s.0, e, s.1, refl, refl)))
 axis_cases words at end name p e h = cc
 
 axis_found : (words : WordsView) (at end : ℕ) (name : List ℕ) → axis_at words at ≡ Ok (name, end) → IsAxis words at end (AxisName name)
@@ -209,7 +210,7 @@ listed_only : (words : WordsView) (item : ℕ → Result (Item OperandView) ℕ)
     (at close : ℕ) (xs : List OperandView) → AreSeparated words R at close xs → piece_at words close ≡ piece.Close → list_at (λ ys. item) words at ≡ Ok (xs, close + 1)
 listed_only words item R o w at close xs h e =
     list_only (λ ys. item) words xs at (close + 1) (list_steps words item R o w xs [] at close h e) (some_list words R at close xs h)
-      (let k = piece_within words close piece.Close e tt in omega (arith, k))
+    (let k = piece_within words close piece.Close e tt in omega (arith, k))
 
 -- the end of a form behind its parenthesis
 pub close_last : (words : WordsView) (close : ℕ) → piece_at words close ≡ piece.Close → piece_at words (close + 1) ≡ piece.End → length words.tokens ≡ close + 1
@@ -250,7 +251,7 @@ arguments_only : (words : WordsView) (at close : ℕ) (which : CoordWord) (xs : 
 unfolding arguments_form
 arguments_only words at close which xs o h c e =
     let l = listed_only words (argument_at words) (IsValue words) (argument_only words) (value_forward words) (at + 1 + 1) close xs
-      (moved_start words (IsValue words) (at + 2) (at + 1 + 1) close xs (omega arith) h) c in
+    (moved_start words (IsValue words) (at + 2) (at + 1 + 1) close xs (omega arith) h) c in
     rw (open_only words (at + 1) 22 o, l) (alone_only words (close + 1) (Coord which xs) (at_line_end words (close + 1) (sym e)))
 
 axes_only : (words : WordsView) (at close : ℕ) (which : CoordWord) (xs : List OperandView) → piece_at words (at + 1) ≡ piece.Open → AreSeparated words (IsAxis words) (at + 2) close xs →
@@ -258,7 +259,7 @@ axes_only : (words : WordsView) (at close : ℕ) (which : CoordWord) (xs : List 
 unfolding axes_form
 axes_only words at close which xs o h c e =
     let l = listed_only words (axis_argument_at words) (IsAxis words) (axis_argument_only words) (axis_forward words) (at + 1 + 1) close xs
-      (moved_start words (IsAxis words) (at + 2) (at + 1 + 1) close xs (omega arith) h) c in
+    (moved_start words (IsAxis words) (at + 2) (at + 1 + 1) close xs (omega arith) h) c in
     rw (open_only words (at + 1) 22 o, l) (alone_only words (close + 1) (Coord which xs) (at_line_end words (close + 1) (sym e)))
 
 -- CLEARM
@@ -269,16 +270,16 @@ clear_found : (words : WordsView) (at : ℕ) (which : CoordWord) (s : Statement)
 unfolding clear_form
 clear_found words at which s h =
     one_of _ _ _ _ h
-      (λ c e. let a = bound (open_at words (at + 1) 22) (λ (n : ℕ). alone words (at + 1 + 2) (Coord which [])) s e in
-          let o = open_found words (at + 1) 22 a.0 a.1 in
-          let f = alone_found words (at + 1 + 2) (Coord which []) s a.2 in
-          let place : at + 1 + 1 ≡ at + 2 = omega arith in
-          let further : at + 1 + 2 ≡ at + 2 + 1 = omega arith in
-          let P = λ (n : ℕ). piece_at words n ≡ piece.Close in
-          let Q = λ (n : ℕ). piece_at words n ≡ piece.End in
-          let k = subst P place (close_piece (piece_at words (at + 1 + 1)) c) in
-          ([], at + 2, o.0, inl (refl, refl), k, close_last words (at + 2) k (subst Q further f.0), sym f.1))
-      (λ c e. let l = arguments_found words at which s e in (l.0, l.1, l.2, inr l.3, l.4, l.5, l.6))
+    (λ c e. let a = bound (open_at words (at + 1) 22) (λ (n : ℕ). alone words (at + 1 + 2) (Coord which [])) s e in
+    let o = open_found words (at + 1) 22 a.0 a.1 in
+    let f = alone_found words (at + 1 + 2) (Coord which []) s a.2 in
+    let place : at + 1 + 1 ≡ at + 2 = omega arith in
+    let further : at + 1 + 2 ≡ at + 2 + 1 = omega arith in
+    let P = λ (n : ℕ). piece_at words n ≡ piece.Close in
+    let Q = λ (n : ℕ). piece_at words n ≡ piece.End in
+    let k = subst P place (close_piece (piece_at words (at + 1 + 1)) c) in
+    ([], at + 2, o.0, inl (refl, refl), k, close_last words (at + 2) k (subst Q further f.0), sym f.1))
+    (λ c e. let l = arguments_found words at which s e in (l.0, l.1, l.2, inr l.3, l.4, l.5, l.6))
 
 value_no_close : (words : WordsView) (at end : ℕ) (x : OperandView) → IsValue words at end x → is_close (piece_at words at) ≡ false
 value_no_close words at end (Value t) h = false_of (is_close (piece_at words at)) (λ k. expression_begins words at end t piece.Close h (close_piece (piece_at words at) k) tt)
@@ -434,9 +435,15 @@ init_found words at which s h =
     let T = λ (n : ℕ). IsThird words n w.0 c.0.0 in
     let E = λ (n : ℕ). piece_at words n ≡ piece.End in
     let last = subst T two w.1 in
-    let k = third_close words (v.1 + 2) w.0 c.0.0 last in
-    (Value v.0 ∷ Text b.0 ∷ third c.0.0, w.0, v.2, init_arguments words (at + 2) v.1 w.0 v.0 b.0 c.0.0 (subst X one v.3) v.4 (subst Q v.5 q) last, k,
-     close_last words w.0 k (subst E w.2 e.0), sym e.1 ∙ ap (λ (o : OperandView). Coord which (o ∷ Text b.0 ∷ third c.0.0)) v.6)
+    let k = third_close words (v.1 + 2) w.0 c.0.0 last in (
+      Value v.0 ∷ Text b.0 ∷ third c.0.0,
+      w.0,
+      v.2,
+      init_arguments words (at + 2) v.1 w.0 v.0 b.0 c.0.0 (subst X one v.3) v.4 (subst Q v.5 q) last,
+      k,
+      close_last words w.0 k (subst E w.2 e.0),
+      sym e.1 ∙ ap (λ (o : OperandView). Coord which (o ∷ Text b.0 ∷ third c.0.0)) v.6,
+    )
 
 init_read : (words : WordsView) (at middle close : ℕ) (which : CoordWord) (t : Tree) (program : List ℕ) (o : Option (List ℕ)) → piece_at words (at + 1) ≡ piece.Open →
     IsExpressionText words (at + 2) middle t → piece_at words middle ≡ piece.Comma → IsText words (middle + 1) program → IsThird words (middle + 2) close o →
@@ -448,7 +455,7 @@ init_read words at middle close which t program o p x c q w e =
     let X = λ (n : ℕ). IsExpressionText words n middle t in
     let T = λ (n : ℕ). IsThird words n close o in
     rw (opened_only words (at + 1) middle t p (subst X one x) c, quoted_only words (middle + 1) program q, third_only words (middle + 1 + 1) close o (subst T two w))
-      (alone_only words (close + 1) (Coord which (Value t ∷ Text program ∷ third o)) (at_line_end words (close + 1) (sym e)))
+    (alone_only words (close + 1) (Coord which (Value t ∷ Text program ∷ third o)) (at_line_end words (close + 1) (sym e)))
 
 init_only : (words : WordsView) (at close : ℕ) (which : CoordWord) (xs : List OperandView) → piece_at words (at + 1) ≡ piece.Open → IsInit words (at + 2) close xs →
     piece_at words close ≡ piece.Close → length words.tokens ≡ close + 1 → init_form words which (at + 1) ≡ Ok (Coord which xs)
@@ -472,9 +479,15 @@ cprot_found words at which s h =
     let one : at + 1 + 1 ≡ at + 2 = omega arith in
     let X = λ (n : ℕ). IsExpressionText words n v.1 v.0 in
     let Y = λ (n : ℕ). IsExpressionText words n b.0.1 b.0.0 in
-    let E = λ (n : ℕ). piece_at words n ≡ piece.End in
-    (Value v.0 ∷ Value b.0.0 ∷ [], b.0.1, v.2, (v.0, b.0.0, v.1, subst X one v.3, v.4, subst Y v.5 x, refl), k.0,
-     close_last words b.0.1 k.0 (subst E k.1 e.0), sym e.1 ∙ ap (λ (o : OperandView). Coord which (o ∷ Value b.0.0 ∷ [])) v.6)
+    let E = λ (n : ℕ). piece_at words n ≡ piece.End in (
+      Value v.0 ∷ Value b.0.0 ∷ [],
+      b.0.1,
+      v.2,
+      (v.0, b.0.0, v.1, subst X one v.3, v.4, subst Y v.5 x, refl),
+      k.0,
+      close_last words b.0.1 k.0 (subst E k.1 e.0),
+      sym e.1 ∙ ap (λ (o : OperandView). Coord which (o ∷ Value b.0.0 ∷ [])) v.6,
+    )
 
 cprot_only : (words : WordsView) (at close : ℕ) (which : CoordWord) (xs : List OperandView) → piece_at words (at + 1) ≡ piece.Open → IsZoneState words (at + 2) close xs →
     piece_at words close ≡ piece.Close → length words.tokens ≡ close + 1 → cprot_form words which (at + 1) ≡ Ok (Coord which xs)
@@ -483,7 +496,7 @@ cprot_only words at close which xs o h c e =
     let one : at + 2 ≡ at + 1 + 1 = omega arith in
     let X = λ (n : ℕ). IsExpressionText words n h.2 h.0 in
     rw (opened_only words (at + 1) h.2 h.0 o (subst X one h.3) h.4, expression_only words (h.2 + 1) close h.1 h.5 (follows_piece words close piece.Close c tt tt), close_only words close 22 c, h.6)
-      (alone_only words (close + 1) (Coord which (Value h.0 ∷ Value h.1 ∷ [])) (at_line_end words (close + 1) (sym e)))
+    (alone_only words (close + 1) (Coord which (Value h.0 ∷ Value h.1 ∷ [])) (at_line_end words (close + 1) (sym e)))
 
 -- a coordination word with its arguments
 abbrev IsRead : WordsView → ℕ → CoordWord → Statement → Type 0

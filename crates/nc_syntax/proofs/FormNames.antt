@@ -1,17 +1,14 @@
 -- The first names of forms.
-use Rattle.std.proofs.Common.{◌≡◌, ℕ, ◌+◌, ◌<◌, ◌≤◌, List, [], ◌∷◌, length, refl, ap, sym, ◌∙◌, subst, inl, inr, Option, Some, None, Result, Ok, Err, Bool, true, false, cond, arith}
-use Rattle.std.specs.Prelude.{◌⊎◌, ◌||◌, is_some, codes}
+use Rattle.std.proofs.Common.{◌≡◌, ℕ, ◌+◌, List, refl, ap, sym, ◌∙◌, subst, inl, inr, Option, Some, None, Bool, true, false, cond}
+use Rattle.std.specs.Prelude.{◌||◌, is_some, codes}
 use Rattle.std.specs.Option.{option_or}
 use Rattle.std.specs.Str.{str_to_ascii_lowercase}
 use Rattle.block_scanner.specs.WordsView.{WordsView}
 use Rattle.g_groups.specs.declared.GWord.{GWord}
 use Rattle.word_tables.specs.GroupWords.{word_by_name}
-use Rattle.word_tables.specs.RefusedNames.{refused_name}
-use Rattle.word_tables.specs.Tables.{is_control_name, is_frame_name, is_coordination_name, is_message_name, is_first_name, is_inner_name, is_expression_name, is_table_word}
+use Rattle.word_tables.specs.Tables.{is_control_name, is_frame_name, is_coordination_name, is_message_name, is_first_name, is_inner_name, is_table_word}
 use Rattle.nc_expressions.specs.Symbols.{is_word}
-use Rattle.nc_blocks.specs.declared.blocks.CoordWord.{CoordWord}
 use Rattle.nc_blocks.specs.declared.blocks.CoordWord.TheVariants as coord
-use Rattle.nc_blocks.specs.declared.blocks.FrameWord.{FrameWord}
 use Rattle.nc_blocks.specs.declared.blocks.FrameWord.TheVariants as frame
 use Rattle.nc_blocks.specs.declared.blocks.Way.{Way}
 use Rattle.nc_blocks.specs.declared.blocks.Way.TheVariants.{Forward, Backward, Either, Optional}
@@ -19,10 +16,7 @@ use Rattle.nc_blocks.specs.declared.pieces.Piece.{Piece}
 use Rattle.nc_blocks.specs.declared.pieces.Piece.TheVariants as piece
 use Rattle.nc_blocks.specs.Names.{name_of}
 use Rattle.nc_blocks.specs.Pieces.{piece_at, text_at}
-use Rattle.nc_blocks.specs.Marks.{is_keyword}
-use Rattle.nc_blocks.specs.Statement.{Statement}
 use Rattle.nc_blocks.specs.Wording.{is_spindle_word, words_form}
-use Rattle.nc_syntax.specs.declared.bodies.Control.{Control}
 use Rattle.nc_syntax.specs.declared.bodies.Control.TheVariants as control
 use Rattle.nc_syntax.specs.declared.bodies.Form.{Form}
 use Rattle.nc_syntax.specs.declared.bodies.Form.TheVariants as form
@@ -369,9 +363,10 @@ inner_word text k h i n =
 group_word_name : (text : List ℕ) (w : GWord) → word_by_name text ≡ Some w → (form_of text ≡ None) × (is_table_word text ≡ true)
 unfolding is_table_word
 group_word_name text w h =
-    let some : is_some (word_by_name text) ≡ true = ap is_some h in
-    (none_of (form_of text) (λ f e. let no : true ≡ false = sym (form_found text f e) ∙ not_in_group text (form_name f) w h (no_group f) in cc),
-     or_more _ _ (inner_is_table _ _ some))
+    let some : is_some (word_by_name text) ≡ true = ap is_some h in (
+      none_of (form_of text) (λ f e. let no : true ≡ false = sym (form_found text f e) ∙ not_in_group text (form_name f) w h (no_group f) in cc),
+      or_more _ _ (inner_is_table _ _ some),
+    )
 
 pub names_no_form : (text : List ℕ) → NamesWord text → (form_of text ≡ None) × (is_table_word text ≡ true)
 unfolding is_spindle_word is_inner_name form_of way_of structure_name control_name frame_form_name coordination_form_name
@@ -379,11 +374,11 @@ names_no_form text h =
     elim h [
       | inl a ↦ inner_word text (codes "CR") a refl refl
       | inr b ↦ elim b [
-          | inl c ↦ or_cases _ _ c (λ c. or_cases _ _ c (λ c. or_cases _ _ c
-              (λ c. inner_word text (codes "SPOS") c refl refl) (λ c. inner_word text (codes "SPOSA") c refl refl))
-              (λ c. inner_word text (codes "LIMS") c refl refl)) (λ c. inner_word text (codes "SF") c refl refl)
-          | inr c ↦ group_word_name text c.0 c.1
-        ]
+        | inl c ↦ or_cases _ _ c (λ c. or_cases _ _ c (λ c. or_cases _ _ c
+            (λ c. inner_word text (codes "SPOS") c refl refl) (λ c. inner_word text (codes "SPOSA") c refl refl))
+            (λ c. inner_word text (codes "LIMS") c refl refl)) (λ c. inner_word text (codes "SF") c refl refl)
+        | inr c ↦ group_word_name text c.0 c.1
+      ]
     ]
 
 -- bodies

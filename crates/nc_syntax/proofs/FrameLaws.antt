@@ -1,27 +1,25 @@
 -- Frames: what is read is spelled so, and what is spelled so is read.
-use Rattle.std.proofs.Common.{◌≡◌, ℕ, ◌+◌, ◌<◌, ◌≤◌, List, [], ◌∷◌, ◌++◌, length, map, drop, refl, ap, sym, ◌∙◌, subst, inl, inr, Option, Some, None, Result, Ok, Err, Bool, true, false, cond, arith}
-use Rattle.std.specs.Prelude.{ℤ, ◌⊎◌, ◌==◌, ◌||◌, not, IsTrue, codes}
-use Rattle.std.specs.List.{IsDistinct, list_any, AllByRecursion}
+use Rattle.std.proofs.Common.{◌≡◌, ℕ, ◌+◌, ◌<◌, ◌≤◌, List, [], ◌∷◌, ◌++◌, length, map, drop, refl, ap, sym, ◌∙◌, subst, inl, inr, Option, Some, None, Result, Ok, Bool, true, false, arith}
+use Rattle.std.specs.Prelude.{ℤ, ◌⊎◌, ◌==◌, ◌||◌, not, IsTrue}
+use Rattle.std.specs.List.{IsDistinct, AllByRecursion}
 use Rattle.std.proofs.lemmas.Bool.{eqb-true, eq-eqb}
 use Rattle.block_scanner.specs.WordsView.{WordsView}
-use Rattle.nc_expressions.specs.Symbols.{symbols_of, name_symbol, value_symbol}
+use Rattle.nc_expressions.specs.Symbols.{symbols_of}
 use Rattle.nc_expressions.specs.Syntax.{Follows}
 use Rattle.nc_expressions.specs.Tree.{Tree, Number}
-use Rattle.nc_expressions.specs.Value.{◌>>=◌}
 use Rattle.nc_blocks.specs.declared.blocks.FrameWord.{FrameWord}
 use Rattle.nc_blocks.specs.declared.pieces.Piece.{Piece}
 use Rattle.nc_blocks.specs.declared.pieces.Piece.TheVariants as piece
-use Rattle.nc_blocks.specs.Pieces.{piece_at, text_at, is_assign, is_end}
-use Rattle.nc_blocks.specs.Marks.{end_at, assign_at, is_keyword, code_at}
-use Rattle.nc_blocks.specs.Reading.{constant_at, expression_at}
-use Rattle.nc_blocks.specs.AxisNames.{is_axis_start, has_digits, has_axis_name, has_axis_word}
-use Rattle.nc_blocks.specs.Lists.{Item, list_at}
+use Rattle.nc_blocks.specs.Pieces.{piece_at, is_end}
+use Rattle.nc_blocks.specs.Marks.{is_keyword}
+use Rattle.nc_blocks.specs.AxisNames.{has_axis_name, has_axis_word}
+use Rattle.nc_blocks.specs.Lists.{Item}
 use Rattle.nc_blocks.specs.Statement.{Statement, Shape, Turn}
-use Rattle.nc_syntax.specs.Frames.{axis_of, is_slot, frame_value, has_axis, frame_word, frame_word_at, shape_form, turn_end, angle_at, turn_form}
+use Rattle.nc_syntax.specs.Frames.{axis_of, frame_value, has_axis, frame_word, frame_word_at, shape_form, turn_end, angle_at, turn_form}
 use Rattle.nc_syntax.specs.Standing.{IsKeyword, IsExpressionText, IsSignedNumber, IsAssigned, AreListed}
 use Rattle.nc_syntax.specs.Spelled.{frame_name, turn_name, IsFrameAxis, IsShape, IsAngle, IsSpelled}
-use Rattle.nc_syntax.proofs.Standings.{piece_within, past_end, follows_letter, follows_end, keyword_piece, expression_within, expression_found, expression_only}
-use Rattle.nc_syntax.proofs.Marked.{bound, taken, refused, one_of, same_pair, end_found, end_only, assign_found, assign_only, constant_found, constant_only}
+use Rattle.nc_syntax.proofs.Standings.{follows_letter, follows_end, expression_found, expression_only}
+use Rattle.nc_syntax.proofs.Marked.{bound, refused, one_of, same_pair, end_found, end_only, assign_found, assign_only, constant_found, constant_only}
 use Rattle.nc_syntax.proofs.Chained.{not_empty, Steps, list_found, list_only}
 use Rattle.nc_syntax.proofs.WordLaws.{moved, assign_is}
 use Rattle.nc_syntax.proofs.WordsRead.{false_of, signed_no_assign}
@@ -100,11 +98,11 @@ value_read : (words : WordsView) (at end : ℕ) (t : Tree) → frame_value words
 unfolding frame_value
 value_read words at end t h =
     one_of _ _ _ _ h
-      (λ a e. inl (assign_is (piece_at words at) a, expression_found words (at + 1) end t e))
-      (λ a e. let b = bound _ _ _ e in
-          let p = same_pair (Number b.0.0) t b.0.1 end b.2 in
-          let P = λ (n : ℕ). IsSignedNumber words at n b.0.0 in
-          inr (b.0.0, subst P p.1 (constant_found words at 22 b.0.0 b.0.1 b.1), sym p.0))
+    (λ a e. inl (assign_is (piece_at words at) a, expression_found words (at + 1) end t e))
+    (λ a e. let b = bound _ _ _ e in
+    let p = same_pair (Number b.0.0) t b.0.1 end b.2 in
+    let P = λ (n : ℕ). IsSignedNumber words at n b.0.0 in
+    inr (b.0.0, subst P p.1 (constant_found words at 22 b.0.0 b.0.1 b.1), sym p.0))
 
 value_only : (words : WordsView) (at end : ℕ) (t : Tree) → IsAssigned words at end t ⊎ ((z : ℤ) × IsSignedNumber words at end z × (t ≡ Number z)) → Follows (drop end (symbols_of words)) →
     frame_value words at ≡ Ok (t, end)
@@ -132,22 +130,24 @@ item_same : (axis n next : ℕ) (t : Tree) (words : WordsView) (more : Bool) (x 
     ((axis, t) ≡ x) × (n ≡ next) × (not (is_end (piece_at words next)) ≡ more)
 item_same axis n next t words more x h =
     let same : ((axis, t), not (is_end (piece_at words n)), n) ≡ (x, more, next) = cc in
-    let c : n ≡ next = ap (λ (q : (ℕ × Tree) × Bool × ℕ). q.2) same in
-    (ap (λ (q : (ℕ × Tree) × Bool × ℕ). q.0) same, c,
-     ap (λ (m : ℕ). not (is_end (piece_at words m))) (sym c) ∙ ap (λ (q : (ℕ × Tree) × Bool × ℕ). q.1) same)
+    let c : n ≡ next = ap (λ (q : (ℕ × Tree) × Bool × ℕ). q.2) same in (
+      ap (λ (q : (ℕ × Tree) × Bool × ℕ). q.0) same,
+      c,
+      ap (λ (m : ℕ). not (is_end (piece_at words m))) (sym c) ∙ ap (λ (q : (ℕ × Tree) × Bool × ℕ). q.1) same,
+    )
 
 item_cases : (words : WordsView) (before : List (ℕ × Tree)) (at next : ℕ) (x : ℕ × Tree) (more : Bool) (o : Option ℕ) → axis_of (piece_at words at) ≡ o →
     frame_word words before at o ≡ Ok (x, more, next) → IsFrameAxis words at next x × (has_axis before x.0 ≡ false) × (not (is_end (piece_at words next)) ≡ more)
 item_cases words before at next x more None e h = cc
 item_cases words before at next x more (Some axis) e h =
     one_of _ _ _ _ h
-      (λ b f. refused 22 (x, more, next) f)
-      (λ b f. let c = bound _ _ _ f in
-          let s = item_same axis c.0.1 next c.0.0 words more x c.2 in
-          let P = λ (n : ℕ). IsFrameAxis words at n (axis, c.0.0) × (has_axis before axis ≡ false) in
-          let Q = λ (y : ℕ × Tree). IsFrameAxis words at next y × (has_axis before y.0 ≡ false) in
-          let r = subst Q s.0 (subst P s.1 ((e, value_read words (at + 1) c.0.1 c.0.0 c.1), b)) in
-          (r.0, r.1, s.2))
+    (λ b f. refused 22 (x, more, next) f)
+    (λ b f. let c = bound _ _ _ f in
+    let s = item_same axis c.0.1 next c.0.0 words more x c.2 in
+    let P = λ (n : ℕ). IsFrameAxis words at n (axis, c.0.0) × (has_axis before axis ≡ false) in
+    let Q = λ (y : ℕ × Tree). IsFrameAxis words at next y × (has_axis before y.0 ≡ false) in
+    let r = subst Q s.0 (subst P s.1 ((e, value_read words (at + 1) c.0.1 c.0.0 c.1), b)) in
+    (r.0, r.1, s.2))
 
 item_found : (words : WordsView) (before : List (ℕ × Tree)) (at next : ℕ) (x : ℕ × Tree) (more : Bool) → frame_word_at words before at ≡ Ok (x, more, next) →
     IsFrameAxis words at next x × (has_axis before x.0 ≡ false) × (not (is_end (piece_at words next)) ≡ more)
@@ -170,10 +170,12 @@ axes_steps : (words : WordsView) (xs before : List (ℕ × Tree)) (at end : ℕ)
 unfolding frame_word_at
 axes_steps words [] before at end h o e = h
 axes_steps words (x ∷ xs) before at end h o e =
-    let f = axes_flag words h.0 end xs h.2 e in
-    (h.0, (axis_within words at h.0 x h.1).0,
-     rw (h.1.0, o.0, value_only words (at + 1) h.0 x.1 h.1.1 f.1, f.0) refl,
-     axes_steps words xs (before ++ x ∷ []) h.0 end h.2 o.1 e)
+    let f = axes_flag words h.0 end xs h.2 e in (
+      h.0,
+      (axis_within words at h.0 x h.1).0,
+      rw (h.1.0, o.0, value_only words (at + 1) h.0 x.1 h.1.1 f.1, f.0) refl,
+      axes_steps words xs (before ++ x ∷ []) h.0 end h.2 o.1 e,
+    )
 
 steps_axes : (words : WordsView) (xs before : List (ℕ × Tree)) (at end : ℕ) → Steps (frame_word_at words) before at end xs →
     AreListed (IsFrameAxis words) at end xs × Once before xs × (IsTrue (not_empty xs) → (piece_at words end ≡ piece.End) × (end ≤ length words.tokens))
@@ -198,15 +200,15 @@ unfolding shape_form IsSpelled IsDistinct
 shape_form_found words at which s k h =
     let P = λ (x : Statement). IsSpelled words at (length words.tokens) x in
     one_of _ _ _ _ h
-      (λ e f. let same : Shape which [] ≡ s = cc in
-          subst P same (k, behind_last words at (keyword_within words at (frame_name which) k) (end_piece (piece_at words (at + 1)) e), tt))
-      (λ e f. let b = bound _ _ _ f in
-          let same : Shape which b.0.0 ≡ s = cc in
-          let l = list_found (frame_word_at words) (λ ys n x more next g. (axis_within words n next x (item_found words ys n next x more g).0).0) words (at + 1) b.0.0 b.0.1 b.1 in
-          let r = steps_axes words b.0.0 [] (at + 1) b.0.1 l.1 in
-          let g = r.2 l.0 in
-          let Q = λ (n : ℕ). AreListed (IsFrameAxis words) (at + 1) n b.0.0 in
-          subst P same (k, subst Q (line_end words b.0.1 g.0 g.1) r.0, (once_others [] b.0.0 r.1).1))
+    (λ e f. let same : Shape which [] ≡ s = cc in
+    subst P same (k, behind_last words at (keyword_within words at (frame_name which) k) (end_piece (piece_at words (at + 1)) e), tt))
+    (λ e f. let b = bound _ _ _ f in
+    let same : Shape which b.0.0 ≡ s = cc in
+    let l = list_found (frame_word_at words) (λ ys n x more next g. (axis_within words n next x (item_found words ys n next x more g).0).0) words (at + 1) b.0.0 b.0.1 b.1 in
+    let r = steps_axes words b.0.0 [] (at + 1) b.0.1 l.1 in
+    let g = r.2 l.0 in
+    let Q = λ (n : ℕ). AreListed (IsFrameAxis words) (at + 1) n b.0.0 in
+    subst P same (k, subst Q (line_end words b.0.1 g.0 g.1) r.0, (once_others [] b.0.0 r.1).1))
 
 axes_some : (words : WordsView) (at end : ℕ) (x : ℕ × Tree) (xs : List (ℕ × Tree)) → AreListed (IsFrameAxis words) at end (x ∷ xs) → is_end (piece_at words at) ≡ false
 axes_some words at end x xs h = (axis_stands words at h.0 x h.1).0
@@ -226,8 +228,8 @@ turn_end_found : (words : WordsView) (at n : ℕ) → turn_end words at ≡ Ok n
 unfolding turn_end
 turn_end_found words at n h =
     one_of _ _ _ _ h
-      (λ b e. refused 50 n e)
-      (λ b e. end_found words at n e)
+    (λ b e. refused 50 n e)
+    (λ b e. end_found words at n e)
 
 turn_end_only : (words : WordsView) (at : ℕ) → piece_at words at ≡ piece.End → turn_end words at ≡ Ok 0
 unfolding turn_end has_axis_word has_axis_name
@@ -238,12 +240,12 @@ unfolding angle_at
 angle_found words at end o h =
     let P = λ (n : ℕ) (x : Option Tree). IsAngle words at n x in
     one_of _ _ _ _ h
-      (λ k e. let a = bound _ _ _ e in
-          let b = bound _ _ _ a.2 in
-          let m = assign_found words (at + 1) 22 a.0 a.1 in
-          let Q = λ (n : ℕ). IsExpressionText words n b.0.1 b.0.0 in
-          moved P (Some b.0.0) o b.0.1 end b.2 (k, (m.0, subst Q m.1 (expression_found words a.0 b.0.1 b.0.0 b.1))))
-      (λ k e. moved P None o at end e refl)
+    (λ k e. let a = bound _ _ _ e in
+    let b = bound _ _ _ a.2 in
+    let m = assign_found words (at + 1) 22 a.0 a.1 in
+    let Q = λ (n : ℕ). IsExpressionText words n b.0.1 b.0.0 in
+    moved P (Some b.0.0) o b.0.1 end b.2 (k, (m.0, subst Q m.1 (expression_found words a.0 b.0.1 b.0.0 b.1))))
+    (λ k e. moved P None o at end e refl)
 
 angle_within : (words : WordsView) (at end : ℕ) (o : Option Tree) → IsAngle words at end o → at ≤ length words.tokens → end ≤ length words.tokens
 angle_within words at end None h w = omega (arith, h, w)

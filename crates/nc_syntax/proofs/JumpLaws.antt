@@ -1,9 +1,9 @@
 -- Jumps, IF and CASE: what is read is spelled so, and what is spelled so is read.
-use Rattle.std.proofs.Common.{◌≡◌, ℕ, ◌+◌, ◌<◌, ◌≤◌, List, [], ◌∷◌, ◌++◌, length, drop, refl, ap, sym, ◌∙◌, subst, inl, inr, Option, Some, None, Result, Ok, Err, Bool, true, false, cond, arith}
-use Rattle.std.specs.Prelude.{ℤ, ◌⊎◌, ◌==◌, IsTrue, codes}
+use Rattle.std.proofs.Common.{◌≡◌, ℕ, ◌+◌, ◌<◌, ◌≤◌, List, [], ◌∷◌, ◌++◌, length, refl, ap, sym, ◌∙◌, subst, inl, inr, Option, Some, None, Result, Ok, Err, Bool, true, false, cond, arith}
+use Rattle.std.specs.Prelude.{ℤ, IsTrue, codes}
 use Rattle.std.proofs.lemmas.Bool.{eqb-true}
 use Rattle.block_scanner.specs.WordsView.{WordsView}
-use Rattle.nc_expressions.specs.Symbols.{symbols_of, name_symbol, value_symbol}
+use Rattle.nc_expressions.specs.Symbols.{name_symbol, value_symbol}
 use Rattle.nc_expressions.specs.Syntax.{Follows}
 use Rattle.nc_expressions.specs.Tree.{Tree}
 use Rattle.nc_expressions.specs.Value.{◌>>=◌}
@@ -16,19 +16,18 @@ use Rattle.nc_blocks.specs.declared.pieces.Piece.{Piece}
 use Rattle.nc_blocks.specs.declared.pieces.Piece.TheVariants as piece
 use Rattle.nc_blocks.specs.Names.{name_of}
 use Rattle.nc_blocks.specs.Pieces.{piece_at, text_at}
-use Rattle.nc_blocks.specs.Marks.{end_at, close_at, is_keyword, keyword_at}
-use Rattle.nc_blocks.specs.Reading.{block_number_at, constant_at, expression_at}
-use Rattle.nc_blocks.specs.Lists.{Item, list_at}
+use Rattle.nc_blocks.specs.Marks.{end_at, is_keyword}
+use Rattle.nc_blocks.specs.Reading.{block_number_at}
+use Rattle.nc_blocks.specs.Lists.{Item}
 use Rattle.nc_blocks.specs.Statement.{Statement, Jump, IfJump, If, Case}
 use Rattle.nc_syntax.specs.Jumps.{way_of_piece, way_at, is_n, target_of, target_at, jump_at, last_jump, if_behind, if_form, jump_form, case_names, case_value, begins_number, jump_of, named_jump, pair_at, default_at, case_form}
 use Rattle.nc_syntax.specs.Structures.{alone, last_expression}
-use Rattle.nc_syntax.specs.Standing.{IsKeyword, IsExpressionText, IsSignedNumber, IsBlockNumber, IsEnclosed, AreListed}
-use Rattle.nc_syntax.specs.Spelled.{IsNameOf, way_name, IsTarget, IsJump, IsPair, IsDefault, IsCase, IsSpelled, IsAlone}
-use Rattle.nc_syntax.proofs.Standings.{piece_within, past_end, follows_piece, follows_end, follows_keyword, keyword_piece, keyword_text, expression_within, expression_found, expression_only}
+use Rattle.nc_syntax.specs.Standing.{IsKeyword, IsExpressionText, IsSignedNumber, IsEnclosed, AreListed}
+use Rattle.nc_syntax.specs.Spelled.{way_name, IsTarget, IsJump, IsPair, IsDefault, IsCase, IsSpelled}
+use Rattle.nc_syntax.proofs.Standings.{piece_within, follows_piece, follows_end, follows_keyword, keyword_piece, expression_within, expression_found, expression_only}
 use Rattle.nc_syntax.proofs.Marked.{bound, taken, one_of, same_pair, end_found, end_only, open_found, open_only, close_found, close_only, keyword_found, keyword_only, constant_found, constant_only, block_number_found, block_number_only}
 use Rattle.nc_syntax.proofs.Chained.{not_empty, Steps, list_found, list_only}
 use Rattle.nc_syntax.proofs.WordLaws.{moved}
-use Rattle.nc_syntax.proofs.WordsRead.{false_of}
 use Rattle.nc_syntax.proofs.WordBlocks.{signed_within, line_end, at_line_end}
 use Rattle.nc_syntax.proofs.FormNames.{way_at_found, way_at_only}
 
@@ -214,8 +213,13 @@ case_value_only : (words : WordsView) (at middle : ℕ) (t : Tree) → IsEnclose
 unfolding case_value case_names
 case_value_only words at middle t h k =
     let P = λ (n : ℕ). IsKeyword words n (codes "OF") in
-    rw (open_only words at 22 h.1, expression_only words (at + 1) h.0 t h.2 (follows_piece words h.0 piece.Close h.3 tt tt), close_only words h.0 22 h.3,
-      keyword_only words (h.0 + 1) (codes "OF") (subst P h.4 k), h.4) refl
+    rw (
+      open_only words at 22 h.1,
+      expression_only words (at + 1) h.0 t h.2 (follows_piece words h.0 piece.Close h.3 tt tt),
+      close_only words h.0 22 h.3,
+      keyword_only words (h.0 + 1) (codes "OF") (subst P h.4 k),
+      h.4,
+    ) refl
 
 jump_of_cases : (words : WordsView) (at end : ℕ) (j : JumpTo) (o : Option Way) → way_at words at ≡ o → jump_of words o (at + 1) ≡ Ok (j, end) → IsJump words at end j
 jump_of_cases words at end j (Some way) e h = jump_found words at end way j (way_at_found words at way e) h
@@ -234,9 +238,11 @@ pair_same : (z v : ℤ) (j k : JumpTo) (words : WordsView) (n next : ℕ) (more 
     ((z, j) ≡ x) × (n ≡ next) × (begins_number (piece_at words next) ≡ more)
 pair_same z v j k words n next more x h =
     let same : ((z, j), begins_number (piece_at words n), n) ≡ (x, more, next) = cc in
-    let c : n ≡ next = ap (λ (q : (ℤ × JumpTo) × Bool × ℕ). q.2) same in
-    (ap (λ (q : (ℤ × JumpTo) × Bool × ℕ). q.0) same, c,
-     ap (λ (m : ℕ). begins_number (piece_at words m)) (sym c) ∙ ap (λ (q : (ℤ × JumpTo) × Bool × ℕ). q.1) same)
+    let c : n ≡ next = ap (λ (q : (ℤ × JumpTo) × Bool × ℕ). q.2) same in (
+      ap (λ (q : (ℤ × JumpTo) × Bool × ℕ). q.0) same,
+      c,
+      ap (λ (m : ℕ). begins_number (piece_at words m)) (sym c) ∙ ap (λ (q : (ℤ × JumpTo) × Bool × ℕ). q.1) same,
+    )
 
 pair_found : (words : WordsView) (at next : ℕ) (x : ℤ × JumpTo) (more : Bool) → pair_at words at ≡ Ok (x, more, next) →
     IsPair words at next x × (begins_number (piece_at words next) ≡ more)
@@ -260,9 +266,9 @@ signed_begins words at end z h =
     elim h [
       | inl a ↦ ap begins_number a.0
       | inr b ↦ elim b [
-          | inl c ↦ ap begins_number c.0
-          | inr c ↦ ap begins_number c.1
-        ]
+        | inl c ↦ ap begins_number c.0
+        | inr c ↦ ap begins_number c.1
+      ]
     ]
 
 pairs_flag : (words : WordsView) (at end : ℕ) (xs : List (ℤ × JumpTo)) → AreListed (IsPair words) at end xs → begins_number (piece_at words end) ≡ false →
@@ -274,10 +280,12 @@ pairs_steps : (words : WordsView) (xs before : List (ℤ × JumpTo)) (at end : �
     Steps (λ ys. pair_at words) before at end xs
 unfolding pair_at
 pairs_steps words [] before at end h e = h
-pairs_steps words (x ∷ xs) before at end h e =
-    (h.0, (pair_within words at h.0 x h.1).0,
-     rw (constant_only words at 22 x.0 h.1.0 h.1.1, named_jump_only words h.1.0 h.0 x.1 h.1.2, pairs_flag words h.0 end xs h.2 e) refl,
-     pairs_steps words xs (before ++ x ∷ []) h.0 end h.2 e)
+pairs_steps words (x ∷ xs) before at end h e = (
+  h.0,
+  (pair_within words at h.0 x h.1).0,
+  rw (constant_only words at 22 x.0 h.1.0 h.1.1, named_jump_only words h.1.0 h.0 x.1 h.1.2, pairs_flag words h.0 end xs h.2 e) refl,
+  pairs_steps words xs (before ++ x ∷ []) h.0 end h.2 e,
+)
 
 steps_pairs : (words : WordsView) (xs before : List (ℤ × JumpTo)) (at end : ℕ) → Steps (λ ys. pair_at words) before at end xs → AreListed (IsPair words) at end xs
 steps_pairs words [] before at end h = h
@@ -293,16 +301,16 @@ unfolding default_at
 default_found words at o w h =
     let P = λ (x : Option JumpTo). IsDefault words at (length words.tokens) x in
     one_of _ _ _ _ h
-      (λ k e. let b = bound _ _ _ e in
-          let c = bound _ _ _ b.2 in
-          let same : Some b.0.0 ≡ o = cc in
-          let f = named_jump_found words (at + 1) b.0.1 b.0.0 b.1 in
-          let place = line_end words b.0.1 (end_found words b.0.1 c.0 c.1) (jump_within words (at + 1) b.0.1 b.0.0 f).1 in
-          let Q = λ (n : ℕ). IsJump words (at + 1) n b.0.0 in
-          subst P same (k, subst Q place f))
-      (λ k e. let b = bound _ _ _ e in
-          let same : None ≡ o = cc in
-          subst P same (sym (line_end words at (end_found words at b.0 b.1) w)))
+    (λ k e. let b = bound _ _ _ e in
+    let c = bound _ _ _ b.2 in
+    let same : Some b.0.0 ≡ o = cc in
+    let f = named_jump_found words (at + 1) b.0.1 b.0.0 b.1 in
+    let place = line_end words b.0.1 (end_found words b.0.1 c.0 c.1) (jump_within words (at + 1) b.0.1 b.0.0 f).1 in
+    let Q = λ (n : ℕ). IsJump words (at + 1) n b.0.0 in
+    subst P same (k, subst Q place f))
+    (λ k e. let b = bound _ _ _ e in
+    let same : None ≡ o = cc in
+    subst P same (sym (line_end words at (end_found words at b.0 b.1) w)))
 
 default_only : (words : WordsView) (at : ℕ) (o : Option JumpTo) → IsDefault words at (length words.tokens) o → default_at words at ≡ Ok o
 unfolding default_at is_keyword

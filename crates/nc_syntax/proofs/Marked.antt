@@ -1,15 +1,14 @@
 -- Signs, numbers and names: what is read at a place stands there, and what stands there is read.
-use Rattle.std.proofs.Common.{◌≡◌, ℕ, ◌+◌, ◌≤◌, List, length, refl, ap, sym, ◌∙◌, subst, inl, inr, Option, Some, None, Result, Ok, Err, Bool, true, false, cond, arith}
-use Rattle.std.specs.Prelude.{ℤ, ◌⊎◌, ◌&&◌, neg_ℤ, nat_le}
+use Rattle.std.proofs.Common.{◌≡◌, ℕ, ◌+◌, List, length, refl, ap, sym, ◌∙◌, inl, inr, Option, Some, None, Result, Ok, Err, Bool, true, false, cond, arith}
+use Rattle.std.specs.Prelude.{ℤ, ◌&&◌, neg_ℤ, nat_le}
 use Rattle.std.proofs.lemmas.Bool.{leb-true, le-leb}
 use Rattle.std.specs.Cmp.Derive.{both_true}
 use Rattle.block_scanner.specs.WordsView.{WordsView}
 use Rattle.nc_expressions.specs.Symbols.{index_of}
 use Rattle.nc_blocks.specs.declared.pieces.Piece.{Piece}
 use Rattle.nc_blocks.specs.declared.pieces.Piece.TheVariants as piece
-use Rattle.nc_blocks.specs.Names.{name_of}
 use Rattle.nc_blocks.specs.Pieces.{piece_at, text_at}
-use Rattle.nc_blocks.specs.Marks.{code_of, ended, end_at, assign_of, assign_at, open_of, open_at, close_of, close_at, close_bracket_of, close_bracket_at, comma_of, comma_at, is_keyword, keyword_at}
+use Rattle.nc_blocks.specs.Marks.{ended, end_at, assign_of, assign_at, open_of, open_at, close_of, close_at, close_bracket_of, close_bracket_at, comma_of, comma_at, is_keyword, keyword_at}
 use Rattle.nc_expressions.specs.Value.{◌>>=◌}
 use Rattle.nc_blocks.specs.Reading.{after_sign_of, after_sign, signed, constant_of, constant_at, is_digits, whole, block_number, block_number_of, block_number_at, index_or, index_of_piece, index_at, label_of, label_at}
 use Rattle.nc_blocks.specs.AxisNames.{is_digits_piece, has_digits}
@@ -170,11 +169,11 @@ constant_only words at code z end h =
     elim h [
       | inl a ↦ ap F a.0 ∙ ap (λ q. constant_of (piece.Number z) q (at + 1) code) a.0 ∙ ap (λ n. Ok (z, n)) (sym a.1)
       | inr b ↦ elim b [
-          | inl c ↦ let place : at + 1 + 1 ≡ end = omega (arith, c.2) in
-              ap F c.0 ∙ ap (λ q. constant_of piece.Plus q (at + 1 + 1) code) c.1 ∙ ap (λ n. Ok (z, n)) place
-          | inr d ↦ let place : at + 1 + 1 ≡ end = omega (arith, d.4) in
-              ap F d.1 ∙ ap (λ q. constant_of piece.Minus q (at + 1 + 1) code) d.2 ∙ ap (λ n. Ok (neg_ℤ d.0, n)) place ∙ ap (λ v. Ok (v, end)) (sym d.3)
-        ]
+        | inl c ↦ let place : at + 1 + 1 ≡ end = omega (arith, c.2) in
+            ap F c.0 ∙ ap (λ q. constant_of piece.Plus q (at + 1 + 1) code) c.1 ∙ ap (λ n. Ok (z, n)) place
+        | inr d ↦ let place : at + 1 + 1 ≡ end = omega (arith, d.4) in
+            ap F d.1 ∙ ap (λ q. constant_of piece.Minus q (at + 1 + 1) code) d.2 ∙ ap (λ n. Ok (neg_ℤ d.0, n)) place ∙ ap (λ v. Ok (v, end)) (sym d.3)
+      ]
     ]
 
 block_number_cases : (words : WordsView) (at n : ℕ) (p : Piece) → piece_at words at ≡ p → block_number_of p (text_at words at) ≡ Ok n → IsBlockNumber words at n
@@ -195,7 +194,7 @@ unfolding block_number_at block_number
 block_number_only words at n h =
     ap (λ p. block_number_of p (text_at words at)) h.1
     ∙ yes_of (is_digits (text_at words at) && nat_le (length (text_at words at)) 8) (Ok (whole h.0)) (Err 22)
-      (both_true h.2 (le-leb (length (text_at words at)) 8 h.3))
+    (both_true h.2 (le-leb (length (text_at words at)) 8 h.3))
     ∙ ap (λ k. Ok k) (sym h.4)
 
 index_or_found : (o : Option ℕ) (code i : ℕ) → index_or o code ≡ Ok i → o ≡ Some i

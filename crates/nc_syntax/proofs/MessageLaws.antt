@@ -1,10 +1,10 @@
 -- Messages: what is read is spelled so, and what is spelled so is read.
-use Rattle.std.proofs.Common.{◌≡◌, ℕ, zero, suc, ◌+◌, ◌-◌, ◌<◌, ◌≤◌, List, [], ◌∷◌, ◌++◌, length, get_or, drop, refl, ap, sym, ◌∙◌, subst, inl, inr, Option, Some, None, Result, Ok, Err, Bool, true, false, cond, arith}
-use Rattle.std.specs.Prelude.{ℤ, ◌⊎◌, ◌||◌, ◌&&◌, nat_lt, not, slice_get, reverse, position, codes}
+use Rattle.std.proofs.Common.{◌≡◌, ℕ, zero, suc, ◌+◌, ◌-◌, ◌<◌, ◌≤◌, List, [], ◌∷◌, length, get_or, refl, ap, sym, ◌∙◌, subst, inl, inr, Option, Some, None, Ok, Err, Bool, true, false, cond, arith}
+use Rattle.std.specs.Prelude.{◌⊎◌, ◌||◌, ◌&&◌, nat_lt, slice_get, reverse, position, codes}
 use Rattle.std.proofs.lemmas.Bool.{cases_lt, lt-ltb}
 use Rattle.std.proofs.lemmas.List.{get_or-reverse, length-reverse}
 use Rattle.std.proofs.lemmas.List.Quantifiers.{position-Some}
-use Rattle.std.proofs.lemmas.Option.{slice_get-get_or, get_or_from_slice_get, slice_get_within}
+use Rattle.std.proofs.lemmas.Option.{slice_get-get_or, get_or_from_slice_get}
 use Rattle.block_scanner.specs.declared.Kind.{Kind}
 use Rattle.block_scanner.specs.declared.Kind.TheVariants as kind
 use Rattle.block_scanner.specs.declared.Sign.{Sign}
@@ -18,21 +18,19 @@ use Rattle.nc_expressions.specs.Tree.{Tree}
 use Rattle.nc_expressions.specs.Value.{◌>>=◌}
 use Rattle.nc_blocks.specs.declared.pieces.Piece.{Piece}
 use Rattle.nc_blocks.specs.declared.pieces.Piece.TheVariants as piece
-use Rattle.nc_blocks.specs.Pieces.{sign_piece, number_piece, plain_piece, piece_of, found_piece, piece_at, text_at, is_text}
-use Rattle.nc_blocks.specs.Marks.{end_at, open_at, close_at, is_keyword}
-use Rattle.nc_blocks.specs.Reading.{expression_at}
+use Rattle.nc_blocks.specs.Pieces.{sign_piece, number_piece, plain_piece, piece_of, found_piece, piece_at, is_text}
 use Rattle.nc_blocks.specs.Statement.{Statement, Message}
 use Rattle.nc_syntax.specs.Structures.{alone, is_close_kind, is_open}
 use Rattle.nc_syntax.specs.Coordination.{after_text, msg_form, enclosed_at, setms_form, behind_last, last_close, is_broken, has_broken, workpiece_form}
 use Rattle.nc_syntax.specs.Standing.{IsKeyword, IsExpressionText, IsEnclosed}
-use Rattle.nc_syntax.specs.Spelled.{IsAlone, IsMsg, IsSetms, IsWorkpiece, IsMessage, IsSpelled}
+use Rattle.nc_syntax.specs.Spelled.{IsMsg, IsSetms, IsWorkpiece, IsSpelled}
 use Rattle.nc_syntax.proofs.Standings.{symbol_there, piece_within, past_end, follows_piece, expression_found, expression_only}
 use Rattle.nc_syntax.proofs.Marked.{bound, one_of, refused, open_found, open_only, close_found, close_only}
 use Rattle.nc_syntax.proofs.WordLaws.{text_is}
 use Rattle.nc_syntax.proofs.WordsRead.{false_of}
 use Rattle.nc_syntax.proofs.WordBlocks.{at_line_end}
-use Rattle.nc_syntax.proofs.JumpLaws.{keyword_within, alone_found, alone_only}
-use Rattle.nc_syntax.proofs.StructureLaws.{alone_form_found, alone_form_only, open_piece}
+use Rattle.nc_syntax.proofs.JumpLaws.{alone_found, alone_only}
+use Rattle.nc_syntax.proofs.StructureLaws.{alone_form_found}
 use Rattle.nc_syntax.proofs.CoordinationLaws.{close_last}
 
 abbrev IsDone : WordsView → ℕ → Statement → Type 0
@@ -109,14 +107,14 @@ unfolding setms_form IsSpelled
 setms_form_found words at s k h =
     let P = λ (x : Statement). IsDone words at x in
     one_of (is_open (piece_at words (at + 1))) (◌>>=◌ {B = Statement} (enclosed_at words (at + 1)) (λ end. alone words end Message)) (alone words (at + 1) Message) s h
-      (λ o e. let a = bound (enclosed_at words (at + 1)) (λ (n : ℕ). alone words n Message) s e in
-          let b = alone_found words a.0 Message s a.2 in
-          let x = enclosed_found words (at + 1) a.0 a.1 in
-          let Q = λ (n : ℕ). piece_at words n ≡ piece.End in
-          let last = close_last words x.1.0 x.1.3 (subst Q x.1.4 b.0) in
-          let R = λ (n : ℕ). IsEnclosed words (at + 1) n x.0 in
-          subst P b.1 (inr (inr (inl (k, inr (x.0, subst R (x.1.4 ∙ sym last) x.1))))))
-      (λ o e. let a = alone_form_found words at (codes "SETMS") Message s k e in subst P a.1 (inr (inr (inl (k, inl a.0.1)))))
+    (λ o e. let a = bound (enclosed_at words (at + 1)) (λ (n : ℕ). alone words n Message) s e in
+    let b = alone_found words a.0 Message s a.2 in
+    let x = enclosed_found words (at + 1) a.0 a.1 in
+    let Q = λ (n : ℕ). piece_at words n ≡ piece.End in
+    let last = close_last words x.1.0 x.1.3 (subst Q x.1.4 b.0) in
+    let R = λ (n : ℕ). IsEnclosed words (at + 1) n x.0 in
+    subst P b.1 (inr (inr (inl (k, inr (x.0, subst R (x.1.4 ∙ sym last) x.1))))))
+    (λ o e. let a = alone_form_found words at (codes "SETMS") Message s k e in subst P a.1 (inr (inr (inl (k, inl a.0.1)))))
 
 pub setms_form_only : (words : WordsView) (at : ℕ) → IsSetms words at (length words.tokens) → setms_form words (at + 1) ≡ Ok Message
 unfolding setms_form
@@ -266,8 +264,8 @@ unfolding has_broken
 broken_only words zero at f = refl
 broken_only words (suc n) at f =
     or_both (is_broken (piece_at words at)) (has_broken words (at + 1) n)
-      (false_of (is_broken (piece_at words at)) (λ k. f at (omega arith) (omega arith) (broken_is (piece_at words at) k)))
-      (broken_only words n (at + 1) (λ place low high e. f place (omega (arith, low)) (omega (arith, high)) e))
+    (false_of (is_broken (piece_at words at)) (λ k. f at (omega arith) (omega arith) (broken_is (piece_at words at) k)))
+    (broken_only words n (at + 1) (λ place low high e. f place (omega (arith, low)) (omega (arith, high)) e))
 
 between : (words : WordsView) (at i : ℕ) → piece_at words (at + 1) ≡ piece.Open → piece_at words i ≡ piece.Close → at + 1 ≤ i → at + 1 < i
 between words at i o c w =
@@ -295,15 +293,15 @@ workpiece_form_found words at s k h =
     let o = open_found words (at + 1) 22 a.0 a.1 in
     let b = bound _ _ _ a.2 in
     one_of (has_broken words a.0 (b.0 - a.0)) (Err 22) (alone words b.0 Message) s b.2
-      (λ c e. refused 22 s e)
-      (λ c e. let f = alone_found words b.0 Message s e in
-          let w = piece_within words (at + 1) piece.Open o.0 tt in
-          let t = last_found words.tokens b.0 (omega (arith, w)) b.1 (past_end words b.0 f.0) in
-          let shut = close_stands words t.1 t.0 t.2 t.3 in
-          let apart : at + 1 < t.1 = between words at t.1 o.0 shut (omega (arith, w, t.4)) in
-          let Q = λ (n : ℕ). (place : ℕ) → n ≤ place → place < n + (b.0 - n) → piece_at words place ≡ piece.Broken → ⊥ in
-          let g = subst Q o.1 (broken_found words (b.0 - a.0) a.0 c) in
-          subst P f.1 (inr (inr (inr (t.1, k, o.0, apart, (λ place low high e. g place (omega (arith, low)) (omega (arith, high, t.5, apart)) e), shut, sym t.4, refl)))))
+    (λ c e. refused 22 s e)
+    (λ c e. let f = alone_found words b.0 Message s e in
+    let w = piece_within words (at + 1) piece.Open o.0 tt in
+    let t = last_found words.tokens b.0 (omega (arith, w)) b.1 (past_end words b.0 f.0) in
+    let shut = close_stands words t.1 t.0 t.2 t.3 in
+    let apart : at + 1 < t.1 = between words at t.1 o.0 shut (omega (arith, w, t.4)) in
+    let Q = λ (n : ℕ). (place : ℕ) → n ≤ place → place < n + (b.0 - n) → piece_at words place ≡ piece.Broken → ⊥ in
+    let g = subst Q o.1 (broken_found words (b.0 - a.0) a.0 c) in
+    subst P f.1 (inr (inr (inr (t.1, k, o.0, apart, (λ place low high e. g place (omega (arith, low)) (omega (arith, high, t.5, apart)) e), shut, sym t.4, refl)))))
 
 pub workpiece_form_only : (words : WordsView) (at : ℕ) → IsWorkpiece words at (length words.tokens) → workpiece_form words (at + 1) ≡ Ok Message
 unfolding workpiece_form

@@ -1,10 +1,10 @@
 -- What a piece at a place says of the symbols of a line.
-use Rattle.std.proofs.Common.{◌≡◌, ℕ, zero, suc, ◌+◌, ◌-◌, ◌<◌, ◌≤◌, List, [], ◌∷◌, ◌++◌, length, take, drop, refl, ap, sym, ◌∙◌, subst, inl, inr, Option, Some, None, Result, Ok, Err, Bool, true, false, cond, arith, append_assoc, get_or}
-use Rattle.std.specs.Prelude.{ℤ, ◌^◌, ◌⊎◌, ◌==◌, ◌&&◌, nat_lt, slice_get, slice_range, codes}
+use Rattle.std.proofs.Common.{◌≡◌, ℕ, zero, suc, ◌+◌, ◌-◌, ◌<◌, ◌≤◌, List, [], ◌∷◌, ◌++◌, length, take, drop, refl, ap, sym, ◌∙◌, subst, inl, inr, Option, Some, None, Result, Ok, Err, Bool, true, false, cond, arith, append_assoc}
+use Rattle.std.specs.Prelude.{ℤ, ◌^◌, ◌==◌, ◌&&◌, nat_lt, slice_get, slice_range}
 use Rattle.std.specs.Str.{str_to_ascii_lowercase}
 use Rattle.std.specs.Int.RustNames.{unsigned_abs}
-use Rattle.std.proofs.lemmas.List.{take-append-drop, length-append, length-drop, length-take-le, drop-drop, drop_all, drop_more}
-use Rattle.std.proofs.lemmas.Option.{slice_get_within, slice_get_past, get_or_from_slice_get}
+use Rattle.std.proofs.lemmas.List.{take-append-drop, length-append, length-drop, drop-drop, drop_all, drop_more}
+use Rattle.std.proofs.lemmas.Option.{slice_get_within, get_or_from_slice_get}
 use Rattle.std.proofs.lemmas.Bool.{cases_lt}
 use Rattle.std.proofs.lemmas.Slice.Eq.{bytes_eq-Decides}
 use Rattle.std.proofs.Math.Seq.{take-append_seam, drop-append_seam}
@@ -19,12 +19,11 @@ use Rattle.micro_units.specs.NumberText.{number_of}
 use Rattle.nc_expressions.specs.declared.trees.BinaryOp.TheVariants.{Add, Sub, Div}
 use Rattle.nc_expressions.specs.declared.symbols.Symbol.{Symbol}
 use Rattle.nc_expressions.specs.declared.symbols.Symbol.TheVariants as symbol
-use Rattle.nc_expressions.specs.Fronts.{Found}
 use Rattle.nc_expressions.specs.Limits.{all_limits}
 use Rattle.nc_expressions.specs.Machine.{Reading, read}
 use Rattle.nc_expressions.specs.Parsing.{placed, expr_at}
 use Rattle.nc_expressions.specs.Symbols.{symbol_of, symbols_of, symbols_behind, kind_symbol, sign_symbol, name_symbol, value_symbol, number_symbol, is_word, touches_number, is_exponent}
-use Rattle.nc_expressions.specs.Syntax.{Syntax, Constant, Truth, Positive, Negative, Denied, Named, Indexing, Called, Grouped, Chained, spelling, tree, IsExpression, Follows}
+use Rattle.nc_expressions.specs.Syntax.{Syntax, Constant, Truth, Positive, Negative, Denied, Named, Indexing, Called, Grouped, Chained, spelling, tree, Follows}
 use Rattle.nc_expressions.specs.Tree.{Tree}
 use Rattle.nc_expressions.proofs.Beginnings.{length-symbols_of}
 use Rattle.nc_expressions.proofs.Complete.{complete}
@@ -33,7 +32,7 @@ use Rattle.nc_blocks.specs.declared.pieces.Piece.{Piece}
 use Rattle.nc_blocks.specs.declared.pieces.Piece.TheVariants as piece
 use Rattle.nc_blocks.specs.Pieces.{sign_piece, number_piece, plain_piece, piece_of, found_piece, piece_at, found_text, text_at}
 use Rattle.nc_blocks.specs.Pieces.{is_name}
-use Rattle.nc_blocks.specs.Marks.{is_keyword, word_code}
+use Rattle.nc_blocks.specs.Marks.{is_keyword}
 use Rattle.nc_blocks.specs.Reading.{expression_at, in_words, value_at}
 use Rattle.nc_syntax.specs.Standing.{IsExpressionText}
 use Rattle.nc_expressions.specs.Stops.{stop_at}
@@ -454,7 +453,7 @@ expression_found words at end t h =
     let d = length-drop at ss in
     let place : end ≡ at + length (spelling f.0) = omega (arith, n, m, d, p.2) in
     let left : drop end ss ≡ p.0 =
-      ap (λ k. drop k ss) place ∙ sym (drop-drop (length (spelling f.0)) at ss) ∙ ap (drop (length (spelling f.0))) f.4 ∙ drop-append_seam (spelling f.0) p.0 in
+    ap (λ k. drop k ss) place ∙ sym (drop-drop (length (spelling f.0)) at ss) ∙ ap (drop (length (spelling f.0))) f.4 ∙ drop-append_seam (spelling f.0) p.0 in
     let within : end ≤ length ss = omega (arith, p.2) in
     (f.0, f.1, f.2, omega (arith, within, length-symbols_of words), part_of ss (spelling f.0) at end (omega (arith, place, m)) within (f.4 ∙ ap (λ ys. spelling f.0 ++ ys) (sym left)))
 
@@ -464,7 +463,7 @@ expression_only words at end t h f =
     let ss = symbols_of words in
     let w = expression_within words at end t h in
     let e : read all_limits (drop at ss) ≡ Ok (tree h.0, drop end ss) =
-      ap (read all_limits) (expression_rest words at end t h) ∙ complete all_limits h.0 (drop end ss) h.1 f in
+    ap (read all_limits) (expression_rest words at end t h) ∙ complete all_limits h.0 (drop end ss) h.1 f in
     let place : length ss - length (drop end ss) ≡ end = omega (arith, length-drop end ss, w.1, length-symbols_of words) in
     ap (placed (length ss)) e ∙ ap (λ n. Ok (tree h.0, n)) place ∙ ap (λ x. Ok (x, end)) h.2
 

@@ -1,27 +1,25 @@
 -- Loops, repetitions, calls and heads: what is read is spelled so, and what is spelled so is read.
-use Rattle.std.proofs.Common.{◌≡◌, ℕ, ◌+◌, ◌<◌, ◌≤◌, List, [], ◌∷◌, length, drop, refl, ap, sym, ◌∙◌, subst, inl, inr, Option, Some, None, Result, Ok, Err, Bool, true, false, cond, arith}
+use Rattle.std.proofs.Common.{◌≡◌, ℕ, ◌+◌, ◌<◌, ◌≤◌, List, ◌∷◌, length, refl, ap, sym, ◌∙◌, subst, inl, inr, Option, Some, None, Result, Ok, Err, Bool, true, false, cond, arith}
 use Rattle.std.specs.Prelude.{ℤ, pos, negsuc, ◌*◌, ◌/◌, ◌%◌, ◌⊎◌, ◌==◌, ◌&&◌, nat_le, codes}
 use Rattle.std.proofs.lemmas.Bool.{eqb-true, eq-eqb, leb-true, le-leb}
 use Rattle.block_scanner.specs.WordsView.{WordsView}
 use Rattle.word_tables.specs.Tables.{is_table_word}
-use Rattle.nc_expressions.specs.Symbols.{symbols_of, name_symbol, value_symbol}
-use Rattle.nc_expressions.specs.Syntax.{Follows}
+use Rattle.nc_expressions.specs.Symbols.{name_symbol, value_symbol}
 use Rattle.nc_expressions.specs.Tree.{Tree}
-use Rattle.nc_expressions.specs.Value.{◌>>=◌}
 use Rattle.nc_blocks.specs.declared.pieces.Piece.{Piece}
 use Rattle.nc_blocks.specs.declared.pieces.Piece.TheVariants as piece
 use Rattle.nc_blocks.specs.Names.{name_of}
-use Rattle.nc_blocks.specs.Pieces.{piece_at, text_at, is_name}
-use Rattle.nc_blocks.specs.Marks.{end_at, assign_at, is_keyword, keyword_at, code_at}
-use Rattle.nc_blocks.specs.Reading.{expression_at, index_at, label_at, is_digits}
+use Rattle.nc_blocks.specs.Pieces.{piece_at, text_at}
+use Rattle.nc_blocks.specs.Marks.{end_at, is_keyword, code_at}
+use Rattle.nc_blocks.specs.Reading.{is_digits}
 use Rattle.nc_blocks.specs.Statement.{Statement, For, RepeatFrom, RepeatBlock, Repeat, Call, Proc}
-use Rattle.nc_syntax.specs.Structures.{alone, last_expression, is_letter, counter_at, first_value, for_form, times_at, repeat_form, repeat_block_form, has_close, is_close, is_open, parentheses_at, pass_count, count_of_piece, passes_at, call_passes, call_form, number_name, number_call_form, proc_form}
-use Rattle.nc_syntax.specs.Standing.{IsKeyword, IsExpressionText, IsIndex, IsAssigned}
-use Rattle.nc_syntax.specs.Spelled.{IsNameOf, IsAlone, IsFor, IsTimes, IsProgramName, IsParentheses, IsPasses, IsCall, IsProc, IsSpelled}
-use Rattle.nc_syntax.proofs.Standings.{piece_within, past_end, follows_keyword, keyword_piece, expression_within, expression_found, expression_only}
-use Rattle.nc_syntax.proofs.Marked.{bound, taken, refused, one_of, parts_true, same_pair, end_found, end_only, assign_found, assign_only, keyword_found, keyword_only, index_found, index_only, label_found, label_only}
-use Rattle.nc_syntax.proofs.WordLaws.{moved, name_is}
-use Rattle.nc_syntax.proofs.WordsRead.{false_of, both}
+use Rattle.nc_syntax.specs.Structures.{alone, is_letter, counter_at, first_value, for_form, times_at, repeat_form, repeat_block_form, has_close, is_close, is_open, parentheses_at, pass_count, count_of_piece, passes_at, call_passes, call_form, number_name, number_call_form, proc_form}
+use Rattle.nc_syntax.specs.Standing.{IsKeyword, IsExpressionText, IsIndex}
+use Rattle.nc_syntax.specs.Spelled.{IsNameOf, IsAlone, IsFor, IsTimes, IsParentheses, IsPasses, IsProc, IsSpelled}
+use Rattle.nc_syntax.proofs.Standings.{piece_within, past_end, follows_keyword, expression_found, expression_only}
+use Rattle.nc_syntax.proofs.Marked.{bound, taken, one_of, parts_true, same_pair, end_found, end_only, assign_found, assign_only, keyword_found, keyword_only, index_found, index_only, label_found, label_only}
+use Rattle.nc_syntax.proofs.WordLaws.{name_is}
+use Rattle.nc_syntax.proofs.WordsRead.{both}
 use Rattle.nc_syntax.proofs.WordBlocks.{line_end, at_line_end}
 use Rattle.nc_syntax.proofs.JumpLaws.{keyword_within, alone_found, alone_only, last_found, last_only}
 
@@ -114,15 +112,15 @@ unfolding times_at
 times_found words at o w h =
     let P = λ (x : Option Tree). IsTimes words at (length words.tokens) x in
     one_of _ _ _ _ h
-      (λ k e. let a = bound _ _ _ e in
-          let b = bound _ _ _ a.2 in
-          let same : Some b.0 ≡ o = cc in
-          let m = assign_found words (at + 1) 22 a.0 a.1 in
-          let Q = λ (n : ℕ). IsExpressionText words n (length words.tokens) b.0 in
-          subst P same (letter_piece (piece_at words at) 80 k, (m.0, subst Q m.1 (last_found words a.0 b.0 b.1))))
-      (λ k e. let a = bound (end_at words at) (λ (n : ℕ). Ok None) o e in
-          let same : None ≡ o = cc in
-          subst P same (sym (line_end words at (end_found words at a.0 a.1) w)))
+    (λ k e. let a = bound _ _ _ e in
+    let b = bound _ _ _ a.2 in
+    let same : Some b.0 ≡ o = cc in
+    let m = assign_found words (at + 1) 22 a.0 a.1 in
+    let Q = λ (n : ℕ). IsExpressionText words n (length words.tokens) b.0 in
+    subst P same (letter_piece (piece_at words at) 80 k, (m.0, subst Q m.1 (last_found words a.0 b.0 b.1))))
+    (λ k e. let a = bound (end_at words at) (λ (n : ℕ). Ok None) o e in
+    let same : None ≡ o = cc in
+    subst P same (sym (line_end words at (end_found words at a.0 a.1) w)))
 
 times_only : (words : WordsView) (at : ℕ) (o : Option Tree) → IsTimes words at (length words.tokens) o → times_at words at ≡ Ok o
 unfolding times_at
@@ -134,13 +132,13 @@ unfolding repeat_form IsSpelled
 repeat_form_found words at s k h =
     let P = λ (x : Statement). IsSpelled words at (length words.tokens) x in
     one_of _ _ _ _ h
-      (λ n e. let a = bound _ _ _ e in
-          let same : RepeatFrom (name_of (text_at words (at + 1))) a.0 ≡ s = cc in
-          let l = name_is (piece_at words (at + 1)) n in
-          let place : at + 1 + 1 ≡ at + 2 = omega arith in
-          let Q = λ (i : ℕ). IsTimes words i (length words.tokens) a.0 in
-          subst P same (k, (l, refl), subst Q place (times_found words (at + 1 + 1) a.0 (let w = piece_within words (at + 1) piece.Name l tt in omega (arith, w)) a.1)))
-      (λ n e. let a = alone_form_found words at (codes "REPEAT") Repeat s k e in subst P a.1 a.0)
+    (λ n e. let a = bound _ _ _ e in
+    let same : RepeatFrom (name_of (text_at words (at + 1))) a.0 ≡ s = cc in
+    let l = name_is (piece_at words (at + 1)) n in
+    let place : at + 1 + 1 ≡ at + 2 = omega arith in
+    let Q = λ (i : ℕ). IsTimes words i (length words.tokens) a.0 in
+    subst P same (k, (l, refl), subst Q place (times_found words (at + 1 + 1) a.0 (let w = piece_within words (at + 1) piece.Name l tt in omega (arith, w)) a.1)))
+    (λ n e. let a = alone_form_found words at (codes "REPEAT") Repeat s k e in subst P a.1 a.0)
 
 pub repeat_from_only : (words : WordsView) (at : ℕ) (label : List ℕ) (o : Option Tree) → IsNameOf words (at + 1) label → IsTimes words (at + 2) (length words.tokens) o →
     repeat_form words (at + 1) ≡ Ok (RepeatFrom label o)
@@ -191,10 +189,10 @@ parentheses_found : (words : WordsView) (at end : ℕ) → parentheses_at words 
 unfolding parentheses_at
 parentheses_found words at end h =
     one_of _ _ _ _ h
-      (λ o e. one_of (is_close (piece_at words (at + 1))) (Ok (at + 2)) (cond (has_close words) (Err (code_at words (at + 1) 58)) (Err 22)) end e
-          (λ c f. let same : at + 2 ≡ end = cc in inr (open_piece (piece_at words at) o, close_piece (piece_at words (at + 1)) c, sym same))
-          (λ c f. inner_refused (has_close words) (code_at words (at + 1) 58) 22 end f))
-      (λ o e. let same : at ≡ end = cc in inl (sym same))
+    (λ o e. one_of (is_close (piece_at words (at + 1))) (Ok (at + 2)) (cond (has_close words) (Err (code_at words (at + 1) 58)) (Err 22)) end e
+    (λ c f. let same : at + 2 ≡ end = cc in inr (open_piece (piece_at words at) o, close_piece (piece_at words (at + 1)) c, sym same))
+    (λ c f. inner_refused (has_close words) (code_at words (at + 1) 58) 22 end f))
+    (λ o e. let same : at ≡ end = cc in inl (sym same))
 
 parentheses_only : (words : WordsView) (at end : ℕ) → IsParentheses words at end → is_open (piece_at words end) ≡ false → parentheses_at words at ≡ Ok end
 unfolding parentheses_at
@@ -247,16 +245,16 @@ passes_found : (words : WordsView) (at n : ℕ) → at ≤ length words.tokens �
 unfolding passes_at
 passes_found words at n w h =
     one_of _ _ _ _ h
-      (λ k e. let a = bound _ _ _ e in
-          let b = bound (end_at words (at + 2)) (λ (m : ℕ). Ok a.0) n a.2 in
-          let same : a.0 ≡ n = cc in
-          let c = count_cases words (at + 1) n (piece_at words (at + 1)) refl (a.1 ∙ ap (λ m. Ok m) same) in
-          let l = piece_within words (at + 1) (piece.Number (pos (n * 1000000))) c.0 tt in
-          let place : length words.tokens ≡ at + 2 = omega (arith, past_end words (at + 2) (end_found words (at + 2) b.0 b.1), l) in
-          inr (letter_piece (piece_at words at) 80 k, c.0, c.1, c.2, place))
-      (λ k e. let b = bound (end_at words at) (λ (m : ℕ). Ok 1) n e in
-          let same : 1 ≡ n = cc in
-          inl (sym same, sym (line_end words at (end_found words at b.0 b.1) w)))
+    (λ k e. let a = bound _ _ _ e in
+    let b = bound (end_at words (at + 2)) (λ (m : ℕ). Ok a.0) n a.2 in
+    let same : a.0 ≡ n = cc in
+    let c = count_cases words (at + 1) n (piece_at words (at + 1)) refl (a.1 ∙ ap (λ m. Ok m) same) in
+    let l = piece_within words (at + 1) (piece.Number (pos (n * 1000000))) c.0 tt in
+    let place : length words.tokens ≡ at + 2 = omega (arith, past_end words (at + 2) (end_found words (at + 2) b.0 b.1), l) in
+    inr (letter_piece (piece_at words at) 80 k, c.0, c.1, c.2, place))
+    (λ k e. let b = bound (end_at words at) (λ (m : ℕ). Ok 1) n e in
+    let same : 1 ≡ n = cc in
+    inl (sym same, sym (line_end words at (end_found words at b.0 b.1) w)))
 
 passes_only : (words : WordsView) (at n : ℕ) → IsPasses words at (length words.tokens) n → passes_at words at ≡ Ok n
 unfolding passes_at

@@ -1,36 +1,34 @@
 -- Word blocks: what is read is spelled so, and what is spelled so is read.
-use Rattle.std.proofs.Common.{◌≡◌, ℕ, ◌+◌, ◌<◌, ◌≤◌, List, [], ◌∷◌, ◌++◌, length, drop, refl, ap, sym, ◌∙◌, subst, inl, inr, Option, Some, None, Result, Ok, Err, Bool, true, false, cond, arith}
-use Rattle.std.specs.Prelude.{ℤ, ◌⊎◌, ◌==◌, ◌&&◌, ◌||◌, not, IsTrue, codes}
+use Rattle.std.proofs.Common.{◌≡◌, ℕ, ◌+◌, ◌<◌, ◌≤◌, List, [], ◌∷◌, ◌++◌, length, refl, ap, sym, ◌∙◌, subst, inl, inr, Option, Some, None, Result, Ok, Bool, true, false, cond, arith}
+use Rattle.std.specs.Prelude.{ℤ, ◌⊎◌, ◌==◌, not, IsTrue, codes}
 use Rattle.std.specs.Option.{option_or}
 use Rattle.std.specs.Str.{bytes_eq, str_to_ascii_lowercase}
 use Rattle.block_scanner.specs.WordsView.{WordsView}
 use Rattle.g_groups.specs.declared.GWord.{GWord}
 use Rattle.g_groups.specs.Groups.{Spelling, g as numbered, name as named, Group, code_of, groups}
-use Rattle.word_tables.specs.GroupWords.{word_among, word_in, is_name as writes_name, word_by_number, word_by_name}
+use Rattle.word_tables.specs.GroupWords.{word_among, word_in, is_name as writes_name, word_by_name}
 use Rattle.nc_expressions.specs.declared.symbols.Symbol.{Symbol}
 use Rattle.nc_expressions.specs.declared.symbols.Symbol.TheVariants as symbol
-use Rattle.nc_expressions.specs.Symbols.{symbols_of, name_symbol, value_symbol, is_word}
+use Rattle.nc_expressions.specs.Symbols.{name_symbol, value_symbol, is_word}
 use Rattle.nc_expressions.specs.Syntax.{Follows}
-use Rattle.nc_expressions.specs.Tree.{Tree, Number}
-use Rattle.nc_expressions.specs.Value.{◌>>=◌}
+use Rattle.nc_expressions.specs.Tree.{Tree}
 use Rattle.nc_blocks.specs.declared.blocks.Measure.{Measure}
 use Rattle.nc_blocks.specs.declared.blocks.Measure.TheVariants.{Modal, Absolute, Incremental}
 use Rattle.nc_blocks.specs.declared.pieces.Piece.{Piece}
 use Rattle.nc_blocks.specs.declared.pieces.Piece.TheVariants as piece
 use Rattle.nc_blocks.specs.Pieces.{piece_at, text_at, is_end}
-use Rattle.nc_blocks.specs.Marks.{word_code}
-use Rattle.nc_blocks.specs.Lists.{Item, list_at}
+use Rattle.nc_blocks.specs.Lists.{Item}
 use Rattle.nc_blocks.specs.Statement.{OperandView, Value, Text, AxisName, WordView, Assign, AssignAt, G, Axis, Radius, Aux, End, Statement, WordBlock}
-use Rattle.nc_blocks.specs.Wording.{assigned_at, group_word, g_of_piece, g_at, is_spindle_word, name_code, name_word, lettered_word, word_at, word_item_at, words_form}
+use Rattle.nc_blocks.specs.Wording.{g_at, is_spindle_word, name_word, lettered_word, word_at, word_item_at, words_form}
 use Rattle.nc_blocks.proofs.Places.{piece_past}
-use Rattle.nc_syntax.specs.Standing.{IsKeyword, IsExpressionText, IsSignedNumber, IsEnclosed, IsAssigned, AreListed}
-use Rattle.nc_syntax.specs.SpelledWords.{IsGroupWord, IsMeasured, IsPlainAxis, IsAxisWord, IsAuxLetter, IsOperand, IsBracket, IsSpindleWord, IsAux, IsWord}
+use Rattle.nc_syntax.specs.Standing.{IsSignedNumber, IsEnclosed, IsAssigned, AreListed}
+use Rattle.nc_syntax.specs.SpelledWords.{IsGroupWord, IsMeasured, IsPlainAxis, IsAxisWord, IsAuxLetter, IsOperand, IsBracket, IsAux, IsWord}
 use Rattle.nc_syntax.specs.Spelled.{AreWords}
-use Rattle.nc_syntax.proofs.Standings.{symbol_for, same_letters, same_symbol, follows_piece, piece_within, past_end, keyword_piece, keyword_text, expression_within}
-use Rattle.nc_syntax.proofs.Marked.{bound, same_pair}
+use Rattle.nc_syntax.proofs.Standings.{same_letters, same_symbol, follows_piece, piece_within, past_end, keyword_piece, keyword_text, expression_within}
+use Rattle.nc_syntax.proofs.Marked.{bound}
 use Rattle.nc_syntax.proofs.Chained.{not_empty, Steps, list_found, list_only}
 use Rattle.nc_syntax.proofs.WordLaws.{word_found}
-use Rattle.nc_syntax.proofs.WordsRead.{false_of, or_cases, other_word, Behind, behind_follows, assigned_only, letter_read, name_read, assign_read, assign_at_read, axis_read, aux_only, program_end_read, plain_letters, axis_letters, aux_letters}
+use Rattle.nc_syntax.proofs.WordsRead.{false_of, or_cases, Behind, behind_follows, assigned_only, letter_read, name_read, assign_read, assign_at_read, axis_read, aux_only, program_end_read, plain_letters, axis_letters, aux_letters}
 
 -- a name of a group is no other word
 among_same : (p q : Spelling → Bool) → ((s : Spelling) → p s ≡ q s) → (group place : ℕ) (words : List Spelling) → word_among p group place words ≡ word_among q group place words
@@ -87,7 +85,7 @@ group_follows : (text : List ℕ) (w : GWord) → word_by_name text ≡ Some w �
 unfolding word_by_name
 group_follows text w h =
     follows_of (name_symbol text) (name_operator text (not_in_group text (codes "DIV") w h refl) (not_in_group text (codes "MOD") w h refl)
-      (not_in_group text (codes "AND") w h refl) (not_in_group text (codes "OR") w h refl) (not_in_group text (codes "XOR") w h refl))
+    (not_in_group text (codes "AND") w h refl) (not_in_group text (codes "OR") w h refl) (not_in_group text (codes "XOR") w h refl))
 
 -- a word of a group, and a radius
 group_read : (words : WordsView) (at end group code : ℕ) → IsGroupWord words at end group code → word_at words at ≡ Ok (G group code, end)
@@ -133,9 +131,9 @@ signed_within words at end z h =
     elim h [
       | inl a ↦ let w = piece_within words at (piece.Number z) a.0 tt in (omega (arith, a.1), omega (arith, a.1, w))
       | inr b ↦ elim b [
-          | inl c ↦ let w = piece_within words (at + 1) (piece.Number z) c.1 tt in (omega (arith, c.2), omega (arith, c.2, w))
-          | inr c ↦ let w = piece_within words (at + 1) (piece.Number c.0) c.2 tt in (omega (arith, c.4), omega (arith, c.4, w))
-        ]
+        | inl c ↦ let w = piece_within words (at + 1) (piece.Number z) c.1 tt in (omega (arith, c.2), omega (arith, c.2, w))
+        | inr c ↦ let w = piece_within words (at + 1) (piece.Number c.0) c.2 tt in (omega (arith, c.4), omega (arith, c.4, w))
+      ]
     ]
 
 operand_within : (words : WordsView) (at end : ℕ) (o : OperandView) → IsOperand words at end o → (at < end) × (end ≤ length words.tokens)
@@ -152,9 +150,9 @@ axis_within words at end address m t h =
     elim h [
       | inl a ↦ nearer at (at + 1) end (length words.tokens) (omega arith) (signed_within words (at + 1) end a.1 a.3)
       | inr b ↦ elim b [
-          | inl c ↦ nearer at (at + 2) end (length words.tokens) (omega arith) (measured_within words (at + 2) end m t c.3)
-          | inr c ↦ nearer at (at + 3) end (length words.tokens) (omega arith) (measured_within words (at + 3) end m t c.2)
-        ]
+        | inl c ↦ nearer at (at + 2) end (length words.tokens) (omega arith) (measured_within words (at + 2) end m t c.3)
+        | inr c ↦ nearer at (at + 3) end (length words.tokens) (omega arith) (measured_within words (at + 3) end m t c.2)
+      ]
     ]
 
 pub assigned_within : (words : WordsView) (at end : ℕ) (t : Tree) → IsAssigned words at end t → (at < end) × (end ≤ length words.tokens)
@@ -170,12 +168,12 @@ aux_within words at end address bracket operand h =
     elim h [
       | inl a ↦ let w = piece_within words (at + 1) (piece.Number a.1.1) a.1.3 tt in (omega (arith, a.1.7), omega (arith, a.1.7, w))
       | inr b ↦ elim b [
-          | inl a ↦ nearer at (at + 2) end (length words.tokens) (omega arith) (operand_within words (at + 2) end operand a.1.3)
-          | inr c ↦ elim c [
-              | inl a ↦ nearer at (at + 2) end (length words.tokens) (omega arith) (assigned_within words (at + 2) end a.1.1 a.1.4)
-              | inr d ↦ nearer at d.0 end (length words.tokens) (let f = bracket_forward words (at + 1) d.0 bracket d.4 in omega (arith, f)) (assigned_within words d.0 end d.1 d.5)
-            ]
+        | inl a ↦ nearer at (at + 2) end (length words.tokens) (omega arith) (operand_within words (at + 2) end operand a.1.3)
+        | inr c ↦ elim c [
+          | inl a ↦ nearer at (at + 2) end (length words.tokens) (omega arith) (assigned_within words (at + 2) end a.1.1 a.1.4)
+          | inr d ↦ nearer at d.0 end (length words.tokens) (let f = bracket_forward words (at + 1) d.0 bracket d.4 in omega (arith, f)) (assigned_within words d.0 end d.1 d.5)
         ]
+      ]
     ]
 
 pub word_within : (words : WordsView) (at end : ℕ) (x : WordView) → IsWord words at end x → (at < end) × (end ≤ length words.tokens)
@@ -223,10 +221,10 @@ axis_starts words at end address m t h =
     elim h [
       | inl a ↦ plain_starts words at a.0 a.2
       | inr b ↦ elim b [
-          | inl c ↦ plain_starts words at c.0 c.1
-          | inr c ↦ let P : ℕ → Type 0 = λ k. Apart k in
-              starts_letter words at c.0.0 c.0.1 (axis_letters P c.0.0 c.0.2 (refl, refl) (refl, refl) (refl, refl) (refl, refl) (refl, refl) (refl, refl) (refl, refl) (refl, refl) (refl, refl))
-        ]
+        | inl c ↦ plain_starts words at c.0 c.1
+        | inr c ↦ let P : ℕ → Type 0 = λ k. Apart k in
+            starts_letter words at c.0.0 c.0.1 (axis_letters P c.0.0 c.0.2 (refl, refl) (refl, refl) (refl, refl) (refl, refl) (refl, refl) (refl, refl) (refl, refl) (refl, refl) (refl, refl))
+      ]
     ]
 
 aux_word_starts : (words : WordsView) (at end : ℕ) (address : List ℕ) (bracket : Option Tree) (operand : OperandView) → IsAux words at end address bracket operand → StartsWord words at
@@ -234,12 +232,12 @@ aux_word_starts words at end address bracket operand h =
     elim h [
       | inl a ↦ aux_starts words at a.1.0 a.1.2
       | inr b ↦ elim b [
-          | inl a ↦ aux_starts words at a.1.0 a.1.1
-          | inr c ↦ elim c [
-              | inl a ↦ aux_starts words at a.1.0 a.1.2
-              | inr d ↦ inr (d.2, inr (inl d.3))
-            ]
+        | inl a ↦ aux_starts words at a.1.0 a.1.1
+        | inr c ↦ elim c [
+          | inl a ↦ aux_starts words at a.1.0 a.1.2
+          | inr d ↦ inr (d.2, inr (inl d.3))
         ]
+      ]
     ]
 
 pub word_starts : (words : WordsView) (at end : ℕ) (x : WordView) → IsWord words at end x → StartsWord words at
@@ -267,11 +265,11 @@ names_follow text h =
     elim h [
       | inl a ↦ word_follows text (codes "CR") a tt
       | inr b ↦ elim b [
-          | inl c ↦ or_cases _ _ c (λ c. or_cases _ _ c (λ c. or_cases _ _ c
-              (λ c. word_follows text (codes "SPOS") c tt) (λ c. word_follows text (codes "SPOSA") c tt))
-              (λ c. word_follows text (codes "LIMS") c tt)) (λ c. word_follows text (codes "SF") c tt)
-          | inr c ↦ group_follows text c.0 c.1
-        ]
+        | inl c ↦ or_cases _ _ c (λ c. or_cases _ _ c (λ c. or_cases _ _ c
+            (λ c. word_follows text (codes "SPOS") c tt) (λ c. word_follows text (codes "SPOSA") c tt))
+            (λ c. word_follows text (codes "LIMS") c tt)) (λ c. word_follows text (codes "SF") c tt)
+        | inr c ↦ group_follows text c.0 c.1
+      ]
     ]
 
 starts_behind : (words : WordsView) (at : ℕ) → StartsWord words at → Behind words at × (is_end (piece_at words at) ≡ false)

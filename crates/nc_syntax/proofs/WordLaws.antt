@@ -1,6 +1,6 @@
 -- WordsView: what is read as a word is spelled so.
-use Rattle.std.proofs.Common.{◌≡◌, ℕ, ◌+◌, ◌<◌, ◌≤◌, List, [], ◌∷◌, length, refl, ap, sym, ◌∙◌, subst, inl, inr, Option, Some, None, Result, Ok, Err, Bool, true, false, cond, arith}
-use Rattle.std.specs.Prelude.{ℤ, ◌⊎◌, ◌==◌, ◌&&◌, ◌||◌, codes}
+use Rattle.std.proofs.Common.{◌≡◌, ℕ, ◌+◌, List, [], ◌∷◌, refl, ap, sym, ◌∙◌, subst, inl, inr, Option, Some, None, Result, Ok, Err, Bool, true, false, cond, arith}
+use Rattle.std.specs.Prelude.{ℤ, ◌==◌, ◌&&◌, ◌||◌, codes}
 use Rattle.std.proofs.lemmas.Bool.{eqb-true}
 use Rattle.block_scanner.specs.WordsView.{WordsView}
 use Rattle.g_groups.specs.declared.GWord.{GWord}
@@ -15,13 +15,13 @@ use Rattle.nc_blocks.specs.declared.pieces.Piece.TheVariants as piece
 use Rattle.nc_blocks.specs.Names.{upper}
 use Rattle.nc_blocks.specs.Texts.{unquoted}
 use Rattle.nc_blocks.specs.Pieces.{piece_at, text_at, is_assign, is_text, is_name}
-use Rattle.nc_blocks.specs.Marks.{word_code, assign_at, open_at, close_at, close_bracket_at, is_keyword}
-use Rattle.nc_blocks.specs.Reading.{value_at, after_sign, constant_at, index_at}
-use Rattle.nc_blocks.specs.AxisNames.{is_axis_letter, is_axis_start, has_digits, has_axis_name, has_axis_word}
-use Rattle.nc_blocks.specs.Statement.{OperandView, Value, Text, AxisName, WordView, Assign, AssignAt, G, Axis, Radius, Aux, End}
-use Rattle.nc_blocks.specs.Wording.{assigned_at, bracketed_at, is_open_bracket, assignment_at, group_word, g_of_piece, g_at, enclosed_value, measured, measured_at, measured_word, letter_word, axis_word_at, slot_word_at, other_axis_at, is_program_end, plain_aux, aux_value, has_digits_assign, numbered_aux, aux_of, aux_at, bracket_at, spindle_at, is_spindle_word, name_code, name_word, is_centre_letter, is_slot_letter, is_aux_letter, lettered_word, word_of_piece, word_at}
-use Rattle.nc_syntax.specs.Standing.{IsKeyword, IsExpressionText, IsSignedNumber, IsDigits, IsIndex, IsEnclosed, IsBracketed, IsAssigned, IsAxisName}
-use Rattle.nc_syntax.specs.SpelledWords.{IsGroupWord, IsMeasured, IsPlainAxis, IsAxisWord, IsAuxLetter, IsNumberedAux, IsOperand, IsAssignedAux, IsExtendedAux, IsBracket, IsSpindleWord, IsAux, IsProgramEnd, IsWord}
+use Rattle.nc_blocks.specs.Marks.{word_code, assign_at, close_bracket_at, is_keyword}
+use Rattle.nc_blocks.specs.Reading.{value_at, after_sign}
+use Rattle.nc_blocks.specs.AxisNames.{is_axis_start, has_digits, has_axis_name, has_axis_word}
+use Rattle.nc_blocks.specs.Statement.{OperandView, Value, Text, WordView, Assign, AssignAt, G, Axis, Radius, Aux, End}
+use Rattle.nc_blocks.specs.Wording.{assigned_at, bracketed_at, is_open_bracket, assignment_at, group_word, g_of_piece, g_at, enclosed_value, measured_at, measured_word, letter_word, axis_word_at, slot_word_at, other_axis_at, is_program_end, plain_aux, aux_value, has_digits_assign, numbered_aux, aux_of, aux_at, bracket_at, spindle_at, is_spindle_word, name_code, name_word, is_centre_letter, is_slot_letter, lettered_word, word_of_piece, word_at}
+use Rattle.nc_syntax.specs.Standing.{IsKeyword, IsExpressionText, IsEnclosed, IsBracketed, IsAssigned, IsAxisName}
+use Rattle.nc_syntax.specs.SpelledWords.{IsMeasured, IsPlainAxis, IsAuxLetter, IsOperand, IsBracket, IsWord}
 use Rattle.nc_syntax.proofs.Standings.{value_found}
 use Rattle.nc_syntax.proofs.Marked.{bound, taken, refused, one_of, parts_true, same_pair, assign_found, open_found, close_found, close_bracket_found, constant_found, index_found, digits_found}
 
@@ -74,13 +74,13 @@ unfolding measured_at
 measured_found words at end m t h =
     let P = λ (n : ℕ) (k : Measure) (x : Tree). IsMeasured words at n k x in
     one_of _ _ _ _ h
-      (λ is ae. let b = bound _ _ _ ae in
-          measured_moved P Absolute m b.0.0 t b.0.1 end b.2 (is, enclosed_found words (at + 1) b.0.1 b.0.0 b.1))
-      (λ rt re. one_of _ _ _ _ re
-          (λ is ae. let b = bound _ _ _ ae in
-              measured_moved P Incremental m b.0.0 t b.0.1 end b.2 (is, enclosed_found words (at + 1) b.0.1 b.0.0 b.1))
-          (λ qt qe. let b = bound _ _ _ qe in
-              measured_moved P Modal m b.0.0 t b.0.1 end b.2 (value_found words at b.0.1 b.0.0 b.1)))
+    (λ is ae. let b = bound _ _ _ ae in
+    measured_moved P Absolute m b.0.0 t b.0.1 end b.2 (is, enclosed_found words (at + 1) b.0.1 b.0.0 b.1))
+    (λ rt re. one_of _ _ _ _ re
+    (λ is ae. let b = bound _ _ _ ae in
+    measured_moved P Incremental m b.0.0 t b.0.1 end b.2 (is, enclosed_found words (at + 1) b.0.1 b.0.0 b.1))
+    (λ qt qe. let b = bound _ _ _ qe in
+    measured_moved P Modal m b.0.0 t b.0.1 end b.2 (value_found words at b.0.1 b.0.0 b.1)))
 
 open_bracket_is : (p : Piece) → is_open_bracket p ≡ true → p ≡ piece.OpenBracket
 open_bracket_is piece.OpenBracket h = refl
@@ -100,16 +100,16 @@ unfolding assignment_at
 assignment_found words at end x r h =
     let P = λ (n : ℕ) (y : WordView). IsWord words at n y in
     one_of _ _ _ _ h
-      (λ is ae. let b = bound _ _ _ ae in
-          let c = bound _ _ _ b.2 in
-          moved P (AssignAt b.0.0 c.0.0) x c.0.1 end c.2
-            (b.0.1, r, bracketed_found words (at + 1) b.0.1 b.0.0 (open_bracket_is (piece_at words (at + 1)) is) b.1, assigned_found words b.0.1 c.0.1 c.0.0 c.1))
-      (λ is ae. let b = bound _ _ _ ae in
-          let c = bound _ _ _ b.2 in
-          let place : at + 1 + 1 ≡ at + 2 = omega arith in
-          let Q = λ (n : ℕ). IsAssigned words n c.0.1 c.0.0 in
-          moved P (Assign b.0 c.0.0) x c.0.1 end c.2
-            (r, index_found words (at + 1) (word_code words (at + 1)) b.0 b.1, subst Q place (assigned_found words (at + 1 + 1) c.0.1 c.0.0 c.1)))
+    (λ is ae. let b = bound _ _ _ ae in
+    let c = bound _ _ _ b.2 in
+    moved P (AssignAt b.0.0 c.0.0) x c.0.1 end c.2
+    (b.0.1, r, bracketed_found words (at + 1) b.0.1 b.0.0 (open_bracket_is (piece_at words (at + 1)) is) b.1, assigned_found words b.0.1 c.0.1 c.0.0 c.1))
+    (λ is ae. let b = bound _ _ _ ae in
+    let c = bound _ _ _ b.2 in
+    let place : at + 1 + 1 ≡ at + 2 = omega arith in
+    let Q = λ (n : ℕ). IsAssigned words n c.0.1 c.0.0 in
+    moved P (Assign b.0 c.0.0) x c.0.1 end c.2
+    (r, index_found words (at + 1) (word_code words (at + 1)) b.0 b.1, subst Q place (assigned_found words (at + 1 + 1) c.0.1 c.0.0 c.1)))
 
 -- words of groups
 group_found : (o : Option GWord) (next code : ℕ) (x : WordView) (end : ℕ) → group_word o next code ≡ Ok (x, end) →
@@ -136,14 +136,14 @@ unfolding letter_word measured_word
 letter_found words at letter end x l h =
     let P = λ (n : ℕ) (y : WordView). IsWord words at n y in
     one_of _ _ _ _ h
-      (λ is ae. let b = bound _ _ _ ae in
-          let place : at + 1 + 1 ≡ at + 2 = omega arith in
-          let Q = λ (n : ℕ). IsMeasured words n b.0.2 b.0.0 b.0.1 in
-          moved P (Axis (letter ∷ []) b.0.0 b.0.1) x b.0.2 end b.2
-            (inr (inl (letter, l, assign_is (piece_at words (at + 1)) is, subst Q place (measured_found words (at + 1 + 1) b.0.2 b.0.0 b.0.1 b.1), refl))))
-      (λ is ae. let b = bound _ _ _ ae in
-          moved P (Axis (letter ∷ []) Modal (Number b.0.0)) x b.0.1 end b.2
-            (inl (letter, b.0.0, l, constant_found words (at + 1) (word_code words (after_sign words (at + 1))) b.0.0 b.0.1 b.1, refl, refl, refl)))
+    (λ is ae. let b = bound _ _ _ ae in
+    let place : at + 1 + 1 ≡ at + 2 = omega arith in
+    let Q = λ (n : ℕ). IsMeasured words n b.0.2 b.0.0 b.0.1 in
+    moved P (Axis (letter ∷ []) b.0.0 b.0.1) x b.0.2 end b.2
+    (inr (inl (letter, l, assign_is (piece_at words (at + 1)) is, subst Q place (measured_found words (at + 1 + 1) b.0.2 b.0.0 b.0.1 b.1), refl))))
+    (λ is ae. let b = bound _ _ _ ae in
+    moved P (Axis (letter ∷ []) Modal (Number b.0.0)) x b.0.1 end b.2
+    (inl (letter, b.0.0, l, constant_found words (at + 1) (word_code words (after_sign words (at + 1))) b.0.0 b.0.1 b.1, refl, refl, refl)))
 
 pub axis_name_found : (words : WordsView) (at letter : ℕ) → piece_at words at ≡ piece.Letter letter → has_axis_name words at ≡ true → IsAxisName words at (letter ∷ text_at words (at + 1))
 unfolding has_axis_name
@@ -159,7 +159,7 @@ axis_word_found words at letter end x l h k =
     let p = parts_true (has_axis_name words at) (is_assign (piece_at words (at + 2))) h in
     let b = bound _ _ _ k in
     moved P (Axis (letter ∷ text_at words (at + 1)) b.0.0 b.0.1) x b.0.2 end b.2
-      (inr (inr (axis_name_found words at letter l p.0, assign_is (piece_at words (at + 2)) p.1, measured_found words (at + 3) b.0.2 b.0.0 b.0.1 b.1)))
+    (inr (inr (axis_name_found words at letter l p.0, assign_is (piece_at words (at + 2)) p.1, measured_found words (at + 3) b.0.2 b.0.0 b.0.1 b.1)))
 
 or_left : (a b : Bool) → a ≡ true → (a || b) ≡ true
 or_left true b h = refl
@@ -174,18 +174,18 @@ slot_found : (words : WordsView) (at letter end : ℕ) (x : WordView) → piece_
 unfolding slot_word_at
 slot_found words at letter end x l s h =
     one_of _ _ _ _ h
-      (λ is ae. axis_word_found words at letter end x l is ae)
-      (λ is ae. letter_found words at letter end x (l, or_left (is_slot_letter letter) (is_centre_letter letter) s) ae)
+    (λ is ae. axis_word_found words at letter end x l is ae)
+    (λ is ae. letter_found words at letter end x (l, or_left (is_slot_letter letter) (is_centre_letter letter) s) ae)
 
 other_axis_found : (words : WordsView) (at letter end : ℕ) (x : WordView) → piece_at words at ≡ piece.Letter letter →
     other_axis_at words letter at ≡ Ok (x, end) → IsWord words at end x
 unfolding other_axis_at
 other_axis_found words at letter end x l h =
     one_of _ _ _ _ h
-      (λ is ae. axis_word_found words at letter end x l is ae)
-      (λ is ae. one_of (has_axis_name words at) (Err (word_code words (at + 2))) (Err 27) (x, end) ae
-          (λ ct ce. refused (word_code words (at + 2)) (x, end) ce)
-          (λ ct ce. refused 27 (x, end) ce))
+    (λ is ae. axis_word_found words at letter end x l is ae)
+    (λ is ae. one_of (has_axis_name words at) (Err (word_code words (at + 2))) (Err 27) (x, end) ae
+    (λ ct ce. refused (word_code words (at + 2)) (x, end) ce)
+    (λ ct ce. refused 27 (x, end) ce))
 
 -- words that move nothing
 program_end_letter : (letter : ℕ) (z : ℤ) → is_program_end letter z ≡ true → letter ≡ 77
@@ -207,25 +207,35 @@ unfolding numbered_aux has_digits_assign
 numbered_found words at letter end z x l n h =
     let P = λ (k : ℕ) (y : WordView). IsWord words at k y in
     one_of _ _ _ _ h
-      (λ is ae. let p = parts_true (has_digits words (at + 1)) (is_assign (piece_at words (at + 1 + 1))) is in
-          let b = bound _ _ _ ae in
-          let place : at + 1 + 1 ≡ at + 2 = omega arith in
-          let further : at + 1 + 2 ≡ at + 2 + 1 = omega arith in
-          let Q = λ (k : ℕ). piece_at words k ≡ piece.Assign in
-          let R = λ (k : ℕ). IsExpressionText words k b.0.1 b.0.0 in
-          moved P (Aux (letter ∷ text_at words (at + 1)) None (Value b.0.0)) x b.0.1 end b.2
-            (inr (inr (inl (refl, (letter, b.0.0, l, digits_found words (at + 1) p.0,
-              (subst Q place (assign_is (piece_at words (at + 1 + 1)) p.1), subst R further (value_found words (at + 1 + 2) b.0.1 b.0.0 b.1)), refl, refl))))))
-      (λ is ae. let p = same_pair (plain_aux letter z) x (at + 1 + 1) end ae in
-          plain_aux_cases words at letter end z x (is_program_end letter z) refl l n p.0 (omega (arith, p.1)))
+    (λ is ae. let p = parts_true (has_digits words (at + 1)) (is_assign (piece_at words (at + 1 + 1))) is in
+    let b = bound _ _ _ ae in
+    let place : at + 1 + 1 ≡ at + 2 = omega arith in
+    let further : at + 1 + 2 ≡ at + 2 + 1 = omega arith in
+    let Q = λ (k : ℕ). piece_at words k ≡ piece.Assign in
+    let R = λ (k : ℕ). IsExpressionText words k b.0.1 b.0.0 in
+    moved P (Aux (letter ∷ text_at words (at + 1)) None (Value b.0.0)) x b.0.1 end b.2
+    (inr (inr (inl (
+      refl,
+      (
+        letter,
+        b.0.0,
+        l,
+        digits_found words (at + 1) p.0,
+        (subst Q place (assign_is (piece_at words (at + 1 + 1)) p.1), subst R further (value_found words (at + 1 + 2) b.0.1 b.0.0 b.1)),
+        refl,
+        refl,
+      ),
+    )))))
+    (λ is ae. let p = same_pair (plain_aux letter z) x (at + 1 + 1) end ae in
+    plain_aux_cases words at letter end z x (is_program_end letter z) refl l n p.0 (omega (arith, p.1)))
 
 operand_found : (words : WordsView) (at end : ℕ) (o : OperandView) → aux_value words at ≡ Ok (o, end) → IsOperand words at end o
 unfolding aux_value
 operand_found words at end o h =
     let P = λ (k : ℕ) (y : OperandView). IsOperand words at k y in
     one_of _ _ _ _ h
-      (λ is ae. moved P (Text (unquoted (text_at words at))) o (at + 1) end ae (text_is (piece_at words at) is, refl, refl))
-      (λ is ae. let b = bound _ _ _ ae in moved P (Value b.0.0) o b.0.1 end b.2 (value_found words at b.0.1 b.0.0 b.1))
+    (λ is ae. moved P (Text (unquoted (text_at words at))) o (at + 1) end ae (text_is (piece_at words at) is, refl, refl))
+    (λ is ae. let b = bound _ _ _ ae in moved P (Value b.0.0) o b.0.1 end b.2 (value_found words at b.0.1 b.0.0 b.1))
 
 aux_other : (words : WordsView) (at letter end : ℕ) (x : WordView) (p : Piece) → IsAuxLetter words at letter → piece_at words (at + 1) ≡ p →
     cond (is_assign p) (◌>>=◌ {B = WordView × ℕ} (aux_value words (at + 1 + 1)) (λ q. Ok (Aux (letter ∷ []) None q.0, q.1))) (Err (word_code words (at + 1))) ≡ Ok (x, end) → IsWord words at end x
@@ -236,7 +246,7 @@ aux_other words at letter end x p l e h =
     let place : at + 1 + 1 ≡ at + 2 = omega arith in
     let R = λ (k : ℕ). IsOperand words k b.0.1 b.0.0 in
     moved P (Aux (letter ∷ []) None b.0.0) x b.0.1 end b.2
-      (inr (inl (refl, (letter, l, e ∙ assign_is p t.0, subst R place (operand_found words (at + 1 + 1) b.0.1 b.0.0 b.1), refl))))
+    (inr (inl (refl, (letter, l, e ∙ assign_is p t.0, subst R place (operand_found words (at + 1 + 1) b.0.1 b.0.0 b.1), refl))))
 
 aux_cases : (words : WordsView) (at letter end : ℕ) (x : WordView) (p : Piece) → IsAuxLetter words at letter → piece_at words (at + 1) ≡ p →
     aux_of words letter (at + 1) p ≡ Ok (x, end) → IsWord words at end x
@@ -252,9 +262,9 @@ unfolding bracket_at
 bracket_found words at end i h =
     let P = λ (k : ℕ) (j : Option Tree). IsBracket words at k j in
     one_of _ _ _ _ h
-      (λ is ae. let b = bound _ _ _ ae in
-          moved P (Some b.0.0) i b.0.1 end b.2 (bracketed_found words at b.0.1 b.0.0 (open_bracket_is (piece_at words at) is) b.1))
-      (λ is ae. moved P None i at end ae refl)
+    (λ is ae. let b = bound _ _ _ ae in
+    moved P (Some b.0.0) i b.0.1 end b.2 (bracketed_found words at b.0.1 b.0.0 (open_bracket_is (piece_at words at) is) b.1))
+    (λ is ae. moved P None i at end ae refl)
 
 spindle_found : (words : WordsView) (at end : ℕ) (x : WordView) → piece_at words at ≡ piece.Name → is_spindle_word (text_at words at) ≡ true →
     spindle_at words (text_at words at) (at + 1) ≡ Ok (x, end) → IsWord words at end x
@@ -264,7 +274,7 @@ spindle_found words at end x n s h =
     let b = bound _ _ _ h in
     let c = bound _ _ _ b.2 in
     moved P (Aux (upper (text_at words at)) b.0.0 (Value c.0.0)) x c.0.1 end c.2
-      (inr (inr (inr (b.0.1, c.0.0, n, s, bracket_found words (at + 1) b.0.1 b.0.0 b.1, assigned_found words b.0.1 c.0.1 c.0.0 c.1, refl, refl))))
+    (inr (inr (inr (b.0.1, c.0.0, n, s, bracket_found words (at + 1) b.0.1 b.0.0 b.1, assigned_found words b.0.1 c.0.1 c.0.0 c.1, refl, refl))))
 
 pub name_is : (p : Piece) → is_name p ≡ true → p ≡ piece.Name
 name_is piece.Name h = refl
@@ -279,13 +289,13 @@ unfolding name_word
 name_word_found words at end x n h =
     let P = λ (k : ℕ) (y : WordView). IsWord words at k y in
     one_of _ _ _ _ h
-      (λ is ae. let b = bound _ _ _ ae in
-          moved P (Radius b.0.0) x b.0.1 end b.2 (keyword_of words at (codes "CR") n is, assigned_found words (at + 1) b.0.1 b.0.0 b.1))
-      (λ rt re. one_of _ _ _ _ re
-          (λ is ae. spindle_found words at end x n is ae)
-          (λ is ae. let g = group_found (word_by_name (text_at words at)) (at + 1) (name_code (text_at words at)) x end ae in
-              let Q = λ (y : WordView). IsWord words at end y in
-              subst Q (sym g.2) (inr (n, g.1, g.3))))
+    (λ is ae. let b = bound _ _ _ ae in
+    moved P (Radius b.0.0) x b.0.1 end b.2 (keyword_of words at (codes "CR") n is, assigned_found words (at + 1) b.0.1 b.0.0 b.1))
+    (λ rt re. one_of _ _ _ _ re
+    (λ is ae. spindle_found words at end x n is ae)
+    (λ is ae. let g = group_found (word_by_name (text_at words at)) (at + 1) (name_code (text_at words at)) x end ae in
+    let Q = λ (y : WordView). IsWord words at end y in
+    subst Q (sym g.2) (inr (n, g.1, g.3))))
 
 letter_is : (words : WordsView) (at b k : ℕ) → piece_at words at ≡ piece.Letter b → (b == k) ≡ true → piece_at words at ≡ piece.Letter k
 letter_is words at b k l h = l ∙ ap (λ n. piece.Letter n) (eqb-true b k h)
@@ -294,16 +304,16 @@ lettered_found : (words : WordsView) (at letter end : ℕ) (x : WordView) → pi
 unfolding lettered_word
 lettered_found words at letter end x l h =
     one_of _ _ _ _ h
-      (λ is ae. assignment_found words at end x (letter_is words at letter 82 l is) ae)
-      (λ is ae. one_of _ _ _ _ ae
-          (λ bt be. g_found words at end x (letter_is words at letter 71 l bt) be)
-          (λ bt be. one_of _ _ _ _ be
-              (λ ct ce. slot_found words at letter end x l ct ce)
-              (λ ct ce. one_of _ _ _ _ ce
-                  (λ dt de. letter_found words at letter end x (l, or_right (is_slot_letter letter) (is_centre_letter letter) dt) de)
-                  (λ dt de. one_of _ _ _ _ de
-                      (λ et ee. aux_found words at letter end x (l, et) ee)
-                      (λ et ee. other_axis_found words at letter end x l (taken _ _ _ _ ee).1)))))
+    (λ is ae. assignment_found words at end x (letter_is words at letter 82 l is) ae)
+    (λ is ae. one_of _ _ _ _ ae
+    (λ bt be. g_found words at end x (letter_is words at letter 71 l bt) be)
+    (λ bt be. one_of _ _ _ _ be
+    (λ ct ce. slot_found words at letter end x l ct ce)
+    (λ ct ce. one_of _ _ _ _ ce
+    (λ dt de. letter_found words at letter end x (l, or_right (is_slot_letter letter) (is_centre_letter letter) dt) de)
+    (λ dt de. one_of _ _ _ _ de
+    (λ et ee. aux_found words at letter end x (l, et) ee)
+    (λ et ee. other_axis_found words at letter end x l (taken _ _ _ _ ee).1)))))
 
 word_cases : (words : WordsView) (at end : ℕ) (x : WordView) (p : Piece) → piece_at words at ≡ p → word_of_piece words at p ≡ Ok (x, end) → IsWord words at end x
 word_cases words at end x (piece.Letter b) e h = lettered_found words at b end x e h

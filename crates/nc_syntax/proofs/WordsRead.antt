@@ -1,36 +1,28 @@
 -- WordsView: what is spelled as a word is read so, where another word or the end of the line stands behind it.
-use Rattle.std.proofs.Common.{◌≡◌, ℕ, ◌+◌, ◌<◌, ◌≤◌, List, [], ◌∷◌, length, drop, refl, ap, sym, ◌∙◌, subst, inl, inr, Option, Some, None, Result, Ok, Err, Bool, true, false, cond, arith}
+use Rattle.std.proofs.Common.{◌≡◌, ℕ, ◌+◌, List, ◌∷◌, drop, refl, ap, sym, ◌∙◌, subst, inl, inr, Option, Some, None, Ok, Bool, true, false, arith}
 use Rattle.std.specs.Prelude.{ℤ, ◌⊎◌, ◌==◌, ◌&&◌, ◌||◌, codes}
-use Rattle.std.specs.Option.{option_or}
 use Rattle.std.specs.Str.{bytes_eq, str_to_ascii_lowercase}
 use Rattle.std.proofs.lemmas.Bool.{eqb-true}
 use Rattle.block_scanner.specs.WordsView.{WordsView}
-use Rattle.g_groups.specs.declared.GWord.{GWord}
-use Rattle.g_groups.specs.Groups.{Spelling, g as numbered, name as named, Group, code_of, groups}
-use Rattle.word_tables.specs.GroupWords.{word_among, word_in, is_name as writes_name, word_by_number, word_by_name}
 use Rattle.nc_expressions.specs.declared.symbols.Symbol.{Symbol}
-use Rattle.nc_expressions.specs.declared.symbols.Symbol.TheVariants as symbol
 use Rattle.nc_expressions.specs.Symbols.{symbols_of, name_symbol, value_symbol, is_word}
 use Rattle.nc_expressions.specs.Syntax.{Follows}
-use Rattle.nc_expressions.specs.Tree.{Tree, Number}
-use Rattle.nc_expressions.specs.Value.{◌>>=◌}
+use Rattle.nc_expressions.specs.Tree.{Tree}
 use Rattle.nc_blocks.specs.declared.blocks.Measure.{Measure}
 use Rattle.nc_blocks.specs.declared.blocks.Measure.TheVariants.{Modal, Absolute, Incremental}
 use Rattle.nc_blocks.specs.declared.pieces.Piece.{Piece}
 use Rattle.nc_blocks.specs.declared.pieces.Piece.TheVariants as piece
-use Rattle.nc_blocks.specs.Names.{upper}
-use Rattle.nc_blocks.specs.Texts.{unquoted}
-use Rattle.nc_blocks.specs.Pieces.{piece_at, text_at, is_assign, is_text, is_name, is_end}
-use Rattle.nc_blocks.specs.Marks.{word_code, assign_at, open_at, close_at, close_bracket_at, is_keyword}
-use Rattle.nc_blocks.specs.Reading.{value_at, after_sign, constant_at, index_at}
+use Rattle.nc_blocks.specs.Pieces.{piece_at, text_at, is_assign, is_text, is_name}
+use Rattle.nc_blocks.specs.Marks.{word_code, is_keyword}
+use Rattle.nc_blocks.specs.Reading.{after_sign}
 use Rattle.nc_blocks.specs.AxisNames.{is_axis_letter, is_axis_start, is_digits_piece, has_digits, has_axis_name, has_axis_word}
-use Rattle.nc_blocks.specs.Statement.{OperandView, Value, Text, AxisName, WordView, Assign, AssignAt, G, Axis, Radius, Aux, End}
-use Rattle.nc_blocks.specs.Wording.{assigned_at, bracketed_at, is_open_bracket, assignment_at, group_word, g_of_piece, g_at, enclosed_value, measured, measured_at, measured_word, letter_word, axis_word_at, slot_word_at, other_axis_at, is_program_end, plain_aux, aux_value, has_digits_assign, numbered_aux, aux_of, aux_at, bracket_at, spindle_at, is_spindle_word, name_code, name_word, is_centre_letter, is_slot_letter, is_aux_letter, lettered_word, word_of_piece, word_at}
-use Rattle.nc_syntax.specs.Standing.{IsKeyword, IsExpressionText, IsSignedNumber, IsDigits, IsIndex, IsEnclosed, IsBracketed, IsAssigned, IsAxisName}
-use Rattle.nc_syntax.specs.SpelledWords.{IsGroupWord, IsMeasured, IsPlainAxis, IsAxisWord, IsAuxLetter, IsNumberedAux, IsOperand, IsAssignedAux, IsExtendedAux, IsBracket, IsSpindleWord, IsAux, IsProgramEnd, IsWord}
-use Rattle.nc_syntax.proofs.Standings.{Begins, symbol_for, value_only, same_letters, same_symbol, follows_piece, follows_end, follows_letter, follows_keyword, keyword_piece, keyword_text, expression_begins}
+use Rattle.nc_blocks.specs.Statement.{OperandView, Value, Text, AxisName, Assign, AssignAt, Axis, Aux, End}
+use Rattle.nc_blocks.specs.Wording.{assigned_at, bracketed_at, assignment_at, enclosed_value, measured_at, measured_word, letter_word, axis_word_at, slot_word_at, other_axis_at, aux_value, has_digits_assign, numbered_aux, aux_of, aux_at, bracket_at, spindle_at, is_spindle_word, name_word, is_centre_letter, is_slot_letter, is_aux_letter, lettered_word, word_of_piece, word_at}
+use Rattle.nc_syntax.specs.Standing.{IsKeyword, IsExpressionText, IsSignedNumber, IsEnclosed, IsBracketed, IsAssigned, IsAxisName}
+use Rattle.nc_syntax.specs.SpelledWords.{IsMeasured, IsPlainAxis, IsAxisWord, IsAuxLetter, IsNumberedAux, IsOperand, IsAssignedAux, IsExtendedAux, IsBracket, IsSpindleWord, IsAux, IsProgramEnd, IsWord}
+use Rattle.nc_syntax.proofs.Standings.{Begins, value_only, same_letters, same_symbol, follows_piece, follows_end, follows_letter, keyword_piece, keyword_text, expression_begins}
 use Rattle.nc_syntax.proofs.WordLaws.{text_is}
-use Rattle.nc_syntax.proofs.Marked.{yes_of, no_of, assign_only, open_only, close_only, close_bracket_only, constant_only, index_only, digits_only}
+use Rattle.nc_syntax.proofs.Marked.{assign_only, open_only, close_only, close_bracket_only, constant_only, index_only, digits_only}
 
 -- truth values
 pub false_of : (b : Bool) → (b ≡ true → ⊥) → b ≡ false
@@ -91,9 +83,9 @@ behind_follows words at h =
     elim h [
       | inl a ↦ follows_end words at a
       | inr b ↦ elim b [
-          | inl c ↦ follows_letter words at c.0 c.1
-          | inr c ↦ c.1
-        ]
+        | inl c ↦ follows_letter words at c.0 c.1
+        | inr c ↦ c.1
+      ]
     ]
 
 pub behind_assign : (words : WordsView) (at : ℕ) → Behind words at → is_assign (piece_at words at) ≡ false
@@ -101,9 +93,9 @@ behind_assign words at h =
     elim h [
       | inl a ↦ ap is_assign a
       | inr b ↦ elim b [
-          | inl c ↦ ap is_assign c.1
-          | inr c ↦ ap is_assign c.0
-        ]
+        | inl c ↦ ap is_assign c.1
+        | inr c ↦ ap is_assign c.0
+      ]
     ]
 
 -- parts of words
@@ -115,13 +107,13 @@ pub bracketed_only : (words : WordsView) (at end : ℕ) (t : Tree) → IsBracket
 unfolding bracketed_at
 bracketed_only words at end t h =
     rw (value_only words (at + 1) h.0 t h.2 (follows_piece words h.0 piece.CloseBracket h.3 tt tt), close_bracket_only words h.0 (word_code words h.0) h.3)
-      (ap (λ n. Ok (t, n)) (sym h.4))
+    (ap (λ n. Ok (t, n)) (sym h.4))
 
 pub enclosed_only : (words : WordsView) (at end : ℕ) (t : Tree) → IsEnclosed words at end t → enclosed_value words at ≡ Ok (t, end)
 unfolding enclosed_value
 enclosed_only words at end t h =
     rw (open_only words at (word_code words at) h.1, value_only words (at + 1) h.0 t h.2 (follows_piece words h.0 piece.Close h.3 tt tt), close_only words h.0 (word_code words h.0) h.3)
-      (ap (λ n. Ok (t, n)) (sym h.4))
+    (ap (λ n. Ok (t, n)) (sym h.4))
 
 measured_only : (words : WordsView) (at end : ℕ) (m : Measure) (t : Tree) → IsMeasured words at end m t → Follows (drop end (symbols_of words)) →
     measured_at words at ≡ Ok (m, t, end)
@@ -159,20 +151,20 @@ assign_at_read words at end i t h f =
 pub axis_letters : (P : ℕ → Type 0) (b : ℕ) → is_axis_letter b ≡ true → P 65 → P 66 → P 67 → P 85 → P 86 → P 87 → P 88 → P 89 → P 90 → P b
 axis_letters P b h a1 a2 a3 a4 a5 a6 a7 a8 a9 =
     or_cases _ _ h (λ h. or_cases _ _ h (λ h. or_cases _ _ h (λ h. or_cases _ _ h (λ h. or_cases _ _ h (λ h. or_cases _ _ h (λ h. or_cases _ _ h (λ h. or_cases _ _ h
-      (λ h. letter_case P b 65 h a1) (λ h. letter_case P b 66 h a2)) (λ h. letter_case P b 67 h a3)) (λ h. letter_case P b 85 h a4)) (λ h. letter_case P b 86 h a5))
-      (λ h. letter_case P b 87 h a6)) (λ h. letter_case P b 88 h a7)) (λ h. letter_case P b 89 h a8)) (λ h. letter_case P b 90 h a9)
+    (λ h. letter_case P b 65 h a1) (λ h. letter_case P b 66 h a2)) (λ h. letter_case P b 67 h a3)) (λ h. letter_case P b 85 h a4)) (λ h. letter_case P b 86 h a5))
+    (λ h. letter_case P b 87 h a6)) (λ h. letter_case P b 88 h a7)) (λ h. letter_case P b 89 h a8)) (λ h. letter_case P b 90 h a9)
 
 pub plain_letters : (P : ℕ → Type 0) (b : ℕ) → (is_slot_letter b || is_centre_letter b) ≡ true → P 88 → P 89 → P 90 → P 73 → P 74 → P 75 → P b
 plain_letters P b h a1 a2 a3 a4 a5 a6 =
     or_cases _ _ h
-      (λ h. or_cases _ _ h (λ h. or_cases _ _ h (λ h. letter_case P b 88 h a1) (λ h. letter_case P b 89 h a2)) (λ h. letter_case P b 90 h a3))
-      (λ h. or_cases _ _ h (λ h. or_cases _ _ h (λ h. letter_case P b 73 h a4) (λ h. letter_case P b 74 h a5)) (λ h. letter_case P b 75 h a6))
+    (λ h. or_cases _ _ h (λ h. or_cases _ _ h (λ h. letter_case P b 88 h a1) (λ h. letter_case P b 89 h a2)) (λ h. letter_case P b 90 h a3))
+    (λ h. or_cases _ _ h (λ h. or_cases _ _ h (λ h. letter_case P b 73 h a4) (λ h. letter_case P b 74 h a5)) (λ h. letter_case P b 75 h a6))
 
 pub aux_letters : (P : ℕ → Type 0) (b : ℕ) → is_aux_letter b ≡ true → P 77 → P 83 → P 84 → P 68 → P 70 → P 72 → P b
 aux_letters P b h a1 a2 a3 a4 a5 a6 =
     or_cases _ _ h (λ h. or_cases _ _ h (λ h. or_cases _ _ h (λ h. or_cases _ _ h (λ h. or_cases _ _ h
-      (λ h. letter_case P b 77 h a1) (λ h. letter_case P b 83 h a2)) (λ h. letter_case P b 84 h a3)) (λ h. letter_case P b 68 h a4))
-      (λ h. letter_case P b 70 h a5)) (λ h. letter_case P b 72 h a6)
+    (λ h. letter_case P b 77 h a1) (λ h. letter_case P b 83 h a2)) (λ h. letter_case P b 84 h a3)) (λ h. letter_case P b 68 h a4))
+    (λ h. letter_case P b 70 h a5)) (λ h. letter_case P b 72 h a6)
 
 pub axis_name_only : (words : WordsView) (at : ℕ) (address : List ℕ) → IsAxisName words at address → has_axis_name words at ≡ true
 unfolding has_axis_name
@@ -191,7 +183,7 @@ no_digits_behind : (words : WordsView) (at : ℕ) → has_digits words (at + 1) 
 unfolding has_axis_word has_axis_name
 no_digits_behind words at h =
     first_false (is_axis_start (piece_at words at) && has_digits words (at + 1)) (is_assign (piece_at words (at + 2)))
-      (last_false (is_axis_start (piece_at words at)) (has_digits words (at + 1)) h)
+    (last_false (is_axis_start (piece_at words at)) (has_digits words (at + 1)) h)
 
 pub no_digits : (words : WordsView) (at : ℕ) (p : Piece) → piece_at words at ≡ p → ((text : List ℕ) → is_digits_piece p text ≡ false) → has_digits words at ≡ false
 unfolding has_digits
@@ -220,9 +212,9 @@ signed_no_word words at end z h f =
           let P = λ (n : ℕ). is_assign (piece_at words n) ≡ false in
           no_assign_behind words at (subst P place (behind_assign words end f))
       | inr b ↦ elim b [
-          | inl c ↦ no_digits_behind words at (no_digits words (at + 1) piece.Plus c.0 (λ text. refl))
-          | inr c ↦ no_digits_behind words at (no_digits words (at + 1) piece.Minus c.1 (λ text. refl))
-        ]
+        | inl c ↦ no_digits_behind words at (no_digits words (at + 1) piece.Plus c.0 (λ text. refl))
+        | inr c ↦ no_digits_behind words at (no_digits words (at + 1) piece.Minus c.1 (λ text. refl))
+      ]
     ]
 
 pub signed_no_assign : (words : WordsView) (at end : ℕ) (z : ℤ) → IsSignedNumber words at end z → is_assign (piece_at words at) ≡ false
@@ -230,9 +222,9 @@ signed_no_assign words at end z h =
     elim h [
       | inl a ↦ ap is_assign a.0
       | inr b ↦ elim b [
-          | inl c ↦ ap is_assign c.0
-          | inr c ↦ ap is_assign c.1
-        ]
+        | inl c ↦ ap is_assign c.0
+        | inr c ↦ ap is_assign c.1
+      ]
     ]
 
 pub axis_read : (words : WordsView) (at end : ℕ) (address : List ℕ) (m : Measure) (t : Tree) → IsAxisWord words at end address m t → Behind words end →
@@ -243,13 +235,13 @@ axis_read words at end address m t h f =
       | inl a ↦ plain_axis_read words at a.0 a.2 (signed_no_word words at end a.1 a.3 f)
           ∙ rw (signed_no_assign words (at + 1) end a.1 a.3, constant_only words (at + 1) (word_code words (after_sign words (at + 1))) a.1 end a.3, a.4, a.5, a.6) refl
       | inr b ↦ elim b [
-          | inl c ↦ let place : at + 1 + 1 ≡ at + 2 = omega arith in
-              let P = λ (n : ℕ). IsMeasured words n end m t in
-              plain_axis_read words at c.0 c.1 (no_digits_behind words at (no_digits words (at + 1) piece.Assign c.2 (λ text. refl)))
-              ∙ rw (c.2, measured_only words (at + 1 + 1) end m t (subst P (sym place) c.3) (behind_follows words end f), c.4) refl
-          | inr c ↦ named_axis_read words at address c.0 c.1
-              ∙ rw (measured_only words (at + 3) end m t c.2 (behind_follows words end f), c.0.4) refl
-        ]
+        | inl c ↦ let place : at + 1 + 1 ≡ at + 2 = omega arith in
+            let P = λ (n : ℕ). IsMeasured words n end m t in
+            plain_axis_read words at c.0 c.1 (no_digits_behind words at (no_digits words (at + 1) piece.Assign c.2 (λ text. refl)))
+            ∙ rw (c.2, measured_only words (at + 1 + 1) end m t (subst P (sym place) c.3) (behind_follows words end f), c.4) refl
+        | inr c ↦ named_axis_read words at address c.0 c.1
+            ∙ rw (measured_only words (at + 3) end m t c.2 (behind_follows words end f), c.0.4) refl
+      ]
     ]
 
 -- words that move nothing
@@ -299,8 +291,8 @@ spindle_no_radius : (text : List ℕ) → is_spindle_word text ≡ true → is_w
 unfolding is_spindle_word
 spindle_no_radius text h =
     or_cases _ _ h (λ h. or_cases _ _ h (λ h. or_cases _ _ h
-      (λ h. other_word text (codes "SPOS") (codes "CR") h refl) (λ h. other_word text (codes "SPOSA") (codes "CR") h refl))
-      (λ h. other_word text (codes "LIMS") (codes "CR") h refl)) (λ h. other_word text (codes "SF") (codes "CR") h refl)
+    (λ h. other_word text (codes "SPOS") (codes "CR") h refl) (λ h. other_word text (codes "SPOSA") (codes "CR") h refl))
+    (λ h. other_word text (codes "LIMS") (codes "CR") h refl)) (λ h. other_word text (codes "SF") (codes "CR") h refl)
 
 bracket_only : (words : WordsView) (at end : ℕ) (i : Option Tree) → IsBracket words at end i → piece_at words end ≡ piece.Assign → bracket_at words at ≡ Ok (i, end)
 unfolding bracket_at
@@ -322,12 +314,12 @@ aux_only words at end address bracket operand h f =
     elim h [
       | inl a ↦ rw a.0 (numbered_read words at end address operand a.1 f)
       | inr b ↦ elim b [
-          | inl a ↦ rw a.0 (assigned_aux_read words at end address operand a.1 f)
-          | inr c ↦ elim c [
-              | inl a ↦ rw a.0 (extended_read words at end address operand a.1 f)
-              | inr d ↦ spindle_read words at end address bracket operand d f
-            ]
+        | inl a ↦ rw a.0 (assigned_aux_read words at end address operand a.1 f)
+        | inr c ↦ elim c [
+          | inl a ↦ rw a.0 (extended_read words at end address operand a.1 f)
+          | inr d ↦ spindle_read words at end address bracket operand d f
         ]
+      ]
     ]
 
 pub program_end_read : (words : WordsView) (at end : ℕ) → IsProgramEnd words at end → Behind words end → word_at words at ≡ Ok (End, end)

@@ -1,5 +1,5 @@
 -- How the words of a word block are spelled.
-use Rattle.std.specs.Prelude.{◌≡◌, ℕ, ℤ, ◌+◌, ◌||◌, ◌⊎◌, Bool, IsTrue, IsFalse, List, [], ◌∷◌, Option, Some, None, codes}
+use Rattle.std.specs.Prelude.{◌≡◌, ℕ, ℤ, ◌+◌, ◌||◌, ◌⊎◌, IsTrue, IsFalse, List, [], ◌∷◌, Option, Some, None, codes}
 use Rattle.block_scanner.specs.WordsView.{WordsView}
 use Rattle.word_tables.specs.GroupWords.{word_by_number, word_by_name}
 use Rattle.nc_expressions.specs.Tree.{Tree, Number}

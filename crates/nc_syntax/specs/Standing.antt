@@ -1,5 +1,5 @@
 -- What stands in a line, from one place up to another: expressions, numbers, names and lists.
-use Rattle.std.specs.Prelude.{◌≡◌, ℕ, ℤ, neg_ℤ, ◌+◌, ◌*◌, pos, ◌≤◌, ◌⊎◌, IsTrue, List, [], ◌∷◌, length, slice_range, Option, Some, None}
+use Rattle.std.specs.Prelude.{◌≡◌, ℕ, ℤ, neg_ℤ, ◌+◌, ◌≤◌, ◌⊎◌, IsTrue, List, [], ◌∷◌, length, slice_range, Some}
 use Rattle.block_scanner.specs.WordsView.{WordsView}
 use Rattle.nc_expressions.specs.Symbols.{symbols_of, index_of}
 use Rattle.nc_expressions.specs.Syntax.{Syntax, spelling, tree, IsExpression}
