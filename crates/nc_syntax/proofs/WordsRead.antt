@@ -1,4 +1,4 @@
--- Words: what is spelled as a word is read so, where another word or the end of the line stands behind it.
+-- WordsView: what is spelled as a word is read so, where another word or the end of the line stands behind it.
 use Rattle.std.proofs.Common.{◌≡◌, ℕ, ◌+◌, List, ◌∷◌, drop, refl, ap, sym, ◌∙◌, subst, inl, inr, Option, Some, None, Ok, Bool, true, false, arith}
 use Rattle.std.specs.Prelude.{ℤ, ◌⊎◌, ◌==◌, ◌&&◌, ◌||◌, codes}
 use Rattle.std.specs.Str.{bytes_eq, str_to_ascii_lowercase}

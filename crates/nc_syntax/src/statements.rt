@@ -115,7 +115,11 @@ fn block_of(alloc: Global, words: &Words<'_>) -> Result<Block, SyntaxFault>
 
 /// Reads as the definition does.
 #[tactic(auto, unfolding(crate::specs::Blocks::statement_of))]
-fn read_exactly(alloc: Global, words: &Words<'_>, compensation: bool) -> Result<Block, SyntaxFault>
+fn statement_exactly(
+    alloc: Global,
+    words: &Words<'_>,
+    compensation: bool,
+) -> Result<Block, SyntaxFault>
     requires { IsScanned words.now }
     ensures exact { Gives view_of (statement_of words.now compensation) result }
     ensures indices { IfOk result (λ b. StatementFits (statement_view b.stmt)) }
@@ -138,12 +142,17 @@ fn read_exactly(alloc: Global, words: &Words<'_>, compensation: bool) -> Result<
 /// the first broken rule: the leftmost refused word; else 21 where a number is out of range; else
 /// what is wrong with the form, at the leftmost place at which the line goes on to no form.
 /// `NoMemory` says nothing of the line.
-#[tactic(auto, using(crate::proofs::BlockRefusals::refusals_listed))]
+#[tactic(auto, using(crate::proofs::BlockLaws::answers))]
 pub fn statement(alloc: Global, words: &Words<'_>, compensation: bool) -> Result<Block, SyntaxFault>
     requires { IsScanned words.now }
+
+    // What is read is spelled so, and what is spelled so is read: one block at most.
+    ensures found { IfOk result (λ b. Spells words.now (view_of b)) }
+    ensures only { (b : BlockView) → IsAccepted words.now compensation → Spells words.now b → Gives view_of (Ok b) result }
+
     ensures exact { Gives view_of (statement_of words.now compensation) result }
     ensures listed { IfErr result IsListed }
     ensures indices { IfOk result (λ b. StatementFits (statement_view b.stmt)) }
 {
-    read_exactly(alloc, words, compensation)
+    statement_exactly(alloc, words, compensation)
 }
