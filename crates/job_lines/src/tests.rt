@@ -112,7 +112,10 @@ fn reads_headers(rt: HostRuntime) -> Result<(), Fail> {
     for word in broken {
         assert_eq!(rt; header_in(&[word]).err(), Some(Code::BadHeader));
     }
-    assert_eq!(rt; header_in(&[b"%_N_A_MPF", b"X"]).err(), Some(Code::BadHeader));
+    assert_eq!(rt;
+        header_in(&[b"%_N_A_MPF", b"X"]).err(),
+        Some(Code::BadHeader)
+    );
     Ok(())
 }
 

@@ -63,10 +63,7 @@ impl Reader {
                 Some(code) => Err(JobFault::Refused(refusal(code, number))),
                 None => Ok(reading),
             },
-            Err(LineFault::Broken(code)) => Err(JobFault::Refused(Refusal {
-                code,
-                line: number,
-            })),
+            Err(LineFault::Broken(code)) => Err(JobFault::Refused(Refusal { code, line: number })),
             Err(LineFault::NoMemory) => Err(JobFault::NoMemory),
         }
     }

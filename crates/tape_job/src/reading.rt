@@ -11,8 +11,8 @@ use crate::built::is_built;
 use crate::lines::{before_comment, begins_with_percent, is_visible, text_in, upper_in, words_of};
 use block_scanner::{ScanFault, Words, scan};
 use job_lines::{Code, Item, header_in, item_in};
-use nc_expressions::SyntaxFault;
 use nc_blocks::{Block, NameText};
+use nc_expressions::SyntaxFault;
 use nc_syntax::statement;
 use std::alloc::{AllocError, Global};
 

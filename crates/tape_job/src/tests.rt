@@ -165,7 +165,11 @@ fn counts_the_line_end(rt: HostRuntime) -> Result<(), Fail> {
             text.push(';')?;
         }
         text.push_str(end)?;
-        assert_eq!(rt; refusal_of(rt.alloc(), text.as_bytes()), refusal, "of {bytes} bytes");
+        assert_eq!(rt;
+            refusal_of(rt.alloc(), text.as_bytes()),
+            refusal,
+            "of {bytes} bytes"
+        );
     }
     Ok(())
 }
