@@ -22,7 +22,7 @@ use std::alloc::{AllocError, Global};
 pub struct SetUp {
     /// The axes in the slots X, Y and Z.
     pub slots: [Option<AxisId>; 3],
-    /// Where each axis stands before the first block.
+    /// Where each axis stands before the first block, in micrometres.
     pub start: Positions,
 }
 
@@ -42,7 +42,7 @@ pub struct ChannelRun {
     pub items: Vec<Item>,
     /// How it ended.
     pub end: ChannelEnd,
-    /// Where all axes stand at the end.
+    /// Where all axes stand at the end, in micrometres.
     pub at: Positions,
 }
 
@@ -98,8 +98,9 @@ fn alarmed(code: u16, line: u32) -> ChannelEnd
     ChannelEnd::Alarmed(Alarm { code, line })
 }
 
-/// Runs a program, whose header stands on the line `header`, from its first block on. Each block
-/// comes with its line.
+/// Runs a program, whose header stands on the line `header`, from its first block to its program end
+/// or its first alarm. Each block comes with its line. A run that ends with an alarm is an answer; the
+/// only error is want of memory.
 pub fn run_program(
     alloc: Global,
     set_up: &SetUp,
