@@ -151,11 +151,7 @@ fn run_selected(
 
 /// Runs the channel of a CHANNEL line.
 #[tactic(auto, unfolding(crate::specs::ChannelRun::run_of))]
-pub fn run_channel(
-    alloc: Global,
-    job: &Job,
-    line: &ChannelLine,
-) -> Result<ChannelRun, AllocError>
+pub fn run_channel(alloc: Global, job: &Job, line: &ChannelLine) -> Result<ChannelRun, AllocError>
     requires { model.IsRunnable job.now }
     ensures { IfOk result (λ run. run ≡ run_of job.now line.now) }
 {

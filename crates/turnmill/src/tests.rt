@@ -186,7 +186,10 @@ fn compares_as_many_pairs_as_the_budget_allows(rt: HostRuntime) -> Result<(), Fa
             status,
             "{first} {second}"
         );
-        assert!(rt; sink.bytes().ends_with(verdict.as_bytes()), "{first} {second}");
+        assert!(rt;
+            sink.bytes().ends_with(verdict.as_bytes()),
+            "{first} {second}"
+        );
     }
     Ok(())
 }

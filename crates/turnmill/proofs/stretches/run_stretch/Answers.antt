@@ -8,5 +8,5 @@ use Rattle.turnmill.proofs.stretches.run_stretch.Goals as goal
 pub returns : goal.returns
 unfolding run_stretch
 returns c =
-    let start : positions_in c.start_positions-start.result ≡ start_position c.args.job.now = fun_ext c.start_positions-start.ensures in
+    let start : positions_in c.start_positions-start.result ≡ start_position c.args.job.now = fun_ext c.start_positions-start.ensures.each in
     rw (← c.run.view_is, ← start, c.in_ok-boxes_of.ensures, c.deref.ensures.value) refl
