@@ -3,3 +3,4 @@ pub mod Finding
 pub mod Matched
 pub mod Indexed
 pub mod Resolving
+pub mod Nesting

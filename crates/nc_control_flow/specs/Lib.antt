@@ -1,5 +1,6 @@
 pub mod Parts
 pub mod Nest
+pub mod Nested
 pub mod Places
 pub mod Matching
 pub mod Structures

@@ -6,7 +6,7 @@ use Rattle.nc_control_flow.specs.Parts.{parts}
 use Rattle.nc_control_flow.specs.Places.{ahead, behind}
 use Rattle.nc_control_flow.specs.Matching.{matching}
 
--- the end of the structure round a place; 0 where there is none, which no program has whose structures match
+-- the end of the structure round a place; 0 where there is none, which never comes where structures match (`structures_are_found`)
 unfoldable pub closing : ℕ → List BlockView → ℕ
 closing pc blocks = unwrap_or (matching End 0 (ahead pc (parts blocks))) 0
 

@@ -6,6 +6,7 @@
 
 mod flow;
 mod index;
+mod laws;
 mod moves;
 mod nest;
 mod parts;
@@ -14,6 +15,7 @@ mod repeats;
 mod structures;
 
 pub use flow::{Flow, Next, Outcome, resolve};
+pub use laws::structures_are_found;
 pub use nest::Nest;
 pub use repeats::Repeats;
 

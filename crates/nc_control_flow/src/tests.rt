@@ -285,4 +285,5 @@ fn nests(rt: HostRuntime) {
     for (text, expected) in cases.iter() {
         assert_eq!(rt; nest(text), *expected, "of {text}");
     }
+    structures_are_found();
 }
