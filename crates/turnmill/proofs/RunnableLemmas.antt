@@ -1,10 +1,9 @@
 -- An accepted job can be run.
-use Rattle.std.proofs.Common.{◌≡◌, ℕ, ◌≤◌, ◌<◌, ◌==◌, ◌&&◌, ◌||◌, codes, nat_le, nat_lt, Bool, true, false, List, [], ◌∷◌, length, filter, IfOk, Result, Ok, Err, refl, arith}
+use Rattle.std.proofs.Common.{◌≡◌, ℕ, ◌≤◌, ◌==◌, ◌&&◌, ◌||◌, codes, nat_le, nat_lt, Bool, true, false, List, [], ◌∷◌, length, filter, IfOk, Result, Ok, Err, refl, arith}
 use Rattle.std.proofs.lemmas.Bool.{and_parts, false≢true, leb-true, lt-ltb}
 use Rattle.std.specs.List.{list_all}
 use Rattle.std.specs.Str.{bytes_eq}
 use Rattle.channel_machine.specs.Built as machine
-use Rattle.nc_blocks.specs.declared.blocks.Measure.{Measure}
 use Rattle.nc_blocks.specs.declared.blocks.Measure.TheVariants.{Modal, Absolute, Incremental}
 use Rattle.nc_blocks.specs.Statement.{WordView, Assign, AssignAt, G, Axis, Radius, Aux, End, Statement, Empty, WordBlock, Proc, Message}
 use Rattle.nc_faults.specs.declared.Refusal.{Refusal}
@@ -13,7 +12,7 @@ use Rattle.tape_job.specs.Built.{is_slot, is_built_word, are_built, is_built, is
 use Rattle.tape_job.specs.Job.{JobView}
 use Rattle.tape_job.specs.Read.{read_of}
 use Rattle.tape_job.specs.SoundJob.{IsSoundJob, BlocksFit}
-use Rattle.turnmill.specs.Channels.{HasFewAxes, IsRunnable}
+use Rattle.turnmill.specs.Channels.{IsRunnable}
 
 -- ---- the blocks that jobs have are those that the machine executes
 

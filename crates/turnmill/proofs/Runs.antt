@@ -1,15 +1,14 @@
 -- What the other proofs need of the run of a channel. They speak of no block.
-use Rattle.std.proofs.Common.{◌≡◌, ◌∙◌, ℕ, zero, suc, ℤ, ◌+◌, ◌≤◌, ◌<◌, ◌==◌, ◌&&◌, Bool, true, cond, List, [], ◌∷◌, map, take, length, get_or, slice_get, find, Option, None, Some, option_map, option_and_then, unwrap_or, IfSome, All, Contains, refl, sym, ap, subst, arith}
+use Rattle.std.proofs.Common.{◌≡◌, ◌∙◌, ℕ, zero, suc, ℤ, ◌≤◌, ◌<◌, ◌==◌, ◌&&◌, List, [], ◌∷◌, map, take, length, get_or, slice_get, find, Option, None, Some, option_map, option_and_then, unwrap_or, IfSome, All, Contains, refl, sym, ap, subst, arith}
 use mathlib.Core.Path.{fun_ext}
-use Rattle.std.specs.Map.{lookup}
 use Rattle.std.specs.Str.{bytes_eq}
 use Rattle.std.proofs.lemmas.Bool.{eqb-true, and_parts}
 use Rattle.std.proofs.lemmas.List.Elements.{All-nil, All-cons, All-head, All-tail, All-weaker}
 use Rattle.std.proofs.lemmas.Map.Entries.{All-lookup}
 use Rattle.std.proofs.lemmas.Option.{slice_get-get_or}
-use Rattle.channel_machine.proofs.MotionLaws.{axes_below, ends_found}
+use Rattle.channel_machine.proofs.MotionLaws.{ends_found}
 use Rattle.channel_machine.proofs.RunLaws.{all_follow, few_items, items_sound, end_listed}
-use Rattle.channel_machine.specs.Motions.{positions_in, end_in, left_at, IsMotionOf}
+use Rattle.channel_machine.specs.Motions.{positions_in, left_at, IsMotionOf}
 use Rattle.channel_machine.specs.Run as machine
 use Rattle.channel_machine.specs.declared.motions.Item.{Item}
 use Rattle.nc_blocks.specs.declared.blocks.Block.{Block}

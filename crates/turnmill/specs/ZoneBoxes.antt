@@ -1,5 +1,5 @@
 -- The boxes of a zone: where its sides stand, and the boxes that a channel's motions give it.
-use Rattle.std.specs.Prelude.{◌<◌, All, ℕ, ℤ, ◌+ℤ◌, ◌-ℤ◌, ◌+◌, ◌==◌, Bool, true, false, if◌then◌else◌, List, [], ◌∷◌, ◌++◌, map, ⊤, Option, None, Some, find}
+use Rattle.std.specs.Prelude.{◌<◌, All, ℕ, ℤ, ◌+ℤ◌, ◌-ℤ◌, ◌+◌, ◌==◌, Bool, true, false, if◌then◌else◌, List, [], ◌∷◌, ◌++◌, map, Option, None, Some, find}
 use Rattle.std.specs.List.{list_any}
 use Rattle.std.specs.Option.{option_map_or}
 use Rattle.swept_boxes.specs.Cover.{cover_of}
@@ -7,9 +7,6 @@ use Rattle.path_geometry.specs.Motions.{axes_of, IsSound}
 use Rattle.swept_boxes.specs.Pieces.{pieces_at}
 use Rattle.swept_boxes.specs.Ranges.{RangesView}
 use Rattle.swept_boxes.specs.declared.Box3.{Box3}
-use Rattle.path_geometry.specs.declared.motion.Motion.{Motion}
-use Rattle.path_geometry.specs.declared.motion.Motion.TheVariants.{Line, Rapid}
-use Rattle.path_geometry.specs.declared.motion.Motion.TheVariants as Kind
 use Rattle.tape_job.specs.declared.job.Side.{Side}
 use Rattle.tape_job.specs.declared.job.ZoneLine.{ZoneLine}
 use Rattle.channel_machine.specs.declared.motions.Item.{Item}

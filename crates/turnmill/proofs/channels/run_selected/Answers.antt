@@ -1,10 +1,10 @@
 -- The run of the program that is found, or of none.
-use Rattle.std.proofs.Common.{◌≡◌, ◌∙◌, ℕ, List, [], Some, option_and_then, All, IfOk, map, ap, sym, subst}
+use Rattle.std.proofs.Common.{◌≡◌, ◌∙◌, ℕ, List, [], Some, All, IfOk, map, ap, sym, subst}
 use Rattle.channel_machine.specs.Run as machine
 use Rattle.channel_machine.specs.declared.run.SetUp.{SetUp}
 use Rattle.nc_blocks.specs.declared.blocks.Block.{Block}
 use Rattle.tape_job.specs.Job.{ProgramView}
-use Rattle.turnmill.specs.Channels.{set_up_of, program_run}
+use Rattle.turnmill.specs.Channels.{set_up_of}
 use Rattle.turnmill.proofs.Runs.{ready_blocks, run_of_program, run_of_none}
 use Rattle.turnmill.proofs.channels.run_selected.Goals as goal
 

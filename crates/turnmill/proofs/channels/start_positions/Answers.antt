@@ -1,4 +1,4 @@
-use Rattle.std.proofs.Common.{◌≡◌, ◌∙◌, ◌<◌, ◌≤◌, ℕ, ℤ, List, ap, sym, arith}
+use Rattle.std.proofs.Common.{◌≡◌, ◌∙◌, ◌≤◌, ℤ, List, ap, arith}
 use Rattle.channel_machine.specs.Motions.{positions_in}
 use Rattle.turnmill.specs.Channels.{start_row}
 use Rattle.turnmill.proofs.Positions.{row_is, whole_row}
