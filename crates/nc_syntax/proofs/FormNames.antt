@@ -26,7 +26,7 @@ use Rattle.nc_syntax.specs.Bodies.{jump_name, structure_name, control_name, fram
 use Rattle.nc_syntax.specs.Standing.{IsKeyword}
 use Rattle.nc_syntax.specs.Spelled.{way_name, frame_name, turn_name, coordination_name}
 use Rattle.nc_syntax.proofs.Standings.{same_letters, keyword_piece, keyword_text}
-use Rattle.nc_syntax.proofs.WordLaws.{keyword_of}
+use Rattle.nc_syntax.proofs.WordLaws.{keyword_of, or_left, or_right}
 use Rattle.nc_syntax.proofs.WordsRead.{or_cases}
 use Rattle.nc_syntax.proofs.WordBlocks.{NamesWord, not_in_group}
 
@@ -345,27 +345,19 @@ no_form_of_program : (text : List ℕ) → is_table_word text ≡ false → form
 no_form_of_program text h = none_of (form_of text) (λ f e. let t = form_is_table text f e in let no : true ≡ false = sym t ∙ h in cc)
 
 -- the names of words begin no form, and stand in a table
-inner_is_table : (a b : Bool) → b ≡ true → (a || b) ≡ true
-inner_is_table true b h = refl
-inner_is_table false b h = h
-
-or_more : (a b : Bool) → a ≡ true → (a || b) ≡ true
-or_more true b h = refl
-or_more false b h = cc
-
 inner_word : (text k : List ℕ) → is_word text k ≡ true → is_inner_name k ≡ true → form_of k ≡ None → (form_of text ≡ None) × (is_table_word text ≡ true)
 unfolding is_table_word
 inner_word text k h i n =
     let same = same_letters text k h in
     let e : is_inner_name text ≡ true = same_inner text k same ∙ i in
-    (same_form text k same ∙ n, or_more _ _ (or_more _ _ (or_more _ _ (inner_is_table _ _ e))))
+    (same_form text k same ∙ n, or_left _ _ (or_left _ _ (or_left _ _ (or_right _ _ e))))
 
 group_word_name : (text : List ℕ) (w : GWord) → word_by_name text ≡ Some w → (form_of text ≡ None) × (is_table_word text ≡ true)
 unfolding is_table_word
 group_word_name text w h =
     let some : is_some (word_by_name text) ≡ true = ap is_some h in (
       none_of (form_of text) (λ f e. let no : true ≡ false = sym (form_found text f e) ∙ not_in_group text (form_name f) w h (no_group f) in cc),
-      or_more _ _ (inner_is_table _ _ some),
+      or_left _ _ (or_right _ _ some),
     )
 
 pub names_no_form : (text : List ℕ) → NamesWord text → (form_of text ≡ None) × (is_table_word text ≡ true)

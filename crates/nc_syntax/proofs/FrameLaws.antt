@@ -22,7 +22,7 @@ use Rattle.nc_syntax.proofs.Standings.{follows_letter, follows_end, expression_f
 use Rattle.nc_syntax.proofs.Marked.{bound, refused, one_of, same_pair, end_found, end_only, assign_found, assign_only, constant_found, constant_only}
 use Rattle.nc_syntax.proofs.Chained.{not_empty, Steps, list_found, list_only}
 use Rattle.nc_syntax.proofs.WordLaws.{moved, assign_is}
-use Rattle.nc_syntax.proofs.WordsRead.{false_of, signed_no_assign}
+use Rattle.nc_syntax.proofs.WordsRead.{or_parts, or_both, false_of, signed_no_assign}
 use Rattle.nc_syntax.proofs.WordBlocks.{signed_within, assigned_within, line_end, at_line_end, end_is}
 use Rattle.nc_syntax.proofs.JumpLaws.{keyword_within}
 use Rattle.nc_syntax.proofs.StructureLaws.{behind_last}
@@ -35,14 +35,6 @@ keys xs = map (λ x. x.0) xs
 abbrev pub Once : List (ℕ × Tree) → List (ℕ × Tree) → Type 0
 Once before [] = Unit {0}
 Once before (x ∷ xs) = (has_axis before x.0 ≡ false) × Once (before ++ x ∷ []) xs
-
-or_parts : (a b : Bool) → (a || b) ≡ false → (a ≡ false) × (b ≡ false)
-or_parts true b h = cc
-or_parts false b h = (refl, h)
-
-or_both : (a b : Bool) → a ≡ false → b ≡ false → (a || b) ≡ false
-or_both true b h k = cc
-or_both false b h k = k
 
 -- the axes of a list are other than those before
 abbrev Others : List (ℕ × Tree) → List (ℕ × Tree) → Type 0

@@ -27,7 +27,7 @@ use Rattle.nc_syntax.specs.Spelled.{IsMsg, IsSetms, IsWorkpiece, IsSpelled}
 use Rattle.nc_syntax.proofs.Standings.{symbol_there, piece_within, past_end, follows_piece, expression_found, expression_only}
 use Rattle.nc_syntax.proofs.Marked.{bound, one_of, refused, open_found, open_only, close_found, close_only}
 use Rattle.nc_syntax.proofs.WordLaws.{text_is}
-use Rattle.nc_syntax.proofs.WordsRead.{false_of}
+use Rattle.nc_syntax.proofs.WordsRead.{or_parts, or_both, false_of}
 use Rattle.nc_syntax.proofs.WordBlocks.{at_line_end}
 use Rattle.nc_syntax.proofs.JumpLaws.{alone_found, alone_only}
 use Rattle.nc_syntax.proofs.StructureLaws.{alone_form_found}
@@ -236,14 +236,6 @@ last_only tokens i t e h place =
     ap (behind_last (length tokens)) first ∙ ap (λ n. Ok n) all
 
 -- what breaks no form
-or_parts : (a b : Bool) → (a || b) ≡ false → (a ≡ false) × (b ≡ false)
-or_parts true b h = cc
-or_parts false b h = (refl, h)
-
-or_both : (a b : Bool) → a ≡ false → b ≡ false → (a || b) ≡ false
-or_both true b h k = cc
-or_both false b h k = k
-
 broken_is : (p : Piece) → is_broken p ≡ true → p ≡ piece.Broken
 broken_is piece.Broken h = refl
 broken_is p h = cc

@@ -161,11 +161,11 @@ axis_word_found words at letter end x l h k =
     moved P (Axis (letter ∷ text_at words (at + 1)) b.0.0 b.0.1) x b.0.2 end b.2
     (inr (inr (axis_name_found words at letter l p.0, assign_is (piece_at words (at + 2)) p.1, measured_found words (at + 3) b.0.2 b.0.0 b.0.1 b.1)))
 
-or_left : (a b : Bool) → a ≡ true → (a || b) ≡ true
+pub or_left : (a b : Bool) → a ≡ true → (a || b) ≡ true
 or_left true b h = refl
 or_left false b h = cc
 
-or_right : (a b : Bool) → b ≡ true → (a || b) ≡ true
+pub or_right : (a b : Bool) → b ≡ true → (a || b) ≡ true
 or_right true b h = refl
 or_right false b h = h
 

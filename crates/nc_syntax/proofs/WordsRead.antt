@@ -45,6 +45,14 @@ pub first_false : (a b : Bool) → a ≡ false → (a && b) ≡ false
 first_false true b h = cc
 first_false false b h = refl
 
+pub or_parts : (a b : Bool) → (a || b) ≡ false → (a ≡ false) × (b ≡ false)
+or_parts true b h = cc
+or_parts false b h = (refl, h)
+
+pub or_both : (a b : Bool) → a ≡ false → b ≡ false → (a || b) ≡ false
+or_both true b h k = cc
+or_both false b h k = k
+
 pub letter_case : (P : ℕ → Type 0) (b k : ℕ) → (b == k) ≡ true → P k → P b
 letter_case P b k h p = subst P (sym (eqb-true b k h)) p
 

@@ -87,7 +87,7 @@ abbrev pub IsParentheses : WordsView → ℕ → ℕ → Type 0
 IsParentheses words at end =
     (end ≡ at) ⊎ ((piece_at words at ≡ piece.Open) × (piece_at words (at + 1) ≡ piece.Close) × (end ≡ at + 2))
 
--- P with a whole number 1 to 9999, or nothing, which is 1
+-- P with a whole number 1 to 9999, or nothing, which is 1; 80 is 'P'
 abbrev pub IsPasses : WordsView → ℕ → ℕ → ℕ → Type 0
 IsPasses words at end n =
     ((n ≡ 1) × (end ≡ at))
@@ -260,7 +260,7 @@ abbrev pub IsSkip : WordsView → ℕ → ℕ → Bool → Type 0
 IsSkip words at end true = (piece_at words at ≡ piece.Slash) × (end ≡ at + 1)
 IsSkip words at end false = end ≡ at
 
--- N with one to eight digits, or nothing
+-- N with one to eight digits, or nothing; 78 is 'N'
 abbrev pub IsNumber : WordsView → ℕ → ℕ → Option ℕ → Type 0
 IsNumber words at end (Some n) = (piece_at words at ≡ piece.Letter 78) × IsBlockNumber words (at + 1) n × (end ≡ at + 2)
 IsNumber words at end None = end ≡ at

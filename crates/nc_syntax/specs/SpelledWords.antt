@@ -13,7 +13,7 @@ use Rattle.nc_blocks.specs.Wording.{is_slot_letter, is_centre_letter, is_aux_let
 use Rattle.nc_syntax.specs.Standing.{IsKeyword, IsExpressionText, IsSignedNumber, IsDigits, IsIndex, IsEnclosed, IsBracketed, IsAssigned, IsAxisName}
 use Rattle.nc_blocks.specs.Statement.{OperandView, Value, Text, AxisName, WordView, Assign, AssignAt, G, Axis, Radius, Aux, End}
 
--- a word of a group: G with its number, or its name
+-- a word of a group: G with its number, or its name; 71 is 'G'
 abbrev pub IsGroupWord : WordsView → ℕ → ℕ → ℕ → ℕ → Type 0
 IsGroupWord words at end group code =
     ((z : ℤ) × (piece_at words at ≡ piece.Letter 71) × (piece_at words (at + 1) ≡ piece.Number z)
@@ -87,7 +87,7 @@ IsAux words at end address bracket operand =
     ⊎ (((bracket ≡ None) × IsExtendedAux words at end address operand)
     ⊎ IsSpindleWord words at end address bracket operand))
 
--- M2, M30, M17
+-- M2, M30, M17; 77 is 'M'
 abbrev pub IsProgramEnd : WordsView → ℕ → ℕ → Type 0
 IsProgramEnd words at end =
     (z : ℤ) × (piece_at words at ≡ piece.Letter 77) × (piece_at words (at + 1) ≡ piece.Number z) × IsTrue (is_program_end 77 z) × (end ≡ at + 2)

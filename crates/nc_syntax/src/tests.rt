@@ -2,7 +2,7 @@
 
 ghost use Rattle.std.specs.Prelude.{◌≤◌, length};
 
-use crate::statement;
+use crate::{one_block_at_most, statement};
 use block_scanner::scan;
 use nc_expressions::SyntaxFault;
 use std::alloc::Global;
@@ -241,5 +241,6 @@ fn reads_lines(rt: HostRuntime) -> Result<(), Fail> {
     }
     let want = plain(rt.alloc(), "Words([G(7, 41)])")?;
     assert_eq!(rt; said(&rt, rt.alloc(), "G41", true)?.as_str(), want.as_str());
+    one_block_at_most();
     Ok(())
 }
