@@ -1,10 +1,9 @@
 -- What a line of a program says, from its scanned tokens, and the codes by which it is refused.
-use Rattle.std.proofs.Common.{◌≡◌, ◌∙◌, ℕ, Bool, true, false, ◌&&◌, ◌||◌, ◌==◌, List, [], ◌∷◌, Result, Ok, Err, length, ap, sym, subst, refl, true≢false, rules, arith}
+use Rattle.std.proofs.Common.{◌≡◌, ◌∙◌, ℕ, Bool, true, false, ◌&&◌, ◌||◌, ◌==◌, List, [], ◌∷◌, Ok, Err, length, ap, sym, subst, refl, true≢false, rules, arith}
 use Rattle.std.specs.List.{list_any, list_all}
 use Rattle.std.proofs.lemmas.Bool.{eqb-true}
 use Rattle.block_scanner.specs.Tokens.{tokens_of}
 use Rattle.block_scanner.specs.WordsView.{WordsView}
-use Rattle.block_scanner.specs.declared.ScanFault.{ScanFault}
 use Rattle.block_scanner.specs.declared.ScanFault.TheVariants as fault
 use Rattle.block_scanner.specs.declared.Token.{Token}
 use Rattle.job_lines.specs.Code.{shown}
@@ -12,7 +11,7 @@ use Rattle.job_lines.specs.declared.code.Code.TheVariants.{BadByte, OpenText}
 use Rattle.nc_blocks.specs.Refusals.{block_refusals, IsBlockRefusal}
 use Rattle.nc_faults.specs.Texts.{refusal_texts, has_code, IsRefusalCode}
 use Rattle.nc_syntax.specs.Blocks.{statement_of}
-use Rattle.tape_job.specs.Reading.{ReadingView, Blank, words_of, step_of, tokens_reading, block_reading}
+use Rattle.tape_job.specs.Reading.{Blank, words_of, step_of, tokens_reading, block_reading}
 
 some_tokens : (compensation : Bool) (text : List ℕ) (tokens : List Token) → (length tokens == 0) ≡ false
     → tokens_reading compensation text (Ok tokens) ≡ step_of (statement_of (words_of text tokens) compensation)

@@ -28,7 +28,7 @@ use Rattle.nc_syntax.specs.Blocks.{statement_of}
 use Rattle.tape_job.specs.Built.{is_built}
 use Rattle.tape_job.specs.Lines.{words, is_visible, begins_with_percent, text_of, before_comment}
 use Rattle.tape_job.specs.Reading as reading
-use Rattle.tape_job.specs.Reading.{ReadingView, Blank, First, Entry, Header, Step}
+use Rattle.tape_job.specs.Reading.{ReadingView, Entry, Step}
 use Rattle.tape_job.specs.SoundJob.{IsInReach, IsSoundRange}
 
 -- what holds of each result of a reading holds of the next reading's

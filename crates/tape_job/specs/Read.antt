@@ -3,7 +3,6 @@ use Rattle.std.specs.Prelude.{◌≡◌, if◌then◌else◌, ℕ, List, [], ◌
 use Rattle.std.specs.Option.{option_map, option_or}
 use Rattle.job_lines.specs.Code.{shown}
 use Rattle.job_lines.specs.declared.code.Code.TheVariants.{NoJobLine}
-use Rattle.nc_blocks.specs.Indices.{StatementFits}
 use Rattle.nc_faults.specs.Texts.{IsRefusalCode}
 use Rattle.nc_faults.specs.declared.Refusal.{Refusal}
 use Rattle.tape_job.specs.declared.fault.JobFault.{JobFault}
