@@ -66,7 +66,7 @@ fn job_source(
 #[test]
 fn answers_inputs(rt: HostRuntime) -> Result<(), Fail> {
     let alloc = rt.alloc();
-    let rows: [(&str, &str, Status, &str); 9] = [
+    let rows: [(&str, &str, Status, &str); 15] = [
         ("", "", Status::Refused, "REFUSED 1 1 no job line\n"),
         (
             ONE,
@@ -80,6 +80,42 @@ fn answers_inputs(rt: HostRuntime) -> Result<(), Fail> {
             "X=7/2\nX=7 DIV 2\nX=7 MOD 2\nR1=2/3 X=R1*1000\nR1=1/0\n",
             Status::Alarm,
             "TURNMILL 1\nCHANNEL 1\n9 LINE X1=3.500\n10 LINE X1=3.000\n11 LINE X1=1.000\n12 LINE X1=666.667\nSTATE ALARM 13 2 division by zero\nVERDICT ALARM CHANNEL 1 LINE 13 CODE 2\n",
+        ),
+        (
+            ONE,
+            "N10 G1 X5",
+            Status::Alarm,
+            "TURNMILL 1\nCHANNEL 1\n9 LINE X1=5.000\nSTATE ALARM 9 9 no program end\nVERDICT ALARM CHANNEL 1 LINE 9 CODE 9\n",
+        ),
+        (
+            ONE,
+            "GOTO LAB\n",
+            Status::Refused,
+            "REFUSED 60 9 form not built yet\n",
+        ),
+        (
+            ONE,
+            "LAB: R1=R1+1\nIF R1>5 AND R2<3 GOTOF DONE\nM30\n",
+            Status::Refused,
+            "REFUSED 23 10 comparison beside AND, OR, XOR or NOT\n",
+        ),
+        (
+            ONE,
+            "M30\nCYCLE95\n",
+            Status::Refused,
+            "REFUSED 42 10 cycle not supported\n",
+        ),
+        (
+            ONE,
+            "M30\nWHEN TRUE DO M8\n",
+            Status::Refused,
+            "REFUSED 40 10 synchronised action not supported\n",
+        ),
+        (
+            ONE,
+            "M30\n%_N_A_SPF\n",
+            Status::Refused,
+            "REFUSED 9 10 program name repeated\n",
         ),
         // The lower of two channels that alarm is named. Two zones that meet are not.
         (
