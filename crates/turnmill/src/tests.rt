@@ -161,6 +161,53 @@ fn answers_inputs(rt: HostRuntime) -> Result<(), Fail> {
     Ok(())
 }
 
+// Blocks that are refused by one code: each word that no block may have, and forms that are read but not built.
+static REFUSED_BLOCKS: [(u16, &str); 18] = [
+    (40, "ID|IDS|WHEN|WHENEVER|FROM|EVERY|DO"),
+    (41, "MEAS|MEAW"),
+    (42, "CYCLE95|MCALL"),
+    (43, "DEF"),
+    (44, "$"),
+    (45, "SIN|COS|TAN|ASIN|ACOS|ATAN2|LN|EXP"),
+    (46, "G70|G700"),
+    (
+        47,
+        "AR|AP|RP|G110|G111|G112|CIP|CT|TURN|ASPLINE|BSPLINE|CSPLINE|POLY",
+    ),
+    (48, "ANG|CHF|CHR|RND|RNDM"),
+    (49, "G74|G75"),
+    (50, "TRANSMIT|TRACYL|TRAORI|TRAANG|TRAFOOF"),
+    (51, "TRAILON|TRAILOF|LEADON|LEADOF|COUPDEF|COUPON|COUPOF"),
+    (52, "NPROT|NPROTDEF|CPROTDEF|EXECUTE"),
+    (53, "SETINT|CLRINT"),
+    (54, "SAVE"),
+    (55, "GETD"),
+    (57, "G7|GOTOS|CALL|PCALL|EXTCALL|EXTERN|ENDLABEL"),
+    (
+        60,
+        "ATRANS X1|SCALE X2|ASCALE X2|MIRROR X0|AMIRROR X0|WAITMC(1,2)|SETM(3)|START(2)|WAITE(2)|GET(X1)",
+    ),
+];
+
+// Whether an input of this one block is refused by this code, at the line of the block.
+fn is_refused(alloc: Global, code: u16, block: &str) -> Result<bool, Fail> {
+    let mut source = job_source(alloc, ONE, block, 1000, &[])?;
+    let mut sink = MemSink::new(alloc, 1000, Vec::new(alloc));
+    let status = check_words(alloc, &["check"], &mut source, &mut sink);
+    let start = format!(in alloc; "REFUSED {code} 9 ")?;
+    Ok(status == Status::Refused && sink.bytes().starts_with(start.as_bytes()))
+}
+
+#[test]
+fn refuses_words_and_forms(rt: HostRuntime) -> Result<(), Fail> {
+    for (code, blocks) in REFUSED_BLOCKS.iter() {
+        for block in blocks.split('|') {
+            assert!(rt; is_refused(rt.alloc(), *code, block)?, "{block}");
+        }
+    }
+    Ok(())
+}
+
 // A program that moves so often, alternately to 1 and to 0.
 fn push_moves(out: &mut String, name: &str, moves: u32) -> Result<(), AllocError> {
     write!(out, "%_N_{name}_MPF\n")?;
