@@ -1,41 +1,58 @@
 //! Job lines and headers, read from their words.
 use crate::*;
-use axis_sets::{ChannelId, ZoneId};
-use micro_units::Um;
 use std::test::Fail;
 
-#[test]
-fn reads_job_lines(rt: HostRuntime) -> Result<(), Fail> {
-    match item_in(b"CHANNEL", &[b"2", b"LEFT_1", b"START"]) {
+const X2: AxisName = AxisName {
+    letter: b'X',
+    number: 2,
+};
+
+/// Whether a line is that of channel 2 with the program LEFT_1.
+fn is_channel(item: &Result<Item, Code>) -> bool {
+    match item {
         Ok(Item::Channel(channel, program)) => {
-            assert_eq!(rt; channel, ChannelId { number: 2 });
-            assert_eq!(rt; program.as_bytes(), b"LEFT_1".as_slice());
+            channel.number == 2 && program.as_bytes() == b"LEFT_1".as_slice()
         }
-        _ => return Err(Fail::from("no channel")),
+        _ => false,
     }
-    let name = AxisName {
-        letter: b'X',
-        number: 2,
-    };
-    match item_in(b"AXIS", &[b"X2", b"1", b"-100.25"]) {
-        Ok(Item::Axis(axis, owner, at)) => {
-            assert_eq!(rt; axis, name);
-            assert_eq!(rt; owner, ChannelId { number: 1 });
-            assert_eq!(rt;
-                at,
-                Um {
-                    micrometres: -100_250
-                }
-            );
+}
+
+/// Whether a line is that of the axis X2 of channel 1 at -100.25.
+fn is_axis(item: &Result<Item, Code>) -> bool {
+    match item {
+        Ok(Item::Axis(name, owner, at)) => {
+            *name == X2 && owner.number == 1 && at.micrometres == -100_250
         }
-        _ => return Err(Fail::from("no axis")),
+        _ => false,
     }
-    match item_in(b"GEO", &[b"1", b"Z", b"X2"]) {
-        Ok(Item::Geo(channel, slot, axis)) => {
-            assert!(rt; channel == ChannelId { number: 1 } && slot == 2 && axis == name)
+}
+
+/// Whether a line puts the axis X2 into slot Z of channel 1.
+fn is_slot(item: &Result<Item, Code>) -> bool {
+    match item {
+        Ok(Item::Geo(channel, slot, name)) => channel.number == 1 && *slot == 2 && *name == X2,
+        _ => false,
+    }
+}
+
+/// Whether a line is that of zone 32 of group 5, whose first direction goes against X2 up to 10.125.
+fn is_zone(item: &Result<Item, Code>) -> bool {
+    match item {
+        Ok(Item::Zone(zone, group, _, x, _, _)) => {
+            zone.number == 32
+                && *group == 5
+                && x.carrier == Some((X2, true))
+                && x.hi.micrometres == 10_125
         }
-        _ => return Err(Fail::from("no slot")),
+        _ => false,
     }
+}
+
+#[test]
+fn reads_job_lines(rt: HostRuntime) {
+    assert!(rt; is_channel(&item_in(b"CHANNEL", &[b"2", b"LEFT_1", b"START"])));
+    assert!(rt; is_axis(&item_in(b"AXIS", &[b"X2", b"1", b"-100.25"])));
+    assert!(rt; is_slot(&item_in(b"GEO", &[b"1", b"Z", b"X2"])));
     let words = [
         b"32".as_slice(),
         b"5",
@@ -51,14 +68,7 @@ fn reads_job_lines(rt: HostRuntime) -> Result<(), Fail> {
         b"1",
         b"1",
     ];
-    match item_in(b"ZONE", &words) {
-        Ok(Item::Zone(zone, group, _, x, _, _)) => {
-            assert!(rt; zone == ZoneId { number: 32 } && group == 5);
-            assert!(rt; x.carrier == Some((name, true)) && x.hi.micrometres == 10_125);
-        }
-        _ => return Err(Fail::from("no zone")),
-    }
-    Ok(())
+    assert!(rt; is_zone(&item_in(b"ZONE", &words)));
 }
 
 #[test]
