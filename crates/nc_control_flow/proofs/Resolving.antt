@@ -9,11 +9,10 @@ use Rattle.nc_control_flow.specs.declared.parts.Part.{Part}
 use Rattle.nc_control_flow.specs.declared.parts.Sought.{Sought}
 use Rattle.nc_control_flow.specs.declared.parts.Sought.TheVariants.{End, Branch, Opener}
 use Rattle.nc_control_flow.specs.declared.repeats.Running.{Running}
-use Rattle.nc_control_flow.specs.declared.flow.Outcome.{Outcome}
 use Rattle.nc_control_flow.specs.declared.flow.Move.{Move}
 use Rattle.nc_control_flow.specs.Places.{placed, ahead, behind}
 use Rattle.nc_control_flow.specs.Matching.{matching}
-use Rattle.nc_control_flow.specs.Moves.{move_of}
+use Rattle.nc_control_flow.specs.Moves.{OutcomeView, move_of}
 use Rattle.nc_control_flow.specs.Flow.{gone, next_block}
 use Rattle.nc_control_flow.specs.Parts.{views, part_of, parts, said, statement_at}
 use Rattle.nc_control_flow.specs.Structures.{closing, branching, opening}
@@ -101,7 +100,7 @@ unfolding opening
 openers_found blocks found table e each = found_in_behind Opener blocks found table e each
 
 -- ---- the next block
-pub led : (pc : ℕ) (blocks : List BlockView) (running : List Running) (outcome : Outcome) (statement : Statement) (asked same : Result Move ℕ)
+pub led : (pc : ℕ) (blocks : List BlockView) (running : List Running) (outcome : OutcomeView) (statement : Statement) (asked same : Result Move ℕ)
     → statement ≡ statement_at pc blocks → asked ≡ move_of pc blocks statement outcome → asked ≡ same → next_block pc blocks running outcome ≡ gone pc running same
 unfolding next_block
 led pc blocks running outcome statement asked same s a e =

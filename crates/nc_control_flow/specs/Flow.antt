@@ -1,7 +1,6 @@
 -- The next block.
 use Rattle.std.specs.Prelude.{◌≡◌, ℕ, ◌==◌, nat_lt, List, ◌∷◌, length, filter, Result, Ok, Err, if◌then◌else◌}
 use Rattle.nc_blocks.specs.Statement.{BlockView}
-use Rattle.nc_control_flow.specs.declared.flow.Outcome.{Outcome}
 use Rattle.nc_control_flow.specs.declared.flow.Move.{Move}
 use Rattle.nc_control_flow.specs.declared.flow.Move.TheVariants.{Onward, Leap, Start}
 use Rattle.nc_control_flow.specs.declared.flow.Next.{Next}
@@ -10,7 +9,7 @@ use Rattle.nc_control_flow.specs.declared.repeats.Running.{Running}
 use Rattle.nc_control_flow.specs.declared.repeats.Control.TheVariants.{Done, Comes}
 use Rattle.nc_control_flow.specs.Parts.{statement_at}
 use Rattle.nc_control_flow.specs.Repetitions.{Going, is_within, settled}
-use Rattle.nc_control_flow.specs.Moves.{move_of}
+use Rattle.nc_control_flow.specs.Moves.{OutcomeView, move_of}
 
 -- a leap ends the repetitions whose blocks it leaves; a seventeenth is alarm 32
 unfoldable pub going : ℕ → List Running → Move → Result Going ℕ
@@ -23,7 +22,7 @@ gone pc running (Ok move) = going pc running move
 gone pc running (Err code) = Err code
 
 -- where the block at a place goes on, with this outcome and while these repetitions run
-unfoldable pub next_block : ℕ → List BlockView → List Running → Outcome → Result Going ℕ
+unfoldable pub next_block : ℕ → List BlockView → List Running → OutcomeView → Result Going ℕ
 next_block pc blocks running outcome = gone pc running (move_of pc blocks (statement_at pc blocks) outcome)
 
 abbrev pub next_at : List BlockView → ℕ → Next

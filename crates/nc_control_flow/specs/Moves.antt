@@ -2,6 +2,7 @@
 use Rattle.std.specs.Prelude.{ℕ, ◌+◌, ◌-◌, ◌==◌, Bool, true, false, List, Option, Some, None, Result, Ok, Err, if◌then◌else◌}
 use Rattle.nc_blocks.specs.declared.blocks.Way.{Way}
 use Rattle.nc_blocks.specs.declared.blocks.Way.TheVariants.{Optional}
+use Rattle.nc_blocks.specs.declared.blocks.Target.{Target}
 use Rattle.nc_blocks.specs.Statement.{BlockView, Statement, If, Else, While, EndWhile, Until, EndLoop, For, EndFor, RepeatFrom, RepeatBlock}
 use Rattle.nc_control_flow.specs.declared.flow.Outcome.{Outcome}
 use Rattle.nc_control_flow.specs.declared.flow.Outcome.TheVariants as outcome
@@ -10,6 +11,21 @@ use Rattle.nc_control_flow.specs.declared.flow.Move.TheVariants.{Onward, Leap, S
 use Rattle.nc_control_flow.specs.Repetitions.{OwnFits}
 use Rattle.nc_control_flow.specs.Structures.{closing, branching, opening}
 use Rattle.nc_control_flow.specs.Targets.{target_of, first_of_range, single_block}
+
+-- what came of a block, with the target of a jump in it
+pub data OutcomeView : Type 0 where
+  Plain : OutcomeView
+  Truth : Bool → OutcomeView
+  Jump : Way → Target → OutcomeView
+  Again : ℕ → OutcomeView
+  Skipped : OutcomeView
+
+abbrev pub outcome_view : Outcome → OutcomeView
+outcome_view outcome.Plain = Plain
+outcome_view (outcome.Truth holds) = Truth holds
+outcome_view (outcome.Jump way target) = Jump way target.now
+outcome_view (outcome.Again times) = Again times
+outcome_view outcome.Skipped = Skipped
 
 -- ELSE that is reached from above goes behind ENDIF; ENDWHILE and ENDLOOP go to the beginning
 unfoldable pub plain_move : ℕ → List BlockView → Statement → Move
@@ -58,12 +74,12 @@ repetition pc blocks (RepeatFrom name count) times = range pc times (first_of_ra
 repetition pc blocks (RepeatBlock name count) times = single pc times (single_block name pc blocks)
 repetition pc blocks other times = Ok Onward
 
-unfoldable pub move_of : ℕ → List BlockView → Statement → Outcome → Result Move ℕ
-move_of pc blocks statement outcome.Plain = Ok (plain_move pc blocks statement)
-move_of pc blocks statement (outcome.Truth holds) = Ok (choice pc blocks statement holds)
-move_of pc blocks statement (outcome.Jump way target) = jump way (target_of way target.now pc blocks)
-move_of pc blocks statement (outcome.Again times) = repetition pc blocks statement times
-move_of pc blocks statement outcome.Skipped = Ok Onward
+unfoldable pub move_of : ℕ → List BlockView → Statement → OutcomeView → Result Move ℕ
+move_of pc blocks statement Plain = Ok (plain_move pc blocks statement)
+move_of pc blocks statement (Truth holds) = Ok (choice pc blocks statement holds)
+move_of pc blocks statement (Jump way target) = jump way (target_of way target pc blocks)
+move_of pc blocks statement (Again times) = repetition pc blocks statement times
+move_of pc blocks statement Skipped = Ok Onward
 
 -- a repetition that is asked for can run
 abbrev pub MoveFits : Move → Type 0

@@ -98,7 +98,7 @@ pub fn resolve(alloc: Global, blocks: Vec<(u32, Block)>) -> Result<Flow, AllocEr
 
 impl Flow {
     ghost use Rattle.nc_control_flow.specs.Flow.{next_block, next_at, going, Leads};
-    ghost use Rattle.nc_control_flow.specs.Moves.{MoveFits};
+    ghost use Rattle.nc_control_flow.specs.Moves.{MoveFits, outcome_view};
 
     /// The block at a place, with its line; None past the last block.
     pub fn block(&self, pc: u32) -> Option<&(u32, Block)>
@@ -115,7 +115,7 @@ impl Flow {
     #[tactic(auto, unfolding(crate::specs::Flow::next_block))]
     pub fn next(&self, pc: u32, repeats: &mut Repeats, outcome: Outcome) -> Result<Next, u16>
         requires { pc < length self.now }
-        ensures { Leads (views self.now) (next_block pc (views self.now) repeats.old outcome.entry) result repeats.old repeats.new }
+        ensures { Leads (views self.now) (next_block pc (views self.now) repeats.old (outcome_view outcome.entry)) result repeats.old repeats.new }
     {
         match self.move_of(pc, &self.blocks[pc as usize].1.stmt, outcome) {
             Ok(asked) => self.go(pc, repeats, asked),

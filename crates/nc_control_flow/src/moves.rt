@@ -3,7 +3,7 @@
 ghost use Rattle.std.specs.Prelude.{◌≡◌, ℕ, ◌+◌, ◌<◌, ◌^◌, length, AllPairs, IfOk};
 ghost use Rattle.nc_blocks.specs.Statement.{statement_view};
 ghost use Rattle.nc_control_flow.specs.Parts.{views};
-ghost use Rattle.nc_control_flow.specs.Moves.{plain_move as plain_move_of, choice as choice_of, onward_if as onward_move, leap_if as leap_move, jump as jump_of, range as range_of, single as single_of, repetition as repetition_of, move_of as asked_by, MoveFits};
+ghost use Rattle.nc_control_flow.specs.Moves.{plain_move as plain_move_of, choice as choice_of, onward_if as onward_move, leap_if as leap_move, jump as jump_of, range as range_of, single as single_of, repetition as repetition_of, move_of as asked_by, outcome_view, MoveFits};
 
 use crate::flow::{Flow, Move, Outcome};
 use crate::index::{places_of_label, places_of_number};
@@ -22,7 +22,7 @@ impl Flow {
     pub(crate) fn move_of(&self, pc: u32, stmt: &Stmt, outcome: Outcome) -> Result<Move, u16>
         requires within { pc < length self.now }
         requires place { pc + 1 < 2 ^ 32 }
-        ensures asked { result ≡ asked_by pc (views self.now) (statement_view stmt.now) outcome.entry }
+        ensures asked { result ≡ asked_by pc (views self.now) (statement_view stmt.now) (outcome_view outcome.entry) }
         ensures fits { IfOk result MoveFits }
     {
         match outcome {
@@ -96,8 +96,8 @@ impl Flow {
         self.branches[pc as usize]
     }
 
-    /// The beginning of the structure round a place, or 0.
-    fn opening(&self, pc: u32) -> u32
+    /// The place of the beginning of the structure round a place, or 0 where none is round it.
+    pub fn opening(&self, pc: u32) -> u32
         requires { pc < length self.now }
         ensures place { result ≡ opening pc (views self.now) }
         ensures fits { result + 1 < 2 ^ 32 }

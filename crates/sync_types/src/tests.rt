@@ -1,0 +1,14 @@
+use super::*;
+use path_geometry::Ends;
+use std::test::Fail;
+
+#[test]
+fn an_item_gives_its_motion(rt: HostRuntime) -> Result<(), Fail> {
+    let motion = Motion::Line(Ends::default());
+    let item = Item {
+        line: 7,
+        part: Part::Move(Motion::Line(Ends::default())),
+    };
+    assert_eq!(rt; item.motion(), &motion);
+    Ok(())
+}
