@@ -9,6 +9,3 @@ mod walk;
 pub use bounds::quarter_box;
 pub use halves::{part_of_quarter, parts_at};
 pub use walk::{Quarter, quarters};
-
-#[cfg(test)]
-mod tests;

@@ -11,6 +11,3 @@ pub use ids::{AxisId, ChannelId, ZoneId};
 pub use laws::sets_are_known_by_their_members;
 pub use positions::Positions;
 pub use sets::{AxisSet, ChannelSet, MarkSet, ZoneSet};
-
-#[cfg(test)]
-mod tests;

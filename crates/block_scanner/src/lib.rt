@@ -152,6 +152,3 @@ impl<T: Drop> From<AllocFailed<T>> for ScanFault {
         ScanFault::NoMemory
     }
 }
-
-#[cfg(test)]
-mod tests;

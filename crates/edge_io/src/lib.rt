@@ -11,8 +11,6 @@ ghost use Rattle.edge_io.specs.Moves.{HasCause, Grows, Counts, Reads, Writes, Wr
 
 mod memory;
 mod standard;
-#[cfg(test)]
-mod tests;
 
 pub use memory::{CountSink, MemSink, MemSource};
 pub use standard::{StdSink, StdSource};

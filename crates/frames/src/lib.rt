@@ -322,6 +322,3 @@ fn joined(
         z: z?,
     })
 }
-
-#[cfg(test)]
-mod tests;

@@ -142,6 +142,3 @@ pub fn table_is_sound()
     ensures words_apart { IsTrue (list_all (λ group. are_apart (codes_from 1 group.words)) groups) }
     ensures starts { IsTrue (list_all (λ group. has_start group group.holding) groups) }
 {}
-
-#[cfg(test)]
-mod tests;

@@ -10,6 +10,3 @@ mod numbers;
 pub use code::Code;
 pub use header::header_in;
 pub use item::{AxisName, Item, NamedSide, item_in};
-
-#[cfg(test)]
-mod tests;

@@ -291,6 +291,3 @@ impl Um {
         }
     }
 }
-
-#[cfg(test)]
-mod tests;

@@ -18,6 +18,3 @@ pub use flow::{Flow, Next, Outcome, resolve};
 pub use laws::structures_are_found;
 pub use nest::Nest;
 pub use repeats::Repeats;
-
-#[cfg(test)]
-mod tests;

@@ -19,6 +19,3 @@ pub use stops::expr_stop;
 pub use symbols::{Symbol, index_of, symbol_at};
 pub use trees::{BinaryOp, Expr, UnaryOp};
 pub use values::{Names, eval};
-
-#[cfg(test)]
-mod tests;

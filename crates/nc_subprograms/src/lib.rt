@@ -74,6 +74,3 @@ impl Default for CallStack {
         CallStack::new()
     }
 }
-
-#[cfg(test)]
-mod tests;

@@ -15,6 +15,3 @@ pub use nc_blocks::{
     Block, CoordWord, FrameWord, JumpTo, Measure, NameText, Operand, Stmt, Target, Way, Word,
 };
 pub use statements::statement;
-
-#[cfg(test)]
-mod tests;

@@ -9,6 +9,3 @@ mod vector;
 pub use arcs::{arc_by_centre, arc_by_radius};
 pub use laws::sound_arcs_run_in_a_ring;
 pub use motion::{Arc, Ends, Motion};
-
-#[cfg(test)]
-mod tests;

@@ -64,6 +64,3 @@ impl Box3 {
         low <= high
     }
 }
-
-#[cfg(test)]
-mod tests;

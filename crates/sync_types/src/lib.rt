@@ -78,6 +78,3 @@ pub enum ChannelEnd {
     /// With an alarm.
     Alarmed(Alarm),
 }
-
-#[cfg(test)]
-mod tests;

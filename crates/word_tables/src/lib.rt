@@ -13,6 +13,3 @@ pub use first_names::{is_first_name, is_table_word};
 pub use group_words::{group_word_by_name, group_word_by_number};
 pub use large_numbers::has_large_number;
 pub use refused_words::refused_word;
-
-#[cfg(test)]
-mod tests;

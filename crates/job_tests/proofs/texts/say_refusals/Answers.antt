@@ -1,6 +1,6 @@
 use Rattle.nc_faults.specs.Texts.{IsRefusalCode, refusal_texts, has_code}
 use Rattle.nc_faults.proofs.TextLemmas.{passes_at}
-use Rattle.nc_faults.proofs.tests.say_refusals.Goals as goal
+use Rattle.job_tests.proofs.texts.say_refusals.Goals as goal
 
 pub refusal_text-requires : goal.refusal_text-requires
 unfolding IsRefusalCode

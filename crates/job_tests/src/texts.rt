@@ -3,7 +3,8 @@ ghost use Rattle.std.specs.Prelude.{◌≡◌, true};
 ghost use Rattle.std.specs.List.{list_all};
 ghost use Rattle.nc_faults.specs.Texts.{has_code, refusal_texts, alarm_texts};
 
-use super::*;
+use nc_faults::*;
+use std::alloc::{AllocError, AllocFailed};
 use std::process::Abort;
 
 const REFUSALS: [(u16, &str); 41] = [

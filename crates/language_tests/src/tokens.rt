@@ -1,6 +1,6 @@
 //! Lines, with the tokens that they have, written by hand.
-use super::*;
 use Kind::{Letter, Name, Number, Text};
+use block_scanner::*;
 use std::alloc::Global;
 use std::test::Fail;
 

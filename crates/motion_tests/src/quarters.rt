@@ -2,7 +2,7 @@
 ghost use Rattle.std.specs.Prelude.{◌≡◌};
 ghost use Rattle.path_geometry.specs.Motions.{AreSound, HavePlane, IsInRange};
 
-use super::*;
+use arc_quadrants::*;
 use arrayvec::ArrayVec;
 use axis_sets::AxisId;
 use micro_units::Um;

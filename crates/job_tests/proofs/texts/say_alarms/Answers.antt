@@ -1,6 +1,6 @@
 use Rattle.nc_faults.specs.Texts.{IsAlarmCode, alarm_texts, has_code}
 use Rattle.nc_faults.proofs.TextLemmas.{passes_at}
-use Rattle.nc_faults.proofs.tests.say_alarms.Goals as goal
+use Rattle.job_tests.proofs.texts.say_alarms.Goals as goal
 
 pub alarm_text-requires : goal.alarm_text-requires
 unfolding IsAlarmCode

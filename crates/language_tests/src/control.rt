@@ -1,9 +1,9 @@
 //! Small programs, with the places to which control goes. Places are counted from 0.
 
-use super::*;
-use crate::flow::Next::{At, Past};
-use crate::flow::Outcome::{Again, Jump, Plain, Skipped, Truth};
 use nc_blocks::{Block, NameText, Stmt, Target, Way};
+use nc_control_flow::Next::{At, Past};
+use nc_control_flow::Outcome::{Again, Jump, Plain, Skipped, Truth};
+use nc_control_flow::*;
 use nc_expressions::Expr;
 use std::alloc::Global;
 use std::process::Abort;

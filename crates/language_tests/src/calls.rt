@@ -1,4 +1,5 @@
-use super::*;
+use nc_control_flow::Repeats;
+use nc_subprograms::*;
 use std::test::Fail;
 
 fn place(program: u16) -> Place {

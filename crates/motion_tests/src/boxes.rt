@@ -3,9 +3,12 @@ ghost use Rattle.std.specs.Prelude.{◌≡◌, ◌≤◌, pos, ◌≤ℤ◌, IfO
 ghost use Rattle.std.specs.Int.RustNames.{unsigned_abs};
 ghost use Rattle.path_geometry.specs.Motions.{AreSound, HavePlane, IsInRange, IsSound};
 
-use super::*;
+use arrayvec::ArrayVec;
+use axis_sets::AxisId;
+use micro_units::Um;
 use path_geometry::{Ends, Motion, arc_by_centre, arc_by_radius};
 use std::process::Abort;
+use swept_boxes::*;
 
 /// Whether an arc turns from the first axis towards the second, or back.
 #[derive(Clone, Copy, Debug)]

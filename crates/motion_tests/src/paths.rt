@@ -2,10 +2,10 @@
 ghost use Rattle.std.specs.Prelude.{◌≡◌, ◌≢◌, pos, ◌≤ℤ◌};
 ghost use Rattle.path_geometry.specs.Motions.{AreSound, HavePlane, IsInRange};
 
-use super::*;
 use arrayvec::ArrayVec;
 use axis_sets::AxisId;
 use micro_units::Um;
+use path_geometry::*;
 use std::process::Abort;
 
 /// What gives an arc: its centre, or its radius and whether it is the longer one.

@@ -1,5 +1,5 @@
 //! Each public call once, and each fault once.
-use super::*;
+use edge_io::*;
 use std::io;
 use std::io::{Cursor, ErrorKind, Read};
 use std::test::Fail;

@@ -1,9 +1,9 @@
 //! Lines and words, with answers written by hand.
-use super::*;
 use block_scanner::scan;
 use g_groups::GWord;
 use micro_units::Num;
 use std::alloc::Global;
+use word_tables::*;
 
 /// The code of the leftmost refused word of a line, or 0 where it has none.
 fn refused_in(alloc: Global, line: &[u8], compensation: bool) -> Option<u16> {

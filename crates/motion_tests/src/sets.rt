@@ -1,6 +1,6 @@
 //! Each call once, at the ends of its range.
 
-use super::*;
+use axis_sets::*;
 use micro_units::Um;
 
 #[test]

@@ -1,5 +1,5 @@
 //! Job lines and headers, read from their words.
-use crate::*;
+use job_lines::*;
 use std::test::Fail;
 
 const X2: AxisName = AxisName {

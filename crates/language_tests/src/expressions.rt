@@ -3,10 +3,10 @@
 
 ghost use Rattle.std.specs.Prelude.{◌≤◌, length};
 
-use super::*;
 use Outcome::{Alarm, Ended, Refused, Value};
 use block_scanner::scan;
 use micro_units::Num;
+use nc_expressions::*;
 use std::alloc::Global;
 use std::process::Abort;
 use std::test::Fail;

@@ -1,7 +1,8 @@
 ghost use Rattle.std.specs.Prelude.{◌<◌, ◌≤◌};
 ghost use Rattle.std.specs.Int.RustNames.{unsigned_abs};
 
-use super::*;
+use frames::*;
+use micro_units::{Num, Um};
 use std::test::Fail;
 
 /// The number of so many thousandths.

@@ -1,4 +1,4 @@
-use super::*;
+use g_groups::*;
 use std::test::Fail;
 
 fn word(group: u8, code: u16) -> GWord {

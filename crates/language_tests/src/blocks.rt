@@ -2,9 +2,9 @@
 
 ghost use Rattle.std.specs.Prelude.{◌≤◌, length};
 
-use crate::{one_block_at_most, statement};
 use block_scanner::scan;
 use nc_expressions::SyntaxFault;
+use nc_syntax::{one_block_at_most, statement};
 use std::alloc::Global;
 use std::process::Abort;
 use std::test::Fail;

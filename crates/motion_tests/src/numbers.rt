@@ -1,10 +1,14 @@
-use super::*;
 use Call::*;
 use NumFault::{DivideByZero, NegativeRoot, TooLarge};
+use micro_units::*;
 use std::test::Fail;
 
 fn num(millionths: i64) -> Result<Num, NumFault> {
-    Num::from_millionths(i128::from(millionths))
+    if millionths.unsigned_abs() < 100_000_000_000_000 {
+        Ok(Num { millionths })
+    } else {
+        Err(TooLarge)
+    }
 }
 
 fn count(answer: Result<Num, NumFault>) -> Result<i64, NumFault> {

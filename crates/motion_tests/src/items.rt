@@ -1,6 +1,6 @@
-use super::*;
-use path_geometry::Ends;
+use path_geometry::{Ends, Motion};
 use std::test::Fail;
+use sync_types::*;
 
 #[test]
 fn an_item_gives_its_motion(rt: HostRuntime) -> Result<(), Fail> {
