@@ -1,25 +1,14 @@
 //! Where axes stand, and the motion of a block.
 
-ghost use Rattle.std.specs.Prelude.{◌≡◌, IsTrue, OnOk, OnErr};
+ghost use Rattle.std.specs.Prelude.{◌≡◌, IsTrue, IfOk, OnErr};
 ghost use Rattle.std.specs.List.{list_all};
-ghost use Rattle.channel_machine.specs.Motions as model;
+ghost use Rattle.block_effects.specs.Motions as model;
 
 use arrayvec::ArrayVec;
-use axis_sets::AxisId;
+use axis_sets::{AxisId, Positions};
 use micro_units::{Num, Um};
 use path_geometry::{Ends, Motion};
-
-/// Where each axis is, by its place among the AXIS lines.
-pub type Positions = [Um; 16];
-
-/// A motion of a channel, with the line of its block.
-#[derive(Clone, Debug, PartialEq, Eq, Drop)]
-pub struct Item {
-    /// The line of the block, counted from 1.
-    pub line: u32,
-    /// The motion that the block makes.
-    pub motion: Motion,
-}
+use sync_types::{Item, Part};
 
 /// The greatest size of a position in micrometres.
 const RANGE: u32 = 10_000_000;
@@ -57,18 +46,29 @@ fn end_of(value: Num) -> Um
     }
 }
 
+/// Where an axis stands.
+fn stands(at: &Positions, axis: AxisId) -> Um
+    ensures { result ≡ model.stands at.now axis }
+{
+    match at.get(axis) {
+        Some(position) => position,
+        None => Um { micrometres: 0 },
+    }
+}
+
 /// Moves the axes to their programmed ends, and answers their starts and ends.
 fn move_axes(programmed: &[Option<Num>; 16], at: &mut Positions) -> Ends
     requires { IsTrue (list_all model.is_in_reach programmed.now) }
-    ensures ends { result.axes ≡ model.ends_from (model.positions_in at.old) programmed.now }
+    ensures ends { result.axes ≡ model.ends_from (model.stands at.old) programmed.now }
     ensures stand { model.StandsMoved programmed.now at.old at.new }
 {
     let mut axes = ArrayVec::new();
     for index in 0..16 {
         if let Some(value) = programmed[index] {
+            let axis = AxisId { index: index as u8 };
             let end = end_of(value);
-            axes.push((AxisId { index: index as u8 }, at[index], end));
-            at[index] = end;
+            axes.push((axis, stands(at, axis), end));
+            at.set(axis, end);
         }
     }
     Ends { axes }
@@ -81,8 +81,8 @@ pub(crate) fn make_item(
     programmed: &[Option<Num>; 16],
     at: &mut Positions,
 ) -> Result<Option<Item>, u16>
-    ensures made { result ≡ model.moved (model.positions_in at.old) line programmed.now }
-    ensures stand { OnOk result (model.StandsMoved programmed.now at.old at.new) }
+    ensures made { result ≡ model.moved (model.stands at.old) line programmed.now }
+    ensures stand { IfOk result (λ item. model.StandsAtEnd item at.old at.new) }
     ensures unmoved { OnErr result (at.new ≡ at.old) }
 {
     if !are_in_reach(programmed) {
@@ -94,6 +94,6 @@ pub(crate) fn make_item(
     }
     Ok(Some(Item {
         line,
-        motion: Motion::Line(ends),
+        part: Part::Move(Motion::Line(ends)),
     }))
 }

@@ -1,9 +1,9 @@
 use Rattle.std.proofs.Common.{◌≡◌, ℕ, length, option_map, subst, arith}
 use Rattle.std.specs.List.{filter_map, range_with_len}
-use Rattle.channel_machine.specs.Motions as model
-use Rattle.channel_machine.proofs.Moves.{moves_on, moves_not}
-use Rattle.channel_machine.proofs.motions.move_axes.Goals as goal
-use Rattle.channel_machine.proofs.motions.move_axes.Goals.{in-Some, in_default}
+use Rattle.block_effects.specs.Motions as model
+use Rattle.block_effects.proofs.Moves.{moves_on, moves_not}
+use Rattle.block_effects.proofs.motions.move_axes.Goals as goal
+use Rattle.block_effects.proofs.motions.move_axes.Goals.{in-Some, in_default}
 
 pub loop-index-preserved : goal.loop-index-preserved
 loop-index-preserved c =

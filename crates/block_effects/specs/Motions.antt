@@ -1,23 +1,26 @@
 -- Where the axes of a channel stand, and the motions that take them on.
-use Rattle.std.specs.Prelude.{◌≡◌, ◌≢◌, ⊤, All, AllPairs, Contains, ℕ, ℤ, pos, ◌==◌, nat_le, Bool, true, if◌then◌else◌, List, [], ◌∷◌, length, find, filter_map, slice_index_or, Option, None, Some, option_map, unwrap_or, Result, Ok, Err}
+use Rattle.std.specs.Prelude.{◌≡◌, ◌≢◌, ⊤, All, AllPairs, Contains, ℕ, ℤ, pos, ◌==◌, nat_le, Bool, true, if◌then◌else◌, List, [], ◌∷◌, length, find, filter_map, slice_index_or, Option, None, Some, option_map, option_and_then, unwrap_or, Result, Ok, Err}
 use Rattle.std.specs.List.{last_or, list_all, range_with_len}
 use Rattle.std.specs.Int.RustNames.{unsigned_abs}
+use Rattle.axis_sets.specs.Positions.{position_of}
 use Rattle.micro_units.specs.Rounding.{half_away}
 use Rattle.path_geometry.specs.Motions.{axes_of, IsInRange}
 use Rattle.path_geometry.specs.declared.motion.Motion.{Motion}
 use Rattle.path_geometry.specs.declared.motion.Motion.TheVariants.{Line, Rapid}
 use Rattle.path_geometry.specs.declared.motion.Motion.TheVariants as kind
-use Rattle.channel_machine.specs.declared.motions.Item.{Item}
+use Rattle.sync_types.specs.declared.Item.{Item}
+use Rattle.sync_types.specs.declared.Part.TheVariants.{Move}
+use Rattle.sync_types.specs.Items.{motion_of}
 
 -- ---- where axes stand
 
--- a row of positions says where each axis is; beyond the row it is at 0
-abbrev pub positions_in : List ℤ → ℕ → ℤ
-positions_in at axis = slice_index_or at axis (pos 0)
+-- where an axis stands by these positions; one without a position stands at 0
+abbrev pub stands : List (Option ℤ) → ℕ → ℤ
+stands at axis = unwrap_or (position_of at axis) (pos 0)
 
 -- the end that a motion gives an axis; none where the motion has not this axis
 unfoldable pub end_in : ℕ → Item → Option ℤ
-end_in axis item = option_map (λ e. e.2) (find (λ e. e.0 == axis) (axes_of item.motion))
+end_in axis item = option_map (λ e. e.2) (find (λ e. e.0 == axis) (axes_of (motion_of item)))
 
 -- where an axis stands after these motions: at the end in the last that has this axis, or where it stood before them
 unfoldable pub left_at : List Item → (ℕ → ℤ) → ℕ → ℤ
@@ -46,19 +49,23 @@ ends_from at programmed =
 -- a block moves where an axis is programmed
 abbrev pub item_of : ℕ → List (ℕ × ℤ × ℤ) → Option Item
 item_of line [] = None
-item_of line (e ∷ ends) = Some (record { line = line; motion = Line (record { axes = e ∷ ends }) })
+item_of line (e ∷ ends) = Some (record { line = line; part = Move (Line (record { axes = e ∷ ends })) })
 
 -- the motion of a block on this line that programs these values; alarm 13 where an end is out of range
 unfoldable pub moved : (ℕ → ℤ) → ℕ → List (Option ℤ) → Result (Option Item) ℕ
 moved at line programmed = if list_all is_in_reach programmed then Ok (item_of line (ends_from at programmed)) else Err 13
 
 -- the axes stand at the programmed ends, and elsewhere where they stood
-abbrev pub StandsMoved : List (Option ℤ) → List ℤ → List ℤ → Type 0
-StandsMoved programmed old new = (axis : ℕ) → positions_in new axis ≡ unwrap_or (end_for programmed axis) (positions_in old axis)
+abbrev pub StandsMoved : List (Option ℤ) → List (Option ℤ) → List (Option ℤ) → Type 0
+StandsMoved programmed old new = (axis : ℕ) → stands new axis ≡ unwrap_or (end_for programmed axis) (stands old axis)
+
+-- the axes stand where the motion leaves them, if there is one
+abbrev pub StandsAtEnd : Option Item → List (Option ℤ) → List (Option ℤ) → Type 0
+StandsAtEnd item old new = (axis : ℕ) → stands new axis ≡ unwrap_or (option_and_then (end_in axis) item) (stands old axis)
 
 -- the axes stand where these motions leave them
-abbrev pub StandsAfter : List Item → List ℤ → List ℤ → Type 0
-StandsAfter items start at = (axis : ℕ) → positions_in at axis ≡ left_at items (positions_in start) axis
+abbrev pub StandsAfter : List Item → List (Option ℤ) → List (Option ℤ) → Type 0
+StandsAfter items start at = (axis : ℕ) → stands at axis ≡ left_at items (stands start) axis
 
 -- a motion along one straight line
 abbrev pub IsStraight : Motion → Type 0

@@ -2,8 +2,8 @@
 use Rattle.std.proofs.Common.{◌≡◌, ◌≢◌, ◌∙◌, ℕ, ℤ, pos, ◌+◌, ◌<◌, ◌≤◌, List, [], ◌∷◌, ◌++◌, length, length-append, get_or, set, get_or-set_same, get_or-set_other, below_more, Option, None, Some, option_map, unwrap_or, refl, sym, ap, arith}
 use Rattle.std.proofs.lemmas.List.{get_or_default, length-set}
 use Rattle.std.specs.List.{filter_map, range_with_len}
-use Rattle.channel_machine.specs.Motions.{positions_in, end_of, end_for}
-use Rattle.channel_machine.proofs.Rows.{filter_map-range_some, filter_map-range_none}
+use Rattle.block_effects.specs.Motions.{positions_in, end_of, end_for}
+use Rattle.block_effects.proofs.Rows.{filter_map-range_some, filter_map-range_none}
 
 -- the axes below a number have moved, with these ends, and the others stand where they stood
 pub record Moves (programmed : List (Option ℤ)) (old : List ℤ) (index : ℕ) (at : List ℤ) (axes : List (ℕ × ℤ × ℤ)) : Type 0 where

@@ -3,12 +3,12 @@ use Rattle.std.proofs.Common.{◌≡◌, ◌∙◌, ℕ, zero, suc, ℤ, ◌<◌
 use Rattle.std.specs.List.{list_all}
 use Rattle.std.proofs.lemmas.List.Elements.{All-head, All-tail}
 use Rattle.nc_blocks.specs.Statement.{WordView, Statement}
-use Rattle.channel_machine.specs.Motions.{positions_in, end_in, ends_from, item_of, is_in_reach, moved, StandsMoved}
-use Rattle.channel_machine.specs.Words.{begun, words_done, words_in}
-use Rattle.channel_machine.specs.Run.{effect_of, Leaves}
-use Rattle.channel_machine.specs.declared.motions.Item.{Item}
-use Rattle.channel_machine.specs.declared.progress.Progress.{Progress}
-use Rattle.channel_machine.proofs.Ends.{item_end}
+use Rattle.block_effects.specs.Motions.{positions_in, end_in, ends_from, item_of, is_in_reach, moved, StandsMoved}
+use Rattle.block_effects.specs.Words.{begun, words_done, words_in}
+use Rattle.block_effects.specs.Run.{effect_of, Leaves}
+use Rattle.block_effects.specs.declared.motions.Item.{Item}
+use Rattle.block_effects.specs.declared.progress.Progress.{Progress}
+use Rattle.block_effects.proofs.Ends.{item_end}
 
 -- what holds of all views holds of the view at a place
 pub holds_at : {X Y : Type 0} (P : Y → Type 0) (view : X → Y) (xs : List X) (i : ℕ) (x : X) → All P (map view xs) → i < length xs → x ≡ get_or xs i x → P (view x)

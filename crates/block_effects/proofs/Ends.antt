@@ -5,7 +5,7 @@ use Rattle.std.proofs.lemmas.Bool.{eq-eqb, ne_eqb, cases_eq}
 use Rattle.std.proofs.lemmas.List.Elements.{All-nil, All-cons, All-weaker}
 use Rattle.std.proofs.lemmas.List.Kept.{AllPairs-cons}
 use Rattle.std.specs.List.{cons_option, filter_map, range_with_len}
-use Rattle.channel_machine.specs.Motions.{end_in, end_for, ends_from, item_of}
+use Rattle.block_effects.specs.Motions.{end_in, end_for, ends_from, item_of}
 
 -- the ends of the axes from `low` on, n in number, to which `end` gives an end
 abbrev pub ends_between : (ℕ → ℤ) → (ℕ → Option ℤ) → ℕ → ℕ → List (ℕ × ℤ × ℤ)
