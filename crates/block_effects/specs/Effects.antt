@@ -43,9 +43,13 @@ abbrev pub jumped_some : Option JumpTo → OutcomeView
 jumped_some (Some j) = jumped j
 jumped_some None = outcome.Plain
 
--- the jump of the first number that equals the value, or else that of DEFAULT
+-- the jump of the first number that equals the value
+abbrev pub first_equal : ℤ → List (ℤ × JumpTo) → Option JumpTo
+first_equal value pairs = option_map (λ pair. pair.1) (find (λ pair. int_eq value pair.0) pairs)
+
+-- and where there is none, that of DEFAULT
 abbrev pub chosen : ℤ → List (ℤ × JumpTo) → Option JumpTo → OutcomeView
-chosen value pairs default = jumped_some (option_or (option_map (λ pair. pair.1) (find (λ pair. int_eq value pair.0) pairs)) default)
+chosen value pairs default = jumped_some (option_or (first_equal value pairs) default)
 
 abbrev pub leap : List ℤ → Tree → JumpTo → Result Effect ℕ
 leap parameters tree j = value_in parameters tree >>= λ value. Ok (goes parameters (jumped_if (is_true value) j))
@@ -93,13 +97,19 @@ repeated parameters times = times_of parameters times >>= λ n. Ok (goes paramet
 
 -- ---- calls
 
--- the program of this name runs so many times; alarm 7 where the library has none
-abbrev pub calling : List ℤ → Option ℕ → ℕ → Result Effect ℕ
-calling parameters None passes = Err 7
-calling parameters (Some number) passes = Ok (record { parameters = parameters; item = None; course = Calls number passes })
-
+-- the number of the program of this name among the names of the library
 abbrev pub number_of : List (List ℕ) → List ℕ → Option ℕ
 number_of names name = position (λ n. bytes_eq n name) names
+
+-- alarm 7 where the library has none
+abbrev pub called : Option ℕ → Result ℕ ℕ
+called (Some number) = Ok number
+called None = Err 7
+
+-- the program of this name runs so many times
+abbrev pub calling : List (List ℕ) → List ℤ → List ℕ → ℕ → Result Effect ℕ
+calling names parameters name passes =
+    called (number_of names name) >>= λ number. Ok (record { parameters = parameters; item = None; course = Calls number passes })
 
 -- ---- blocks
 
@@ -124,7 +134,7 @@ control_effect names parameters opener EndFor = for_continued parameters opener
 control_effect names parameters opener (Case tree pairs default) = choice parameters tree pairs default
 control_effect names parameters opener (RepeatFrom name times) = repeated parameters times
 control_effect names parameters opener (RepeatBlock name times) = repeated parameters times
-control_effect names parameters opener (Call name passes) = calling parameters (number_of names name) passes
+control_effect names parameters opener (Call name passes) = calling names parameters name passes
 control_effect names parameters opener Return = Ok (record { parameters = parameters; item = None; course = Ends })
 control_effect names parameters opener other = Ok (goes parameters outcome.Plain)
 

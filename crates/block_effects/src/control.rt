@@ -51,15 +51,24 @@ fn jumped_some(jump: Option<&JumpTo>) -> Outcome<'_>
     }
 }
 
+/// The jump of the first number that equals a value.
+fn first_equal(value: Num, pairs: &[(Num, JumpTo)]) -> Option<&JumpTo>
+    ensures { option_copied result ≡ model.first_equal value pairs.now }
+{
+    for pair in pairs {
+        if value.millionths == pair.0.millionths {
+            return Some(&pair.1);
+        }
+    }
+    None
+}
+
 /// The jump of the first number that equals a value, or else that of DEFAULT.
 fn chosen<'a>(value: Num, pairs: &'a [(Num, JumpTo)], default: &'a Option<JumpTo>) -> Outcome<'a>
     ensures { outcome_view result ≡ model.chosen value pairs.now default.now }
 {
-    match pairs
-        .iter()
-        .find(|pair| value.millionths == pair.0.millionths)
-    {
-        Some(pair) => jumped(&pair.1),
+    match first_equal(value, pairs) {
+        Some(jump) => jumped(jump),
         None => jumped_some(default.as_ref()),
     }
 }
@@ -190,16 +199,12 @@ pub(crate) fn repeat<'a>(parameters: &Parameters, times: &Option<Expr>) -> Resul
 
 // ---- calls
 
-/// A call of the program of this name.
-pub(crate) fn call<'a, L: Library>(
-    library: &L,
-    name: &NameText,
-    passes: u16,
-) -> Result<Course<'a>, u16>
-    ensures { (parameters : List ℤ) → Turns (model.calling parameters (model.number_of (L.names library.now) name.now) passes) result parameters }
+/// The number of the program of this name, or alarm 7.
+pub(crate) fn called<L: Library>(library: &L, name: &NameText) -> Result<u16, u16>
+    ensures { result ≡ model.called (model.number_of (L.names library.now) name.now) }
 {
     match library.number_of(name) {
-        Some(number) => Ok(Course::Calls(number, passes)),
+        Some(number) => Ok(number),
         None => Err(7),
     }
 }

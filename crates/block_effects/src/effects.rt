@@ -7,7 +7,7 @@ ghost use Rattle.block_effects.specs.Effects as model;
 ghost use Rattle.block_effects.specs.Motions.{stands, StandsAtEnd};
 ghost use Rattle.block_effects.specs.Courses.{Leaves, Turns, course_view};
 
-use crate::control::{begin_for, call, choice, conditional, continue_for, jumped, leap, repeat};
+use crate::control::{begin_for, called, choice, conditional, continue_for, jumped, leap, repeat};
 use crate::course::{Course, Done, Library};
 use crate::motions::make_item;
 use crate::parameters::Parameters;
@@ -70,7 +70,7 @@ fn run_control<'a, L: Library>(
         Stmt::EndFor => continue_for(parameters, opener),
         Stmt::Case(value, pairs, default) => choice(parameters, value, pairs.as_slice(), default),
         Stmt::RepeatFrom(_, times) | Stmt::RepeatBlock(_, times) => repeat(parameters, times),
-        Stmt::Call(name, passes) => call(library, name, *passes),
+        Stmt::Call(name, passes) => Ok(Course::Calls(called(library, name)?, *passes)),
         Stmt::Return => Ok(Course::Ends),
         _ => Ok(Course::Goes(Outcome::Plain)),
     }

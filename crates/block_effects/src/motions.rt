@@ -1,6 +1,6 @@
 //! Where axes stand, and the motion of a block.
 
-ghost use Rattle.std.specs.Prelude.{◌≡◌, IsTrue, IfOk, OnErr};
+ghost use Rattle.std.specs.Prelude.{◌≡◌, IsTrue, OnOk, OnErr};
 ghost use Rattle.std.specs.List.{list_all};
 ghost use Rattle.block_effects.specs.Motions as model;
 
@@ -82,7 +82,7 @@ pub(crate) fn make_item(
     at: &mut Positions,
 ) -> Result<Option<Item>, u16>
     ensures made { result ≡ model.moved (model.stands at.old) line programmed.now }
-    ensures stand { IfOk result (λ item. model.StandsAtEnd item at.old at.new) }
+    ensures stand { OnOk result (model.StandsMoved programmed.now at.old at.new) }
     ensures unmoved { OnErr result (at.new ≡ at.old) }
 {
     if !are_in_reach(programmed) {

@@ -1,7 +1,8 @@
 //! The parameters of a channel.
 
-ghost use Rattle.std.specs.Prelude.{◌≡◌, ◌≤◌, ℕ, slice_set, IfOk};
+ghost use Rattle.std.specs.Prelude.{◌≡◌, ◌≤◌, pos, ◌+ℤ◌, slice_set, IfOk};
 ghost use Rattle.nc_expressions.specs.Tree.{tree_of, IndicesFit};
+ghost use Rattle.nc_expressions.specs.Value.{checked};
 ghost use Rattle.block_effects.specs.Words as model;
 ghost use Rattle.block_effects.specs.Words.{zeros, IsGiven};
 
@@ -91,15 +92,21 @@ impl Parameters {
         requires { index ≤ 999 }
         ensures { IsGiven (model.counted self.old index) result self.new }
     {
-        let one = Num {
-            millionths: 1_000_000,
-        };
-        match self.values[usize::from(index)].add(one) {
-            Ok(value) => {
-                self.set(index, value);
-                Ok(())
-            }
-            Err(_) => Err(1),
-        }
+        let value = one_more(self.parameter(index))?;
+        self.set(index, value);
+        Ok(())
+    }
+}
+
+/// The number that is 1 more, or alarm 1 where it is out of range.
+#[tactic(auto, using(crate::proofs::Counts::too_large, crate::proofs::Counts::in_range))]
+fn one_more(value: Num) -> Result<Num, u16>
+    ensures { result ≡ checked (value +ℤ pos 1000000) }
+{
+    match value.add(Num {
+        millionths: 1_000_000,
+    }) {
+        Ok(sum) => Ok(sum),
+        Err(_) => Err(1),
     }
 }

@@ -11,7 +11,7 @@ loop-index-preserved c =
     elim c.match-programmed-index.branch [
       | in-Some w ↦ rw (w.at-is, w.axes-is, w.push.ensures.items)
           (moves_on c.args.programmed.now c.args.at.now c.loop-index.index c.loop-index.at c.loop-index.axes.items c.loop-index.invariant
-          w.in-Some.value w.end_of-end.result _ _ c.loop-index-test.true long w.in-Some.is w.end_of-end.ensures)
+          w.in-Some.value w.end_of-end.result w.stands.result _ w.set.new.self c.loop-index-test.true long w.in-Some.is w.end_of-end.ensures w.stands.ensures w.set.ensures.positions)
       | in_default w ↦ rw (w.at-is, w.axes-is)
           (moves_not c.args.programmed.now c.args.at.now c.loop-index.index c.loop-index.at c.loop-index.axes.items c.loop-index.invariant
           _ c.loop-index-test.true long w.in_default.is)
@@ -20,5 +20,5 @@ loop-index-preserved c =
 pub returns-clause-ends : goal.returns-clause-ends
 returns-clause-ends c =
     let n : c.loop-index.index ≡ length c.args.programmed.now = omega arith in
-    subst (λ (n : ℕ). c.loop-index.axes.items ≡ filter_map (λ axis. option_map (λ to. (axis, model.positions_in c.args.at.now axis, to)) (model.end_for c.args.programmed.now axis)) (range_with_len 0 n))
+    subst (λ (n : ℕ). c.loop-index.axes.items ≡ filter_map (λ axis. option_map (λ to. (axis, model.stands c.args.at.now axis, to)) (model.end_for c.args.programmed.now axis)) (range_with_len 0 n))
     n c.loop-index.invariant.ends
