@@ -13,3 +13,6 @@ mod progress;
 pub use course::{Course, Done, Library};
 pub use effects::execute;
 pub use parameters::Parameters;
+
+#[cfg(test)]
+mod tests;
