@@ -77,7 +77,7 @@ fn to(label: &[u8]) -> JumpTo {
 
 /// A CASE with jumps at 5, at 5 again and at 3.
 fn case(alloc: Global, value: Expr, default: Option<JumpTo>) -> Result<Stmt, Fail>
-    requires { IndicesFit (tree_of value.now) }
+    requires { IndicesFit (tree_of value) }
     ensures { IfOk result (λ s. StatementFits (statement_view s)) }
 {
     let five = Num {

@@ -1,5 +1,5 @@
 -- The alarms of blocks are in the table of alarms.
-use Rattle.std.proofs.Common.{ℕ, ℤ, pos, ◌^◌, Bool, true, false, cond, nat_lt, int_lt, List, [], ◌∷◌, Option, None, Some, is_some, get_or, Result, Ok, Err, set, refl}
+use Rattle.std.proofs.Common.{ℕ, ℤ, pos, negsuc, ◌^◌, ◌%◌, ◌/◌, ◌==◌, ◌&&◌, ◌+ℤ◌, Bool, true, false, cond, nat_lt, int_lt, List, [], ◌∷◌, Option, None, Some, is_some, get_or, Result, Ok, Err, set, refl}
 use Rattle.std.specs.Prelude.{⊤}
 use Rattle.std.specs.List.{list_all}
 use Rattle.std.specs.Ordering.{int_eq}
@@ -13,12 +13,11 @@ use Rattle.nc_expressions.specs.Symbols.{index_of}
 use Rattle.nc_expressions.specs.Tree.{Tree, Number, Parameter, Indexed, Unary, Binary}
 use Rattle.nc_expressions.specs.Value.{◌>>=◌, checked, divided, rooted, unary_value, binary_value, at_index, value_of}
 use Rattle.nc_faults.specs.Texts.{IsAlarmCode, alarm_texts}
-use Rattle.nc_blocks.specs.Statement.{OperandView, Value, Text, AxisName, WordView, Assign, AssignAt, G, Axis, Radius, Aux, End, BlockView, Statement}
-use Rattle.channel_machine.specs.Motions.{is_in_reach, ends_from, item_of, moved}
-use Rattle.channel_machine.specs.Words.{parameter_in, value_in, index_in, begun, assigned, axis_of, programmed, option_read, operand_read, aux_read, word_done, words_done, words_in}
-use Rattle.channel_machine.specs.Run.{Executed, parameters_after, stands_after, effect_of, executed}
-use Rattle.channel_machine.specs.declared.progress.Progress.{Progress}
-use Rattle.channel_machine.specs.declared.run.SetUp.{SetUp}
+use Rattle.nc_blocks.specs.Statement.{OperandView, Value, Text, AxisName, WordView, Assign, AssignAt, G, Axis, Radius, Aux, End, Statement, WordBlock, IfJump, If, While, Until, For, EndFor, Case, RepeatFrom, RepeatBlock, Call}
+use Rattle.block_effects.specs.Motions.{is_in_reach, ends_from, item_of, moved}
+use Rattle.block_effects.specs.Words.{Progress, parameter_in, value_in, index_in, begun, given, given_at, counted, assigned, axis_of, programmed, option_read, operand_read, aux_read, word_done, words_done}
+use Rattle.sync_types.specs.declared.Item.{Item}
+use Rattle.block_effects.specs.Effects.{Effect, course_of, words_effect, bounded, for_continued, times_in, times_of, repeated, called, number_of, control_effect, effect_of}
 
 -- the codes that a run can end with
 pub listed_1 : IsAlarmCode 1
@@ -36,6 +35,10 @@ listed_3 = refl
 pub listed_4 : IsAlarmCode 4
 unfolding IsAlarmCode alarm_texts
 listed_4 = refl
+
+listed_7 : IsAlarmCode 7
+unfolding IsAlarmCode alarm_texts
+listed_7 = refl
 
 pub listed_8 : IsAlarmCode 8
 unfolding IsAlarmCode alarm_texts
@@ -57,12 +60,16 @@ listed_17 : IsAlarmCode 17
 unfolding IsAlarmCode alarm_texts
 listed_17 = refl
 
+listed_33 : IsAlarmCode 33
+unfolding IsAlarmCode alarm_texts
+listed_33 = refl
+
 -- an alarm, where one comes, is in the table
 abbrev pub IsListed : {A : Type 0} → Result A ℕ → Type 0
 IsListed (Ok x) = ⊤
 IsListed (Err code) = IsAlarmCode code
 
-bind_listed : {A B : Type 0} (r : Result A ℕ) (f : A → Result B ℕ) → IsListed r → ((x : A) → IsListed (f x)) → IsListed (r >>= f)
+pub bind_listed : {A B : Type 0} (r : Result A ℕ) (f : A → Result B ℕ) → IsListed r → ((x : A) → IsListed (f x)) → IsListed (r >>= f)
 bind_listed (Ok x) f first rest = rest x
 bind_listed (Err code) f first rest = first
 
@@ -140,9 +147,21 @@ index_listed : (o : Option ℕ) → IsListed (index_in o)
 index_listed None = listed_4
 index_listed (Some i) = tt
 
-assigned_listed : (p : Progress) (index : ℕ) (tree : Tree) → IsListed (assigned p index tree)
-assigned_listed p index tree =
-    bind_listed (value_in p.parameters tree) (λ value. Ok (record p { parameters = set p.parameters index value })) (value_listed (parameter_in p.parameters) tree) (λ value. tt)
+given_listed : (parameters : List ℤ) (index : ℕ) (tree : Tree) → IsListed (given parameters index tree)
+given_listed parameters index tree =
+    bind_listed (value_in parameters tree) (λ value. Ok (set parameters index value)) (value_listed (parameter_in parameters) tree) (λ value. tt)
+
+given_at_listed : (parameters : List ℤ) (at tree : Tree) → IsListed (given_at parameters at tree)
+given_at_listed parameters at tree =
+    bind_listed (value_in parameters at) (λ z. index_in (index_of z) >>= λ index. given parameters index tree) (value_listed (parameter_in parameters) at)
+    (λ z. bind_listed (index_in (index_of z)) (λ index. given parameters index tree) (index_listed (index_of z)) (λ index. given_listed parameters index tree))
+
+counted_listed : (parameters : List ℤ) (index : ℕ) → IsListed (counted parameters index)
+counted_listed parameters index =
+    bind_listed (checked (parameter_in parameters index +ℤ pos 1000000)) (λ value. Ok (set parameters index value)) (checked_listed (parameter_in parameters index +ℤ pos 1000000)) (λ value. tt)
+
+assigned_listed : (p : Progress) (values : Result (List ℤ) ℕ) → IsListed values → IsListed (assigned p values)
+assigned_listed p values listed = bind_listed values (λ parameters. Ok (record p { parameters = parameters })) listed (λ parameters. tt)
 
 programmed_listed : (p : Progress) (o : Option ℕ) (value : ℤ) → IsListed (programmed p o value)
 unfolding programmed
@@ -165,10 +184,8 @@ operand_listed parameters (AxisName bytes) = tt
 module _ (slots : List (Option ℕ)) where
   word_listed : (p : Progress) (word : WordView) → IsListed (word_done slots p word)
   unfolding word_done
-  word_listed p (Assign index tree) = assigned_listed p index tree
-  word_listed p (AssignAt at tree) =
-      bind_listed (value_in p.parameters at) (λ z. index_in (index_of z) >>= λ index. assigned p index tree) (value_listed (parameter_in p.parameters) at)
-      (λ z. bind_listed (index_in (index_of z)) (λ index. assigned p index tree) (index_listed (index_of z)) (λ index. assigned_listed p index tree))
+  word_listed p (Assign index tree) = assigned_listed p (given p.parameters index tree) (given_listed p.parameters index tree)
+  word_listed p (AssignAt at tree) = assigned_listed p (given_at p.parameters at tree) (given_at_listed p.parameters at tree)
   word_listed p (G group code) = tt
   word_listed p (Axis name measure tree) =
       bind_listed (value_in p.parameters tree) (λ value. programmed p (axis_of slots name) value) (value_listed (parameter_in p.parameters) tree)
@@ -190,14 +207,59 @@ moved_listed : (at : ℕ → ℤ) (line : ℕ) (values : List (Option ℤ)) → 
 unfolding moved
 moved_listed at line values = unless (list_all is_in_reach values) (item_of line (ends_from at values)) 13 listed_13
 
-effect_listed : (slots : List (Option ℕ)) (parameters : List ℤ) (at : ℕ → ℤ) (line : ℕ) (statement : Statement) → IsListed (effect_of slots parameters at line statement)
-unfolding effect_of
-effect_listed slots parameters at line statement =
-    bind_listed (words_done slots (begun parameters) (words_in statement)) (λ p. moved at line p.programmed >>= λ item. Ok (record { parameters = p.parameters; item = item; ends = p.ends }))
-    (words_listed slots (begun parameters) (words_in statement))
-    (λ p. bind_listed (moved at line p.programmed) (λ item. Ok (record { parameters = p.parameters; item = item; ends = p.ends })) (moved_listed at line p.programmed) (λ item. tt))
+words_effect_listed : (slots : List (Option ℕ)) (parameters : List ℤ) (at : ℕ → ℤ) (line : ℕ) (words : List WordView) → IsListed (words_effect slots parameters at line words)
+words_effect_listed slots parameters at line words =
+    let left : Progress → Option Item → Effect = λ p item. record { parameters = p.parameters; item = item; course = course_of p.ends } in
+    bind_listed (words_done slots (begun parameters) words) (λ p. moved at line p.programmed >>= λ item. Ok (left p item)) (words_listed slots (begun parameters) words)
+    (λ p. bind_listed (moved at line p.programmed) (λ item. Ok (left p item)) (moved_listed at line p.programmed) (λ item. tt))
 
-pub executed_listed : (set_up : SetUp) (past : List Executed) (b : ℕ × BlockView) → IsListed (executed set_up past b)
-executed_listed set_up past (line, block) =
-    bind_listed (effect_of set_up.slots (parameters_after past) (stands_after set_up past) line block.statement) (λ effect. Ok (record { line = line; block = block; effect = effect }))
-    (effect_listed set_up.slots (parameters_after past) (stands_after set_up past) line block.statement) (λ effect. tt)
+-- ---- control
+
+-- a value, and what is done with it
+after_value : {A : Type 0} (parameters : List ℤ) (tree : Tree) (f : ℤ → Result A ℕ) → ((z : ℤ) → IsListed (f z)) → IsListed (value_in parameters tree >>= f)
+after_value parameters tree f each = bind_listed (value_in parameters tree) f (value_listed (parameter_in parameters) tree) each
+
+bounded_listed : (parameters : List ℤ) (index : ℕ) (bound : Tree) → IsListed (bounded parameters index bound)
+bounded_listed parameters index bound = after_value parameters bound _ (λ value. tt)
+
+continued_listed : (parameters : List ℤ) (opener : Statement) → IsListed (for_continued parameters opener)
+continued_listed parameters (For index first bound) =
+    bind_listed (counted parameters index) (λ p. bounded p index bound) (counted_listed parameters index) (λ p. bounded_listed p index bound)
+continued_listed parameters other = tt
+
+times_in_listed : (z : ℤ) → IsListed (times_in z)
+unfolding times_in
+times_in_listed (pos n) = unless (n % 1000000 == 0 && nat_lt n 10000000000) (n / 1000000) 33 listed_33
+times_in_listed (negsuc n) = listed_33
+
+times_listed : (parameters : List ℤ) (times : Option Tree) → IsListed (times_of parameters times)
+times_listed parameters None = tt
+times_listed parameters (Some tree) = after_value parameters tree (λ value. times_in value) (λ value. times_in_listed value)
+
+repeated_listed : (parameters : List ℤ) (times : Option Tree) → IsListed (repeated parameters times)
+repeated_listed parameters times = bind_listed (times_of parameters times) _ (times_listed parameters times) (λ n. tt)
+
+called_listed : (number : Option ℕ) → IsListed (called number)
+called_listed None = listed_7
+called_listed (Some number) = tt
+
+module _ (names : List (List ℕ)) (parameters : List ℤ) (opener : Statement) where
+  control_listed : (statement : Statement) → IsListed (control_effect names parameters opener statement)
+  unfolding control_effect
+  control_listed (IfJump tree j) = after_value parameters tree _ (λ value. tt)
+  control_listed (If tree) = after_value parameters tree _ (λ value. tt)
+  control_listed (While tree) = after_value parameters tree _ (λ value. tt)
+  control_listed (Until tree) = after_value parameters tree _ (λ value. tt)
+  control_listed (For index first bound) =
+      bind_listed (given parameters index first) (λ p. bounded p index bound) (given_listed parameters index first) (λ p. bounded_listed p index bound)
+  control_listed EndFor = continued_listed parameters opener
+  control_listed (Case tree pairs default) = after_value parameters tree _ (λ value. tt)
+  control_listed (RepeatFrom name times) = repeated_listed parameters times
+  control_listed (RepeatBlock name times) = repeated_listed parameters times
+  control_listed (Call name passes) = bind_listed (called (number_of names name)) _ (called_listed (number_of names name)) (λ number. tt)
+  control_listed other = tt
+
+  pub effect_listed : (slots : List (Option ℕ)) (at : ℕ → ℤ) (line : ℕ) (statement : Statement) → IsListed (effect_of names slots parameters at line opener statement)
+  unfolding effect_of
+  effect_listed slots at line (WordBlock words) = words_effect_listed slots parameters at line words
+  effect_listed slots at line statement = control_listed statement

@@ -1,4 +1,4 @@
--- The motion of a block, and the motions of a run.
+-- The motion of a block, and motions one after another.
 use Rattle.std.proofs.Common.{◌≡◌, ◌≢◌, ◌⊎◌, ◌∙◌, ℕ, zero, suc, ℤ, ◌+◌, ◌≤◌, ◌<◌, ◌==◌, Bool, true, false, cond, List, [], ◌∷◌, ◌++◌, append-nil, length, length-append, find, take, get_or, slice_get, Option, None, Some, option_map, unwrap_or, IfSome, Result, Ok, Err, All, AllPairs, Contains, inl, inr, refl, sym, ap, subst, arith}
 use Rattle.std.proofs.Math.Seq.{take-append_seam}
 use Rattle.std.proofs.lemmas.Bool.{and_parts, leb-true, eq-eqb, ne_eqb}
@@ -8,19 +8,19 @@ use Rattle.std.proofs.lemmas.Option.{slice_get_within, slice_get-get_or}
 use Rattle.std.specs.List.{filter_map, list_all, last_or, cons_option}
 use Rattle.std.specs.Option.{option_to_list}
 use Rattle.nc_expressions.specs.Value.{◌>>=◌}
-use Rattle.nc_blocks.specs.Statement.{BlockView}
+use Rattle.nc_blocks.specs.Statement.{WordView}
 use Rattle.path_geometry.specs.Motions.{axes_of, IsInRange, IsSound}
 use Rattle.path_geometry.specs.declared.motion.Motion.{Motion}
 use Rattle.path_geometry.specs.declared.motion.Motion.TheVariants.{Line, Rapid}
 use Rattle.path_geometry.specs.declared.motion.Motion.TheVariants as kind
-use Rattle.channel_machine.specs.Motions.{positions_in, end_in, left_at, end_of, is_in_reach, end_for, ends_from, item_of, moved, IsMotionOf}
-use Rattle.channel_machine.specs.Words.{begun, words_done, words_in}
-use Rattle.channel_machine.specs.Run.{Effect, Executed, parameters_after, items_of, stands_after, effect_of, executed}
-use Rattle.channel_machine.specs.declared.motions.Item.{Item}
-use Rattle.channel_machine.specs.declared.run.SetUp.{SetUp}
-use Rattle.channel_machine.proofs.Ends.{le_or_lt, ends_all, Differ, ends_once}
-use Rattle.channel_machine.proofs.Runs.{items_of-push}
-use Rattle.channel_machine.proofs.SlotLaws.{OfSlots, OfSlots-begun, words_good}
+use Rattle.block_effects.specs.Motions.{end_in, left_at, end_of, is_in_reach, end_for, ends_from, item_of, moved, IsMotionOf}
+use Rattle.block_effects.specs.Words.{Progress, begun, words_done}
+use Rattle.block_effects.specs.Effects.{Effect, course_of, words_effect}
+use Rattle.sync_types.specs.declared.Item.{Item}
+use Rattle.sync_types.specs.declared.Part.TheVariants.{Move}
+use Rattle.sync_types.specs.Items.{motion_of}
+use Rattle.block_effects.proofs.Ends.{le_or_lt, ends_all, Differ, ends_once}
+use Rattle.block_effects.proofs.SlotLaws.{OfSlots, OfSlots-begun, words_good}
 
 -- ---- the motion of a block
 
@@ -50,48 +50,37 @@ ends_are slots at values within reach = record {
 }
 
 item_is : (slots : List (Option ℕ)) (at : ℕ → ℤ) (line : ℕ) (values : List (Option ℤ)) (item : Item) → OfSlots slots values → moved at line values ≡ Ok (Some item)
-    → IsMotionOf slots at item.motion
+    → IsMotionOf slots at (motion_of item)
 unfolding moved
 item_is slots at line values item within is = by_reach (list_all is_in_reach values) refl is
   where
-    by_ends : (ends : List (ℕ × ℤ × ℤ)) → IsMotionOf slots at (Line (record { axes = ends })) → item_of line ends ≡ Some item → IsMotionOf slots at item.motion
+    by_ends : (ends : List (ℕ × ℤ × ℤ)) → IsMotionOf slots at (Line (record { axes = ends })) → item_of line ends ≡ Some item → IsMotionOf slots at (motion_of item)
     by_ends [] motion is = absurd cc
     by_ends (e ∷ ends) motion is =
-        let first : Item = record { line = line; motion = Line (record { axes = e ∷ ends }) } in
-        let same : first ≡ item = cc in subst (λ (i : Item). IsMotionOf slots at i.motion) same motion
+        let first : Item = record { line = line; part = Move (Line (record { axes = e ∷ ends })) } in
+        let same : first ≡ item = cc in subst (λ (i : Item). IsMotionOf slots at (motion_of i)) same motion
 
-    by_reach : (b : Bool) → list_all is_in_reach values ≡ b → cond {A = Result (Option Item) ℕ} b (Ok (item_of line (ends_from at values))) (Err 13) ≡ Ok (Some item) → IsMotionOf slots at item.motion
+    by_reach : (b : Bool) → list_all is_in_reach values ≡ b → cond {A = Result (Option Item) ℕ} b (Ok (item_of line (ends_from at values))) (Err 13) ≡ Ok (Some item) → IsMotionOf slots at (motion_of item)
     by_reach true reach is = let made : item_of line (ends_from at values) ≡ Some item = cc in by_ends (ends_from at values) (ends_are slots at values within reach) made
     by_reach false reach is = absurd cc
 
--- ---- one executed block
+-- ---- a block of words
 
 bind_ok : {A B : Type 0} (r : Result A ℕ) (f : A → Result B ℕ) (y : B) → (r >>= f) ≡ Ok y → (x : A) × (r ≡ Ok x) × (f x ≡ Ok y)
 bind_ok (Ok x) f y is = (x, refl, is)
 bind_ok (Err code) f y is = absurd cc
 
-effect_is : (slots : List (Option ℕ)) (parameters : List ℤ) (at : ℕ → ℤ) (line : ℕ) (block : BlockView) (effect : Effect)
-    → effect_of slots parameters at line block.statement ≡ Ok effect → (item : Item) → effect.item ≡ Some item → IsMotionOf slots at item.motion
-unfolding effect_of
-effect_is slots parameters at line block effect is item has =
-    let (p, done, rest) = bind_ok (words_done slots (begun parameters) (words_in block.statement))
-    (λ p. moved at line p.programmed >>= λ item. Ok (record { parameters = p.parameters; item = item; ends = p.ends })) effect is in
-    let (o, made, last) = bind_ok (moved at line p.programmed) (λ item. Ok (record { parameters = p.parameters; item = item; ends = p.ends })) effect rest in
+pub words_is : (slots : List (Option ℕ)) (parameters : List ℤ) (at : ℕ → ℤ) (line : ℕ) (words : List WordView) (effect : Effect)
+    → words_effect slots parameters at line words ≡ Ok effect → (item : Item) → effect.item ≡ Some item → IsMotionOf slots at (motion_of item)
+words_is slots parameters at line words effect is item has =
+    let left : Progress → Option Item → Effect = λ p item. record { parameters = p.parameters; item = item; course = course_of p.ends } in
+    let (p, done, rest) = bind_ok (words_done slots (begun parameters) words) (λ p. moved at line p.programmed >>= λ item. Ok (left p item)) effect is in
+    let (o, made, last) = bind_ok (moved at line p.programmed) (λ item. Ok (left p item)) effect rest in
     let of_effect : Effect → Option Item = λ e. e.item in
-    let left : Effect = record { parameters = p.parameters; item = o; ends = p.ends } in
-    let same : left ≡ effect = cc in
+    let same : left p o ≡ effect = cc in
     let some : o ≡ Some item = ap of_effect same ∙ has in
-    item_is slots at line p.programmed item (words_good slots (begun parameters) (words_in block.statement) p (OfSlots-begun slots parameters) done)
+    item_is slots at line p.programmed item (words_good slots (begun parameters) words p (OfSlots-begun slots parameters) done)
     (made ∙ ap (λ (i : Option Item). Ok i) some)
-
-executed_is : (set_up : SetUp) (past : List Executed) (b : ℕ × BlockView) (done : Executed) → executed set_up past b ≡ Ok done
-    → (item : Item) → done.effect.item ≡ Some item → IsMotionOf set_up.slots (stands_after set_up past) item.motion
-executed_is set_up past (line, block) done is item has =
-    let (effect, made, last) = bind_ok (effect_of set_up.slots (parameters_after past) (stands_after set_up past) line block.statement)
-    (λ effect. Ok (record { line = line; block = block; effect = effect })) done is in
-    let left : Executed = record { line = line; block = block; effect = effect } in
-    let same : left ≡ done = cc in
-    effect_is set_up.slots (parameters_after past) (stands_after set_up past) line block effect made item (ap (λ (e : Executed). e.effect.item) same ∙ has)
 
 -- ---- motions one after another
 
@@ -106,14 +95,14 @@ slice_get-append_seam (x ∷ xs) y = slice_get-append_seam xs y
 
 -- each of these motions is one of a block where the motions before it leave the axes
 pub record AllFollow (slots : List (Option ℕ)) (start : ℕ → ℤ) (items : List Item) : Type 0 where
-  pub follows : (place : ℕ) (item : Item) → slice_get items place ≡ Some item → IsMotionOf slots (left_at (take place items) start) item.motion
+  pub follows : (place : ℕ) (item : Item) → slice_get items place ≡ Some item → IsMotionOf slots (left_at (take place items) start) (motion_of item)
 
 -- the motion of a place follows those before it
 abbrev Follows : List (Option ℕ) → (ℕ → ℤ) → List Item → ℕ → Item → Type 0
-Follows slots start items place item = IsMotionOf slots (left_at (take place items) start) item.motion
+Follows slots start items place item = IsMotionOf slots (left_at (take place items) start) (motion_of item)
 
-AllFollow-push : (slots : List (Option ℕ)) (start : ℕ → ℤ) (items : List Item) (o : Option Item) → AllFollow slots start items
-    → ((item : Item) → o ≡ Some item → IsMotionOf slots (left_at items start) item.motion) → AllFollow slots start (items ++ option_to_list o)
+pub AllFollow-push : (slots : List (Option ℕ)) (start : ℕ → ℤ) (items : List Item) (o : Option Item) → AllFollow slots start items
+    → ((item : Item) → o ≡ Some item → IsMotionOf slots (left_at items start) (motion_of item)) → AllFollow slots start (items ++ option_to_list o)
 AllFollow-push slots start items None all here = subst (λ (xs : List Item). AllFollow slots start xs) (sym (append-nil items)) all
 AllFollow-push slots start items (Some new) all here = record { follows = λ place item is. by_place place item is (le_or_lt (length items) place) }
   where
@@ -132,12 +121,6 @@ AllFollow-push slots start items (Some new) all here = record { follows = λ pla
         let short : place ≤ length items = omega arith in
         rw take-append-le (all.follows place item (sym (slice_get-append_left items (new ∷ []) place within) ∙ is))
 
-pub follows_more : (set_up : SetUp) (past : List Executed) (b : ℕ × BlockView) (done : Executed) → AllFollow set_up.slots (positions_in set_up.start) (items_of past)
-    → executed set_up past b ≡ Ok done → AllFollow set_up.slots (positions_in set_up.start) (items_of (past ++ done ∷ []))
-follows_more set_up past b done all is =
-    subst (λ (xs : List Item). AllFollow set_up.slots (positions_in set_up.start) xs) (sym (items_of-push past done))
-    (AllFollow-push set_up.slots (positions_in set_up.start) (items_of past) done.effect.item all (executed_is set_up past b done is))
-
 pub follows_none : (slots : List (Option ℕ)) (start : ℕ → ℤ) → AllFollow slots start []
 follows_none slots start = record { follows = λ place item is. absurd cc }
 
@@ -151,9 +134,9 @@ found_holds {X} P test (x ∷ xs) all = by_test (test x) (All-head P x xs all) (
     by_test true here rest = here
     by_test false here rest = rest
 
-end_in_range : (axis : ℕ) (item : Item) → All (λ e. IsInRange e.2) (axes_of item.motion) → IfSome (end_in axis item) IsInRange
+end_in_range : (axis : ℕ) (item : Item) → All (λ e. IsInRange e.2) (axes_of (motion_of item)) → IfSome (end_in axis item) IsInRange
 unfolding end_in
-end_in_range axis item all = by_found (find (λ e. e.0 == axis) (axes_of item.motion)) (found_holds (λ e. IsInRange e.2) (λ e. e.0 == axis) (axes_of item.motion) all)
+end_in_range axis item all = by_found (find (λ e. e.0 == axis) (axes_of (motion_of item))) (found_holds (λ e. IsInRange e.2) (λ e. e.0 == axis) (axes_of (motion_of item)) all)
   where
     by_found : (o : Option (ℕ × ℤ × ℤ)) → IfSome o (λ e. IsInRange e.2) → IfSome (option_map (λ e. e.2) o) IsInRange
     by_found None here = tt
@@ -173,25 +156,25 @@ unwrap_kept P None d some none = none
 unwrap_kept P (Some y) d some none = some
 
 -- motions that end in range leave the axes in range
-pub left_in_range : (items : List Item) (start : ℕ → ℤ) → All (λ item. All (λ e. IsInRange e.2) (axes_of item.motion)) items
+pub left_in_range : (items : List Item) (start : ℕ → ℤ) → All (λ item. All (λ e. IsInRange e.2) (axes_of (motion_of item))) items
     → ((axis : ℕ) → IsInRange (start axis)) → (axis : ℕ) → IsInRange (left_at items start axis)
 unfolding left_at
 left_in_range items start all starts axis =
     unwrap_kept IsInRange (last_or None (filter_map (λ item. end_in axis item) items)) (start axis)
     (last_kept IsInRange (λ item. end_in axis item) None items tt
-    (All-weaker (λ item. All (λ e. IsInRange e.2) (axes_of item.motion)) (λ item. IfSome (end_in axis item) IsInRange) (λ item. end_in_range axis item) items all))
+    (All-weaker (λ item. All (λ e. IsInRange e.2) (axes_of (motion_of item))) (λ item. IfSome (end_in axis item) IsInRange) (λ item. end_in_range axis item) items all))
     (starts axis)
 
 -- what holds of each motion by its place holds of all
 by_places : (P : Item → Type 0) (items : List Item) → ((place : ℕ) (item : Item) → slice_get items place ≡ Some item → P item) → All P items
 by_places P items each k d within = each k (get_or items k d) (slice_get-get_or items k d within)
 
-pub ends_in_range : (slots : List (Option ℕ)) (start : ℕ → ℤ) (items : List Item) → AllFollow slots start items → All (λ item. All (λ e. IsInRange e.2) (axes_of item.motion)) items
-ends_in_range slots start items all = by_places (λ item. All (λ e. IsInRange e.2) (axes_of item.motion)) items (λ place item is. (all.follows place item is).in_range)
+pub ends_in_range : (slots : List (Option ℕ)) (start : ℕ → ℤ) (items : List Item) → AllFollow slots start items → All (λ item. All (λ e. IsInRange e.2) (axes_of (motion_of item))) items
+ends_in_range slots start items all = by_places (λ item. All (λ e. IsInRange e.2) (axes_of (motion_of item))) items (λ place item is. (all.follows place item is).in_range)
 
-pub sound_motions : (slots : List (Option ℕ)) (start : ℕ → ℤ) (items : List Item) → AllFollow slots start items → ((axis : ℕ) → IsInRange (start axis)) → All (λ item. IsSound item.motion) items
-sound_motions slots start items all starts = by_places (λ item. IsSound item.motion) items (λ place item is. sound item.motion (left_at (take place items) start) (all.follows place item is)
-    (left_in_range (take place items) start (All-take (λ item. All (λ e. IsInRange e.2) (axes_of item.motion)) place items (ends_in_range slots start items all)) starts))
+pub sound_motions : (slots : List (Option ℕ)) (start : ℕ → ℤ) (items : List Item) → AllFollow slots start items → ((axis : ℕ) → IsInRange (start axis)) → All (λ item. IsSound (motion_of item)) items
+sound_motions slots start items all starts = by_places (λ item. IsSound (motion_of item)) items (λ place item is. sound (motion_of item) (left_at (take place items) start) (all.follows place item is)
+    (left_in_range (take place items) start (All-take (λ item. All (λ e. IsInRange e.2) (axes_of (motion_of item))) place items (ends_in_range slots start items all)) starts))
   where
     sound : (motion : Motion) (at : ℕ → ℤ) → IsMotionOf slots at motion → ((axis : ℕ) → IsInRange (at axis)) → IsSound motion
     sound (Line ends) at motion within = record {
@@ -218,8 +201,8 @@ found_itself (first ∷ ends) once =
     rw (ne_eqb first.0 (get_or ends k d).0 apart) (found_itself ends (λ i j d before inside. once (suc i) (suc j) d (omega arith) (omega arith)) k d within))
 
 -- so a motion of a block leaves each of its axes at its end
-pub ends_found : (slots : List (Option ℕ)) (at : ℕ → ℤ) (item : Item) → IsMotionOf slots at item.motion → All (λ e. end_in e.0 item ≡ Some e.2) (axes_of item.motion)
+pub ends_found : (slots : List (Option ℕ)) (at : ℕ → ℤ) (item : Item) → IsMotionOf slots at (motion_of item) → All (λ e. end_in e.0 item ≡ Some e.2) (axes_of (motion_of item))
 unfolding end_in
 ends_found slots at item is =
-    All-weaker (λ e. find (λ f. f.0 == e.0) (axes_of item.motion) ≡ Some e) (λ e. option_map (λ f. f.2) (find (λ f. f.0 == e.0) (axes_of item.motion)) ≡ Some e.2)
-    (λ e here. ap (option_map (λ (f : ℕ × ℤ × ℤ). f.2)) here) (axes_of item.motion) (found_itself (axes_of item.motion) is.once)
+    All-weaker (λ e. find (λ f. f.0 == e.0) (axes_of (motion_of item)) ≡ Some e) (λ e. option_map (λ f. f.2) (find (λ f. f.0 == e.0) (axes_of (motion_of item))) ≡ Some e.2)
+    (λ e here. ap (option_map (λ (f : ℕ × ℤ × ℤ). f.2)) here) (axes_of (motion_of item)) (found_itself (axes_of (motion_of item)) is.once)
