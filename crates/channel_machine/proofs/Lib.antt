@@ -1,11 +1,2 @@
-pub mod AlarmLaws
-pub mod BuiltLaws
-pub mod Ends
-pub mod MotionLaws
-pub mod Moves
-pub mod Positions
-pub mod Rows
 pub mod RunLaws
 pub mod Runs
-pub mod SlotLaws
-pub mod Steps

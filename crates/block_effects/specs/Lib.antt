@@ -1,0 +1,4 @@
+pub mod Motions
+pub mod Words
+pub mod Effects
+pub mod Courses
