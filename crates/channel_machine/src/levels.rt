@@ -1,6 +1,6 @@
 //! Where control stands on the levels of calls.
 
-ghost use Rattle.std.specs.Prelude.{◌≡◌, ◌<◌, ◌-◌, ◌==◌, All, IfSome, IfOk, map, length, option_copied, slice_get, true};
+ghost use Rattle.std.specs.Prelude.{◌≡◌, [], ◌<◌, ◌-◌, ◌==◌, All, IfSome, IfOk, map, length, option_copied, slice_get, true};
 ghost use Rattle.block_effects.specs.Courses.{course_view};
 ghost use Rattle.nc_control_flow.specs.Flow.{next_block};
 ghost use Rattle.nc_control_flow.specs.Moves.{outcome_view};
@@ -157,7 +157,7 @@ fn call(job: &Job, levels: Levels, number: u16, passes: u16) -> Result<Option<Le
 #[tactic(auto, unfolding(crate::specs::Levels::followed))]
 pub(crate) fn follow(job: &Job, levels: Levels, course: Course) -> Result<Option<Levels>, u16>
     requires { LevelsFit job.now.programs levels }
-    ensures { result ≡ model.followed job.now.programs levels (course_view course) }
+    ensures { result ≡ model.followed job.now.programs levels (course_view course.entry) }
 {
     match course {
         Course::Goes(outcome) => leave(job, levels, outcome),
