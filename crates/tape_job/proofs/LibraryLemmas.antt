@@ -1,6 +1,7 @@
 -- What becomes of the library by a new program and by a block of its last one.
 use Rattle.std.proofs.Common.{◌≡◌, ℕ, List, [], ◌∷◌, ◌++◌, Bool, true, false, ◌||◌, ◌+◌, ◌<◌, ◌^◌, length, length-append, subst, Result, Ok, Err, Option, None, Some, refl, sym, ◌∙◌, ap, if◌then◌else◌}
 use Rattle.std.specs.List.{list_any}
+use Rattle.std.specs.Prelude.{OnOk, OnErr}
 use Rattle.std.specs.Option.{option_and_then, option_map}
 use Rattle.std.specs.Map.{keys_of}
 use Rattle.std.specs.Str.{bytes_eq}
@@ -57,7 +58,7 @@ with_block_last (entry ∷ next ∷ entries) last block = ap (λ more. entry ∷
 
 pub has_either : (resolved : List (List ℕ × ProgramView)) (last : Option (List ℕ × ProgramView)) (name : List ℕ)
     → has_program (with_entry resolved last) name ≡ has_program resolved name || is_last last name
-has_either resolved None name = or_none (has_program resolved name)
+has_either resolved None name = sym (or_none (has_program resolved name))
 has_either resolved (Some last) name = has_with_last resolved last name
 
 pub length_with : (resolved : List (List ℕ × ProgramView)) (last : Option (List ℕ × ProgramView)) (one : List ℕ × ProgramView) → last ≡ Some one
@@ -109,3 +110,17 @@ library_adds now resolved old new block (Ok done) view is adds =
 library_adds now resolved old new block (Err (fault.Broken code)) view is adds =
     subst (λ ps. structure_rule ps block ≡ Some code) view (library_fault resolved old block is ∙ adds)
 library_adds now resolved old new block (Err fault.NoMemory) view is adds = tt
+
+-- the program that was being read is put behind the resolved ones, or is not, and the next one keeps its new name
+still_new : {F : Type 0} (old new : List (List ℕ × ProgramView)) (one : List ℕ × ProgramView) (name : List ℕ) (result : Result Unit F)
+    → has_program (old ++ one ∷ []) name ≡ false → OnOk result (new ≡ old ++ one ∷ []) → OnErr result (new ≡ old) → has_program new name ≡ false
+still_new old new one name (Ok done) named more same = subst (λ ps. has_program ps name ≡ false) (sym more) named
+still_new old new one name (Err fault) named more same = subst (λ ps. has_program ps name ≡ false) (sym same) (new_to_resolved old (Some one) name named)
+
+pub inserted_library : {F : Type 0} (now old new : List (List ℕ × ProgramView)) (last next : Option (List ℕ × ProgramView)) (one entry begun : List ℕ × ProgramView)
+    (name : List ℕ) (result : Result Unit F) → with_entry old last ≡ now → has_program now name ≡ false → Some one ≡ last → entry ≡ one → next ≡ Some begun → begun.0 ≡ name
+    → OnOk result (new ≡ old ++ entry ∷ []) → OnErr result (new ≡ old) → IsLibrary new next
+inserted_library now old new last next one entry begun name result view named is same after begun_named more kept =
+    let whole : old ++ entry ∷ [] ≡ now = ap (λ e. old ++ e ∷ []) same ∙ ap (with_entry old) is ∙ view in
+    let fresh : has_program new name ≡ false = still_new old new entry name result (subst (λ ps. has_program ps name ≡ false) (sym whole) named) more kept in
+    subst (IsLibrary new) (sym after) (subst (λ n. has_program new n ≡ false) (sym begun_named) fresh)

@@ -1,5 +1,5 @@
 //! The programs of an input that is being read: those that are resolved, and the one whose lines come.
-ghost use Rattle.std.specs.Prelude.{◌≡◌, [], ◌∷◌, ◌++◌, false, option_map, OnOk, IfErr};
+ghost use Rattle.std.specs.Prelude.{◌≡◌, [], ◌∷◌, ◌++◌, false, option_map, OnOk, OnErr, IfErr};
 ghost use Rattle.std.specs.Str.{bytes_eq};
 ghost use Rattle.nc_blocks.specs.Statement.{view_of};
 ghost use Rattle.tape_job.specs.Reading.{FaultIsListed};
@@ -120,7 +120,8 @@ fn insert_program(
     program: Program,
 ) -> Result<(), AllocError>
     requires { has_program programs.old.entries name ≡ false }
-    ensures { OnOk result (programs.new.entries ≡ programs.old.entries ++ (name, program) ∷ []) }
+    ensures exact { OnOk result (programs.new.entries ≡ programs.old.entries ++ (name, program) ∷ []) }
+    ensures unchanged { OnErr result (programs.new.entries ≡ programs.old.entries) }
 {
     programs.insert(name, program)?;
     Ok(())
