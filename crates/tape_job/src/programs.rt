@@ -227,7 +227,12 @@ impl Library {
 
     /// Begins a program, whose name is new.
     #[tactic(auto, using(crate::proofs::LibraryLemmas::last_count_is, crate::proofs::LibraryLemmas::new_to_resolved))]
-    pub(crate) fn begin(&mut self, alloc: Global, line: u32, name: NameText) -> Result<(), AllocError>
+    pub(crate) fn begin(
+        &mut self,
+        alloc: Global,
+        line: u32,
+        name: NameText,
+    ) -> Result<(), AllocError>
         requires named { has_program self.old name ≡ false }
         requires short { last_count self.old < 2 ^ 32 }
         ensures { OnOk result (self.new ≡ self.old ++ (name, record { line = line; blocks = [] }) ∷ []) }

@@ -176,8 +176,7 @@ fn counts_the_line_end(rt: HostRuntime) -> Result<(), Fail> {
 
 #[test]
 fn reads_each_form(rt: HostRuntime) -> Result<(), Fail> {
-    let text =
-        "JOB 1\n%_N_A_MPF\nPROC MAIN\nN10 BEG: GOTOF NEXT\nNEXT: IF R1>2 GOTOB BEG\n\
+    let text = "JOB 1\n%_N_A_MPF\nPROC MAIN\nN10 BEG: GOTOF NEXT\nNEXT: IF R1>2 GOTOB BEG\n\
          IF R1==1\nMSG(\"a\")\nELSE\nGOTOC NONE\nENDIF\nWHILE R1<3\nR1=R1+1\nENDWHILE\n\
          REPEAT\nX5\nUNTIL R1>0\nLOOP\nGOTO OUT\nENDLOOP\nOUT: FOR R2=1 TO 3\nL7 P2\n\
          ENDFOR\nCASE (R1) OF 1 GOTOF FIN 2 GOTOB OUT DEFAULT GOTOF FIN\nREPEAT BEG P=2\n\
@@ -202,9 +201,18 @@ fn matches_structures(rt: HostRuntime) {
         (b"JOB 1\n%_N_A_MPF\nIF R1\nELSE\nELSE\n", Some((25, 5))),
         (b"JOB 1\n%_N_A_MPF\nLOOP\nIF R1\n%_N_A\n", Some((25, 4))),
         (b"JOB 1\n%_N_A_MPF\nLOOP\n%\x01\n", Some((25, 3))),
-        (b"JOB 1\nCHANNEL 1 B START\n%_N_A_MPF\nLOOP\nM30\n", Some((25, 4))),
-        (b"JOB 1\n%_N_A_MPF\nLOOP\nENDLOOP\n%_N_B_MPF\nENDLOOP\n", Some((25, 6))),
-        (b"JOB 1\n%_N_A_MPF\nLOOP\nENDLOOP\n%_N_A_MPF\n", Some((9, 5))),
+        (
+            b"JOB 1\nCHANNEL 1 B START\n%_N_A_MPF\nLOOP\nM30\n",
+            Some((25, 4)),
+        ),
+        (
+            b"JOB 1\n%_N_A_MPF\nLOOP\nENDLOOP\n%_N_B_MPF\nENDLOOP\n",
+            Some((25, 6)),
+        ),
+        (
+            b"JOB 1\n%_N_A_MPF\nLOOP\nENDLOOP\n%_N_A_MPF\n",
+            Some((9, 5)),
+        ),
     ];
     for (bytes, refusal) in cases {
         assert_eq!(rt; refusal_of(rt.alloc(), bytes), refusal, "of {bytes:?}");
