@@ -94,13 +94,13 @@ fn reads_programs(rt: HostRuntime) -> Result<(), Fail> {
     let (name, program) = job.programs.first().ok_or("no program")?;
     assert_eq!(rt; name.as_bytes(), b"A_1".as_slice());
     assert_eq!(rt; program.line, 2);
-    let (line, block) = program.blocks.first().ok_or("no block")?;
+    let (line, block) = program.flow.block(0).ok_or("no block")?;
     assert!(rt; *line == 3 && block.number == Some(10));
     match &block.stmt {
         Stmt::Words(words) => assert_eq!(rt; words.len(), 3),
         _ => return Err(Fail::from("no words")),
     }
-    let (line, block) = program.blocks.last().ok_or("no block")?;
+    let (line, block) = program.flow.block(1).ok_or("no block")?;
     assert_eq!(rt; *line, 6);
     match &block.stmt {
         Stmt::Words(words) => match words.first() {
@@ -111,7 +111,7 @@ fn reads_programs(rt: HostRuntime) -> Result<(), Fail> {
     }
     let (name, program) = job.programs.last().ok_or("no program")?;
     assert_eq!(rt; name.as_bytes(), b"B".as_slice());
-    assert!(rt; program.line == 7 && program.blocks.is_empty());
+    assert!(rt; program.line == 7 && program.flow.block(0).is_none());
     Ok(())
 }
 
@@ -140,7 +140,7 @@ fn tries_each_rule_in_order(rt: HostRuntime) {
         (b"JOB 1\n%_N_A_MPF\nG2 X5\n", Some((60, 3))),
         (b"JOB 1\n%_N_A_MPF\nG0 G1 X5\n", Some((60, 3))),
         (b"JOB 1\n%_N_A_MPF\nX=IC(5)\n", Some((60, 3))),
-        (b"JOB 1\n%_N_A_MPF\nGOTOF END_1\n", Some((60, 3))),
+        (b"JOB 1\n%_N_A_MPF\nTRANS X5\n", Some((60, 3))),
         (b"JOB 1\n%_N_A_MPF\n%_N_A_MPF\nG2\n", Some((9, 3))),
     ];
     for (bytes, refusal) in cases {
@@ -169,6 +169,77 @@ fn counts_the_line_end(rt: HostRuntime) -> Result<(), Fail> {
             refusal_of(rt.alloc(), text.as_bytes()),
             refusal,
             "of {bytes} bytes"
+        );
+    }
+    Ok(())
+}
+
+#[test]
+fn reads_each_form(rt: HostRuntime) -> Result<(), Fail> {
+    let text = "JOB 1\n%_N_A_MPF\nPROC MAIN\nN10 BEG: GOTOF NEXT\nNEXT: IF R1>2 GOTOB BEG\n\
+         IF R1==1\nMSG(\"a\")\nELSE\nGOTOC NONE\nENDIF\nWHILE R1<3\nR1=R1+1\nENDWHILE\n\
+         REPEAT\nX5\nUNTIL R1>0\nLOOP\nGOTO OUT\nENDLOOP\nOUT: FOR R2=1 TO 3\nL7 P2\n\
+         ENDFOR\nCASE (R1) OF 1 GOTOF FIN 2 GOTOB OUT DEFAULT GOTOF FIN\nREPEAT BEG P=2\n\
+         FIN: REPEATB OUT\nSUB\nRET\n%_N_SUB_SPF\nM17\n";
+    let job = job_of(rt.alloc(), text).ok_or("no job")?;
+    let (_, program) = job.programs.first().ok_or("no program")?;
+    let (line, block) = program.flow.block(24).ok_or("no block")?;
+    assert!(rt; *line == 27 && program.flow.block(25).is_none());
+    match &block.stmt {
+        Stmt::Return => {}
+        _ => return Err(Fail::from("no return")),
+    }
+    Ok(())
+}
+
+#[test]
+fn matches_structures(rt: HostRuntime) {
+    let cases = [
+        (b"JOB 1\n%_N_A_MPF\nG2 $\nENDIF\n".as_slice(), Some((44, 3))),
+        (b"JOB 1\n%_N_A_MPF\nENDIF\nG2 $\n", Some((25, 3))),
+        (b"JOB 1\n%_N_A_MPF\nENDIF X5\n", Some((24, 3))),
+        (b"JOB 1\n%_N_A_MPF\nIF R1\nELSE\nELSE\n", Some((25, 5))),
+        (b"JOB 1\n%_N_A_MPF\nLOOP\nIF R1\n%_N_A\n", Some((25, 4))),
+        (b"JOB 1\n%_N_A_MPF\nLOOP\n%\x01\n", Some((25, 3))),
+        (
+            b"JOB 1\nCHANNEL 1 B START\n%_N_A_MPF\nLOOP\nM30\n",
+            Some((25, 4)),
+        ),
+        (
+            b"JOB 1\n%_N_A_MPF\nLOOP\nENDLOOP\n%_N_B_MPF\nENDLOOP\n",
+            Some((25, 6)),
+        ),
+        (
+            b"JOB 1\n%_N_A_MPF\nLOOP\nENDLOOP\n%_N_A_MPF\n",
+            Some((9, 5)),
+        ),
+    ];
+    for (bytes, refusal) in cases {
+        assert_eq!(rt; refusal_of(rt.alloc(), bytes), refusal, "of {bytes:?}");
+    }
+}
+
+#[test]
+fn counts_open_structures(rt: HostRuntime) -> Result<(), Fail> {
+    let cases = [
+        ("", 16, "ENDLOOP\n", 16, None),
+        ("", 17, "G2 $\n", 1, Some((26, 19))),
+        ("G2 $\n", 17, "", 0, Some((44, 3))),
+    ];
+    for (before, loops, behind, times, refusal) in cases {
+        let mut text = String::new(rt.alloc());
+        text.push_str("JOB 1\n%_N_A_MPF\n")?;
+        text.push_str(before)?;
+        for _ in 0..loops {
+            text.push_str("LOOP\n")?;
+        }
+        for _ in 0..times {
+            text.push_str(behind)?;
+        }
+        assert_eq!(rt;
+            refusal_of(rt.alloc(), text.as_bytes()),
+            refusal,
+            "of {loops} structures"
         );
     }
     Ok(())
