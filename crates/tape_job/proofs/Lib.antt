@@ -3,6 +3,7 @@ pub mod FirstRefusalLemmas
 pub mod FitLemmas
 pub mod LibraryLemmas
 pub mod LineLemmas
+pub mod NestLemmas
 pub mod ReadingLemmas
 pub mod SoundJobLines
 pub mod SoundJobs

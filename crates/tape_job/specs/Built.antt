@@ -4,7 +4,7 @@ use Rattle.std.specs.List.{list_all}
 use Rattle.std.specs.Str.{bytes_eq}
 use Rattle.nc_blocks.specs.declared.blocks.Measure.{Measure}
 use Rattle.nc_blocks.specs.declared.blocks.Measure.TheVariants.{Modal}
-use Rattle.nc_blocks.specs.Statement.{WordView, Assign, AssignAt, G, Axis, Aux, End, Statement, Empty, WordBlock, Proc, Message}
+use Rattle.nc_blocks.specs.Statement.{WordView, Assign, AssignAt, G, Axis, Aux, End, Statement, WordBlock, Shape, Turn, Coord}
 
 -- a slot by its letter
 unfoldable pub is_slot : List ℕ → Bool
@@ -35,10 +35,10 @@ is_g _ = false
 unfoldable pub are_built : List WordView → Bool
 are_built words = list_all is_built_word words && nat_le (length (filter is_g words)) 1
 
--- the blocks that are built: word blocks of such words, and those that do nothing
+-- the blocks that are built: word blocks of such words, and all others but those of frames and of coordination
 unfoldable pub is_built : Statement → Bool
-is_built Empty = true
 is_built (WordBlock words) = are_built words
-is_built (Proc name) = true
-is_built Message = true
-is_built _ = false
+is_built (Shape word axes) = false
+is_built (Turn additive angle) = false
+is_built (Coord word operands) = false
+is_built _ = true

@@ -9,20 +9,28 @@ use Rattle.tape_job.specs.declared.fault.JobFault.{JobFault}
 use Rattle.tape_job.specs.declared.fault.JobFault.TheVariants.{Refused, NoMemory}
 use Rattle.tape_job.specs.declared.job.Job.{Job}
 use Rattle.tape_job.specs.Job.{JobView}
-use Rattle.tape_job.specs.Lines.{Line, numbered}
-use Rattle.tape_job.specs.Reading.{ReadingView, reading_of}
-use Rattle.tape_job.specs.Rules.{refusal, rule_of, missing}
+use Rattle.tape_job.specs.Lines.{Line, numbered, begins_with_percent}
+use Rattle.tape_job.specs.Reading.{ReadingView, Step, reading_of}
+use Rattle.tape_job.specs.Rules.{refusal, rule_of, structure_rule, unmatched, missing}
 use Rattle.tape_job.specs.Told.{Told, told}
 
 -- the code that a line shows by itself, or else against what the lines before it told
-abbrev pub code_by : JobView → Result ReadingView ℕ → Option ℕ
-code_by job (Ok reading) = option_map shown (rule_of job reading)
-code_by job (Err code) = Some code
+abbrev pub code_by : JobView → ℕ → Result ReadingView ℕ → Option ℕ
+code_by job number (Ok (Step block)) = structure_rule job.programs (number, block)
+code_by job number (Ok reading) = option_map shown (rule_of job reading)
+code_by job number (Err code) = Some code
+
+unfoldable pub line_trial : Told → Line → Option Refusal
+line_trial told line =
+    option_map (λ code. record { code = code; line = line.0 }) (code_by told.job line.0 (reading_of told.seen told.in_programs line.1))
+
+-- a line that begins with '%' ends the program before it, ahead of all else
+unfoldable pub end_of_program : JobView → List ℕ → Option Refusal
+end_of_program job raw = if begins_with_percent raw then unmatched job else None
 
 -- the refusal that a line gives after what the lines before it told
 unfoldable pub trial : Told → Line → Option Refusal
-trial told line =
-    option_map (λ code. record { code = code; line = line.0 }) (code_by told.job (reading_of told.seen told.in_programs line.1))
+trial told line = option_or (end_of_program told.job line.1) (line_trial told line)
 
 -- the refusal of the first line that gives one
 abbrev pub first_trial : List Line → List Line → Option Refusal
@@ -31,7 +39,7 @@ first_trial before (line ∷ lines) = option_or (trial (told before) line) (firs
 
 -- what is tried behind the last line
 unfoldable pub end_trial : Told → Option Refusal
-end_trial told = option_or (missing told.job) (if told.seen then None else Some (refusal NoJobLine 1))
+end_trial told = option_or (unmatched told.job) (option_or (missing told.job) (if told.seen then None else Some (refusal NoJobLine 1)))
 
 abbrev pub answer : Option Refusal → JobView → Result JobView Refusal
 answer None job = Ok job

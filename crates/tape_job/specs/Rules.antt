@@ -1,5 +1,5 @@
 -- What a line breaks against what the lines before it told.
-use Rattle.std.specs.Prelude.{ℕ, Bool, true, false, not, ◌&&◌, ◌||◌, if◌then◌else◌, ◌==◌, nat_lt, nat_le, List, length, slice_get, position, find, Option, Some, None}
+use Rattle.std.specs.Prelude.{ℕ, Bool, true, false, not, ◌&&◌, ◌||◌, if◌then◌else◌, ◌==◌, nat_lt, nat_le, List, [], ◌∷◌, ◌++◌, length, slice_get, position, find, Option, Some, None, Result, Ok, Err}
 use Rattle.std.specs.List.{list_any}
 use Rattle.std.specs.Option.{option_and_then, option_map}
 use Rattle.std.specs.Map.{keys_of}
@@ -11,6 +11,9 @@ use Rattle.job_lines.specs.declared.item.AxisName.{AxisName}
 use Rattle.job_lines.specs.declared.item.NamedSide.{NamedSide}
 use Rattle.job_lines.specs.declared.item.Item.{Item}
 use Rattle.job_lines.specs.declared.item.Item.TheVariants.{Channel, Axis, Geo, Zone}
+use Rattle.nc_blocks.specs.Statement.{BlockView}
+use Rattle.nc_control_flow.specs.declared.nest.Opened.{Opened}
+use Rattle.nc_control_flow.specs.Nested.{nest_of}
 use Rattle.nc_faults.specs.declared.Refusal.{Refusal}
 use Rattle.tape_job.specs.declared.job.AxisLine.{AxisLine}
 use Rattle.tape_job.specs.declared.job.Side.{Side}
@@ -136,6 +139,47 @@ item_rule job (Zone zone group holder x y z) = zone_rule job zone holder (side_o
 -- a program in the library has this name
 unfoldable pub has_program : List (List ℕ × ProgramView) → List ℕ → Bool
 has_program programs name = list_any (bytes_eq name) (keys_of programs)
+
+-- the program of the last header
+abbrev pub last_program : List (List ℕ × ProgramView) → Option ProgramView
+last_program [] = None
+last_program (program ∷ []) = Some program.1
+last_program (program ∷ next ∷ programs) = last_program (next ∷ programs)
+
+abbrev pub count_in : Option ProgramView → ℕ
+count_in None = 0
+count_in (Some program) = length program.blocks
+
+-- how many blocks it has
+abbrev pub last_count : List (List ℕ × ProgramView) → ℕ
+last_count programs = count_in (last_program programs)
+
+abbrev pub innermost : Result (List Opened) ℕ → Option ℕ
+innermost (Ok all) = option_map (λ one. one.line) (slice_get all 0)
+innermost (Err code) = None
+
+-- the line of the structure that is open behind some lines of a program and was opened last
+unfoldable pub open_line : List (ℕ × BlockView) → Option ℕ
+open_line blocks = innermost (nest_of blocks)
+
+abbrev pub fault_of : Result (List Opened) ℕ → Option ℕ
+fault_of (Ok all) = None
+fault_of (Err code) = Some code
+
+-- the code by which one more line breaks the structures of some lines of a program
+unfoldable pub structure_fault : List (ℕ × BlockView) → ℕ × BlockView → Option ℕ
+structure_fault blocks block = fault_of (nest_of (blocks ++ block ∷ []))
+
+unfoldable pub left_open : List (List ℕ × ProgramView) → Option ℕ
+left_open programs = option_and_then (λ program. open_line program.blocks) (last_program programs)
+
+-- where the last program ends, a structure that is open is refused at the line of the one opened last
+unfoldable pub unmatched : JobView → Option Refusal
+unmatched job = option_map (λ line. record { code = 25; line = line }) (left_open job.programs)
+
+-- the code by which a block breaks the structures of the last program
+unfoldable pub structure_rule : List (List ℕ × ProgramView) → ℕ × BlockView → Option ℕ
+structure_rule programs block = option_and_then (λ program. structure_fault program.blocks block) (last_program programs)
 
 -- what a header breaks
 unfoldable pub header_rule : JobView → List ℕ → Option Code

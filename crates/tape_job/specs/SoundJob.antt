@@ -3,6 +3,7 @@ use Rattle.std.specs.Prelude.{◌≡◌, ◌≢◌, ℕ, ◌<◌, ◌≤◌, ℤ
 use Rattle.std.specs.List.{All, Any, AllPairs}
 use Rattle.std.specs.Option.{option_and_then}
 use Rattle.nc_blocks.specs.Indices.{StatementFits}
+use Rattle.nc_control_flow.specs.Nested.{IsNested}
 use Rattle.tape_job.specs.declared.job.AxisLine.{AxisLine}
 use Rattle.tape_job.specs.declared.job.GeoLine.{GeoLine}
 use Rattle.tape_job.specs.declared.job.Side.{Side}
@@ -56,9 +57,10 @@ pub record IsSoundZone (job : JobView) (zone : ZoneLine) : Type 0 where
   pub carriers : AllPairs HaveOtherCarriers zone.sides
   pub ranges : All (λ side. IsSoundRange side.lo side.hi) zone.sides
 
--- each block is one that is built
-abbrev pub IsSoundProgram : ProgramView → Type 0
-IsSoundProgram program = All (λ block. is_built block.1.statement ≡ true) program.blocks
+-- each block is one that is built, and the structures match
+pub record IsSoundProgram (program : ProgramView) : Type 0 where
+  pub built : All (λ block. is_built block.1.statement ≡ true) program.blocks
+  pub nested : IsNested program.blocks
 
 pub record IsSoundJob (job : JobView) : Type 0 where
   pub channel_numbers : AllPairs (λ line other. line.channel ≢ other.channel) job.channels

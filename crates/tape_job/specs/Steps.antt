@@ -4,14 +4,15 @@ use Rattle.nc_blocks.specs.Statement.{BlockView}
 use Rattle.nc_faults.specs.declared.Refusal.{Refusal}
 use Rattle.tape_job.specs.declared.fault.JobFault.{JobFault}
 use Rattle.tape_job.specs.declared.fault.JobFault.TheVariants.{Refused, NoMemory}
-use Rattle.tape_job.specs.declared.job.Job.{Job}
+use Rattle.tape_job.specs.declared.reading.LineFault.{LineFault}
+use Rattle.tape_job.specs.declared.reading.LineFault.TheVariants as fault
 use Rattle.tape_job.specs.declared.reading.Reading.{Reading}
 use Rattle.tape_job.specs.Job.{JobView, ProgramView}
 use Rattle.tape_job.specs.Lines.{Line, has_token, begins_with_percent}
 use Rattle.tape_job.specs.Reading.{ReadingView, reading_view, reading_of}
 use Rattle.tape_job.specs.Told.{Told, channel_from, axis_from, geo_from, zone_from, block_from, name_from}
-use Rattle.tape_job.specs.Read.{trial, end_trial, answer}
-use Rattle.tape_job.specs.Rules.{rule_of}
+use Rattle.tape_job.specs.Read.{line_trial, trial, end_trial, answer}
+use Rattle.tape_job.specs.Rules.{rule_of, has_program}
 
 -- a list with one more at its end, if there is one
 abbrev pub with_entry : {A : Type 0} → List A → Option A → List A
@@ -61,11 +62,17 @@ unfoldable pub finish : Result Told Refusal → Result JobView Refusal
 finish (Ok told) = answer (end_trial told) told.job
 finish (Err refused) = Err refused
 
+-- the call adds what the code does not refuse, or gives the code; it may want memory at any time
+abbrev pub Adds : {A : Type 0} → Option ℕ → A → Result (Unit {0}) LineFault → A → Type 0
+Adds code next (Ok done) new = (code ≡ None) × (new ≡ next)
+Adds code next (Err (fault.Broken shown)) new = code ≡ Some shown
+Adds code next (Err fault.NoMemory) new = Unit {0}
+
 -- the call gives what a line says that breaks no rule, or its refusal; it may want memory at any time
 abbrev pub Admits : Told → Line → Result Reading JobFault → Type 0
 Admits told line (Ok reading) =
-    (trial told line ≡ None) × (reading_of told.seen told.in_programs line.1 ≡ Ok (reading_view reading)) × (rule_of told.job (reading_view reading) ≡ None)
-Admits told line (Err (Refused refused)) = trial told line ≡ Some refused
+    (reading_of told.seen told.in_programs line.1 ≡ Ok (reading_view reading)) × (rule_of told.job (reading_view reading) ≡ None)
+Admits told line (Err (Refused refused)) = line_trial told line ≡ Some refused
 Admits told line (Err NoMemory) = Unit {0}
 
 -- the line is told, or is refused
@@ -74,7 +81,7 @@ Tells told line (Ok done) new = (trial told line ≡ None) × (new ≡ tell told
 Tells told line (Err (Refused refused)) new = trial told line ≡ Some refused
 Tells told line (Err NoMemory) new = Unit {0}
 
--- the call gives this job or this refusal
-abbrev pub GivesJob : Result Job Refusal → Result JobView Refusal → Type 0
-GivesJob (Ok job) read = read ≡ Ok job
-GivesJob (Err refused) read = read ≡ Err refused
+-- programs that are resolved, each under a name of its own, and the one that is being read: the first of all, or with a new name
+abbrev pub IsLibrary : List (List ℕ × ProgramView) → Option (List ℕ × ProgramView) → Type 0
+IsLibrary resolved None = resolved ≡ []
+IsLibrary resolved (Some last) = has_program resolved last.0 ≡ false

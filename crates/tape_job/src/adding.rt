@@ -1,89 +1,20 @@
 //! What a line adds to a job.
-ghost use Rattle.std.specs.Prelude.{◌≡◌, [], ◌∷◌, ◌++◌, false, OnOk};
-ghost use Rattle.nc_blocks.specs.Statement.{view_of};
-ghost use Rattle.tape_job.specs.Steps.{with_block};
-ghost use Rattle.tape_job.specs.Rules.{has_program};
-
-use crate::reading::Reading;
-use crate::{AxisLine, ChannelLine, GeoLine, Job, Program, ZoneLine};
+use crate::draft::Draft;
+use crate::reading::{LineFault, Reading};
+use crate::{AxisLine, ChannelLine, GeoLine, ZoneLine};
 use axis_sets::{ChannelId, ZoneId};
-use indexmap::IndexMap;
 use job_lines::{AxisName, Item, NamedSide};
 use micro_units::Um;
-use nc_blocks::{Block, NameText};
+use nc_blocks::NameText;
 use std::alloc::{AllocError, Global};
 
-impl Program {
-    ghost use Rattle.std.specs.Prelude.{◌≡◌, [], ◌∷◌, ◌++◌, OnOk};
-    ghost use Rattle.nc_blocks.specs.Statement.{view_of};
-
-    /// A program without blocks.
-    fn new(alloc: Global, line: u32) -> Program
-        ensures { result ≡ record { line = line; blocks = [] } }
-    {
-        Program {
-            line,
-            blocks: Vec::new(alloc),
-        }
-    }
-
-    /// Puts a block behind the others.
-    fn push(&mut self, line: u32, block: Block) -> Result<(), AllocError>
-        ensures { OnOk result (self.new ≡ record self.old { blocks = self.old.blocks ++ (line, view_of block) ∷ [] }) }
-    {
-        self.blocks.push((line, block))?;
-        Ok(())
-    }
-}
-
-/// Puts a program behind the others, whose name is new.
-fn insert_program(
-    programs: &mut IndexMap<NameText, Program>,
-    name: NameText,
-    program: Program,
-) -> Result<(), AllocError>
-    requires { has_program programs.old.entries name ≡ false }
-    ensures { OnOk result (programs.new.entries ≡ programs.old.entries ++ (name, program) ∷ []) }
-{
-    programs.insert(name, program)?;
-    Ok(())
-}
-
-/// Puts a block behind those of the last program, if there is one.
-fn push_block(
-    programs: &mut IndexMap<NameText, Program>,
-    line: u32,
-    block: Block,
-) -> Result<(), AllocError>
-    ensures { OnOk result (programs.new.entries ≡ with_block programs.old.entries (line, view_of block)) }
-{
-    match programs.last_mut() {
-        Some(program) => program.push(line, block),
-        None => Ok(()),
-    }
-}
-
-impl Job {
-    ghost use Rattle.std.specs.Prelude.{◌≡◌, [], ◌∷◌, ◌++◌, OnOk, Some, None, true, false};
-    ghost use Rattle.tape_job.specs.Steps.{with_entry, with_block, with_line};
+impl Draft {
+    ghost use Rattle.std.specs.Prelude.{◌≡◌, ◌<◌, ◌^◌, [], ◌∷◌, ◌++◌, Ok, OnOk, IfErr, Some, None, true, false};
+    ghost use Rattle.tape_job.specs.Read.{code_by};
+    ghost use Rattle.tape_job.specs.Reading.{Entry, reading_view, FaultIsListed};
+    ghost use Rattle.tape_job.specs.Rules.{axis_of, side_of, last_count, rule_of};
+    ghost use Rattle.tape_job.specs.Steps.{with_entry, with_line, Adds};
     ghost use Rattle.tape_job.specs.Told.{geo_line, zone_line};
-    ghost use Rattle.tape_job.specs.Rules.{axis_of, side_of, has_program, rule_of};
-    ghost use Rattle.std.specs.Prelude.{Ok};
-    ghost use Rattle.nc_blocks.specs.Statement.{view_of};
-    ghost use Rattle.tape_job.specs.Reading.{Entry, reading_view};
-
-    /// A job of which nothing is told.
-    pub(crate) fn new(alloc: Global) -> Job
-        ensures { result ≡ record { channels = []; axes = []; geo = []; zones = []; programs = [] } }
-    {
-        Job {
-            channels: Vec::new(alloc),
-            axes: Vec::new(alloc),
-            geo: Vec::new(alloc),
-            zones: Vec::new(alloc),
-            programs: IndexMap::new(alloc),
-        }
-    }
 
     /// Adds a channel.
     fn add_channel(
@@ -199,43 +130,30 @@ impl Job {
         }
     }
 
-    /// Adds a program without blocks, whose name is new.
-    fn add_program(&mut self, alloc: Global, line: u32, name: NameText) -> Result<(), AllocError>
-        requires { has_program self.old.programs name ≡ false }
-        ensures { OnOk result (self.new ≡ record self.old {
-          programs = self.old.programs
-              ++ (name, record { line = line; blocks = [] }) ∷ [];
-        }) }
-    {
-        insert_program(&mut self.programs, name, Program::new(alloc, line))
-    }
-
-    /// Adds a block to the last program, if there is one.
-    fn add_block(&mut self, line: u32, block: Block) -> Result<(), AllocError>
-        ensures { OnOk result (self.new ≡ record self.old {
-          programs = with_block self.old.programs
-              (line, view_of block);
-        }) }
-    {
-        push_block(&mut self.programs, line, block)
-    }
-
-    /// Adds what a line says that breaks no rule.
+    /// Adds what a line says that breaks no rule, but that a block may break the structures of its program.
     #[tactic(auto, unfolding(crate::specs::Steps::with_line, crate::specs::Rules::rule_of, crate::specs::Rules::header_rule))]
     pub(crate) fn add(
         &mut self,
         alloc: Global,
         line: u32,
         reading: Reading,
-    ) -> Result<(), AllocError>
-        requires { rule_of self.old (reading_view reading) ≡ None }
-        ensures { OnOk result (self.new ≡ with_line self.old line (Ok (reading_view reading))) }
+    ) -> Result<(), LineFault>
+        requires admitted { rule_of self.old (reading_view reading) ≡ None }
+        requires short { last_count self.old.programs < 2 ^ 32 }
+        ensures exact { Adds (code_by self.old line (Ok (reading_view reading))) (with_line self.old line (Ok (reading_view reading))) result self.new }
+        ensures listed { IfErr result FaultIsListed }
     {
         match reading {
             Reading::Blank | Reading::First => Ok(()),
-            Reading::Entry(item) => self.add_item(line, item),
-            Reading::Header(name) => self.add_program(alloc, line, name),
-            Reading::Step(block) => self.add_block(line, block),
+            Reading::Entry(item) => {
+                self.add_item(line, item)?;
+                Ok(())
+            }
+            Reading::Header(name) => {
+                self.programs.begin(alloc, line, name)?;
+                Ok(())
+            }
+            Reading::Step(block) => self.programs.push(line, block),
         }
     }
 }

@@ -67,8 +67,8 @@ pub(crate) fn is_built(stmt: &Stmt) -> bool
     ensures { result ≡ is_built (statement_view stmt.now) }
 {
     match stmt {
-        Stmt::Empty | Stmt::Proc(_) | Stmt::Message => true,
         Stmt::Words(words) => are_built(words.as_slice()),
-        _ => false,
+        Stmt::Shape(..) | Stmt::Turn(..) | Stmt::Coord(..) => false,
+        _ => true,
     }
 }

@@ -2,11 +2,12 @@
 use axis_sets::{AxisId, ChannelId, ZoneId};
 use indexmap::IndexMap;
 use micro_units::Um;
-use nc_blocks::{Block, NameText};
+use nc_blocks::NameText;
+use nc_control_flow::Flow;
 use std::marker::Model;
 
 /// An accepted job: the lines of its job list in their order, and its library of programs in the order of the input.
-#[derive(Debug, Drop)]
+#[derive(Drop)]
 pub struct Job {
     /// The channels.
     pub channels: Vec<ChannelLine>,
@@ -108,12 +109,12 @@ pub struct Side {
 }
 
 /// A program.
-#[derive(Debug, Drop)]
+#[derive(Drop)]
 pub struct Program {
     /// The line of its header, counted from 1.
     pub line: u32,
-    /// Its blocks, each with the line of the input that it is.
-    pub blocks: Vec<(u32, Block)>,
+    /// Its blocks, each with the line of the input that it is, and what follows each of them.
+    pub flow: Flow,
 }
 
 impl Model for Program {
@@ -126,5 +127,5 @@ impl Model for Program {
 
     ghost coded = { Prim.hlevel (codes, tree_code) };
 
-    ghost view = { λ p. record { line = p.line; blocks = map block_entry p.blocks.items } };
+    ghost view = { λ p. record { line = p.line; blocks = map block_entry p.flow } };
 }

@@ -3,11 +3,13 @@
 
 mod adding;
 mod built;
+mod draft;
 mod fault;
 mod job;
 mod laws;
 mod library;
 mod lines;
+mod programs;
 mod read;
 mod reader;
 mod reading;

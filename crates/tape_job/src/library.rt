@@ -1,21 +1,13 @@
 //! What headers and the end of the input break.
 ghost use Rattle.std.specs.Prelude.{◌≡◌};
-ghost use Rattle.std.specs.Str.{bytes_eq};
 ghost use Rattle.nc_faults.specs.Texts.{IsRefusalCode};
 ghost use Rattle.tape_job.specs.Rules.{refusal};
 
-use crate::Job;
+use crate::draft::Draft;
 use crate::reading::Reading;
 use job_lines::Code;
 use nc_blocks::NameText;
 use nc_faults::Refusal;
-
-/// Whether the two names are the same.
-fn is_same(a: &NameText, b: &NameText) -> bool
-    ensures { result ≡ bytes_eq a.now b.now }
-{
-    a.as_bytes() == b.as_bytes()
-}
 
 /// The refusal of a line by this rule.
 #[tactic(auto, unfolding(crate::specs::Rules::refusal))]
@@ -29,28 +21,20 @@ pub(crate) fn refusal(code: Code, line: u32) -> Refusal
     }
 }
 
-impl Job {
+impl Draft {
     ghost use Rattle.std.specs.Prelude.{◌≡◌, IfSome};
     ghost use Rattle.nc_faults.specs.Texts.{IsRefusalCode};
     ghost use Rattle.tape_job.specs.Reading.{reading_view};
-    ghost use Rattle.tape_job.specs.Rules.{has_program, header_rule, rule_of, is_known, missing, refusal};
-
-    /// Whether the library has a program of this name.
-    #[tactic(auto, unfolding(crate::specs::Rules::has_program))]
-    fn has_program(&self, name: &NameText) -> bool
-        ensures { result ≡ has_program self.now.programs name.now }
-    {
-        self.programs.keys().any(|key| is_same(name, key))
-    }
+    ghost use Rattle.tape_job.specs.Rules.{header_rule, rule_of, is_known, missing, unmatched};
 
     /// What a header breaks.
     #[tactic(auto, unfolding(crate::specs::Rules::header_rule))]
     fn header_rule(&self, name: &NameText) -> Option<Code>
         ensures { result ≡ header_rule self.now name.now }
     {
-        if self.has_program(name) {
+        if self.programs.has(name) {
             Some(Code::NameRepeated)
-        } else if self.programs.len() >= 256 {
+        } else if self.programs.is_full() {
             Some(Code::TooMany)
         } else {
             None
@@ -74,8 +58,20 @@ impl Job {
         ensures { result ≡ is_known self.now.programs program.now }
     {
         match program {
-            Some(name) => self.has_program(name),
+            Some(name) => self.programs.has(name),
             None => true,
+        }
+    }
+
+    /// The refusal of a structure that the end of the last program leaves open.
+    #[tactic(auto, unfolding(crate::specs::Rules::unmatched, nc_faults::specs::Texts::IsRefusalCode, nc_faults::specs::Texts::refusal_texts))]
+    pub(crate) fn unmatched(&self) -> Option<Refusal>
+        ensures value { result ≡ unmatched self.now }
+        ensures listed { IfSome result (λ refused. IsRefusalCode refused.code) }
+    {
+        match self.programs.left_open() {
+            Some(line) => Some(Refusal { code: 25, line }),
+            None => None,
         }
     }
 

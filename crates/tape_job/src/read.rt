@@ -26,8 +26,5 @@ pub fn read_job(alloc: Global, bytes: &[u8]) -> Result<Job, JobFault>
         reader.line(alloc, number, raw)?;
         rest = after;
     }
-    match reader.finish() {
-        Ok(job) => Ok(job),
-        Err(refused) => Err(JobFault::Refused(refused)),
-    }
+    reader.finish(alloc)
 }

@@ -1,19 +1,20 @@
 //! A reader of lines, one after the other.
+use crate::draft::Draft;
 use crate::library::refusal;
 use crate::lines::{begins_with_percent, has_token};
 use crate::reading::{LineFault, Reading, reading_in};
 use crate::{Job, JobFault};
 use job_lines::Code;
 use nc_faults::Refusal;
-use std::alloc::{AllocError, Global};
+use std::alloc::Global;
 use std::marker::Model;
 
 /// What the lines so far told.
-#[derive(Debug, Drop)]
+#[derive(Drop)]
 pub(crate) struct Reader {
     seen: bool,
     in_programs: bool,
-    job: Job,
+    job: Draft,
 }
 
 impl Model for Reader {
@@ -29,14 +30,14 @@ impl Model for Reader {
 }
 
 impl Reader {
-    ghost use Rattle.std.specs.Prelude.{◌≡◌, [], Ok, None, OnOk, IfOk, IfErr};
+    ghost use Rattle.std.specs.Prelude.{◌≡◌, ◌<◌, ◌^◌, [], Ok, None, OnOk, IfOk, IfErr, IfSome};
     ghost use Rattle.nc_faults.specs.Texts.{IsRefusalCode};
-    ghost use Rattle.tape_job.specs.Reading.{reading_view, reading_of, ReadingFits};
-    ghost use Rattle.tape_job.specs.Rules.{rule_of};
+    ghost use Rattle.tape_job.specs.Reading.{reading_view, reading_of, ReadingFits, FaultIsListed};
+    ghost use Rattle.tape_job.specs.Rules.{last_count, rule_of};
     ghost use Rattle.tape_job.specs.SoundJob.{BlocksFit};
     ghost use Rattle.tape_job.specs.Told.{told};
-    ghost use Rattle.tape_job.specs.Read.{answer, end_trial, IsListed};
-    ghost use Rattle.tape_job.specs.Steps.{tell, Admits, Tells, GivesJob};
+    ghost use Rattle.tape_job.specs.Read.{answer, code_by, end_of_program, end_trial, GivesRead, IsListed};
+    ghost use Rattle.tape_job.specs.Steps.{tell, Adds, Admits, Tells};
 
     /// A reader to which no line is told.
     #[tactic(auto, using(crate::proofs::FitLemmas::nothing_fits), unfolding(crate::specs::Told::told))]
@@ -47,12 +48,25 @@ impl Reader {
         Reader {
             seen: false,
             in_programs: false,
-            job: Job::new(alloc),
+            job: Draft::new(alloc),
         }
     }
 
-    /// What a line says that breaks no rule, or the refusal that it gives.
-    #[tactic(auto, unfolding(crate::specs::Read::trial, crate::specs::Rules::refusal))]
+    /// The refusal of a structure that a line leaves open which ends its program.
+    #[tactic(auto, unfolding(crate::specs::Read::end_of_program))]
+    fn unmatched(&self, raw: &[u8]) -> Option<Refusal>
+        ensures value { result ≡ end_of_program self.now.job raw.now }
+        ensures listed { IfSome result (λ refused. IsRefusalCode refused.code) }
+    {
+        if begins_with_percent(raw) {
+            self.job.unmatched()
+        } else {
+            None
+        }
+    }
+
+    /// What a line says that breaks no rule, or the refusal that it gives; of a block it is open whether it breaks the structures of its program.
+    #[tactic(auto, unfolding(crate::specs::Read::line_trial, crate::specs::Rules::refusal))]
     fn admit(&self, alloc: Global, number: u32, raw: &[u8]) -> Result<Reading, JobFault>
         ensures exact { Admits self.now (number, raw.now) result }
         ensures fits { IfOk result (λ reading. ReadingFits (reading_view reading)) }
@@ -68,7 +82,7 @@ impl Reader {
         }
     }
 
-    /// Tells what a line says that is admitted.
+    /// Tells what a line says that is admitted, unless it is a block that breaks the structures of its program.
     #[tactic(auto, unfolding(crate::specs::Steps::tell))]
     fn tell(
         &mut self,
@@ -76,10 +90,12 @@ impl Reader {
         number: u32,
         raw: &[u8],
         reading: Reading,
-    ) -> Result<(), AllocError>
+    ) -> Result<(), LineFault>
         requires said { reading_of self.old.seen self.old.in_programs raw.now ≡ Ok (reading_view reading) }
         requires admitted { rule_of self.old.job (reading_view reading) ≡ None }
-        ensures { OnOk result (self.new ≡ tell self.old (number, raw.now)) }
+        requires short { last_count self.old.job.programs < 2 ^ 32 }
+        ensures exact { Adds (code_by self.old.job number (Ok (reading_view reading))) (tell self.old (number, raw.now)) result self.new }
+        ensures listed { IfErr result FaultIsListed }
     {
         self.job.add(alloc, number, reading)?;
         self.seen = self.seen || has_token(raw);
@@ -88,35 +104,48 @@ impl Reader {
     }
 
     /// Takes the next line.
+    #[tactic(auto, unfolding(crate::specs::Read::trial, crate::specs::Read::line_trial))]
     pub(crate) fn line(&mut self, alloc: Global, number: u32, raw: &[u8]) -> Result<(), JobFault>
+        requires short { last_count self.old.job.programs < 2 ^ 32 }
         ensures exact { Tells self.old (number, raw.now) result self.new }
         ensures fits { BlocksFit self.old.job → OnOk result (BlocksFit self.new.job) }
         ensures listed { IfErr result IsListed }
     {
+        if let Some(refused) = self.unmatched(raw) {
+            return Err(JobFault::Refused(refused));
+        }
         let reading = self.admit(alloc, number, raw)?;
         match self.tell(alloc, number, raw, reading) {
             Ok(()) => Ok(()),
-            Err(_) => Err(JobFault::NoMemory),
+            Err(LineFault::Broken(code)) => Err(JobFault::Refused(Refusal { code, line: number })),
+            Err(LineFault::NoMemory) => Err(JobFault::NoMemory),
         }
     }
 
     /// The job that the lines told, or what is refused behind them.
     #[tactic(auto, unfolding(crate::specs::Read::end_trial))]
-    pub(crate) fn finish(self) -> Result<Job, Refusal>
-        ensures exact { GivesJob result (answer (end_trial self) self.job) }
-        ensures listed { IfErr result (λ refused. IsRefusalCode refused.code) }
+    pub(crate) fn finish(self, alloc: Global) -> Result<Job, JobFault>
+        requires { last_count self.job.programs < 2 ^ 32 }
+        ensures exact { GivesRead result (answer (end_trial self) self.job) }
+        ensures listed { IfErr result IsListed }
     {
         let Reader {
             seen,
             in_programs: _,
             job,
         } = self;
+        if let Some(refused) = job.unmatched() {
+            return Err(JobFault::Refused(refused));
+        }
         if let Some(refused) = job.missing() {
-            return Err(refused);
+            return Err(JobFault::Refused(refused));
         }
         if !seen {
-            return Err(refusal(Code::NoJobLine, 1));
+            return Err(JobFault::Refused(refusal(Code::NoJobLine, 1)));
         }
-        Ok(job)
+        match job.resolve(alloc) {
+            Ok(job) => Ok(job),
+            Err(_) => Err(JobFault::NoMemory),
+        }
     }
 }

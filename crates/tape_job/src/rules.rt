@@ -3,7 +3,8 @@ ghost use Rattle.std.specs.Prelude.{◌≡◌, position};
 ghost use Rattle.std.specs.Option.{option_copied};
 ghost use Rattle.tape_job.specs.Rules.{is_named, axis_at, is_channel, is_owned_line, side_with, is_carrier, same_carrier, same_axis};
 
-use crate::{AxisLine, Job, Side};
+use crate::draft::Draft;
+use crate::{AxisLine, Side};
 use axis_sets::{AxisId, ChannelId, ZoneId};
 use job_lines::{AxisName, Code, Item, NamedSide};
 
@@ -74,7 +75,7 @@ fn same_axis(a: Side, b: Side) -> bool
     }
 }
 
-impl Job {
+impl Draft {
     ghost use Rattle.std.specs.Prelude.{◌≡◌};
     ghost use Rattle.tape_job.specs.Rules.{has_channel, axis_of, has_axis, has_slot, has_slot_axis, owns, has_zone, holds_zone, channel_rule, axis_rule, slot_rule, side_of, owns_carrier, sides_rule, zone_rule, item_rule};
 

@@ -94,13 +94,13 @@ fn reads_programs(rt: HostRuntime) -> Result<(), Fail> {
     let (name, program) = job.programs.first().ok_or("no program")?;
     assert_eq!(rt; name.as_bytes(), b"A_1".as_slice());
     assert_eq!(rt; program.line, 2);
-    let (line, block) = program.blocks.first().ok_or("no block")?;
+    let (line, block) = program.flow.block(0).ok_or("no block")?;
     assert!(rt; *line == 3 && block.number == Some(10));
     match &block.stmt {
         Stmt::Words(words) => assert_eq!(rt; words.len(), 3),
         _ => return Err(Fail::from("no words")),
     }
-    let (line, block) = program.blocks.last().ok_or("no block")?;
+    let (line, block) = program.flow.block(1).ok_or("no block")?;
     assert_eq!(rt; *line, 6);
     match &block.stmt {
         Stmt::Words(words) => match words.first() {
@@ -111,7 +111,7 @@ fn reads_programs(rt: HostRuntime) -> Result<(), Fail> {
     }
     let (name, program) = job.programs.last().ok_or("no program")?;
     assert_eq!(rt; name.as_bytes(), b"B".as_slice());
-    assert!(rt; program.line == 7 && program.blocks.is_empty());
+    assert!(rt; program.line == 7 && program.flow.block(0).is_none());
     Ok(())
 }
 
@@ -140,7 +140,7 @@ fn tries_each_rule_in_order(rt: HostRuntime) {
         (b"JOB 1\n%_N_A_MPF\nG2 X5\n", Some((60, 3))),
         (b"JOB 1\n%_N_A_MPF\nG0 G1 X5\n", Some((60, 3))),
         (b"JOB 1\n%_N_A_MPF\nX=IC(5)\n", Some((60, 3))),
-        (b"JOB 1\n%_N_A_MPF\nGOTOF END_1\n", Some((60, 3))),
+        (b"JOB 1\n%_N_A_MPF\nTRANS X5\n", Some((60, 3))),
         (b"JOB 1\n%_N_A_MPF\n%_N_A_MPF\nG2\n", Some((9, 3))),
     ];
     for (bytes, refusal) in cases {

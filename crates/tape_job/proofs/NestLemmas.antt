@@ -1,0 +1,67 @@
+-- The open structures of a program with one more block, and the codes by which a block breaks them.
+use Rattle.std.proofs.Common.{◌≡◌, ◌∙◌, ℕ, List, [], ◌∷◌, ◌++◌, Bool, true, false, Result, Ok, Err, Some, length, ap, subst, refl, ◌==◌, if◌then◌else◌}
+use Rattle.std.proofs.lemmas.List.Sums.{fold_push}
+use Rattle.nc_blocks.specs.Statement.{BlockView, Statement, If, Else, EndIf, While, EndWhile, Repeat, Until, Loop, EndLoop, For, EndFor}
+use Rattle.nc_control_flow.specs.declared.nest.Opened.{Opened}
+use Rattle.nc_control_flow.specs.declared.nest.Structure.{Structure}
+use Rattle.nc_control_flow.specs.declared.nest.Structure.TheVariants as structure
+use Rattle.nc_control_flow.specs.Nest.{ends, opened, closed, with_else, branched, nested}
+use Rattle.nc_control_flow.specs.Nested.{nested_on, nest_of}
+use Rattle.nc_faults.specs.Texts.{IsRefusalCode, refusal_texts}
+use Rattle.tape_job.specs.Rules.{structure_fault, fault_of}
+
+pub nest_push : (blocks : List (ℕ × BlockView)) (block : ℕ × BlockView) → nest_of (blocks ++ block ∷ []) ≡ nested_on (nest_of blocks) block
+nest_push blocks block = fold_push nested_on (Ok []) blocks block
+
+pub nest_goes_on : (blocks : List (ℕ × BlockView)) (block : ℕ × BlockView) (all : List Opened) → nest_of blocks ≡ Ok all
+    → nest_of (blocks ++ block ∷ []) ≡ nested all block.0 block.1.statement
+nest_goes_on blocks block all nest = nest_push blocks block ∙ ap (λ so_far. nested_on so_far block) nest
+
+pub fault_is : (blocks : List (ℕ × BlockView)) (block : ℕ × BlockView) (all : List Opened) → nest_of blocks ≡ Ok all
+    → structure_fault blocks block ≡ fault_of (nested all block.0 block.1.statement)
+unfolding structure_fault
+fault_is blocks block all nest = ap fault_of (nest_goes_on blocks block all nest)
+
+-- ---- a structure is refused with 25 or 26, and both have a text
+has_25 : IsRefusalCode 25
+unfolding IsRefusalCode refusal_texts
+has_25 = refl
+
+has_26 : IsRefusalCode 26
+unfolding IsRefusalCode refusal_texts
+has_26 = refl
+
+opened_code : (full : Bool) (code : ℕ) (all : List Opened) → ◌≡◌ {A = Result (List Opened) ℕ} (if full then Err 26 else Ok all) (Err code) → IsRefusalCode code
+opened_code true code all e = let same : 26 ≡ code = cc in subst IsRefusalCode same has_26
+opened_code false code all e = absurd cc
+
+closed_code : (fits : Bool) (code : ℕ) (all : List Opened) → ◌≡◌ {A = Result (List Opened) ℕ} (if fits then Ok all else Err 25) (Err code) → IsRefusalCode code
+closed_code true code all e = absurd cc
+closed_code false code all e = let same : 25 ≡ code = cc in subst IsRefusalCode same has_25
+
+close_code : (one : Structure) (all : List Opened) (code : ℕ) → closed one all ≡ Err code → IsRefusalCode code
+close_code one [] code e = let same : 25 ≡ code = cc in subst IsRefusalCode same has_25
+close_code one (o ∷ os) code e = closed_code (ends one o.structure) code os e
+
+else_code : (one : Structure) (o : Opened) (os : List Opened) (code : ℕ) → with_else one o os ≡ Err code → IsRefusalCode code
+else_code structure.If o os code e = absurd cc
+else_code other o os code e = let same : 25 ≡ code = cc in subst IsRefusalCode same has_25
+
+branch_code : (all : List Opened) (code : ℕ) → branched all ≡ Err code → IsRefusalCode code
+branch_code [] code e = let same : 25 ≡ code = cc in subst IsRefusalCode same has_25
+branch_code (o ∷ os) code e = else_code o.structure o os code e
+
+pub nested_code : (all : List Opened) (line code : ℕ) (statement : Statement) → nested all line statement ≡ Err code → IsRefusalCode code
+unfolding nested
+nested_code all line code (If c) e = opened_code (length all == 16) code _ e
+nested_code all line code (While c) e = opened_code (length all == 16) code _ e
+nested_code all line code Repeat e = opened_code (length all == 16) code _ e
+nested_code all line code Loop e = opened_code (length all == 16) code _ e
+nested_code all line code (For i a b) e = opened_code (length all == 16) code _ e
+nested_code all line code Else e = branch_code all code e
+nested_code all line code EndIf e = close_code structure.If all code e
+nested_code all line code EndWhile e = close_code structure.While all code e
+nested_code all line code (Until c) e = close_code structure.Repeat all code e
+nested_code all line code EndLoop e = close_code structure.Loop all code e
+nested_code all line code EndFor e = close_code structure.For all code e
+nested_code all line code other e = absurd cc
