@@ -1,4 +1,3 @@
-pub mod Built
-pub mod Motions
-pub mod Words
+pub mod Levels
 pub mod Run
+pub mod Kept

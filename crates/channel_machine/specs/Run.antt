@@ -1,27 +1,57 @@
--- The run of a channel's program, told over the list of the blocks that it has executed.
-use Rattle.std.specs.Prelude.{◌≡◌, ⊤, IsTrue, MatchResult, ℕ, zero, suc, ℤ, Bool, if◌then◌else◌, List, [], ◌∷◌, ◌++◌, length, fold, filter_map, slice_get, Option, None, Some, Result, Ok, Err}
+-- A segment of a channel's run, told over the list of the blocks that the channel has executed.
+use Rattle.std.specs.Prelude.{◌≡◌, ⊤, ℕ, zero, suc, ◌-◌, ◌==◌, ◌&&◌, ℤ, pos, Bool, true, false, if◌then◌else◌, List, [], ◌∷◌, ◌++◌, length, map, fold, filter_map, find, slice_get, Option, None, Some, option_map, option_and_then, unwrap_or, Result, Ok, Err}
+use Rattle.std.specs.List.{range_with_len}
+use Rattle.std.specs.Option.{option_map_or, option_to_list}
+use Rattle.axis_sets.specs.Positions.{position_of}
+use Rattle.axis_sets.specs.Sets.{has}
+use Rattle.block_effects.specs.Effects.{Course, Goes, Ends, Calls, Effect, effect_of}
+use Rattle.block_effects.specs.Motions.{left_at, stands}
+use Rattle.block_effects.specs.Words.{zeros}
+use Rattle.nc_blocks.specs.Statement.{BlockView, Statement}
+use Rattle.nc_control_flow.specs.Parts.{statement_at}
+use Rattle.nc_control_flow.specs.Structures.{opening}
 use Rattle.nc_expressions.specs.Value.{◌>>=◌}
 use Rattle.nc_faults.specs.Texts.{IsAlarmCode}
-use Rattle.nc_blocks.specs.declared.blocks.Block.{Block}
-use Rattle.nc_blocks.specs.Indices.{StatementFits}
-use Rattle.nc_blocks.specs.Statement.{BlockView, Statement, statement_view, view_of}
-use Rattle.channel_machine.specs.Built.{is_built}
-use Rattle.channel_machine.specs.Motions.{positions_in, left_at, moved}
-use Rattle.channel_machine.specs.Words.{zeros, begun, words_done, words_in}
-use Rattle.channel_machine.specs.declared.motions.Item.{Item}
-use Rattle.channel_machine.specs.declared.progress.Progress.{Progress}
-use Rattle.channel_machine.specs.declared.run.ChannelEnd.{ChannelEnd}
-use Rattle.channel_machine.specs.declared.run.ChannelEnd.TheVariants.{Ended, Alarmed}
-use Rattle.channel_machine.specs.declared.run.ChannelRun.{ChannelRun}
-use Rattle.channel_machine.specs.declared.run.SetUp.{SetUp}
+use Rattle.nc_subprograms.specs.declared.Place.{Place}
+use Rattle.sync_types.specs.declared.Action.{Action}
+use Rattle.sync_types.specs.declared.Action.TheVariants.{End, Alarm}
+use Rattle.sync_types.specs.declared.Grant.{Grant}
+use Rattle.sync_types.specs.declared.Item.{Item}
+use Rattle.sync_types.specs.declared.Step.{Step}
+use Rattle.tape_job.specs.Job.{JobView, ProgramView}
+use Rattle.tape_job.specs.declared.job.GeoLine.{GeoLine}
+use Rattle.channel_machine.specs.declared.levels.Levels.{Levels}
+use Rattle.channel_machine.specs.Levels.{lines_of, program_blocks, first_place, come, followed}
+
+-- ---- what a channel runs by
+
+-- the programs of the job, the axes in the channel's slots X, Y and Z, and what it was granted at its start
+pub record Setting : Type 0 where
+  pub programs : List (List ℕ × ProgramView)
+  pub slots : List (Option ℕ)
+  pub grant : Grant
+
+-- the GEO line of a slot of a channel: 0, 1, 2 are the slots X, Y, Z
+unfoldable pub slot_line : JobView → ℕ → ℕ → Option GeoLine
+slot_line job channel slot = find (λ g. g.channel == channel && g.slot == slot) job.geo
+
+-- the axis in a slot of a channel
+abbrev pub slot_axis : JobView → ℕ → ℕ → Option ℕ
+slot_axis job channel slot = option_map (λ g. g.axis) (slot_line job channel slot)
+
+-- what a channel of a job runs by
+abbrev pub setting_of : JobView → ℕ → Grant → Setting
+setting_of job channel grant = record {
+  programs = job.programs;
+  slots = slot_axis job channel 0 ∷ slot_axis job channel 1 ∷ slot_axis job channel 2 ∷ [];
+  grant = grant;
+}
+
+-- the names of the programs, in the order of their numbers
+abbrev pub names : Setting → List (List ℕ)
+names setting = map (λ p. p.0) setting.programs
 
 -- ---- executed blocks
-
--- what a block leaves: the parameters, its motion, and whether it ends the program
-pub record Effect : Type 0 where
-  pub parameters : List ℤ
-  pub item : Option Item
-  pub ends : Bool
 
 -- a block that was executed, with its line and what it left
 pub record Executed : Type 0 where
@@ -29,92 +59,125 @@ pub record Executed : Type 0 where
   pub block : BlockView
   pub effect : Effect
 
--- what the executed blocks leave: the parameters of the last, or the zeros of the start; their motions in order; and the axes where these leave them
+-- a channel between two blocks: the blocks that it has executed, and where control is, or nowhere past the end of the main program
+pub record Channel : Type 0 where
+  pub past : List Executed
+  pub levels : Option Levels
+
+-- what the executed blocks leave: the parameters of the last, or the zeros of the start; and their motions in order
 abbrev pub parameters_after : List Executed → List ℤ
 parameters_after past = fold (λ _ e. e.effect.parameters) zeros past
 
 abbrev pub items_of : List Executed → List Item
 items_of past = filter_map (λ e. e.effect.item) past
 
-abbrev pub stands_after : SetUp → List Executed → ℕ → ℤ
-stands_after set_up past = left_at (items_of past) (positions_in set_up.start)
+-- where the axes stand at the start: one without a granted position at 0
+abbrev pub stands_at_start : Grant → ℕ → ℤ
+stands_at_start grant = stands grant.at
 
--- the line of the last, or of the program's header
-abbrev pub line_after : ℕ → List Executed → ℕ
-line_after header past = fold (λ _ e. e.line) header past
+-- where the motions of the executed blocks leave the axes
+abbrev pub stands_after : Setting → List Executed → ℕ → ℤ
+stands_after setting past = left_at (items_of past) (stands_at_start setting.grant)
+
+-- the line of the main program's header; 0 where the grant names no program of the job
+abbrev pub header_of : Setting → ℕ
+header_of setting = option_map_or (λ p. p.1.line) (option_and_then (slice_get setting.programs) setting.grant.program) 0
+
+-- the line of the last executed block, or of the header
+abbrev pub line_after : Setting → List Executed → ℕ
+line_after setting past = fold (λ _ e. e.line) (header_of setting) past
 
 -- ---- one block
 
--- what a block on this line does where the parameters and the axes are so, or its first alarm: the words first, and then the motion
-unfoldable pub effect_of : List (Option ℕ) → List ℤ → (ℕ → ℤ) → ℕ → Statement → Result Effect ℕ
-effect_of slots parameters at line statement =
-    words_done slots (begun parameters) (words_in statement) >>= λ p.
-    moved at line p.programmed >>= λ item. Ok (record { parameters = p.parameters; item = item; ends = p.ends })
+-- the block that comes, with its line
+abbrev pub block_at : Setting → Place → Option (ℕ × BlockView)
+block_at setting place = slice_get (lines_of setting.programs place.program) place.pc
+
+-- the beginning of the structure round a place
+abbrev pub opener_at : Setting → Place → Statement
+opener_at setting place = statement_at (opening place.pc (program_blocks setting.programs place.program)) (program_blocks setting.programs place.program)
 
 -- a block with its line, executed after these blocks
-abbrev pub executed : SetUp → List Executed → ℕ × BlockView → Result Executed ℕ
-executed set_up past (line, block) =
-    effect_of set_up.slots (parameters_after past) (stands_after set_up past) line block.statement >>= λ effect.
+abbrev pub executed : Setting → List Executed → Place → ℕ × BlockView → Result Executed ℕ
+executed setting past place (line, block) =
+    effect_of (names setting) setting.slots (parameters_after past) (stands_after setting past) line (opener_at setting place) block.statement >>= λ effect.
     Ok (record { line = line; block = block; effect = effect })
 
--- ---- the run
+-- ---- the segment
 
--- the block that comes next after these: the one behind them in the text
-abbrev pub next_block : List (ℕ × BlockView) → List Executed → Option (ℕ × BlockView)
-next_block blocks past = slice_get blocks (length past)
-
--- the motions of a run, and how it ends
-pub record RunView : Type 0 where
+-- the motions of a segment, and the step that ends it
+pub record SegmentView : Type 0 where
   pub items : List Item
-  pub end : ChannelEnd
+  pub step : Step
 
-abbrev pub halted : List Executed → ChannelEnd → RunView
-halted past end = record { items = items_of past; end = end }
+-- where the axes of a set stand
+abbrev pub owned_at : List Bool → (ℕ → ℤ) → List (Option ℤ)
+owned_at axes at = map (λ axis. if has axes axis then Some (at axis) else None) (range_with_len 0 16)
 
-abbrev pub alarmed : List Executed → ℕ → ℕ → RunView
-alarmed past line code = halted past (Alarmed (record { code = code; line = line }))
+-- a step behind these blocks
+abbrev pub step_after : Setting → List Executed → ℕ → Action → Step
+step_after setting past line action = record {
+  line = line;
+  action = action;
+  at = owned_at setting.grant.axes (stands_after setting past);
+  on = setting.grant.on;
+}
 
--- where no block comes next: alarm 9 at the line of the last executed block, or of the header
-abbrev pub at_next : ℕ → List Executed → Option (ℕ × BlockView) → (ℕ × BlockView → RunView) → RunView
-at_next header past None go = alarmed past (line_after header past) 9
-at_next header past (Some block) go = go block
+-- the segment ends with an alarm; nothing of the block on this line stands
+abbrev pub alarmed : Setting → List Executed → ℕ → ℕ → SegmentView
+alarmed setting past line code = record { items = []; step = step_after setting past line (Alarm code) }
 
--- behind a block: its alarm, after which nothing of it stands, the program end, or the next block
-abbrev pub behind : List Executed → ℕ → Result Executed ℕ → (List Executed → RunView) → RunView
-behind past line (Err code) go = alarmed past line code
-behind past line (Ok done) go = if done.effect.ends then halted (past ++ done ∷ []) (Ended line) else go (past ++ done ∷ [])
+-- a segment with a block in front of it
+abbrev pub onto : List Item → SegmentView → SegmentView
+onto items segment = record segment { items = items ++ segment.items }
 
--- the run after these blocks, where so many more may be executed; the next is alarm 8
-unfoldable pub run_after : SetUp → ℕ → List (ℕ × BlockView) → ℕ → List Executed → RunView
-run_after set_up header blocks zero past = at_next header past (next_block blocks past) (λ block. alarmed past block.0 8)
-run_after set_up header blocks (suc more) past =
-    at_next header past (next_block blocks past) (λ block.
-    behind past block.0 (executed set_up past block) (λ after. run_after set_up header blocks more after))
+-- whether a block ends the main program
+abbrev pub ends_main : Levels → Course → Bool
+ends_main levels Ends = length levels.returns == 0
+ends_main levels (Goes outcome) = false
+ends_main levels (Calls number passes) = false
 
--- the run of a program, whose header stands on this line
-unfoldable pub run_of : SetUp → ℕ → List (ℕ × BlockView) → RunView
-run_of set_up header blocks = run_after set_up header blocks 100000 []
+-- where no block comes: alarm 9 at the line of the last executed block, or of the header
+abbrev pub with_block : Setting → List Executed → Option (ℕ × BlockView) → (ℕ × BlockView → SegmentView) → SegmentView
+with_block setting past None go = alarmed setting past (line_after setting past) 9
+with_block setting past (Some block) go = go block
 
--- the alarm of an end, where it is one, is in the table of alarms
-abbrev pub IsListedEnd : ChannelEnd → Type 0
-IsListedEnd (Ended line) = ⊤
-IsListedEnd (Alarmed alarm) = IsAlarmCode alarm.code
+abbrev pub with_levels : Setting → List Executed → Option Levels → (Levels → ℕ × BlockView → SegmentView) → SegmentView
+with_levels setting past None go = alarmed setting past (line_after setting past) 9
+with_levels setting past (Some levels) go = with_block setting past (block_at setting levels.here) (go levels)
 
--- ---- answers
+-- behind an executed block: where control goes on, or an alarm of that
+abbrev pub led : Setting → List Executed → Executed → Result (Option Levels) ℕ → (Channel → SegmentView) → SegmentView
+led setting past done (Err code) go = alarmed setting past done.line code
+led setting past done (Ok levels) go = onto (option_to_list done.effect.item) (go (record { past = past ++ done ∷ []; levels = levels }))
 
--- the statement is built, and each parameter that it names by its number is one of the 1,000
-abbrev pub IsReady : ℕ × Block → Type 0
-IsReady b = IsTrue (is_built (statement_view b.1.stmt)) × StatementFits (statement_view b.1.stmt)
+-- the end of the main program ends the segment
+abbrev pub finished : Setting → List Executed → Executed → SegmentView
+finished setting past done = record { items = option_to_list done.effect.item; step = step_after setting (past ++ done ∷ []) done.line End }
 
--- the motions of a run and its end, as a contract sees them
-abbrev pub told : ChannelRun → RunView
-told run = record { items = run.items.items; end = run.end }
+-- behind a block: its alarm, the end of the main program, or where control goes on
+abbrev pub behind : Setting → List Executed → Levels → ℕ → Result Executed ℕ → (Channel → SegmentView) → SegmentView
+behind setting past levels line (Err code) go = alarmed setting past line code
+behind setting past levels line (Ok done) go =
+    if ends_main levels done.effect.course then finished setting past done
+    else led setting past done (followed setting.programs levels done.effect.course) go
 
--- a block leaves this, or alarms
-abbrev pub Leaves : Result Effect ℕ → Result (Option Item) ℕ → Progress → Type 0
-Leaves effect result p =
-    MatchResult result (λ item. effect ≡ Ok (record { parameters = p.parameters; item = item; ends = p.ends })) (λ code. effect ≡ Err code)
+-- the segment of a channel that may still execute so many blocks; one more is alarm 8
+unfoldable pub run_after : Setting → ℕ → Channel → SegmentView
+run_after setting zero channel = with_levels setting channel.past channel.levels (λ levels block. alarmed setting channel.past block.0 8)
+run_after setting (suc more) channel =
+    with_levels setting channel.past channel.levels (λ levels block.
+    behind setting channel.past levels block.0 (executed setting channel.past levels.here block) (λ after. run_after setting more after))
 
--- a block with its line, as a contract sees it
-abbrev pub placed_view : ℕ × Block → ℕ × BlockView
-placed_view b = (b.0, view_of b.1)
+-- the segment of a channel; in all it executes at most 100,000 blocks
+unfoldable pub segment_of : Setting → Channel → SegmentView
+segment_of setting channel = run_after setting (100000 - length channel.past) channel
+
+-- a channel at its start: its main program at its first block
+abbrev pub begun : Setting → Channel
+begun setting = record { past = []; levels = option_and_then (λ number. come setting.programs (first_place number 0) []) setting.grant.program }
+
+-- the alarm of a step, where it is one, is in the table of alarms
+abbrev pub IsListedAction : Action → Type 0
+IsListedAction End = ⊤
+IsListedAction (Alarm code) = IsAlarmCode code

@@ -71,3 +71,7 @@ Fits (Done pc) = pc + 1 < 2 ^ 32
 
 abbrev pub OwnFits : Running → Type 0
 OwnFits r = r.own + 1 < 2 ^ 32
+
+-- where control goes on behind a block that has done all that it asks for
+abbrev pub behind_block : ℕ → List Running → Going
+behind_block pc running = settled (Done pc) running

@@ -65,6 +65,15 @@ impl Repeats {
         }
     }
 
+    /// The same repetitions once more.
+    pub fn copied(&self) -> Repeats
+        ensures { result ≡ self.now }
+    {
+        Repeats {
+            running: copies(self.running.as_slice()),
+        }
+    }
+
     /// Whether no other repetition can run.
     pub(crate) fn is_full(&self) -> bool
         ensures full { result ≡ (length self.now == 16) }
@@ -140,6 +149,18 @@ impl Repeats {
             None => None,
         }
     }
+}
+
+/// The same repetitions.
+fn copies(running: &[Running]) -> ArrayVec<Running, 16>
+    requires { length running.now ≤ 16 }
+    ensures { result.items ≡ running.now }
+{
+    let mut kept = ArrayVec::new();
+    for one in running {
+        kept.push(*one);
+    }
+    kept
 }
 
 /// Those of some repetitions that have the block at this place.

@@ -1,6 +1,7 @@
 //! The levels of calls: where a subprogram returns to.
 #![tactic(auto)]
 
+ghost use Rattle.std.specs.Prelude.{◌≡◌, ◌≤◌, length};
 ghost use Rattle.nc_subprograms.specs.Stack.{called, Calls, Returns};
 
 use arrayvec::ArrayVec;
@@ -20,6 +21,22 @@ pub struct Place {
     pub repeats: Repeats,
 }
 
+impl Place {
+    ghost use Rattle.std.specs.Prelude.{◌≡◌};
+
+    /// The same place once more.
+    pub fn copied(&self) -> Place
+        ensures { result ≡ self.now }
+    {
+        Place {
+            program: self.program,
+            pc: self.pc,
+            passes: self.passes,
+            repeats: self.repeats.copied(),
+        }
+    }
+}
+
 /// The places to which the subprograms of a channel return; a contract sees them as a list, the
 /// latest first.
 #[derive(Drop)]
@@ -37,7 +54,7 @@ impl Model for CallStack {
 }
 
 impl CallStack {
-    ghost use Rattle.std.specs.Prelude.{◌≡◌, []};
+    ghost use Rattle.std.specs.Prelude.{◌≡◌, ◌==◌, [], length};
 
     /// The main program runs.
     pub fn new() -> CallStack
@@ -46,6 +63,22 @@ impl CallStack {
         CallStack {
             places: ArrayVec::new(),
         }
+    }
+
+    /// The same stack once more.
+    pub fn copied(&self) -> CallStack
+        ensures { result ≡ self.now }
+    {
+        CallStack {
+            places: copies(self.places.as_slice()),
+        }
+    }
+
+    /// Whether the main program runs.
+    pub fn is_main(&self) -> bool
+        ensures { result ≡ (length self.now == 0) }
+    {
+        self.places.is_empty()
     }
 
     /// Calls a subprogram, which returns to this place.
@@ -67,6 +100,18 @@ impl CallStack {
     {
         self.places.pop()
     }
+}
+
+/// The same places.
+fn copies(places: &[Place]) -> ArrayVec<Place, 15>
+    requires { length places.now ≤ 15 }
+    ensures { result.items ≡ places.now }
+{
+    let mut kept = ArrayVec::new();
+    for place in places {
+        kept.push(place.copied());
+    }
+    kept
 }
 
 impl Default for CallStack {

@@ -1,5 +1,0 @@
-use Rattle.channel_machine.proofs.RunLaws.{end_listed}
-use Rattle.channel_machine.proofs.laws.alarms_are_listed.Goals as goal
-
-pub returns : goal.returns
-returns c set_up header blocks = end_listed set_up header blocks

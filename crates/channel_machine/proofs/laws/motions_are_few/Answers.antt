@@ -1,5 +1,0 @@
-use Rattle.channel_machine.proofs.RunLaws.{few_items}
-use Rattle.channel_machine.proofs.laws.motions_are_few.Goals as goal
-
-pub returns : goal.returns
-returns c set_up header blocks = few_items set_up header blocks

@@ -1,5 +1,0 @@
-use Rattle.channel_machine.proofs.RunLaws.{items_sound}
-use Rattle.channel_machine.proofs.laws.motions_are_sound.Goals as goal
-
-pub returns : goal.returns
-returns c set_up header blocks starts = items_sound set_up header blocks starts
