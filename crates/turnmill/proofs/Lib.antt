@@ -1,5 +1,8 @@
 pub mod SomeLemmas
 pub mod PositionLemmas
+pub mod RunLaws
+pub mod EndLemmas
+pub mod GrantLemmas
 pub mod Runs
 pub mod CoverLemmas
 pub mod PieceLemmas
