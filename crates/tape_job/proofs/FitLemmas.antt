@@ -1,17 +1,23 @@
 -- The parameter numbers of blocks fit, one line after the other.
-use Rattle.std.proofs.Common.{◌≡◌, ℕ, [], Ok, Option, Some, None, subst, sym}
+use Rattle.std.proofs.Common.{◌≡◌, ℕ, ◌+◌, ◌≤◌, List, [], ◌∷◌, ◌++◌, length, length-append, Result, Ok, Err, IfOk, Option, Some, None, ap, refl, subst, sym, arith}
 use Rattle.std.specs.List.{All}
 use Rattle.std.proofs.lemmas.List.Elements.{All-nil}
 use Rattle.job_lines.specs.declared.item.Item.TheVariants.{Channel, Axis, Geo, Zone}
 use Rattle.nc_blocks.specs.Indices.{StatementFits}
 use Rattle.nc_faults.specs.declared.Refusal.{Refusal}
-use Rattle.tape_job.specs.Job.{JobView}
+use Rattle.tape_job.specs.declared.fault.JobFault.{JobFault}
+use Rattle.tape_job.specs.declared.fault.JobFault.TheVariants.{Refused, NoMemory}
+use Rattle.tape_job.specs.declared.job.Job.{Job}
+use Rattle.nc_blocks.specs.Statement.{BlockView}
+use Rattle.tape_job.specs.Job.{JobView, ProgramView}
 use Rattle.tape_job.specs.Lines.{Line}
-use Rattle.tape_job.specs.Read.{answer}
+use Rattle.tape_job.specs.Read.{answer, GivesRead}
 use Rattle.tape_job.specs.Reading.{ReadingView, Blank, First, Entry, Header, Step, reading_of, ReadingFits}
+use Rattle.tape_job.specs.Rules.{last_count, count_in}
 use Rattle.tape_job.specs.SoundJob.{BlocksFit}
-use Rattle.tape_job.specs.Steps.{with_line, tell}
+use Rattle.tape_job.specs.Steps.{with_block, with_line, tell}
 use Rattle.tape_job.specs.Told.{Told, told}
+use Rattle.tape_job.proofs.LibraryLemmas.{last_program_is}
 use Rattle.tape_job.proofs.SoundPrograms.{block_told, header_told}
 
 reading_fits : (job : JobView) (number : ℕ) (reading : ReadingView) → BlocksFit job → ReadingFits reading → BlocksFit (with_line job number (Ok reading))
@@ -39,3 +45,41 @@ nothing_fits now same = subst (λ (t : Told). BlocksFit t.job) (sym same) (All-n
 pub answered_fits : (refused : Option Refusal) (told job : JobView) → BlocksFit told → answer refused told ≡ Ok job → BlocksFit job
 answered_fits None told job all same = let is : told ≡ job = cc in subst BlocksFit is all
 answered_fits (Some refused) told job all same = absurd cc
+
+-- ---- a line adds at most one block to the last program
+one_more : (programs : List (List ℕ × ProgramView)) (block : ℕ × BlockView) → last_count (with_block programs block) ≤ last_count programs + 1
+one_more [] block = omega arith
+one_more (program ∷ []) block = let further = length-append program.1.blocks (block ∷ []) in omega arith
+one_more (program ∷ next ∷ []) block = one_more (next ∷ []) block
+one_more (program ∷ next ∷ third ∷ programs) block = one_more (next ∷ third ∷ programs) block
+
+none_yet : (programs : List (List ℕ × ProgramView)) (name : List ℕ) (number : ℕ) → last_count (programs ++ (name, record { line = number; blocks = [] }) ∷ []) ≡ 0
+none_yet programs name number = ap count_in (last_program_is programs (name, record { line = number; blocks = [] }))
+
+reading_short : (job : JobView) (number : ℕ) (read : Result ReadingView ℕ) → last_count (with_line job number read).programs ≤ last_count job.programs + 1
+unfolding with_line
+reading_short job number (Err code) = omega arith
+reading_short job number (Ok Blank) = omega arith
+reading_short job number (Ok First) = omega arith
+reading_short job number (Ok (Entry (Channel channel program))) = omega arith
+reading_short job number (Ok (Entry (Axis name owner at))) = omega arith
+reading_short job number (Ok (Entry (Geo channel slot axis))) = omega arith
+reading_short job number (Ok (Entry (Zone zone group holder x y z))) = omega arith
+reading_short job number (Ok (Header name)) = let none = none_yet job.programs name number in omega arith
+reading_short job number (Ok (Step block)) = one_more job.programs (number, block)
+
+pub line_short : (told new : Told) (line : Line) → new ≡ tell told line → last_count new.job.programs ≤ last_count told.job.programs + 1
+unfolding tell
+line_short told new line same =
+    subst (λ (t : Told). last_count t.job.programs ≤ last_count told.job.programs + 1) (sym same)
+    (reading_short told.job line.0 (reading_of told.seen told.in_programs line.1))
+
+pub nothing_short : (now : Told) → now ≡ told [] → last_count now.job.programs ≡ 0
+unfolding told
+nothing_short now same = ap (λ (t : Told). last_count t.job.programs) same
+
+-- the job that a call gives where nothing was refused
+pub given_fits : (result : Result Job JobFault) (refused : Option Refusal) (told : JobView) → BlocksFit told → GivesRead result (answer refused told) → IfOk result BlocksFit
+given_fits (Ok job) refused told all same = answered_fits refused told job all same
+given_fits (Err (Refused other)) refused told all same = tt
+given_fits (Err NoMemory) refused told all same = tt

@@ -1,11 +1,14 @@
 -- The open structures of a program with one more block, and the codes by which a block breaks them.
-use Rattle.std.proofs.Common.{◌≡◌, ◌∙◌, ℕ, List, [], ◌∷◌, ◌++◌, Bool, true, false, Result, Ok, Err, Some, length, ap, subst, refl, ◌==◌, if◌then◌else◌}
+use Rattle.std.proofs.Common.{◌≡◌, ◌∙◌, ℕ, List, [], ◌∷◌, ◌++◌, Bool, true, false, Result, Ok, Err, None, Some, length, map, ap, subst, refl, ◌==◌, if◌then◌else◌}
+use Rattle.std.proofs.lemmas.List.{map-append}
 use Rattle.std.proofs.lemmas.List.Sums.{fold_push}
+use Rattle.nc_blocks.specs.declared.blocks.Block.{Block}
+use Rattle.tape_job.specs.Job.{ProgramView, block_entry}
 use Rattle.nc_blocks.specs.Statement.{BlockView, Statement, If, Else, EndIf, While, EndWhile, Repeat, Until, Loop, EndLoop, For, EndFor}
 use Rattle.nc_control_flow.specs.declared.nest.Opened.{Opened}
 use Rattle.nc_control_flow.specs.declared.nest.Structure.{Structure}
 use Rattle.nc_control_flow.specs.declared.nest.Structure.TheVariants as structure
-use Rattle.nc_control_flow.specs.Nest.{ends, opened, closed, with_else, branched, nested}
+use Rattle.nc_control_flow.specs.Nest.{ends, opened, closed, with_else, branched, nested, Nests}
 use Rattle.nc_control_flow.specs.Nested.{nested_on, nest_of}
 use Rattle.nc_faults.specs.Texts.{IsRefusalCode, refusal_texts}
 use Rattle.tape_job.specs.Rules.{structure_fault, fault_of}
@@ -65,3 +68,24 @@ nested_code all line code (Until c) e = close_code structure.Repeat all code e
 nested_code all line code EndLoop e = close_code structure.Loop all code e
 nested_code all line code EndFor e = close_code structure.For all code e
 nested_code all line code other e = absurd cc
+
+-- ---- what a step of the nest says of a program with one more block
+broken_by : (next : Result (List Opened) ℕ) (all new : List Opened) (code : ℕ) → Nests next (Err code) all new → fault_of next ≡ Some code
+broken_by (Ok next) all new code nests = absurd cc
+broken_by (Err other) all new code nests = let same : other ≡ code = cc in ap Some same
+
+taken_by : (next : Result (List Opened) ℕ) (all new : List Opened) → Nests next (Ok tt) all new → fault_of next ≡ None
+taken_by (Ok next) all new nests = refl
+taken_by (Err other) all new nests = absurd cc
+
+pub step_breaks : (blocks : List (ℕ × BlockView)) (block : ℕ × BlockView) (all new : List Opened) (code : ℕ) → nest_of blocks ≡ Ok all
+    → Nests (nested all block.0 block.1.statement) (Err code) all new → structure_fault blocks block ≡ Some code
+step_breaks blocks block all new code nest nests = fault_is blocks block all nest ∙ broken_by (nested all block.0 block.1.statement) all new code nests
+
+pub step_taken : (blocks : List (ℕ × BlockView)) (block : ℕ × BlockView) (all new : List Opened) → nest_of blocks ≡ Ok all
+    → Nests (nested all block.0 block.1.statement) (Ok tt) all new → structure_fault blocks block ≡ None
+step_taken blocks block all new nest nests = fault_is blocks block all nest ∙ taken_by (nested all block.0 block.1.statement) all new nests
+
+pub pushed_view : (name : List ℕ) (line : ℕ) (blocks : List (ℕ × Block)) (block : ℕ × Block)
+    → ◌≡◌ {A = List ℕ × ProgramView} (name, record { line = line; blocks = map block_entry (blocks ++ block ∷ []) }) (name, record { line = line; blocks = map block_entry blocks ++ block_entry block ∷ [] })
+pushed_view name line blocks block = ap (λ all. (name, record { line = line; blocks = all })) (map-append block_entry blocks (block ∷ []))

@@ -1,5 +1,5 @@
 -- What a line of a program says, from its scanned tokens, and the codes by which it is refused.
-use Rattle.std.proofs.Common.{◌≡◌, ◌∙◌, ℕ, Bool, true, false, ◌&&◌, ◌||◌, ◌==◌, List, [], ◌∷◌, Ok, Err, length, ap, sym, subst, refl, true≢false, rules, arith}
+use Rattle.std.proofs.Common.{◌≡◌, ◌∙◌, ℕ, Bool, true, false, ◌&&◌, ◌||◌, ◌==◌, List, [], ◌∷◌, Ok, Err, Some, length, ap, sym, subst, refl, true≢false, rules, arith}
 use Rattle.std.specs.List.{list_any, list_all}
 use Rattle.std.proofs.lemmas.Bool.{eqb-true}
 use Rattle.block_scanner.specs.Tokens.{tokens_of}
@@ -11,7 +11,12 @@ use Rattle.job_lines.specs.declared.code.Code.TheVariants.{BadByte, OpenText}
 use Rattle.nc_blocks.specs.Refusals.{block_refusals, IsBlockRefusal}
 use Rattle.nc_faults.specs.Texts.{refusal_texts, has_code, IsRefusalCode}
 use Rattle.nc_syntax.specs.Blocks.{statement_of}
-use Rattle.tape_job.specs.Reading.{Blank, words_of, step_of, tokens_reading, block_reading}
+use Rattle.std.specs.Option.{option_map}
+use Rattle.job_lines.specs.declared.code.Code.{Code}
+use Rattle.tape_job.specs.Job.{JobView}
+use Rattle.tape_job.specs.Read.{code_by}
+use Rattle.tape_job.specs.Rules.{rule_of}
+use Rattle.tape_job.specs.Reading.{ReadingView, First, Entry, Header, Step, Blank, words_of, step_of, tokens_reading, block_reading}
 
 some_tokens : (compensation : Bool) (text : List ℕ) (tokens : List Token) → (length tokens == 0) ≡ false
     → tokens_reading compensation text (Ok tokens) ≡ step_of (statement_of (words_of text tokens) compensation)
@@ -65,3 +70,12 @@ one_has_text code (other ∷ codes) each some =
 pub block_refusal_has_text : (code : ℕ) → IsBlockRefusal code → IsRefusalCode code
 unfolding IsBlockRefusal IsRefusalCode block_refusals refusal_texts
 block_refusal_has_text code is = one_has_text code block_refusals refl is
+
+-- a rule that a line breaks gives its code
+pub rule_breaks : (job : JobView) (number : ℕ) (reading : ReadingView) (code : Code) → rule_of job reading ≡ Some code → code_by job number (Ok reading) ≡ Some (shown code)
+unfolding rule_of
+rule_breaks job number (Entry item) code breaks = ap (option_map shown) breaks
+rule_breaks job number (Header name) code breaks = ap (option_map shown) breaks
+rule_breaks job number Blank code breaks = absurd cc
+rule_breaks job number First code breaks = absurd cc
+rule_breaks job number (Step block) code breaks = absurd cc

@@ -1,6 +1,6 @@
 -- Every accepted job is sound.
 use Rattle.std.specs.Prelude.{IsSomeAnd}
-use Rattle.std.proofs.Common.{◌≡◌, ◌≢◌, ◌∙◌, ℕ, ◌≤◌, ◌<◌, Bool, true, ◌||◌, not, nat_le, List, [], ◌∷◌, ◌++◌, length, Result, Ok, Err, IfOk, Option, Some, None, IfSome, IsSome, find, get_or, subst, refl, sym, arith, length-append, rules}
+use Rattle.std.proofs.Common.{◌≡◌, ◌≢◌, ◌∙◌, ℕ, ◌≤◌, ◌<◌, Bool, true, false, ◌||◌, not, nat_le, if◌then◌else◌, List, [], ◌∷◌, ◌++◌, length, Result, Ok, Err, IfOk, Option, Some, None, IfSome, IsSome, find, get_or, subst, refl, sym, arith, length-append, rules}
 use Rattle.std.specs.List.{All, Any, AllPairs, enumerate_from}
 use Rattle.std.specs.Map.{keys_of}
 use Rattle.std.specs.Option.{option_map, option_or}
@@ -23,13 +23,13 @@ use Rattle.tape_job.specs.Lines.{Line, has_token, begins_with_percent, raw_lines
 use Rattle.tape_job.specs.Reading.{ReadingView, Blank, First, Entry, Header, Step, reading_of}
 use Rattle.tape_job.specs.Rules as rule
 use Rattle.tape_job.specs.Told.{Told, told, geo_line, zone_line}
-use Rattle.tape_job.specs.Read.{code_by, trial, end_trial, answer, read_of}
+use Rattle.tape_job.specs.Read.{code_by, line_trial, end_of_program, trial, end_trial, answer, read_of}
 use Rattle.tape_job.specs.Steps.{with_entry, with_line, with_block, tell, unless_refused, run, finish}
 use Rattle.tape_job.specs.SoundJob.{IsSoundJob}
 use Rattle.tape_job.proofs.SoundLists.{unbroken, not_false, none_found}
 use Rattle.tape_job.proofs.SoundReadings.{IsSoundItem, IsSoundReading, reading_sound}
 use Rattle.tape_job.proofs.SoundJobLines.{ListFacts, HasRange, no_pairs, list_kept, nothing_listed, side_range, sound_range, channel_told, axis_told, geo_told, zone_told}
-use Rattle.tape_job.proofs.SoundPrograms.{InAll, block_told, header_told, keys-with_block, length-with_block, keys-push, names_differ, program_found}
+use Rattle.tape_job.proofs.SoundPrograms.{InAll, NestedSoFar, nested_block, nested_header, all_nested, block_told, header_told, keys-with_block, length-with_block, keys-push, names_differ, program_found}
 use Rattle.tape_job.proofs.TellingLemmas.{read_of_is}
 
 -- what holds of all that lines told
@@ -38,6 +38,7 @@ record Sound (told : Told) : Type 0 where
   programs : InAll (λ block. is_built block.1.statement ≡ true) told.job.programs
   names : AllPairs (λ name other. name ≢ other) (keys_of told.job.programs)
   few : length told.job.programs ≤ 256
+  nested : NestedSoFar told.job.programs
 
 -- a job line
 abbrev with_item : JobView → ℕ → Item → JobView
@@ -84,6 +85,7 @@ entry_told told number seen late item sound none fits = record {
   programs = subst (InAll (λ block. is_built block.1.statement ≡ true)) (sym (kept number told.job item)) sound.programs;
   names = subst (λ programs. AllPairs (λ name other. name ≢ other) (keys_of programs)) (sym (kept number told.job item)) sound.names;
   few = subst (λ programs. length programs ≤ 256) (sym (kept number told.job item)) sound.few;
+  nested = subst NestedSoFar (sym (kept number told.job item)) sound.nested;
 }
   where
     kept : (number : ℕ) (job : JobView) (item : Item) → (with_item job number item).programs ≡ job.programs
@@ -94,9 +96,10 @@ entry_told told number seen late item sound none fits = record {
 
 -- a header
 header_line_told : (told : Told) (number : ℕ) (seen late : Bool) (name : List ℕ) → Sound told
-    → rule.header_rule told.job name ≡ None → Sound (record { seen = seen; in_programs = late; job = with_line told.job number (Ok (Header name)) })
+    → rule.header_rule told.job name ≡ None → rule.left_open told.job.programs ≡ None
+    → Sound (record { seen = seen; in_programs = late; job = with_line told.job number (Ok (Header name)) })
 unfolding rule.header_rule with_line
-header_line_told told number seen late name sound none =
+header_line_told told number seen late name sound none ended =
     let program : List ℕ × ProgramView = (name, record { line = number; blocks = [] }) in
     let first = unbroken (rule.has_program told.job.programs name) NameRepeated _ none in
     let second = unbroken (nat_le 256 (length told.job.programs)) TooMany None first.1 in
@@ -109,38 +112,55 @@ header_line_told told number seen late name sound none =
       names = subst (AllPairs (λ name other. name ≢ other)) (sym (keys-push told.job.programs program))
           (all_pairs_push (λ name other. name ≢ other) (keys_of told.job.programs) name sound.names (names_differ told.job.programs name first.0));
       few = omega arith;
+      nested = nested_header told.job.programs number name sound.nested ended;
     }
 
 -- a block
 block_line_told : (told : Told) (number : ℕ) (seen late : Bool) (block : BlockView) → Sound told → is_built block.statement ≡ true
-    → Sound (record { seen = seen; in_programs = late; job = with_line told.job number (Ok (Step block)) })
+    → rule.structure_rule told.job.programs (number, block) ≡ None → Sound (record { seen = seen; in_programs = late; job = with_line told.job number (Ok (Step block)) })
 unfolding with_line
-block_line_told told number seen late block sound built =
+block_line_told told number seen late block sound built matches =
     let all : List (List ℕ × ProgramView) = with_block told.job.programs (number, block) in
     record {
       list = list_kept told.job all sound.list;
       programs = block_told (λ b. is_built b.1.statement ≡ true) told.job.programs (number, block) sound.programs built;
       names = subst (AllPairs (λ name other. name ≢ other)) (sym (keys-with_block told.job.programs (number, block))) sound.names;
       few = subst (λ n. n ≤ 256) (sym (length-with_block told.job.programs (number, block))) sound.few;
+      nested = nested_block told.job.programs (number, block) sound.nested matches;
     }
 
-line_told : (told : Told) (number : ℕ) (seen late : Bool) (read : Result ReadingView ℕ) → Sound told → code_by told.job read ≡ None
-    → IfOk read IsSoundReading → Sound (record { seen = seen; in_programs = late; job = with_line told.job number read })
+line_told : (told : Told) (number : ℕ) (seen late percent : Bool) (read : Result ReadingView ℕ) → Sound told → code_by told.job number read ≡ None
+    → (percent ≡ true → rule.left_open told.job.programs ≡ None) → IfOk read (IsSoundReading percent)
+    → Sound (record { seen = seen; in_programs = late; job = with_line told.job number read })
 unfolding with_line rule.rule_of
-line_told told number seen late (Err code) sound none fits = absurd cc
-line_told told number seen late (Ok Blank) sound none fits = record { list = sound.list; programs = sound.programs; names = sound.names; few = sound.few }
-line_told told number seen late (Ok First) sound none fits = record { list = sound.list; programs = sound.programs; names = sound.names; few = sound.few }
-line_told told number seen late (Ok (Entry item)) sound none fits =
+line_told told number seen late percent (Err code) sound none ended fits = absurd cc
+line_told told number seen late percent (Ok Blank) sound none ended fits =
+    record { list = sound.list; programs = sound.programs; names = sound.names; few = sound.few; nested = sound.nested }
+line_told told number seen late percent (Ok First) sound none ended fits =
+    record { list = sound.list; programs = sound.programs; names = sound.names; few = sound.few; nested = sound.nested }
+line_told told number seen late percent (Ok (Entry item)) sound none ended fits =
     entry_told told number seen late item sound (unmapped shown (rule.item_rule told.job item) none) fits
-line_told told number seen late (Ok (Header name)) sound none fits =
-    header_line_told told number seen late name sound (unmapped shown (rule.header_rule told.job name) none)
-line_told told number seen late (Ok (Step block)) sound none fits = block_line_told told number seen late block sound fits
+line_told told number seen late percent (Ok (Header name)) sound none ended fits =
+    header_line_told told number seen late name sound (unmapped shown (rule.header_rule told.job name) none) (ended fits)
+line_told told number seen late percent (Ok (Step block)) sound none ended fits = block_line_told told number seen late block sound fits none
+
+none_open : (job : JobView) → rule.unmatched job ≡ None → rule.left_open job.programs ≡ None
+unfolding rule.unmatched
+none_open job none = unmapped _ (rule.left_open job.programs) none
+
+-- a line that begins with '%' leaves no structure open
+program_ends : (percent : Bool) (job : JobView) → (if percent then rule.unmatched job else None) ≡ None → percent ≡ true → rule.left_open job.programs ≡ None
+program_ends true job none is = none_open job none
+program_ends false job none is = absurd cc
 
 tell_sound : (told : Told) (line : Line) → Sound told → trial told line ≡ None → Sound (tell told line)
-unfolding trial tell
+unfolding trial line_trial end_of_program tell
 tell_sound told line sound none =
-    line_told told line.0 (told.seen || has_token line.1) (told.in_programs || begins_with_percent line.1) (reading_of told.seen told.in_programs line.1) sound
-    (unmapped _ (code_by told.job (reading_of told.seen told.in_programs line.1)) none)
+    let both = neither (end_of_program told.job line.1) (line_trial told line) none in
+    line_told told line.0 (told.seen || has_token line.1) (told.in_programs || begins_with_percent line.1) (begins_with_percent line.1)
+    (reading_of told.seen told.in_programs line.1) sound
+    (unmapped _ (code_by told.job line.0 (reading_of told.seen told.in_programs line.1)) both.1)
+    (program_ends (begins_with_percent line.1) told.job both.0)
     (reading_sound told.seen told.in_programs line.1)
 
 run_sound : (now : Told) (lines : List Line) (end : Told) → Sound now → run now lines ≡ Ok end → Sound end
@@ -159,6 +179,7 @@ nothing_told = record {
   programs = All-nil (λ program. All (λ block. is_built block.1.statement ≡ true) program.1.blocks);
   names = no_pairs (λ (name other : List ℕ). name ≢ other);
   few = omega arith;
+  nested = tt;
 }
 
 -- each channel's program is in the library
@@ -187,7 +208,9 @@ program_names programs names i j d before within same =
 told_sound : (now : Told) → Sound now → end_trial now ≡ None → IsSoundJob now.job
 unfolding end_trial rule.missing
 told_sound now sound none =
-    let first = neither (rule.missing now.job) _ none in
+    let matched = neither (rule.unmatched now.job) _ none in
+    let first = neither (rule.missing now.job) _ matched.1 in
+    let nested = all_nested now.job.programs sound.nested (none_open now.job matched.0) in
     let all_known = unmapped (λ (l : ChannelLine). rule.refusal NotInLibrary l.line) _ first.0 in
     record {
       channel_numbers = sound.list.channels.numbers;
@@ -207,7 +230,7 @@ told_sound now sound none =
       zones = sound.list.zones.zones;
       few_programs = sound.few;
       program_names = program_names now.job.programs sound.names;
-      programs = sound.programs;
+      programs = λ k d within. record { built = sound.programs k d within; nested = nested k d within };
     }
 
 answered : (refused : Option Refusal) (told job : JobView) → answer refused told ≡ Ok job → (refused ≡ None) × (told ≡ job)

@@ -1,11 +1,14 @@
 -- What headers and blocks tell that break no rule is sound.
-use Rattle.std.proofs.Common.{◌≡◌, ◌≢◌, ◌∙◌, ℕ, suc, Bool, true, false, true≢false, ◌||◌, List, [], ◌∷◌, ◌++◌, length, refl, sym, ap, arith}
+use Rattle.std.specs.Bool.{⊤}
+use Rattle.std.proofs.Common.{◌≡◌, ◌≢◌, ◌∙◌, ℕ, suc, Bool, true, false, true≢false, ◌||◌, List, [], ◌∷◌, ◌++◌, length, Result, Ok, Err, None, refl, sym, ap, arith}
 use Rattle.std.specs.List.{All, Any, list_any}
 use Rattle.std.specs.Map.{keys_of}
 use Rattle.std.specs.Str.{bytes_eq}
 use Rattle.std.proofs.lemmas.Slice.Eq.{bytes_eq-Decides}
 use Rattle.std.proofs.lemmas.List.Elements.{All-nil, All-cons, All-push, All-weaker}
 use Rattle.nc_blocks.specs.Statement.{BlockView}
+use Rattle.nc_control_flow.specs.declared.nest.Opened.{Opened}
+use Rattle.nc_control_flow.specs.Nested.{nest_of, IsNested}
 use Rattle.tape_job.specs.Job.{ProgramView}
 use Rattle.tape_job.specs.Rules as rule
 use Rattle.tape_job.specs.Steps.{with_block}
@@ -63,3 +66,45 @@ unfolding rule.has_program
 program_found programs name has =
     found (λ (p : List ℕ × ProgramView). p.0 ≡ name) (λ p. bytes_eq name p.0) (λ p same. sym ((bytes_eq-Decides name p.0).0 same)) programs
     (sym (any_key programs (bytes_eq name)) ∙ has)
+
+-- ---- structures: those of each program but the last match, and the last breaks none so far
+abbrev pub HasNest : Result (List Opened) ℕ → Type 0
+HasNest nest = (all : List Opened) × (nest ≡ Ok all)
+
+abbrev pub NestedSoFar : List (List ℕ × ProgramView) → Type 0
+NestedSoFar [] = ⊤
+NestedSoFar (program ∷ []) = HasNest (nest_of program.1.blocks)
+NestedSoFar (program ∷ next ∷ programs) = IsNested program.1.blocks × NestedSoFar (next ∷ programs)
+
+no_fault : (nest : Result (List Opened) ℕ) → rule.fault_of nest ≡ None → HasNest nest
+no_fault (Ok all) none = (all, refl)
+no_fault (Err code) none = absurd cc
+
+nothing_open : (nest : Result (List Opened) ℕ) → HasNest nest → rule.innermost nest ≡ None → nest ≡ Ok []
+nothing_open (Ok []) some none = refl
+nothing_open (Ok (one ∷ all)) some none = absurd cc
+nothing_open (Err code) some none = absurd cc
+
+pub nested_block : (programs : List (List ℕ × ProgramView)) (block : ℕ × BlockView) → NestedSoFar programs → rule.structure_rule programs block ≡ None
+    → NestedSoFar (with_block programs block)
+unfolding rule.structure_rule rule.structure_fault
+nested_block [] block all none = tt
+nested_block (program ∷ []) block all none = no_fault (nest_of (program.1.blocks ++ block ∷ [])) none
+nested_block (program ∷ next ∷ []) block all none = (all.0, nested_block (next ∷ []) block all.1 none)
+nested_block (program ∷ next ∷ third ∷ programs) block all none = (all.0, nested_block (next ∷ third ∷ programs) block all.1 none)
+
+pub nested_header : (programs : List (List ℕ × ProgramView)) (number : ℕ) (name : List ℕ) → NestedSoFar programs → rule.left_open programs ≡ None
+    → NestedSoFar (programs ++ (name, record { line = number; blocks = [] }) ∷ [])
+unfolding rule.left_open rule.open_line
+nested_header [] number name all none = ([], refl)
+nested_header (program ∷ []) number name all none = (nothing_open (nest_of program.1.blocks) all none, ([], refl))
+nested_header (program ∷ next ∷ programs) number name all none = (all.0, nested_header (next ∷ programs) number name all.1 none)
+
+pub all_nested : (programs : List (List ℕ × ProgramView)) → NestedSoFar programs → rule.left_open programs ≡ None
+    → All (λ program. IsNested program.1.blocks) programs
+unfolding rule.left_open rule.open_line
+all_nested [] all none = All-nil (λ program. IsNested program.1.blocks)
+all_nested (program ∷ []) all none =
+    All-cons (λ program. IsNested program.1.blocks) program [] (nothing_open (nest_of program.1.blocks) all none) (All-nil (λ program. IsNested program.1.blocks))
+all_nested (program ∷ next ∷ programs) all none =
+    All-cons (λ program. IsNested program.1.blocks) program (next ∷ programs) all.0 (all_nested (next ∷ programs) all.1 none)

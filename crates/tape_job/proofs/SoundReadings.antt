@@ -28,7 +28,7 @@ use Rattle.nc_syntax.specs.Blocks.{statement_of}
 use Rattle.tape_job.specs.Built.{is_built}
 use Rattle.tape_job.specs.Lines.{words, is_visible, begins_with_percent, text_of, before_comment}
 use Rattle.tape_job.specs.Reading as reading
-use Rattle.tape_job.specs.Reading.{ReadingView, Entry, Step}
+use Rattle.tape_job.specs.Reading.{ReadingView, Entry, Header, Step}
 use Rattle.tape_job.specs.SoundJob.{IsInReach, IsSoundRange}
 
 -- what holds of each result of a reading holds of the next reading's
@@ -213,65 +213,67 @@ item_sound kind args =
     (if_ok IsSoundItem (bytes_eq kind (codes "JOB")) _ _ (λ _. job_line_sound args)
     (if_ok IsSoundItem (item.is_later_kind kind) _ _ (λ _. tt) tt)))))
 
--- what holds of what a line says
-abbrev pub IsSoundReading : ReadingView → Type 0
-IsSoundReading (Entry item) = IsSoundItem item
-IsSoundReading (Step block) = is_built block.statement ≡ true
-IsSoundReading _ = ⊤
+-- what holds of what a line says that begins with '%' or not
+abbrev pub IsSoundReading : Bool → ReadingView → Type 0
+IsSoundReading percent (Entry item) = IsSoundItem item
+IsSoundReading percent (Header name) = percent ≡ true
+IsSoundReading percent (Step block) = is_built block.statement ≡ true
+IsSoundReading percent _ = ⊤
 
-entry_sound : (words : List (List ℕ)) → IfOk (reading.entry_of words) IsSoundReading
+entry_sound : (percent : Bool) (words : List (List ℕ)) → IfOk (reading.entry_of words) (IsSoundReading percent)
 unfolding reading.entry_of
-entry_sound [] = tt
-entry_sound (kind ∷ args) = then_ok IsSoundItem IsSoundReading (item.item_of kind args) _ (item_sound kind args) (λ i sound. sound)
+entry_sound percent [] = tt
+entry_sound percent (kind ∷ args) = then_ok IsSoundItem (IsSoundReading percent) (item.item_of kind args) _ (item_sound kind args) (λ i sound. sound)
 
-header_sound : (words : List (List ℕ)) → IfOk (reading.header_entry words) IsSoundReading
+header_sound : (words : List (List ℕ)) → IfOk (reading.header_entry words) (IsSoundReading true)
 unfolding reading.header_entry
-header_sound words = then_any IsSoundReading (header_of words) _ (λ name. tt)
+header_sound words = then_any (IsSoundReading true) (header_of words) _ (λ name. refl)
 
-form_sound : (seen percent : Bool) (words : List (List ℕ)) → IfOk (reading.form_of seen percent words) IsSoundReading
+form_sound : (seen percent : Bool) (words : List (List ℕ)) → IfOk (reading.form_of seen percent words) (IsSoundReading percent)
 unfolding reading.form_of
-form_sound false percent words = if_ok IsSoundReading (reading.is_job_line words) _ _ (λ _. tt) tt
+form_sound false percent words = if_ok (IsSoundReading percent) (reading.is_job_line words) _ _ (λ _. tt) tt
 form_sound true true words = header_sound words
-form_sound true false words = entry_sound words
+form_sound true false words = entry_sound false words
 
-shown_sound : (read : Result ReadingView Code) → IfOk read IsSoundReading → IfOk (reading.with_shown read) IsSoundReading
-shown_sound (Ok r) sound = sound
-shown_sound (Err code) sound = tt
+shown_sound : (percent : Bool) (read : Result ReadingView Code) → IfOk read (IsSoundReading percent) → IfOk (reading.with_shown read) (IsSoundReading percent)
+shown_sound percent (Ok r) sound = sound
+shown_sound percent (Err code) sound = tt
 
-entry_reading_sound : (seen percent : Bool) (content : List ℕ) → IfOk (reading.entry_reading seen percent content) IsSoundReading
+entry_reading_sound : (seen percent : Bool) (content : List ℕ) → IfOk (reading.entry_reading seen percent content) (IsSoundReading percent)
 unfolding reading.entry_reading
 entry_reading_sound seen percent content =
-    if_ok IsSoundReading (list_any reading.is_bad_byte content) _ _ (λ _. tt)
-    (if_ok IsSoundReading (is_visible content) _ _ (λ _. form_sound seen percent (words (upper content))) tt)
+    if_ok (IsSoundReading percent) (list_any reading.is_bad_byte content) _ _ (λ _. tt)
+    (if_ok (IsSoundReading percent) (is_visible content) _ _ (λ _. form_sound seen percent (words (upper content))) tt)
 
-step_by : (built : Bool) (block : BlockView) → is_built block.statement ≡ built
-    → IfOk {T = ReadingView} {E = ℕ} (if built then Ok (Step block) else Err (shown NotBuilt)) IsSoundReading
-step_by true block is = is
-step_by false block is = tt
+step_by : (percent built : Bool) (block : BlockView) → is_built block.statement ≡ built
+    → IfOk {T = ReadingView} {E = ℕ} (if built then Ok (Step block) else Err (shown NotBuilt)) (IsSoundReading percent)
+step_by percent true block is = is
+step_by percent false block is = tt
 
-step_sound : (read : Result BlockView ℕ) → IfOk (reading.step_of read) IsSoundReading
+step_sound : (percent : Bool) (read : Result BlockView ℕ) → IfOk (reading.step_of read) (IsSoundReading percent)
 unfolding reading.step_of
-step_sound (Ok block) = step_by (is_built block.statement) block refl
-step_sound (Err code) = tt
+step_sound percent (Ok block) = step_by percent (is_built block.statement) block refl
+step_sound percent (Err code) = tt
 
-tokens_sound : (compensation : Bool) (text : List ℕ) (tokens : Result (List Token) ScanFault) → IfOk (reading.tokens_reading compensation text tokens) IsSoundReading
-tokens_sound compensation text (Ok []) = tt
-tokens_sound compensation text (Ok (token ∷ tokens)) = step_sound (statement_of (reading.words_of text (token ∷ tokens)) compensation)
-tokens_sound compensation text (Err (fault.OpenText place)) = tt
-tokens_sound compensation text (Err _) = tt
+tokens_sound : (percent compensation : Bool) (text : List ℕ) (tokens : Result (List Token) ScanFault) → IfOk (reading.tokens_reading compensation text tokens) (IsSoundReading percent)
+tokens_sound percent compensation text (Ok []) = tt
+tokens_sound percent compensation text (Ok (token ∷ tokens)) = step_sound percent (statement_of (reading.words_of text (token ∷ tokens)) compensation)
+tokens_sound percent compensation text (Err (fault.OpenText place)) = tt
+tokens_sound percent compensation text (Err _) = tt
 
-block_sound : (compensation : Bool) (text : List ℕ) → IfOk (reading.block_reading compensation text) IsSoundReading
+block_sound : (percent compensation : Bool) (text : List ℕ) → IfOk (reading.block_reading compensation text) (IsSoundReading percent)
 unfolding reading.block_reading
-block_sound compensation text = tokens_sound compensation text (tokens_of text)
+block_sound percent compensation text = tokens_sound percent compensation text (tokens_of text)
 
-either_sound : (test : Bool) (first second : Result ReadingView ℕ) → IfOk first IsSoundReading → IfOk second IsSoundReading → IfOk (if test then first else second) IsSoundReading
-either_sound true first second sound other = sound
-either_sound false first second other sound = sound
+either_sound : (percent test : Bool) (first second : Result ReadingView ℕ) → IfOk first (IsSoundReading percent) → IfOk second (IsSoundReading percent) → IfOk (if test then first else second) (IsSoundReading percent)
+either_sound percent true first second sound other = sound
+either_sound percent false first second other sound = sound
 
-pub reading_sound : (seen in_programs : Bool) (raw : List ℕ) → IfOk (reading.reading_of seen in_programs raw) IsSoundReading
+pub reading_sound : (seen in_programs : Bool) (raw : List ℕ) → IfOk (reading.reading_of seen in_programs raw) (IsSoundReading (begins_with_percent raw))
 unfolding reading.reading_of
 reading_sound seen in_programs raw =
-    either_sound (nat_lt 512 (length raw)) _ _ tt
-    (either_sound (in_programs && not (begins_with_percent raw)) _ _ (block_sound false (text_of raw))
-    (shown_sound (reading.entry_reading seen (begins_with_percent raw) (before_comment (text_of raw)))
-    (entry_reading_sound seen (begins_with_percent raw) (before_comment (text_of raw)))))
+    let percent : Bool = begins_with_percent raw in
+    either_sound percent (nat_lt 512 (length raw)) _ _ tt
+    (either_sound percent (in_programs && not percent) _ _ (block_sound percent false (text_of raw))
+    (shown_sound percent (reading.entry_reading seen percent (before_comment (text_of raw)))
+    (entry_reading_sound seen percent (before_comment (text_of raw)))))

@@ -1,5 +1,6 @@
 -- The same, one line after the other.
-use Rattle.std.specs.Prelude.{◌≡◌, ℕ, ◌||◌, List, [], ◌∷◌, ◌++◌, Result, Ok, Err, Option, Some, None}
+use Rattle.std.specs.Prelude.{◌≡◌, ℕ, Bool, false, ◌||◌, List, [], ◌∷◌, ◌++◌, Result, Ok, Err, Option, Some, None}
+use Rattle.std.specs.Str.{bytes_eq}
 use Rattle.nc_blocks.specs.Statement.{BlockView}
 use Rattle.nc_faults.specs.declared.Refusal.{Refusal}
 use Rattle.tape_job.specs.declared.fault.JobFault.{JobFault}
@@ -12,7 +13,7 @@ use Rattle.tape_job.specs.Lines.{Line, has_token, begins_with_percent}
 use Rattle.tape_job.specs.Reading.{ReadingView, reading_view, reading_of}
 use Rattle.tape_job.specs.Told.{Told, channel_from, axis_from, geo_from, zone_from, block_from, name_from}
 use Rattle.tape_job.specs.Read.{line_trial, trial, end_trial, answer}
-use Rattle.tape_job.specs.Rules.{rule_of, has_program}
+use Rattle.tape_job.specs.Rules.{rule_of, has_program, structure_fault}
 
 -- a list with one more at its end, if there is one
 abbrev pub with_entry : {A : Type 0} → List A → Option A → List A
@@ -85,3 +86,16 @@ Tells told line (Err NoMemory) new = Unit {0}
 abbrev pub IsLibrary : List (List ℕ × ProgramView) → Option (List ℕ × ProgramView) → Type 0
 IsLibrary resolved None = resolved ≡ []
 IsLibrary resolved (Some last) = has_program resolved last.0 ≡ false
+
+-- the program that is being read: whether it has this name, what one more block breaks in it, and it with that block
+abbrev pub is_last : Option (List ℕ × ProgramView) → List ℕ → Bool
+is_last None name = false
+is_last (Some last) name = bytes_eq name last.0
+
+abbrev pub last_fault : Option (List ℕ × ProgramView) → ℕ × BlockView → Option ℕ
+last_fault None block = None
+last_fault (Some last) block = structure_fault last.1.blocks block
+
+abbrev pub last_with : Option (List ℕ × ProgramView) → ℕ × BlockView → Option (List ℕ × ProgramView)
+last_with None block = None
+last_with (Some last) block = Some (last.0, record { line = last.1.line; blocks = last.1.blocks ++ block ∷ [] })

@@ -1,7 +1,10 @@
 //! The programs of an input that is being read: those that are resolved, and the one whose lines come.
-ghost use Rattle.std.specs.Prelude.{◌≡◌, [], ◌∷◌, ◌++◌, false, OnOk};
+ghost use Rattle.std.specs.Prelude.{◌≡◌, [], ◌∷◌, ◌++◌, false, option_map, OnOk, OnErr, IfErr};
 ghost use Rattle.std.specs.Str.{bytes_eq};
+ghost use Rattle.nc_blocks.specs.Statement.{view_of};
+ghost use Rattle.tape_job.specs.Reading.{FaultIsListed};
 ghost use Rattle.tape_job.specs.Rules.{has_program};
+ghost use Rattle.tape_job.specs.Steps.{is_last, last_fault, last_with, Adds};
 
 use crate::Program;
 use crate::reading::LineFault;
@@ -82,13 +85,16 @@ impl Unresolved {
     fn push(&mut self, line: u32, block: Block) -> Result<(), LineFault>
         ensures exact { Adds (structure_fault self.old.1.blocks (line, view_of block)) (self.old.0, record self.old.1 { blocks = self.old.1.blocks ++ (line, view_of block) ∷ [] }) result self.new }
         ensures listed { IfErr result FaultIsListed }
+        ensures named { self.new.0 ≡ self.old.0 }
     {
         self.blocks.reserve(1)?;
-        if let Err(code) = self.nest.step(line, &block.stmt) {
-            return Err(LineFault::Broken(code));
+        match self.nest.step(line, &block.stmt) {
+            Ok(()) => {
+                self.blocks.push_reserved((line, block));
+                Ok(())
+            }
+            Err(code) => Err(LineFault::Broken(code)),
         }
-        self.blocks.push_reserved((line, block));
-        Ok(())
     }
 
     /// Its name, and the program that it is.
@@ -114,7 +120,8 @@ fn insert_program(
     program: Program,
 ) -> Result<(), AllocError>
     requires { has_program programs.old.entries name ≡ false }
-    ensures { OnOk result (programs.new.entries ≡ programs.old.entries ++ (name, program) ∷ []) }
+    ensures exact { OnOk result (programs.new.entries ≡ programs.old.entries ++ (name, program) ∷ []) }
+    ensures unchanged { OnErr result (programs.new.entries ≡ programs.old.entries) }
 {
     programs.insert(name, program)?;
     Ok(())
@@ -126,6 +133,28 @@ fn has_resolved(programs: &IndexMap<NameText, Program>, name: &NameText) -> bool
     ensures { result ≡ has_program programs.now.entries name.now }
 {
     programs.keys().any(|key| is_same(name, key))
+}
+
+/// Whether there is a last program of this name.
+fn is_last(last: &Option<Unresolved>, name: &NameText) -> bool
+    ensures { result ≡ is_last last.now name.now }
+{
+    match last {
+        Some(last) => last.is_named(name),
+        None => false,
+    }
+}
+
+/// Puts a block behind those of the last program, if there is one, unless it breaks their structures.
+fn push_to(last: &mut Option<Unresolved>, line: u32, block: Block) -> Result<(), LineFault>
+    ensures exact { Adds (last_fault last.old (line, view_of block)) (last_with last.old (line, view_of block)) result last.new }
+    ensures listed { IfErr result FaultIsListed }
+    ensures named { option_map (λ program. program.0) last.new ≡ option_map (λ program. program.0) last.old }
+{
+    match last {
+        Some(last) => last.push(line, block),
+        None => Ok(()),
+    }
 }
 
 /// The programs so far.
@@ -169,23 +198,18 @@ impl Library {
     }
 
     /// Whether a program has this name.
-    #[tactic(auto, using(crate::proofs::LibraryLemmas::has_with_last))]
     pub(crate) fn has(&self, name: &NameText) -> bool
         ensures { result ≡ has_program self.now name.now }
     {
-        match &self.last {
-            Some(last) => has_resolved(&self.resolved, name) || last.is_named(name),
-            None => has_resolved(&self.resolved, name),
-        }
+        has_resolved(&self.resolved, name) || is_last(&self.last, name)
     }
 
     /// Whether it has room for no more.
-    #[tactic(auto, using(crate::proofs::LibraryLemmas::length_with_last))]
     pub(crate) fn is_full(&self) -> bool
         ensures { result ≡ nat_le 256 (length self.now) }
     {
         match &self.last {
-            Some(_) => self.resolved.len() >= 255,
+            Some(_) => self.resolved.len() + 1 >= 256,
             None => self.resolved.len() >= 256,
         }
     }
@@ -202,6 +226,7 @@ impl Library {
     }
 
     /// Begins a program, whose name is new.
+    #[tactic(auto, using(crate::proofs::LibraryLemmas::last_count_is, crate::proofs::LibraryLemmas::new_to_resolved))]
     pub(crate) fn begin(&mut self, alloc: Global, line: u32, name: NameText) -> Result<(), AllocError>
         requires named { has_program self.old name ≡ false }
         requires short { last_count self.old < 2 ^ 32 }
@@ -217,18 +242,15 @@ impl Library {
     }
 
     /// Puts a block behind those of the last program, if there is one, unless it breaks their structures.
-    #[tactic(auto, using(crate::proofs::LibraryLemmas::last_program_is, crate::proofs::LibraryLemmas::with_block_last), unfolding(crate::specs::Rules::structure_rule))]
     pub(crate) fn push(&mut self, line: u32, block: Block) -> Result<(), LineFault>
         ensures exact { Adds (structure_rule self.old (line, view_of block)) (with_block self.old (line, view_of block)) result self.new }
         ensures listed { IfErr result FaultIsListed }
     {
-        match &mut self.last {
-            Some(last) => last.push(line, block),
-            None => Ok(()),
-        }
+        push_to(&mut self.last, line, block)
     }
 
     /// All of them resolved.
+    #[tactic(auto, using(crate::proofs::LibraryLemmas::last_count_is))]
     pub(crate) fn resolve(self, alloc: Global) -> Result<IndexMap<NameText, Program>, AllocError>
         requires { last_count self < 2 ^ 32 }
         ensures { IfOk result (λ programs. programs.entries ≡ self) }

@@ -30,7 +30,7 @@ impl Model for Reader {
 }
 
 impl Reader {
-    ghost use Rattle.std.specs.Prelude.{◌≡◌, ◌<◌, ◌^◌, [], Ok, None, OnOk, IfOk, IfErr, IfSome};
+    ghost use Rattle.std.specs.Prelude.{◌≡◌, ◌<◌, ◌≤◌, ◌+◌, ◌^◌, [], Ok, None, OnOk, IfOk, IfErr, IfSome};
     ghost use Rattle.nc_faults.specs.Texts.{IsRefusalCode};
     ghost use Rattle.tape_job.specs.Reading.{reading_view, reading_of, ReadingFits, FaultIsListed};
     ghost use Rattle.tape_job.specs.Rules.{last_count, rule_of};
@@ -40,10 +40,11 @@ impl Reader {
     ghost use Rattle.tape_job.specs.Steps.{tell, Adds, Admits, Tells};
 
     /// A reader to which no line is told.
-    #[tactic(auto, using(crate::proofs::FitLemmas::nothing_fits), unfolding(crate::specs::Told::told))]
+    #[tactic(auto, using(crate::proofs::FitLemmas::nothing_fits, crate::proofs::FitLemmas::nothing_short), unfolding(crate::specs::Told::told))]
     pub(crate) fn new(alloc: Global) -> Reader
         ensures value { result ≡ told [] }
         ensures fits { BlocksFit result.job }
+        ensures count { last_count result.job.programs ≡ 0 }
     {
         Reader {
             seen: false,
@@ -66,7 +67,7 @@ impl Reader {
     }
 
     /// What a line says that breaks no rule, or the refusal that it gives; of a block it is open whether it breaks the structures of its program.
-    #[tactic(auto, unfolding(crate::specs::Read::line_trial, crate::specs::Rules::refusal))]
+    #[tactic(auto, using(crate::proofs::ReadingLemmas::rule_breaks), unfolding(crate::specs::Read::line_trial, crate::specs::Rules::refusal))]
     fn admit(&self, alloc: Global, number: u32, raw: &[u8]) -> Result<Reading, JobFault>
         ensures exact { Admits self.now (number, raw.now) result }
         ensures fits { IfOk result (λ reading. ReadingFits (reading_view reading)) }
@@ -109,6 +110,7 @@ impl Reader {
         requires short { last_count self.old.job.programs < 2 ^ 32 }
         ensures exact { Tells self.old (number, raw.now) result self.new }
         ensures fits { BlocksFit self.old.job → OnOk result (BlocksFit self.new.job) }
+        ensures count { OnOk result (last_count self.new.job.programs ≤ last_count self.old.job.programs + 1) }
         ensures listed { IfErr result IsListed }
     {
         if let Some(refused) = self.unmatched(raw) {

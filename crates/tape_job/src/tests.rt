@@ -173,3 +173,66 @@ fn counts_the_line_end(rt: HostRuntime) -> Result<(), Fail> {
     }
     Ok(())
 }
+
+#[test]
+fn reads_each_form(rt: HostRuntime) -> Result<(), Fail> {
+    let text =
+        "JOB 1\n%_N_A_MPF\nPROC MAIN\nN10 BEG: GOTOF NEXT\nNEXT: IF R1>2 GOTOB BEG\n\
+         IF R1==1\nMSG(\"a\")\nELSE\nGOTOC NONE\nENDIF\nWHILE R1<3\nR1=R1+1\nENDWHILE\n\
+         REPEAT\nX5\nUNTIL R1>0\nLOOP\nGOTO OUT\nENDLOOP\nOUT: FOR R2=1 TO 3\nL7 P2\n\
+         ENDFOR\nCASE (R1) OF 1 GOTOF FIN 2 GOTOB OUT DEFAULT GOTOF FIN\nREPEAT BEG P=2\n\
+         FIN: REPEATB OUT\nSUB\nRET\n%_N_SUB_SPF\nM17\n";
+    let job = job_of(rt.alloc(), text).ok_or("no job")?;
+    let (_, program) = job.programs.first().ok_or("no program")?;
+    let (line, block) = program.flow.block(24).ok_or("no block")?;
+    assert!(rt; *line == 27 && program.flow.block(25).is_none());
+    match &block.stmt {
+        Stmt::Return => {}
+        _ => return Err(Fail::from("no return")),
+    }
+    Ok(())
+}
+
+#[test]
+fn matches_structures(rt: HostRuntime) {
+    let cases = [
+        (b"JOB 1\n%_N_A_MPF\nG2 $\nENDIF\n".as_slice(), Some((44, 3))),
+        (b"JOB 1\n%_N_A_MPF\nENDIF\nG2 $\n", Some((25, 3))),
+        (b"JOB 1\n%_N_A_MPF\nENDIF X5\n", Some((24, 3))),
+        (b"JOB 1\n%_N_A_MPF\nIF R1\nELSE\nELSE\n", Some((25, 5))),
+        (b"JOB 1\n%_N_A_MPF\nLOOP\nIF R1\n%_N_A\n", Some((25, 4))),
+        (b"JOB 1\n%_N_A_MPF\nLOOP\n%\x01\n", Some((25, 3))),
+        (b"JOB 1\nCHANNEL 1 B START\n%_N_A_MPF\nLOOP\nM30\n", Some((25, 4))),
+        (b"JOB 1\n%_N_A_MPF\nLOOP\nENDLOOP\n%_N_B_MPF\nENDLOOP\n", Some((25, 6))),
+        (b"JOB 1\n%_N_A_MPF\nLOOP\nENDLOOP\n%_N_A_MPF\n", Some((9, 5))),
+    ];
+    for (bytes, refusal) in cases {
+        assert_eq!(rt; refusal_of(rt.alloc(), bytes), refusal, "of {bytes:?}");
+    }
+}
+
+#[test]
+fn counts_open_structures(rt: HostRuntime) -> Result<(), Fail> {
+    let cases = [
+        ("", 16, "ENDLOOP\n", 16, None),
+        ("", 17, "G2 $\n", 1, Some((26, 19))),
+        ("G2 $\n", 17, "", 0, Some((44, 3))),
+    ];
+    for (before, loops, behind, times, refusal) in cases {
+        let mut text = String::new(rt.alloc());
+        text.push_str("JOB 1\n%_N_A_MPF\n")?;
+        text.push_str(before)?;
+        for _ in 0..loops {
+            text.push_str("LOOP\n")?;
+        }
+        for _ in 0..times {
+            text.push_str(behind)?;
+        }
+        assert_eq!(rt;
+            refusal_of(rt.alloc(), text.as_bytes()),
+            refusal,
+            "of {loops} structures"
+        );
+    }
+    Ok(())
+}

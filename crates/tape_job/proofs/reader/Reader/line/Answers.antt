@@ -1,6 +1,9 @@
 use Rattle.tape_job.specs.Reading.{reading_view}
-use Rattle.tape_job.proofs.FitLemmas.{line_fits}
+use Rattle.tape_job.proofs.FitLemmas.{line_fits, line_short}
 use Rattle.tape_job.proofs.reader.Reader.line.Goals as goal
 
 pub returns-in-Ok-clause-fits : goal.returns-in-Ok-clause-fits
-returns-in-Ok-clause-fits c = λ all. line_fits c.args.self.now c.tell.new.self (c.args.number, c.args.raw.now) (reading_view c.in_ok-reading.reading) c.in_ok-reading.ensures.exact.1 c.in_ok-reading.ensures.fits all c.in-Ok.ensures
+returns-in-Ok-clause-fits c = λ all. line_fits c.args.self.now c.tell.new.self (c.args.number, c.args.raw.now) (reading_view c.in_ok-reading.reading) c.in_ok-reading.ensures.exact.0 c.in_ok-reading.ensures.fits all c.in-Ok.ensures.exact.1
+
+pub returns-in-Ok-clause-count : goal.returns-in-Ok-clause-count
+returns-in-Ok-clause-count c = line_short c.args.self.now c.tell.new.self (c.args.number, c.args.raw.now) c.in-Ok.ensures.exact.1
