@@ -1,5 +1,5 @@
 -- The sums of a counted loop.
-use Rattle.std.proofs.Common.{◌≡◌, ◌∙◌, sym, ap, Result, Ok, Err}
+use Rattle.std.proofs.Common.{◌≡◌, ◌∙◌, sym, ap, Ok, Err}
 use Rattle.std.specs.Prelude.{ℤ}
 use Rattle.micro_units.specs.declared.NumFault.{NumFault}
 use Rattle.micro_units.specs.Num.{GivesNum}

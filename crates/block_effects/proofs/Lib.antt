@@ -1,5 +1,10 @@
+pub mod AlarmLaws
 pub mod Counts
+pub mod EffectLaws
 pub mod Ends
+pub mod MotionLaws
 pub mod Moves
+pub mod Positions
 pub mod Rows
+pub mod SlotLaws
 pub mod Steps

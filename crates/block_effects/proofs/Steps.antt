@@ -1,5 +1,5 @@
 -- Views at places, and where the motion of a block leaves the axes.
-use Rattle.std.proofs.Common.{◌≡◌, ◌∙◌, ℕ, zero, suc, ℤ, ◌<◌, ◌≤◌, Bool, true, false, cond, List, [], ◌∷◌, map, length, get_or, Option, option_and_then, unwrap_or, Result, Ok, Err, OnOk, IfOk, All, sym, ap, subst, arith}
+use Rattle.std.proofs.Common.{◌≡◌, ◌∙◌, ℕ, zero, suc, ℤ, ◌<◌, Bool, true, false, cond, List, [], ◌∷◌, map, length, get_or, Option, option_and_then, unwrap_or, Result, Ok, Err, OnOk, IfOk, All, sym, ap, subst, arith}
 use Rattle.std.specs.List.{list_all}
 use Rattle.std.proofs.lemmas.List.Elements.{All-head, All-tail}
 use Rattle.block_effects.specs.Motions.{stands, end_in, ends_from, item_of, is_in_reach, moved, StandsMoved, StandsAtEnd}

@@ -4,7 +4,7 @@ use Rattle.std.specs.Option.{option_or}
 use Rattle.std.specs.Ordering.{int_eq}
 use Rattle.std.specs.Str.{bytes_eq}
 use Rattle.nc_blocks.specs.declared.blocks.JumpTo.{JumpTo}
-use Rattle.nc_blocks.specs.Statement.{WordView, Statement, Empty, WordBlock, Jump, IfJump, If, While, Until, For, EndFor, Case, RepeatFrom, RepeatBlock, Call, Return}
+use Rattle.nc_blocks.specs.Statement.{WordView, Statement, WordBlock, Jump, IfJump, If, While, Until, For, EndFor, Case, RepeatFrom, RepeatBlock, Call, Return}
 use Rattle.nc_control_flow.specs.Moves.{OutcomeView}
 use Rattle.nc_control_flow.specs.Moves as outcome
 use Rattle.nc_expressions.specs.Tree.{Tree}

@@ -86,7 +86,7 @@ operand_read parameters (AxisName bytes) = Ok None
 abbrev pub aux_read : List ℤ → Option Tree → OperandView → Result (Option ℤ) ℕ
 aux_read parameters index operand = option_read parameters index >>= λ _. operand_read parameters operand
 
--- what a word does, or its first alarm. G0 and G1 do nothing here, and a word that is not built yet does not occur
+-- what a word does, or its first alarm: a position is absolute, and words of groups and CR do nothing. A job with others is refused
 unfoldable pub word_done : List (Option ℕ) → Progress → WordView → Result Progress ℕ
 word_done slots p (Assign index tree) = assigned p (given p.parameters index tree)
 word_done slots p (AssignAt at tree) = assigned p (given_at p.parameters at tree)
