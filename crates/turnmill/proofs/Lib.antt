@@ -1,7 +1,6 @@
 pub mod SomeLemmas
 pub mod PositionLemmas
 pub mod RunLaws
-pub mod EndLemmas
 pub mod GrantLemmas
 pub mod Runs
 pub mod CoverLemmas

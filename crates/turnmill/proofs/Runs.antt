@@ -17,7 +17,7 @@ use Rattle.tape_job.specs.Job.{JobView}
 use Rattle.tape_job.specs.SoundJob.{first_owner, IsSoundJob}
 use Rattle.tape_job.specs.declared.job.ChannelLine.{ChannelLine}
 use Rattle.tape_job.specs.declared.job.GeoLine.{GeoLine}
-use Rattle.turnmill.proofs.EndLemmas.{ends_found}
+use Rattle.block_effects.proofs.MotionLaws.{ends_found}
 use Rattle.turnmill.proofs.GrantLemmas.{granted_in_range, granted_own}
 use Rattle.turnmill.proofs.PositionLemmas.{Joins, AllJoin, after_is, left_at-nil, left_at-cons}
 use Rattle.turnmill.proofs.SomeLemmas.{found_passes, All-found}
@@ -58,7 +58,7 @@ at_places P items each = λ k d within. each k (get_or items k d) (slice_get-get
 -- each motion is one of the channel, from where the motions before it left the axes, the first from where they were granted
 motions_follow : (job : JobView) (line : ChannelLine) → Follow (setting_at job line).slots (granted_position job line) (items_of job line)
 unfolding program_run
-motions_follow job line = all_follow (setting_at job line)
+motions_follow job line place item is = (all_follow (setting_at job line)).follows place item is
 
 -- the motions of a channel are straight, and each begins where those before it left its axes, the first where they were granted
 pub granted_join : (job : JobView) (line : ChannelLine) → AllJoin (granted_position job line) (items_of job line)
