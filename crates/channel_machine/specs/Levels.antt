@@ -1,15 +1,19 @@
 -- Where control stands on the levels of calls.
-use Rattle.std.specs.Prelude.{◌≡◌, ℕ, zero, suc, ◌-◌, ◌==◌, nat_lt, true, Bool, if◌then◌else◌, List, [], ◌∷◌, length, slice_get, All, Option, Some, None, Result, Ok, Err}
+use Rattle.std.specs.Prelude.{◌≡◌, ℕ, zero, suc, ◌-◌, ◌==◌, nat_lt, true, false, Bool, if◌then◌else◌, List, [], ◌∷◌, length, map, slice_get, All, Option, Some, None, Result, Ok, Err}
 use Rattle.std.specs.Option.{option_map_or}
 use Rattle.block_effects.specs.Effects.{Course, Goes, Ends, Calls}
+use Rattle.nc_blocks.specs.declared.blocks.Block.{Block}
 use Rattle.nc_blocks.specs.Statement.{BlockView}
+use Rattle.nc_control_flow.specs.declared.flow.Next.{Next}
+use Rattle.nc_control_flow.specs.declared.flow.Next.TheVariants.{At, Past}
+use Rattle.nc_control_flow.specs.Moves.{OutcomeView}
 use Rattle.nc_control_flow.specs.Flow.{next_block}
 use Rattle.nc_control_flow.specs.Nested.{blocks_of}
 use Rattle.nc_control_flow.specs.Repetitions.{Going, behind_block}
 use Rattle.nc_expressions.specs.Value.{◌>>=◌}
 use Rattle.nc_subprograms.specs.declared.Place.{Place}
 use Rattle.nc_subprograms.specs.Stack.{called}
-use Rattle.tape_job.specs.Job.{ProgramView}
+use Rattle.tape_job.specs.Job.{ProgramView, block_entry}
 use Rattle.channel_machine.specs.declared.levels.Levels.{Levels}
 
 -- the lines of a program by its number, and its blocks
@@ -56,16 +60,48 @@ entered programs number passes returns =
     if length (lines_of programs number) == 0 then past_end programs number 0 returns
     else Some (record { here = first_place number (passes - 1); returns = returns })
 
--- where control is behind a block with this course: by its outcome in its program, past the end of its program, or in the program that it calls; alarms 5, 6 and 32
-unfoldable pub followed : List (List ℕ × ProgramView) → Levels → Course → Result (Option Levels) ℕ
-followed programs levels (Goes outcome) =
+-- where control is behind a block that goes on in its program by this outcome; alarms 5 and 32
+abbrev pub going_on : List (List ℕ × ProgramView) → Levels → OutcomeView → Result (Option Levels) ℕ
+going_on programs levels outcome =
     next_block levels.here.pc (program_blocks programs levels.here.program) levels.here.repeats outcome >>= λ going.
     Ok (come programs (gone_on levels.here going) levels.returns)
+
+-- where control is behind a call; alarm 6
+abbrev pub calling : List (List ℕ × ProgramView) → Levels → ℕ → ℕ → Result (Option Levels) ℕ
+calling programs levels number passes = called levels.returns levels.here >>= λ returns. Ok (entered programs number passes returns)
+
+-- where control is behind a block with this course: by its outcome in its program, past the end of its program, or in the program that it calls
+unfoldable pub followed : List (List ℕ × ProgramView) → Levels → Course → Result (Option Levels) ℕ
+followed programs levels (Goes outcome) = going_on programs levels outcome
 followed programs levels Ends = Ok (past_end programs levels.here.program levels.here.passes levels.returns)
-followed programs levels (Calls number passes) =
-    called levels.returns levels.here >>= λ returns. Ok (entered programs number passes returns)
+followed programs levels (Calls number passes) = calling programs levels number passes
 
 -- on each level a block stands
 pub record LevelsFit (programs : List (List ℕ × ProgramView)) (levels : Levels) : Type 0 where
   pub here : has_block programs levels.here ≡ true
   pub returns : All (λ place. has_block programs place ≡ true) levels.returns
+
+-- ---- answers
+
+-- the program of a number, or none where there is no such program
+abbrev pub IsFlowOf : List (List ℕ × ProgramView) → ℕ → Option (List (ℕ × Block)) → Type 0
+IsFlowOf programs number (Some flow) = lines_of programs number ≡ map block_entry flow
+IsFlowOf programs number None = lines_of programs number ≡ []
+
+-- the level stands at the next block, or there is none
+abbrev pub Lands : Next → Place → Bool → Place → Type 0
+Lands (At pc) old result new = (result ≡ true) × (new ≡ record old { pc = pc })
+Lands Past old result new = (result ≡ false) × (new ≡ old)
+
+-- the level is where it has gone, if a block stands there; else it is that of the same program and passes
+pub record GoesBehind (programs : List (List ℕ × ProgramView)) (there : Place) (result : Bool) (new : Place) : Type 0 where
+  pub comes : result ≡ has_block programs there
+  pub arrives : result ≡ true → new ≡ there
+  pub program : new.program ≡ there.program
+  pub passes : new.passes ≡ there.passes
+
+-- the same, or an alarm
+abbrev pub GoesOn : List (List ℕ × ProgramView) → Result Going ℕ → Place → Result Bool ℕ → Place → Type 0
+GoesOn programs (Ok going) old (Ok result) new = GoesBehind programs (gone_on old going) result new
+GoesOn programs (Ok going) old (Err code) new = ⊥
+GoesOn programs (Err code) old result new = result ≡ Err code

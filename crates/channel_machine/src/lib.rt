@@ -2,7 +2,9 @@
 //! repetitions and calls, moves its axes, and ends or alarms.
 #![tactic(auto)]
 
+mod laws;
 mod levels;
 mod local;
 
+pub use laws::{alarms_are_listed, motions_are_few, motions_are_sound, motions_follow_one_another};
 pub use local::Local;

@@ -4,3 +4,4 @@ pub mod Matched
 pub mod Indexed
 pub mod Resolving
 pub mod Nesting
+pub mod Alarms

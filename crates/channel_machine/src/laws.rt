@@ -1,0 +1,33 @@
+//! Laws of segments.
+
+ghost use Rattle.std.specs.Prelude.{◌≡◌, ◌≤◌, ℕ, All, List, Some, length, slice_get, take};
+ghost use Rattle.path_geometry.specs.Motions.{IsInRange, IsSound};
+ghost use Rattle.block_effects.specs.Motions.{IsMotionOf, left_at};
+ghost use Rattle.sync_types.specs.Items.{motion_of};
+ghost use Rattle.sync_types.specs.declared.Item.{Item};
+ghost use Rattle.channel_machine.specs.Run.{Setting, begun, segment_of, stands_at_start, IsListedAction};
+
+/// A law: each motion of a channel's first segment is one straight line of axes in the channel's slots, each once, from
+/// where the motions before it left it to an end in range.
+pub fn motions_follow_one_another()
+    ensures { (s : Setting) (place : ℕ) (item : Item)
+        → slice_get (segment_of s (begun s)).items place ≡ Some item
+        → IsMotionOf s.slots (left_at (take place (segment_of s (begun s)).items) (stands_at_start s.grant)) (motion_of item) }
+{}
+
+/// A law: the motions of a channel's first segment are sound, where its axes start in range.
+pub fn motions_are_sound()
+    ensures { (s : Setting)
+        → ((axis : ℕ) → IsInRange (stands_at_start s.grant axis))
+        → All (λ item. IsSound (motion_of item)) (segment_of s (begun s)).items }
+{}
+
+/// A law: a channel's first segment has at most 100,000 motions.
+pub fn motions_are_few()
+    ensures { (s : Setting) → length (segment_of s (begun s)).items ≤ 100000 }
+{}
+
+/// A law: an alarm that ends a segment is in the table of alarms.
+pub fn alarms_are_listed()
+    ensures { (s : Setting) → IsListedAction (segment_of s (begun s)).step.action }
+{}
