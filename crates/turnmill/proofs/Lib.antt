@@ -1,6 +1,5 @@
 pub mod SomeLemmas
 pub mod PositionLemmas
-pub mod RunLaws
 pub mod GrantLemmas
 pub mod Runs
 pub mod CoverLemmas

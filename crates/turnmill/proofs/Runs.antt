@@ -6,7 +6,7 @@ use Rattle.std.proofs.lemmas.List.Elements.{All-weaker}
 use Rattle.std.proofs.lemmas.Option.{slice_get-get_or}
 use Rattle.axis_sets.specs.Positions.{position_of}
 use Rattle.block_effects.specs.Motions.{left_at, IsMotionOf}
-use Rattle.turnmill.proofs.RunLaws.{all_follow, few_items, items_sound, end_listed}
+use Rattle.channel_machine.proofs.RunLaws.{all_follow, few_items, items_sound, end_listed}
 use Rattle.channel_machine.specs.Run.{slot_line, slot_axis, IsListedAction}
 use Rattle.path_geometry.specs.Motions.{axes_of, IsInRange}
 use Rattle.sync_types.specs.Items.{motion_of}
