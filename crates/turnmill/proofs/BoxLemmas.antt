@@ -5,12 +5,13 @@ use Rattle.std.proofs.Math.ListN.{get_or-eq_default}
 use Rattle.std.proofs.lemmas.Bool.Decides.{eqb_tells}
 use Rattle.std.proofs.lemmas.List.Elements.{All-tail}
 use Rattle.tape_job.specs.declared.job.ZoneLine.{ZoneLine}
-use Rattle.channel_machine.specs.Motions.{positions_in}
+use Rattle.turnmill.specs.Channels.{positions_in}
 use Rattle.path_geometry.specs.Motions.{axes_of}
 use Rattle.turnmill.specs.ZoneBoxes.{zone_box, low_in, high_in, after, moves_zone, walk, boxes_of, Waiting, Moving, PlaceBox, moving_box, standing_box, shown_box, boxes_during, moving_boxes}
-use Rattle.channel_machine.specs.declared.motions.Item.{Item}
+use Rattle.sync_types.specs.declared.Item.{Item}
 use Rattle.turnmill.specs.declared.zone_boxes.ZoneBox.{ZoneBox}
 use Rattle.turnmill.proofs.Positions.{le_or_lt}
+use Rattle.sync_types.specs.Items.{motion_of}
 
 -- with no ranges every axis stands
 pub box_standing : (zone : ZoneLine) (axes : List (ℕ × ℤ × ℤ)) (at : ℕ → ℤ) → axes ≡ []
@@ -30,11 +31,11 @@ find_beyond (e ∷ ends) axis n within beyond = elim (eqb_tells e.0 axis) [
 ]
 
 -- where every axis of the row is put where a motion leaves it, so is every axis
-pub all_after : (item : Item) (old new : List ℤ) → All (λ e. e.0 < 16) (axes_of item.motion) → length old ≡ 16 → length new ≡ 16
+pub all_after : (item : Item) (old new : List ℤ) → All (λ e. e.0 < 16) (axes_of (motion_of item)) → length old ≡ 16 → length new ≡ 16
     → ((k : ℕ) → k < 16 → positions_in new k ≡ after item (positions_in old) k) → (k : ℕ) → positions_in new k ≡ after item (positions_in old) k
 unfolding after
 all_after item old new within few many put k = elim (le_or_lt 16 k) [
-  | inl beyond ↦ rw (find_beyond (axes_of item.motion) k 16 within beyond) (get_or-eq_default new (pos 0) (omega arith) ∙ sym (get_or-eq_default old (pos 0) (omega arith)))
+  | inl beyond ↦ rw (find_beyond (axes_of (motion_of item)) k 16 within beyond) (get_or-eq_default new (pos 0) (omega arith) ∙ sym (get_or-eq_default old (pos 0) (omega arith)))
   | inr here ↦ put k here
 ]
 

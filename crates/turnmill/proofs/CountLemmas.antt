@@ -14,13 +14,13 @@ use Rattle.turnmill.proofs.JudgeLemmas.{IsHeld, AllHeld, all_held, overlap_is}
 use Rattle.turnmill.proofs.Runs.{good_run}
 use Rattle.turnmill.specs.Channels.{IsRunnable, start_position, items_of}
 use Rattle.turnmill.specs.Clash.{own_clock, zones_in_order, pairs_by_group, zone_pairs, BoxPlace, box_pairs, stretch_pairs, pairs_of_zones, compared_pairs, pair_count}
-use Rattle.channel_machine.specs.Motions.{left_at}
+use Rattle.block_effects.specs.Motions.{left_at}
 use Rattle.turnmill.specs.PairCounts.{count_in_stretches, count_against, count_of_zones, count_of}
 use Rattle.turnmill.specs.ShownStretches.{shown_stretch, held_zone, HeldView, do_overlap}
 use Rattle.turnmill.specs.Stretches.{Stretch, spans_of, stretches_from, channel_line, stretches_of}
 use Rattle.turnmill.specs.StretchView.{StretchView}
 use Rattle.turnmill.specs.ZoneBoxes.{PlaceBox, Opened, Waiting, Moving, closed, next_open, walk, boxes_of, shown_box, after, moves_zone, has_axis}
-use Rattle.channel_machine.specs.declared.motions.Item.{Item}
+use Rattle.sync_types.specs.declared.Item.{Item}
 
 -- ---- sums
 

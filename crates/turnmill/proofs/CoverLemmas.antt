@@ -11,11 +11,12 @@ use Rattle.tape_job.specs.declared.job.ZoneLine.{ZoneLine}
 use Rattle.turnmill.proofs.PositionLemmas.{Joins, AllJoin, after_is, left_at-nil, left_at-cons}
 use Rattle.turnmill.proofs.SomeLemmas.{SomeOf}
 use Rattle.path_geometry.specs.Path.{Point, IsOnPath, along}
-use Rattle.channel_machine.specs.Motions.{end_in, left_at, IsStraight}
+use Rattle.block_effects.specs.Motions.{end_in, left_at, IsStraight}
 use Rattle.turnmill.specs.SmallSteps.{StandsAt, IsAlong, IsAtPlace}
 use Rattle.path_geometry.specs.Motions.{axes_of}
 use Rattle.turnmill.specs.ZoneBoxes.{after, has_axis, moves_zone, PlaceBox, Opened, Waiting, Moving, close, closed, next_open, walk, boxes_of}
-use Rattle.channel_machine.specs.declared.motions.Item.{Item}
+use Rattle.sync_types.specs.declared.Item.{Item}
+use Rattle.sync_types.specs.Items.{motion_of}
 
 -- ---- the ends of a path
 
@@ -33,11 +34,11 @@ stays_there item at axis none = after_is item at axis ∙ by_end (end_in axis it
 
 -- the start and the end of a motion that joins are points of its path
 pub along_at_start : (at : ℕ → ℤ) (item : Item) (under : ℕ) → Joins at item → 0 < under → IsAlong at item (standing at under)
-along_at_start at item under joins some = record { path = by_motion item.motion joins.0 starts; others = λ axis none. refl }
+along_at_start at item under joins some = record { path = by_motion (motion_of item) joins.0 starts; others = λ axis none. refl }
   where
-    starts : All (λ e. at e.0 *ℤ pos under ≡ e.1 *ℤ pos under) (axes_of item.motion)
+    starts : All (λ e. at e.0 *ℤ pos under ≡ e.1 *ℤ pos under) (axes_of (motion_of item))
     starts = All-weaker (λ e. (e.1 ≡ at e.0) × (e.2 ≡ after item at e.0)) (λ e. at e.0 *ℤ pos under ≡ e.1 *ℤ pos under)
-        (λ e joined. ap (λ x. x *ℤ pos under) (sym joined.0)) (axes_of item.motion) joins.1
+        (λ e joined. ap (λ x. x *ℤ pos under) (sym joined.0)) (axes_of (motion_of item)) joins.1
 
     by_motion : (motion : Motion) → IsStraight motion → All (λ e. at e.0 *ℤ pos under ≡ e.1 *ℤ pos under) (axes_of motion) → IsOnPath motion (standing at under)
     by_motion (Line ends) straight begun = start_on_line ends (standing at under) some begun
@@ -45,11 +46,11 @@ along_at_start at item under joins some = record { path = by_motion item.motion 
     by_motion (Kind.Arc arc) straight begun = absurd straight
 
 pub along_at_end : (at : ℕ → ℤ) (item : Item) (under : ℕ) → Joins at item → 0 < under → IsAlong at item (standing (after item at) under)
-along_at_end at item under joins some = record { path = by_motion item.motion joins.0 ends_there; others = λ axis none. ap (λ x. x *ℤ pos under) (stays_there item at axis none) }
+along_at_end at item under joins some = record { path = by_motion (motion_of item) joins.0 ends_there; others = λ axis none. ap (λ x. x *ℤ pos under) (stays_there item at axis none) }
   where
-    ends_there : All (λ e. after item at e.0 *ℤ pos under ≡ e.2 *ℤ pos under) (axes_of item.motion)
+    ends_there : All (λ e. after item at e.0 *ℤ pos under ≡ e.2 *ℤ pos under) (axes_of (motion_of item))
     ends_there = All-weaker (λ e. (e.1 ≡ at e.0) × (e.2 ≡ after item at e.0)) (λ e. after item at e.0 *ℤ pos under ≡ e.2 *ℤ pos under)
-        (λ e joined. ap (λ x. x *ℤ pos under) (sym joined.1)) (axes_of item.motion) joins.1
+        (λ e joined. ap (λ x. x *ℤ pos under) (sym joined.1)) (axes_of (motion_of item)) joins.1
 
     by_motion : (motion : Motion) → IsStraight motion → All (λ e. after item at e.0 *ℤ pos under ≡ e.2 *ℤ pos under) (axes_of motion) → IsOnPath motion (standing (after item at) under)
     by_motion (Line ends) straight ended = end_on_line ends (standing (after item at) under) some ended
@@ -61,7 +62,7 @@ along_at_end at item under joins some = record { path = by_motion item.motion jo
 -- the zone's axes are at the point where a box has them: at its positions where it stands, or as at some point of its motion, which is straight and begins there
 abbrev pub IsCovered : ZoneLine → (ℕ → ℤ) → Option Item → Point → Type 0
 IsCovered zone at None point = (axis : ℕ) → has_axis zone axis ≡ true → StandsAt point axis (at axis)
-IsCovered zone at (Some item) point = IsStraight item.motion × (other : Point) × IsAlong at item other × (other.under ≡ point.under) × ((axis : ℕ) → has_axis zone axis ≡ true → other.top axis ≡ point.top axis)
+IsCovered zone at (Some item) point = IsStraight (motion_of item) × (other : Point) × IsAlong at item other × (other.under ≡ point.under) × ((axis : ℕ) → has_axis zone axis ≡ true → other.top axis ≡ point.top axis)
 
 -- the box holds the place and covers the point
 pub record Covers (zone : ZoneLine) (place : ℕ) (point : Point) (box : PlaceBox) : Type 0 where
@@ -130,8 +131,8 @@ apart_axes zone axis has (e ∷ ends) none = by_test (has_axis zone e.0) refl no
 not_moved : (zone : ZoneLine) (item : Item) (axis : ℕ) → moves_zone zone item ≡ false → has_axis zone axis ≡ true → IsNone (end_in axis item)
 unfolding moves_zone end_in
 not_moved zone item axis none has =
-    let nothing : find (λ (e : ℕ × ℤ × ℤ). e.0 == axis) (axes_of item.motion) ≡ None =
-    not_found (λ e. e.0 == axis) (axes_of item.motion) (apart_axes zone axis has (axes_of item.motion) none) in
+    let nothing : find (λ (e : ℕ × ℤ × ℤ). e.0 == axis) (axes_of (motion_of item)) ≡ None =
+    not_found (λ e. e.0 == axis) (axes_of (motion_of item)) (apart_axes zone axis has (axes_of (motion_of item)) none) in
     rw nothing refl
 
 fits_on : (zone : ZoneLine) (current : Opened) (at : ℕ → ℤ) (item : Item) → moves_zone zone item ≡ false → Fits zone current at → Fits zone current (after item at)
@@ -216,7 +217,7 @@ box_covers zone at items joins (suc m) point there = by_item (slice_get items m)
         → (0 < point.under) × SomeOf (Covers zone (suc m) point) (walk zone 1 (Waiting 0 at) at items)
     by_item None found none = absurd none
     by_item (Some item) found on =
-        let some : 0 < point.under = fraction_of item.motion on.path in
+        let some : 0 < point.under = fraction_of (motion_of item) on.path in
         (some, at_motion zone point some 1 (Waiting 0 at) at items joins (λ axis has. refl) (omega arith) m (suc m) (omega arith) item found on)
 
 -- the one box of a zone whose holder stands covers it

@@ -5,6 +5,7 @@ use Rattle.std.proofs.lemmas.List.Elements.{All-weaker}
 use Rattle.std.specs.Option.{option_map_or}
 use Rattle.path_geometry.specs.Path.{Point}
 use Rattle.tape_job.specs.Job.{JobView}
+use Rattle.tape_job.specs.SoundJob.{IsSoundJob}
 use Rattle.tape_job.specs.declared.job.ChannelLine.{ChannelLine}
 use Rattle.turnmill.proofs.CoverLemmas.{standing, along_at_end}
 use Rattle.turnmill.proofs.NoJumps.{has_acted}
@@ -14,12 +15,13 @@ use Rattle.turnmill.proofs.StateLemmas.{WellPlaced, well_placed, WellPlaced-open
 use Rattle.turnmill.proofs.ZoneLemmas.{some_at}
 use Rattle.turnmill.specs.Channels.{start_position, items_of}
 use Rattle.turnmill.specs.Safety.{CanEnd}
-use Rattle.channel_machine.specs.Motions.{left_at}
+use Rattle.block_effects.specs.Motions.{left_at}
 use Rattle.turnmill.specs.SmallSteps.{IsAlong, IsEndOf, IsAtPlace, IsAtEnd, Spot, State, opening, span_of, has_ended, is_running, motions_of, board_position, present, SmallStep, Advance, Act, after_step, IsLawful, AreLawful, reached}
 use Rattle.turnmill.specs.Stretches.{channel_line}
 use Rattle.path_geometry.specs.Motions.{axes_of}
 use Rattle.turnmill.specs.ZoneBoxes.{after}
-use Rattle.channel_machine.specs.declared.motions.Item.{Item}
+use Rattle.sync_types.specs.declared.Item.{Item}
+use Rattle.sync_types.specs.Items.{motion_of}
 
 -- a place is at most the number of the motions
 place_within : (at : ℕ → ℤ) (items : List Item) (place : ℕ) (point : Point) → IsAtPlace at items place point → place ≤ length items
@@ -31,13 +33,13 @@ place_within at items (suc n) point there = within items n (λ item. IsAlong (le
     within (x ∷ xs) zero P some = omega arith
     within (x ∷ xs) (suc k) P some = let rest = within xs k P some in omega arith
 
-motions_join_all : (job : JobView) (channel : ℕ) → AllJoin (start_position job) (motions_of job channel)
+motions_join_all : (job : JobView) → IsSoundJob job → (channel : ℕ) → AllJoin (start_position job) (motions_of job channel)
 unfolding motions_of
-motions_join_all job channel = by_line (channel_line job channel)
+motions_join_all job sound channel = by_line (channel_line job channel)
   where
     by_line : (o : Option ChannelLine) → AllJoin (start_position job) (option_map_or (items_of job) o [])
     by_line None = tt
-    by_line (Some line) = motions_join job line
+    by_line (Some line) = motions_join job sound line
 
 -- ---- the end of the last motion
 
@@ -56,7 +58,7 @@ last_end at items joins place long = of_item (some_at items place (omega arith))
             sym long,
             subst (λ (o : Option Item). IfSome o (λ i. IsEndOf i (standing (after item before) 1))) (sym (ap (slice_get items) less ∙ is))
                 (All-weaker (λ e. (e.1 ≡ before e.0) × (e.2 ≡ after item before e.0)) (λ e. after item before e.0 *ℤ pos 1 ≡ e.2 *ℤ pos 1)
-                (λ e at_end. ap (λ x. x *ℤ pos 1) (sym at_end.1)) (axes_of item.motion) joined.1),
+                (λ e at_end. ap (λ x. x *ℤ pos 1) (sym at_end.1)) (axes_of (motion_of item)) joined.1),
           ),
         )
 
@@ -96,8 +98,8 @@ advances job state placed channel running place point on there end =
     (subst (λ (s : Spot). IsAtEnd (motions_of job channel) s.place s.point) (sym (is_there job state channel place point)) end) in
     (step ∷ rest.0, ((running, on, lawful), rest.1), rest.2)
 
-goes_on : (job : JobView) (state : State) → WellPlaced job state → (channel : ℕ) → IsTrue (is_running job state channel) → CanEndFrom job state channel
-goes_on job state placed channel running = by_length (length (motions_of job channel)) refl
+goes_on : (job : JobView) → IsSoundJob job → (state : State) → WellPlaced job state → (channel : ℕ) → IsTrue (is_running job state channel) → CanEndFrom job state channel
+goes_on job sound state placed channel running = by_length (length (motions_of job channel)) refl
   where
     here : IsAtPlace (start_position job) (motions_of job channel) (present job state channel).place (present job state channel).point
     here = run_place job state channel placed (not_ended job state channel running)
@@ -113,9 +115,9 @@ goes_on job state placed channel running = by_length (length (motions_of job cha
         no_last [] long k = tt
         no_last (item ∷ items) long k = absurd cc
     by_length (suc n) long =
-        let last = last_end (start_position job) (motions_of job channel) (motions_join_all job channel) n long in
+        let last = last_end (start_position job) (motions_of job channel) (motions_join_all job sound channel) n long in
         advances job state placed channel running (suc n) last.0 (omega (arith, within)) last.1 last.2
 
-pub can_end : (job : JobView) → CanEnd job
+pub can_end : (job : JobView) → IsSoundJob job → CanEnd job
 unfolding CanEnd CanEndFrom
-can_end job steps lawful channel running = goes_on job (reached opening steps) (well_placed job opening steps (WellPlaced-opening job) lawful) channel running
+can_end job sound steps lawful channel running = goes_on job sound (reached opening steps) (well_placed job opening steps (WellPlaced-opening job) lawful) channel running

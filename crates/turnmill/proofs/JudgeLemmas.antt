@@ -15,22 +15,23 @@ use Rattle.tape_job.specs.Job.{JobView}
 use Rattle.tape_job.specs.declared.job.ChannelLine.{ChannelLine}
 use Rattle.tape_job.specs.declared.job.ZoneLine.{ZoneLine}
 use Rattle.turnmill.proofs.SomeLemmas.{found_passes}
-use Rattle.turnmill.proofs.Runs.{motions_join}
+use Rattle.turnmill.proofs.Runs.{granted_join}
 use Rattle.turnmill.proofs.StraightLemmas.{OfItem, MovesStraight, AllMoveStraight, joined_straight, boxes_straight}
 use Rattle.turnmill.specs.ChannelRun.{RunView, run_of, runs_of, run_in}
-use Rattle.turnmill.specs.Channels.{start_position, items_of}
+use Rattle.turnmill.specs.Channels.{start_position, granted_position, items_of}
 use Rattle.turnmill.specs.FirstAnswer.{first_some}
-use Rattle.channel_machine.specs.Motions.{left_at, IsStraight}
+use Rattle.block_effects.specs.Motions.{left_at, IsStraight}
 use Rattle.turnmill.specs.Clash.{own_clock, is_open_at, may_overlap, zones_in_order, pairs_by_group, zone_pairs, BoxPlace, box_pairs, stretch_pairs, pairs_of_zones, compared_pairs, boxes_meet, pair_meets, name_of, pairs_verdict}
 use Rattle.turnmill.specs.ShownStretches.{run_stretch, end_stretch, shown_stretch, held_zone, same_kind, do_overlap, first_touched, first_lines, named, first_in_stretches, first_against, first_of_zones, first_meeting, verdict_by}
 use Rattle.turnmill.specs.Stretches.{Event, Stretch, spans_of, stretches_from, channel_line, stretches_of}
 use Rattle.turnmill.specs.StretchView.{StretchView}
 use Rattle.turnmill.specs.ZoneBoxes.{PlaceBox, zone_box, low_in, high_in, boxes_of, shown_box, moving_box, standing_box, piece_boxes, moves_zone, has_axis}
-use Rattle.channel_machine.specs.declared.motions.Item.{Item}
+use Rattle.sync_types.specs.declared.Item.{Item}
 use Rattle.turnmill.specs.declared.stretches.PlaceName.{PlaceName}
 use Rattle.turnmill.specs.declared.stretches.StretchKind.{StretchKind}
 use Rattle.turnmill.specs.declared.stretches.StretchKind.TheVariants.{Run, End}
 use Rattle.turnmill.specs.declared.zone_boxes.ZoneBox.{ZoneBox}
+use Rattle.sync_types.specs.Items.{motion_of}
 
 -- ---- the first answer
 
@@ -97,7 +98,7 @@ one_piece zone line box moves = go box.motion refl moves
     go : (m : Option Item) → box.motion ≡ m → OfItem m → piece_boxes zone 0 box ≡ (shown_box zone line box).cover ∷ []
     go None e straight = rw e refl
     go (Some item) e straight = rw e
-        (ap (λ (pieces : List RangesView). map (λ ranges. zone_box zone (low_in ranges box.at) (high_in ranges box.at)) pieces) (whole_motion item.motion straight))
+        (ap (λ (pieces : List RangesView). map (λ ranges. zone_box zone (low_in ranges box.at) (high_in ranges box.at)) pieces) (whole_motion (motion_of item) straight))
 
 or_false : (b : Bool) → (b || false) ≡ b
 or_false true = refl
@@ -266,7 +267,7 @@ all_held job zone = by_holder zone.holder refl
     by_line : (c : ℕ) (o : Option ChannelLine) → AllHeld (option_map_or (λ line. stretches_from zone c 0 (spans_of job line)) o [])
     by_line c None = tt
     by_line c (Some line) = (
-      record { channel = c; held = refl; begins = refl; ends = refl; straight = boxes_straight zone (start_position job) (items_of job line) (joined_straight (start_position job) (items_of job line) (motions_join job line)) },
+      record { channel = c; held = refl; begins = refl; ends = refl; straight = boxes_straight zone (start_position job) (items_of job line) (joined_straight (granted_position job line) (items_of job line) (granted_join job line)) },
       (record { channel = c; held = refl; begins = refl; ends = refl; straight = boxes_straight zone (left_at (items_of job line) (start_position job)) [] tt }, tt),
     )
 

@@ -1,5 +1,6 @@
 pub mod SomeLemmas
 pub mod PositionLemmas
+pub mod GrantLemmas
 pub mod Runs
 pub mod CoverLemmas
 pub mod PieceLemmas

@@ -6,6 +6,7 @@ use Rattle.std.specs.Option.{option_map_or}
 use Rattle.number_laws.specs.Fractions.{IsSame, whole}
 use Rattle.path_geometry.specs.Path.{Point}
 use Rattle.tape_job.specs.Job.{JobView}
+use Rattle.tape_job.specs.SoundJob.{IsSoundJob}
 use Rattle.tape_job.specs.declared.job.ChannelLine.{ChannelLine}
 use Rattle.turnmill.proofs.PositionLemmas.{begins_at_left, after_is, left_at-nil, left_at-cons}
 use Rattle.turnmill.proofs.SomeLemmas.{found_passes, All-found}
@@ -13,24 +14,25 @@ use Rattle.turnmill.proofs.Runs.{motions_join}
 use Rattle.turnmill.proofs.StateLemmas.{WellPlaced, WellPlaced-step, well_placed, WellPlaced-opening, not_ended, run_place, board_last, end_place, one_under}
 use Rattle.turnmill.specs.Channels.{start_position, items_of}
 use Rattle.turnmill.specs.Safety.{axis_owner, axis_position, fraction_of, NoJump}
-use Rattle.channel_machine.specs.Motions.{end_in, left_at}
+use Rattle.block_effects.specs.Motions.{end_in, left_at}
 use Rattle.turnmill.specs.SmallSteps.{StandsAt, IsAlong, IsEndOf, IsAtPlace, IsAtEnd, Spot, State, opening, span_of, has_ended, motions_of, board_position, beginning, present, Act, after_step, IsLawful, reached}
 use Rattle.turnmill.specs.Stretches.{channel_line}
 use Rattle.path_geometry.specs.Motions.{axes_of}
 use Rattle.turnmill.specs.ZoneBoxes.{after}
-use Rattle.channel_machine.specs.declared.motions.Item.{Item}
+use Rattle.sync_types.specs.declared.Item.{Item}
+use Rattle.sync_types.specs.Items.{motion_of}
 
 -- ---- between motions
 
-pub begins_there : (job : JobView) (channel place : ℕ) (item : Item) → slice_get (motions_of job channel) place ≡ Some item
-    → All (λ e. e.1 ≡ left_at (take place (motions_of job channel)) (start_position job) e.0) (axes_of item.motion)
+pub begins_there : (job : JobView) → IsSoundJob job → (channel place : ℕ) (item : Item) → slice_get (motions_of job channel) place ≡ Some item
+    → All (λ e. e.1 ≡ left_at (take place (motions_of job channel)) (start_position job) e.0) (axes_of (motion_of item))
 unfolding motions_of
-begins_there job channel place item is = by_line (channel_line job channel) is
+begins_there job sound channel place item is = by_line (channel_line job channel) is
   where
     by_line : (o : Option ChannelLine) → slice_get (option_map_or (items_of job) o []) place ≡ Some item
-        → All (λ e. e.1 ≡ left_at (take place (option_map_or (items_of job) o [])) (start_position job) e.0) (axes_of item.motion)
+        → All (λ e. e.1 ≡ left_at (take place (option_map_or (items_of job) o [])) (start_position job) e.0) (axes_of (motion_of item))
     by_line None is = absurd cc
-    by_line (Some line) is = begins_at_left (start_position job) (items_of job line) (motions_join job line) place item is
+    by_line (Some line) is = begins_at_left (start_position job) (items_of job line) (motions_join job sound line) place item is
 
 -- ---- at the end of the last motion
 
@@ -53,13 +55,13 @@ left_at-last (first ∷ next ∷ items) at (suc n) item long is axis =
 at_its_end : (item : Item) (positions : ℕ → ℤ) (point : Point) → IsAlong positions item point → IsEndOf item point → (axis : ℕ)
     → StandsAt point axis (unwrap_or (end_in axis item) (positions axis))
 unfolding end_in
-at_its_end item positions point along ends axis = by_end (find (λ e. e.0 == axis) (axes_of item.motion)) refl
+at_its_end item positions point along ends axis = by_end (find (λ e. e.0 == axis) (axes_of (motion_of item))) refl
   where
-    by_end : (o : Option (ℕ × ℤ × ℤ)) → find (λ e. e.0 == axis) (axes_of item.motion) ≡ o → StandsAt point axis (unwrap_or (option_map (λ (e : ℕ × ℤ × ℤ). e.2) o) (positions axis))
+    by_end : (o : Option (ℕ × ℤ × ℤ)) → find (λ e. e.0 == axis) (axes_of (motion_of item)) ≡ o → StandsAt point axis (unwrap_or (option_map (λ (e : ℕ × ℤ × ℤ). e.2) o) (positions axis))
     by_end None none = along.others axis (rw none refl)
     by_end (Some e) found =
-        let same : e.0 ≡ axis = eqb-true e.0 axis (found_passes (λ (f : ℕ × ℤ × ℤ). f.0 == axis) (axes_of item.motion) e found) in
-        subst (λ a. StandsAt point a e.2) same (All-found (λ f. StandsAt point f.0 f.2) (λ f. f.0 == axis) (axes_of item.motion) e ends found)
+        let same : e.0 ≡ axis = eqb-true e.0 axis (found_passes (λ (f : ℕ × ℤ × ℤ). f.0 == axis) (axes_of (motion_of item)) e found) in
+        subst (λ a. StandsAt point a e.2) same (All-found (λ f. StandsAt point f.0 f.2) (λ f. f.0 == axis) (axes_of (motion_of item)) e ends found)
 
 -- at the end of its last motion a channel has its axes where its motions leave them
 stands_at_end : (items : List Item) (at : ℕ → ℤ) (place : ℕ) (point : Point) → IsAtPlace at items place point → IsAtEnd items place point → (axis : ℕ)
@@ -148,8 +150,8 @@ jumps_nowhere job state placed channel lawful axis = by_owner (axis_owner job st
     by_owner None = refl
     by_owner (Some owner) = by_channel owner (cases_eq owner channel)
 
-pub never_jumps : (job : JobView) → NoJump job
-never_jumps job = record {
-  between = begins_there job;
+pub never_jumps : (job : JobView) → IsSoundJob job → NoJump job
+never_jumps job sound = record {
+  between = begins_there job sound;
   at_act = λ steps lawful channel act axis. jumps_nowhere job (reached opening steps) (well_placed job opening steps (WellPlaced-opening job) lawful) channel act axis;
 }

@@ -17,11 +17,12 @@ use Rattle.tape_job.specs.declared.job.ZoneLine.{ZoneLine}
 use Rattle.turnmill.proofs.CoverLemmas.{Covers, IsCovered}
 use Rattle.turnmill.proofs.SomeLemmas.{SomeOf, SomeOf-weaker, SomeOf-map, found_passes, All-found}
 use Rattle.path_geometry.specs.Path.{Point, IsOnPath}
-use Rattle.channel_machine.specs.Motions.{end_in, IsStraight}
+use Rattle.block_effects.specs.Motions.{end_in, IsStraight}
 use Rattle.turnmill.specs.SmallSteps.{StandsAt, IsAlong}
 use Rattle.path_geometry.specs.Motions.{axes_of}
 use Rattle.turnmill.specs.ZoneBoxes.{has_axis, PlaceBox, zone_box, low_in, high_in, piece_boxes}
-use Rattle.channel_machine.specs.declared.motions.Item.{Item}
+use Rattle.sync_types.specs.declared.Item.{Item}
+use Rattle.sync_types.specs.Items.{motion_of}
 
 -- ---- the pieces of a motion
 
@@ -62,7 +63,7 @@ in_itself : (z t : ℤ) (n : ℕ) → t ≡ z *ℤ pos n → IsIn z z t n
 in_itself z t n is = record { above = omega (arith, ints); below = omega (arith, ints) }
 
 -- at a point of a motion that a piece holds, each axis is within the piece's bounds, or stands
-within_piece : (at : ℕ → ℤ) (item : Item) (point : Point) (ranges : RangesView) → IsAlong at item point → Hold ranges point → HasAxesOf item.motion ranges
+within_piece : (at : ℕ → ℤ) (item : Item) (point : Point) (ranges : RangesView) → IsAlong at item point → Hold ranges point → HasAxesOf (motion_of item) ranges
     → (axis : ℕ) → IsIn (low_in ranges at axis) (high_in ranges at axis) (point.top axis) point.under
 unfolding low_in high_in end_in
 within_piece at item point ranges along hold has axis = by_range (find (λ r. r.0 == axis) ranges.axes) refl
@@ -70,7 +71,7 @@ within_piece at item point ranges along hold has axis = by_range (find (λ r. r.
     by_range : (o : Option (ℕ × ℤ × ℤ)) → find (λ r. r.0 == axis) ranges.axes ≡ o
         → IsIn (option_map_or (λ r. r.1) o (at axis)) (option_map_or (λ r. r.2) o (at axis)) (point.top axis) point.under
     by_range None is =
-        let stands : StandsAt point axis (at axis) = along.others axis (let nothing : find (λ (e : ℕ × ℤ × ℤ). e.0 == axis) (axes_of item.motion) ≡ None = has axis is in rw nothing refl) in
+        let stands : StandsAt point axis (at axis) = along.others axis (let nothing : find (λ (e : ℕ × ℤ × ℤ). e.0 == axis) (axes_of (motion_of item)) ≡ None = has axis is in rw nothing refl) in
         in_itself (at axis) (point.top axis) point.under stands
     by_range (Some r) is =
         let same : r.0 ≡ axis = eqb-true r.0 axis (found_passes (λ (e : ℕ × ℤ × ℤ). e.0 == axis) ranges.axes r is) in
@@ -89,7 +90,7 @@ unfolding piece_boxes
 some_piece P zone depth place point box holds covers = by_motion box.motion covers.covered
   where
     of_other : (item : Item) (other : Point) (ranges : RangesView) → IsAlong box.at item other → other.under ≡ point.under
-        → ((axis : ℕ) → has_axis zone axis ≡ true → other.top axis ≡ point.top axis) → Hold ranges other × HasAxesOf item.motion ranges
+        → ((axis : ℕ) → has_axis zone axis ≡ true → other.top axis ≡ point.top axis) → Hold ranges other × HasAxesOf (motion_of item) ranges
         → P (zone_box zone (low_in ranges box.at) (high_in ranges box.at))
     of_other item other ranges along under tops piece = holds (low_in ranges box.at) (high_in ranges box.at)
         (λ axis has. subst (λ n. IsIn (low_in ranges box.at axis) (high_in ranges box.at axis) (point.top axis) n) under
@@ -99,8 +100,8 @@ some_piece P zone depth place point box holds covers = by_motion box.motion cove
     by_motion : (o : Option Item) → IsCovered zone box.at o point → SomeOf P (piece_boxes zone depth (record box { motion = o }))
     by_motion None stands = inl (holds box.at box.at (λ axis has. in_itself (box.at axis) (point.top axis) point.under (stands axis has)))
     by_motion (Some item) (straight, other, along, under, tops) =
-        SomeOf-map P (λ ranges. zone_box zone (low_in ranges box.at) (high_in ranges box.at)) (pieces_at item.motion depth)
-        (SomeOf-weaker (λ ranges. Hold ranges other × HasAxesOf item.motion ranges) (λ ranges. P (zone_box zone (low_in ranges box.at) (high_in ranges box.at)))
-        (λ ranges piece. of_other item other ranges along under tops piece) (pieces_at item.motion depth)
-        (some_with_all (λ ranges. Hold ranges other) (HasAxesOf item.motion) (pieces_at item.motion depth)
-        (straight_covered item.motion depth other straight along.path) (pieces_have_axes item.motion depth straight)))
+        SomeOf-map P (λ ranges. zone_box zone (low_in ranges box.at) (high_in ranges box.at)) (pieces_at (motion_of item) depth)
+        (SomeOf-weaker (λ ranges. Hold ranges other × HasAxesOf (motion_of item) ranges) (λ ranges. P (zone_box zone (low_in ranges box.at) (high_in ranges box.at)))
+        (λ ranges piece. of_other item other ranges along under tops piece) (pieces_at (motion_of item) depth)
+        (some_with_all (λ ranges. Hold ranges other) (HasAxesOf (motion_of item)) (pieces_at (motion_of item) depth)
+        (straight_covered (motion_of item) depth other straight along.path) (pieces_have_axes (motion_of item) depth straight)))

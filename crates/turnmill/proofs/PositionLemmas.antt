@@ -6,10 +6,11 @@ use Rattle.std.proofs.lemmas.List.Elements.{All-weaker}
 use Rattle.std.specs.Prelude.{⊤}
 use Rattle.std.specs.List.{last_or, cons_option}
 use Rattle.std.specs.Option.{option_map_or}
-use Rattle.channel_machine.specs.Motions.{end_in, left_at, IsStraight}
+use Rattle.block_effects.specs.Motions.{end_in, left_at, IsStraight}
 use Rattle.path_geometry.specs.Motions.{axes_of}
 use Rattle.turnmill.specs.ZoneBoxes.{after}
-use Rattle.channel_machine.specs.declared.motions.Item.{Item}
+use Rattle.sync_types.specs.declared.Item.{Item}
+use Rattle.sync_types.specs.Items.{motion_of}
 
 -- ---- the last of a list
 
@@ -30,7 +31,7 @@ unwrap_or-last_or o (x ∷ xs) d = last_of_some x d (unwrap_or o d) xs
 
 pub after_is : (item : Item) (at : ℕ → ℤ) (axis : ℕ) → after item at axis ≡ unwrap_or (end_in axis item) (at axis)
 unfolding after end_in
-after_is item at axis = by_found (find (λ e. e.0 == axis) (axes_of item.motion))
+after_is item at axis = by_found (find (λ e. e.0 == axis) (axes_of (motion_of item)))
   where
     by_found : (o : Option (ℕ × ℤ × ℤ)) → option_map_or (λ e. e.2) o (at axis) ≡ unwrap_or (option_map (λ e. e.2) o) (at axis)
     by_found None = refl
@@ -69,7 +70,7 @@ left_at_done items k over before axis = ap (λ (xs : List Item). left_at xs befo
 
 -- a motion is straight, begins where its axes stand, and leaves them at its ends
 abbrev pub Joins : (ℕ → ℤ) → Item → Type 0
-Joins at item = IsStraight item.motion × All (λ e. (e.1 ≡ at e.0) × (e.2 ≡ after item at e.0)) (axes_of item.motion)
+Joins at item = IsStraight (motion_of item) × All (λ e. (e.1 ≡ at e.0) × (e.2 ≡ after item at e.0)) (axes_of (motion_of item))
 
 -- so does each of them, one after the other
 abbrev pub AllJoin : (ℕ → ℤ) → List Item → Type 0
@@ -81,7 +82,7 @@ Joins-same p q same item joins = (
   joins.0,
   All-weaker (λ e. (e.1 ≡ p e.0) × (e.2 ≡ after item p e.0)) (λ e. (e.1 ≡ q e.0) × (e.2 ≡ after item q e.0))
       (λ e joined. (joined.0 ∙ same e.0, joined.1 ∙ after_is item p e.0 ∙ ap (unwrap_or (end_in e.0 item)) (same e.0) ∙ sym (after_is item q e.0)))
-      (axes_of item.motion) joins.1,
+      (axes_of (motion_of item)) joins.1,
 )
 
 -- each of them joins onto those before it
@@ -97,7 +98,7 @@ joins_at at (first ∷ items) joins (suc place) item is =
 
 -- and begins where they left the axes
 pub begins_at_left : (at : ℕ → ℤ) (items : List Item) → AllJoin at items → (place : ℕ) (item : Item) → slice_get items place ≡ Some item
-    → All (λ e. e.1 ≡ left_at (take place items) at e.0) (axes_of item.motion)
+    → All (λ e. e.1 ≡ left_at (take place items) at e.0) (axes_of (motion_of item))
 begins_at_left at items joins place item is =
     All-weaker (λ e. (e.1 ≡ left_at (take place items) at e.0) × (e.2 ≡ after item (left_at (take place items) at) e.0))
-    (λ e. e.1 ≡ left_at (take place items) at e.0) (λ e joined. joined.0) (axes_of item.motion) (joins_at at items joins place item is).1
+    (λ e. e.1 ≡ left_at (take place items) at e.0) (λ e joined. joined.0) (axes_of (motion_of item)) (joins_at at items joins place item is).1

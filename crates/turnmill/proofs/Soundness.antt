@@ -22,12 +22,12 @@ use Rattle.turnmill.proofs.ZoneLemmas.{FractionsWithin, in_zone_box}
 use Rattle.turnmill.specs.Channels.{start_position, items_of}
 use Rattle.turnmill.specs.Clash.{own_clock, zones_in_order, zone_pairs, pairs_of_zones, compared_pairs, depth_of, pair_meets, verdict_of}
 use Rattle.turnmill.specs.Safety.{axis_owner, axis_position, fraction_of, IsInZone, ZonesMeet, NoneMeet, SafeAlways}
-use Rattle.channel_machine.specs.Motions.{left_at}
+use Rattle.block_effects.specs.Motions.{left_at}
 use Rattle.turnmill.specs.SmallSteps.{StandsAt, IsAtPlace, Spot, State, opening, span_of, has_ended, motions_of, board_position, beginning, present, reached}
 use Rattle.tape_job.specs.SoundJob.{IsDeclared, first_owner, IsCarriedBy, IsSoundZone, IsSoundJob}
 use Rattle.turnmill.specs.Stretches.{Stretch, channel_line, spans_of, stretches_from, stretches_of}
 use Rattle.turnmill.specs.ZoneBoxes.{is_carrier, has_axis, PlaceBox, boxes_of, piece_boxes}
-use Rattle.channel_machine.specs.declared.motions.Item.{Item}
+use Rattle.sync_types.specs.declared.Item.{Item}
 use Rattle.turnmill.specs.declared.stretches.Verdict.TheVariants.{Yes}
 
 -- ---- channels of the job
@@ -89,11 +89,11 @@ ended_position job state channel line is e axis =
     ∙ one_under (left_at (items_of job line) (start_position job) axis)
 
 -- some box of a current stretch of the zone covers its axes where its holder is
-zone_has_box : (job : JobView) (state : State) → WellPlaced job state → (zone : ZoneLine) → IsSoundZone job zone → (channel : ℕ) → zone.holder ≡ Some channel
+zone_has_box : (job : JobView) → IsSoundJob job → (state : State) → WellPlaced job state → (zone : ZoneLine) → IsSoundZone job zone → (channel : ℕ) → zone.holder ≡ Some channel
     → (line : ChannelLine) → channel_line job channel ≡ Some line
     → (0 < (present job state channel).point.under) × HasBox job (span_of state) zone (Covers zone (present job state channel).place (present job state channel).point)
 unfolding spans_of beginning
-zone_has_box job state placed zone sound channel held line is = by_ended (cases_Bool (has_ended state channel))
+zone_has_box job sound_job state placed zone sound channel held line is = by_ended (cases_Bool (has_ended state channel))
   where
     spot : Spot
     spot = present job state channel
@@ -104,7 +104,7 @@ zone_has_box job state placed zone sound channel held line is = by_ended (cases_
     running : has_ended state channel ≡ false → Goal (stretches_from zone channel 0 (spans_of job line))
     running e =
         let motions = motions_are job channel line is in
-        let covered = box_covers zone (start_position job) (items_of job line) (motions_join job line) spot.place spot.point
+        let covered = box_covers zone (start_position job) (items_of job line) (motions_join job sound_job line) spot.place spot.point
         (subst (λ (items : List Item). IsAtPlace (start_position job) items spot.place spot.point) motions (run_place job state channel placed e)) in
         let first = first_span_of state channel e in
         (covered.0, inl (record { begun = tt; not_over = omega arith }, covered.1))
@@ -142,14 +142,14 @@ fractions_within job state zone sound channel held some low high within = λ axi
     (some, within axis has)
 
 -- a point of space in the zone is in a piece of a box of a current stretch
-zone_in_pieces : (job : JobView) (state : State) → WellPlaced job state → (zone : ZoneLine) → IsSoundZone job zone → (point : SpacePoint) → IsInZone (axis_position job state) zone point
+zone_in_pieces : (job : JobView) → IsSoundJob job → (state : State) → WellPlaced job state → (zone : ZoneLine) → IsSoundZone job zone → (point : SpacePoint) → IsInZone (axis_position job state) zone point
     → HasBox job (span_of state) zone (λ box. SomeOf (λ piece. IsInBox piece point) (piece_boxes zone (depth_of job) box))
-zone_in_pieces job state placed zone sound point in_zone = by_holder zone.holder refl sound.held
+zone_in_pieces job sound_job state placed zone sound point in_zone = by_holder zone.holder refl sound.held
   where
     of_line : (channel : ℕ) → zone.holder ≡ Some channel → (line : ChannelLine) × (channel_line job channel ≡ Some line)
         → HasBox job (span_of state) zone (λ box. SomeOf (λ piece. IsInBox piece point) (piece_boxes zone (depth_of job) box))
     of_line channel held (line, is) =
-        let has = zone_has_box job state placed zone sound channel held line is in
+        let has = zone_has_box job sound_job state placed zone sound channel held line is in
         let spot = present job state channel in
         SomeOf-weaker (λ stretch. IsCurrent (span_of state) stretch × SomeOf (Covers zone spot.place spot.point) stretch.boxes)
         (λ stretch. IsCurrent (span_of state) stretch × SomeOf (λ box. SomeOf (λ piece. IsInBox piece point) (piece_boxes zone (depth_of job) box)) stretch.boxes)
@@ -175,8 +175,8 @@ unfolding ZonesMeet compared_pairs zone_pairs
 zones_meet_in_pair job sound state placed zone other in_job in_job' apart (point, in_zone, in_other) =
     let z = All-contains (IsSoundZone job) job.zones zone sound.zones in_job in
     let o = All-contains (IsSoundZone job) job.zones other sound.zones in_job' in
-    let here = zone_in_pieces job state placed zone z point in_zone in
-    let there = zone_in_pieces job state placed other o point in_other in
+    let here = zone_in_pieces job sound state placed zone z point in_zone in
+    let there = zone_in_pieces job sound state placed other o point in_other in
     SomeOf-flat_map (λ pair. pair_meets job pair ≡ true) (λ pair. pairs_of_zones own_clock job pair.0 pair.1) (zone_pairs job)
     (some_zone_pair (λ pair. SomeOf (λ p. pair_meets job p ≡ true) (pairs_of_zones own_clock job pair.0 pair.1)) zone other apart
     (compared zone other here there) (compared other zone there here) (zones_in_order job)

@@ -3,15 +3,16 @@ use Rattle.std.proofs.Common.{ℕ, ℤ, ◌+◌, Bool, true, false, cond, List, 
 use Rattle.std.specs.Prelude.{⊤}
 use Rattle.tape_job.specs.declared.job.ZoneLine.{ZoneLine}
 use Rattle.turnmill.proofs.PositionLemmas.{AllJoin}
-use Rattle.channel_machine.specs.Motions.{IsStraight}
+use Rattle.block_effects.specs.Motions.{IsStraight}
 use Rattle.turnmill.specs.ZoneBoxes.{PlaceBox, Opened, Waiting, Moving, closed, next_open, walk, boxes_of, after, moves_zone}
-use Rattle.channel_machine.specs.declared.motions.Item.{Item}
+use Rattle.sync_types.specs.declared.Item.{Item}
+use Rattle.sync_types.specs.Items.{motion_of}
 
 -- ---- motions
 
 abbrev pub AllStraight : List Item → Type 0
 AllStraight [] = ⊤
-AllStraight (item ∷ items) = IsStraight item.motion × AllStraight items
+AllStraight (item ∷ items) = IsStraight (motion_of item) × AllStraight items
 
 -- motions that join are straight
 pub joined_straight : (at : ℕ → ℤ) (items : List Item) → AllJoin at items → AllStraight items
@@ -20,7 +21,7 @@ joined_straight at (item ∷ items) joins = (joins.0.0, joined_straight (after i
 
 abbrev pub OfItem : Option Item → Type 0
 OfItem None = ⊤
-OfItem (Some item) = IsStraight item.motion
+OfItem (Some item) = IsStraight (motion_of item)
 
 -- ---- boxes
 
@@ -34,7 +35,7 @@ AllMoveStraight (box ∷ boxes) = MovesStraight box × AllMoveStraight boxes
 
 abbrev OpenStraight : Opened → Type 0
 OpenStraight (Waiting from at) = ⊤
-OpenStraight (Moving from item at) = IsStraight item.motion
+OpenStraight (Moving from item at) = IsStraight (motion_of item)
 
 walk_straight : (zone : ZoneLine) (place : ℕ) (current : Opened) (at : ℕ → ℤ) (items : List Item) → OpenStraight current → AllStraight items
     → AllMoveStraight (walk zone place current at items)

@@ -9,7 +9,7 @@ use Rattle.tape_job.specs.Job.{JobView}
 use Rattle.turnmill.proofs.Runs.{good_run}
 use Rattle.turnmill.proofs.SomeLemmas.{All-found}
 use Rattle.turnmill.specs.ZoneBoxes.{IsFit}
-use Rattle.channel_machine.specs.Run.{IsListedEnd}
+use Rattle.turnmill.specs.ChannelRun.{IsListedEnd}
 use Rattle.turnmill.specs.ChannelRun.{RunView, run_of, runs_of, run_in}
 use Rattle.turnmill.specs.Channels.{IsRunnable}
 use Rattle.turnmill.specs.FirstAnswer.{first_some}

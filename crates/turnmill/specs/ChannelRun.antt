@@ -1,8 +1,9 @@
 -- What a contract sees of the run of a channel.
-use Rattle.std.specs.Prelude.{ℕ, ◌==◌, List, map, find, Option, None, Some}
-use Rattle.channel_machine.specs.declared.motions.Item.{Item}
-use Rattle.channel_machine.specs.declared.run.ChannelEnd.{ChannelEnd}
-use Rattle.channel_machine.specs.declared.run.ChannelEnd.TheVariants.{Ended, Alarmed}
+use Rattle.std.specs.Prelude.{⊤, ℕ, ◌==◌, List, map, find, Option, None, Some}
+use Rattle.sync_types.specs.declared.Item.{Item}
+use Rattle.sync_types.specs.declared.ChannelEnd.{ChannelEnd}
+use Rattle.sync_types.specs.declared.ChannelEnd.TheVariants.{Ended, Alarmed}
+use Rattle.nc_faults.specs.Texts.{IsAlarmCode}
 use Rattle.nc_faults.specs.declared.Alarm.{Alarm}
 use Rattle.tape_job.specs.Job.{JobView}
 use Rattle.tape_job.specs.declared.job.ChannelLine.{ChannelLine}
@@ -35,3 +36,8 @@ line_of_end (Alarmed alarm) = alarm.line
 abbrev pub alarm_in : ChannelEnd → Option Alarm
 alarm_in (Ended line) = None
 alarm_in (Alarmed alarm) = Some alarm
+
+-- the alarm of an end, where it is one, is in the table of alarms
+abbrev pub IsListedEnd : ChannelEnd → Type 0
+IsListedEnd (Ended line) = ⊤
+IsListedEnd (Alarmed alarm) = IsAlarmCode alarm.code

@@ -1,35 +1,26 @@
--- What a channel does: the program that it runs, what it has at its start, and what comes of both.
-use Rattle.std.specs.Prelude.{◌<◌, ◌≤◌, All, ℕ, ℤ, pos, ◌-◌, ◌==◌, ◌&&◌, IsTrue, List, [], ◌∷◌, ◌++◌, map, length, replicate, Option, find, unwrap_or, slice_get}
-use Rattle.std.specs.Option.{option_map, option_map_or, option_and_then}
-use Rattle.std.specs.Map.{lookup}
+-- What a channel does: the program that it runs, what it is granted at its start, and what comes of both.
+use Rattle.std.specs.Prelude.{◌≡◌, ◌≤◌, ◌<◌, All, ℕ, ℤ, pos, ◌-◌, ◌==◌, ◌&&◌, Bool, false, if◌then◌else◌, List, [], ◌++◌, map, length, replicate, Option, None, Some, slice_get, slice_index_or, position}
+use Rattle.std.specs.List.{list_any, range_with_len}
+use Rattle.std.specs.Map.{keys_of}
+use Rattle.std.specs.Option.{option_map_or, option_and_then}
 use Rattle.std.specs.Str.{bytes_eq}
-use Rattle.channel_machine.specs.Built.{is_built}
-use Rattle.channel_machine.specs.Run as machine
-use Rattle.channel_machine.specs.declared.motions.Item.{Item}
-use Rattle.channel_machine.specs.declared.run.ChannelEnd.{ChannelEnd}
-use Rattle.channel_machine.specs.declared.run.SetUp.{SetUp}
+use Rattle.block_effects.specs.Motions.{stands}
+use Rattle.channel_machine.specs.Run.{Setting, SegmentView, setting_of, begun, segment_of, stands_at_start}
 use Rattle.nc_blocks.specs.Indices.{StatementFits}
-use Rattle.nc_blocks.specs.Statement.{BlockView}
 use Rattle.path_geometry.specs.Motions.{IsInRange}
-use Rattle.tape_job.specs.Job.{JobView, ProgramView}
+use Rattle.sync_types.specs.declared.Action.{Action}
+use Rattle.sync_types.specs.declared.Action.TheVariants as action
+use Rattle.sync_types.specs.declared.ChannelEnd.{ChannelEnd}
+use Rattle.sync_types.specs.declared.ChannelEnd.TheVariants.{Ended, Alarmed}
+use Rattle.sync_types.specs.declared.Grant.{Grant}
+use Rattle.sync_types.specs.declared.Item.{Item}
+use Rattle.sync_types.specs.declared.Step.{Step}
+use Rattle.tape_job.specs.Job.{JobView}
+use Rattle.tape_job.specs.SoundJob.{BlocksFit, first_owner}
 use Rattle.tape_job.specs.declared.job.ChannelLine.{ChannelLine}
-use Rattle.tape_job.specs.declared.job.GeoLine.{GeoLine}
+use Rattle.tape_job.specs.declared.job.ZoneLine.{ZoneLine}
 
--- ---- the program
-
--- the program of this name
-abbrev pub program_named : JobView → List ℕ → Option ProgramView
-program_named job name = lookup (bytes_eq name) job.programs
-
--- a program without a block
-abbrev pub no_program : ProgramView
-no_program = record { line = 0; blocks = [] }
-
--- the program that a CHANNEL line selects; every accepted job has one
-unfoldable pub program_of : JobView → ChannelLine → ProgramView
-program_of job line = unwrap_or (option_and_then (program_named job) line.program) no_program
-
--- ---- the start
+-- ---- where the job puts axes
 
 -- where the job puts an axis
 unfoldable pub start_position : JobView → ℕ → ℤ
@@ -39,26 +30,81 @@ start_position job axis = option_map_or (λ line. line.at) (slice_get job.axes a
 unfoldable pub start_row : JobView → List ℤ
 start_row job = map (λ line. line.at) job.axes ++ replicate (16 - length job.axes) (pos 0)
 
--- the GEO line of a slot of a channel: 0, 1, 2 are the slots X, Y, Z
-unfoldable pub slot_line : JobView → ℕ → ℕ → Option GeoLine
-slot_line job channel slot = find (λ g. g.channel == channel && g.slot == slot) job.geo
+-- a row of positions says where each axis is; beyond the row it is at 0
+abbrev pub positions_in : List ℤ → ℕ → ℤ
+positions_in at axis = slice_index_or at axis (pos 0)
 
--- the axis in a slot of a channel
-abbrev pub slot_axis : JobView → ℕ → ℕ → Option ℕ
-slot_axis job channel slot = option_map (λ g. g.axis) (slot_line job channel slot)
+-- ---- the grant
 
--- what a channel has at its start: the axes in its slots, and where all axes stand
-unfoldable pub set_up_of : JobView → ℕ → SetUp
-set_up_of job channel = record {
-  slots = slot_axis job channel 0 ∷ slot_axis job channel 1 ∷ slot_axis job channel 2 ∷ [];
-  start = start_row job;
+-- this is the channel
+abbrev pub is_of : ℕ → Option ℕ → Bool
+is_of channel None = false
+is_of channel (Some owner) = owner == channel
+
+-- the job gives the axis to the channel
+unfoldable pub owns : JobView → ℕ → ℕ → Bool
+owns job channel axis = is_of channel (first_owner job axis)
+
+-- all axes of a channel
+unfoldable pub owned_axes : JobView → ℕ → List Bool
+owned_axes job channel = map (owns job channel) (range_with_len 0 16)
+
+-- where these stand
+abbrev pub owned_position : JobView → ℕ → ℕ → Option ℤ
+owned_position job channel axis = if owns job channel axis then Some (start_position job axis) else None
+
+unfoldable pub owned_positions : JobView → ℕ → List (Option ℤ)
+owned_positions job channel = map (owned_position job channel) (range_with_len 0 16)
+
+-- the channel holds the zone, and it is on
+abbrev pub holds : ℕ → ZoneLine → Bool
+holds channel zone = zone.on && is_of channel zone.holder
+
+abbrev pub holds_number : List ZoneLine → ℕ → ℕ → Bool
+holds_number zones channel number = list_any (λ zone. holds channel zone && (number == zone.zone)) zones
+
+-- the zones that a channel holds and that are on
+unfoldable pub zones_on : JobView → ℕ → List Bool
+zones_on job channel = map (holds_number job.zones channel) (range_with_len 0 33)
+
+-- the place of the program of this name among the programs of the job
+abbrev pub place_named : JobView → List ℕ → Option ℕ
+place_named job name = position (bytes_eq name) (keys_of job.programs)
+
+-- the place of the program that a CHANNEL line selects; every accepted job has it
+unfoldable pub program_place : JobView → ChannelLine → Option ℕ
+program_place job line = option_and_then (place_named job) line.program
+
+-- what a channel is granted at its start: its axes and where they stand, its zones, and its program
+unfoldable pub grant_of : JobView → ChannelLine → Grant
+grant_of job line = record {
+  axes = owned_axes job line.channel;
+  at = owned_positions job line.channel;
+  on = zones_on job line.channel;
+  program = program_place job line;
 }
 
 -- ---- the run
 
--- the run of the program that a CHANNEL line selects
-unfoldable pub program_run : JobView → ChannelLine → machine.RunView
-program_run job line = machine.run_of (set_up_of job line.channel) (program_of job line).line (program_of job line).blocks
+-- what the channel of a CHANNEL line runs by
+abbrev pub setting_at : JobView → ChannelLine → Setting
+setting_at job line = setting_of job line.channel (grant_of job line)
+
+-- where its axes stand at its start
+abbrev pub granted_position : JobView → ChannelLine → ℕ → ℤ
+granted_position job line = stands_at_start (grant_of job line)
+
+-- the run of the program that a CHANNEL line selects, from its first block to its end
+unfoldable pub program_run : JobView → ChannelLine → SegmentView
+program_run job line = segment_of (setting_at job line) (begun (setting_at job line))
+
+-- how a run ends whose last block, on this line, asks for this
+abbrev pub end_by : ℕ → Action → ChannelEnd
+end_by line action.End = Ended line
+end_by line (action.Alarm code) = Alarmed (record { code = code; line = line })
+
+abbrev pub end_of_step : Step → ChannelEnd
+end_of_step step = end_by step.line step.action
 
 -- the motions of a channel, in the order in which it makes them
 abbrev pub items_of : JobView → ChannelLine → List Item
@@ -66,21 +112,18 @@ items_of job line = (program_run job line).items
 
 -- how its run ends
 abbrev pub end_of : JobView → ChannelLine → ChannelEnd
-end_of job line = (program_run job line).end
+end_of job line = end_of_step (program_run job line).step
 
 -- ---- jobs that can be run
-
--- a block is built, and names parameters that there are
-abbrev pub IsReady : ℕ × BlockView → Type 0
-IsReady block = IsTrue (is_built block.1.statement) × StatementFits block.1.statement
 
 -- the job names few axes, and the slots of its channels are axes that it names
 pub record HasFewAxes (job : JobView) : Type 0 where
   pub few : length job.axes ≤ 16
   pub slots : All (λ g. g.axis < length job.axes) job.geo
 
--- the job can be run: its axes start in range, and its blocks can be executed
+-- the job can be run: its axes start in range, its programs can be numbered, and its blocks name parameters that there are
 pub record IsRunnable (job : JobView) : Type 0 where
   pub axes : HasFewAxes job
   pub starts : All (λ line. IsInRange line.at) job.axes
-  pub blocks : All (λ program. All IsReady program.1.blocks) job.programs
+  pub programs : length job.programs ≤ 256
+  pub blocks : BlocksFit job

@@ -12,15 +12,16 @@ use Rattle.path_geometry.specs.declared.motion.Motion.TheVariants.{Line, Rapid}
 use Rattle.path_geometry.specs.declared.motion.Motion.TheVariants as Kind
 use Rattle.tape_job.specs.Job.{JobView}
 use Rattle.turnmill.specs.ChannelRun.{RunView, run_in}
-use Rattle.channel_machine.specs.declared.run.ChannelEnd.{ChannelEnd}
-use Rattle.channel_machine.specs.declared.run.ChannelEnd.TheVariants.{Ended, Alarmed}
-use Rattle.channel_machine.specs.declared.motions.Item.{Item}
+use Rattle.sync_types.specs.declared.ChannelEnd.{ChannelEnd}
+use Rattle.sync_types.specs.declared.ChannelEnd.TheVariants.{Ended, Alarmed}
+use Rattle.sync_types.specs.declared.Item.{Item}
 use Rattle.turnmill.specs.declared.stretches.PlaceName.{PlaceName}
 use Rattle.turnmill.specs.declared.stretches.StretchKind.{StretchKind}
 use Rattle.turnmill.specs.declared.stretches.StretchKind.TheVariants.{Run, End}
 use Rattle.turnmill.specs.declared.stretches.Verdict.{Verdict}
 use Rattle.turnmill.specs.declared.stretches.Verdict.TheVariants.{Yes, No, Undecided}
 use Rattle.turnmill.specs.declared.stretches.Verdict.TheVariants as verdicts
+use Rattle.sync_types.specs.Items.{motion_of}
 
 -- so many micrometres, as millimetres with three decimals
 unfoldable pub millimetres_text : ℕ → List ℕ
@@ -60,7 +61,7 @@ motion_text job (Kind.Arc arc) = arc_text job arc
 
 -- the trace line of a motion
 unfoldable pub motion_line : JobView → Item → List ℕ
-motion_line job item = decimal item.line ++ (codes " " ++ (motion_text job item.motion ++ codes "\n"))
+motion_line job item = decimal item.line ++ (codes " " ++ (motion_text job (motion_of item) ++ codes "\n"))
 
 -- the state of a channel that an alarm stopped
 unfoldable pub alarm_line : Alarm → List ℕ

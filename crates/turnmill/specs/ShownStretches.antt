@@ -7,7 +7,7 @@ use Rattle.turnmill.specs.ChannelRun.{RunView, line_of_end}
 use Rattle.turnmill.specs.Channels.{start_position}
 use Rattle.turnmill.specs.Clash.{boxes_meet}
 use Rattle.turnmill.specs.FirstAnswer.{first_some}
-use Rattle.channel_machine.specs.Motions.{left_at}
+use Rattle.block_effects.specs.Motions.{left_at}
 use Rattle.turnmill.specs.StretchView.{StretchView}
 use Rattle.turnmill.specs.Stretches.{Stretch, stretches_of}
 use Rattle.turnmill.specs.ZoneBoxes.{boxes_of, shown_box}

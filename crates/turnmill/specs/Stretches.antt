@@ -6,9 +6,9 @@ use Rattle.tape_job.specs.declared.job.ChannelLine.{ChannelLine}
 use Rattle.tape_job.specs.declared.job.ZoneLine.{ZoneLine}
 use Rattle.turnmill.specs.ChannelRun.{line_of_end}
 use Rattle.turnmill.specs.Channels.{start_position, items_of, end_of}
-use Rattle.channel_machine.specs.Motions.{left_at}
+use Rattle.block_effects.specs.Motions.{left_at}
 use Rattle.turnmill.specs.ZoneBoxes.{PlaceBox, boxes_of}
-use Rattle.channel_machine.specs.declared.motions.Item.{Item}
+use Rattle.sync_types.specs.declared.Item.{Item}
 use Rattle.turnmill.specs.declared.stretches.StretchKind.{StretchKind}
 use Rattle.turnmill.specs.declared.stretches.StretchKind.TheVariants.{Run, End}
 

@@ -9,12 +9,13 @@ use Rattle.swept_boxes.specs.Ranges.{RangesView}
 use Rattle.swept_boxes.specs.declared.Box3.{Box3}
 use Rattle.tape_job.specs.declared.job.Side.{Side}
 use Rattle.tape_job.specs.declared.job.ZoneLine.{ZoneLine}
-use Rattle.channel_machine.specs.declared.motions.Item.{Item}
+use Rattle.sync_types.specs.declared.Item.{Item}
 use Rattle.turnmill.specs.declared.zone_boxes.ZoneBox.{ZoneBox}
+use Rattle.sync_types.specs.Items.{motion_of}
 
 -- where the axes stand after a motion: at its ends, and elsewhere where they stood
 unfoldable pub after : Item → (ℕ → ℤ) → ℕ → ℤ
-after item at axis = option_map_or (λ e. e.2) (find (λ e. e.0 == axis) (axes_of item.motion)) (at axis)
+after item at axis = option_map_or (λ e. e.2) (find (λ e. e.0 == axis) (axes_of (motion_of item))) (at axis)
 
 -- a bound that an axis carries: added to its position, or where the zone goes against the axis less its position
 abbrev pub carried : ℤ → ℤ → Bool → ℤ
@@ -55,7 +56,7 @@ has_axis zone axis = list_any (λ side. is_carrier axis side.carrier) zone.sides
 
 -- an axis of the zone is among the axes of the motion, whether or not it moves there
 unfoldable pub moves_zone : ZoneLine → Item → Bool
-moves_zone zone item = list_any (λ e. has_axis zone e.0) (axes_of item.motion)
+moves_zone zone item = list_any (λ e. has_axis zone e.0) (axes_of (motion_of item))
 
 -- a box of a zone in a row of places: it holds the places from the first on and before the last, belongs to a motion or stands,
 -- and begins where the channel's axes stand then
@@ -110,16 +111,16 @@ piece_boxes zone depth box = piece_boxes_by box.motion
   where
     piece_boxes_by : Option Item → List Box3
     piece_boxes_by None = zone_box zone box.at box.at ∷ []
-    piece_boxes_by (Some item) = map (λ ranges. zone_box zone (low_in ranges box.at) (high_in ranges box.at)) (pieces_at item.motion depth)
+    piece_boxes_by (Some item) = map (λ ranges. zone_box zone (low_in ranges box.at) (high_in ranges box.at)) (pieces_at (motion_of item) depth)
 
 -- a motion is sound, and moves axes of the row of positions
 pub record IsFit (item : Item) : Type 0 where
-  pub sound : IsSound item.motion
-  pub within : All (λ e. e.0 < 16) (axes_of item.motion)
+  pub sound : IsSound (motion_of item)
+  pub within : All (λ e. e.0 < 16) (axes_of (motion_of item))
 
 -- the boxes as they are compared where motions are not cut: the line that names it, and the zone box of the cover of its motion, or where it stands
 unfoldable pub moving_box : ZoneLine → Item → (ℕ → ℤ) → ZoneBox
-moving_box zone item at = record { line = item.line; cover = zone_box zone (low_in (cover_of item.motion) at) (high_in (cover_of item.motion) at) }
+moving_box zone item at = record { line = item.line; cover = zone_box zone (low_in (cover_of (motion_of item)) at) (high_in (cover_of (motion_of item)) at) }
 
 unfoldable pub standing_box : ZoneLine → ℕ → (ℕ → ℤ) → ZoneBox
 standing_box zone line at = record { line = line; cover = zone_box zone at at }

@@ -1,27 +1,21 @@
 //! What each channel does: the run of the program that its CHANNEL line selects.
-ghost use Rattle.std.specs.Prelude.{◌≡◌, ◌==◌, ◌&&◌, ℕ, ◌≤◌, All, IfOk, find, length, map, option_and_then, option_copied};
-ghost use Rattle.channel_machine.specs.Motions.{positions_in};
-ghost use Rattle.channel_machine.specs.Run as machine;
+ghost use Rattle.std.specs.Prelude.{◌≡◌, ◌==◌, ℕ, ◌≤◌, IfOk, find, length, option_copied};
+ghost use Rattle.tape_job.specs.SoundJob.{first_owner};
 ghost use Rattle.turnmill.specs.Channels as model;
 ghost use Rattle.turnmill.specs.ChannelRun.{run_of, run_in, alarm_in, line_of_end};
 
-use axis_sets::{AxisId, ChannelId};
-use channel_machine::{ChannelEnd, Item, Positions, SetUp, run_program};
+use axis_sets::{AxisId, AxisSet, ChannelId, Positions, ZoneSet};
+use channel_machine::{Local, Segment, run_segment};
 use micro_units::Um;
-use nc_faults::Alarm;
+use nc_blocks::NameText;
+use nc_faults::{Alarm, NoMemory};
 use std::alloc::{AllocError, Global};
 use std::marker::Model;
-use tape_job::{ChannelLine, GeoLine, Job, Program};
+use sync_types::{Action, ChannelEnd, Grant, Item, Step};
+use tape_job::{ChannelLine, Job, ZoneLine};
 
-/// The program that a CHANNEL line selects.
-fn selected<'a>(job: &'a Job, line: &ChannelLine) -> Option<&'a Program>
-    ensures { option_copied result ≡ option_and_then (model.program_named job.now) line.now.program }
-{
-    match &line.program {
-        Some(name) => job.programs.get(name),
-        None => None,
-    }
-}
+/// Where each axis of a job stands, in micrometres.
+pub type Row = [Um; 16];
 
 /// Where the job puts an axis.
 #[tactic(auto, unfolding(crate::specs::Channels::start_position))]
@@ -35,10 +29,10 @@ fn start_position(job: &Job, index: usize) -> Um
 }
 
 /// Where the job puts its axes.
-pub fn start_positions(job: &Job) -> Positions
+pub fn start_positions(job: &Job) -> Row
     requires { length job.now.axes ≤ 16 }
     ensures row { result ≡ model.start_row job.now }
-    ensures each { (axis : ℕ) → positions_in result axis ≡ model.start_position job.now axis }
+    ensures each { (axis : ℕ) → model.positions_in result axis ≡ model.start_position job.now axis }
 {
     let mut at = [Um { micrometres: 0 }; 16];
     for index in 0..16 {
@@ -47,39 +41,117 @@ pub fn start_positions(job: &Job) -> Positions
     at
 }
 
-/// The GEO line of a slot of a channel: 0, 1, 2 for X, Y, Z.
-#[tactic(auto, unfolding(crate::specs::Channels::slot_line))]
-fn slot_line(job: &Job, channel: ChannelId, slot: u8) -> Option<GeoLine>
-    ensures { result ≡ model.slot_line job.now channel slot }
+/// Whether this is the channel.
+fn is_of(channel: ChannelId, owner: Option<ChannelId>) -> bool
+    ensures { result ≡ model.is_of channel owner }
 {
-    job.geo
-        .iter()
-        .copied()
-        .find(|line| line.channel == channel && line.slot == slot)
+    match owner {
+        Some(owner) => owner == channel,
+        None => false,
+    }
 }
 
-/// The axis in a slot of a channel.
-fn slot_axis(job: &Job, channel: ChannelId, slot: u8) -> Option<AxisId>
-    ensures { result ≡ model.slot_axis job.now channel slot }
+/// Whether the job gives the axis to the channel.
+#[tactic(auto, unfolding(crate::specs::Channels::owns))]
+fn owns(job: &Job, channel: ChannelId, axis: AxisId) -> bool
+    ensures { result ≡ model.owns job.now channel axis }
 {
-    match slot_line(job, channel, slot) {
-        Some(line) => Some(line.axis),
+    is_of(channel, first_owner(job, axis))
+}
+
+/// The channel that owns an axis at the start, or none.
+#[tactic(auto, unfolding(tape_job::specs::SoundJob::first_owner))]
+fn first_owner(job: &Job, axis: AxisId) -> Option<ChannelId>
+    ensures { result ≡ first_owner job.now axis }
+{
+    match job.axes.get(usize::from(axis.index)) {
+        Some(line) => line.owner,
         None => None,
     }
 }
 
-/// What a channel has at its start.
-#[tactic(auto, unfolding(crate::specs::Channels::set_up_of))]
-fn set_up(job: &Job, channel: ChannelId) -> SetUp
-    requires { length job.now.axes ≤ 16 }
-    ensures { result ≡ model.set_up_of job.now channel }
+/// All axes of a channel.
+fn owned_axes(job: &Job, channel: ChannelId) -> AxisSet
+    ensures { result ≡ model.owned_axes job.now channel }
 {
-    let x = slot_axis(job, channel, 0);
-    let y = slot_axis(job, channel, 1);
-    let z = slot_axis(job, channel, 2);
-    SetUp {
-        slots: [x, y, z],
-        start: start_positions(job),
+    let mut axes = AxisSet::empty();
+    for index in 0..16 {
+        let axis = AxisId { index };
+        if owns(job, channel, axis) {
+            axes = axes.with(axis);
+        }
+    }
+    axes
+}
+
+/// Where the axes of a channel stand at its start.
+fn owned_positions(job: &Job, channel: ChannelId) -> Positions
+    ensures { result ≡ model.owned_positions job.now channel }
+{
+    let mut at = Positions::empty();
+    for index in 0..16 {
+        let axis = AxisId { index };
+        if owns(job, channel, axis) {
+            at.set(axis, start_position(job, usize::from(index)));
+        }
+    }
+    at
+}
+
+/// Whether the channel holds the zone, and it is on.
+fn holds(channel: ChannelId, zone: &ZoneLine) -> bool
+    ensures { result ≡ model.holds channel zone.now }
+{
+    zone.on && is_of(channel, zone.holder)
+}
+
+/// The zones that a channel holds and that are on.
+fn zones_on(job: &Job, channel: ChannelId) -> ZoneSet
+    ensures { result ≡ model.zones_on job.now channel }
+{
+    let mut on = ZoneSet::empty();
+    for zone in &job.zones {
+        if holds(channel, zone) {
+            on = on.with(zone.zone);
+        }
+    }
+    on
+}
+
+/// The place of the program of this name among the programs of the job.
+fn place_named(job: &Job, name: &NameText) -> Option<u16>
+    requires { length job.now.programs ≤ 256 }
+    ensures { result ≡ model.place_named job.now name.now }
+{
+    match job.programs.get_index_of(name) {
+        Some(place) => Some(place as u16),
+        None => None,
+    }
+}
+
+/// The place of the program that a CHANNEL line selects.
+#[tactic(auto, unfolding(crate::specs::Channels::program_place))]
+fn program_place(job: &Job, line: &ChannelLine) -> Option<u16>
+    requires { length job.now.programs ≤ 256 }
+    ensures { result ≡ model.program_place job.now line.now }
+{
+    match &line.program {
+        Some(name) => place_named(job, name),
+        None => None,
+    }
+}
+
+/// What a channel is granted at its start.
+#[tactic(auto, unfolding(crate::specs::Channels::grant_of))]
+fn first_grant(job: &Job, line: &ChannelLine) -> Grant
+    requires { length job.now.programs ≤ 256 }
+    ensures { result ≡ model.grant_of job.now line.now }
+{
+    Grant {
+        axes: owned_axes(job, line.channel),
+        at: owned_positions(job, line.channel),
+        on: zones_on(job, line.channel),
+        program: program_place(job, line),
     }
 }
 
@@ -133,20 +205,28 @@ pub fn line_of_end(end: &ChannelEnd) -> u32
     }
 }
 
-/// Runs the program that a CHANNEL line selects; where there is none, one without a block.
-fn run_selected(
-    alloc: Global,
-    job: &Job,
-    line: &ChannelLine,
-) -> Result<channel_machine::ChannelRun, AllocError>
-    requires { model.IsRunnable job.now }
-    ensures { IfOk result (λ run. machine.told run ≡ model.program_run job.now line.now) }
+/// How a run ends that has this step at its end.
+fn end_of_step(step: &Step) -> ChannelEnd
+    ensures { result ≡ model.end_of_step step.now }
 {
-    let set_up = set_up(job, line.channel);
-    match selected(job, line) {
-        Some(program) => run_program(alloc, &set_up, program.line, &program.blocks),
-        None => run_program(alloc, &set_up, 0, &[]),
+    match step.action {
+        Action::End => ChannelEnd::Ended(step.line),
+        Action::Alarm(code) => ChannelEnd::Alarmed(Alarm {
+            code,
+            line: step.line,
+        }),
     }
+}
+
+/// Runs the program that a CHANNEL line selects, from its first block to its end.
+fn run_selected(alloc: Global, job: &Job, line: &ChannelLine) -> Result<Segment, NoMemory>
+    requires { model.IsRunnable job.now }
+    ensures items { IfOk result (λ segment. segment.items.items ≡ (model.program_run job.now line.now).items) }
+    ensures step { IfOk result (λ segment. segment.step ≡ (model.program_run job.now line.now).step) }
+{
+    let grant = first_grant(job, line);
+    let local = Local::start(alloc, job, line.channel, &grant)?;
+    run_segment(alloc, job, &local)
 }
 
 /// Runs the channel of a CHANNEL line.
@@ -155,10 +235,12 @@ pub fn run_channel(alloc: Global, job: &Job, line: &ChannelLine) -> Result<Chann
     requires { model.IsRunnable job.now }
     ensures { IfOk result (λ run. run ≡ run_of job.now line.now) }
 {
-    let run = run_selected(alloc, job, line)?;
-    Ok(ChannelRun {
-        channel: line.channel,
-        items: run.items,
-        end: run.end,
-    })
+    match run_selected(alloc, job, line) {
+        Ok(segment) => Ok(ChannelRun {
+            channel: line.channel,
+            items: segment.items,
+            end: end_of_step(&segment.step),
+        }),
+        Err(NoMemory) => Err(AllocError),
+    }
 }

@@ -1,14 +1,14 @@
 //! The text of the report.
 ghost use Rattle.std.specs.Prelude.{◌≡◌, ◌++◌, All, IfOk, OnOk, string_bytes, unwrap_or};
 ghost use Rattle.std.specs.List.{flat_map};
-ghost use Rattle.channel_machine.specs.Run.{IsListedEnd};
+ghost use Rattle.turnmill.specs.ChannelRun.{IsListedEnd};
 ghost use Rattle.nc_faults.specs.Texts.{IsAlarmCode, IsRefusalCode};
 ghost use Rattle.turnmill.specs.Report as model;
 
 use crate::channels::{ChannelRun, run_in};
 use crate::stretches::{PlaceName, StretchKind, Verdict};
 use axis_sets::{AxisId, ChannelId};
-use channel_machine::{ChannelEnd, Item};
+use sync_types::{ChannelEnd, Item};
 use micro_units::Um;
 use nc_faults::{Alarm, Refusal, alarm_text, refusal_text};
 use path_geometry::{Arc, Ends, Motion};
@@ -134,7 +134,7 @@ fn push_motion_line(out: &mut String, job: &Job, item: &Item) -> Result<(), Allo
 {
     let line = item.line;
     write!(out, "{line} ")?;
-    push_motion(out, job, &item.motion)?;
+    push_motion(out, job, item.motion())?;
     out.push_str("\n")
 }
 

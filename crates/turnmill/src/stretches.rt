@@ -1,17 +1,18 @@
 //! The stretches of each zone, and the verdict's words.
 ghost use Rattle.std.specs.Prelude.{◌≡◌, ℕ, [], ◌∷◌, All, IfOk, map};
-ghost use Rattle.channel_machine.specs.Motions.{left_at, positions_in};
+ghost use Rattle.block_effects.specs.Motions.{left_at};
+ghost use Rattle.turnmill.specs.Channels.{positions_in};
 ghost use Rattle.turnmill.specs.Channels.{start_position, HasFewAxes};
 ghost use Rattle.turnmill.specs.ShownStretches as model;
 ghost use Rattle.turnmill.specs.ZoneBoxes.{IsFit};
 
-use crate::channels::{ChannelRun, line_of_end, start_positions};
+use crate::channels::{ChannelRun, Row, line_of_end, start_positions};
 use crate::zone_boxes::{ZoneBox, boxes_of, settle};
 use axis_sets::{ChannelId, ZoneId};
-use channel_machine::{Item, Positions};
 use nc_faults::Alarm;
 use std::alloc::{AllocError, Global};
 use std::marker::Model;
+use sync_types::Item;
 use tape_job::{Job, ZoneLine};
 
 /// What a channel does in a stretch of a zone that it holds.
@@ -93,7 +94,7 @@ fn run_stretch(
 }
 
 /// Where these motions leave the axes of a job.
-fn end_positions(job: &Job, items: &[Item]) -> Positions
+fn end_positions(job: &Job, items: &[Item]) -> Row
     requires axes { HasFewAxes job.now }
     requires fit { All IsFit items.now }
     ensures { (axis : ℕ) → positions_in result axis ≡ left_at items.now (start_position job.now) axis }

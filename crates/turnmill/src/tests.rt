@@ -66,7 +66,7 @@ fn job_source(
 #[test]
 fn answers_inputs(rt: HostRuntime) -> Result<(), Fail> {
     let alloc = rt.alloc();
-    let rows: [(&str, &str, Status, &str); 15] = [
+    let rows: [(&str, &str, Status, &str); 13] = [
         ("", "", Status::Refused, "REFUSED 1 1 no job line\n"),
         (
             ONE,
@@ -86,18 +86,6 @@ fn answers_inputs(rt: HostRuntime) -> Result<(), Fail> {
             "N10 G1 X5",
             Status::Alarm,
             "TURNMILL 1\nCHANNEL 1\n9 LINE X1=5.000\nSTATE ALARM 9 9 no program end\nVERDICT ALARM CHANNEL 1 LINE 9 CODE 9\n",
-        ),
-        (
-            ONE,
-            "GOTO LAB\n",
-            Status::Refused,
-            "REFUSED 60 9 form not built yet\n",
-        ),
-        (
-            ONE,
-            "LAB: R1=R1+1\nIF R1>5 AND R2<3 GOTOF DONE\nM30\n",
-            Status::Refused,
-            "REFUSED 23 10 comparison beside AND, OR, XOR or NOT\n",
         ),
         (
             ONE,
@@ -158,6 +146,189 @@ fn answers_inputs(rt: HostRuntime) -> Result<(), Fail> {
         );
         assert_eq!(rt; sink.bytes(), output.as_bytes());
     }
+    Ok(())
+}
+
+// Programs in which control jumps, repeats and calls: the blocks, how the check ends, and what its
+// output has behind the line of channel 1.
+static CONTROL: [(&str, Status, &str); 22] = [
+    (
+        "L7 P2\nLAB: X=R1\nR1=R1+1\nREPEAT LAB P=2\nM30\n%_N_L7_SPF\nR1=R1+10\nM17\n",
+        Status::Yes,
+        "10 LINE X1=20.000\n10 LINE X1=21.000\n10 LINE X1=22.000\n13 END\nSTATE ENDED 13\nVERDICT YES\n",
+    ),
+    // The nearest label in the direction of the jump counts, and a target that is missing is none for GOTOC.
+    (
+        "LAB: R1=R1+1\nIF R1>5 GOTOF DONE\nGOTO LAB\nX7\nLAB: X5\nDONE: GOTOC NOWHERE\nM30\n",
+        Status::Yes,
+        "13 LINE X1=5.000\n15 END\nSTATE ENDED 15\nVERDICT YES\n",
+    ),
+    (
+        "LAB: R1=R1+1\nIF (R1>5) AND (R2<3) GOTOF DONE\nGOTO LAB\nX7\nLAB: X5\nDONE: GOTOC NOWHERE\nM30\n",
+        Status::Yes,
+        "13 LINE X1=5.000\n15 END\nSTATE ENDED 15\nVERDICT YES\n",
+    ),
+    (
+        "LAB: X1\nLAB: X2\nR1=R1+1\nIF R1<3 GOTOB LAB\nGOTOF LAB\nM30\nLAB: X3\nM30\n",
+        Status::Yes,
+        "9 LINE X1=1.000\n10 LINE X1=2.000\n10 LINE X1=2.000\n10 LINE X1=2.000\n15 LINE X1=3.000\n16 END\nSTATE ENDED 16\nVERDICT YES\n",
+    ),
+    (
+        "N10 X1\nN20 GOTOF N40\nN30 X2\nN40 R1=R1+1\nIF R1<3 GOTOB N10\nN50 M30\n",
+        Status::Yes,
+        "9 LINE X1=1.000\n9 LINE X1=1.000\n9 LINE X1=1.000\n14 END\nSTATE ENDED 14\nVERDICT YES\n",
+    ),
+    // Jumps into an IF, into a FOR and out of a WHILE.
+    (
+        "GOTOF INSIDE\nIF 0\nINSIDE: X1\nELSE\nX2\nENDIF\nX3\nM30\n",
+        Status::Yes,
+        "11 LINE X1=1.000\n15 LINE X1=3.000\n16 END\nSTATE ENDED 16\nVERDICT YES\n",
+    ),
+    (
+        "GOTOF INSIDE\nFOR R1=1 TO 3\nINSIDE: X=R1\nENDFOR\nX9\nM30\n",
+        Status::Yes,
+        "11 LINE X1=0.000\n11 LINE X1=1.000\n11 LINE X1=2.000\n11 LINE X1=3.000\n13 LINE X1=9.000\n14 END\nSTATE ENDED 14\nVERDICT YES\n",
+    ),
+    (
+        "WHILE R1<3\nR1=R1+1\nIF R1==2 GOTOF OUT\nX=R1\nENDWHILE\nOUT: X=10+R1\nM30\n",
+        Status::Yes,
+        "12 LINE X1=1.000\n14 LINE X1=12.000\n15 END\nSTATE ENDED 15\nVERDICT YES\n",
+    ),
+    // Jumps out of a repetition and into a part that is repeated later.
+    (
+        "AGAIN: R1=R1+1\nX=R1\nIF R1==3 GOTOF OUT\nREPEAT AGAIN P=5\nX99\nOUT: X50\nREPEATB AGAIN P=1\nX=R1\nM30\n",
+        Status::Yes,
+        "10 LINE X1=1.000\n10 LINE X1=2.000\n10 LINE X1=3.000\n14 LINE X1=50.000\n16 LINE X1=4.000\n17 END\nSTATE ENDED 17\nVERDICT YES\n",
+    ),
+    (
+        "GOTOF INSIDE\nFIRST: X1\nINSIDE: X2\nREPEAT FIRST P=1\nM30\n",
+        Status::Yes,
+        "11 LINE X1=2.000\n10 LINE X1=1.000\n11 LINE X1=2.000\n13 END\nSTATE ENDED 13\nVERDICT YES\n",
+    ),
+    (
+        "STEP: R1=R1+1\nTWICE: REPEATB STEP P=2\nREPEATB TWICE P=1\nX=R1\nM30\n",
+        Status::Yes,
+        "12 LINE X1=5.000\n13 END\nSTATE ENDED 13\nVERDICT YES\n",
+    ),
+    (
+        "CALLS: L5\nX=R1\nREPEATB CALLS P=3\nX=R1\nM30\n%_N_L5_SPF\nR1=R1+1\nRET\n",
+        Status::Yes,
+        "10 LINE X1=1.000\n12 LINE X1=4.000\n13 END\nSTATE ENDED 13\nVERDICT YES\n",
+    ),
+    (
+        "REPEAT\nR1=R1+1\nX=R1\nUNTIL R1>=2\nM30\n",
+        Status::Yes,
+        "11 LINE X1=1.000\n11 LINE X1=2.000\n13 END\nSTATE ENDED 13\nVERDICT YES\n",
+    ),
+    (
+        "FOR R1=1 TO 6\nX=R1\nR1=R1+1\nENDFOR\nX=R1\nM30\n",
+        Status::Yes,
+        "10 LINE X1=1.000\n10 LINE X1=3.000\n10 LINE X1=5.000\n13 LINE X1=7.000\n14 END\nSTATE ENDED 14\nVERDICT YES\n",
+    ),
+    (
+        "R1=2\nCASE (R1) OF 1 GOTOF ONE1 2 GOTOF TWO2 2 GOTOF THREE3 DEFAULT GOTOF LAST\nONE1: X1\nTWO2: X2\nGOTOF LAST\nTHREE3: X3\nLAST: X4\nM30\n",
+        Status::Yes,
+        "12 LINE X1=2.000\n15 LINE X1=4.000\n16 END\nSTATE ENDED 16\nVERDICT YES\n",
+    ),
+    // The text of a subprogram ends it; that of the main program does not.
+    (
+        "L9\nX2\nM30\n%_N_L9_SPF\nX1\n",
+        Status::Yes,
+        "13 LINE X1=1.000\n10 LINE X1=2.000\n11 END\nSTATE ENDED 11\nVERDICT YES\n",
+    ),
+    (
+        "L9\nX2\n%_N_L9_SPF\nX1\nM17\n",
+        Status::Alarm,
+        "12 LINE X1=1.000\n10 LINE X1=2.000\nSTATE ALARM 10 9 no program end\nVERDICT ALARM CHANNEL 1 LINE 10 CODE 9\n",
+    ),
+    (
+        "X1\nGOTOF NONE\nM30\n",
+        Status::Alarm,
+        "9 LINE X1=1.000\nSTATE ALARM 10 5 jump target missing\nVERDICT ALARM CHANNEL 1 LINE 10 CODE 5\n",
+    ),
+    (
+        "X1\nL8\nM30\n",
+        Status::Alarm,
+        "9 LINE X1=1.000\nSTATE ALARM 10 7 no such program\nVERDICT ALARM CHANNEL 1 LINE 10 CODE 7\n",
+    ),
+    (
+        "LAB: X1\nREPEAT LAB P=0.5\nM30\n",
+        Status::Alarm,
+        "9 LINE X1=1.000\nSTATE ALARM 10 33 repetition count\nVERDICT ALARM CHANNEL 1 LINE 10 CODE 33\n",
+    ),
+    (
+        "LOOP\nENDLOOP\nM30\n",
+        Status::Alarm,
+        "STATE ALARM 9 8 block limit\nVERDICT ALARM CHANNEL 1 LINE 9 CODE 8\n",
+    ),
+    (
+        "LAB: X1\nREPEATB LAB P=-1\nM30\n",
+        Status::Alarm,
+        "9 LINE X1=1.000\nSTATE ALARM 10 33 repetition count\nVERDICT ALARM CHANNEL 1 LINE 10 CODE 33\n",
+    ),
+];
+
+#[test]
+fn follows_control(rt: HostRuntime) -> Result<(), Fail> {
+    let alloc = rt.alloc();
+    for (blocks, status, output) in CONTROL.iter() {
+        let mut source = job_source(alloc, ONE, blocks, 1000, &[])?;
+        let mut sink = MemSink::new(alloc, 1000, Vec::new(alloc));
+        assert_eq!(rt;
+            check_words(alloc, &["check"], &mut source, &mut sink),
+            *status
+        );
+        let mut wanted = "TURNMILL 1\nCHANNEL 1\n".as_bytes().to_vec(alloc)?;
+        wanted.extend_from_slice(output.as_bytes())?;
+        assert_eq!(rt; sink.bytes(), wanted.as_slice(), "{blocks}");
+    }
+    Ok(())
+}
+
+// A program of one repetition in another, so many in all.
+fn nested_repetitions(alloc: Global, depth: u32) -> Result<String, AllocError> {
+    let mut text = format!(in alloc; "LAB0: R1=R1+1\n")?;
+    for index in 0..depth {
+        let label = index.saturating_add(1);
+        write!(&mut text, "LAB{label}: REPEATB LAB{index}\n")?;
+    }
+    text.push_str("X=R1\nM30\n")?;
+    Ok(text)
+}
+
+// A program on so many levels of calls, of which each adds 1.
+fn nested_calls(alloc: Global, levels: u32) -> Result<String, AllocError> {
+    let mut text = format!(in alloc; "L1\nX=R1\nM30\n")?;
+    for level in 1..levels {
+        let next = level.saturating_add(1);
+        write!(&mut text, "%_N_L{level}_SPF\nR1=R1+1\n")?;
+        if next < levels {
+            write!(&mut text, "L{next}\n")?;
+        }
+        text.push_str("M17\n")?;
+    }
+    Ok(text)
+}
+
+// Whether the output for these blocks ends with this text.
+fn ends_with(alloc: Global, blocks: &str, end: &str) -> Result<bool, Fail> {
+    let mut source = job_source(alloc, ONE, blocks, 1000, &[])?;
+    let mut sink = MemSink::new(alloc, 1000, Vec::new(alloc));
+    let _status = check_words(alloc, &["check"], &mut source, &mut sink);
+    Ok(sink.bytes().ends_with(end.as_bytes()))
+}
+
+#[test]
+fn runs_sixteen_repetitions_and_levels(rt: HostRuntime) -> Result<(), Fail> {
+    let alloc = rt.alloc();
+    let sixteen = nested_repetitions(alloc, 16)?;
+    let seventeen = nested_repetitions(alloc, 17)?;
+    assert!(rt; ends_with(alloc, &sixteen, "26 LINE X1=17.000\n27 END\nSTATE ENDED 27\nVERDICT YES\n")?);
+    assert!(rt; ends_with(alloc, &seventeen, "CHANNEL 1\nSTATE ALARM 10 32 too many repetitions\nVERDICT ALARM CHANNEL 1 LINE 10 CODE 32\n")?);
+    let sixteen = nested_calls(alloc, 16)?;
+    let seventeen = nested_calls(alloc, 17)?;
+    assert!(rt; ends_with(alloc, &sixteen, "10 LINE X1=15.000\n11 END\nSTATE ENDED 11\nVERDICT YES\n")?);
+    assert!(rt; ends_with(alloc, &seventeen, "STATE ALARM 70 6 too many program levels\nVERDICT ALARM CHANNEL 1 LINE 70 CODE 6\n")?);
     Ok(())
 }
 

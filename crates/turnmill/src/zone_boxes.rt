@@ -1,19 +1,21 @@
 //! The boxes of a zone, from where its axes are.
 ghost use Rattle.std.specs.Prelude.{◌≡◌, ◌==◌, ◌<◌, ℕ, ◌++◌, All, IfOk, OnOk, find, map};
-ghost use Rattle.channel_machine.specs.Motions.{positions_in};
+ghost use Rattle.turnmill.specs.Channels.{positions_in};
 ghost use Rattle.path_geometry.specs.Motions.{IsSound, axes_of};
 ghost use Rattle.turnmill.specs.ZoneBoxes as model;
+ghost use Rattle.sync_types.specs.Items.{motion_of};
 
+use crate::channels::Row;
 use arrayvec::ArrayVec;
 use axis_sets::AxisId;
-use channel_machine::{Item, Positions};
 use micro_units::Um;
 use std::alloc::{AllocError, Global};
 use swept_boxes::{Box3, Ranges, cover};
+use sync_types::Item;
 use tape_job::{Side, ZoneLine};
 
 /// Where an axis stands.
-fn standing(at: &Positions, axis: AxisId) -> Um
+fn standing(at: &Row, axis: AxisId) -> Um
     ensures { result ≡ positions_in at.now axis }
 {
     at[usize::from(axis.index)]
@@ -28,7 +30,7 @@ fn range_of(ranges: &[(AxisId, Um, Um)], axis: AxisId) -> Option<(AxisId, Um, Um
 
 /// The lowest and the highest position of an axis within ranges; an axis that they do not name stands.
 #[tactic(auto, unfolding(crate::specs::ZoneBoxes::low_in, crate::specs::ZoneBoxes::high_in))]
-fn span_of(ranges: &Ranges, at: &Positions, axis: AxisId) -> (Um, Um)
+fn span_of(ranges: &Ranges, at: &Row, axis: AxisId) -> (Um, Um)
     ensures low { result.0 ≡ model.low_in ranges.now (positions_in at.now) axis }
     ensures high { result.1 ≡ model.high_in ranges.now (positions_in at.now) axis }
 {
@@ -54,7 +56,7 @@ fn carried(bound: Um, position: Um, minus: bool) -> i32
 
 #[tactic(auto, unfolding(crate::specs::ZoneBoxes::side_low, crate::specs::ZoneBoxes::side_high))]
 /// The bounds of a direction of a zone whose axes are within ranges.
-fn bounds_of(side: &Side, ranges: &Ranges, at: &Positions) -> (i32, i32)
+fn bounds_of(side: &Side, ranges: &Ranges, at: &Row) -> (i32, i32)
     ensures low { result.0 ≡ model.side_low (model.low_in ranges.now (positions_in at.now)) (model.high_in ranges.now (positions_in at.now)) side.now }
     ensures high { result.1 ≡ model.side_high (model.low_in ranges.now (positions_in at.now)) (model.high_in ranges.now (positions_in at.now)) side.now }
 {
@@ -72,7 +74,7 @@ fn bounds_of(side: &Side, ranges: &Ranges, at: &Positions) -> (i32, i32)
 }
 
 /// The box whose directions have these bounds.
-fn box_of(sides: &[Side; 3], ranges: &Ranges, at: &Positions) -> Box3
+fn box_of(sides: &[Side; 3], ranges: &Ranges, at: &Row) -> Box3
     ensures { result ≡ model.box_of sides.now (model.low_in ranges.now (positions_in at.now)) (model.high_in ranges.now (positions_in at.now)) }
 {
     let x = bounds_of(&sides[0], ranges, at);
@@ -85,7 +87,7 @@ fn box_of(sides: &[Side; 3], ranges: &Ranges, at: &Positions) -> Box3
 }
 
 /// The box of a zone whose axes are within ranges, and elsewhere stand.
-pub fn zone_box(zone: &ZoneLine, ranges: &Ranges, at: &Positions) -> Box3
+pub fn zone_box(zone: &ZoneLine, ranges: &Ranges, at: &Row) -> Box3
     ensures { result ≡ model.zone_box zone.now (model.low_in ranges.now (positions_in at.now)) (model.high_in ranges.now (positions_in at.now)) }
 {
     box_of(&zone.sides, ranges, at)
@@ -114,7 +116,7 @@ fn has_axis(zone: &ZoneLine, axis: AxisId) -> bool
 fn moves_zone(zone: &ZoneLine, item: &Item) -> bool
     ensures { result ≡ model.moves_zone zone.now item.now }
 {
-    item.motion
+    item.motion()
         .ends()
         .axes
         .iter()
@@ -130,20 +132,20 @@ fn end_of(ends: &[(AxisId, Um, Um)], axis: AxisId) -> Option<(AxisId, Um, Um)>
 
 /// Where a motion leaves an axis.
 #[tactic(auto, unfolding(crate::specs::ZoneBoxes::after))]
-fn after(item: &Item, at: &Positions, index: usize) -> Um
+fn after(item: &Item, at: &Row, index: usize) -> Um
     requires { index < 16 }
     ensures { result ≡ model.after item.now (positions_in at.now) index }
 {
     let axis = AxisId { index: index as u8 };
-    match end_of(&item.motion.ends().axes, axis) {
+    match end_of(&item.motion().ends().axes, axis) {
         Some(end) => end.2,
         None => at[index],
     }
 }
 
 /// Puts the axes where a motion leaves them.
-pub fn settle(item: &Item, at: &mut Positions)
-    requires { All (λ e. e.0 < 16) (axes_of item.now.motion) }
+pub fn settle(item: &Item, at: &mut Row)
+    requires { All (λ e. e.0 < 16) (axes_of (motion_of item.now)) }
     ensures { (axis : ℕ) → positions_in at.new axis ≡ model.after item.now (positions_in at.old) axis }
 {
     let before = *at;
@@ -163,19 +165,19 @@ pub struct ZoneBox {
 
 /// The box of a zone during a motion that begins with its axes at these positions.
 #[tactic(auto, unfolding(crate::specs::ZoneBoxes::moving_box))]
-fn moving_box(zone: &ZoneLine, item: &Item, at: &Positions) -> ZoneBox
-    requires { IsSound item.now.motion }
+fn moving_box(zone: &ZoneLine, item: &Item, at: &Row) -> ZoneBox
+    requires { IsSound (motion_of item.now) }
     ensures { result ≡ model.moving_box zone.now item.now (positions_in at.now) }
 {
     ZoneBox {
         line: item.line,
-        cover: zone_box(zone, &cover(&item.motion), at),
+        cover: zone_box(zone, &cover(item.motion()), at),
     }
 }
 
 /// The box of a zone that stands.
 #[tactic(auto, unfolding(crate::specs::ZoneBoxes::standing_box))]
-fn standing_box(zone: &ZoneLine, line: u32, at: &Positions) -> ZoneBox
+fn standing_box(zone: &ZoneLine, line: u32, at: &Row) -> ZoneBox
     ensures { result ≡ model.standing_box zone.now line (positions_in at.now) }
 {
     let nothing = Ranges {
@@ -193,9 +195,9 @@ fn add_box(
     boxes: &mut Vec<ZoneBox>,
     zone: &ZoneLine,
     item: &Item,
-    at: &Positions,
+    at: &Row,
 ) -> Result<(), AllocError>
-    requires { IsSound item.now.motion }
+    requires { IsSound (motion_of item.now) }
     ensures { OnOk result (boxes.new.items ≡ boxes.old.items ++ model.boxes_during zone.now item.now (positions_in at.now)) }
 {
     if moves_zone(zone, item) {
@@ -208,7 +210,7 @@ fn add_box(
 fn moving_boxes(
     alloc: Global,
     zone: &ZoneLine,
-    start: &Positions,
+    start: &Row,
     items: &[Item],
 ) -> Result<Vec<ZoneBox>, AllocError>
     requires { All model.IsFit items.now }
@@ -228,7 +230,7 @@ pub fn boxes_of(
     alloc: Global,
     zone: &ZoneLine,
     line: u32,
-    start: &Positions,
+    start: &Row,
     items: &[Item],
 ) -> Result<Vec<ZoneBox>, AllocError>
     requires { All model.IsFit items.now }

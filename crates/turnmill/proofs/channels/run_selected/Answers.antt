@@ -1,29 +1,24 @@
--- The run of the program that is found, or of none.
-use Rattle.std.proofs.Common.{◌≡◌, ◌∙◌, ℕ, List, [], Some, All, IfOk, map, ap, sym, subst}
-use Rattle.channel_machine.specs.Run as machine
-use Rattle.channel_machine.specs.declared.run.SetUp.{SetUp}
-use Rattle.nc_blocks.specs.declared.blocks.Block.{Block}
-use Rattle.tape_job.specs.Job.{ProgramView}
-use Rattle.turnmill.specs.Channels.{set_up_of}
-use Rattle.turnmill.proofs.Runs.{ready_blocks, run_of_program, run_of_none}
+use Rattle.std.proofs.Common.{◌≡◌, ◌<◌, Option, ℕ, length, IfSome, IfOk, refl, sym, subst}
+use Rattle.channel_machine.specs.Run.{Setting, setting_of, begun, segment_of}
+use Rattle.sync_types.specs.declared.Grant.{Grant}
+use Rattle.turnmill.proofs.GrantLemmas.{place_within}
+use Rattle.turnmill.specs.Channels.{grant_of, program_run}
 use Rattle.turnmill.proofs.channels.run_selected.Goals as goal
 
-pub run_program-requires : goal.run_program-requires
-run_program-requires c =
-    let found = sym c.in-Some.ensures ∙ ap (λ (p : ProgramView). Some p) (sym c.program.view_is) in
-    subst (λ (blocks : List (ℕ × Block)). All machine.IsReady blocks) (sym c.deref.ensures.value)
-    (ready_blocks c.args.job.now c.requires c.args.line.now.program c.program.inside.line c.program.inside.blocks.items found)
+pub start-requires : goal.start-requires
+unfolding grant_of
+start-requires c = subst (λ (g : Grant). IfSome g.program (λ n. n < length c.args.job.now.programs)) (sym c.first_grant-grant.ensures) (place_within c.args.job.now c.args.line.now)
 
-pub returns-in-Some : goal.returns-in-Some
-returns-in-Some c =
-    let found = sym c.in-Some.ensures ∙ ap (λ (p : ProgramView). Some p) (sym c.program.view_is) in
-    let header : ℕ = c.program.inside.line in
-    let same = ap (λ (s : SetUp). machine.run_of s header (map machine.placed_view c.deref.result.now)) c.set_up-set_up.ensures
-    ∙ ap (λ (blocks : List (ℕ × Block)). machine.run_of (set_up_of c.args.job.now c.args.line.now.channel) header (map machine.placed_view blocks)) c.deref.ensures.value
-    ∙ run_of_program c.args.job.now c.args.line.now (record { line = header; blocks = map machine.placed_view c.program.inside.blocks.items }) found in
-    subst (λ (r : machine.RunView). IfOk c.run_program.result (λ run. machine.told run ≡ r)) same c.run_program.ensures.run
+pub returns-clause-items : goal.returns-clause-items
+unfolding program_run
+returns-clause-items c =
+    let setting : Setting = setting_of c.args.job.now c.args.line.now.channel c.first_grant-grant.result in
+    subst (λ (g : Grant). IfOk c.run_segment.result (λ segment. segment.items.items ≡ (segment_of (setting_of c.args.job.now c.args.line.now.channel g) (begun (setting_of c.args.job.now c.args.line.now.channel g))).items))
+    c.first_grant-grant.ensures (c.run_segment.ensures.items setting (begun setting) refl c.in_ok-local.ensures)
 
-pub returns-in-None : goal.returns-in-None
-returns-in-None c =
-    let same = ap (λ (s : SetUp). machine.run_of s 0 []) c.set_up-set_up.ensures ∙ run_of_none c.args.job.now c.args.line.now (sym c.in-None.ensures) in
-    subst (λ (r : machine.RunView). IfOk c.run_program-in-None.result (λ run. machine.told run ≡ r)) same c.run_program-in-None.ensures.run
+pub returns-clause-step : goal.returns-clause-step
+unfolding program_run
+returns-clause-step c =
+    let setting : Setting = setting_of c.args.job.now c.args.line.now.channel c.first_grant-grant.result in
+    subst (λ (g : Grant). IfOk c.run_segment.result (λ segment. segment.step ≡ (segment_of (setting_of c.args.job.now c.args.line.now.channel g) (begun (setting_of c.args.job.now c.args.line.now.channel g))).step))
+    c.first_grant-grant.ensures (c.run_segment.ensures.step setting (begun setting) refl c.in_ok-local.ensures)

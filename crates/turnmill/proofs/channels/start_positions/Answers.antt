@@ -1,5 +1,5 @@
 use Rattle.std.proofs.Common.{◌≡◌, ◌∙◌, ◌≤◌, ℤ, List, ap, arith}
-use Rattle.channel_machine.specs.Motions.{positions_in}
+use Rattle.turnmill.specs.Channels.{positions_in}
 use Rattle.turnmill.specs.Channels.{start_row}
 use Rattle.turnmill.proofs.Positions.{row_is, whole_row}
 use Rattle.turnmill.proofs.channels.start_positions.Goals as goal

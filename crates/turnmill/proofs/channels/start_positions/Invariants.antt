@@ -1,5 +1,5 @@
 use Rattle.std.proofs.Common.{◌≡◌, ℕ, ◌<◌, length}
-use Rattle.channel_machine.specs.Motions.{positions_in}
+use Rattle.turnmill.specs.Channels.{positions_in}
 use Rattle.turnmill.specs.Channels.{start_position}
 use Rattle.turnmill.proofs.channels.start_positions.Given as goal
 

@@ -1,5 +1,5 @@
 use Rattle.std.proofs.Common.{◌==◌, sym}
-use Rattle.channel_machine.specs.Run.{IsListedEnd}
+use Rattle.turnmill.specs.ChannelRun.{IsListedEnd}
 use Rattle.turnmill.specs.ChannelRun.{RunView, run_in}
 use Rattle.turnmill.proofs.SomeLemmas.{All-found}
 use Rattle.turnmill.proofs.report.push_lines_of.Goals as goal

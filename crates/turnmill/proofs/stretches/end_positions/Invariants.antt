@@ -1,6 +1,7 @@
 use Rattle.std.proofs.Common.{◌≡◌, ℕ, drop}
 use Rattle.turnmill.specs.Channels.{start_position}
-use Rattle.channel_machine.specs.Motions.{left_at, positions_in}
+use Rattle.block_effects.specs.Motions.{left_at}
+use Rattle.turnmill.specs.Channels.{positions_in}
 use Rattle.turnmill.proofs.stretches.end_positions.Given as goal
 
 abbrev pub invariant-loop-item : goal.invariant-loop-item

@@ -1,7 +1,8 @@
 use Rattle.std.proofs.Common.{◌≡◌, refl}
 use mathlib.Core.Path.{fun_ext}
 use Rattle.turnmill.specs.Channels.{start_position}
-use Rattle.channel_machine.specs.Motions.{left_at, positions_in}
+use Rattle.block_effects.specs.Motions.{left_at}
+use Rattle.turnmill.specs.Channels.{positions_in}
 use Rattle.turnmill.specs.ShownStretches.{end_stretch}
 use Rattle.turnmill.proofs.stretches.end_stretch.Goals as goal
 

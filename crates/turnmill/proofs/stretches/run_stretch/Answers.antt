@@ -1,6 +1,6 @@
 use Rattle.std.proofs.Common.{◌≡◌, refl}
 use mathlib.Core.Path.{fun_ext}
-use Rattle.channel_machine.specs.Motions.{positions_in}
+use Rattle.turnmill.specs.Channels.{positions_in}
 use Rattle.turnmill.specs.Channels.{start_position}
 use Rattle.turnmill.specs.ShownStretches.{run_stretch}
 use Rattle.turnmill.proofs.stretches.run_stretch.Goals as goal

@@ -1,5 +1,5 @@
 use Rattle.std.proofs.Common.{◌==◌, List, length, sym, ap, ◌∙◌}
-use Rattle.channel_machine.specs.Motions.{positions_in}
+use Rattle.turnmill.specs.Channels.{positions_in}
 use Rattle.turnmill.specs.ZoneBoxes.{standing_box}
 use Rattle.turnmill.specs.declared.zone_boxes.ZoneBox.{ZoneBox}
 use Rattle.turnmill.proofs.BoxLemmas.{shown_boxes, filled, emptied}

@@ -1,5 +1,5 @@
 use Rattle.std.proofs.Common.{◌≡◌, ℕ, ◌<◌, length}
-use Rattle.channel_machine.specs.Motions.{positions_in}
+use Rattle.turnmill.specs.Channels.{positions_in}
 use Rattle.turnmill.specs.ZoneBoxes as model
 use Rattle.turnmill.proofs.zone_boxes.settle.Given as goal
 

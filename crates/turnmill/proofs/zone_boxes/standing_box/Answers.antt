@@ -1,6 +1,6 @@
 use Rattle.std.proofs.Common.{ap, ◌∙◌}
 use Rattle.swept_boxes.specs.declared.Box3.{Box3}
-use Rattle.channel_machine.specs.Motions.{positions_in}
+use Rattle.turnmill.specs.Channels.{positions_in}
 use Rattle.turnmill.specs.ZoneBoxes.{standing_box}
 use Rattle.turnmill.specs.declared.zone_boxes.ZoneBox.{ZoneBox}
 use Rattle.turnmill.proofs.BoxLemmas.{box_standing}
