@@ -15,6 +15,3 @@ pub use course::{Course, Done, Library};
 pub use effects::execute;
 pub use laws::{alarms_are_listed, motions_begin_where_axes_stand};
 pub use parameters::Parameters;
-
-#[cfg(test)]
-mod tests;

@@ -5,8 +5,8 @@ ghost use Rattle.nc_blocks.specs.Indices.{OptionFits, StatementFits};
 ghost use Rattle.nc_blocks.specs.Statement.{statement_view, tree_option};
 ghost use Rattle.nc_expressions.specs.Tree.{tree_of, IndicesFit};
 
-use super::*;
 use axis_sets::{AxisId, Positions};
+use block_effects::*;
 use block_scanner::scan;
 use micro_units::{Num, Um};
 use nc_blocks::{JumpTo, NameText, Stmt, Target, Way, words_form};
