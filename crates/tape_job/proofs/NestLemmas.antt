@@ -8,7 +8,7 @@ use Rattle.nc_blocks.specs.Statement.{BlockView, Statement, If, Else, EndIf, Whi
 use Rattle.nc_control_flow.specs.declared.nest.Opened.{Opened}
 use Rattle.nc_control_flow.specs.declared.nest.Structure.{Structure}
 use Rattle.nc_control_flow.specs.declared.nest.Structure.TheVariants as structure
-use Rattle.nc_control_flow.specs.Nest.{ends, opened, closed, with_else, branched, nested, Nests}
+use Rattle.nc_control_flow.specs.Nest.{ends, closed, with_else, branched, nested, Nests}
 use Rattle.nc_control_flow.specs.Nested.{nested_on, nest_of}
 use Rattle.nc_faults.specs.Texts.{IsRefusalCode, refusal_texts}
 use Rattle.tape_job.specs.Rules.{structure_fault, fault_of}

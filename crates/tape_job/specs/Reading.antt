@@ -73,7 +73,7 @@ entry_reading seen percent content =
 abbrev pub words_of : List ℕ → List Token → WordsView
 words_of text tokens = record { line = text; tokens = tokens }
 
--- a block that is built; that it is not built comes after all else that its line breaks
+-- a block that is built; that it is not built comes after all else that its line breaks, and no block that is not built opens or ends a structure
 unfoldable pub step_of : Result BlockView ℕ → Result ReadingView ℕ
 step_of (Ok block) = if is_built block.statement then Ok (Step block) else Err (shown NotBuilt)
 step_of (Err code) = Err code

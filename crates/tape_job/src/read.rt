@@ -10,6 +10,8 @@ use std::alloc::Global;
 
 /// Reads an input: its job, or the first refusal of a line that is tried and broken.
 ///
+/// Refusal 25: a block ends or goes on with a structure that is not the innermost open one of its program, at its line; or a program ends, by a line that begins with `%` or by the end of the input, inside a structure, at the line of the one opened last. Refusal 26: a block opens a seventeenth structure.
+///
 /// The parameter numbers that blocks name are at most 999, and a refusal's code is one of those with a text.
 pub fn read_job(alloc: Global, bytes: &[u8]) -> Result<Job, JobFault>
     requires { length bytes.now ≤ 8388609 }

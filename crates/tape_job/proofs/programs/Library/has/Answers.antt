@@ -1,6 +1,5 @@
-use Rattle.std.proofs.Common.{◌∙◌, ◌||◌, ap, sym, subst, ◌≡◌, true, false, refl}
+use Rattle.std.proofs.Common.{◌∙◌, sym, ◌≡◌, true, false, refl}
 use Rattle.tape_job.specs.Rules.{has_program}
-use Rattle.tape_job.specs.Steps.{is_last}
 use Rattle.tape_job.proofs.LibraryLemmas.{has_either}
 use Rattle.tape_job.proofs.programs.Library.has.Goals as goal
 

@@ -1,4 +1,4 @@
-use Rattle.std.proofs.Common.{◌≡◌, ◌∙◌, ◌+◌, Some, nat_le, length, ap, sym, refl}
+use Rattle.std.proofs.Common.{◌≡◌, ◌∙◌, ◌+◌, length, ap, sym, refl}
 use Rattle.tape_job.proofs.LibraryLemmas.{length_with}
 use Rattle.tape_job.proofs.programs.Library.is_full.Goals as goal
 
