@@ -5,6 +5,8 @@
 #![tactic(auto)]
 
 #[cfg(test)]
+mod jobs;
+#[cfg(test)]
 mod lines;
 #[cfg(test)]
 mod streams;

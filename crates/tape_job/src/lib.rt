@@ -19,6 +19,3 @@ pub use fault::JobFault;
 pub use job::{AxisLine, ChannelLine, GeoLine, Job, Program, Side, ZoneLine};
 pub use laws::{accepted_jobs_are_sound, refusals_are_first};
 pub use read::read_job;
-
-#[cfg(test)]
-mod tests;

@@ -1,10 +1,10 @@
 //! Whole jobs, and each refusal, read from texts.
-use crate::*;
 use axis_sets::{AxisId, ChannelId, ZoneId};
 use micro_units::Um;
 use nc_blocks::{Stmt, Word};
 use std::alloc::Global;
 use std::test::Fail;
+use tape_job::*;
 
 /// The job of a text, or none where it is refused or memory runs out.
 fn job_of(alloc: Global, text: &str) -> Option<Job> {
