@@ -1,5 +1,5 @@
 -- One block of a segment, told by what is kept.
-use Rattle.std.proofs.Common.{◌≡◌, ◌∙◌, ℕ, zero, suc, ◌+◌, ◌-◌, ℤ, true, false, List, [], ◌∷◌, ◌++◌, append-nil, length, Option, None, Some, Result, Ok, Err, refl, sym, ap, subst, arith}
+use Rattle.std.proofs.Common.{◌≡◌, ◌∙◌, ℕ, zero, suc, ◌+◌, ◌-◌, ℤ, Bool, true, false, List, [], ◌∷◌, ◌++◌, append-nil, length, Option, None, Some, Result, Ok, Err, refl, sym, ap, subst, arith}
 use mathlib.Core.Path.{fun_ext}
 use Rattle.std.specs.Option.{option_to_list}
 use Rattle.block_effects.specs.Effects.{Effect, effect_of}
@@ -18,13 +18,22 @@ use Rattle.channel_machine.specs.Kept.{Kept, Keeps}
 abbrev pub ended : List Item → Kept → ℕ → Action → SegmentView
 ended items k line action = record { items = items; step = step_at k.axes k.on (stands k.at) line action }
 
+abbrev pub segment_view : List Item → Step → SegmentView
+segment_view items step = record { items = items; step = step }
+
 module _ (s : Setting) (c : Channel) (k : Kept) (keeps : Keeps s c k) (before : List Item) where
   same_at : stands k.at ≡ stands_after s c.past
   same_at = fun_ext keeps.at
 
+  step_is : (line here : ℕ) (action : Action) → line ≡ here → step_at k.axes k.on (stands k.at) line action ≡ step_after s c.past here action
+  step_is line here action is =
+      ap (λ (axes : List Bool). step_at axes k.on (stands k.at) line action) keeps.axes ∙ ap (λ (on : List Bool). step_at s.grant.axes on (stands k.at) line action) keeps.on
+      ∙ ap (λ (at : ℕ → ℤ). step_at s.grant.axes s.grant.on at line action) same_at ∙ ap (λ (n : ℕ). step_after s c.past n action) is
+
   -- an alarm ends it
   alarm_is : (line here code : ℕ) → line ≡ here → onto before (alarmed s c.past here code) ≡ ended before k line (Alarm code)
-  alarm_is line here code is = rw (append-nil before, keeps.axes, keeps.on, same_at, is) refl
+  alarm_is line here code is =
+      ap (λ (items : List Item). segment_view items (step_after s c.past here (Alarm code))) (append-nil before) ∙ ap (segment_view before) (sym (step_is line here (Alarm code) is))
 
   segment_is : (n : ℕ) → 100000 - length c.past ≡ n → segment_of s c ≡ run_after s n c
   unfolding segment_of
