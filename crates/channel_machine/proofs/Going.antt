@@ -1,6 +1,8 @@
 -- How a level goes on.
-use Rattle.std.proofs.Common.{◌≡◌, ◌∙◌, ℕ, zero, suc, nat_lt, Bool, true, false, cond, List, [], ◌∷◌, map, length, length-map, Option, None, Some, Result, Ok, Err, All, refl, sym, ap, subst, arith}
+use Rattle.std.proofs.Common.{◌≡◌, ◌∙◌, ℕ, zero, suc, ◌-◌, ◌<◌, nat_lt, Bool, true, false, cond, List, [], ◌∷◌, map, length, Option, None, Some, Result, Ok, Err, All, refl, sym, ap, subst, arith}
+use Rattle.std.proofs.lemmas.List.{length-map}
 use Rattle.std.proofs.lemmas.List.Elements.{All-head, All-tail}
+use Rattle.nc_subprograms.specs.Stack.{Returns}
 use Rattle.nc_blocks.specs.declared.blocks.Block.{Block}
 use Rattle.nc_blocks.specs.Statement.{BlockView, view_of}
 use Rattle.nc_control_flow.specs.declared.flow.Next.{Next}
@@ -14,7 +16,7 @@ use Rattle.nc_control_flow.specs.Repetitions.{Going}
 use Rattle.nc_subprograms.specs.declared.Place.{Place}
 use Rattle.tape_job.specs.Job.{ProgramView, block_entry}
 use Rattle.channel_machine.specs.declared.levels.Levels.{Levels}
-use Rattle.channel_machine.specs.Levels.{lines_of, program_blocks, gone_on, behind_call, has_block, arrived, past_end, Lands, GoesBehind, GoesOn}
+use Rattle.channel_machine.specs.Levels.{lines_of, program_blocks, first_place, gone_on, behind_call, has_block, arrived, past_end, Lands, GoesBehind, GoesOn}
 
 -- a flow's blocks, without their lines
 views_same : (flow : List (ℕ × Block)) → blocks_of (map block_entry flow) ≡ views flow
@@ -26,7 +28,7 @@ module _ (programs : List (List ℕ × ProgramView)) (number : ℕ) (flow : List
   views_are = ap blocks_of lines ∙ views_same flow
 
   pub long : length (lines_of programs number) ≡ length (views flow)
-  long = ap length lines ∙ length-map block_entry flow ∙ sym (length-map (λ (e : ℕ × Block). view_of e.1) flow)
+  long = ap length lines ∙ length-map flow block_entry ∙ sym (length-map flow (λ (e : ℕ × Block). view_of e.1))
 
 -- ---- one block on
 
@@ -59,17 +61,14 @@ module _ (programs : List (List ℕ × ProgramView)) (old : Place) (flow : List 
       by_test true e = at_block e (subst (λ (n : Next). Lands n (record old { repeats = mid }) b new) (is ∙ ap (λ (t : Bool). cond t (At to.place) Past) e) landed)
       by_test false e = at_end e (subst (λ (n : Next). Lands n (record old { repeats = mid }) b new) (is ∙ ap (λ (t : Bool). cond t (At to.place) Past) e) landed)
 
-  same_ok : {A : Type 0} (x y : A) → Ok {E = ℕ} x ≡ Ok y → x ≡ y
-  same_ok x y is = cc
-
   led : (r : Result Going ℕ) (next : Next) (mid : List Running) (b : Bool) (new : Place) → Leads (views flow) r (Ok next) old.repeats mid
       → Lands next (record old { repeats = mid }) b new → GoesOn programs r old (Ok b) new
-  led (Ok to) next mid b new (is, runs) landed = lands to next mid b new (same_ok next (next_at (views flow) to.place) is) runs landed
+  led (Ok to) next mid b new (is, runs) landed = let at : next ≡ next_at (views flow) to.place = cc in lands to next mid b new at runs landed
   led (Err code) next mid b new (is, runs) landed = absurd cc
 
   led_not : (r : Result Going ℕ) (code : ℕ) (mid : List Running) (new : Place) → Leads (views flow) r (Err code) old.repeats mid → GoesOn programs r old (Err code) new
   led_not (Ok to) code mid new (is, runs) = absurd cc
-  led_not (Err other) code mid new (is, runs) = is
+  led_not (Err other) code mid new (is, runs) = let same : code ≡ other = cc in ap (λ (n : ℕ). Err n) same
 
   -- the flow goes on
   pub goes_on : (outcome : OutcomeView) (next : Next) (mid : List Running) (b : Bool) (new : Place) → Leads (views flow) (next_block old.pc (views flow) old.repeats outcome) (Ok next) old.repeats mid
@@ -93,29 +92,67 @@ module _ (programs : List (List ℕ × ProgramView)) (blocks : List BlockView) (
   unfolding next_block move_of going
   never_alarms code is = is
 
+-- ---- the level below
+
+pub popped : (old : List Place) (caller : Place) (new : List Place) → Returns old (Some caller) new → old ≡ caller ∷ new
+popped [] caller new (is, e) = absurd cc
+popped (p ∷ ps) caller new (is, e) = let same : p ≡ caller = cc in rw (same, e) refl
+
+pub emptied : (old new : List Place) → Returns old None new → old ≡ []
+emptied [] new (is, e) = refl
+emptied (p ∷ ps) new (is, e) = absurd cc
+
 -- ---- past the end of a program
 
-module _ (programs : List (List ℕ × ProgramView)) where
-  pub next_pass : (number passes : ℕ) (returns : List Place) (less : ℕ) → passes ≡ suc less
-      → past_end programs number passes returns ≡ Some (record { here = record { program = number; pc = 0; passes = less; repeats = [] }; returns = returns })
-  next_pass number zero returns less is = absurd (omega arith)
-  next_pass number (suc n) [] less is = let e : n ≡ less = omega arith in rw e refl
-  next_pass number (suc n) (p ∷ ps) less is = let e : n ≡ less = omega arith in rw e refl
+module _ (programs : List (List ℕ × ProgramView)) (number : ℕ) where
+  -- the next pass begins
+  next_pass : (passes : ℕ) (returns : List Place) (less : ℕ) → passes ≡ suc less → past_end programs number passes returns ≡ Some (record { here = first_place number less; returns = returns })
+  next_pass zero returns less is = absurd (omega arith)
+  next_pass (suc n) [] less is = let e : n ≡ less = omega arith in rw e refl
+  next_pass (suc n) (p ∷ ps) less is = let e : n ≡ less = omega arith in rw e refl
 
-  pub main_end : (number passes : ℕ) → passes ≡ 0 → past_end programs number passes [] ≡ None
-  main_end number zero is = refl
-  main_end number (suc n) is = absurd (omega arith)
+  pub again : (passes : ℕ) (returns : List Place) (here : Place) (goal : Option Levels) → here ≡ first_place number (passes - 1) → 0 < passes
+      → past_end programs number passes returns ≡ goal → Some (record { here = here; returns = returns }) ≡ goal
+  again passes returns here goal is some same = rw is (sym (next_pass passes returns (passes - 1) (omega (arith, some))) ∙ same)
 
-  -- behind the call of the level below a block comes
-  pub below_comes : (number passes : ℕ) (place : Place) (places : List Place) (new : Place) → passes ≡ 0 → GoesBehind programs (behind_call place) true new
-      → past_end programs number passes (place ∷ places) ≡ Some (record { here = new; returns = places })
-  below_comes number (suc n) place places new is goes = absurd (omega arith)
-  below_comes number zero place places new is goes =
-      rw (sym goes.comes, goes.arrives refl) refl
+  main_end : (passes : ℕ) → passes ≡ 0 → past_end programs number passes [] ≡ None
+  main_end zero is = refl
+  main_end (suc n) is = absurd (omega arith)
 
-  -- or it is at its end too
-  pub below_ends : (number passes : ℕ) (place : Place) (places : List Place) (new : Place) → passes ≡ 0 → GoesBehind programs (behind_call place) false new
-      → past_end programs number passes (place ∷ places) ≡ past_end programs new.program new.passes places
-  below_ends number (suc n) place places new is goes = absurd (omega arith)
-  below_ends number zero place places new is goes =
-      rw (sym goes.comes, goes.program, goes.passes) refl
+  -- the main program ends
+  pub at_main : (passes : ℕ) (old new : List Place) (goal : Option Levels) → passes ≡ 0 → Returns old None new → past_end programs number passes old ≡ goal → None ≡ goal
+  at_main passes old new goal none ret same = sym (main_end passes none) ∙ ap (past_end programs number passes) (sym (emptied old new ret)) ∙ same
+
+  below : (passes : ℕ) (place : Place) (places : List Place) → passes ≡ 0
+      → past_end programs number passes (place ∷ places) ≡ arrived programs (behind_call place) places (past_end programs place.program place.passes places)
+  below zero place places is = refl
+  below (suc n) place places is = absurd (omega arith)
+
+  module _ (passes : ℕ) (old new : List Place) (caller here : Place) (none : passes ≡ 0) (ret : Returns old (Some caller) new) where
+    pub fits_head : All (λ place. has_block programs place ≡ true) old → has_block programs caller ≡ true
+    fits_head all = All-head (λ place. has_block programs place ≡ true) caller new (subst (λ (ps : List Place). All (λ place. has_block programs place ≡ true) ps) (popped old caller new ret) all)
+
+    pub fits_tail : All (λ place. has_block programs place ≡ true) old → All (λ place. has_block programs place ≡ true) new
+    fits_tail all = All-tail (λ place. has_block programs place ≡ true) caller new (subst (λ (ps : List Place). All (λ place. has_block programs place ≡ true) ps) (popped old caller new ret) all)
+
+    pub fewer : length new < length old
+    fewer = let e : length old ≡ length (caller ∷ new) = ap length (popped old caller new ret) in omega (arith, e)
+
+    past_caller : past_end programs number passes old ≡ arrived programs (behind_call caller) new (past_end programs caller.program caller.passes new)
+    past_caller = ap (past_end programs number passes) (popped old caller new ret) ∙ below passes caller new none
+
+    -- behind the call of the level below a block comes
+    pub below_comes : (b : Bool) (goal : Option Levels) → b ≡ true → GoesBehind programs (behind_call caller) b here → past_end programs number passes old ≡ goal
+        → Some (record { here = here; returns = new }) ≡ goal
+    below_comes b goal is goes same =
+        let comes : has_block programs (behind_call caller) ≡ true = sym goes.comes ∙ is in
+        let there : arrived programs (behind_call caller) new (past_end programs caller.program caller.passes new) ≡ Some (record { here = behind_call caller; returns = new }) = rw comes refl in
+        rw (goes.arrives is) (sym there ∙ sym past_caller ∙ same)
+
+    -- or it is at its end too
+    pub below_ends : (b : Bool) (goal : Option Levels) → b ≡ false → GoesBehind programs (behind_call caller) b here → past_end programs number passes old ≡ goal
+        → past_end programs here.program here.passes new ≡ goal
+    below_ends b goal is goes same =
+        let ends : has_block programs (behind_call caller) ≡ false = sym goes.comes ∙ is in
+        let there : arrived programs (behind_call caller) new (past_end programs caller.program caller.passes new) ≡ past_end programs caller.program caller.passes new = rw ends refl in
+        rw (goes.program, goes.passes) (sym there ∙ sym past_caller ∙ same)
