@@ -1,9 +1,11 @@
 -- What is kept of a channel between two blocks.
-use Rattle.std.specs.Prelude.{◌≡◌, ℕ, ℤ, Bool, List, length, Option}
+use Rattle.std.specs.Prelude.{◌≡◌, ℕ, ℤ, Bool, List, length, Option, Some, None}
 use Rattle.block_effects.specs.Motions.{stands}
+use Rattle.sync_types.specs.declared.Item.{Item}
+use Rattle.sync_types.specs.declared.Step.{Step}
 use Rattle.channel_machine.specs.declared.levels.Levels.{Levels}
 use Rattle.channel_machine.specs.declared.local.State.{State}
-use Rattle.channel_machine.specs.Run.{Setting, Channel, parameters_after, stands_after, line_after}
+use Rattle.channel_machine.specs.Run.{Setting, Channel, SegmentView, parameters_after, stands_after, line_after, onto, segment_of}
 
 -- where control is; how many blocks were executed, and the line of the last, or of the header; the parameters; where the axes stand; and what does not change: the axes in the slots, the owned axes, and the zones that are on
 pub record Kept : Type 0 where
@@ -26,6 +28,21 @@ pub record Keeps (setting : Setting) (channel : Channel) (kept : Kept) : Type 0 
   pub slots : kept.slots ≡ setting.slots
   pub axes : kept.axes ≡ setting.grant.axes
   pub on : kept.on ≡ setting.grant.on
+
+-- a block on, with these items more, the channel goes on as this is kept of it
+pub record GoesOn (setting : Setting) (channel : Channel) (before after : List Item) (kept : Kept) : Type 0 where
+  pub next : Channel
+  pub keeps : Keeps setting next kept
+  pub rest : onto before (segment_of setting channel) ≡ onto after (segment_of setting next)
+
+-- a block on, the segment ends with this step, or the channel goes on
+abbrev pub Advances : Setting → Channel → List Item → Option Step → List Item → Kept → Type 0
+Advances setting channel before (Some step) after kept = onto before (segment_of setting channel) ≡ record { items = after; step = step }
+Advances setting channel before None after kept = GoesOn setting channel before after kept
+
+-- the items and the step of a segment
+abbrev pub IsSegment : SegmentView → List Item → Step → Type 0
+IsSegment segment items step = segment ≡ record { items = items; step = step }
 
 -- what a state keeps
 abbrev pub kept_by : State → Kept

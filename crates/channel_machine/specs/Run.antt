@@ -114,14 +114,13 @@ pub record SegmentView : Type 0 where
 abbrev pub owned_at : List Bool → (ℕ → ℤ) → List (Option ℤ)
 owned_at axes at = map (λ axis. if has axes axis then Some (at axis) else None) (range_with_len 0 16)
 
+-- a step on this line, where the axes stand so
+abbrev pub step_at : List Bool → List Bool → (ℕ → ℤ) → ℕ → Action → Step
+step_at axes on at line action = record { line = line; action = action; at = owned_at axes at; on = on }
+
 -- a step behind these blocks
 abbrev pub step_after : Setting → List Executed → ℕ → Action → Step
-step_after setting past line action = record {
-  line = line;
-  action = action;
-  at = owned_at setting.grant.axes (stands_after setting past);
-  on = setting.grant.on;
-}
+step_after setting past line action = step_at setting.grant.axes setting.grant.on (stands_after setting past) line action
 
 -- the segment ends with an alarm; nothing of the block on this line stands
 abbrev pub alarmed : Setting → List Executed → ℕ → ℕ → SegmentView
@@ -173,9 +172,13 @@ run_after setting (suc more) channel =
 unfoldable pub segment_of : Setting → Channel → SegmentView
 segment_of setting channel = run_after setting (100000 - length channel.past) channel
 
--- a channel at its start: its main program at its first block
+-- a main program at its first block
+abbrev pub begin : List (List ℕ × ProgramView) → ℕ → Option Levels
+begin programs number = come programs (first_place number 0) []
+
+-- a channel at its start
 abbrev pub begun : Setting → Channel
-begun setting = record { past = []; levels = option_and_then (λ number. come setting.programs (first_place number 0) []) setting.grant.program }
+begun setting = record { past = []; levels = option_and_then (begin setting.programs) setting.grant.program }
 
 -- the alarm of a step, where it is one, is in the table of alarms
 abbrev pub IsListedAction : Action → Type 0

@@ -22,6 +22,18 @@ pub(crate) struct Levels {
     pub returns: CallStack,
 }
 
+impl Levels {
+    /// The same levels once more.
+    pub(crate) fn copied(&self) -> Levels
+        ensures { result ≡ self.now }
+    {
+        Levels {
+            here: self.here.copied(),
+            returns: self.returns.copied(),
+        }
+    }
+}
+
 /// The program of a number.
 pub(crate) fn flow_of(job: &Job, number: u16) -> Option<&Flow>
     ensures { model.IsFlowOf job.now.programs number (option_copied result) }

@@ -5,6 +5,8 @@
 mod laws;
 mod levels;
 mod local;
+mod run;
 
 pub use laws::{alarms_are_listed, motions_are_few, motions_are_sound, motions_follow_one_another};
 pub use local::Local;
+pub use run::{Segment, run_segment};

@@ -1,9 +1,19 @@
 //! A channel between two blocks.
 
-use crate::levels::Levels;
-use axis_sets::{AxisId, AxisSet, Positions, ZoneSet};
+ghost use Rattle.std.specs.Prelude.{◌≡◌, ◌==◌, ◌&&◌, ℕ, find, option_and_then, slice_get, IfOk, IfSome};
+ghost use Rattle.std.specs.Option.{option_map_or};
+ghost use Rattle.channel_machine.specs.Kept.{Keeps, kept_by};
+ghost use Rattle.channel_machine.specs.Levels.{LevelsFit};
+ghost use Rattle.channel_machine.specs.Run as model;
+
+use crate::levels::{Levels, begin};
+use axis_sets::{AxisId, AxisSet, ChannelId, Positions, ZoneSet};
 use block_effects::Parameters;
+use nc_faults::NoMemory;
+use std::alloc::{AllocError, Global};
 use std::marker::Model;
+use sync_types::Grant;
+use tape_job::{GeoLine, Job};
 
 /// What a channel keeps between two blocks.
 #[derive(Drop)]
@@ -26,7 +36,29 @@ pub(crate) struct State {
     pub on: ZoneSet,
 }
 
-/// A channel between two segments: what it keeps of its run.
+impl State {
+    /// The same state once more.
+    pub(crate) fn copied(&self) -> Result<State, AllocError>
+        ensures { IfOk result (λ state. kept_by state ≡ kept_by self.now) }
+    {
+        let levels = match &self.levels {
+            Some(levels) => Some(levels.copied()),
+            None => None,
+        };
+        Ok(State {
+            levels,
+            count: self.count,
+            last: self.last,
+            parameters: self.parameters.copied()?,
+            at: self.at,
+            slots: self.slots,
+            axes: self.axes,
+            on: self.on,
+        })
+    }
+}
+
+/// A channel between two segments. A contract sees what it keeps of its run.
 #[derive(Drop)]
 pub struct Local {
     pub(crate) state: State,
@@ -38,4 +70,78 @@ impl Model for Local {
     ghost Value = { Kept };
 
     ghost view = { λ l. kept_by l.state };
+}
+
+/// The GEO line of a slot of a channel: 0, 1, 2 for X, Y, Z.
+#[tactic(auto, unfolding(crate::specs::Run::slot_line))]
+fn slot_line(job: &Job, channel: ChannelId, slot: u8) -> Option<GeoLine>
+    ensures { result ≡ model.slot_line job.now channel slot }
+{
+    job.geo
+        .iter()
+        .copied()
+        .find(|line| line.channel == channel && line.slot == slot)
+}
+
+/// The axis in a slot of a channel.
+fn slot_axis(job: &Job, channel: ChannelId, slot: u8) -> Option<AxisId>
+    ensures { result ≡ model.slot_axis job.now channel slot }
+{
+    match slot_line(job, channel, slot) {
+        Some(line) => Some(line.axis),
+        None => None,
+    }
+}
+
+/// The line of a program's header, or 0.
+fn header_of(job: &Job, program: Option<u16>) -> u32
+    ensures { result ≡ option_map_or (λ p. p.1.line) (option_and_then (slice_get job.now.programs) program) 0 }
+{
+    match program {
+        Some(number) => match job.programs.get_index(usize::from(number)) {
+            Some((_, program)) => program.line,
+            None => 0,
+        },
+        None => 0,
+    }
+}
+
+/// Where control is at the start.
+fn begin_some(job: &Job, program: Option<u16>) -> Option<Levels>
+    ensures begun { result ≡ option_and_then (model.begin job.now.programs) program }
+    ensures fit { IfSome result (LevelsFit job.now.programs) }
+{
+    match program {
+        Some(number) => begin(job, number),
+        None => None,
+    }
+}
+
+impl Local {
+    /// A channel at its start: its program at the first block, all parameters 0, and its axes where
+    /// the grant puts them.
+    pub fn start(
+        alloc: Global,
+        job: &Job,
+        channel: ChannelId,
+        grant: &Grant,
+    ) -> Result<Local, NoMemory>
+        ensures kept { IfOk result (λ local. Keeps (model.setting_of job.now channel grant.now) (model.begun (model.setting_of job.now channel grant.now)) local) }
+        ensures fit { IfOk result (λ local. IfSome local.levels (LevelsFit job.now.programs)) }
+    {
+        let x = slot_axis(job, channel, 0);
+        let y = slot_axis(job, channel, 1);
+        let z = slot_axis(job, channel, 2);
+        let state = State {
+            levels: begin_some(job, grant.program),
+            count: 0,
+            last: header_of(job, grant.program),
+            parameters: Parameters::new(alloc)?,
+            at: grant.at,
+            slots: [x, y, z],
+            axes: grant.axes,
+            on: grant.on,
+        };
+        Ok(Local { state })
+    }
 }
