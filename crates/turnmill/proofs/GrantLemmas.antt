@@ -1,20 +1,17 @@
 -- What a channel is granted at its start.
-use Rattle.std.proofs.Common.{◌≡◌, ◌⊎◌, ◌∙◌, ℕ, ℤ, pos, ◌<◌, ◌≤◌, ◌==◌, Bool, true, false, cond, nat_lt, List, map, IfSome, length, get_or, slice_get, option_and_then, Option, None, Some, unwrap_or, All, inl, inr, zero-add, refl, sym, ap, subst, arith}
-use Rattle.std.specs.List.{range_with_len, position_or_len}
-use Rattle.std.specs.Map.{keys_of}
-use Rattle.std.specs.Prelude.{position}
-use Rattle.std.specs.Str.{bytes_eq}
-use Rattle.std.proofs.lemmas.Bool.{eq-eqb, ltb-true}
-use Rattle.std.proofs.lemmas.List.{get_or_past, length-map}
+use Rattle.std.proofs.Common.{◌≡◌, ◌⊎◌, ◌∙◌, ℕ, ℤ, pos, ◌<◌, ◌≤◌, ◌==◌, Bool, true, false, cond, List, map, length, get_or, slice_get, option_and_then, Option, None, Some, unwrap_or, All, inl, inr, zero-add, refl, sym, ap, subst, arith}
+use Rattle.std.specs.List.{range_with_len}
+use Rattle.std.proofs.lemmas.Bool.{eq-eqb}
+use Rattle.std.proofs.lemmas.List.{get_or_past}
 use Rattle.std.proofs.lemmas.Option.{slice_get_within}
 use Rattle.std.proofs.lemmas.List.FromFn.{get_or-map-range_with_len, length-map-range_with_len}
 use Rattle.path_geometry.specs.Motions.{IsInRange}
-use Rattle.tape_job.specs.Job.{JobView, ProgramView}
+use Rattle.tape_job.specs.Job.{JobView}
 use Rattle.tape_job.specs.SoundJob.{first_owner, IsSoundJob}
 use Rattle.tape_job.specs.declared.job.AxisLine.{AxisLine}
 use Rattle.tape_job.specs.declared.job.ChannelLine.{ChannelLine}
 use Rattle.turnmill.proofs.Positions.{le_or_lt, starts_in_range}
-use Rattle.turnmill.specs.Channels.{start_position, is_of, owns, owned_position, owned_positions, grant_of, granted_position, place_named, program_place}
+use Rattle.turnmill.specs.Channels.{start_position, is_of, owns, owned_position, owned_positions, grant_of, granted_position}
 
 -- what is granted for an axis of the row
 granted_is : (job : JobView) (line : ChannelLine) (axis : ℕ) → axis < 16 → granted_position job line axis ≡ unwrap_or (owned_position job line.channel axis) (pos 0)
@@ -58,23 +55,3 @@ granted_in_range job line starts axis = by_place (le_or_lt 16 axis)
     by_place : (16 ≤ axis) ⊎ (axis < 16) → IsInRange (granted_position job line axis)
     by_place (inl past) = subst IsInRange (sym (granted_past job line axis past)) (omega arith)
     by_place (inr within) = subst IsInRange (sym (granted_is job line axis within)) (by_owner (owns job line.channel axis))
-
--- ---- the program
-
-position_within : {X : Type 0} (test : X → Bool) (xs : List X) → IfSome (position test xs) (λ n. n < length xs)
-position_within test xs = by_place (nat_lt (position_or_len test xs) (length xs)) refl
-  where
-    by_place : (b : Bool) → nat_lt (position_or_len test xs) (length xs) ≡ b → IfSome (cond b (Some (position_or_len test xs)) None) (λ n. n < length xs)
-    by_place true less = ltb-true (position_or_len test xs) (length xs) less
-    by_place false less = tt
-
--- it is one of the programs of the job
-pub place_within : (job : JobView) (line : ChannelLine) → IfSome (program_place job line) (λ n. n < length job.programs)
-unfolding program_place
-place_within job line = by_name line.program
-  where
-    by_name : (o : Option (List ℕ)) → IfSome (option_and_then (place_named job) o) (λ n. n < length job.programs)
-    by_name None = tt
-    by_name (Some name) =
-        let long : length (keys_of job.programs) ≡ length job.programs = length-map job.programs (λ (p : List ℕ × ProgramView). p.0) in
-        subst (λ (m : ℕ). IfSome (place_named job name) (λ n. n < m)) long (position_within (bytes_eq name) (keys_of job.programs))

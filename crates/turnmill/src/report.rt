@@ -8,11 +8,11 @@ ghost use Rattle.turnmill.specs.Report as model;
 use crate::channels::{ChannelRun, run_in};
 use crate::stretches::{PlaceName, StretchKind, Verdict};
 use axis_sets::{AxisId, ChannelId};
-use sync_types::{ChannelEnd, Item};
 use micro_units::Um;
 use nc_faults::{Alarm, Refusal, alarm_text, refusal_text};
 use path_geometry::{Arc, Ends, Motion};
 use std::alloc::{AllocError, Global};
+use sync_types::{ChannelEnd, Item};
 use tape_job::Job;
 
 /// Writes so many micrometres as millimetres with three decimals.

@@ -323,12 +323,36 @@ fn runs_sixteen_repetitions_and_levels(rt: HostRuntime) -> Result<(), Fail> {
     let alloc = rt.alloc();
     let sixteen = nested_repetitions(alloc, 16)?;
     let seventeen = nested_repetitions(alloc, 17)?;
-    assert!(rt; ends_with(alloc, &sixteen, "26 LINE X1=17.000\n27 END\nSTATE ENDED 27\nVERDICT YES\n")?);
-    assert!(rt; ends_with(alloc, &seventeen, "CHANNEL 1\nSTATE ALARM 10 32 too many repetitions\nVERDICT ALARM CHANNEL 1 LINE 10 CODE 32\n")?);
+    assert!(rt;
+        ends_with(
+            alloc,
+            &sixteen,
+            "26 LINE X1=17.000\n27 END\nSTATE ENDED 27\nVERDICT YES\n"
+        )?
+    );
+    assert!(rt;
+        ends_with(
+            alloc,
+            &seventeen,
+            "CHANNEL 1\nSTATE ALARM 10 32 too many repetitions\nVERDICT ALARM CHANNEL 1 LINE 10 CODE 32\n"
+        )?
+    );
     let sixteen = nested_calls(alloc, 16)?;
     let seventeen = nested_calls(alloc, 17)?;
-    assert!(rt; ends_with(alloc, &sixteen, "10 LINE X1=15.000\n11 END\nSTATE ENDED 11\nVERDICT YES\n")?);
-    assert!(rt; ends_with(alloc, &seventeen, "STATE ALARM 70 6 too many program levels\nVERDICT ALARM CHANNEL 1 LINE 70 CODE 6\n")?);
+    assert!(rt;
+        ends_with(
+            alloc,
+            &sixteen,
+            "10 LINE X1=15.000\n11 END\nSTATE ENDED 11\nVERDICT YES\n"
+        )?
+    );
+    assert!(rt;
+        ends_with(
+            alloc,
+            &seventeen,
+            "STATE ALARM 70 6 too many program levels\nVERDICT ALARM CHANNEL 1 LINE 70 CODE 6\n"
+        )?
+    );
     Ok(())
 }
 
