@@ -1,3 +1,5 @@
 pub mod Going
 pub mod Pasts
+pub mod Rows
+pub mod Steps
 pub mod RunLaws

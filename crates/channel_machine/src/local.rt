@@ -36,22 +36,31 @@ pub(crate) struct State {
     pub on: ZoneSet,
 }
 
+/// The same levels once more, if there are some.
+fn copied_some(levels: &Option<Levels>) -> Option<Levels>
+    ensures { result ≡ levels.now }
+{
+    match levels {
+        Some(levels) => Some(levels.copied()),
+        None => None,
+    }
+}
+
 impl State {
     /// The same state once more.
     pub(crate) fn copied(&self) -> Result<State, AllocError>
         ensures { IfOk result (λ state. kept_by state ≡ kept_by self.now) }
     {
-        let levels = match &self.levels {
-            Some(levels) => Some(levels.copied()),
-            None => None,
-        };
+        let parameters = self.parameters.copied()?;
+        let [x, y, z] = &self.slots;
+        let slots = [*x, *y, *z];
         Ok(State {
-            levels,
+            levels: copied_some(&self.levels),
             count: self.count,
             last: self.last,
-            parameters: self.parameters.copied()?,
+            parameters,
             at: self.at,
-            slots: self.slots,
+            slots,
             axes: self.axes,
             on: self.on,
         })

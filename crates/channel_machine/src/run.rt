@@ -41,19 +41,28 @@ pub struct Segment {
 /// How many blocks a channel may execute.
 const MOST_BLOCKS: u32 = 100_000;
 
-/// The programs of a job, which blocks call.
+/// The programs of a job, which blocks call. A contract sees their names.
 #[derive(Drop)]
 struct Programs<'a> {
     job: &'a Job,
 }
 
-impl<'a> Library for Programs<'a> {
-    ghost use Rattle.std.specs.Prelude.{map};
+impl<'a> Model for Programs<'a> {
+    ghost use Rattle.std.specs.Prelude.{◌≤◌, ℕ, List, length, map};
 
-    ghost names = { λ p. map (λ q. q.0) p.job.now.programs };
+    ghost Value = { List (List ℕ) };
+
+    ghost view = { λ p. map (λ q. q.0) p.job.now.programs };
+
+    ghost invariant = { λ p. length p.job.now.programs ≤ 65536 };
+}
+
+impl<'a> Library for Programs<'a> {
+    ghost names = { λ p. p };
 
     fn number_of(&self, name: &NameText) -> Option<u16> {
-        match self.job.programs.get_index_of(name) {
+        let job = self.job;
+        match job.programs.get_index_of(name) {
             Some(number) => Some(number as u16),
             None => None,
         }
@@ -156,36 +165,25 @@ fn advance(job: &Job, state: &mut State, items: &mut Vec<Item>) -> Result<Option
     }
     let empty = Stmt::Empty;
     let opener = opener_of(flow, levels.here.pc, &empty);
+    let programs = Programs { job };
     let mut at = state.at;
-    match execute(
-        &Programs { job },
+    let done = execute(
+        &programs,
         &state.slots,
         &mut state.parameters,
         &mut at,
         *line,
         opener,
         &block.stmt,
-    ) {
-        Ok(done) => leave(job, state, items, levels, *line, done, at),
-        Err(code) => Ok(Some(step(state, *line, Action::Alarm(code)))),
-    }
-}
-
-/// Leaves a block on this line that has done this, with the axes there.
-fn leave(
-    job: &Job,
-    state: &mut State,
-    items: &mut Vec<Item>,
-    levels: Levels,
-    line: u32,
-    done: Done,
-    at: Positions,
-) -> Result<Option<Step>, NoMemory> {
-    let Done { item, course } = done;
+    );
+    let Done { item, course } = match done {
+        Ok(done) => done,
+        Err(code) => return Ok(Some(step(state, *line, Action::Alarm(code)))),
+    };
     if ends_main(&levels, &course) {
         push_some(items, item)?;
         state.at = at;
-        return Ok(Some(step(state, line, Action::End)));
+        return Ok(Some(step(state, *line, Action::End)));
     }
     match follow(job, levels, course) {
         Ok(levels) => {
@@ -193,10 +191,10 @@ fn leave(
             state.levels = levels;
             state.at = at;
             state.count += 1;
-            state.last = line;
+            state.last = *line;
             Ok(None)
         }
-        Err(code) => Ok(Some(step(state, line, Action::Alarm(code)))),
+        Err(code) => Ok(Some(step(state, *line, Action::Alarm(code)))),
     }
 }
 
