@@ -1,5 +1,5 @@
 -- Blocks that were executed, and one more.
-use Rattle.std.proofs.Common.{◌≡◌, ◌∙◌, List, [], ◌∷◌, ◌++◌, fold, Option, refl, ap}
+use Rattle.std.proofs.Common.{◌≡◌, ◌∙◌, List, [], ◌∷◌, ◌++◌, fold, refl, ap}
 use Rattle.std.proofs.lemmas.List.Elements.{filter_map-append}
 use Rattle.std.specs.Option.{option_to_list}
 use Rattle.sync_types.specs.declared.Item.{Item}

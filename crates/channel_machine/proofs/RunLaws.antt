@@ -1,8 +1,7 @@
 -- Laws of segments.
-use Rattle.std.proofs.Common.{◌≡◌, ◌∙◌, ◌⊎◌, ℕ, zero, suc, ◌+◌, ◌≤◌, Bool, true, false, cond, List, [], ◌∷◌, ◌++◌, append-nil, append_assoc, length, length-append, Option, None, Some, Result, Ok, Err, All, inl, inr, refl, sym, ap, subst, arith}
+use Rattle.std.proofs.Common.{◌≡◌, ◌∙◌, ℕ, zero, suc, ◌+◌, ◌≤◌, Bool, true, false, cond, List, [], ◌∷◌, ◌++◌, append-nil, append_assoc, length, length-append, Option, None, Some, Result, Ok, Err, All, inl, inr, refl, sym, ap, subst, arith}
 use Rattle.std.specs.Option.{option_to_list}
-use Rattle.axis_sets.specs.Positions.{position_of}
-use Rattle.block_effects.specs.Effects.{Effect, Course, Goes, Ends, Calls, effect_of}
+use Rattle.block_effects.specs.Effects.{Course, Goes, Ends, Calls, effect_of}
 use Rattle.block_effects.proofs.AlarmLaws.{IsListed, bind_listed, effect_listed, listed_8, listed_9}
 use Rattle.block_effects.proofs.EffectLaws.{effect_is}
 use Rattle.block_effects.proofs.MotionLaws.{AllFollow, AllFollow-push, follows_none, sound_motions}
@@ -15,12 +14,11 @@ use Rattle.nc_subprograms.specs.declared.Place.{Place}
 use Rattle.nc_subprograms.specs.Stack.{called}
 use Rattle.path_geometry.specs.Motions.{IsInRange, IsSound}
 use Rattle.sync_types.specs.Items.{motion_of}
-use Rattle.sync_types.specs.declared.Action.TheVariants.{End, Alarm}
 use Rattle.sync_types.specs.declared.Item.{Item}
 use Rattle.tape_job.specs.Job.{ProgramView}
 use Rattle.channel_machine.specs.declared.levels.Levels.{Levels}
 use Rattle.channel_machine.specs.Levels.{program_blocks, gone_on, come, entered, followed}
-use Rattle.channel_machine.specs.Run.{Setting, Executed, Channel, SegmentView, names, parameters_after, items_of, stands_at_start, stands_after, opener_at, block_at, executed, line_after, alarmed, onto, ends_main, with_block, with_levels, led, finished, behind, run_after, segment_of, begun, IsListedAction}
+use Rattle.channel_machine.specs.Run.{Setting, Executed, Channel, SegmentView, names, parameters_after, items_of, stands_at_start, stands_after, opener_at, block_at, executed, line_after, alarmed, ends_main, with_block, with_levels, led, finished, behind, run_after, segment_of, begun, IsListedAction}
 use Rattle.channel_machine.proofs.Pasts.{items_of-push}
 
 -- ---- alarms of control
