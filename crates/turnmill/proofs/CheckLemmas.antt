@@ -8,17 +8,17 @@ use Rattle.nc_faults.specs.declared.Refusal.{Refusal}
 use Rattle.tape_job.specs.Job.{JobView}
 use Rattle.tape_job.specs.Read.{read_of}
 use Rattle.tape_job.specs.SoundJob.{IsSoundJob}
-use Rattle.turnmill.specs.Clash.{verdict_of}
-use Rattle.turnmill.specs.Report.{refusal_bytes}
+use Rattle.job_verdict.specs.Clash.{verdict_of}
+use Rattle.job_verdict.specs.Report.{refusal_bytes}
 use Rattle.turnmill.specs.Input.{ReadsAll, TakesTooMany}
-use Rattle.turnmill.specs.Safety.{SafeAlways}
+use Rattle.job_verdict.specs.Safety.{SafeAlways}
 use Rattle.turnmill.specs.Output.{Output, output_of, output_by, status_of, Answers}
 use Rattle.turnmill.specs.declared.check.Status.{Status}
 use Rattle.turnmill.specs.declared.check.Status.TheVariants as ends
-use Rattle.turnmill.proofs.Soundness.{sound_at_all_speeds}
-use Rattle.turnmill.specs.declared.stretches.Verdict.{Verdict}
-use Rattle.turnmill.specs.declared.stretches.Verdict.TheVariants.{Yes, No, Undecided}
-use Rattle.turnmill.specs.declared.stretches.Verdict.TheVariants as verdicts
+use Rattle.job_verdict.proofs.Soundness.{sound_at_all_speeds}
+use Rattle.job_verdict.specs.declared.stretches.Verdict.{Verdict}
+use Rattle.job_verdict.specs.declared.stretches.Verdict.TheVariants.{Yes, No, Undecided}
+use Rattle.job_verdict.specs.declared.stretches.Verdict.TheVariants as verdicts
 
 -- a source that lost as many bytes as are too many had them
 pub TakesTooMany-lost : (old new : Option (List ℕ)) (bytes : List ℕ) → length bytes ≡ 8388609 → Loses old new bytes → TakesTooMany old new

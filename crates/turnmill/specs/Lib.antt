@@ -1,14 +1,2 @@
-pub mod Channels
-pub mod ChannelRun
-pub mod ZoneBoxes
-pub mod Stretches
-pub mod StretchView
-pub mod ShownStretches
-pub mod PairCounts
-pub mod FirstAnswer
-pub mod Clash
-pub mod SmallSteps
-pub mod Safety
 pub mod Output
 pub mod Input
-pub mod Report

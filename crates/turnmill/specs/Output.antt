@@ -4,14 +4,14 @@ use Rattle.edge_io.specs.Moves.{Grows}
 use Rattle.nc_faults.specs.declared.Refusal.{Refusal}
 use Rattle.tape_job.specs.Job.{JobView}
 use Rattle.tape_job.specs.Read.{read_of}
-use Rattle.turnmill.specs.ChannelRun.{runs_of}
-use Rattle.turnmill.specs.Clash.{verdict_of}
-use Rattle.turnmill.specs.Report.{report_bytes, refusal_bytes}
+use Rattle.job_verdict.specs.ChannelRun.{runs_of}
+use Rattle.job_verdict.specs.Clash.{verdict_of}
+use Rattle.job_verdict.specs.Report.{report_bytes, refusal_bytes}
 use Rattle.turnmill.specs.declared.check.Status.{Status}
 use Rattle.turnmill.specs.declared.check.Status.TheVariants as ends
-use Rattle.turnmill.specs.declared.stretches.Verdict.{Verdict}
-use Rattle.turnmill.specs.declared.stretches.Verdict.TheVariants.{Yes, No, Undecided}
-use Rattle.turnmill.specs.declared.stretches.Verdict.TheVariants as verdicts
+use Rattle.job_verdict.specs.declared.stretches.Verdict.{Verdict}
+use Rattle.job_verdict.specs.declared.stretches.Verdict.TheVariants.{Yes, No, Undecided}
+use Rattle.job_verdict.specs.declared.stretches.Verdict.TheVariants as verdicts
 
 pub record Output : Type 0 where
   pub status : Status

@@ -1,19 +1,11 @@
 //! Checks the part programs of a multi-channel turn-mill machine for clashes.
 #![tactic(auto)]
 
-mod channels;
 mod check;
-mod clash;
-mod judge;
-mod laws;
-mod pair_counts;
-mod report;
 #[cfg(test)]
 mod state_search;
-mod stretches;
 #[cfg(test)]
 mod tests;
-mod zone_boxes;
 
 use check::{Status, check_words};
 use edge_io::{StdSink, StdSource};

@@ -66,7 +66,7 @@ fn job_source(
 #[test]
 fn answers_inputs(rt: HostRuntime) -> Result<(), Fail> {
     let alloc = rt.alloc();
-    let rows: [(&str, &str, Status, &str); 13] = [
+    let rows: [(&str, &str, Status, &str); 14] = [
         ("", "", Status::Refused, "REFUSED 1 1 no job line\n"),
         (
             ONE,
@@ -80,6 +80,12 @@ fn answers_inputs(rt: HostRuntime) -> Result<(), Fail> {
             "X=7/2\nX=7 DIV 2\nX=7 MOD 2\nR1=2/3 X=R1*1000\nR1=1/0\n",
             Status::Alarm,
             "TURNMILL 1\nCHANNEL 1\n9 LINE X1=3.500\n10 LINE X1=3.000\n11 LINE X1=1.000\n12 LINE X1=666.667\nSTATE ALARM 13 2 division by zero\nVERDICT ALARM CHANNEL 1 LINE 13 CODE 2\n",
+        ),
+        (
+            ONE,
+            "X-0.8 Z120.012\nM30\n",
+            Status::Yes,
+            "TURNMILL 1\nCHANNEL 1\n9 LINE X1=-0.800 Z1=120.012\n10 END\nSTATE ENDED 10\nVERDICT YES\n",
         ),
         (
             ONE,

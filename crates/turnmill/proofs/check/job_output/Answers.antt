@@ -1,4 +1,4 @@
-use Rattle.turnmill.proofs.VerdictLemmas.{known_runs}
+use Rattle.job_verdict.proofs.VerdictLemmas.{known_runs}
 use Rattle.turnmill.proofs.check.job_output.Goals as goal
 
 pub report_text-requires : goal.report_text-requires

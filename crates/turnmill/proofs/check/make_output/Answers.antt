@@ -1,7 +1,7 @@
 -- An input that is not too long calls for what it is read as.
 use Rattle.tape_job.proofs.SoundJobs.{accepted_sound}
 use Rattle.turnmill.proofs.CheckLemmas.{output_of-short}
-use Rattle.turnmill.proofs.RunnableLemmas.{runnable}
+use Rattle.job_verdict.proofs.RunnableLemmas.{runnable}
 use Rattle.turnmill.proofs.check.make_output.Goals as goal
 
 pub job_output-requires : goal.job_output-requires

@@ -1,0 +1,157 @@
+-- No axis jumps: neither between two motions nor where a channel acts.
+use Rattle.std.proofs.Common.{◌≡◌, ◌⊎◌, ◌∙◌, ℕ, zero, suc, ℤ, pos, ◌+◌, ◌-◌, ◌*ℤ◌, true, cond, ◌==◌, List, [], ◌∷◌, length, take, find, nat_lt, Option, None, Some, option_map, unwrap_or, IfSome, IsSomeAnd, slice_get, All, inl, inr, refl, sym, ap, subst, arith}
+use Rattle.std.proofs.lemmas.Bool.{eqb-true, eq-eqb, ne_eqb, lt-ltb, cases_eq}
+use Rattle.std.proofs.lemmas.List.Sums.{sum_by_push}
+use Rattle.std.specs.Option.{option_map_or}
+use Rattle.number_laws.specs.Fractions.{IsSame, whole}
+use Rattle.path_geometry.specs.Path.{Point}
+use Rattle.tape_job.specs.Job.{JobView}
+use Rattle.tape_job.specs.SoundJob.{IsSoundJob}
+use Rattle.tape_job.specs.declared.job.ChannelLine.{ChannelLine}
+use Rattle.job_verdict.proofs.PositionLemmas.{begins_at_left, after_is, left_at-nil, left_at-cons}
+use Rattle.job_verdict.proofs.SomeLemmas.{found_passes, All-found}
+use Rattle.job_verdict.proofs.Runs.{motions_join}
+use Rattle.job_verdict.proofs.StateLemmas.{WellPlaced, WellPlaced-step, well_placed, WellPlaced-opening, not_ended, run_place, board_last, end_place, one_under}
+use Rattle.job_verdict.specs.Channels.{start_position, items_of}
+use Rattle.job_verdict.specs.Safety.{axis_owner, axis_position, fraction_of, NoJump}
+use Rattle.block_effects.specs.Motions.{end_in, left_at}
+use Rattle.job_verdict.specs.SmallSteps.{StandsAt, IsAlong, IsEndOf, IsAtPlace, IsAtEnd, Spot, State, opening, span_of, has_ended, motions_of, board_position, beginning, present, Act, after_step, IsLawful, reached}
+use Rattle.job_verdict.specs.Stretches.{channel_line}
+use Rattle.path_geometry.specs.Motions.{axes_of}
+use Rattle.job_verdict.specs.ZoneBoxes.{after}
+use Rattle.sync_types.specs.declared.Item.{Item}
+use Rattle.sync_types.specs.Items.{motion_of}
+
+-- ---- between motions
+
+pub begins_there : (job : JobView) → IsSoundJob job → (channel place : ℕ) (item : Item) → slice_get (motions_of job channel) place ≡ Some item
+    → All (λ e. e.1 ≡ left_at (take place (motions_of job channel)) (start_position job) e.0) (axes_of (motion_of item))
+unfolding motions_of
+begins_there job sound channel place item is = by_line (channel_line job channel) is
+  where
+    by_line : (o : Option ChannelLine) → slice_get (option_map_or (items_of job) o []) place ≡ Some item
+        → All (λ e. e.1 ≡ left_at (take place (option_map_or (items_of job) o [])) (start_position job) e.0) (axes_of (motion_of item))
+    by_line None is = absurd cc
+    by_line (Some line) is = begins_at_left (start_position job) (items_of job line) (motions_join job sound line) place item is
+
+-- ---- at the end of the last motion
+
+-- the last motion leaves its axes at its ends, and the others where they stood
+left_at-last : (items : List Item) (at : ℕ → ℤ) (n : ℕ) (item : Item) → length items ≡ suc n → slice_get items n ≡ Some item → (axis : ℕ)
+    → left_at items at axis ≡ unwrap_or (end_in axis item) (left_at (take n items) at axis)
+left_at-last [] at n item long is axis = absurd cc
+left_at-last (first ∷ []) at zero item long is axis =
+    let same : first ≡ item = cc in
+    left_at-cons first [] at axis ∙ left_at-nil (after first at) axis ∙ after_is first at axis
+    ∙ ap (λ d. unwrap_or (end_in axis first) d) (sym (left_at-nil at axis)) ∙ ap (λ (i : Item). unwrap_or (end_in axis i) (left_at [] at axis)) same
+left_at-last (first ∷ []) at (suc n) item long is axis = absurd cc
+left_at-last (first ∷ next ∷ items) at zero item long is axis = absurd (omega arith)
+left_at-last (first ∷ next ∷ items) at (suc n) item long is axis =
+    left_at-cons first (next ∷ items) at axis
+    ∙ left_at-last (next ∷ items) (after first at) n item (omega arith) is axis
+    ∙ ap (λ d. unwrap_or (end_in axis item) d) (sym (left_at-cons first (take n (next ∷ items)) at axis))
+
+-- at the end of a motion its axes are at its ends, and the others where they stood
+at_its_end : (item : Item) (positions : ℕ → ℤ) (point : Point) → IsAlong positions item point → IsEndOf item point → (axis : ℕ)
+    → StandsAt point axis (unwrap_or (end_in axis item) (positions axis))
+unfolding end_in
+at_its_end item positions point along ends axis = by_end (find (λ e. e.0 == axis) (axes_of (motion_of item))) refl
+  where
+    by_end : (o : Option (ℕ × ℤ × ℤ)) → find (λ e. e.0 == axis) (axes_of (motion_of item)) ≡ o → StandsAt point axis (unwrap_or (option_map (λ (e : ℕ × ℤ × ℤ). e.2) o) (positions axis))
+    by_end None none = along.others axis (rw none refl)
+    by_end (Some e) found =
+        let same : e.0 ≡ axis = eqb-true e.0 axis (found_passes (λ (f : ℕ × ℤ × ℤ). f.0 == axis) (axes_of (motion_of item)) e found) in
+        subst (λ a. StandsAt point a e.2) same (All-found (λ f. StandsAt point f.0 f.2) (λ f. f.0 == axis) (axes_of (motion_of item)) e ends found)
+
+-- at the end of its last motion a channel has its axes where its motions leave them
+stands_at_end : (items : List Item) (at : ℕ → ℤ) (place : ℕ) (point : Point) → IsAtPlace at items place point → IsAtEnd items place point → (axis : ℕ)
+    → StandsAt point axis (left_at items at axis)
+stands_at_end items at zero point there (long, end) axis = stands items long
+  where
+    stands : (items : List Item) → 0 ≡ length items → StandsAt point axis (left_at items at axis)
+    stands [] long = there.stand axis ∙ ap (λ x. x *ℤ pos point.under) (sym (left_at-nil at axis))
+    stands (item ∷ items) long = absurd cc
+stands_at_end items at (suc n) point there (long, end) axis =
+    by_item (slice_get items n) refl there (let less : suc n - 1 ≡ n = omega arith in subst (λ k. IfSome (slice_get items k) (λ item. IsEndOf item point)) less end)
+  where
+    by_item : (o : Option Item) → slice_get items n ≡ o → IsSomeAnd o (λ item. IsAlong (left_at (take n items) at) item point) → IfSome o (λ item. IsEndOf item point)
+        → StandsAt point axis (left_at items at axis)
+    by_item None is along ends = absurd along
+    by_item (Some item) is along ends =
+        at_its_end item (left_at (take n items) at) point along ends axis
+        ∙ ap (λ x. x *ℤ pos point.under) (sym (left_at-last items at n item (sym long) is axis))
+
+-- ---- where a channel acts
+
+counts_act : (state : State) (channel other : ℕ) → span_of (after_step state (Act channel)) other ≡ span_of state other + cond (channel == other) 1 0
+unfolding span_of after_step
+counts_act state channel other = sum_by_push (λ d. cond (d == other) 1 0) state.run channel
+
+span_stays : (state : State) (channel other : ℕ) → (other ≡ channel → ⊥) → span_of (after_step state (Act channel)) other ≡ span_of state other
+span_stays state channel other apart =
+    let none : cond {A = ℕ} (channel == other) 1 0 ≡ 0 = rw (ne_eqb channel other (λ same. apart (sym same))) refl in
+    omega (arith, counts_act state channel other)
+
+pub has_acted : (state : State) (channel : ℕ) → has_ended (after_step state (Act channel)) channel ≡ true
+unfolding has_ended
+has_acted state channel =
+    let one : cond {A = ℕ} (channel == channel) 1 0 ≡ 1 = rw (eq-eqb channel channel refl) refl in
+    lt-ltb 0 (span_of (after_step state (Act channel)) channel) (omega (arith, counts_act state channel channel))
+
+-- where a channel is, by the number of its span and its spot
+abbrev place_by : JobView → ℕ → Option Spot → ℕ → Spot
+place_by job channel spot n =
+    let start : Spot = record {
+      span = n;
+      place = 0;
+      point = record {
+        top = cond (nat_lt 0 n) (left_at (motions_of job channel) (start_position job)) (start_position job);
+        under = 1;
+      };
+    } in
+    option_map_or (λ s. cond (s.span == n) s start) spot start
+
+-- an act changes where no other channel is
+other_stays : (job : JobView) (state : State) (channel other : ℕ) → (other ≡ channel → ⊥) → present job (after_step state (Act channel)) other ≡ present job state other
+unfolding present beginning board_position has_ended after_step
+other_stays job state channel other apart = ap (place_by job other (state.spots other)) (span_stays state channel other apart)
+
+-- it leaves the axes of its own channel where they are
+acts_in_place : (job : JobView) (state : State) → WellPlaced job state → (channel : ℕ) → IsLawful job state (Act channel) → (axis : ℕ)
+    → IsSame (fraction_of (present job state channel).point axis) (fraction_of (present job (after_step state (Act channel)) channel).point axis)
+unfolding IsLawful beginning
+acts_in_place job state placed channel (running, end) axis =
+    let before : StandsAt (present job state channel).point axis (left_at (motions_of job channel) (start_position job) axis) =
+    stands_at_end (motions_of job channel) (start_position job) (present job state channel).place (present job state channel).point
+    (run_place job state channel placed (not_ended job state channel running)) end axis in
+    let next = after_step state (Act channel) in
+    let ended = has_acted state channel in
+    let placed_next : WellPlaced job next = WellPlaced-step job state (Act channel) placed (running, end) in
+    let after : present job next channel ≡ beginning job next channel = end_place job next channel placed_next ended in
+    let u = (present job state channel).point.under in
+    subst (λ (s : Spot). IsSame (fraction_of (present job state channel).point axis) (fraction_of s.point axis)) (sym after)
+    (sym (one_under ((present job state channel).point.top axis)) ∙ before ∙ ap (λ (p : ℕ → ℤ). p axis *ℤ pos u) (sym (board_last job next channel ended)))
+
+jumps_nowhere : (job : JobView) (state : State) → WellPlaced job state → (channel : ℕ) → IsLawful job state (Act channel) → (axis : ℕ)
+    → IsSame (axis_position job state axis) (axis_position job (after_step state (Act channel)) axis)
+unfolding axis_position axis_owner
+jumps_nowhere job state placed channel lawful axis = by_owner (axis_owner job state axis)
+  where
+    by_channel : (owner : ℕ) → (owner ≡ channel) ⊎ (owner ≡ channel → ⊥)
+        → IsSame (fraction_of (present job state owner).point axis) (fraction_of (present job (after_step state (Act channel)) owner).point axis)
+    by_channel owner (inl same) =
+        subst (λ c. IsSame (fraction_of (present job state c).point axis) (fraction_of (present job (after_step state (Act channel)) c).point axis)) (sym same)
+        (acts_in_place job state placed channel lawful axis)
+    by_channel owner (inr apart) =
+        subst (λ (s : Spot). IsSame (fraction_of (present job state owner).point axis) (fraction_of s.point axis)) (sym (other_stays job state channel owner apart)) refl
+
+    by_owner : (o : Option ℕ) → IsSame (option_map_or (λ owner. fraction_of (present job state owner).point axis) o (whole (start_position job axis)))
+        (option_map_or (λ owner. fraction_of (present job (after_step state (Act channel)) owner).point axis) o (whole (start_position job axis)))
+    by_owner None = refl
+    by_owner (Some owner) = by_channel owner (cases_eq owner channel)
+
+pub never_jumps : (job : JobView) → IsSoundJob job → NoJump job
+never_jumps job sound = record {
+  between = begins_there job sound;
+  at_act = λ steps lawful channel act axis. jumps_nowhere job (reached opening steps) (well_placed job opening steps (WellPlaced-opening job) lawful) channel act axis;
+}

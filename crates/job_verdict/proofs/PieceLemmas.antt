@@ -1,0 +1,107 @@
+-- A point that a box covers is in the zone box of one of its pieces.
+use Rattle.std.proofs.Common.{◌≡◌, ℕ, zero, suc, ℤ, pos, ◌*ℤ◌, ◌<◌, ◌^◌, Bool, true, false, cond, ◌==◌, List, [], ◌∷◌, map, length, get_or, find, Option, None, Some, All, Any, inl, inr, refl, sym, subst, arith}
+use Rattle.std.proofs.lemmas.Bool.{eqb-true}
+use Rattle.std.proofs.lemmas.Int.{ints}
+use Rattle.std.proofs.lemmas.List.Elements.{All-head, All-tail, All-map}
+use Rattle.std.specs.List.{range_with_len}
+use Rattle.std.specs.Option.{option_map_or}
+use Rattle.number_laws.specs.Fractions.{IsIn}
+use Rattle.swept_boxes.proofs.PieceLaws.{line_covered}
+use Rattle.swept_boxes.specs.Pieces.{range_of_part, part_of_line, pieces_at}
+use Rattle.swept_boxes.specs.Ranges.{RangesView, Hold}
+use Rattle.swept_boxes.specs.declared.Box3.{Box3}
+use Rattle.path_geometry.specs.declared.motion.Motion.{Motion}
+use Rattle.path_geometry.specs.declared.motion.Motion.TheVariants.{Line, Rapid}
+use Rattle.path_geometry.specs.declared.motion.Motion.TheVariants as Kind
+use Rattle.tape_job.specs.declared.job.ZoneLine.{ZoneLine}
+use Rattle.job_verdict.proofs.CoverLemmas.{Covers, IsCovered}
+use Rattle.job_verdict.proofs.SomeLemmas.{SomeOf, SomeOf-weaker, SomeOf-map, found_passes, All-found}
+use Rattle.path_geometry.specs.Path.{Point, IsOnPath}
+use Rattle.block_effects.specs.Motions.{end_in, IsStraight}
+use Rattle.job_verdict.specs.SmallSteps.{StandsAt, IsAlong}
+use Rattle.path_geometry.specs.Motions.{axes_of}
+use Rattle.job_verdict.specs.ZoneBoxes.{has_axis, PlaceBox, zone_box, low_in, high_in, piece_boxes}
+use Rattle.sync_types.specs.declared.Item.{Item}
+use Rattle.sync_types.specs.Items.{motion_of}
+
+-- ---- the pieces of a motion
+
+-- an axis that the ranges have not, the motion has not
+abbrev HasAxesOf : Motion → RangesView → Type 0
+HasAxesOf motion ranges = (axis : ℕ) → find (λ r. r.0 == axis) ranges.axes ≡ None → find (λ e. e.0 == axis) (axes_of motion) ≡ None
+
+part_has_axes : (parts part axis : ℕ) (ends : List (ℕ × ℤ × ℤ)) → find (λ r. r.0 == axis) (map (range_of_part parts part) ends) ≡ None → find (λ e. e.0 == axis) ends ≡ None
+part_has_axes parts part axis [] none = refl
+part_has_axes parts part axis (e ∷ ends) none = by_test (e.0 == axis) none (part_has_axes parts part axis ends)
+  where
+    by_test : (b : Bool) → cond b (Some (range_of_part parts part e)) (find (λ r. r.0 == axis) (map (range_of_part parts part) ends)) ≡ None
+        → (find (λ r. r.0 == axis) (map (range_of_part parts part) ends) ≡ None → find (λ f. f.0 == axis) ends ≡ None) → cond b (Some e) (find (λ f. f.0 == axis) ends) ≡ None
+    by_test true none rest = absurd cc
+    by_test false none rest = rest none
+
+pieces_have_axes : (motion : Motion) (depth : ℕ) → IsStraight motion → All (HasAxesOf motion) (pieces_at motion depth)
+pieces_have_axes (Rapid ends) depth straight = absurd straight
+pieces_have_axes (Kind.Arc arc) depth straight = absurd straight
+pieces_have_axes (Line ends) depth straight =
+    All-map (HasAxesOf (Line ends)) (part_of_line ends (2 ^ depth)) (range_with_len 0 (2 ^ depth))
+    (λ k d within axis none. part_has_axes (2 ^ depth) (get_or (range_with_len 0 (2 ^ depth)) k d) axis ends.axes none)
+
+straight_covered : (motion : Motion) (depth : ℕ) (point : Point) → IsStraight motion → IsOnPath motion point → Any (λ ranges. Hold ranges point) (pieces_at motion depth)
+straight_covered (Line ends) depth point straight on = line_covered ends depth point on
+straight_covered (Rapid ends) depth point straight on = absurd straight
+straight_covered (Kind.Arc arc) depth point straight on = absurd straight
+
+some_with_all : {X : Type 0} (P Q : X → Type 0) (xs : List X) → Any P xs → All Q xs → SomeOf (λ x. P x × Q x) xs
+some_with_all {X = X} P Q xs (k, x, within, is, holds) all = go xs k within is all
+  where
+    go : (ys : List X) (k : ℕ) → k < length ys → get_or ys k x ≡ x → All Q ys → SomeOf (λ y. P y × Q y) ys
+    go [] k within is all = absurd (omega arith)
+    go (y ∷ ys) zero within is all = inl (subst (λ z. P z × Q z) (sym is) (holds, subst Q is (All-head Q y ys all)))
+    go (y ∷ ys) (suc k) within is all = inr (go ys k (omega arith) is (All-tail Q y ys all))
+
+in_itself : (z t : ℤ) (n : ℕ) → t ≡ z *ℤ pos n → IsIn z z t n
+in_itself z t n is = record { above = omega (arith, ints); below = omega (arith, ints) }
+
+-- at a point of a motion that a piece holds, each axis is within the piece's bounds, or stands
+within_piece : (at : ℕ → ℤ) (item : Item) (point : Point) (ranges : RangesView) → IsAlong at item point → Hold ranges point → HasAxesOf (motion_of item) ranges
+    → (axis : ℕ) → IsIn (low_in ranges at axis) (high_in ranges at axis) (point.top axis) point.under
+unfolding low_in high_in end_in
+within_piece at item point ranges along hold has axis = by_range (find (λ r. r.0 == axis) ranges.axes) refl
+  where
+    by_range : (o : Option (ℕ × ℤ × ℤ)) → find (λ r. r.0 == axis) ranges.axes ≡ o
+        → IsIn (option_map_or (λ r. r.1) o (at axis)) (option_map_or (λ r. r.2) o (at axis)) (point.top axis) point.under
+    by_range None is =
+        let stands : StandsAt point axis (at axis) = along.others axis (let nothing : find (λ (e : ℕ × ℤ × ℤ). e.0 == axis) (axes_of (motion_of item)) ≡ None = has axis is in rw nothing refl) in
+        in_itself (at axis) (point.top axis) point.under stands
+    by_range (Some r) is =
+        let same : r.0 ≡ axis = eqb-true r.0 axis (found_passes (λ (e : ℕ × ℤ × ℤ). e.0 == axis) ranges.axes r is) in
+        subst (λ a. IsIn r.1 r.2 (point.top a) point.under) same (All-found (λ r. IsIn r.1 r.2 (point.top r.0) point.under) (λ e. e.0 == axis) ranges.axes r hold is)
+
+-- ---- the pieces of a box
+
+-- the zone's axes are within these bounds at the point
+abbrev pub AxesWithin : ZoneLine → (ℕ → ℤ) → (ℕ → ℤ) → Point → Type 0
+AxesWithin zone low high point = (axis : ℕ) → has_axis zone axis ≡ true → IsIn (low axis) (high axis) (point.top axis) point.under
+
+-- what holds of the zone box of bounds that hold the zone's axes, holds of some piece of a box that covers the point
+pub some_piece : (P : Box3 → Type 0) (zone : ZoneLine) (depth place : ℕ) (point : Point) (box : PlaceBox)
+    → ((low high : ℕ → ℤ) → AxesWithin zone low high point → P (zone_box zone low high)) → Covers zone place point box → SomeOf P (piece_boxes zone depth box)
+unfolding piece_boxes
+some_piece P zone depth place point box holds covers = by_motion box.motion covers.covered
+  where
+    of_other : (item : Item) (other : Point) (ranges : RangesView) → IsAlong box.at item other → other.under ≡ point.under
+        → ((axis : ℕ) → has_axis zone axis ≡ true → other.top axis ≡ point.top axis) → Hold ranges other × HasAxesOf (motion_of item) ranges
+        → P (zone_box zone (low_in ranges box.at) (high_in ranges box.at))
+    of_other item other ranges along under tops piece = holds (low_in ranges box.at) (high_in ranges box.at)
+        (λ axis has. subst (λ n. IsIn (low_in ranges box.at axis) (high_in ranges box.at axis) (point.top axis) n) under
+        (subst (λ t. IsIn (low_in ranges box.at axis) (high_in ranges box.at axis) t other.under) (tops axis has)
+        (within_piece box.at item other ranges along piece.0 piece.1 axis)))
+
+    by_motion : (o : Option Item) → IsCovered zone box.at o point → SomeOf P (piece_boxes zone depth (record box { motion = o }))
+    by_motion None stands = inl (holds box.at box.at (λ axis has. in_itself (box.at axis) (point.top axis) point.under (stands axis has)))
+    by_motion (Some item) (straight, other, along, under, tops) =
+        SomeOf-map P (λ ranges. zone_box zone (low_in ranges box.at) (high_in ranges box.at)) (pieces_at (motion_of item) depth)
+        (SomeOf-weaker (λ ranges. Hold ranges other × HasAxesOf (motion_of item) ranges) (λ ranges. P (zone_box zone (low_in ranges box.at) (high_in ranges box.at)))
+        (λ ranges piece. of_other item other ranges along under tops piece) (pieces_at (motion_of item) depth)
+        (some_with_all (λ ranges. Hold ranges other) (HasAxesOf (motion_of item)) (pieces_at (motion_of item) depth)
+        (straight_covered (motion_of item) depth other straight along.path) (pieces_have_axes (motion_of item) depth straight)))

@@ -1,0 +1,11 @@
+use Rattle.std.proofs.Common.{◌≡◌, ◌∙◌, ◌≤◌, ◌&&◌, Bool, false, ap, arith}
+use Rattle.std.proofs.lemmas.Bool.{lt-ltb}
+use Rattle.std.proofs.lemmas.List.FromFn.{fill_by_all}
+use Rattle.job_verdict.specs.Channels.{owns, owned_axes}
+use Rattle.job_verdict.proofs.channels.owned_axes.Goals as goal
+
+pub returns : goal.returns
+unfolding owned_axes
+returns c = fill_by_all (owns c.args.job.now c.args.channel) c.loop-index.axes 16 false c.loop-index.invariant.long (λ k within.
+    let past : 16 ≤ c.loop-index.index = omega arith in
+    c.loop-index.invariant.put k ∙ ap (λ (b : Bool). b && owns c.args.job.now c.args.channel k) (lt-ltb k c.loop-index.index (omega arith)))

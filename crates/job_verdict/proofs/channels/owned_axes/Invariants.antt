@@ -1,0 +1,10 @@
+use Rattle.std.proofs.Common.{◌≡◌, ℕ, nat_lt, ◌&&◌, length}
+use Rattle.axis_sets.specs.Sets.{has}
+use Rattle.job_verdict.specs.Channels.{owns}
+use Rattle.job_verdict.proofs.channels.owned_axes.Given as goal
+
+abbrev pub invariant-loop-index : goal.invariant-loop-index
+invariant-loop-index l = record {
+  put : (m : ℕ) → has l.axes m ≡ (nat_lt m l.index && owns l.job l.channel m);
+  long : length l.axes ≡ 16;
+}

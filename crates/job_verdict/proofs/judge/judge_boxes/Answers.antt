@@ -1,0 +1,26 @@
+use Rattle.std.proofs.Common.{◌≡◌, ◌<◌, ◌≤◌, ◌∙◌, ap, sym, List, arith}
+use Rattle.job_verdict.specs.Clash.{pair_count}
+use Rattle.job_verdict.specs.PairCounts.{count_of}
+use Rattle.job_verdict.specs.ShownStretches.{HeldView, first_meeting, verdict_by}
+use Rattle.job_verdict.proofs.CountLemmas.{count_is, count_fits}
+use Rattle.job_verdict.proofs.JudgeLemmas.{verdict_is}
+use Rattle.job_verdict.proofs.VerdictLemmas.{verdict_many, verdict_few}
+use Rattle.job_verdict.proofs.judge.judge_boxes.Goals as goal
+
+pub count_pairs-count-requires : goal.count_pairs-count-requires
+count_pairs-count-requires c = rw (c.deref.ensures.value, c.in_ok-zones.ensures) (count_fits c.args.job.now c.requires.runnable)
+
+pub returns-then-count-from : goal.returns-then-count-from
+returns-then-count-from c =
+    let counted : c.count_pairs-count.result ≡ pair_count c.args.job.now =
+    c.count_pairs-count.ensures ∙ ap count_of (c.deref.ensures.value ∙ c.in_ok-zones.ensures) ∙ count_is c.args.job.now in
+    let many : 1000000 < c.count_pairs-count.result = omega arith in
+    sym (verdict_many c.args.job.now c.count_pairs-count.result counted many)
+
+pub returns : goal.returns
+returns c =
+    let counted : c.count_pairs-count.result ≡ pair_count c.args.job.now =
+    c.count_pairs-count.ensures ∙ ap count_of (c.deref.ensures.value ∙ c.in_ok-zones.ensures) ∙ count_is c.args.job.now in
+    let few : c.count_pairs-count.result ≤ 1000000 = omega arith in
+    c.verdict_on.ensures ∙ ap (λ (zones : List HeldView). verdict_by (first_meeting zones)) (c.deref-2.ensures.value ∙ c.in_ok-zones.ensures)
+    ∙ verdict_is c.args.job.now ∙ sym (verdict_few c.args.job.now c.count_pairs-count.result counted few)

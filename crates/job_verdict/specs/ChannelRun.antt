@@ -1,0 +1,43 @@
+-- What a contract sees of the run of a channel.
+use Rattle.std.specs.Prelude.{⊤, ℕ, ◌==◌, List, map, find, Option, None, Some}
+use Rattle.sync_types.specs.declared.Item.{Item}
+use Rattle.sync_types.specs.declared.ChannelEnd.{ChannelEnd}
+use Rattle.sync_types.specs.declared.ChannelEnd.TheVariants.{Ended, Alarmed}
+use Rattle.nc_faults.specs.Texts.{IsAlarmCode}
+use Rattle.nc_faults.specs.declared.Alarm.{Alarm}
+use Rattle.tape_job.specs.Job.{JobView}
+use Rattle.tape_job.specs.declared.job.ChannelLine.{ChannelLine}
+use Rattle.job_verdict.specs.Channels.{items_of, end_of}
+
+-- the channel, its motions, and how its run ends
+pub record RunView : Type 0 where
+  pub channel : ℕ
+  pub items : List Item
+  pub end : ChannelEnd
+
+-- the run of the program that a CHANNEL line selects
+unfoldable pub run_of : JobView → ChannelLine → RunView
+run_of job line = record { channel = line.channel; items = items_of job line; end = end_of job line }
+
+-- the runs of all channels, in the order of their lines
+unfoldable pub runs_of : JobView → List RunView
+runs_of job = map (run_of job) job.channels
+
+-- the run of a channel, if there is one
+unfoldable pub run_in : List RunView → ℕ → Option RunView
+run_in runs channel = find (λ run. run.channel == channel) runs
+
+-- the line of the block that ends the program or alarms
+abbrev pub line_of_end : ChannelEnd → ℕ
+line_of_end (Ended line) = line
+line_of_end (Alarmed alarm) = alarm.line
+
+-- the alarm that stops the channel, if one does
+abbrev pub alarm_in : ChannelEnd → Option Alarm
+alarm_in (Ended line) = None
+alarm_in (Alarmed alarm) = Some alarm
+
+-- the alarm of an end, where it is one, is in the table of alarms
+abbrev pub IsListedEnd : ChannelEnd → Type 0
+IsListedEnd (Ended line) = ⊤
+IsListedEnd (Alarmed alarm) = IsAlarmCode alarm.code

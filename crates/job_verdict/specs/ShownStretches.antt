@@ -1,0 +1,84 @@
+-- The stretches of a zone as the comparison takes them, and the first two boxes that meet.
+use Rattle.std.specs.Prelude.{ℕ, ◌==◌, ◌||◌, not, Bool, true, false, if◌then◌else◌, List, [], ◌∷◌, map, Option, None, Some, find, unwrap_or}
+use Rattle.std.specs.Option.{option_map, option_or}
+use Rattle.tape_job.specs.Job.{JobView}
+use Rattle.tape_job.specs.declared.job.ZoneLine.{ZoneLine}
+use Rattle.job_verdict.specs.ChannelRun.{RunView, line_of_end}
+use Rattle.job_verdict.specs.Channels.{start_position}
+use Rattle.job_verdict.specs.Clash.{boxes_meet}
+use Rattle.job_verdict.specs.FirstAnswer.{first_some}
+use Rattle.block_effects.specs.Motions.{left_at}
+use Rattle.job_verdict.specs.StretchView.{StretchView}
+use Rattle.job_verdict.specs.Stretches.{Stretch, stretches_of}
+use Rattle.job_verdict.specs.ZoneBoxes.{boxes_of, shown_box}
+use Rattle.job_verdict.specs.declared.stretches.PlaceName.{PlaceName}
+use Rattle.job_verdict.specs.declared.stretches.StretchKind.{StretchKind}
+use Rattle.job_verdict.specs.declared.stretches.StretchKind.TheVariants.{Run, End}
+use Rattle.job_verdict.specs.declared.stretches.Verdict.{Verdict}
+use Rattle.job_verdict.specs.declared.stretches.Verdict.TheVariants.{Yes, No}
+use Rattle.job_verdict.specs.declared.zone_boxes.ZoneBox.{ZoneBox}
+
+-- while the channel runs, and after its end
+unfoldable pub run_stretch : JobView → ZoneLine → RunView → StretchView
+run_stretch job zone run = record { kind = Run; channel = run.channel; boxes = map (shown_box zone 0) (boxes_of zone (start_position job) run.items) }
+
+unfoldable pub end_stretch : JobView → ZoneLine → RunView → StretchView
+end_stretch job zone run = record { kind = End; channel = run.channel; boxes = map (shown_box zone (line_of_end run.end)) (boxes_of zone (left_at run.items (start_position job)) []) }
+
+-- a stretch as the comparison takes it
+unfoldable pub shown_stretch : ZoneLine → Stretch → StretchView
+shown_stretch zone stretch = record { kind = stretch.kind; channel = unwrap_or stretch.channel 0; boxes = map (shown_box zone stretch.line) stretch.boxes }
+
+-- a zone with its stretches
+pub record HeldView : Type 0 where
+  pub zone : ZoneLine
+  pub stretches : List StretchView
+
+-- a zone of the job with its stretches
+unfoldable pub held_zone : JobView → ZoneLine → HeldView
+held_zone job zone = record { zone = zone; stretches = map (shown_stretch zone) (stretches_of job zone) }
+
+abbrev pub is_run : StretchKind → Bool
+is_run Run = true
+is_run End = false
+
+-- the two kinds are the same
+abbrev pub same_kind : StretchKind → StretchKind → Bool
+same_kind Run kind = is_run kind
+same_kind End kind = not (is_run kind)
+
+-- two stretches may overlap but where one channel's run and its end are compared
+unfoldable pub do_overlap : StretchView → StretchView → Bool
+do_overlap left right = not (left.channel == right.channel) || same_kind left.kind right.kind
+
+-- the lines of the first box of the second list that meets this one
+unfoldable pub first_touched : List ZoneBox → ZoneBox → Option (ℕ × ℕ)
+first_touched others box = option_map (λ other. (box.line, other.line)) (find (λ other. boxes_meet box.cover other.cover) others)
+
+-- and of the first two boxes that meet
+unfoldable pub first_lines : List ZoneBox → List ZoneBox → Option (ℕ × ℕ)
+first_lines left right = first_some (first_touched right) left
+
+-- how a box of a stretch with this line is named
+abbrev pub named : ZoneLine → StretchView → ℕ → PlaceName
+named zone stretch line = record { zone = zone.zone; channel = Some stretch.channel; kind = stretch.kind; line = line }
+
+-- the names of the first two boxes of two stretches that meet
+unfoldable pub first_in_stretches : ZoneLine → ZoneLine → StretchView → StretchView → Option (PlaceName × PlaceName)
+first_in_stretches zone other left right =
+    if do_overlap left right then option_map (λ lines. (named zone left lines.0, named other right lines.1)) (first_lines left.boxes right.boxes) else None
+
+unfoldable pub first_against : ZoneLine → HeldView → StretchView → Option (PlaceName × PlaceName)
+first_against zone other stretch = first_some (first_in_stretches zone other.zone stretch) other.stretches
+
+unfoldable pub first_of_zones : HeldView → HeldView → Option (PlaceName × PlaceName)
+first_of_zones held other = if held.zone.group == other.zone.group then None else first_some (first_against held.zone other) held.stretches
+
+-- the names of the first two boxes of any two zones of different groups that meet
+abbrev pub first_meeting : List HeldView → Option (PlaceName × PlaceName)
+first_meeting [] = None
+first_meeting (held ∷ others) = option_or (first_some (first_of_zones held) others) (first_meeting others)
+
+abbrev pub verdict_by : Option (PlaceName × PlaceName) → Verdict
+verdict_by None = Yes
+verdict_by (Some names) = No names.0 names.1

@@ -1,0 +1,10 @@
+-- What a contract sees of a stretch as its boxes are compared.
+use Rattle.std.specs.Prelude.{ℕ, List}
+use Rattle.job_verdict.specs.declared.stretches.StretchKind.{StretchKind}
+use Rattle.job_verdict.specs.declared.zone_boxes.ZoneBox.{ZoneBox}
+
+-- what the channel does, the channel, and the boxes
+pub record StretchView : Type 0 where
+  pub kind : StretchKind
+  pub channel : ℕ
+  pub boxes : List ZoneBox

@@ -1,0 +1,137 @@
+-- The boxes of a zone: where its sides stand, and the boxes that a channel's motions give it.
+use Rattle.std.specs.Prelude.{◌<◌, All, ℕ, ℤ, ◌+ℤ◌, ◌-ℤ◌, ◌+◌, ◌==◌, Bool, true, false, if◌then◌else◌, List, [], ◌∷◌, ◌++◌, map, Option, None, Some, find}
+use Rattle.std.specs.List.{list_any}
+use Rattle.std.specs.Option.{option_map_or}
+use Rattle.swept_boxes.specs.Cover.{cover_of}
+use Rattle.path_geometry.specs.Motions.{axes_of, IsSound}
+use Rattle.swept_boxes.specs.Pieces.{pieces_at}
+use Rattle.swept_boxes.specs.Ranges.{RangesView}
+use Rattle.swept_boxes.specs.declared.Box3.{Box3}
+use Rattle.tape_job.specs.declared.job.Side.{Side}
+use Rattle.tape_job.specs.declared.job.ZoneLine.{ZoneLine}
+use Rattle.sync_types.specs.declared.Item.{Item}
+use Rattle.job_verdict.specs.declared.zone_boxes.ZoneBox.{ZoneBox}
+use Rattle.sync_types.specs.Items.{motion_of}
+
+-- where the axes stand after a motion: at its ends, and elsewhere where they stood
+unfoldable pub after : Item → (ℕ → ℤ) → ℕ → ℤ
+after item at axis = option_map_or (λ e. e.2) (find (λ e. e.0 == axis) (axes_of (motion_of item))) (at axis)
+
+-- a bound that an axis carries: added to its position, or where the zone goes against the axis less its position
+abbrev pub carried : ℤ → ℤ → Bool → ℤ
+carried bound position false = bound +ℤ position
+carried bound position true = bound -ℤ position
+
+-- the low and the high bound of a direction whose axes are within low and high; where the zone goes against the axis the two change places
+abbrev pub carried_low : Option (ℕ × Bool) → ℤ → (ℕ → ℤ) → (ℕ → ℤ) → ℤ
+carried_low None lo low high = lo
+carried_low (Some (axis, false)) lo low high = carried lo (low axis) false
+carried_low (Some (axis, true)) lo low high = carried lo (high axis) true
+
+abbrev pub carried_high : Option (ℕ × Bool) → ℤ → (ℕ → ℤ) → (ℕ → ℤ) → ℤ
+carried_high None hi low high = hi
+carried_high (Some (axis, false)) hi low high = carried hi (high axis) false
+carried_high (Some (axis, true)) hi low high = carried hi (low axis) true
+
+unfoldable pub side_low : (ℕ → ℤ) → (ℕ → ℤ) → Side → ℤ
+side_low low high side = carried_low side.carrier side.lo low high
+
+unfoldable pub side_high : (ℕ → ℤ) → (ℕ → ℤ) → Side → ℤ
+side_high low high side = carried_high side.carrier side.hi low high
+
+-- the box of a zone whose axes are within low and high
+unfoldable pub box_of : List Side → (ℕ → ℤ) → (ℕ → ℤ) → Box3
+box_of sides low high = record { lo = map (side_low low high) sides; hi = map (side_high low high) sides }
+
+abbrev pub zone_box : ZoneLine → (ℕ → ℤ) → (ℕ → ℤ) → Box3
+zone_box zone low high = box_of zone.sides low high
+
+-- the zone has this axis: one of its directions is carried by it
+abbrev pub is_carrier : ℕ → Option (ℕ × Bool) → Bool
+is_carrier axis None = false
+is_carrier axis (Some carrier) = carrier.0 == axis
+
+unfoldable pub has_axis : ZoneLine → ℕ → Bool
+has_axis zone axis = list_any (λ side. is_carrier axis side.carrier) zone.sides
+
+-- an axis of the zone is among the axes of the motion, whether or not it moves there
+unfoldable pub moves_zone : ZoneLine → Item → Bool
+moves_zone zone item = list_any (λ e. has_axis zone e.0) (axes_of (motion_of item))
+
+-- a box of a zone in a row of places: it holds the places from the first on and before the last, belongs to a motion or stands,
+-- and begins where the channel's axes stand then
+pub record PlaceBox : Type 0 where
+  pub from : ℕ
+  pub upto : ℕ
+  pub motion : Option Item
+  pub at : ℕ → ℤ
+
+-- the box that is open at a place: it waits for the zone's first motion, or belongs to one
+pub data Opened : Type 0 where
+  Waiting : ℕ → (ℕ → ℤ) → Opened
+  Moving : ℕ → Item → (ℕ → ℤ) → Opened
+
+-- the box ends before this place
+abbrev pub close : ℕ → Opened → PlaceBox
+close place (Waiting from at) = record { from = from; upto = place; motion = None; at = at }
+close place (Moving from item at) = record { from = from; upto = place; motion = Some item; at = at }
+
+-- a motion of the zone closes the box of the motion before it
+abbrev pub closed : ℕ → Opened → List PlaceBox
+closed place (Waiting from at) = []
+closed place (Moving from item at) = close place (Moving from item at) ∷ []
+
+-- the first motion takes over the box from its beginning, each other has a box of its own from its place on
+abbrev pub next_open : ℕ → (ℕ → ℤ) → Opened → Item → Opened
+next_open place at (Waiting from began) item = Moving from item at
+next_open place at (Moving from before began) item = Moving place item at
+
+-- the boxes from a place on; the axes stand at `at` before the items
+abbrev pub walk : ZoneLine → ℕ → Opened → (ℕ → ℤ) → List Item → List PlaceBox
+walk zone place current at [] = close place current ∷ []
+walk zone place current at (item ∷ items) =
+    if moves_zone zone item
+    then closed place current ++ walk zone (place + 1) (next_open place at current item) (after item at) items
+    else walk zone (place + 1) current (after item at) items
+
+-- the boxes of a zone that is on while its holder, whose axes stand at `at`, makes these motions: place 0 is before the first, and each motion has a place
+unfoldable pub boxes_of : ZoneLine → (ℕ → ℤ) → List Item → List PlaceBox
+boxes_of zone at items = walk zone 1 (Waiting 0 at) at items
+
+-- the bounds of an axis within a piece of a motion; an axis that the motion has not stands
+unfoldable pub low_in : RangesView → (ℕ → ℤ) → ℕ → ℤ
+low_in ranges at axis = option_map_or (λ r. r.1) (find (λ r. r.0 == axis) ranges.axes) (at axis)
+
+unfoldable pub high_in : RangesView → (ℕ → ℤ) → ℕ → ℤ
+high_in ranges at axis = option_map_or (λ r. r.2) (find (λ r. r.0 == axis) ranges.axes) (at axis)
+
+-- the zone boxes of the pieces of a box; a standing box is one piece
+unfoldable pub piece_boxes : ZoneLine → ℕ → PlaceBox → List Box3
+piece_boxes zone depth box = piece_boxes_by box.motion
+  where
+    piece_boxes_by : Option Item → List Box3
+    piece_boxes_by None = zone_box zone box.at box.at ∷ []
+    piece_boxes_by (Some item) = map (λ ranges. zone_box zone (low_in ranges box.at) (high_in ranges box.at)) (pieces_at (motion_of item) depth)
+
+-- a motion is sound, and moves axes of the row of positions
+pub record IsFit (item : Item) : Type 0 where
+  pub sound : IsSound (motion_of item)
+  pub within : All (λ e. e.0 < 16) (axes_of (motion_of item))
+
+-- the boxes as they are compared where motions are not cut: the line that names it, and the zone box of the cover of its motion, or where it stands
+unfoldable pub moving_box : ZoneLine → Item → (ℕ → ℤ) → ZoneBox
+moving_box zone item at = record { line = item.line; cover = zone_box zone (low_in (cover_of (motion_of item)) at) (high_in (cover_of (motion_of item)) at) }
+
+unfoldable pub standing_box : ZoneLine → ℕ → (ℕ → ℤ) → ZoneBox
+standing_box zone line at = record { line = line; cover = zone_box zone at at }
+
+unfoldable pub shown_box : ZoneLine → ℕ → PlaceBox → ZoneBox
+shown_box zone line box = option_map_or (λ item. moving_box zone item box.at) box.motion (standing_box zone line box.at)
+
+-- the boxes of the motions that have an axis of the zone
+unfoldable pub boxes_during : ZoneLine → Item → (ℕ → ℤ) → List ZoneBox
+boxes_during zone item at = if moves_zone zone item then moving_box zone item at ∷ [] else []
+
+abbrev pub moving_boxes : ZoneLine → (ℕ → ℤ) → List Item → List ZoneBox
+moving_boxes zone at [] = []
+moving_boxes zone at (item ∷ items) = boxes_during zone item at ++ moving_boxes zone (after item at) items

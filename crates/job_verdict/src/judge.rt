@@ -1,0 +1,169 @@
+//! Runs a job and judges it.
+ghost use Rattle.std.specs.Prelude.{◌≡◌, ◌==◌, IfOk, find, map, option_and_then, option_copied};
+ghost use Rattle.job_verdict.specs.ChannelRun.{runs_of, run_in};
+ghost use Rattle.job_verdict.specs.Channels.{IsRunnable};
+ghost use Rattle.job_verdict.specs.Clash as model;
+ghost use Rattle.job_verdict.specs.ShownStretches as shown;
+ghost use Rattle.job_verdict.specs.Stretches.{stretches_of};
+
+use crate::channels::{ChannelRun, alarm_in, run_channel, run_in};
+use crate::clash::{HeldZone, verdict_on};
+use crate::pair_counts::count_pairs;
+use crate::stretches::{Stretch, Verdict, stretches_of_run};
+use axis_sets::ChannelId;
+use nc_faults::Alarm;
+use std::alloc::{AllocError, Global};
+use tape_job::{Job, ZoneLine};
+
+/// How many pairs of boxes may be compared.
+const BUDGET: u32 = 1_000_000;
+
+/// The run of the channel that holds a zone.
+fn holder_run<'a>(runs: &'a [ChannelRun], zone: &ZoneLine) -> Option<&'a ChannelRun>
+    ensures { option_copied result ≡ option_and_then (run_in runs.now) zone.now.holder }
+{
+    match zone.holder {
+        Some(holder) => run_in(runs, holder),
+        None => None,
+    }
+}
+
+/// The stretches of a zone, from the run of the channel that holds it.
+fn held_stretches(
+    alloc: Global,
+    job: &Job,
+    runs: &[ChannelRun],
+    zone: &ZoneLine,
+) -> Result<Vec<Stretch>, AllocError>
+    requires runnable { IsRunnable job.now }
+    requires ran { runs.now ≡ runs_of job.now }
+    ensures { IfOk result (λ stretches. stretches.items ≡ map (shown.shown_stretch zone.now) (stretches_of job.now zone.now)) }
+{
+    match holder_run(runs, zone) {
+        Some(run) => stretches_of_run(alloc, job, zone, run),
+        None => Ok(Vec::new(alloc)),
+    }
+}
+
+/// A zone with its stretches.
+#[tactic(auto, unfolding(crate::specs::ShownStretches::held_zone))]
+fn held_zone(
+    alloc: Global,
+    job: &Job,
+    runs: &[ChannelRun],
+    zone: &ZoneLine,
+) -> Result<HeldZone, AllocError>
+    requires runnable { IsRunnable job.now }
+    requires ran { runs.now ≡ runs_of job.now }
+    ensures { IfOk result (λ held. held ≡ shown.held_zone job.now zone.now) }
+{
+    let stretches = held_stretches(alloc, job, runs, zone)?;
+    Ok(HeldZone {
+        zone: *zone,
+        stretches,
+    })
+}
+
+/// The zone of this number.
+fn zone_numbered(job: &Job, number: u8) -> Option<ZoneLine>
+    ensures { result ≡ find (λ zone. zone.zone == number) job.now.zones }
+{
+    job.zones
+        .iter()
+        .copied()
+        .find(|zone| zone.zone.number == number)
+}
+
+/// The zones with their stretches, in ascending order of their numbers.
+#[tactic(auto, unfolding(crate::specs::Clash::zones_in_order))]
+fn held_zones(alloc: Global, job: &Job, runs: &[ChannelRun]) -> Result<Vec<HeldZone>, AllocError>
+    requires runnable { IsRunnable job.now }
+    requires ran { runs.now ≡ runs_of job.now }
+    ensures { IfOk result (λ zones. zones.items ≡ map (shown.held_zone job.now) (model.zones_in_order job.now)) }
+{
+    let mut zones = Vec::new(alloc);
+    for index in 0..32 {
+        if let Some(zone) = zone_numbered(job, index + 1) {
+            zones.push(held_zone(alloc, job, runs, &zone)?)?;
+        }
+    }
+    Ok(zones)
+}
+
+/// The runs of all channels, in the order of their lines.
+#[tactic(auto, unfolding(crate::specs::ChannelRun::runs_of))]
+fn run_channels(alloc: Global, job: &Job) -> Result<Vec<ChannelRun>, AllocError>
+    requires { IsRunnable job.now }
+    ensures { IfOk result (λ runs. runs.items ≡ runs_of job.now) }
+{
+    let mut runs = Vec::new(alloc);
+    for line in &job.channels {
+        runs.push(run_channel(alloc, job, line)?)?;
+    }
+    Ok(runs)
+}
+
+/// The alarm that stops a channel, if there is a run of it that ends with one.
+#[tactic(auto, unfolding(crate::specs::Clash::alarm_of))]
+fn alarm_of(runs: &[ChannelRun], channel: ChannelId) -> Option<Alarm>
+    ensures { result ≡ model.alarm_of runs.now channel }
+{
+    match run_in(runs, channel) {
+        Some(run) => alarm_in(&run.end),
+        None => None,
+    }
+}
+
+/// The lowest channel that an alarm stops, with the alarm.
+#[tactic(auto, unfolding(crate::specs::Clash::first_alarm))]
+fn first_alarm(runs: &[ChannelRun]) -> Option<(ChannelId, Alarm)>
+    ensures { result ≡ model.first_alarm runs.now }
+{
+    for number in 1..9 {
+        let channel = ChannelId { number };
+        if let Some(alarm) = alarm_of(runs, channel) {
+            return Some((channel, alarm));
+        }
+    }
+    None
+}
+
+/// The verdict by the boxes alone. They are not compared where there are too many pairs.
+fn judge_boxes(alloc: Global, job: &Job, runs: &[ChannelRun]) -> Result<Verdict, AllocError>
+    requires runnable { IsRunnable job.now }
+    requires ran { runs.now ≡ runs_of job.now }
+    ensures { IfOk result (λ verdict. verdict ≡ model.boxes_verdict job.now) }
+{
+    let zones = held_zones(alloc, job, runs)?;
+    let count = count_pairs(&zones);
+    if count > u64::from(BUDGET) {
+        return Ok(Verdict::Undecided {
+            count,
+            budget: BUDGET,
+        });
+    }
+    Ok(verdict_on(&zones))
+}
+
+/// The verdict on these runs. There are no boxes where a channel is stopped.
+fn judge(alloc: Global, job: &Job, runs: &[ChannelRun]) -> Result<Verdict, AllocError>
+    requires runnable { IsRunnable job.now }
+    requires ran { runs.now ≡ runs_of job.now }
+    ensures { IfOk result (λ verdict. verdict ≡ model.verdict_of job.now) }
+{
+    match first_alarm(runs) {
+        Some(stopped) => Ok(Verdict::Alarm(stopped.0, stopped.1)),
+        None => judge_boxes(alloc, job, runs),
+    }
+}
+
+/// Runs every channel of a job, and judges the job.
+pub fn check_job(alloc: Global, job: &Job) -> Result<(Vec<ChannelRun>, Verdict), AllocError>
+    requires { IsRunnable job.now }
+    ensures runs { IfOk result (λ answer. answer.0.items ≡ runs_of job.now) }
+    ensures verdict { IfOk result (λ answer. answer.1 ≡ model.verdict_of job.now) }
+{
+    let runs = run_channels(alloc, job)?;
+    let verdict = judge(alloc, job, &runs)?;
+    Ok((runs, verdict))
+}

@@ -1,0 +1,143 @@
+//! The stretches of each zone, and the verdict's words.
+ghost use Rattle.std.specs.Prelude.{◌≡◌, ℕ, [], ◌∷◌, All, IfOk, map};
+ghost use Rattle.block_effects.specs.Motions.{left_at};
+ghost use Rattle.job_verdict.specs.Channels.{positions_in};
+ghost use Rattle.job_verdict.specs.Channels.{start_position, HasFewAxes};
+ghost use Rattle.job_verdict.specs.ShownStretches as model;
+ghost use Rattle.job_verdict.specs.ZoneBoxes.{IsFit};
+
+use crate::channels::{ChannelRun, Row, line_of_end, start_positions};
+use crate::zone_boxes::{ZoneBox, boxes_of, settle};
+use axis_sets::{ChannelId, ZoneId};
+use nc_faults::Alarm;
+use std::alloc::{AllocError, Global};
+use std::marker::Model;
+use sync_types::Item;
+use tape_job::{Job, ZoneLine};
+
+/// What a channel does in a stretch of a zone that it holds.
+#[derive(Clone, Copy, Debug, PartialEq, Eq)]
+pub enum StretchKind {
+    /// It runs its program.
+    Run,
+    /// Its program has ended, or an alarm has stopped it.
+    End,
+}
+
+/// How a box of a stretch is named.
+#[derive(Clone, Copy, Debug, PartialEq, Eq)]
+pub struct PlaceName {
+    /// The zone.
+    pub zone: ZoneId,
+    /// The channel that holds it, or none.
+    pub channel: Option<ChannelId>,
+    /// The kind of the stretch.
+    pub kind: StretchKind,
+    /// The line of the box's motion, or where it stands that of the stretch.
+    pub line: u32,
+}
+
+/// The verdict on a job.
+#[derive(Clone, Copy, Debug, PartialEq, Eq)]
+pub enum Verdict {
+    /// This alarm stops this channel, the lowest that one stops.
+    Alarm(ChannelId, Alarm),
+    /// More pairs of boxes are to be compared than may be.
+    Undecided {
+        /// How many are to be compared.
+        count: u64,
+        /// How many may be compared.
+        budget: u32,
+    },
+    /// These two boxes meet, the first that do.
+    No(PlaceName, PlaceName),
+    /// No two compared boxes meet.
+    Yes,
+}
+
+/// A stretch of a zone, as its boxes are compared.
+#[derive(Debug, Drop)]
+pub struct Stretch {
+    /// What the channel does.
+    pub kind: StretchKind,
+    /// The channel that holds the zone.
+    pub channel: ChannelId,
+    /// The boxes, in order.
+    pub boxes: Vec<ZoneBox>,
+}
+
+impl Model for Stretch {
+    ghost use Rattle.job_verdict.specs.StretchView.{StretchView};
+
+    ghost Value = { StretchView };
+
+    ghost view = { λ s. record { kind = s.kind; channel = s.channel; boxes = s.boxes.items } };
+}
+
+/// The stretch in which the channel runs its program.
+fn run_stretch(
+    alloc: Global,
+    job: &Job,
+    zone: &ZoneLine,
+    run: &ChannelRun,
+) -> Result<Stretch, AllocError>
+    requires axes { HasFewAxes job.now }
+    requires fit { All IsFit run.now.items }
+    ensures { IfOk result (λ s. s ≡ model.run_stretch job.now zone.now run.now) }
+{
+    let start = start_positions(job);
+    Ok(Stretch {
+        kind: StretchKind::Run,
+        channel: run.channel,
+        boxes: boxes_of(alloc, zone, 0, &start, &run.items)?,
+    })
+}
+
+/// Where these motions leave the axes of a job.
+fn end_positions(job: &Job, items: &[Item]) -> Row
+    requires axes { HasFewAxes job.now }
+    requires fit { All IsFit items.now }
+    ensures { (axis : ℕ) → positions_in result axis ≡ left_at items.now (start_position job.now) axis }
+{
+    let mut at = start_positions(job);
+    for item in items {
+        settle(item, &mut at);
+    }
+    at
+}
+
+/// The stretch after its program end or its alarm.
+fn end_stretch(
+    alloc: Global,
+    job: &Job,
+    zone: &ZoneLine,
+    run: &ChannelRun,
+) -> Result<Stretch, AllocError>
+    requires axes { HasFewAxes job.now }
+    requires fit { All IsFit run.now.items }
+    ensures { IfOk result (λ s. s ≡ model.end_stretch job.now zone.now run.now) }
+{
+    let at = end_positions(job, &run.items);
+    Ok(Stretch {
+        kind: StretchKind::End,
+        channel: run.channel,
+        boxes: boxes_of(alloc, zone, line_of_end(&run.end), &at, &[])?,
+    })
+}
+
+/// The two stretches of a zone that is held by the channel of this run.
+pub fn stretches_of_run(
+    alloc: Global,
+    job: &Job,
+    zone: &ZoneLine,
+    run: &ChannelRun,
+) -> Result<Vec<Stretch>, AllocError>
+    requires axes { HasFewAxes job.now }
+    requires fit { All IsFit run.now.items }
+    ensures { IfOk result (λ s. s.items ≡ model.run_stretch job.now zone.now run.now ∷ model.end_stretch job.now zone.now run.now ∷ []) }
+{
+    let mut stretches = Vec::new(alloc);
+    stretches.push(run_stretch(alloc, job, zone, run)?)?;
+    stretches.push(end_stretch(alloc, job, zone, run)?)?;
+    Ok(stretches)
+}

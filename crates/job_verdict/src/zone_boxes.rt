@@ -1,0 +1,244 @@
+//! The boxes of a zone, from where its axes are.
+ghost use Rattle.std.specs.Prelude.{◌≡◌, ◌==◌, ◌<◌, ℕ, ◌++◌, All, IfOk, OnOk, find, map};
+ghost use Rattle.job_verdict.specs.Channels.{positions_in};
+ghost use Rattle.path_geometry.specs.Motions.{IsSound, axes_of};
+ghost use Rattle.job_verdict.specs.ZoneBoxes as model;
+ghost use Rattle.sync_types.specs.Items.{motion_of};
+
+use crate::channels::Row;
+use arrayvec::ArrayVec;
+use axis_sets::AxisId;
+use micro_units::Um;
+use std::alloc::{AllocError, Global};
+use swept_boxes::{Box3, Ranges, cover};
+use sync_types::Item;
+use tape_job::{Side, ZoneLine};
+
+/// Where an axis stands.
+fn standing(at: &Row, axis: AxisId) -> Um
+    ensures { result ≡ positions_in at.now axis }
+{
+    at[usize::from(axis.index)]
+}
+
+/// The range that is named for an axis.
+fn range_of(ranges: &[(AxisId, Um, Um)], axis: AxisId) -> Option<(AxisId, Um, Um)>
+    ensures { result ≡ find (λ range. range.0 == axis) ranges.now }
+{
+    ranges.iter().copied().find(|range| range.0 == axis)
+}
+
+/// The lowest and the highest position of an axis within ranges; an axis that they do not name stands.
+#[tactic(auto, unfolding(crate::specs::ZoneBoxes::low_in, crate::specs::ZoneBoxes::high_in))]
+fn span_of(ranges: &Ranges, at: &Row, axis: AxisId) -> (Um, Um)
+    ensures low { result.0 ≡ model.low_in ranges.now (positions_in at.now) axis }
+    ensures high { result.1 ≡ model.high_in ranges.now (positions_in at.now) axis }
+{
+    match range_of(&ranges.axes, axis) {
+        Some(range) => (range.1, range.2),
+        None => {
+            let position = standing(at, axis);
+            (position, position)
+        }
+    }
+}
+
+/// A bound that an axis carries: the two added, or where the zone goes against the axis their difference.
+fn carried(bound: Um, position: Um, minus: bool) -> i32
+    ensures { result ≡ model.carried bound position minus }
+{
+    if minus {
+        bound.micrometres - position.micrometres
+    } else {
+        bound.micrometres + position.micrometres
+    }
+}
+
+#[tactic(auto, unfolding(crate::specs::ZoneBoxes::side_low, crate::specs::ZoneBoxes::side_high))]
+/// The bounds of a direction of a zone whose axes are within ranges.
+fn bounds_of(side: &Side, ranges: &Ranges, at: &Row) -> (i32, i32)
+    ensures low { result.0 ≡ model.side_low (model.low_in ranges.now (positions_in at.now)) (model.high_in ranges.now (positions_in at.now)) side.now }
+    ensures high { result.1 ≡ model.side_high (model.low_in ranges.now (positions_in at.now)) (model.high_in ranges.now (positions_in at.now)) side.now }
+{
+    match side.carrier {
+        None => (side.lo.micrometres, side.hi.micrometres),
+        Some((axis, minus)) => {
+            let (low, high) = span_of(ranges, at, axis);
+            if minus {
+                (carried(side.lo, high, true), carried(side.hi, low, true))
+            } else {
+                (carried(side.lo, low, false), carried(side.hi, high, false))
+            }
+        }
+    }
+}
+
+/// The box whose directions have these bounds.
+fn box_of(sides: &[Side; 3], ranges: &Ranges, at: &Row) -> Box3
+    ensures { result ≡ model.box_of sides.now (model.low_in ranges.now (positions_in at.now)) (model.high_in ranges.now (positions_in at.now)) }
+{
+    let x = bounds_of(&sides[0], ranges, at);
+    let y = bounds_of(&sides[1], ranges, at);
+    let z = bounds_of(&sides[2], ranges, at);
+    Box3 {
+        lo: [x.0, y.0, z.0],
+        hi: [x.1, y.1, z.1],
+    }
+}
+
+/// The box of a zone whose axes are within ranges, and elsewhere stand.
+pub fn zone_box(zone: &ZoneLine, ranges: &Ranges, at: &Row) -> Box3
+    ensures { result ≡ model.zone_box zone.now (model.low_in ranges.now (positions_in at.now)) (model.high_in ranges.now (positions_in at.now)) }
+{
+    box_of(&zone.sides, ranges, at)
+}
+
+/// Whether a direction is carried by this axis.
+fn is_carrier(axis: AxisId, carrier: Option<(AxisId, bool)>) -> bool
+    ensures { result ≡ model.is_carrier axis carrier }
+{
+    match carrier {
+        Some((other, _)) => other == axis,
+        None => false,
+    }
+}
+
+/// Whether one of the zone's directions is carried by this axis.
+#[tactic(auto, unfolding(crate::specs::ZoneBoxes::has_axis))]
+fn has_axis(zone: &ZoneLine, axis: AxisId) -> bool
+    ensures { result ≡ model.has_axis zone.now axis }
+{
+    zone.sides.iter().any(|side| is_carrier(axis, side.carrier))
+}
+
+/// Whether an axis of the zone is among the axes of the motion.
+#[tactic(auto, unfolding(crate::specs::ZoneBoxes::moves_zone))]
+fn moves_zone(zone: &ZoneLine, item: &Item) -> bool
+    ensures { result ≡ model.moves_zone zone.now item.now }
+{
+    item.motion()
+        .ends()
+        .axes
+        .iter()
+        .any(|end| has_axis(zone, end.0))
+}
+
+/// The end that is named for an axis.
+fn end_of(ends: &[(AxisId, Um, Um)], axis: AxisId) -> Option<(AxisId, Um, Um)>
+    ensures { result ≡ find (λ e. e.0 == axis) ends.now }
+{
+    ends.iter().copied().find(|end| end.0 == axis)
+}
+
+/// Where a motion leaves an axis.
+#[tactic(auto, unfolding(crate::specs::ZoneBoxes::after))]
+fn after(item: &Item, at: &Row, index: usize) -> Um
+    requires { index < 16 }
+    ensures { result ≡ model.after item.now (positions_in at.now) index }
+{
+    let axis = AxisId { index: index as u8 };
+    match end_of(&item.motion().ends().axes, axis) {
+        Some(end) => end.2,
+        None => at[index],
+    }
+}
+
+/// Puts the axes where a motion leaves them.
+pub fn settle(item: &Item, at: &mut Row)
+    requires { All (λ e. e.0 < 16) (axes_of (motion_of item.now)) }
+    ensures { (axis : ℕ) → positions_in at.new axis ≡ model.after item.now (positions_in at.old) axis }
+{
+    let before = *at;
+    for index in 0..16 {
+        at[index] = after(item, &before, index);
+    }
+}
+
+/// A box of a stretch: the line that names it, and what its zone sweeps.
+#[derive(Clone, Copy, Debug, PartialEq, Eq)]
+pub struct ZoneBox {
+    /// The line of its motion, or where it stands that of its stretch.
+    pub line: u32,
+    /// The zone box of the ranges that the motion covers.
+    pub cover: Box3,
+}
+
+/// The box of a zone during a motion that begins with its axes at these positions.
+#[tactic(auto, unfolding(crate::specs::ZoneBoxes::moving_box))]
+fn moving_box(zone: &ZoneLine, item: &Item, at: &Row) -> ZoneBox
+    requires { IsSound (motion_of item.now) }
+    ensures { result ≡ model.moving_box zone.now item.now (positions_in at.now) }
+{
+    ZoneBox {
+        line: item.line,
+        cover: zone_box(zone, &cover(item.motion()), at),
+    }
+}
+
+/// The box of a zone that stands.
+#[tactic(auto, unfolding(crate::specs::ZoneBoxes::standing_box))]
+fn standing_box(zone: &ZoneLine, line: u32, at: &Row) -> ZoneBox
+    ensures { result ≡ model.standing_box zone.now line (positions_in at.now) }
+{
+    let nothing = Ranges {
+        axes: ArrayVec::new(),
+    };
+    ZoneBox {
+        line,
+        cover: zone_box(zone, &nothing, at),
+    }
+}
+
+/// Adds the box of a motion, where an axis of the zone is among its axes.
+#[tactic(auto, unfolding(crate::specs::ZoneBoxes::boxes_during))]
+fn add_box(
+    boxes: &mut Vec<ZoneBox>,
+    zone: &ZoneLine,
+    item: &Item,
+    at: &Row,
+) -> Result<(), AllocError>
+    requires { IsSound (motion_of item.now) }
+    ensures { OnOk result (boxes.new.items ≡ boxes.old.items ++ model.boxes_during zone.now item.now (positions_in at.now)) }
+{
+    if moves_zone(zone, item) {
+        boxes.push(moving_box(zone, item, at))?;
+    }
+    Ok(())
+}
+
+/// The boxes of the motions that have an axis of the zone.
+fn moving_boxes(
+    alloc: Global,
+    zone: &ZoneLine,
+    start: &Row,
+    items: &[Item],
+) -> Result<Vec<ZoneBox>, AllocError>
+    requires { All model.IsFit items.now }
+    ensures { IfOk result (λ boxes. boxes.items ≡ model.moving_boxes zone.now (positions_in start.now) items.now) }
+{
+    let mut boxes = Vec::new(alloc);
+    let mut at = *start;
+    for item in items {
+        add_box(&mut boxes, zone, item, &at)?;
+        settle(item, &mut at);
+    }
+    Ok(boxes)
+}
+
+/// The boxes of a zone while its holder makes these motions, or the one where it stands.
+pub fn boxes_of(
+    alloc: Global,
+    zone: &ZoneLine,
+    line: u32,
+    start: &Row,
+    items: &[Item],
+) -> Result<Vec<ZoneBox>, AllocError>
+    requires { All model.IsFit items.now }
+    ensures { IfOk result (λ boxes. boxes.items ≡ map (model.shown_box zone.now line) (model.boxes_of zone.now (positions_in start.now) items.now)) }
+{
+    let mut boxes = moving_boxes(alloc, zone, start, items)?;
+    if boxes.as_slice().is_empty() {
+        boxes.push(standing_box(zone, line, start))?;
+    }
+    Ok(boxes)
+}

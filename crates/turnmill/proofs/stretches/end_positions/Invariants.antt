@@ -1,8 +1,0 @@
-use Rattle.std.proofs.Common.{◌≡◌, ℕ, drop}
-use Rattle.turnmill.specs.Channels.{start_position}
-use Rattle.block_effects.specs.Motions.{left_at}
-use Rattle.turnmill.specs.Channels.{positions_in}
-use Rattle.turnmill.proofs.stretches.end_positions.Given as goal
-
-abbrev pub invariant-loop-item : goal.invariant-loop-item
-invariant-loop-item l = (axis : ℕ) → left_at (drop l.item-index l.items) (positions_in l.at) axis ≡ left_at l.items (start_position l.job) axis

@@ -1,6 +1,0 @@
-use Rattle.std.proofs.Common.{◌≤◌, arith}
-use Rattle.turnmill.proofs.BoxLemmas.{all_after}
-use Rattle.turnmill.proofs.zone_boxes.settle.Goals as goal
-
-pub returns : goal.returns
-returns c = all_after c.args.item.now c.args.at.now c.loop-index.at c.requires c.told-at c.loop-index.invariant.long (λ k h. c.loop-index.invariant.put k (let here : 16 ≤ c.loop-index.index = omega arith in omega arith))
