@@ -11,8 +11,6 @@ mod calls;
 #[cfg(test)]
 mod control;
 #[cfg(test)]
-mod effects;
-#[cfg(test)]
 mod expressions;
 #[cfg(test)]
 mod groups;
