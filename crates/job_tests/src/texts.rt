@@ -96,7 +96,7 @@ fn say_refusals(rt: &impl Abort, rows: &[(u16, &str)])
 }
 
 #[test]
-#[tactic(auto, unfolding(crate::specs::Texts::refusal_texts))]
+#[tactic(auto, unfolding(nc_faults::specs::Texts::refusal_texts))]
 fn says_each_refusal(rt: HostRuntime) {
     say_refusals(&rt, &REFUSALS);
 }
@@ -110,7 +110,7 @@ fn say_alarms(rt: &impl Abort, rows: &[(u16, &str)])
 }
 
 #[test]
-#[tactic(auto, unfolding(crate::specs::Texts::alarm_texts))]
+#[tactic(auto, unfolding(nc_faults::specs::Texts::alarm_texts))]
 fn says_each_alarm(rt: HostRuntime) {
     say_alarms(&rt, &ALARMS);
 }

@@ -6,7 +6,7 @@ fn word(group: u8, code: u16) -> GWord {
 }
 
 /// The words of all groups that have a value.
-#[tactic(auto, unfolding(crate::specs::Groups::holding_of))]
+#[tactic(auto, unfolding(g_groups::specs::Groups::holding_of))]
 fn all_words(modal: &Modal) -> [u16; 10] {
     [
         modal.word(0),
