@@ -1,4 +1,6 @@
 //! Channels that run small programs to their step, by the rules.
+ghost use Rattle.std.specs.Prelude.{◌≤◌, length, IfSome};
+ghost use Rattle.tape_job.specs.SoundJob.{BlocksFit};
 
 use axis_sets::{AxisId, AxisSet, ChannelId, Positions, ZoneId, ZoneSet};
 use channel_machine::{Local, Segment, run_segment};
@@ -24,7 +26,10 @@ const X: AxisId = AxisId { index: 0 };
 const Z: AxisId = AxisId { index: 1 };
 
 /// The job with these blocks, or none where it is refused or memory runs out.
-fn job_of(alloc: Global, blocks: &str) -> Option<Job> {
+fn job_of(alloc: Global, blocks: &str) -> Option<Job>
+    ensures fit { IfSome result BlocksFit }
+    ensures few { IfSome result (λ job. length job.programs ≤ 256) }
+{
     let Ok(text) = format!(in alloc; "{START}{blocks}") else {
         return None;
     };
@@ -32,7 +37,10 @@ fn job_of(alloc: Global, blocks: &str) -> Option<Job> {
     if bytes.len() > 8_388_609 {
         return None;
     }
-    read_job(alloc, bytes).ok()
+    match read_job(alloc, bytes) {
+        Ok(job) if job.programs.len() <= 256 => Some(job),
+        _ => None,
+    }
 }
 
 /// Both axes at 0, the zone, and the first program.
@@ -52,9 +60,6 @@ fn grant() -> Grant {
 /// The first segment of the job with these blocks.
 fn segment_of(alloc: Global, blocks: &str) -> Option<Segment> {
     let job = job_of(alloc, blocks)?;
-    if job.programs.len() > 256 {
-        return None;
-    }
     match Local::start(alloc, &job, ChannelId { number: 1 }, &grant()) {
         Ok(local) => run_segment(alloc, &job, &local).ok(),
         Err(_) => None,
