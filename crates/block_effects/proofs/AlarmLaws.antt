@@ -1,9 +1,20 @@
 -- The alarms of blocks are in the table of alarms.
-use Rattle.std.proofs.Common.{ℕ, ℤ, pos, negsuc, ◌^◌, ◌%◌, ◌/◌, ◌==◌, ◌&&◌, ◌+ℤ◌, Bool, true, false, cond, nat_lt, int_lt, List, [], ◌∷◌, Option, None, Some, is_some, get_or, Result, Ok, Err, set, refl}
+use Rattle.std.proofs.Common.{◌≡◌, ℕ, ℤ, pos, negsuc, ◌^◌, ◌%◌, ◌/◌, ◌==◌, ◌&&◌, ◌++◌, ◌+ℤ◌, Bool, true, false, cond, nat_lt, int_lt, List, [], ◌∷◌, Option, None, Some, is_some, get_or, Result, Ok, Err, set, refl}
 use Rattle.std.specs.Prelude.{⊤}
-use Rattle.std.specs.List.{list_all}
 use Rattle.std.specs.Ordering.{int_eq}
 use Rattle.std.specs.Int.RustNames.{unsigned_abs}
+use Rattle.axis_moves.specs.declared.goals.Programmed.{Programmed}
+use Rattle.axis_moves.specs.declared.goals.Targets.{Targets}
+use Rattle.axis_moves.specs.Goals.{InForce}
+use Rattle.axis_moves.specs.Motions.{moved}
+use Rattle.axis_moves.proofs.AlarmLaws.{moved_listed}
+use Rattle.frames.specs.Composition.{shifts, scales, mirrors, turns}
+use Rattle.frames.specs.Faults.{or_else, is_scale, is_square_angle, map_fault, maps_fault, is_factor_allowed, is_shift_allowed, image_fault, chain_fault, adding_fault}
+use Rattle.frames.specs.Images.{Image, image_of}
+use Rattle.frames.specs.Maps.{Map, shifting, scaling, mirroring, turning}
+use Rattle.frames.specs.declared.Plane.{Plane}
+use Rattle.g_groups.specs.Modal.{has_group_twice}
+use Rattle.g_groups.specs.declared.GWord.{GWord}
 use Rattle.micro_units.specs.Arithmetic.{square_root}
 use Rattle.nc_expressions.specs.declared.trees.UnaryOp.{UnaryOp}
 use Rattle.nc_expressions.specs.declared.trees.UnaryOp.TheVariants.{Minus, Not, Abs, Sqrt, Pot, Trunc, Round}
@@ -13,26 +24,28 @@ use Rattle.nc_expressions.specs.Symbols.{index_of}
 use Rattle.nc_expressions.specs.Tree.{Tree, Number, Parameter, Indexed, Unary, Binary}
 use Rattle.nc_expressions.specs.Value.{◌>>=◌, checked, divided, rooted, unary_value, binary_value, at_index, value_of}
 use Rattle.nc_faults.specs.Texts.{IsAlarmCode, alarm_texts}
-use Rattle.nc_blocks.specs.Statement.{OperandView, Value, Text, AxisName, WordView, Assign, AssignAt, G, Axis, Radius, Aux, End, Statement, WordBlock, IfJump, If, While, Until, For, EndFor, Case, RepeatFrom, RepeatBlock, Call}
-use Rattle.block_effects.specs.Motions.{is_in_reach, ends_from, item_of, moved}
-use Rattle.block_effects.specs.Words.{Progress, parameter_in, value_in, index_in, begun, given, given_at, counted, assigned, axis_of, programmed, option_read, operand_read, aux_read, word_done, words_done}
-use Rattle.sync_types.specs.declared.Item.{Item}
-use Rattle.block_effects.specs.Effects.{Effect, course_of, words_effect, bounded, for_continued, times_in, times_of, repeated, called, number_of, control_effect, effect_of}
+use Rattle.nc_blocks.specs.declared.blocks.FrameWord.{FrameWord}
+use Rattle.nc_blocks.specs.declared.blocks.FrameWord.TheVariants.{Trans, Atrans, Scale, Ascale, Mirror, Amirror}
+use Rattle.nc_blocks.specs.Statement.{OperandView, Value, Text, AxisName, WordView, Assign, AssignAt, G, Axis, Radius, Aux, End, Statement, WordBlock, IfJump, If, While, Until, For, EndFor, Case, RepeatFrom, RepeatBlock, Call, Shape, Turn}
+use Rattle.block_effects.specs.Words.{Equipment, Progress, parameter_in, value_in, index_in, begun, given, given_at, counted, assigned, aimed, meant, slot_named, is_in_slot, programmed_once, slot_programmed, named_programmed, programmed_by, option_read, operand_read, aux_read, word_done, words_done}
+use Rattle.block_effects.specs.Shapes.{values_done, no_values, unless_alarmed, added, shaped, turned, plane_of, shaped_by, turned_by}
+use Rattle.block_effects.specs.Effects.{Found, word_in, in_force, stands_still, moved_or_still, words_moved, words_run, words_effect, group_words, framed, bounded, for_continued, times_in, times_of, repeated, called, number_of, control_effect, effect_of}
+use Rattle.block_effects.proofs.EffectSteps.{left}
 
 -- the codes that a run can end with
-pub listed_1 : IsAlarmCode 1
+listed_1 : IsAlarmCode 1
 unfolding IsAlarmCode alarm_texts
 listed_1 = refl
 
-pub listed_2 : IsAlarmCode 2
+listed_2 : IsAlarmCode 2
 unfolding IsAlarmCode alarm_texts
 listed_2 = refl
 
-pub listed_3 : IsAlarmCode 3
+listed_3 : IsAlarmCode 3
 unfolding IsAlarmCode alarm_texts
 listed_3 = refl
 
-pub listed_4 : IsAlarmCode 4
+listed_4 : IsAlarmCode 4
 unfolding IsAlarmCode alarm_texts
 listed_4 = refl
 
@@ -48,6 +61,18 @@ pub listed_9 : IsAlarmCode 9
 unfolding IsAlarmCode alarm_texts
 listed_9 = refl
 
+listed_10 : IsAlarmCode 10
+unfolding IsAlarmCode alarm_texts
+listed_10 = refl
+
+listed_11 : IsAlarmCode 11
+unfolding IsAlarmCode alarm_texts
+listed_11 = refl
+
+listed_12 : IsAlarmCode 12
+unfolding IsAlarmCode alarm_texts
+listed_12 = refl
+
 listed_13 : IsAlarmCode 13
 unfolding IsAlarmCode alarm_texts
 listed_13 = refl
@@ -55,6 +80,10 @@ listed_13 = refl
 listed_14 : IsAlarmCode 14
 unfolding IsAlarmCode alarm_texts
 listed_14 = refl
+
+listed_16 : IsAlarmCode 16
+unfolding IsAlarmCode alarm_texts
+listed_16 = refl
 
 listed_17 : IsAlarmCode 17
 unfolding IsAlarmCode alarm_texts
@@ -163,14 +192,43 @@ counted_listed parameters index =
 assigned_listed : (p : Progress) (values : Result (List ℤ) ℕ) → IsListed values → IsListed (assigned p values)
 assigned_listed p values listed = bind_listed values (λ parameters. Ok (record p { parameters = parameters })) listed (λ parameters. tt)
 
-programmed_listed : (p : Progress) (o : Option ℕ) (value : ℤ) → IsListed (programmed p o value)
-unfolding programmed
-programmed_listed p None value = listed_14
-programmed_listed p (Some axis) value = by_word (is_some (get_or p.programmed axis None))
+aimed_listed : (p : Progress) (targets : Result Targets ℕ) → IsListed targets → IsListed (aimed p targets)
+aimed_listed p targets listed = bind_listed targets (λ new. Ok (record p { targets = new })) listed (λ new. tt)
+
+once_listed : (row : List (Option Programmed)) (place : ℕ) (value : Programmed) → IsListed (programmed_once row place value)
+unfolding programmed_once
+once_listed row place value = by_word (is_some (get_or row place None))
   where
-    by_word : (b : Bool) → IsListed (cond b (Err 17) (Ok (record p { programmed = set p.programmed axis (Some value) })))
+    by_word : (b : Bool) → IsListed (cond b (Err 17) (Ok (set row place (Some value))))
     by_word true = listed_17
     by_word false = tt
+
+slot_listed : (slots : List (Option ℕ)) (targets : Targets) (slot : ℕ) (value : Programmed) → IsListed (slot_programmed slots targets slot value)
+unfolding slot_programmed
+slot_listed slots targets slot value = by_axis (is_some (get_or slots slot None))
+  where
+    put : Result Targets ℕ
+    put = programmed_once targets.slots slot value >>= λ row. Ok (record targets { slots = row })
+
+    by_axis : (b : Bool) → IsListed (cond b put (Err 14))
+    by_axis true = bind_listed (programmed_once targets.slots slot value) (λ row. Ok (record targets { slots = row })) (once_listed targets.slots slot value) (λ row. tt)
+    by_axis false = listed_14
+
+named_listed : (slots : List (Option ℕ)) (targets : Targets) (o : Option ℕ) (value : Programmed) → IsListed (named_programmed slots targets o value)
+unfolding named_programmed
+named_listed slots targets None value = listed_14
+named_listed slots targets (Some axis) value = by_slot (is_in_slot slots axis)
+  where
+    put : Result Targets ℕ
+    put = programmed_once targets.axes axis value >>= λ row. Ok (record targets { axes = row })
+
+    by_slot : (b : Bool) → IsListed (cond b (Err 16) put)
+    by_slot true = listed_16
+    by_slot false = bind_listed (programmed_once targets.axes axis value) (λ row. Ok (record targets { axes = row })) (once_listed targets.axes axis value) (λ row. tt)
+
+programmed_listed : (equipment : Equipment) (targets : Targets) (name : List ℕ) (o : Option ℕ) (value : Programmed) → IsListed (programmed_by equipment targets name o value)
+programmed_listed equipment targets name (Some slot) value = slot_listed equipment.slots targets slot value
+programmed_listed equipment targets name None value = named_listed equipment.slots targets (equipment.axis_named name) value
 
 option_listed : (parameters : List ℤ) (o : Option Tree) → IsListed (option_read parameters o)
 option_listed parameters None = tt
@@ -181,15 +239,17 @@ operand_listed parameters (Value tree) = bind_listed (value_in parameters tree) 
 operand_listed parameters (Text bytes) = tt
 operand_listed parameters (AxisName bytes) = tt
 
-module _ (slots : List (Option ℕ)) where
-  word_listed : (p : Progress) (word : WordView) → IsListed (word_done slots p word)
+module _ (equipment : Equipment) where
+  word_listed : (p : Progress) (word : WordView) → IsListed (word_done equipment p word)
   unfolding word_done
   word_listed p (Assign index tree) = assigned_listed p (given p.parameters index tree) (given_listed p.parameters index tree)
   word_listed p (AssignAt at tree) = assigned_listed p (given_at p.parameters at tree) (given_at_listed p.parameters at tree)
   word_listed p (G group code) = tt
   word_listed p (Axis name measure tree) =
-      bind_listed (value_in p.parameters tree) (λ value. programmed p (axis_of slots name) value) (value_listed (parameter_in p.parameters) tree)
-      (λ value. programmed_listed p (axis_of slots name) value)
+      bind_listed (value_in p.parameters tree) (λ value. aimed p (programmed_by equipment p.targets name (slot_named name) (meant measure value)))
+      (value_listed (parameter_in p.parameters) tree)
+      (λ value. aimed_listed p (programmed_by equipment p.targets name (slot_named name) (meant measure value))
+      (programmed_listed equipment p.targets name (slot_named name) (meant measure value)))
   word_listed p (Radius tree) = tt
   word_listed p (Aux name index operand) =
       bind_listed (aux_read p.parameters index operand) (λ _. Ok p)
@@ -197,21 +257,105 @@ module _ (slots : List (Option ℕ)) where
       (λ _. tt)
   word_listed p End = tt
 
-  words_listed : (p : Progress) (words : List WordView) → IsListed (words_done slots p words)
+  words_listed : (p : Progress) (words : List WordView) → IsListed (words_done equipment p words)
   words_listed p [] = tt
-  words_listed p (word ∷ words) = bind_listed (word_done slots p word) (λ q. words_done slots q words) (word_listed p word) (λ q. words_listed q words)
+  words_listed p (word ∷ words) = bind_listed (word_done equipment p word) (λ q. words_done equipment q words) (word_listed p word) (λ q. words_listed q words)
 
--- ---- blocks
+-- ---- motions
 
-moved_listed : (at : ℕ → ℤ) (line : ℕ) (values : List (Option ℤ)) → IsListed (moved at line values)
-unfolding moved
-moved_listed at line values = unless (list_all is_in_reach values) (item_of line (ends_from at values)) 13 listed_13
+listed_of : {A : Type 0} (r : Result A ℕ) → ((code : ℕ) → r ≡ Err code → IsAlarmCode code) → IsListed r
+listed_of (Ok x) each = tt
+listed_of (Err code) each = each code refl
 
-words_effect_listed : (slots : List (Option ℕ)) (parameters : List ℤ) (at : ℕ → ℤ) (line : ℕ) (words : List WordView) → IsListed (words_effect slots parameters at line words)
-words_effect_listed slots parameters at line words =
-    let left : Progress → Option Item → Effect = λ p item. record { parameters = p.parameters; item = item; course = course_of p.ends } in
-    bind_listed (words_done slots (begun parameters) words) (λ p. moved at line p.programmed >>= λ item. Ok (left p item)) (words_listed slots (begun parameters) words)
-    (λ p. bind_listed (moved at line p.programmed) (λ item. Ok (left p item)) (moved_listed at line p.programmed) (λ item. tt))
+still_listed : (slots : List (Option ℕ)) (owned : List Bool) (h : InForce) (at : ℕ → ℤ) (line : ℕ) (groups : List GWord) (targets : Targets)
+    → IsListed (moved_or_still slots owned h at line groups targets)
+still_listed slots owned h at line groups targets = by_word (stands_still groups)
+  where
+    by_word : (b : Bool) → IsListed (cond b (Ok None) (moved slots owned h at line targets))
+    by_word true = tt
+    by_word false = listed_of (moved slots owned h at line targets) (λ code is. moved_listed slots owned h at line targets code is)
+
+module _ (equipment : Equipment) (found : Found) (line : ℕ) (groups : List GWord) (words : List WordView) where
+  words_run_listed : IsListed (words_run equipment found line groups words)
+  words_run_listed =
+      bind_listed (words_done equipment (begun found.parameters) words) (λ p. words_moved equipment found line groups p.targets >>= λ item. Ok (left found p item))
+      (words_listed equipment (begun found.parameters) words)
+      (λ p. bind_listed (words_moved equipment found line groups p.targets) (λ item. Ok (left found p item))
+      (still_listed equipment.slots equipment.owned (in_force equipment found groups) found.at line groups p.targets) (λ item. tt))
+
+  words_effect_listed : IsListed (words_effect equipment found line groups words)
+  words_effect_listed = by_test (has_group_twice groups)
+    where
+      by_test : (b : Bool) → IsListed (cond b (Err 10) (words_run equipment found line groups words))
+      by_test true = listed_10
+      by_test false = words_run_listed
+
+-- ---- frames
+
+abbrev IsFaultListed : Option ℕ → Type 0
+IsFaultListed None = ⊤
+IsFaultListed (Some code) = IsAlarmCode code
+
+fault_unless : (b : Bool) (code : ℕ) → IsAlarmCode code → IsFaultListed (cond b None (Some code))
+fault_unless true code listed = tt
+fault_unless false code listed = listed
+
+either_listed : (a b : Option ℕ) → IsFaultListed a → IsFaultListed b → IsFaultListed (or_else a b)
+either_listed None b first later = later
+either_listed (Some code) b first later = first
+
+map_listed : (m : Map) → IsFaultListed (map_fault m)
+map_listed (shifting axis value) = tt
+map_listed (scaling axis value) = fault_unless (is_scale value) 11 listed_11
+map_listed (mirroring axis) = tt
+map_listed (turning plane angle) = fault_unless (is_square_angle angle) 12 listed_12
+
+maps_listed : (ms : List Map) → IsFaultListed (maps_fault ms)
+maps_listed [] = tt
+maps_listed (m ∷ ms) = either_listed (map_fault m) (maps_fault ms) (map_listed m) (maps_listed ms)
+
+image_listed : (i : Image) → IsFaultListed (image_fault i)
+image_listed i = by_factor (is_factor_allowed i)
+  where
+    by_factor : (b : Bool) → IsFaultListed (cond b (cond (is_shift_allowed i) None (Some 13)) (Some 11))
+    by_factor true = fault_unless (is_shift_allowed i) 13 listed_13
+    by_factor false = listed_11
+
+chain_listed : (ms : List Map) → IsFaultListed (chain_fault ms)
+chain_listed ms =
+    either_listed (image_fault (image_of ms 0)) (or_else (image_fault (image_of ms 1)) (image_fault (image_of ms 2))) (image_listed (image_of ms 0))
+    (either_listed (image_fault (image_of ms 1)) (image_fault (image_of ms 2)) (image_listed (image_of ms 1)) (image_listed (image_of ms 2)))
+
+added_listed : (chain ms : List Map) → IsListed (added chain ms)
+unfolding added
+added_listed chain ms = by_fault (adding_fault chain ms) (either_listed (maps_fault ms) (chain_fault (chain ++ ms)) (maps_listed ms) (chain_listed (chain ++ ms)))
+  where
+    by_fault : (o : Option ℕ) → IsFaultListed o → IsListed (unless_alarmed o (chain ++ ms))
+    by_fault None listed = tt
+    by_fault (Some code) listed = listed
+
+shaped_listed : (chain : List Map) (word : FrameWord) (row : List (Option ℤ)) → IsListed (shaped chain word row)
+unfolding shaped
+shaped_listed chain Trans row = added_listed [] (shifts 0 row)
+shaped_listed chain Atrans row = added_listed chain (shifts 0 row)
+shaped_listed chain Scale row = added_listed [] (scales 0 row)
+shaped_listed chain Ascale row = added_listed chain (scales 0 row)
+shaped_listed chain Mirror row = added_listed [] (mirrors 0 row)
+shaped_listed chain Amirror row = added_listed chain (mirrors 0 row)
+
+turned_listed : (chain : List Map) (plane : Plane) (additive : Bool) (angle : Option ℤ) → IsListed (turned chain plane additive angle)
+unfolding turned
+turned_listed chain plane false angle = added_listed [] (turns plane angle)
+turned_listed chain plane true angle = added_listed chain (turns plane angle)
+
+values_listed : (parameters : List ℤ) (row : List (Option ℤ)) (words : List (ℕ × Tree)) → IsListed (values_done parameters row words)
+values_listed parameters row [] = tt
+values_listed parameters row ((axis, tree) ∷ more) =
+    bind_listed (value_in parameters tree) (λ value. values_done parameters (set row axis (Some value)) more) (value_listed (parameter_in parameters) tree)
+    (λ value. values_listed parameters (set row axis (Some value)) more)
+
+framed_listed : (found : Found) (made : Result (List Map) ℕ) → IsListed made → IsListed (framed found made)
+framed_listed found made listed = bind_listed made _ listed (λ chain. tt)
 
 -- ---- control
 
@@ -259,7 +403,16 @@ module _ (names : List (List ℕ)) (parameters : List ℤ) (opener : Statement) 
   control_listed (Call name passes) = bind_listed (called (number_of names name)) _ (called_listed (number_of names name)) (λ number. tt)
   control_listed other = tt
 
-  pub effect_listed : (slots : List (Option ℕ)) (at : ℕ → ℤ) (line : ℕ) (statement : Statement) → IsListed (effect_of names slots parameters at line opener statement)
-  unfolding effect_of
-  effect_listed slots at line (WordBlock words) = words_effect_listed slots parameters at line words
-  effect_listed slots at line statement = control_listed statement
+pub effect_listed : (equipment : Equipment) (found : Found) (line : ℕ) (opener statement : Statement) → IsListed (effect_of equipment found line opener statement)
+unfolding effect_of
+effect_listed equipment found line opener (WordBlock words) = words_effect_listed equipment found line (group_words (WordBlock words)) words
+effect_listed equipment found line opener (Shape word values) =
+    framed_listed found (shaped_by found.parameters found.chain word values)
+    (bind_listed (values_done found.parameters no_values values) (λ row. shaped found.chain word row) (values_listed found.parameters no_values values)
+    (λ row. shaped_listed found.chain word row))
+effect_listed equipment found line opener (Turn additive angle) =
+    framed_listed found (turned_by found.parameters found.chain (plane_of (word_in found [] 6)) additive angle)
+    (bind_listed (option_read found.parameters angle) (λ value. turned found.chain (plane_of (word_in found [] 6)) additive value) (option_listed found.parameters angle)
+    (λ value. turned_listed found.chain (plane_of (word_in found [] 6)) additive value))
+effect_listed equipment found line opener statement =
+    bind_listed (control_effect equipment.names found.parameters opener statement) _ (control_listed equipment.names found.parameters opener statement) (λ t. tt)

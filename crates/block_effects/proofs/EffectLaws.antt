@@ -1,64 +1,69 @@
 -- The motion of a block, whatever it says.
-use Rattle.std.proofs.Common.{◌≡◌, ℕ, ℤ, List, Option, None, Some, Result, Ok, Err, refl, sym, ◌∙◌, subst}
-use Rattle.nc_control_flow.specs.Moves as outcome
-use Rattle.nc_expressions.specs.Value.{◌>>=◌, is_true}
-use Rattle.nc_expressions.specs.Tree.{Tree}
-use Rattle.nc_blocks.specs.Statement.{Statement, WordBlock, Jump, IfJump, If, While, Until, For, EndFor, Case, RepeatFrom, RepeatBlock, Call, Return}
+use Rattle.std.proofs.Common.{◌≡◌, ◌∙◌, ℕ, Bool, true, false, cond, List, [], Option, None, Some, Result, Ok, Err, refl, ap, subst}
+use Rattle.axis_moves.specs.declared.goals.Targets.{Targets}
+use Rattle.axis_moves.specs.Goals.{InForce}
+use Rattle.axis_moves.specs.Motions.{IsMotionOf, moved}
+use Rattle.axis_moves.proofs.MotionLaws.{moved_is}
+use Rattle.frames.specs.Maps.{Map}
+use Rattle.g_groups.specs.Modal.{has_group_twice}
+use Rattle.g_groups.specs.declared.GWord.{GWord}
+use Rattle.nc_expressions.specs.Value.{◌>>=◌}
+use Rattle.nc_blocks.specs.Statement.{WordView, Statement, WordBlock, Shape, Turn}
 use Rattle.sync_types.specs.declared.Item.{Item}
 use Rattle.sync_types.specs.Items.{motion_of}
-use Rattle.block_effects.specs.Motions.{IsMotionOf}
-use Rattle.block_effects.specs.Words.{value_in, given, counted}
-use Rattle.block_effects.specs.Effects.{Effect, Calls, goes, jumped_if, chosen, bounded, for_continued, times_of, called, number_of, conditional, control_effect, effect_of}
-use Rattle.block_effects.proofs.MotionLaws.{words_is}
+use Rattle.block_effects.specs.Words.{Equipment, begun, words_done}
+use Rattle.block_effects.specs.Shapes.{plane_of, shaped_by, turned_by}
+use Rattle.block_effects.specs.Effects.{Effect, Turning, Found, word_in, in_force, stands_still, moved_or_still, words_moved, words_run, words_effect, group_words, framed, turned_only, control_effect, effect_of}
+use Rattle.block_effects.proofs.EffectSteps.{left}
 
--- a block that is done moves nothing
-abbrev Still : Result Effect ℕ → Type 0
-Still (Ok effect) = effect.item ≡ None
-Still (Err code) = Unit {0}
+module _ (equipment : Equipment) (found : Found) (line : ℕ) where
+  -- the motion that a block has, if it is done and has one, is one from where the axes stand
+  abbrev Moves : Result Effect ℕ → Type 0
+  Moves (Ok effect) = (item : Item) → effect.item ≡ Some item → IsMotionOf equipment.owned found.at (motion_of item)
+  Moves (Err code) = Unit {0}
 
-still_bind : {A : Type 0} (r : Result A ℕ) (f : A → Result Effect ℕ) → ((x : A) → Still (f x)) → Still (r >>= f)
-still_bind (Ok x) f each = each x
-still_bind (Err code) f each = tt
+  moves_bind : {A : Type 0} (r : Result A ℕ) (f : A → Result Effect ℕ) → ((x : A) → r ≡ Ok x → Moves (f x)) → Moves (r >>= f)
+  moves_bind (Ok x) f each = each x refl
+  moves_bind (Err code) f each = tt
 
-conditional_still : (parameters : List ℤ) (tree : Tree) → Still (conditional parameters tree)
-conditional_still parameters tree = still_bind (value_in parameters tree) (λ value. Ok (goes parameters (outcome.Truth (is_true value)))) (λ value. refl)
+  moved_from : (h : InForce) (groups : List GWord) (targets : Targets) (item : Item)
+      → moved_or_still equipment.slots equipment.owned h found.at line groups targets ≡ Ok (Some item) → IsMotionOf equipment.owned found.at (motion_of item)
+  moved_from h groups targets item is = by_word (stands_still groups) is
+    where
+      by_word : (b : Bool) → cond {A = Result (Option Item) ℕ} b (Ok None) (moved equipment.slots equipment.owned h found.at line targets) ≡ Ok (Some item)
+          → IsMotionOf equipment.owned found.at (motion_of item)
+      by_word true is = absurd cc
+      by_word false is = moved_is equipment.owned found.at line equipment.slots h targets item is
 
-bounded_still : (parameters : List ℤ) (index : ℕ) (bound : Tree) → Still (bounded parameters index bound)
-bounded_still parameters index bound = still_bind (value_in parameters bound) _ (λ value. refl)
+  run_moves : (groups : List GWord) (words : List WordView) → Moves (words_run equipment found line groups words)
+  run_moves groups words =
+      moves_bind (words_done equipment (begun found.parameters) words) (λ p. words_moved equipment found line groups p.targets >>= λ item. Ok (left found p item))
+      (λ p done. moves_bind (words_moved equipment found line groups p.targets) (λ item. Ok (left found p item))
+      (λ o made item is. moved_from (in_force equipment found groups) groups p.targets item (made ∙ ap (λ (i : Option Item). Ok i) is)))
 
-continued_still : (parameters : List ℤ) (opener : Statement) → Still (for_continued parameters opener)
-continued_still parameters (For index first bound) = still_bind (counted parameters index) (λ p. bounded p index bound) (λ p. bounded_still p index bound)
-continued_still parameters other = refl
+  words_move : (groups : List GWord) (words : List WordView) → Moves (words_effect equipment found line groups words)
+  words_move groups words = by_test (has_group_twice groups)
+    where
+      by_test : (b : Bool) → Moves (cond b (Err 10) (words_run equipment found line groups words))
+      by_test true = tt
+      by_test false = run_moves groups words
 
-module _ (names : List (List ℕ)) (parameters : List ℤ) (opener : Statement) where
-  control_still : (statement : Statement) → Still (control_effect names parameters opener statement)
-  unfolding control_effect
-  control_still (Jump j) = refl
-  control_still (IfJump tree j) = still_bind (value_in parameters tree) (λ value. Ok (goes parameters (jumped_if (is_true value) j))) (λ value. refl)
-  control_still (If tree) = conditional_still parameters tree
-  control_still (While tree) = conditional_still parameters tree
-  control_still (Until tree) = conditional_still parameters tree
-  control_still (For index first bound) = still_bind (given parameters index first) (λ p. bounded p index bound) (λ p. bounded_still p index bound)
-  control_still EndFor = continued_still parameters opener
-  control_still (Case tree pairs default) = still_bind (value_in parameters tree) (λ value. Ok (goes parameters (chosen value pairs default))) (λ value. refl)
-  control_still (RepeatFrom name times) = still_bind (times_of parameters times) (λ n. Ok (goes parameters (outcome.Again n))) (λ n. refl)
-  control_still (RepeatBlock name times) = still_bind (times_of parameters times) (λ n. Ok (goes parameters (outcome.Again n))) (λ n. refl)
-  control_still (Call name passes) =
-      still_bind (called (number_of names name)) (λ number. Ok (record { parameters = parameters; item = None; course = Calls number passes })) (λ number. refl)
-  control_still Return = refl
-  control_still other = refl
+  framed_still : (made : Result (List Map) ℕ) → Moves (framed found made)
+  framed_still (Ok chain) = λ item is. absurd cc
+  framed_still (Err code) = tt
 
-  -- so it has no motion
-  no_motion : (statement : Statement) (effect : Effect) → control_effect names parameters opener statement ≡ Ok effect → (item : Item) → effect.item ≡ Some item → ⊥
-  no_motion statement effect is item has =
-      let none : effect.item ≡ None = subst Still is (control_still statement) in
-      let never : None ≡ Some item = sym none ∙ has in
-      absurd cc
+  turned_still : (turning : Result Turning ℕ) → Moves (turned_only found turning)
+  turned_still (Ok t) = λ item is. absurd cc
+  turned_still (Err code) = tt
 
-  module _ (slots : List (Option ℕ)) (at : ℕ → ℤ) (line : ℕ) where
-    -- the motion of a block is one from where the axes stand
-    pub effect_is : (statement : Statement) (effect : Effect) → effect_of names slots parameters at line opener statement ≡ Ok effect
-        → (item : Item) → effect.item ≡ Some item → IsMotionOf slots at (motion_of item)
-    unfolding effect_of
-    effect_is (WordBlock words) effect is item has = words_is slots parameters at line words effect is item has
-    effect_is statement effect is item has = absurd (no_motion statement effect is item has)
+  effect_moves : (opener statement : Statement) → Moves (effect_of equipment found line opener statement)
+  unfolding effect_of
+  effect_moves opener (WordBlock words) = words_move (group_words (WordBlock words)) words
+  effect_moves opener (Shape word values) = framed_still (shaped_by found.parameters found.chain word values)
+  effect_moves opener (Turn additive angle) = framed_still (turned_by found.parameters found.chain (plane_of (word_in found [] 6)) additive angle)
+  effect_moves opener statement = turned_still (control_effect equipment.names found.parameters opener statement)
+
+  -- the motion of a block is one from where the axes stand
+  pub effect_is : (opener statement : Statement) (effect : Effect) (item : Item) → effect_of equipment found line opener statement ≡ Ok effect → effect.item ≡ Some item
+      → IsMotionOf equipment.owned found.at (motion_of item)
+  effect_is opener statement effect item is has = subst Moves is (effect_moves opener statement) item has

@@ -1,10 +1,6 @@
 pub mod AlarmLaws
 pub mod Counts
 pub mod EffectLaws
-pub mod Ends
-pub mod MotionLaws
-pub mod Moves
-pub mod Positions
-pub mod Rows
-pub mod SlotLaws
+pub mod EffectSteps
+pub mod FrameSteps
 pub mod Steps

@@ -1,27 +1,69 @@
 -- What the code answers of a block, as a contract sees it.
-use Rattle.std.specs.Prelude.{◌≡◌, MatchResult, ℕ, ℤ, List, None, Result, Ok, Err}
+use Rattle.std.specs.Prelude.{◌≡◌, ⊤, MatchResult, ℕ, ℤ, List, Option, Result, Ok, Err}
+use Rattle.axis_moves.specs.Motions.{stands}
+use Rattle.frames.specs.Composition.{IsComposed}
+use Rattle.frames.specs.Maps.{Map}
+use Rattle.frames.specs.declared.Frame.{Frame}
+use Rattle.g_groups.specs.declared.GWord.{GWord}
 use Rattle.nc_control_flow.specs.Moves.{outcome_view}
+use Rattle.block_effects.specs.declared.course.BlockFault.{BlockFault}
+use Rattle.block_effects.specs.declared.course.BlockFault.TheVariants.{Alarm, NoMemory}
 use Rattle.block_effects.specs.declared.course.Course as answer
 use Rattle.block_effects.specs.declared.course.Course.TheVariants as course
 use Rattle.block_effects.specs.declared.course.Done.{Done}
-use Rattle.block_effects.specs.Effects.{Course, Goes, Ends, Calls, Effect}
+use Rattle.block_effects.specs.declared.situation.ChannelAxes.{ChannelAxes}
+use Rattle.block_effects.specs.declared.situation.Situation.{Situation}
+use Rattle.block_effects.specs.Effects.{Course, Goes, Ends, Calls, Effect, Turning, Found}
+use Rattle.block_effects.specs.Words.{Equipment}
 
 abbrev pub course_view : answer.Course → Course
 course_view (course.Goes outcome) = Goes (outcome_view outcome)
 course_view course.Ends = Ends
 course_view (course.Calls number passes) = Calls number passes
 
--- what a block leaves with these parameters
-abbrev pub effect_view : List ℤ → Done → Effect
-effect_view parameters done = record { parameters = parameters; item = done.item; course = course_view done.course }
+-- what the blocks of a channel with these axes find in their job
+abbrev pub equipment_of : List (List ℕ) → (List ℕ → Option ℕ) → (ℕ → ℕ → ℤ) → ChannelAxes → Equipment
+equipment_of names axis_named offset axes = record { names = names; axis_named = axis_named; offset = offset; slots = axes.slots; owned = axes.owned }
 
--- a block leaves this and these parameters, or alarms
-abbrev pub Leaves : Result Effect ℕ → Result Done ℕ → List ℤ → Type 0
-Leaves effect result parameters = MatchResult result (λ done. effect ≡ Ok (effect_view parameters done)) (λ code. effect ≡ Err code)
+-- what a block finds in a situation, behind blocks with these words of groups and with this frame
+abbrev pub found_in : List (List GWord) → List Map → Situation → Found
+found_in words chain s = record { parameters = s.parameters; words = words; chain = chain; at = stands s.at }
+
+-- what a block leaves is what was done
+pub record IsLeft (effect : Effect) (done : Done) (new : Situation) : Type 0 where
+  pub parameters : effect.parameters ≡ new.parameters
+  pub frame : IsComposed effect.chain new.frame
+  pub item : effect.item ≡ done.item
+  pub course : effect.course ≡ course_view done.course
+
+abbrev pub Does : Result Effect ℕ → Done → Situation → Type 0
+Does (Ok effect) done new = IsLeft effect done new
+Does (Err code) done new = ⊥
+
+-- the block did what it does, or has this alarm; memory may want
+abbrev pub Fails : Result Effect ℕ → BlockFault → Type 0
+Fails effect (Alarm code) = effect ≡ Err code
+Fails effect NoMemory = ⊤
+
+abbrev pub Leaves : Result Effect ℕ → Result Done BlockFault → Situation → Type 0
+Leaves effect result new = MatchResult result (λ done. Does effect done new) (λ fault. Fails effect fault)
+
+-- the block did what it does, or has this alarm
+abbrev pub Runs : Result Effect ℕ → Result Done ℕ → Situation → Type 0
+Runs effect result new = MatchResult result (λ done. Does effect done new) (λ code. effect ≡ Err code)
+
+-- the frame is that of the chain that was made
+abbrev pub IsMade : Result (List Map) ℕ → Frame → Type 0
+IsMade (Ok chain) frame = IsComposed chain frame
+IsMade (Err code) frame = ⊥
+
+-- the frame is shaped, or alarms
+abbrev pub Shapes : Result (List Map) ℕ → Result ⊤ ℕ → Frame → Type 0
+Shapes made result frame = MatchResult result (λ _. IsMade made frame) (λ code. made ≡ Err code)
 
 -- a block that moves nothing leaves this course and these parameters, or alarms
-abbrev pub unmoved : List ℤ → answer.Course → Effect
-unmoved parameters course = record { parameters = parameters; item = None; course = course_view course }
+abbrev pub turning_of : List ℤ → answer.Course → Turning
+turning_of parameters course = record { parameters = parameters; course = course_view course }
 
-abbrev pub Turns : Result Effect ℕ → Result answer.Course ℕ → List ℤ → Type 0
-Turns effect result parameters = MatchResult result (λ course. effect ≡ Ok (unmoved parameters course)) (λ code. effect ≡ Err code)
+abbrev pub Turns : Result Turning ℕ → Result answer.Course ℕ → List ℤ → Type 0
+Turns turning result parameters = MatchResult result (λ course. turning ≡ Ok (turning_of parameters course)) (λ code. turning ≡ Err code)

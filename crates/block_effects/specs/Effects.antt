@@ -1,17 +1,24 @@
 -- What a block does, by what it says.
-use Rattle.std.specs.Prelude.{ℕ, ◌%◌, ◌/◌, ℤ, pos, negsuc, Bool, true, false, not, ◌&&◌, ◌==◌, nat_lt, int_lt, if◌then◌else◌, List, find, position, Option, Some, None, option_map, Result, Ok, Err}
+use Rattle.std.specs.Prelude.{ℕ, ◌%◌, ◌/◌, ℤ, pos, negsuc, Bool, true, false, not, ◌&&◌, ◌||◌, ◌==◌, nat_lt, int_lt, if◌then◌else◌, List, [], ◌∷◌, ◌++◌, find, filter_map, position, Option, Some, None, option_map, Result, Ok, Err}
+use Rattle.std.specs.List.{list_any}
 use Rattle.std.specs.Option.{option_or}
 use Rattle.std.specs.Ordering.{int_eq}
 use Rattle.std.specs.Str.{bytes_eq}
+use Rattle.axis_moves.specs.Goals.{InForce}
+use Rattle.axis_moves.specs.Motions.{moved}
+use Rattle.axis_moves.specs.declared.goals.Targets.{Targets}
+use Rattle.frames.specs.Maps.{Map}
+use Rattle.g_groups.specs.Modal.{modal_word, has_group_twice}
+use Rattle.g_groups.specs.declared.GWord.{GWord}
 use Rattle.nc_blocks.specs.declared.blocks.JumpTo.{JumpTo}
-use Rattle.nc_blocks.specs.Statement.{WordView, Statement, WordBlock, Jump, IfJump, If, While, Until, For, EndFor, Case, RepeatFrom, RepeatBlock, Call, Return}
+use Rattle.nc_blocks.specs.Statement.{WordView, G, Statement, WordBlock, Jump, IfJump, If, While, Until, For, EndFor, Case, RepeatFrom, RepeatBlock, Call, Return, Shape, Turn}
 use Rattle.nc_control_flow.specs.Moves.{OutcomeView}
 use Rattle.nc_control_flow.specs.Moves as outcome
 use Rattle.nc_expressions.specs.Tree.{Tree}
 use Rattle.nc_expressions.specs.Value.{◌>>=◌, is_true}
 use Rattle.sync_types.specs.declared.Item.{Item}
-use Rattle.block_effects.specs.Motions.{moved}
-use Rattle.block_effects.specs.Words.{parameter_in, value_in, given, counted, begun, words_done}
+use Rattle.block_effects.specs.Shapes.{shaped_by, turned_by, plane_of}
+use Rattle.block_effects.specs.Words.{Equipment, parameter_in, value_in, given, counted, begun, words_done}
 
 -- what becomes of control behind a block: it goes on in its program by this outcome; or the program ends, which is a return on a lower level; or the program of this number runs, so many times
 pub data Course : Type 0 where
@@ -19,15 +26,21 @@ pub data Course : Type 0 where
   Ends : Course
   Calls : ℕ → ℕ → Course
 
--- what a block leaves: the parameters, its motion, and what becomes of control
+-- what a block leaves: the parameters, the frame, its motion, and what becomes of control
 pub record Effect : Type 0 where
   pub parameters : List ℤ
+  pub chain : List Map
   pub item : Option Item
   pub course : Course
 
+-- what a block leaves that moves no axis and shapes no frame
+pub record Turning : Type 0 where
+  pub parameters : List ℤ
+  pub course : Course
+
 -- with these parameters control goes on by this outcome
-abbrev pub goes : List ℤ → OutcomeView → Effect
-goes parameters outcome = record { parameters = parameters; item = None; course = Goes outcome }
+abbrev pub goes : List ℤ → OutcomeView → Turning
+goes parameters outcome = record { parameters = parameters; course = Goes outcome }
 
 -- ---- jumps
 
@@ -51,32 +64,32 @@ first_equal value pairs = option_map (λ pair. pair.1) (find (λ pair. int_eq va
 abbrev pub chosen : ℤ → List (ℤ × JumpTo) → Option JumpTo → OutcomeView
 chosen value pairs default = jumped_some (option_or (first_equal value pairs) default)
 
-abbrev pub leap : List ℤ → Tree → JumpTo → Result Effect ℕ
+abbrev pub leap : List ℤ → Tree → JumpTo → Result Turning ℕ
 leap parameters tree j = value_in parameters tree >>= λ value. Ok (goes parameters (jumped_if (is_true value) j))
 
-abbrev pub choice : List ℤ → Tree → List (ℤ × JumpTo) → Option JumpTo → Result Effect ℕ
+abbrev pub choice : List ℤ → Tree → List (ℤ × JumpTo) → Option JumpTo → Result Turning ℕ
 choice parameters tree pairs default = value_in parameters tree >>= λ value. Ok (goes parameters (chosen value pairs default))
 
 -- ---- conditions
 
 -- a condition holds where its value is not 0
-abbrev pub conditional : List ℤ → Tree → Result Effect ℕ
+abbrev pub conditional : List ℤ → Tree → Result Turning ℕ
 conditional parameters tree = value_in parameters tree >>= λ value. Ok (goes parameters (outcome.Truth (is_true value)))
 
 -- once more round a FOR, where its parameter is not above the bound
-abbrev pub bounded : List ℤ → ℕ → Tree → Result Effect ℕ
+abbrev pub bounded : List ℤ → ℕ → Tree → Result Turning ℕ
 bounded parameters index bound =
     value_in parameters bound >>= λ value. Ok (goes parameters (outcome.Truth (not (int_lt value (parameter_in parameters index)))))
 
 -- FOR sets its parameter and then looks at its bound
-abbrev pub for_begun : List ℤ → ℕ → Tree → Tree → Result Effect ℕ
+abbrev pub for_begun : List ℤ → ℕ → Tree → Tree → Result Turning ℕ
 for_begun parameters index first bound = given parameters index first >>= λ p. bounded p index bound
 
 -- ENDFOR adds 1 to the parameter of its FOR and then looks at the bound
-abbrev pub once_more : List ℤ → ℕ → Tree → Result Effect ℕ
+abbrev pub once_more : List ℤ → ℕ → Tree → Result Turning ℕ
 once_more parameters index bound = counted parameters index >>= λ p. bounded p index bound
 
-abbrev pub for_continued : List ℤ → Statement → Result Effect ℕ
+abbrev pub for_continued : List ℤ → Statement → Result Turning ℕ
 for_continued parameters (For index first bound) = once_more parameters index bound
 for_continued parameters other = Ok (goes parameters outcome.Plain)
 
@@ -92,7 +105,7 @@ abbrev pub times_of : List ℤ → Option Tree → Result ℕ ℕ
 times_of parameters None = Ok 1
 times_of parameters (Some tree) = value_in parameters tree >>= λ value. times_in value
 
-abbrev pub repeated : List ℤ → Option Tree → Result Effect ℕ
+abbrev pub repeated : List ℤ → Option Tree → Result Turning ℕ
 repeated parameters times = times_of parameters times >>= λ n. Ok (goes parameters (outcome.Again n))
 
 -- ---- calls
@@ -107,23 +120,14 @@ called (Some number) = Ok number
 called None = Err 7
 
 -- the program of this name runs so many times
-abbrev pub calling : List (List ℕ) → List ℤ → List ℕ → ℕ → Result Effect ℕ
+abbrev pub calling : List (List ℕ) → List ℤ → List ℕ → ℕ → Result Turning ℕ
 calling names parameters name passes =
-    called (number_of names name) >>= λ number. Ok (record { parameters = parameters; item = None; course = Calls number passes })
+    called (number_of names name) >>= λ number. Ok (record { parameters = parameters; course = Calls number passes })
 
 -- ---- blocks
 
-abbrev pub course_of : Bool → Course
-course_of ends = if ends then Ends else Goes outcome.Plain
-
--- the words act from left to right, and then the axes move
-abbrev pub words_effect : List (Option ℕ) → List ℤ → (ℕ → ℤ) → ℕ → List WordView → Result Effect ℕ
-words_effect slots parameters at line words =
-    words_done slots (begun parameters) words >>= λ p.
-    moved at line p.programmed >>= λ item. Ok (record { parameters = p.parameters; item = item; course = course_of p.ends })
-
--- what a block does that moves no axis, or its first alarm
-unfoldable pub control_effect : List (List ℕ) → List ℤ → Statement → Statement → Result Effect ℕ
+-- what a block does that moves no axis and shapes no frame, or its first alarm
+unfoldable pub control_effect : List (List ℕ) → List ℤ → Statement → Statement → Result Turning ℕ
 control_effect names parameters opener (Jump j) = Ok (goes parameters (jumped j))
 control_effect names parameters opener (IfJump tree j) = leap parameters tree j
 control_effect names parameters opener (If tree) = conditional parameters tree
@@ -135,10 +139,75 @@ control_effect names parameters opener (Case tree pairs default) = choice parame
 control_effect names parameters opener (RepeatFrom name times) = repeated parameters times
 control_effect names parameters opener (RepeatBlock name times) = repeated parameters times
 control_effect names parameters opener (Call name passes) = calling names parameters name passes
-control_effect names parameters opener Return = Ok (record { parameters = parameters; item = None; course = Ends })
+control_effect names parameters opener Return = Ok (record { parameters = parameters; course = Ends })
 control_effect names parameters opener other = Ok (goes parameters outcome.Plain)
 
--- what a block on this line does, or its first alarm: among programs of these names, of a channel with these slots, where parameters and axes are so; `opener` is the block that begins the structure round it
-unfoldable pub effect_of : List (List ℕ) → List (Option ℕ) → List ℤ → (ℕ → ℤ) → ℕ → Statement → Statement → Result Effect ℕ
-effect_of names slots parameters at line opener (WordBlock words) = words_effect slots parameters at line words
-effect_of names slots parameters at line opener other = control_effect names parameters opener other
+-- the words of groups in a block; only word blocks have some
+abbrev pub group_word : WordView → Option GWord
+group_word (G group code) = Some (record { group = group; code = code })
+group_word other = None
+
+unfoldable pub group_words : Statement → List GWord
+group_words (WordBlock words) = filter_map group_word words
+group_words other = []
+
+-- in a block with G4, G25 or G26, the words of groups 2 and 3, no axis moves
+unfoldable pub stands_still : List GWord → Bool
+stands_still words = list_any (λ word. word.group == 2 || word.group == 3) words
+
+-- what a block finds: the parameters, the words of groups in each block before it, the frame, and where the axes stand
+pub record Found : Type 0 where
+  pub parameters : List ℤ
+  pub words : List (List GWord)
+  pub chain : List Map
+  pub at : ℕ → ℤ
+
+-- the word of a group that holds in a block with these words of groups
+abbrev pub word_in : Found → List GWord → ℕ → ℕ
+word_in found words group = modal_word (found.words ++ words ∷ []) group
+
+-- what holds behind blocks with these words of groups, under this frame and with these offsets
+abbrev pub held_behind : (ℕ → ℕ → ℤ) → List (List GWord) → List Map → InForce
+held_behind offset blocks chain = record { word = modal_word blocks; chain = chain; offset = λ slot. offset (modal_word blocks 8) slot }
+
+abbrev pub in_force : Equipment → Found → List GWord → InForce
+in_force equipment found words = held_behind equipment.offset (found.words ++ words ∷ []) found.chain
+
+-- the motion of a block with these words of groups
+abbrev pub moved_or_still : List (Option ℕ) → List Bool → InForce → (ℕ → ℤ) → ℕ → List GWord → Targets → Result (Option Item) ℕ
+moved_or_still slots owned h at line words targets = if stands_still words then Ok None else moved slots owned h at line targets
+
+abbrev pub words_moved : Equipment → Found → ℕ → List GWord → Targets → Result (Option Item) ℕ
+words_moved equipment found line words targets =
+    moved_or_still equipment.slots equipment.owned (in_force equipment found words) found.at line words targets
+
+abbrev pub course_of : Bool → Course
+course_of ends = if ends then Ends else Goes outcome.Plain
+
+-- the words act from left to right, and then the axes move
+abbrev pub words_run : Equipment → Found → ℕ → List GWord → List WordView → Result Effect ℕ
+words_run equipment found line groups words =
+    words_done equipment (begun found.parameters) words >>= λ p.
+    words_moved equipment found line groups p.targets >>= λ item.
+    Ok (record { parameters = p.parameters; chain = found.chain; item = item; course = course_of p.ends })
+
+-- alarm 10, before all others, where two words of one group stand in the block
+abbrev pub words_effect : Equipment → Found → ℕ → List GWord → List WordView → Result Effect ℕ
+words_effect equipment found line groups words = if has_group_twice groups then Err 10 else words_run equipment found line groups words
+
+-- a block of a frame leaves all but the frame
+abbrev pub framed : Found → Result (List Map) ℕ → Result Effect ℕ
+framed found made = made >>= λ chain. Ok (record { parameters = found.parameters; chain = chain; item = None; course = Goes outcome.Plain })
+
+abbrev pub turned_only : Found → Result Turning ℕ → Result Effect ℕ
+turned_only found turning =
+    turning >>= λ t. Ok (record { parameters = t.parameters; chain = found.chain; item = None; course = t.course })
+
+-- what a block on this line does, or its first alarm; `opener` is the block that begins the structure round it. A turn is in the plane that holds before the block
+unfoldable pub effect_of : Equipment → Found → ℕ → Statement → Statement → Result Effect ℕ
+effect_of equipment found line opener (WordBlock words) = words_effect equipment found line (group_words (WordBlock words)) words
+effect_of equipment found line opener (Shape word values) =
+    framed found (shaped_by found.parameters found.chain word values)
+effect_of equipment found line opener (Turn additive angle) =
+    framed found (turned_by found.parameters found.chain (plane_of (word_in found [] 6)) additive angle)
+effect_of equipment found line opener other = turned_only found (control_effect equipment.names found.parameters opener other)

@@ -1,4 +1,4 @@
-pub mod Motions
 pub mod Words
+pub mod Shapes
 pub mod Effects
 pub mod Courses

@@ -1,11 +1,15 @@
 -- What the words of a block do, one after another from left to right.
-use Rattle.std.specs.Prelude.{◌≡◌, ⊤, MatchResult, IsOk, ℕ, ℤ, pos, ◌+ℤ◌, Bool, true, false, if◌then◌else◌, is_some, List, [], ◌∷◌, codes, replicate, slice_index_or, slice_set, Option, None, Some, Result, Ok, Err}
+use Rattle.std.specs.Prelude.{◌≡◌, ⊤, MatchResult, IsOk, ℕ, ◌==◌, ℤ, pos, ◌+ℤ◌, Bool, true, false, if◌then◌else◌, is_some, List, [], ◌∷◌, codes, replicate, slice_index_or, slice_set, Option, None, Some, Result, Ok, Err}
+use Rattle.std.specs.List.{list_any}
 use Rattle.std.specs.Str.{bytes_eq}
+use Rattle.axis_moves.specs.declared.goals.Programmed.{Programmed}
+use Rattle.axis_moves.specs.declared.goals.Targets.{Targets}
+use Rattle.nc_blocks.specs.declared.blocks.Measure.{Measure}
 use Rattle.nc_expressions.specs.Symbols.{index_of}
 use Rattle.nc_expressions.specs.Tree.{Tree}
 use Rattle.nc_expressions.specs.Value.{◌>>=◌, checked, value_of}
 use Rattle.nc_blocks.specs.Statement.{OperandView, Value, Text, AxisName, WordView, Assign, AssignAt, G, Axis, Radius, Aux, End}
-use Rattle.block_effects.specs.declared.progress.Programmed.{Programmed}
+use Rattle.block_effects.specs.declared.progress.WordsDone.{WordsDone}
 
 -- ---- parameters
 
@@ -34,20 +38,67 @@ abbrev pub index_in : Option ℕ → Result ℕ ℕ
 index_in (Some index) = Ok index
 index_in None = Err 4
 
+-- ---- axes
+
+-- what the programs of a channel find in their job and in the channel: the names of the programs in the order of their numbers, the axis with a name, the settable offset of a slot under a word of group 8 in micrometres; the axes in the slots X, Y and Z, and whether the channel owns an axis
+pub record Equipment : Type 0 where
+  pub names : List (List ℕ)
+  pub axis_named : List ℕ → Option ℕ
+  pub offset : ℕ → ℕ → ℤ
+  pub slots : List (Option ℕ)
+  pub owned : List Bool
+
+-- the slot with this letter
+abbrev pub slot_named : List ℕ → Option ℕ
+slot_named name =
+    if bytes_eq name (codes "X") then Some 0
+    else if bytes_eq name (codes "Y") then Some 1
+    else if bytes_eq name (codes "Z") then Some 2
+    else None
+
+abbrev pub is_this : ℕ → Option ℕ → Bool
+is_this axis None = false
+is_this axis (Some other) = other == axis
+
+-- the axis stands in a slot
+abbrev pub is_in_slot : List (Option ℕ) → ℕ → Bool
+is_in_slot slots axis = list_any (is_this axis) slots
+
+-- a value more in its place; alarm 17 where a word before has programmed it
+unfoldable pub programmed_once : List (Option Programmed) → ℕ → Programmed → Result (List (Option Programmed)) ℕ
+programmed_once row place value = if is_some (slice_index_or row place None) then Err 17 else Ok (slice_set row place (Some value))
+
+-- X, Y or Z is programmed; alarm 14 where its slot has no axis
+unfoldable pub slot_programmed : List (Option ℕ) → Targets → ℕ → Programmed → Result Targets ℕ
+slot_programmed slots targets slot value =
+    if is_some (slice_index_or slots slot None) then (programmed_once targets.slots slot value >>= λ row. Ok (record targets { slots = row }))
+    else Err 14
+
+-- an axis is programmed by its own name; alarm 14 where the job has none of this name, 16 where it stands in a slot
+unfoldable pub named_programmed : List (Option ℕ) → Targets → Option ℕ → Programmed → Result Targets ℕ
+named_programmed slots targets None value = Err 14
+named_programmed slots targets (Some axis) value =
+    if is_in_slot slots axis then Err 16
+    else programmed_once targets.axes axis value >>= λ row. Ok (record targets { axes = row })
+
+abbrev pub programmed_by : Equipment → Targets → List ℕ → Option ℕ → Programmed → Result Targets ℕ
+programmed_by equipment targets name (Some slot) value = slot_programmed equipment.slots targets slot value
+programmed_by equipment targets name None value = named_programmed equipment.slots targets (equipment.axis_named name) value
+
 -- ---- words
 
--- how far the words of a block have come: the parameters, the value that is programmed for each axis, and whether the program ends behind the block
+-- how far the words of a block have come: the parameters, the values that are programmed, and whether the program ends behind the block
 pub record Progress : Type 0 where
   pub parameters : List ℤ
-  pub programmed : List (Option ℤ)
+  pub targets : Targets
   pub ends : Bool
 
 -- before the first word of a block: the parameters are as they are, and no axis is programmed
-unfoldable pub nothing_programmed : List (Option ℤ)
-nothing_programmed = replicate 16 None
+unfoldable pub nothing_programmed : Targets
+nothing_programmed = record { slots = replicate 3 None; axes = replicate 16 None }
 
 abbrev pub begun : List ℤ → Progress
-begun parameters = record { parameters = parameters; programmed = nothing_programmed; ends = false }
+begun parameters = record { parameters = parameters; targets = nothing_programmed; ends = false }
 
 -- the index comes before the value
 abbrev pub given_at : List ℤ → Tree → Tree → Result (List ℤ) ℕ
@@ -57,20 +108,12 @@ given_at parameters at tree = value_in parameters at >>= λ z. index_in (index_o
 abbrev pub assigned : Progress → Result (List ℤ) ℕ → Result Progress ℕ
 assigned p values = values >>= λ parameters. Ok (record p { parameters = parameters })
 
--- the axis of the slot that has this name
-abbrev pub axis_of : List (Option ℕ) → List ℕ → Option ℕ
-axis_of slots name =
-    if bytes_eq name (codes "X") then slice_index_or slots 0 None
-    else if bytes_eq name (codes "Y") then slice_index_or slots 1 None
-    else if bytes_eq name (codes "Z") then slice_index_or slots 2 None
-    else None
+-- a word programs an axis alone
+abbrev pub aimed : Progress → Result Targets ℕ → Result Progress ℕ
+aimed p targets = targets >>= λ new. Ok (record p { targets = new })
 
--- an axis is programmed: alarm 14 where the slot has none, alarm 17 where a word before has programmed it
-unfoldable pub programmed : Progress → Option ℕ → ℤ → Result Progress ℕ
-programmed p None value = Err 14
-programmed p (Some axis) value =
-    if is_some (slice_index_or p.programmed axis None) then Err 17
-    else Ok (record p { programmed = slice_set p.programmed axis (Some value) })
+abbrev pub meant : Measure → ℤ → Programmed
+meant measure value = record { measure = measure; value = value }
 
 -- a value that is found and not used
 abbrev pub option_read : List ℤ → Option Tree → Result (Option ℤ) ℕ
@@ -86,29 +129,42 @@ operand_read parameters (AxisName bytes) = Ok None
 abbrev pub aux_read : List ℤ → Option Tree → OperandView → Result (Option ℤ) ℕ
 aux_read parameters index operand = option_read parameters index >>= λ _. operand_read parameters operand
 
--- what a word does, or its first alarm: a position is absolute, and words of groups and CR do nothing. A job with others is refused
-unfoldable pub word_done : List (Option ℕ) → Progress → WordView → Result Progress ℕ
-word_done slots p (Assign index tree) = assigned p (given p.parameters index tree)
-word_done slots p (AssignAt at tree) = assigned p (given_at p.parameters at tree)
-word_done slots p (G group code) = Ok p
-word_done slots p (Axis name measure tree) = value_in p.parameters tree >>= λ value. programmed p (axis_of slots name) value
-word_done slots p (Radius tree) = Ok p
-word_done slots p (Aux name index operand) = aux_read p.parameters index operand >>= λ _. Ok p
-word_done slots p End = Ok (record p { ends = true })
+-- what a word does, or its first alarm: words of groups hold for the whole block, and CR does nothing. A job with arcs is refused
+unfoldable pub word_done : Equipment → Progress → WordView → Result Progress ℕ
+word_done equipment p (Assign index tree) = assigned p (given p.parameters index tree)
+word_done equipment p (AssignAt at tree) = assigned p (given_at p.parameters at tree)
+word_done equipment p (G group code) = Ok p
+word_done equipment p (Axis name measure tree) =
+    value_in p.parameters tree >>= λ value. aimed p (programmed_by equipment p.targets name (slot_named name) (meant measure value))
+word_done equipment p (Radius tree) = Ok p
+word_done equipment p (Aux name index operand) = aux_read p.parameters index operand >>= λ _. Ok p
+word_done equipment p End = Ok (record p { ends = true })
 
 -- one word after another; the first alarm counts
-abbrev pub words_done : List (Option ℕ) → Progress → List WordView → Result Progress ℕ
-words_done slots p [] = Ok p
-words_done slots p (word ∷ words) = word_done slots p word >>= λ q. words_done slots q words
+abbrev pub words_done : Equipment → Progress → List WordView → Result Progress ℕ
+words_done equipment p [] = Ok p
+words_done equipment p (word ∷ words) = word_done equipment p word >>= λ q. words_done equipment q words
 
 -- ---- answers
 
-abbrev pub progress_of : List ℤ → Programmed → Progress
-progress_of parameters p = record { parameters = parameters; programmed = p.axes; ends = p.ends }
+abbrev pub progress_of : List ℤ → WordsDone → Progress
+progress_of parameters done = record { parameters = parameters; targets = done.targets; ends = done.ends }
 
 -- the words have done this, or alarm
 abbrev pub Acts : Result Progress ℕ → Result ⊤ ℕ → Progress → Type 0
 Acts done result new = MatchResult result (λ _. done ≡ Ok new) (λ code. done ≡ Err code)
+
+-- an axis is programmed, or alarms
+abbrev pub Aims : Result Targets ℕ → Result ⊤ ℕ → Targets → Type 0
+Aims aimed result new = MatchResult result (λ _. aimed ≡ Ok new) (λ code. aimed ≡ Err code)
+
+-- a value is in its place, or alarms
+abbrev pub IsPut : Result (List (Option Programmed)) ℕ → Result ⊤ ℕ → List (Option Programmed) → Type 0
+IsPut put result new = MatchResult result (λ _. put ≡ Ok new) (λ code. put ≡ Err code)
+
+-- the words of a block have done this, or alarm
+abbrev pub WordsAct : Result Progress ℕ → Result WordsDone ℕ → List ℤ → Type 0
+WordsAct done result parameters = MatchResult result (λ all. done ≡ Ok (progress_of parameters all)) (λ code. done ≡ Err code)
 
 abbrev pub IsGiven : Result (List ℤ) ℕ → Result ⊤ ℕ → List ℤ → Type 0
 IsGiven given result new = MatchResult result (λ _. given ≡ Ok new) (λ code. given ≡ Err code)

@@ -11,7 +11,7 @@ ghost use Rattle.block_effects.specs.Words.{IsGiven};
 ghost use Rattle.block_effects.specs.Effects as model;
 ghost use Rattle.block_effects.specs.Courses.{Turns};
 
-use crate::course::{Course, Library};
+use crate::course::{Course, Setup};
 use crate::parameters::Parameters;
 use micro_units::Num;
 use nc_blocks::{JumpTo, NameText, Stmt};
@@ -200,10 +200,10 @@ pub(crate) fn repeat<'a>(parameters: &Parameters, times: &Option<Expr>) -> Resul
 // ---- calls
 
 /// The number of the program of this name, or alarm 7.
-pub(crate) fn called<L: Library>(library: &L, name: &NameText) -> Result<u16, u16>
-    ensures { result ≡ model.called (model.number_of (L.names library.now) name.now) }
+pub(crate) fn called<S: Setup>(setup: &S, name: &NameText) -> Result<u16, u16>
+    ensures { result ≡ model.called (model.number_of (S.names setup.now) name.now) }
 {
-    match library.number_of(name) {
+    match setup.number_of(name) {
         Some(number) => Ok(number),
         None => Err(7),
     }

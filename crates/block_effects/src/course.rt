@@ -1,8 +1,12 @@
 //! What becomes of control behind a block.
 
+use axis_sets::AxisId;
+use micro_units::Um;
 use nc_blocks::NameText;
 use nc_control_flow::Outcome;
+use nc_faults::NoMemory;
 use sync_types::Item;
+use thiserror::Error;
 
 /// What becomes of control behind a block.
 #[derive(Clone, Copy, Debug)]
@@ -15,7 +19,7 @@ pub enum Course<'a> {
     Calls(u16, u16),
 }
 
-/// What a block has done, besides what it did to parameters.
+/// What a block has done, besides what it left in its situation.
 #[derive(Debug, Drop)]
 pub struct Done<'a> {
     /// Its motion, where it moves an axis.
@@ -24,15 +28,40 @@ pub struct Done<'a> {
     pub course: Course<'a>,
 }
 
-/// The programs that a block can call.
-pub trait Library {
-    ghost use Rattle.std.specs.Prelude.{◌≡◌, ℕ, List};
+/// Why a block does nothing.
+#[derive(Clone, Copy, Debug, PartialEq, Eq, Error)]
+pub enum BlockFault {
+    /// It has an alarm with this code.
+    #[error("alarm")]
+    Alarm(u16),
+    /// Memory ran out.
+    #[error("out of memory")]
+    NoMemory,
+}
+
+/// What the blocks of a channel find in its job.
+pub trait Setup {
+    ghost use Rattle.std.specs.Prelude.{◌≡◌, ℕ, ℤ, List, Option};
     ghost use Rattle.block_effects.specs.Effects.{number_of};
 
     /// The names of the programs, in the order of their numbers from 0 on.
     ghost names: { Self → List (List ℕ) };
 
+    /// The axis with a name.
+    ghost axis_named: { Self → List ℕ → Option ℕ };
+
+    /// The settable offset of a slot under a word of group 8, in micrometres.
+    ghost offset: { Self → ℕ → ℕ → ℤ };
+
     /// The number of the program of this name, the first where several have it, or `None` where there is none.
     fn number_of(&self, name: &NameText) -> Option<u16>
         ensures { result ≡ number_of (names self.now) name.now };
+
+    /// The axis with this name, in upper case, or `None` where the job has none.
+    fn axis_named(&self, name: &[u8]) -> Option<AxisId>
+        ensures { result ≡ axis_named self.now name.now };
+
+    /// The settable offset of a slot, 0, 1 and 2 for X, Y and Z, under this word of group 8; 0 where none is set.
+    fn offset(&self, word: u16, slot: u8) -> Um
+        ensures { result ≡ offset self.now word slot };
 }

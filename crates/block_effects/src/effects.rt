@@ -1,20 +1,32 @@
 //! What a block does.
 
-ghost use Rattle.std.specs.Prelude.{◌≡◌, ℕ, ℤ, List, All, IfOk, OnErr, map};
+ghost use Rattle.std.specs.Prelude.{◌≡◌, ℕ, ℤ, List, [], ◌∷◌, ◌++◌, All, IsTrue, IfOk, OnErr, None, map, not};
+ghost use Rattle.axis_moves.specs.Goals.{InForce, AreInForce};
+ghost use Rattle.axis_moves.specs.Motions.{stands, StandsAtEnd};
+ghost use Rattle.frames.specs.Composition.{IsComposed};
+ghost use Rattle.frames.specs.Maps.{Map};
+ghost use Rattle.g_groups.specs.Modal.{IsAfter, has_group_twice};
+ghost use Rattle.g_groups.specs.declared.GWord.{GWord};
+ghost use Rattle.nc_control_flow.specs.Moves as outcome;
 ghost use Rattle.nc_blocks.specs.Indices.{StatementFits, WordFits};
 ghost use Rattle.nc_blocks.specs.Statement.{statement_view, word_view};
 ghost use Rattle.block_effects.specs.Effects as model;
-ghost use Rattle.block_effects.specs.Motions.{stands, StandsAtEnd};
-ghost use Rattle.block_effects.specs.Courses.{Leaves, Turns, course_view};
+ghost use Rattle.block_effects.specs.Courses.{equipment_of, found_in, Leaves, Runs, Turns, course_view};
 
 use crate::control::{begin_for, called, choice, conditional, continue_for, jumped, leap, repeat};
-use crate::course::{Course, Done, Library};
-use crate::motions::make_item;
+use crate::course::{BlockFault, Course, Done, Setup};
+use crate::groups::{conditions, group_words, plane_in, stands_still};
 use crate::parameters::Parameters;
 use crate::progress::act_all;
-use axis_sets::{AxisId, Positions};
+use crate::shapes::{shape, turn};
+use crate::situation::{ChannelAxes, Situation};
+use axis_moves::{Conditions, Targets, make_item};
+use axis_sets::Positions;
+use g_groups::{GWord, apply};
 use nc_blocks::{Stmt, Word};
 use nc_control_flow::Outcome;
+use std::alloc::Global;
+use sync_types::Item;
 
 /// The course of a block of words.
 fn course_of<'a>(ends: bool) -> Course<'a>
@@ -27,38 +39,83 @@ fn course_of<'a>(ends: bool) -> Course<'a>
     }
 }
 
-/// The words of a block act, and then the axes move.
-fn run_words<'a>(
-    slots: &[Option<AxisId>; 3],
-    parameters: &mut Parameters,
-    at: &mut Positions,
+/// What a block of a frame has done besides.
+fn framed<'a>() -> Done<'a>
+    ensures item { result.item ≡ None }
+    ensures course { course_view result.course ≡ model.Goes outcome.Plain }
+{
+    Done {
+        item: None,
+        course: Course::Goes(Outcome::Plain),
+    }
+}
+
+/// Moves the axes to these targets, unless the block has a word under which they stand still.
+fn move_axes(
+    axes: &ChannelAxes,
+    conditions: &Conditions,
     line: u32,
+    groups: &[GWord],
+    targets: &Targets,
+    at: &mut Positions,
+) -> Result<Option<Item>, u16>
+    ensures made { (h : InForce) → AreInForce h conditions.now
+        → result ≡ model.moved_or_still axes.now.slots axes.now.owned h (stands at.old) line groups.now targets.now }
+    ensures stand { IfOk result (λ item. StandsAtEnd item at.old at.new) }
+    ensures unmoved { OnErr result (at.new ≡ at.old) }
+{
+    if stands_still(groups) {
+        Ok(None)
+    } else {
+        make_item(line, &axes.slots, axes.owned, conditions, targets, at)
+    }
+}
+
+/// The words of a block act, and then the axes move. The modal words are those with the words of this block.
+fn run_words<'a, S: Setup>(
+    setup: &S,
+    axes: &ChannelAxes,
+    situation: &mut Situation,
+    line: u32,
+    groups: &[GWord],
     words: &[Word],
 ) -> Result<Done<'a>, u16>
     requires { All WordFits (map word_view words.now) }
-    ensures leaves { Leaves (model.words_effect slots.now parameters.old (stands at.old) line (map word_view words.now)) result parameters.new }
-    ensures stand { IfOk result (λ done. StandsAtEnd done.item at.old at.new) }
-    ensures unmoved { OnErr result (at.new ≡ at.old) }
+    ensures runs { (blocks : List (List GWord)) (chain : List Map) → IsAfter (blocks ++ groups.now ∷ []) situation.old.modal
+        → IsComposed chain situation.old.frame
+        → Runs (model.words_run (equipment_of (S.names setup.now) (S.axis_named setup.now) (S.offset setup.now) axes.now)
+        (found_in blocks chain situation.old) line groups.now (map word_view words.now)) result situation.new }
+    ensures modal { situation.new.modal ≡ situation.old.modal }
+    ensures stand { IfOk result (λ done. StandsAtEnd done.item situation.old.at situation.new.at) }
+    ensures unmoved { OnErr result (situation.new.at ≡ situation.old.at) }
 {
-    let programmed = act_all(slots, parameters, words)?;
-    let item = make_item(line, &programmed.axes, at)?;
+    let done = act_all(setup, axes, &mut situation.parameters, words)?;
+    let conditions = conditions(setup, &situation.modal, &situation.frame);
+    let item = move_axes(
+        axes,
+        &conditions,
+        line,
+        groups,
+        &done.targets,
+        &mut situation.at,
+    )?;
     Ok(Done {
         item,
-        course: course_of(programmed.ends),
+        course: course_of(done.ends),
     })
 }
 
-/// Does what a block that moves no axis says.
+/// Does what a block that moves no axis and shapes no frame says.
 #[tactic(auto, unfolding(crate::specs::Effects::control_effect))]
-fn run_control<'a, L: Library>(
-    library: &L,
+fn run_control<'a, S: Setup>(
+    setup: &S,
     parameters: &mut Parameters,
     opener: &Stmt,
     stmt: &'a Stmt,
 ) -> Result<Course<'a>, u16>
     requires opener { StatementFits (statement_view opener.now) }
     requires fits { StatementFits (statement_view stmt.now) }
-    ensures { Turns (model.control_effect (L.names library.now) parameters.old (statement_view opener.now) (statement_view stmt.now)) result parameters.new }
+    ensures { Turns (model.control_effect (S.names setup.now) parameters.old (statement_view opener.now) (statement_view stmt.now)) result parameters.new }
 {
     match stmt {
         Stmt::Jump(target) => Ok(Course::Goes(jumped(target))),
@@ -70,41 +127,130 @@ fn run_control<'a, L: Library>(
         Stmt::EndFor => continue_for(parameters, opener),
         Stmt::Case(value, pairs, default) => choice(parameters, value, pairs.as_slice(), default),
         Stmt::RepeatFrom(_, times) | Stmt::RepeatBlock(_, times) => repeat(parameters, times),
-        Stmt::Call(name, passes) => Ok(Course::Calls(called(library, name)?, *passes)),
+        Stmt::Call(name, passes) => Ok(Course::Calls(called(setup, name)?, *passes)),
         Stmt::Return => Ok(Course::Ends),
         _ => Ok(Course::Goes(Outcome::Plain)),
     }
 }
 
-/// Does what a block on this line says, or answers its first alarm: 1 to 4 of its values, 14 where a slot has no axis,
-/// 17 where an axis is programmed twice, 13 where an end is out of range, 33 where a number of repetitions is not a
-/// whole number 0 to 9999, 7 where the library has no program of the name that is called.
-///
-/// The channel has the axes in its slots X, Y and Z, its parameters, and its axes stand at these positions in
-/// micrometres, an axis without a position at 0. `opener` is the block that begins the structure round the block; only
-/// ENDFOR asks for it. A block of frames or of coordination does nothing. After an alarm no axis has moved, and
-/// nothing is said of the parameters.
-#[tactic(auto, unfolding(crate::specs::Effects::effect_of))]
-pub fn execute<'a, L: Library>(
-    library: &L,
-    slots: &[Option<AxisId>; 3],
-    parameters: &mut Parameters,
-    at: &mut Positions,
+/// Does what a block says whose words of groups hold already.
+#[tactic(auto, unfolding(crate::specs::Effects::effect_of, crate::specs::Effects::group_words))]
+fn run_stmt<'a, S: Setup>(
+    setup: &S,
+    axes: &ChannelAxes,
+    situation: &mut Situation,
     line: u32,
+    groups: &[GWord],
     opener: &Stmt,
     stmt: &'a Stmt,
 ) -> Result<Done<'a>, u16>
+    requires groups { groups.now ≡ model.group_words (statement_view stmt.now) }
+    requires once { IsTrue (not (has_group_twice groups.now)) }
     requires opener { StatementFits (statement_view opener.now) }
     requires fits { StatementFits (statement_view stmt.now) }
-    ensures leaves { Leaves (model.effect_of (L.names library.now) slots.now parameters.old (stands at.old) line (statement_view opener.now) (statement_view stmt.now)) result parameters.new }
-    ensures stand { IfOk result (λ done. StandsAtEnd done.item at.old at.new) }
-    ensures unmoved { OnErr result (at.new ≡ at.old) }
+    ensures runs { (blocks : List (List GWord)) (chain : List Map) → IsAfter (blocks ++ groups.now ∷ []) situation.old.modal
+        → IsComposed chain situation.old.frame
+        → Runs (model.effect_of (equipment_of (S.names setup.now) (S.axis_named setup.now) (S.offset setup.now) axes.now)
+        (found_in blocks chain situation.old) line (statement_view opener.now) (statement_view stmt.now)) result situation.new }
+    ensures modal { situation.new.modal ≡ situation.old.modal }
+    ensures stand { IfOk result (λ done. StandsAtEnd done.item situation.old.at situation.new.at) }
+    ensures unmoved { OnErr result (situation.new.at ≡ situation.old.at) }
 {
     match stmt {
-        Stmt::Words(words) => run_words(slots, parameters, at, line, words.as_slice()),
+        Stmt::Words(words) => run_words(setup, axes, situation, line, groups, words.as_slice()),
+        Stmt::Shape(word, values) => {
+            let parameters = &situation.parameters;
+            shape(parameters, &mut situation.frame, *word, values.as_slice())?;
+            Ok(framed())
+        }
+        Stmt::Turn(additive, angle) => {
+            let plane = plane_in(&situation.modal);
+            let parameters = &situation.parameters;
+            turn(parameters, &mut situation.frame, plane, *additive, angle)?;
+            Ok(framed())
+        }
         other => {
-            let course = run_control(library, parameters, opener, other)?;
+            let course = run_control(setup, &mut situation.parameters, opener, other)?;
             Ok(Done { item: None, course })
         }
+    }
+}
+
+/// Does what a block with these words of groups says.
+fn run<'a, S: Setup>(
+    setup: &S,
+    axes: &ChannelAxes,
+    situation: &mut Situation,
+    line: u32,
+    groups: &[GWord],
+    opener: &Stmt,
+    stmt: &'a Stmt,
+) -> Result<Done<'a>, u16>
+    requires groups { groups.now ≡ model.group_words (statement_view stmt.now) }
+    requires opener { StatementFits (statement_view opener.now) }
+    requires fits { StatementFits (statement_view stmt.now) }
+    ensures runs { (blocks : List (List GWord)) (chain : List Map) → IsAfter blocks situation.old.modal
+        → IsComposed chain situation.old.frame
+        → Runs (model.effect_of (equipment_of (S.names setup.now) (S.axis_named setup.now) (S.offset setup.now) axes.now)
+        (found_in blocks chain situation.old) line (statement_view opener.now) (statement_view stmt.now)) result situation.new }
+    ensures modal { IfOk result (λ _. (blocks : List (List GWord)) → IsAfter blocks situation.old.modal
+        → IsAfter (blocks ++ groups.now ∷ []) situation.new.modal) }
+    ensures stand { IfOk result (λ done. StandsAtEnd done.item situation.old.at situation.new.at) }
+    ensures unmoved { OnErr result (situation.new.at ≡ situation.old.at) }
+{
+    situation.modal = apply(&situation.modal, groups)?;
+    run_stmt(setup, axes, situation, line, groups, opener, stmt)
+}
+
+/// Does what a block on this line says, or answers its first alarm.
+///
+/// The alarms of a block of words, in this order: 10 where two words of one group stand in it; then for each word from
+/// the left 1 to 4 of its values, 14 where a slot has no axis or the job has no axis of the name, 16 where an axis of a
+/// slot is named itself, 17 where an axis is programmed twice; then those of its motion, 14 where the frame sends an
+/// axis to a slot without axis, 13 where an end is out of range, 15 where an axis is not the channel's own. A block with
+/// G4, G25 or G26 moves nothing and has no alarm of a motion.
+///
+/// Those of a block of a frame: 1 to 4 of its values, then 11 and 12 of its maps, then 11 and 13 of the whole chain.
+/// Those of other blocks: 1 to 4 of their values, 33 where a number of repetitions is not a whole number 0 to 9999, 7
+/// where the library has no program of the name that is called.
+///
+/// `opener` is the block that begins the structure round the block; only ENDFOR asks for it. A block of coordination
+/// does nothing. After an alarm no axis has moved, and nothing is said of the rest of the situation. `NoMemory` says
+/// nothing of the block.
+pub fn execute<'a, S: Setup>(
+    alloc: Global,
+    setup: &S,
+    axes: &ChannelAxes,
+    situation: &mut Situation,
+    line: u32,
+    opener: &Stmt,
+    stmt: &'a Stmt,
+) -> Result<Done<'a>, BlockFault>
+    requires opener { StatementFits (statement_view opener.now) }
+    requires fits { StatementFits (statement_view stmt.now) }
+    ensures leaves { (blocks : List (List GWord)) (chain : List Map) → IsAfter blocks situation.old.modal
+        → IsComposed chain situation.old.frame
+        → Leaves (model.effect_of (equipment_of (S.names setup.now) (S.axis_named setup.now) (S.offset setup.now) axes.now)
+        (found_in blocks chain situation.old) line (statement_view opener.now) (statement_view stmt.now)) result situation.new }
+    ensures modal { IfOk result (λ _. (blocks : List (List GWord)) → IsAfter blocks situation.old.modal
+        → IsAfter (blocks ++ model.group_words (statement_view stmt.now) ∷ []) situation.new.modal) }
+    ensures stand { IfOk result (λ done. StandsAtEnd done.item situation.old.at situation.new.at) }
+    ensures unmoved { OnErr result (situation.new.at ≡ situation.old.at) }
+{
+    let groups = match group_words(alloc, stmt) {
+        Ok(groups) => groups,
+        Err(_) => return Err(BlockFault::NoMemory),
+    };
+    match run(
+        setup,
+        axes,
+        situation,
+        line,
+        groups.as_slice(),
+        opener,
+        stmt,
+    ) {
+        Ok(done) => Ok(done),
+        Err(code) => Err(BlockFault::Alarm(code)),
     }
 }

@@ -1,4 +1,4 @@
-//! What one block does: it changes parameters, moves axes, and says where control goes on.
+//! What one block does: it changes parameters, modal words and the frame, moves axes, and says where control goes on.
 //!
 //! `execute` does what a block says, or answers its first alarm.
 #![tactic(auto)]
@@ -6,12 +6,15 @@
 mod control;
 mod course;
 mod effects;
+mod groups;
 mod laws;
-mod motions;
 mod parameters;
 mod progress;
+mod shapes;
+mod situation;
 
-pub use course::{Course, Done, Library};
+pub use course::{BlockFault, Course, Done, Setup};
 pub use effects::execute;
 pub use laws::{alarms_are_listed, motions_begin_where_axes_stand};
 pub use parameters::Parameters;
+pub use situation::{ChannelAxes, Situation};

@@ -1,43 +1,132 @@
 //! The words of a block, which act from left to right.
 
-ghost use Rattle.std.specs.Prelude.{◌≡◌, ◌≤◌, ℕ, All, MatchResult, map, false, Ok, Err};
+ghost use Rattle.std.specs.Prelude.{◌≡◌, ◌≤◌, ◌<◌, ℕ, All, IfSome, MatchResult, map, false, length, Ok, Err};
 ghost use Rattle.nc_blocks.specs.Indices.{WordFits, OptionFits, OperandFits};
 ghost use Rattle.nc_blocks.specs.Statement.{word_view, operand_view, tree_option};
 ghost use Rattle.block_effects.specs.Words as model;
-ghost use Rattle.block_effects.specs.Words.{progress_of, Acts, IsRead};
+ghost use Rattle.block_effects.specs.Words.{progress_of, Acts, Aims, IsPut, IsRead, WordsAct};
+ghost use Rattle.block_effects.specs.Courses.{equipment_of};
 
+use crate::course::Setup;
 use crate::parameters::Parameters;
+use crate::situation::ChannelAxes;
+use axis_moves::{Programmed, Targets};
 use axis_sets::AxisId;
 use micro_units::Num;
 use nc_blocks::{Operand, Word};
 use nc_expressions::{Expr, eval};
 
-/// What the words of a block have programmed so far.
+/// What the words of a block have done so far, besides what they gave parameters.
 #[derive(Drop)]
-pub(crate) struct Programmed {
-    /// The value that is programmed for each axis.
-    pub(crate) axes: [Option<Num>; 16],
+pub(crate) struct WordsDone {
+    /// The values that are programmed for axes.
+    pub(crate) targets: Targets,
     /// Whether the program ends behind the block.
     pub(crate) ends: bool,
 }
 
-/// The axis of the slot that has this name.
-fn axis_of(slots: &[Option<AxisId>; 3], name: &[u8]) -> Option<AxisId>
-    ensures { result ≡ model.axis_of slots.now name.now }
+/// The slot with this letter, 0, 1 and 2 for X, Y and Z.
+fn slot_named(name: &[u8]) -> Option<u8>
+    ensures slot { result ≡ model.slot_named name.now }
+    ensures below { IfSome result (λ slot. slot < 3) }
 {
     if name == b"X".as_slice() {
-        slots[0]
+        Some(0)
     } else if name == b"Y".as_slice() {
-        slots[1]
+        Some(1)
     } else if name == b"Z".as_slice() {
-        slots[2]
+        Some(2)
     } else {
         None
     }
 }
 
+/// Whether an axis stands in this slot.
+fn is_this(axis: AxisId, slot: Option<AxisId>) -> bool
+    ensures { result ≡ model.is_this axis slot }
+{
+    match slot {
+        Some(other) => other.index == axis.index,
+        None => false,
+    }
+}
+
+/// Whether an axis stands in a slot.
+fn is_in_slot(slots: &[Option<AxisId>; 3], axis: AxisId) -> bool
+    ensures { result ≡ model.is_in_slot slots.now axis }
+{
+    slots.iter().any(|slot| is_this(axis, *slot))
+}
+
+/// Puts a value in its place, or answers alarm 17 where one is there.
+#[tactic(auto, unfolding(crate::specs::Words::programmed_once))]
+fn put(row: &mut [Option<Programmed>], place: usize, value: Programmed) -> Result<(), u16>
+    requires { place < length row.old }
+    ensures { IsPut (model.programmed_once row.old place value) result row.new }
+{
+    if row[place].is_some() {
+        return Err(17);
+    }
+    row[place] = Some(value);
+    Ok(())
+}
+
+/// Programs X, Y or Z.
+#[tactic(auto, unfolding(crate::specs::Words::slot_programmed))]
+fn program_slot(
+    slots: &[Option<AxisId>; 3],
+    targets: &mut Targets,
+    slot: u8,
+    value: Programmed,
+) -> Result<(), u16>
+    requires { slot < 3 }
+    ensures { Aims (model.slot_programmed slots.now targets.old slot value) result targets.new }
+{
+    let slot = usize::from(slot);
+    if slots[slot].is_none() {
+        return Err(14);
+    }
+    put(&mut targets.slots, slot, value)
+}
+
+/// Programs an axis by its own name, where the job has it.
+#[tactic(auto, unfolding(crate::specs::Words::named_programmed))]
+fn program_named(
+    slots: &[Option<AxisId>; 3],
+    targets: &mut Targets,
+    axis: Option<AxisId>,
+    value: Programmed,
+) -> Result<(), u16>
+    ensures { Aims (model.named_programmed slots.now targets.old axis value) result targets.new }
+{
+    let Some(axis) = axis else {
+        return Err(14);
+    };
+    if is_in_slot(slots, axis) {
+        return Err(16);
+    }
+    put(&mut targets.axes, usize::from(axis.index), value)
+}
+
+/// Programs what has this name.
+fn program<S: Setup>(
+    setup: &S,
+    axes: &ChannelAxes,
+    targets: &mut Targets,
+    name: &[u8],
+    value: Programmed,
+) -> Result<(), u16>
+    ensures { Aims (model.programmed_by (equipment_of (S.names setup.now) (S.axis_named setup.now) (S.offset setup.now) axes.now)
+        targets.old name.now (model.slot_named name.now) value) result targets.new }
+{
+    match slot_named(name) {
+        Some(slot) => program_slot(&axes.slots, targets, slot, value),
+        None => program_named(&axes.slots, targets, setup.axis_named(name), value),
+    }
+}
+
 /// The value of an expression, if there is one.
-fn option_read(parameters: &Parameters, value: &Option<Expr>) -> Result<Option<Num>, u16>
+pub(crate) fn option_read(parameters: &Parameters, value: &Option<Expr>) -> Result<Option<Num>, u16>
     requires { OptionFits (tree_option value.now) }
     ensures { result ≡ model.option_read parameters.now (tree_option value.now) }
 {
@@ -70,57 +159,44 @@ fn read(parameters: &Parameters, index: &Option<Expr>, operand: &Operand) -> Res
     Ok(())
 }
 
-impl Programmed {
+impl WordsDone {
     /// Before the first word of a block.
     #[tactic(auto, unfolding(crate::specs::Words::nothing_programmed))]
-    fn nothing() -> Programmed
-        ensures axes { result.axes ≡ model.nothing_programmed }
+    fn nothing() -> WordsDone
+        ensures targets { result.targets ≡ model.nothing_programmed }
         ensures ends { result.ends ≡ false }
     {
-        Programmed {
-            axes: [None; 16],
+        WordsDone {
+            targets: Targets {
+                slots: [None; 3],
+                axes: [None; 16],
+            },
             ends: false,
         }
     }
 
-    /// Programs an axis.
-    #[tactic(auto, unfolding(crate::specs::Words::programmed))]
-    fn program(
-        &mut self,
-        parameters: &Parameters,
-        axis: Option<AxisId>,
-        value: Num,
-    ) -> Result<(), u16>
-        ensures { Acts (model.programmed (progress_of parameters.now self.old) axis value) result (progress_of parameters.now self.new) }
-    {
-        let Some(axis) = axis else {
-            return Err(14);
-        };
-        let axis = usize::from(axis.index);
-        if self.axes[axis].is_some() {
-            return Err(17);
-        }
-        self.axes[axis] = Some(value);
-        Ok(())
-    }
-
     /// Does what a word says, or answers its alarm.
     #[tactic(auto, unfolding(crate::specs::Words::word_done))]
-    fn act(
+    fn act<S: Setup>(
         &mut self,
-        slots: &[Option<AxisId>; 3],
+        setup: &S,
+        axes: &ChannelAxes,
         parameters: &mut Parameters,
         word: &Word,
     ) -> Result<(), u16>
         requires { WordFits (word_view word.now) }
-        ensures { Acts (model.word_done slots.now (progress_of parameters.old self.old) (word_view word.now)) result (progress_of parameters.new self.new) }
+        ensures { Acts (model.word_done (equipment_of (S.names setup.now) (S.axis_named setup.now) (S.offset setup.now) axes.now)
+            (progress_of parameters.old self.old) (word_view word.now)) result (progress_of parameters.new self.new) }
     {
         match word {
             Word::Assign(index, value) => parameters.give(*index, value),
             Word::AssignAt(index, value) => parameters.give_at(index, value),
-            Word::Axis(name, _, value) => {
-                let value = eval(value, parameters)?;
-                self.program(parameters, axis_of(slots, name.as_slice()), value)
+            Word::Axis(name, measure, value) => {
+                let value = Programmed {
+                    measure: *measure,
+                    value: eval(value, parameters)?,
+                };
+                program(setup, axes, &mut self.targets, name.as_slice(), value)
             }
             Word::Aux(_, index, operand) => read(parameters, index, operand),
             Word::End => {
@@ -133,19 +209,19 @@ impl Programmed {
 }
 
 /// Does what the words of a block say, and answers what they program, or the first alarm.
-pub(crate) fn act_all(
-    slots: &[Option<AxisId>; 3],
+pub(crate) fn act_all<S: Setup>(
+    setup: &S,
+    axes: &ChannelAxes,
     parameters: &mut Parameters,
     words: &[Word],
-) -> Result<Programmed, u16>
+) -> Result<WordsDone, u16>
     requires { All WordFits (map word_view words.now) }
-    ensures { MatchResult result
-        (λ p. model.words_done slots.now (model.begun parameters.old) (map word_view words.now) ≡ Ok (progress_of parameters.new p))
-        (λ code. model.words_done slots.now (model.begun parameters.old) (map word_view words.now) ≡ Err code) }
+    ensures { WordsAct (model.words_done (equipment_of (S.names setup.now) (S.axis_named setup.now) (S.offset setup.now) axes.now)
+        (model.begun parameters.old) (map word_view words.now)) result parameters.new }
 {
-    let mut programmed = Programmed::nothing();
+    let mut done = WordsDone::nothing();
     for word in words {
-        programmed.act(slots, parameters, word)?;
+        done.act(setup, axes, parameters, word)?;
     }
-    Ok(programmed)
+    Ok(done)
 }

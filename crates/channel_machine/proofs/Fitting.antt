@@ -1,99 +1,123 @@
 -- Control stays at blocks, and blocks name parameters that there are.
-use Rattle.std.proofs.Common.{◌≡◌, ℕ, zero, suc, ◌-◌, ◌<◌, ◌==◌, nat_lt, Bool, true, false, cond, List, [], ◌∷◌, map, length, slice_get, Option, Some, IfSome, Result, Ok, Err, All, refl, subst, arith}
+use Rattle.std.proofs.Common.{◌≡◌, ℕ, zero, suc, ◌<◌, ◌==◌, Bool, true, false, cond, List, [], ◌∷◌, map, length, slice_get, Option, None, Some, IfSome, Result, Ok, Err, All, refl, sym, ap, ◌∙◌, subst, arith}
 use Rattle.std.proofs.lemmas.Bool.Decides.{nat_tests}
+use Rattle.std.proofs.lemmas.List.{length-map}
 use Rattle.std.proofs.lemmas.List.Elements.{All-nil, All-cons, All-head, All-tail}
 use Rattle.block_effects.specs.Effects.{Course, Goes, Ends, Calls}
 use Rattle.nc_blocks.specs.Indices.{StatementFits}
 use Rattle.nc_blocks.specs.Statement.{BlockView, statement_view}
 use Rattle.nc_blocks.specs.declared.blocks.Block.{Block}
+use Rattle.nc_control_flow.specs.Counted.{counted, has_counting, first_going, up_to_counting, RepeatCounts, CountRepeats}
 use Rattle.nc_control_flow.specs.Flow.{next_block}
+use Rattle.nc_control_flow.specs.Moves.{OutcomeView}
 use Rattle.nc_control_flow.specs.Parts.{statement_at, views}
-use Rattle.nc_control_flow.specs.Repetitions.{Going}
+use Rattle.nc_control_flow.specs.Repetitions.{Going, behind_block}
+use Rattle.nc_control_flow.proofs.Leading.{first_counts, first_runs}
+use Rattle.nc_control_flow.proofs.Starting.{rests_at, behind_counts, next_counts}
 use Rattle.nc_expressions.specs.Value.{◌>>=◌}
 use Rattle.nc_subprograms.specs.declared.Place.{Place}
 use Rattle.tape_job.specs.Job.{JobView, ProgramView, block_entry}
 use Rattle.tape_job.specs.SoundJob.{BlocksFit}
 use Rattle.channel_machine.specs.declared.levels.Levels.{Levels}
-use Rattle.channel_machine.specs.Levels.{lines_of, program_blocks, first_place, gone_on, behind_call, has_block, arrived, past_end, come, entered, followed, LevelsFit}
+use Rattle.channel_machine.specs.Levels.{lines_of, program_blocks, first_place, gone_on, behind_call, has_block, arrived, next_pass, begun_or, past_end, come, followed, Stands, LevelsFit}
 
 -- ---- levels
 
-module _ (programs : List (List ℕ × ProgramView)) where
-  -- the level stands at a block
-  abbrev Stands : Place → Type 0
-  Stands place = has_block programs place ≡ true
+module _ (skip : Bool) (programs : List (List ℕ × ProgramView)) where
+  abbrev Fit : Option Levels → Type 0
+  Fit o = IfSome o (LevelsFit skip programs)
 
-  below : (a b : ℕ) → a < b → nat_lt a b ≡ true
-  below a b h = grind (arith, nat_tests)
+  -- a level that comes to a block stands there
+  module _ (place : Place) (to : Going) (repeat : CountRepeats skip (program_blocks programs place.program) (counted skip (program_blocks programs place.program) to).running) where
+    comes_to : has_block programs (gone_on place (counted skip (program_blocks programs place.program) to)) ≡ true
+        → Stands skip programs (gone_on place (counted skip (program_blocks programs place.program) to))
+    comes_to comes =
+        let long = length-map (lines_of programs place.program) (λ (line : ℕ × BlockView). line.1) in
+        let within : (counted skip (program_blocks programs place.program) to).place < length (lines_of programs place.program) = grind (arith, nat_tests) in
+        record { counts = rests_at skip (program_blocks programs place.program) to (omega (arith, within, long)); repeat = repeat }
 
-  above : (a b : ℕ) → nat_lt a b ≡ true → 0 < b
-  above a b h = grind (arith, nat_tests)
-
-  some_of : (place : Place) → Stands place → 0 < length (lines_of programs place.program)
-  some_of place stands = above place.pc (length (lines_of programs place.program)) stands
-
-  first_fits : (number passes : ℕ) → 0 < length (lines_of programs number) → Stands (first_place number passes)
-  first_fits number passes some = below 0 (length (lines_of programs number)) some
-
-  arrived_fits : (here : Place) (returns : List Place) (past : Option Levels) → All Stands returns → IfSome past (LevelsFit programs)
-      → IfSome (arrived programs here returns past) (LevelsFit programs)
-  arrived_fits here returns past all fits = by_test (has_block programs here) refl
+  none_runs : (blocks : List BlockView) → CountRepeats skip blocks []
+  none_runs blocks = by_skip skip
     where
-      by_test : (t : Bool) → has_block programs here ≡ t → IfSome (cond t (Some (record { here = here; returns = returns })) past) (LevelsFit programs)
-      by_test true is = record { here = is; returns = all }
+      by_skip : (b : Bool) → CountRepeats b blocks []
+      by_skip true = All-nil (RepeatCounts blocks)
+      by_skip false = tt
+
+  first_stands : (number passes : ℕ) → has_counting skip (program_blocks programs number) ≡ true → Stands skip programs (first_place skip programs number passes)
+  first_stands number passes counts =
+      let blocks = program_blocks programs number in
+      let within : (first_going skip blocks).place < length blocks = let test = first_counts skip blocks ∙ counts in grind (arith, nat_tests) in
+      record {
+        counts = rests_at skip blocks (record { place = 0; running = [] }) within;
+        repeat = subst (CountRepeats skip blocks) (sym (first_runs skip blocks)) (none_runs blocks);
+      }
+
+  behind_stands : (place : Place) → Stands skip programs place → has_block programs (behind_call skip programs place) ≡ true → Stands skip programs (behind_call skip programs place)
+  behind_stands place stands =
+      comes_to place (behind_block place.pc place.repeats) (behind_counts skip (program_blocks programs place.program) place.pc place.repeats stands.repeat)
+
+  arrived_fits : (here : Place) (returns : List Place) (past : Option Levels) → (has_block programs here ≡ true → Stands skip programs here) → All (Stands skip programs) returns → Fit past
+      → Fit (arrived programs here returns past)
+  arrived_fits here returns past stands all fits = by_test (has_block programs here) refl
+    where
+      by_test : (t : Bool) → has_block programs here ≡ t → Fit (cond t (Some (record { here = here; returns = returns })) past)
+      by_test true is = record { here = stands is; returns = all }
       by_test false is = fits
 
-  past_fits : (number passes : ℕ) (returns : List Place) → (0 < passes → 0 < length (lines_of programs number)) → All Stands returns
-      → IfSome (past_end programs number passes returns) (LevelsFit programs)
-  past_fits number zero [] some all = tt
-  past_fits number (suc n) [] some all = record { here = first_fits number n (some (omega arith)); returns = all }
-  past_fits number zero (p ∷ ps) some all =
-      let head : Stands p = All-head Stands p ps all in
-      let tail : All Stands ps = All-tail Stands p ps all in
-      arrived_fits (behind_call p) ps (past_end programs p.program p.passes ps) tail (past_fits p.program p.passes ps (λ _. some_of p head) tail)
-  past_fits number (suc n) (p ∷ ps) some all = record { here = first_fits number n (some (omega arith)); returns = all }
+  pass_fits : (number passes : ℕ) (returns : List Place) (past : Option Levels) → All (Stands skip programs) returns → Fit past → Fit (begun_or (next_pass skip programs number passes) returns past)
+  pass_fits number zero returns past all fits = fits
+  pass_fits number (suc passes) returns past all fits = by_test (has_counting skip (program_blocks programs number)) refl
+    where
+      by_test : (t : Bool) → has_counting skip (program_blocks programs number) ≡ t → Fit (begun_or (cond t (Some (first_place skip programs number passes)) None) returns past)
+      by_test true is = record { here = first_stands number passes is; returns = all }
+      by_test false is = fits
 
-  module _ (levels : Levels) (fits : LevelsFit programs levels) where
-    come_fits : (going : Going) → IfSome (come programs (gone_on levels.here going) levels.returns) (LevelsFit programs)
-    come_fits going =
-        arrived_fits (gone_on levels.here going) levels.returns (past_end programs levels.here.program levels.here.passes levels.returns) fits.returns
-        (past_fits levels.here.program levels.here.passes levels.returns (λ _. some_of levels.here fits.here) fits.returns)
+  past_fits : (number passes : ℕ) (returns : List Place) → All (Stands skip programs) returns → Fit (past_end skip programs number passes returns)
+  past_fits number passes [] all = pass_fits number passes [] None all tt
+  past_fits number passes (p ∷ ps) all =
+      let head : Stands skip programs p = All-head (Stands skip programs) p ps all in
+      let tail : All (Stands skip programs) ps = All-tail (Stands skip programs) p ps all in
+      pass_fits number passes (p ∷ ps) (arrived programs (behind_call skip programs p) ps (past_end skip programs p.program p.passes ps)) all
+      (arrived_fits (behind_call skip programs p) ps (past_end skip programs p.program p.passes ps) (behind_stands p head) tail (past_fits p.program p.passes ps tail))
 
-    going_fits : (r : Result Going ℕ) (next : Option Levels) → (r >>= λ going. Ok (come programs (gone_on levels.here going) levels.returns)) ≡ Ok next
-        → IfSome next (LevelsFit programs)
-    going_fits (Ok going) next is =
-        let same : come programs (gone_on levels.here going) levels.returns ≡ next = cc in subst (λ (o : Option Levels). IfSome o (LevelsFit programs)) same (come_fits going)
-    going_fits (Err code) next is = absurd cc
+  -- at the start
+  pub begin_fits : (number : ℕ) → Fit (come skip programs (first_place skip programs number 0) [])
+  begin_fits number =
+      let blocks = program_blocks programs number in
+      let none : CountRepeats skip blocks (first_going skip blocks).running = subst (CountRepeats skip blocks) (sym (first_runs skip blocks)) (none_runs blocks) in
+      arrived_fits (first_place skip programs number 0) [] (past_end skip programs number 0 [])
+      (comes_to (record { program = number; pc = 0; passes = 0; repeats = [] }) (record { place = 0; running = [] }) none)
+      (All-nil (Stands skip programs)) (past_fits number 0 [] (All-nil (Stands skip programs)))
 
-    stack : All Stands (levels.here ∷ levels.returns)
-    stack = All-cons Stands levels.here levels.returns fits.here fits.returns
+  module _ (levels : Levels) (fits : LevelsFit skip programs levels) where
+    come_fits : (to : Going) → CountRepeats skip (program_blocks programs levels.here.program) (counted skip (program_blocks programs levels.here.program) to).running
+        → Fit (come skip programs (gone_on levels.here (counted skip (program_blocks programs levels.here.program) to)) levels.returns)
+    come_fits to repeat =
+        arrived_fits (gone_on levels.here (counted skip (program_blocks programs levels.here.program) to)) levels.returns (past_end skip programs levels.here.program levels.here.passes levels.returns)
+        (comes_to levels.here to repeat) fits.returns (past_fits levels.here.program levels.here.passes levels.returns fits.returns)
 
-    entered_fits : (number passes : ℕ) → IfSome (entered programs number passes (levels.here ∷ levels.returns)) (LevelsFit programs)
-    entered_fits number passes = by_test (length (lines_of programs number) == 0) refl
-      where
-        some : length (lines_of programs number) == 0 ≡ false → 0 < length (lines_of programs number)
-        some is = grind (arith, nat_tests)
-
-        by_test : (t : Bool) → length (lines_of programs number) == 0 ≡ t
-            → IfSome (cond t (past_end programs number 0 (levels.here ∷ levels.returns)) (Some (record { here = first_place number (passes - 1); returns = levels.here ∷ levels.returns }))) (LevelsFit programs)
-        by_test true is = past_fits number 0 (levels.here ∷ levels.returns) (λ h. absurd (omega (arith, h))) stack
-        by_test false is = record { here = first_fits number (passes - 1) (some is); returns = stack }
+    going_fits : (outcome : OutcomeView) (r : Result Going ℕ) (next : Option Levels) → next_block levels.here.pc (program_blocks programs levels.here.program) levels.here.repeats outcome ≡ r
+        → (up_to_counting skip (program_blocks programs levels.here.program) r >>= λ going. Ok (come skip programs (gone_on levels.here going) levels.returns)) ≡ Ok next → Fit next
+    going_fits outcome (Ok to) next is led =
+        let blocks = program_blocks programs levels.here.program in
+        let same : come skip programs (gone_on levels.here (counted skip blocks to)) levels.returns ≡ next = cc in
+        subst Fit same (come_fits to (next_counts skip levels.here.pc blocks levels.here.repeats outcome (counted skip blocks to) fits.here.counts fits.here.repeat (ap (up_to_counting skip blocks) is)))
+    going_fits outcome (Err code) next is led = absurd cc
 
     calling_fits : (number passes : ℕ) (t : Bool) (next : Option Levels)
-        → (cond t (Err 6) (Ok (levels.here ∷ levels.returns)) >>= λ returns. Ok (entered programs number passes returns)) ≡ Ok next → IfSome next (LevelsFit programs)
+        → (cond t (Err 6) (Ok (levels.here ∷ levels.returns)) >>= λ returns. Ok (past_end skip programs number passes returns)) ≡ Ok next → Fit next
     calling_fits number passes true next is = absurd cc
     calling_fits number passes false next is =
-        let same : entered programs number passes (levels.here ∷ levels.returns) ≡ next = cc in
-        subst (λ (o : Option Levels). IfSome o (LevelsFit programs)) same (entered_fits number passes)
+        let same : past_end skip programs number passes (levels.here ∷ levels.returns) ≡ next = cc in
+        subst Fit same (past_fits number passes (levels.here ∷ levels.returns) (All-cons (Stands skip programs) levels.here levels.returns fits.here fits.returns))
 
-    -- behind a block each level stands at a block again
-    pub followed_fits : (course : Course) (next : Option Levels) → followed programs levels course ≡ Ok next → IfSome next (LevelsFit programs)
+    -- behind a block each level stands at a block that counts again
+    pub followed_fits : (course : Course) (next : Option Levels) → followed skip programs levels course ≡ Ok next → Fit next
     unfolding followed
-    followed_fits (Goes outcome) next is = going_fits (next_block levels.here.pc (program_blocks programs levels.here.program) levels.here.repeats outcome) next is
+    followed_fits (Goes outcome) next is = going_fits outcome (next_block levels.here.pc (program_blocks programs levels.here.program) levels.here.repeats outcome) next refl is
     followed_fits Ends next is =
-        let same : past_end programs levels.here.program levels.here.passes levels.returns ≡ next = cc in
-        subst (λ (o : Option Levels). IfSome o (LevelsFit programs)) same
-        (past_fits levels.here.program levels.here.passes levels.returns (λ _. some_of levels.here fits.here) fits.returns)
+        let same : past_end skip programs levels.here.program levels.here.passes levels.returns ≡ next = cc in
+        subst Fit same (past_fits levels.here.program levels.here.passes levels.returns fits.returns)
     followed_fits (Calls number passes) next is = calling_fits number passes (length levels.returns == 15) next is
 
 -- ---- blocks

@@ -1,5 +1,5 @@
 -- How a level goes on.
-use Rattle.std.proofs.Common.{◌≡◌, ◌∙◌, ℕ, zero, suc, ◌-◌, ◌<◌, nat_lt, Bool, true, false, cond, List, [], ◌∷◌, map, length, Option, None, Some, Result, Ok, Err, All, refl, sym, ap, subst, arith}
+use Rattle.std.proofs.Common.{◌≡◌, ◌∙◌, ℕ, zero, suc, ◌<◌, nat_lt, if◌then◌else◌, Bool, true, false, cond, List, [], ◌∷◌, map, length, Option, None, Some, Result, Ok, Err, All, refl, sym, ap, subst, arith}
 use Rattle.std.proofs.lemmas.List.{length-map}
 use Rattle.std.proofs.lemmas.List.Elements.{All-head, All-tail}
 use Rattle.nc_subprograms.specs.Stack.{Returns}
@@ -8,15 +8,17 @@ use Rattle.nc_blocks.specs.Statement.{BlockView, view_of}
 use Rattle.nc_control_flow.specs.declared.flow.Next.{Next}
 use Rattle.nc_control_flow.specs.declared.flow.Next.TheVariants.{At, Past}
 use Rattle.nc_control_flow.specs.declared.repeats.Running.{Running}
+use Rattle.nc_control_flow.specs.Counted.{has_counting, first_going, next_going}
 use Rattle.nc_control_flow.specs.Flow.{next_block, next_at, going, Leads}
 use Rattle.nc_control_flow.specs.Moves.{OutcomeView, Skipped, move_of}
 use Rattle.nc_control_flow.specs.Nested.{blocks_of}
 use Rattle.nc_control_flow.specs.Parts.{views}
 use Rattle.nc_control_flow.specs.Repetitions.{Going}
+use Rattle.nc_control_flow.proofs.Leading.{first_at, first_counts, first_runs, counts_first, counts_none}
 use Rattle.nc_subprograms.specs.declared.Place.{Place}
 use Rattle.tape_job.specs.Job.{ProgramView, block_entry}
 use Rattle.channel_machine.specs.declared.levels.Levels.{Levels}
-use Rattle.channel_machine.specs.Levels.{lines_of, program_blocks, first_place, gone_on, behind_call, has_block, arrived, past_end, Lands, GoesBehind, GoesOn}
+use Rattle.channel_machine.specs.Levels.{lines_of, program_blocks, first_place, gone_on, behind_call, has_block, arrived, next_pass, begun_or, past_end, come, Stands, IsFirstPlace, Lands, GoesBehind, GoesOn}
 
 -- a flow's blocks, without their lines
 views_same : (flow : List (ℕ × Block)) → blocks_of (map block_entry flow) ≡ views flow
@@ -29,6 +31,45 @@ module _ (programs : List (List ℕ × ProgramView)) (number : ℕ) (flow : List
 
   pub long : length (lines_of programs number) ≡ length (views flow)
   long = ap length lines ∙ length-map flow block_entry ∙ sym (length-map flow (λ (e : ℕ × Block). view_of e.1))
+
+-- ---- the first block
+
+module _ (skip : Bool) (programs : List (List ℕ × ProgramView)) (number : ℕ) where
+  -- by the flow
+  pub first_by : (passes : ℕ) (flow : List (ℕ × Block)) (pc : ℕ) → lines_of programs number ≡ map block_entry flow → At pc ≡ next_at (views flow) (first_going skip (views flow)).place
+      → IsFirstPlace skip programs number passes (Some (record { program = number; pc = pc; passes = passes; repeats = [] }))
+  first_by passes flow pc lines is =
+      let blocks = views_are programs number flow lines in
+      let place = first_at skip (views flow) pc is in (
+        ap (has_counting skip) blocks ∙ sym (counts_first skip (views flow) (At pc) pc is refl),
+        rw blocks (ap (λ (n : ℕ). record { program = number; pc = n; passes = passes; repeats = [] }) place
+            ∙ ap (λ (rs : List Running). record { program = number; pc = (first_going skip (views flow)).place; passes = passes; repeats = rs }) (sym (first_runs skip (views flow)))),
+      )
+
+  pub none_by : (passes : ℕ) (flow : List (ℕ × Block)) → lines_of programs number ≡ map block_entry flow → Past ≡ next_at (views flow) (first_going skip (views flow)).place
+      → IsFirstPlace skip programs number passes None
+  none_by passes flow lines is = ap (has_counting skip) (views_are programs number flow lines) ∙ sym (counts_none skip (views flow) Past is refl)
+
+  first_comes : (passes : ℕ) → has_block programs (first_place skip programs number passes) ≡ has_counting skip (program_blocks programs number)
+  first_comes passes =
+      ap (nat_lt (first_going skip (program_blocks programs number)).place) (sym (length-map (lines_of programs number) (λ (line : ℕ × BlockView). line.1)))
+      ∙ first_counts skip (program_blocks programs number)
+
+  -- the main program begins, or is done at once
+  pub begins_at : (found : Option Place) (here : Place) → IsFirstPlace skip programs number 0 found → found ≡ Some here
+      → Some (record { here = here; returns = [] }) ≡ come skip programs (first_place skip programs number 0) []
+  begins_at None here is some = absurd cc
+  begins_at (Some place) here is some =
+      let same : place ≡ here = cc in
+      let comes : has_block programs (first_place skip programs number 0) ≡ true = first_comes 0 ∙ is.0 in
+      rw (sym same, is.1, comes) refl
+
+  pub begins_not : (found : Option Place) → IsFirstPlace skip programs number 0 found → found ≡ None → None ≡ come skip programs (first_place skip programs number 0) []
+  begins_not (Some place) is none = absurd cc
+  begins_not None is none = let comes : has_block programs (first_place skip programs number 0) ≡ false = first_comes 0 ∙ is in rw comes refl
+
+  pub none_without : (passes : ℕ) → lines_of programs number ≡ [] → IsFirstPlace skip programs number passes None
+  none_without passes lines = ap (has_counting skip) (ap blocks_of lines)
 
 -- ---- one block on
 
@@ -71,24 +112,25 @@ module _ (programs : List (List ℕ × ProgramView)) (old : Place) (flow : List 
   led_not (Err other) code mid new (is, runs) = let same : code ≡ other = cc in ap (λ (n : ℕ). Err n) same
 
   -- the flow goes on
-  pub goes_on : (outcome : OutcomeView) (next : Next) (mid : List Running) (b : Bool) (new : Place) → Leads (views flow) (next_block old.pc (views flow) old.repeats outcome) (Ok next) old.repeats mid
-      → Lands next (record old { repeats = mid }) b new → GoesOn programs (next_block old.pc (program_blocks programs old.program) old.repeats outcome) old (Ok b) new
-  goes_on outcome next mid b new leads landed =
-      rw (views_are programs old.program flow lines) (led (next_block old.pc (views flow) old.repeats outcome) next mid b new leads landed)
+  pub goes_on : (skip : Bool) (outcome : OutcomeView) (next : Next) (mid : List Running) (b : Bool) (new : Place) → Leads (views flow) (next_going skip old.pc (views flow) old.repeats outcome) (Ok next) old.repeats mid
+      → Lands next (record old { repeats = mid }) b new → GoesOn programs (next_going skip old.pc (program_blocks programs old.program) old.repeats outcome) old (Ok b) new
+  goes_on skip outcome next mid b new leads landed =
+      rw (views_are programs old.program flow lines) (led (next_going skip old.pc (views flow) old.repeats outcome) next mid b new leads landed)
 
   -- the flow alarms
-  pub goes_not : (outcome : OutcomeView) (code : ℕ) (mid : List Running) (new : Place) → Leads (views flow) (next_block old.pc (views flow) old.repeats outcome) (Err code) old.repeats mid
-      → GoesOn programs (next_block old.pc (program_blocks programs old.program) old.repeats outcome) old (Err code) new
-  goes_not outcome code mid new leads =
-      rw (views_are programs old.program flow lines) (led_not (next_block old.pc (views flow) old.repeats outcome) code mid new leads)
+  pub goes_not : (skip : Bool) (outcome : OutcomeView) (code : ℕ) (mid : List Running) (new : Place) → Leads (views flow) (next_going skip old.pc (views flow) old.repeats outcome) (Err code) old.repeats mid
+      → GoesOn programs (next_going skip old.pc (program_blocks programs old.program) old.repeats outcome) old (Err code) new
+  goes_not skip outcome code mid new leads =
+      rw (views_are programs old.program flow lines) (led_not (next_going skip old.pc (views flow) old.repeats outcome) code mid new leads)
 
 -- behind a call
-module _ (programs : List (List ℕ × ProgramView)) (blocks : List BlockView) (old new : Place) where
-  pub goes_behind : (b : Bool) → GoesOn programs (next_block old.pc blocks old.repeats Skipped) old (Ok b) new → GoesBehind programs (behind_call old) b new
+module _ (skip : Bool) (programs : List (List ℕ × ProgramView)) (old new : Place) where
+  pub goes_behind : (b : Bool) → GoesOn programs (next_going skip old.pc (program_blocks programs old.program) old.repeats Skipped) old (Ok b) new
+      → GoesBehind programs (behind_call skip programs old) b new
   unfolding next_block move_of going
   goes_behind b is = is
 
-  pub never_alarms : (code : ℕ) → GoesOn programs (next_block old.pc blocks old.repeats Skipped) old (Err code) new → ⊥
+  pub never_alarms : (code : ℕ) → GoesOn programs (next_going skip old.pc (program_blocks programs old.program) old.repeats Skipped) old (Err code) new → ⊥
   unfolding next_block move_of going
   never_alarms code is = is
 
@@ -104,55 +146,58 @@ emptied (p ∷ ps) new (is, e) = absurd cc
 
 -- ---- past the end of a program
 
-module _ (programs : List (List ℕ × ProgramView)) (number : ℕ) where
-  -- the next pass begins
-  next_pass : (passes : ℕ) (returns : List Place) (less : ℕ) → passes ≡ suc less → past_end programs number passes returns ≡ Some (record { here = first_place number less; returns = returns })
-  next_pass zero returns less is = absurd (omega arith)
-  next_pass (suc n) [] less is = let e : n ≡ less = omega arith in rw e refl
-  next_pass (suc n) (p ∷ ps) less is = let e : n ≡ less = omega arith in rw e refl
+module _ (skip : Bool) (programs : List (List ℕ × ProgramView)) where
+  -- a pass begins
+  pub pass_is : (number less passes : ℕ) (o : Option Place) → passes ≡ suc less → IsFirstPlace skip programs number less o → o ≡ next_pass skip programs number passes
+  pass_is number less zero o e is = absurd (omega (arith, e))
+  pass_is number less (suc n) o e is = let same : n ≡ less = omega (arith, e) in rw same (by_place o is)
+    where
+      by_place : (o : Option Place) → IsFirstPlace skip programs number less o
+          → o ≡ (if has_counting skip (program_blocks programs number) then Some (first_place skip programs number less) else None)
+      by_place (Some place) (counts, e) = rw (counts, e) refl
+      by_place None none = rw none refl
 
-  pub again : (passes : ℕ) (returns : List Place) (here : Place) (goal : Option Levels) → here ≡ first_place number (passes - 1) → 0 < passes
-      → past_end programs number passes returns ≡ goal → Some (record { here = here; returns = returns }) ≡ goal
-  again passes returns here goal is some same = rw is (sym (next_pass passes returns (passes - 1) (omega (arith, some))) ∙ same)
+  module _ (number passes : ℕ) (begun : Option Place) (is : begun ≡ next_pass skip programs number passes) where
+    -- at the next pass
+    pub begins : (returns : List Place) (here : Place) (goal : Option Levels) → begun ≡ Some here → past_end skip programs number passes returns ≡ goal
+        → Some (record { here = here; returns = returns }) ≡ goal
+    begins [] here goal some same = ap (λ (o : Option Place). begun_or o [] None) (sym some ∙ is) ∙ same
+    begins (p ∷ ps) here goal some same =
+        ap (λ (o : Option Place). begun_or o (p ∷ ps) (arrived programs (behind_call skip programs p) ps (past_end skip programs p.program p.passes ps))) (sym some ∙ is) ∙ same
 
-  main_end : (passes : ℕ) → passes ≡ 0 → past_end programs number passes [] ≡ None
-  main_end zero is = refl
-  main_end (suc n) is = absurd (omega arith)
+    -- the main program ends
+    pub at_main : (old new : List Place) (goal : Option Levels) → begun ≡ None → Returns old None new → past_end skip programs number passes old ≡ goal → None ≡ goal
+    at_main old new goal none ret same =
+        ap (λ (o : Option Place). begun_or o [] None) (sym none ∙ is) ∙ ap (past_end skip programs number passes) (sym (emptied old new ret)) ∙ same
 
-  -- the main program ends
-  pub at_main : (passes : ℕ) (old new : List Place) (goal : Option Levels) → passes ≡ 0 → Returns old None new → past_end programs number passes old ≡ goal → None ≡ goal
-  at_main passes old new goal none ret same = sym (main_end passes none) ∙ ap (past_end programs number passes) (sym (emptied old new ret)) ∙ same
+    module _ (old new : List Place) (caller here : Place) (none : begun ≡ None) (ret : Returns old (Some caller) new) where
+      past_caller : past_end skip programs number passes old ≡ arrived programs (behind_call skip programs caller) new (past_end skip programs caller.program caller.passes new)
+      past_caller =
+          ap (past_end skip programs number passes) (popped old caller new ret)
+          ∙ ap (λ (o : Option Place). begun_or o (caller ∷ new) (arrived programs (behind_call skip programs caller) new (past_end skip programs caller.program caller.passes new))) (sym is ∙ none)
 
-  below : (passes : ℕ) (place : Place) (places : List Place) → passes ≡ 0
-      → past_end programs number passes (place ∷ places) ≡ arrived programs (behind_call place) places (past_end programs place.program place.passes places)
-  below zero place places is = refl
-  below (suc n) place places is = absurd (omega arith)
+      -- behind the call of the level below a block comes
+      pub below_comes : (b : Bool) (goal : Option Levels) → b ≡ true → GoesBehind programs (behind_call skip programs caller) b here → past_end skip programs number passes old ≡ goal
+          → Some (record { here = here; returns = new }) ≡ goal
+      below_comes b goal yes_it goes same =
+          let comes : has_block programs (behind_call skip programs caller) ≡ true = sym goes.comes ∙ yes_it in
+          let there : arrived programs (behind_call skip programs caller) new (past_end skip programs caller.program caller.passes new) ≡ Some (record { here = behind_call skip programs caller; returns = new }) = rw comes refl in
+          rw (goes.arrives yes_it) (sym there ∙ sym past_caller ∙ same)
 
-  module _ (passes : ℕ) (old new : List Place) (caller here : Place) (none : passes ≡ 0) (ret : Returns old (Some caller) new) where
-    pub fits_head : All (λ place. has_block programs place ≡ true) old → has_block programs caller ≡ true
-    fits_head all = All-head (λ place. has_block programs place ≡ true) caller new (subst (λ (ps : List Place). All (λ place. has_block programs place ≡ true) ps) (popped old caller new ret) all)
+      -- or it is at its end too
+      pub below_ends : (b : Bool) (goal : Option Levels) → b ≡ false → GoesBehind programs (behind_call skip programs caller) b here → past_end skip programs number passes old ≡ goal
+          → past_end skip programs here.program here.passes new ≡ goal
+      below_ends b goal no_it goes same =
+          let ends : has_block programs (behind_call skip programs caller) ≡ false = sym goes.comes ∙ no_it in
+          let there : arrived programs (behind_call skip programs caller) new (past_end skip programs caller.program caller.passes new) ≡ past_end skip programs caller.program caller.passes new = rw ends refl in
+          rw (goes.program, goes.passes) (sym there ∙ sym past_caller ∙ same)
 
-    pub fits_tail : All (λ place. has_block programs place ≡ true) old → All (λ place. has_block programs place ≡ true) new
-    fits_tail all = All-tail (λ place. has_block programs place ≡ true) caller new (subst (λ (ps : List Place). All (λ place. has_block programs place ≡ true) ps) (popped old caller new ret) all)
+  module _ (old new : List Place) (caller : Place) (ret : Returns old (Some caller) new) where
+    pub fits_head : All (Stands skip programs) old → Stands skip programs caller
+    fits_head all = All-head (Stands skip programs) caller new (subst (λ (ps : List Place). All (Stands skip programs) ps) (popped old caller new ret) all)
+
+    pub fits_tail : All (Stands skip programs) old → All (Stands skip programs) new
+    fits_tail all = All-tail (Stands skip programs) caller new (subst (λ (ps : List Place). All (Stands skip programs) ps) (popped old caller new ret) all)
 
     pub fewer : length new < length old
     fewer = let e : length old ≡ length (caller ∷ new) = ap length (popped old caller new ret) in omega (arith, e)
-
-    past_caller : past_end programs number passes old ≡ arrived programs (behind_call caller) new (past_end programs caller.program caller.passes new)
-    past_caller = ap (past_end programs number passes) (popped old caller new ret) ∙ below passes caller new none
-
-    -- behind the call of the level below a block comes
-    pub below_comes : (b : Bool) (goal : Option Levels) → b ≡ true → GoesBehind programs (behind_call caller) b here → past_end programs number passes old ≡ goal
-        → Some (record { here = here; returns = new }) ≡ goal
-    below_comes b goal is goes same =
-        let comes : has_block programs (behind_call caller) ≡ true = sym goes.comes ∙ is in
-        let there : arrived programs (behind_call caller) new (past_end programs caller.program caller.passes new) ≡ Some (record { here = behind_call caller; returns = new }) = rw comes refl in
-        rw (goes.arrives is) (sym there ∙ sym past_caller ∙ same)
-
-    -- or it is at its end too
-    pub below_ends : (b : Bool) (goal : Option Levels) → b ≡ false → GoesBehind programs (behind_call caller) b here → past_end programs number passes old ≡ goal
-        → past_end programs here.program here.passes new ≡ goal
-    below_ends b goal is goes same =
-        let ends : has_block programs (behind_call caller) ≡ false = sym goes.comes ∙ is in
-        let there : arrived programs (behind_call caller) new (past_end programs caller.program caller.passes new) ≡ past_end programs caller.program caller.passes new = rw ends refl in
-        rw (goes.program, goes.passes) (sym there ∙ sym past_caller ∙ same)

@@ -1,55 +1,95 @@
--- What stands where control is, by the flow of its program.
-use Rattle.std.proofs.Common.{◌≡◌, ◌∙◌, ℕ, zero, suc, ◌+◌, ◌-◌, ◌<◌, ◌≤◌, nat_lt, ℤ, Bool, true, false, List, [], ◌∷◌, map, slice_get, Option, None, Some, refl, sym, ap, arith}
+-- What stands where control is, and what it finds, by what is kept.
+use Rattle.std.proofs.Common.{◌≡◌, ◌∙◌, ℕ, zero, suc, ◌+◌, ◌-◌, ◌<◌, ◌≤◌, nat_lt, ℤ, Bool, true, false, List, [], ◌∷◌, map, length, slice_get, Option, None, Some, refl, sym, ap, arith}
+use mathlib.Core.Path.{fun_ext}
 use Rattle.std.proofs.lemmas.Bool.Decides.{nat_tests}
-use Rattle.block_effects.specs.Effects.{effect_of}
+use Rattle.std.proofs.lemmas.List.{length-map}
+use Rattle.axis_moves.specs.Motions.{stands}
+use Rattle.block_effects.specs.Effects.{Course, Found, effect_of}
+use Rattle.block_effects.specs.Words.{Equipment}
+use Rattle.frames.specs.Maps.{Map}
+use Rattle.g_groups.specs.declared.GWord.{GWord}
+use Rattle.nc_blocks.specs.Statement.{BlockView, Statement, statement_view, view_of}
 use Rattle.nc_blocks.specs.declared.blocks.Block.{Block}
-use Rattle.nc_blocks.specs.Statement.{BlockView, Statement}
+use Rattle.nc_control_flow.proofs.Resolving.{opening_below}
 use Rattle.nc_control_flow.specs.Parts.{statement_at, views}
 use Rattle.nc_control_flow.specs.Structures.{opening}
 use Rattle.nc_subprograms.specs.declared.Place.{Place}
-use Rattle.tape_job.specs.Job.{ProgramView, block_entry}
-use Rattle.channel_machine.specs.Levels.{lines_of, program_blocks}
-use Rattle.channel_machine.specs.Run.{Setting, names, block_at, opener_at}
-use Rattle.channel_machine.proofs.Going.{views_are}
+use Rattle.tape_job.specs.Job.{JobView, ProgramView}
+use Rattle.channel_machine.specs.Kept.{Kept, IsSettingIn, Keeps}
+use Rattle.channel_machine.specs.declared.levels.Levels.{Levels}
+use Rattle.channel_machine.specs.Levels.{lines_of, program_blocks, followed}
+use Rattle.channel_machine.specs.Run.{Setting, Channel, axis_named, offset_of, equipment, words_after, chain_after, stands_after, found_after, block_at, opener_at}
 
-viewed : {X Y : Type 0} (view : X → Y) (xs : List X) (k : ℕ) (x : X) → slice_get xs k ≡ Some x → slice_get (map view xs) k ≡ Some (view x)
+-- what the blocks find in a job, by what is kept
+abbrev pub equipment_in : JobView → Kept → Equipment
+equipment_in job k = record {
+  names = map (λ p. p.0) job.programs;
+  axis_named = axis_named job.axes;
+  offset = offset_of job k.channel;
+  slots = k.slots;
+  owned = k.axes;
+}
+
+abbrev pub found_with : List (List GWord) → List Map → List ℤ → (ℕ → ℤ) → Found
+found_with words chain parameters at = record { parameters = parameters; words = words; chain = chain; at = at }
+
+pub viewed : {X Y : Type 0} (view : X → Y) (xs : List X) (k : ℕ) (x : X) → slice_get xs k ≡ Some x → slice_get (map view xs) k ≡ Some (view x)
 viewed view [] zero x is = absurd cc
 viewed view [] (suc k) x is = absurd cc
 viewed view (y ∷ ys) zero x is = let same : y ≡ x = cc in ap (λ z. Some (view z)) same
 viewed view (y ∷ ys) (suc k) x is = viewed view ys k x is
 
-viewed_none : {X Y : Type 0} (view : X → Y) (xs : List X) (k : ℕ) → slice_get xs k ≡ None → slice_get (map view xs) k ≡ None
+pub viewed_none : {X Y : Type 0} (view : X → Y) (xs : List X) (k : ℕ) → slice_get xs k ≡ None → slice_get (map view xs) k ≡ None
 viewed_none view [] zero is = refl
 viewed_none view [] (suc k) is = refl
 viewed_none view (y ∷ ys) zero is = absurd cc
 viewed_none view (y ∷ ys) (suc k) is = viewed_none view ys k is
 
-module _ (s : Setting) (programs : List (List ℕ × ProgramView)) (same : s.programs ≡ programs) (here : Place) (flow : List (ℕ × Block))
-    (lines : lines_of programs here.program ≡ map block_entry flow) where
-  lines_are : lines_of s.programs here.program ≡ map block_entry flow
-  lines_are = ap (λ (ps : List (List ℕ × ProgramView)). lines_of ps here.program) same ∙ lines
+pub statement_found : (flow : List (ℕ × Block)) (k : ℕ) (e : ℕ × Block) → slice_get flow k ≡ Some e → statement_view e.1.stmt ≡ statement_at k (views flow)
+statement_found [] zero e is = absurd cc
+statement_found [] (suc k) e is = absurd cc
+statement_found (x ∷ xs) zero e is = let same : x ≡ e = cc in ap (λ (y : ℕ × Block). statement_view y.1.stmt) (sym same)
+statement_found (x ∷ xs) (suc k) e is = statement_found xs k e is
 
+-- the beginning of the structure round a place stands in the program
+pub opening_there : (flow : List (ℕ × Block)) (pc k : ℕ) → pc < length flow → k ≡ opening pc (views flow) → k < length flow
+opening_there flow pc k here is =
+    let long : length (views flow) ≡ length flow = length-map flow (λ (e : ℕ × Block). view_of e.1) in
+    let below : opening pc (views flow) < length (views flow) = opening_below pc (views flow) (omega (arith, here, long)) in
+    omega (arith, below, long, is)
+
+module _ (s : Setting) (programs : List (List ℕ × ProgramView)) (same : s.programs ≡ programs) (here : Place) where
   -- the block that comes
-  pub block_there : (e : ℕ × Block) → slice_get flow here.pc ≡ Some e → block_at s here ≡ Some (block_entry e)
-  block_there e is = ap (λ (ls : List (ℕ × BlockView)). slice_get ls here.pc) lines_are ∙ viewed block_entry flow here.pc e is
+  pub block_there : (o : Option (ℕ × BlockView)) → slice_get (lines_of programs here.program) here.pc ≡ o → block_at s here ≡ o
+  block_there o is = ap (λ (ps : List (List ℕ × ProgramView)). slice_get (lines_of ps here.program) here.pc) same ∙ is
 
-  pub none_there : slice_get flow here.pc ≡ None → block_at s here ≡ None
-  none_there is = ap (λ (ls : List (ℕ × BlockView)). slice_get ls here.pc) lines_are ∙ viewed_none block_entry flow here.pc is
+  -- the beginning of the structure round it
+  pub opener_there : (opener : Statement) → opener ≡ statement_at (opening here.pc (program_blocks programs here.program)) (program_blocks programs here.program)
+      → opener_at s here ≡ opener
+  opener_there opener is = ap (λ (ps : List (List ℕ × ProgramView)). statement_at (opening here.pc (program_blocks ps here.program)) (program_blocks ps here.program)) same ∙ sym is
 
-  -- what it does, among the names of the programs and with the beginning of the structure round it
-  pub effect_there : (slots : List (Option ℕ)) (parameters : List ℤ) (at : ℕ → ℤ) (line : ℕ) (opener statement : Statement)
-      → opener ≡ statement_at (opening here.pc (views flow)) (views flow)
-      → effect_of (names s) slots parameters at line (opener_at s here) statement
-      ≡ effect_of (map (λ (p : List ℕ × ProgramView). p.0) programs) slots parameters at line opener statement
-  effect_there slots parameters at line opener statement is =
-      ap (λ (ns : List (List ℕ)). effect_of ns slots parameters at line (opener_at s here) statement) (ap (map (λ (p : List ℕ × ProgramView). p.0)) same)
-      ∙ ap (λ (o : Statement). effect_of (map (λ (p : List ℕ × ProgramView). p.0) programs) slots parameters at line o statement) (opener_is ∙ sym is)
-    where
-      blocks_are : program_blocks s.programs here.program ≡ views flow
-      blocks_are = ap (λ (ps : List (List ℕ × ProgramView)). program_blocks ps here.program) same ∙ views_are programs here.program flow lines
+module _ (job : JobView) (s : Setting) (c : Channel) (k : Kept) (set : IsSettingIn job s k) (keeps : Keeps s c k) where
+  equipment_is : equipment s ≡ equipment_in job k
+  equipment_is = rw (set.programs, set.axes, set.offset, keeps.slots, keeps.axes) refl
 
-      opener_is : opener_at s here ≡ statement_at (opening here.pc (views flow)) (views flow)
-      opener_is = ap (λ (bs : List BlockView). statement_at (opening here.pc bs) bs) blocks_are
+  found_is : found_after s c.past ≡ found_with (words_after c.past) (chain_after c.past) k.parameters (stands k.at)
+  found_is =
+      ap (λ (ps : List ℤ). found_with (words_after c.past) (chain_after c.past) ps (stands_after s c.past)) (sym keeps.parameters)
+      ∙ ap (λ (at : ℕ → ℤ). found_with (words_after c.past) (chain_after c.past) k.parameters at) (sym (fun_ext keeps.at))
+
+  -- what the block does, by what is kept
+  pub effect_there : (here : Place) (line : ℕ) (opener statement : Statement) → opener_at s here ≡ opener
+      → effect_of (equipment_in job k) (found_with (words_after c.past) (chain_after c.past) k.parameters (stands k.at)) line opener statement
+      ≡ effect_of (equipment s) (found_after s c.past) line (opener_at s here) statement
+  effect_there here line opener statement is =
+      ap (λ (e : Equipment). effect_of e (found_with (words_after c.past) (chain_after c.past) k.parameters (stands k.at)) line opener statement) (sym equipment_is)
+      ∙ ap (λ (f : Found). effect_of (equipment s) f line opener statement) (sym found_is) ∙ ap (λ (o : Statement). effect_of (equipment s) (found_after s c.past) line o statement) (sym is)
+
+-- where a block leads, in the job of the setting
+pub followed_there : (s : Setting) (skip : Bool) (programs : List (List ℕ × ProgramView)) → s.skip ≡ skip → s.programs ≡ programs
+    → (levels : Levels) (course : Course) → followed skip programs levels course ≡ followed s.skip s.programs levels course
+followed_there s skip programs same_skip same levels course =
+    ap (λ (b : Bool). followed b programs levels course) (sym same_skip) ∙ ap (λ (ps : List (List ℕ × ProgramView)). followed s.skip ps levels course) (sym same)
 
 -- a channel that has not executed all its blocks may execute one more
 pub room : (n : ℕ) → n ≤ 100000 → (n ≡ 100000 → ⊥) → n + suc (99999 - n) ≡ 100000

@@ -4,10 +4,10 @@ use Rattle.std.specs.Option.{option_to_list}
 use Rattle.block_effects.specs.Effects.{Course, Goes, Ends, Calls, effect_of}
 use Rattle.block_effects.proofs.AlarmLaws.{IsListed, bind_listed, effect_listed, listed_8, listed_9}
 use Rattle.block_effects.proofs.EffectLaws.{effect_is}
-use Rattle.block_effects.proofs.MotionLaws.{AllFollow, AllFollow-push, follows_none, sound_motions}
+use Rattle.axis_moves.proofs.MotionLaws.{AllFollow, AllFollow-push, follows_none, sound_motions}
 use Rattle.nc_blocks.specs.Statement.{BlockView}
-use Rattle.nc_control_flow.specs.Flow.{next_block}
-use Rattle.nc_control_flow.proofs.Alarms.{Alarms, next_alarms}
+use Rattle.nc_control_flow.specs.Counted.{next_going}
+use Rattle.nc_control_flow.proofs.Alarms.{Alarms, going_alarms}
 use Rattle.nc_expressions.specs.Value.{◌>>=◌}
 use Rattle.nc_faults.specs.Texts.{IsAlarmCode, alarm_texts}
 use Rattle.nc_subprograms.specs.declared.Place.{Place}
@@ -17,8 +17,8 @@ use Rattle.sync_types.specs.Items.{motion_of}
 use Rattle.sync_types.specs.declared.Item.{Item}
 use Rattle.tape_job.specs.Job.{ProgramView}
 use Rattle.channel_machine.specs.declared.levels.Levels.{Levels}
-use Rattle.channel_machine.specs.Levels.{program_blocks, gone_on, come, entered, followed}
-use Rattle.channel_machine.specs.Run.{Setting, Executed, Channel, SegmentView, names, parameters_after, items_of, stands_at_start, stands_after, opener_at, block_at, executed, line_after, alarmed, ends_main, with_block, with_levels, led, finished, behind, run_after, segment_of, begun, IsListedAction}
+use Rattle.channel_machine.specs.Levels.{program_blocks, gone_on, past_end, come, followed}
+use Rattle.channel_machine.specs.Run.{Setting, Executed, Channel, SegmentView, equipment, found_after, items_of, stands_at_start, opener_at, block_at, executed, line_after, alarmed, ends_main, with_block, with_levels, led, finished, behind, run_after, segment_of, begun, IsListedAction}
 use Rattle.channel_machine.proofs.Pasts.{items_of-push}
 
 -- ---- alarms of control
@@ -47,14 +47,14 @@ called_listed stack place = by_room _
     by_room true = listed_6
     by_room false = tt
 
-followed_listed : (programs : List (List ℕ × ProgramView)) (levels : Levels) (course : Course) → IsListed (followed programs levels course)
+followed_listed : (skip : Bool) (programs : List (List ℕ × ProgramView)) (levels : Levels) (course : Course) → IsListed (followed skip programs levels course)
 unfolding followed
-followed_listed programs levels (Goes outcome) =
-    bind_listed (next_block levels.here.pc (program_blocks programs levels.here.program) levels.here.repeats outcome) (λ going. Ok (come programs (gone_on levels.here going) levels.returns))
-    (going_listed _ (next_alarms levels.here.pc (program_blocks programs levels.here.program) levels.here.repeats outcome)) (λ going. tt)
-followed_listed programs levels Ends = tt
-followed_listed programs levels (Calls number passes) =
-    bind_listed (called levels.returns levels.here) (λ returns. Ok (entered programs number passes returns)) (called_listed levels.returns levels.here) (λ returns. tt)
+followed_listed skip programs levels (Goes outcome) =
+    bind_listed (next_going skip levels.here.pc (program_blocks programs levels.here.program) levels.here.repeats outcome) (λ going. Ok (come skip programs (gone_on levels.here going) levels.returns))
+    (going_listed _ (going_alarms skip levels.here.pc (program_blocks programs levels.here.program) levels.here.repeats outcome)) (λ going. tt)
+followed_listed skip programs levels Ends = tt
+followed_listed skip programs levels (Calls number passes) =
+    bind_listed (called levels.returns levels.here) (λ returns. Ok (past_end skip programs number passes returns)) (called_listed levels.returns levels.here) (λ returns. tt)
 
 -- ---- one block
 
@@ -65,24 +65,24 @@ bind_ok (Err code) f y is = absurd cc
 module _ (s : Setting) where
   executed_listed : (past : List Executed) (place : Place) (b : ℕ × BlockView) → IsListed (executed s past place b)
   executed_listed past place (line, block) =
-      bind_listed (effect_of (names s) s.slots (parameters_after past) (stands_after s past) line (opener_at s place) block.statement) (λ effect. Ok (record { line = line; block = block; effect = effect }))
-      (effect_listed (names s) (parameters_after past) (opener_at s place) s.slots (stands_after s past) line block.statement) (λ effect. tt)
+      bind_listed (effect_of (equipment s) (found_after s past) line (opener_at s place) block.statement) (λ effect. Ok (record { line = line; block = block; effect = effect }))
+      (effect_listed (equipment s) (found_after s past) line (opener_at s place) block.statement) (λ effect. tt)
 
   -- what holds of the blocks of a run
   pub record Holds (past : List Executed) : Type 0 where
-    pub follow : AllFollow s.slots (stands_at_start s.grant) (items_of past)
+    pub follow : AllFollow s.grant.axes (stands_at_start s.grant) (items_of past)
     pub few : length (items_of past) ≤ length past
 
   executed_is : (past : List Executed) (place : Place) (b : ℕ × BlockView) (done : Executed) → executed s past place b ≡ Ok done
-      → AllFollow s.slots (stands_at_start s.grant) (items_of past) → AllFollow s.slots (stands_at_start s.grant) (items_of (past ++ done ∷ []))
+      → AllFollow s.grant.axes (stands_at_start s.grant) (items_of past) → AllFollow s.grant.axes (stands_at_start s.grant) (items_of (past ++ done ∷ []))
   executed_is past place (line, block) done is all =
-      let (effect, made, last) = bind_ok (effect_of (names s) s.slots (parameters_after past) (stands_after s past) line (opener_at s place) block.statement)
+      let (effect, made, last) = bind_ok (effect_of (equipment s) (found_after s past) line (opener_at s place) block.statement)
       (λ effect. Ok (record { line = line; block = block; effect = effect })) done is in
       let left : Executed = record { line = line; block = block; effect = effect } in
       let same : left ≡ done = cc in
-      subst (λ (xs : List Item). AllFollow s.slots (stands_at_start s.grant) xs) (sym (items_of-push past done))
-      (AllFollow-push s.slots (stands_at_start s.grant) (items_of past) done.effect.item all
-      (λ item has. effect_is (names s) (parameters_after past) (opener_at s place) s.slots (stands_after s past) line block.statement effect made item (ap (λ (e : Executed). e.effect.item) same ∙ has)))
+      subst (λ (xs : List Item). AllFollow s.grant.axes (stands_at_start s.grant) xs) (sym (items_of-push past done))
+      (AllFollow-push s.grant.axes (stands_at_start s.grant) (items_of past) done.effect.item all
+      (λ item has. effect_is (equipment s) (found_after s past) line (opener_at s place) block.statement effect item made (ap (λ (e : Executed). e.effect.item) same ∙ has)))
 
   at_most_one : (o : Option Item) → length (option_to_list o) ≤ 1
   at_most_one None = omega arith
@@ -143,7 +143,7 @@ module _ (s : Setting) where
           }
 
       by_end : (levels : Levels) (b : ℕ × BlockView) (done : Executed) → executed s c.past levels.here b ≡ Ok done → (flag : Bool) → Next more
-          → Comes c.past (length c.past + suc more) (cond flag (finished s c.past done) (led s c.past done (followed s.programs levels done.effect.course) (λ after. run_after s more after)))
+          → Comes c.past (length c.past + suc more) (cond flag (finished s c.past done) (led s c.past done (followed s.skip s.programs levels done.effect.course) (λ after. run_after s more after)))
       by_end levels b done is true next = record {
         past = c.past ++ done ∷ [];
         holds = holds_more c.past levels.here b done holds is;
@@ -151,7 +151,7 @@ module _ (s : Setting) where
         listed = tt;
         all = items_of-push c.past done;
       }
-      by_end levels b done is false next = by_led done (followed s.programs levels done.effect.course) (followed_listed s.programs levels done.effect.course) (holds_more c.past levels.here b done holds is) next
+      by_end levels b done is false next = by_led done (followed s.skip s.programs levels done.effect.course) (followed_listed s.skip s.programs levels done.effect.course) (holds_more c.past levels.here b done holds is) next
 
       by_done : (levels : Levels) (b : ℕ × BlockView) (r : Result Executed ℕ) → executed s c.past levels.here b ≡ r → IsListed r → Next more
           → Comes c.past (length c.past + suc more) (behind s c.past levels b.0 r (λ after. run_after s more after))
@@ -170,11 +170,11 @@ module _ (s : Setting) where
 
   segment_comes : Comes [] 100000 (segment_of s (begun s))
   unfolding segment_of
-  segment_comes = comes 100000 (begun s) (record { follow = follows_none s.slots (stands_at_start s.grant); few = omega arith })
+  segment_comes = comes 100000 (begun s) (record { follow = follows_none s.grant.axes (stands_at_start s.grant); few = omega arith })
 
   -- the motions of a first segment are those of blocks, one after another
-  pub all_follow : AllFollow s.slots (stands_at_start s.grant) (segment_of s (begun s)).items
-  all_follow = let c = segment_comes in subst (λ (xs : List Item). AllFollow s.slots (stands_at_start s.grant) xs) c.all c.holds.follow
+  pub all_follow : AllFollow s.grant.axes (stands_at_start s.grant) (segment_of s (begun s)).items
+  all_follow = let c = segment_comes in subst (λ (xs : List Item). AllFollow s.grant.axes (stands_at_start s.grant) xs) c.all c.holds.follow
 
   pub few_items : length (segment_of s (begun s)).items ≤ 100000
   few_items = let c = segment_comes in subst (λ (xs : List Item). length xs ≤ 100000) c.all (omega (arith, c.holds.few, c.many))
@@ -183,4 +183,4 @@ module _ (s : Setting) where
   end_listed = let c = segment_comes in c.listed
 
   pub items_sound : ((axis : ℕ) → IsInRange (stands_at_start s.grant axis)) → All (λ item. IsSound (motion_of item)) (segment_of s (begun s)).items
-  items_sound starts = sound_motions s.slots (stands_at_start s.grant) (segment_of s (begun s)).items all_follow starts
+  items_sound starts = sound_motions s.grant.axes (stands_at_start s.grant) (segment_of s (begun s)).items all_follow starts

@@ -1,9 +1,14 @@
 -- From one block of a segment to the next.
-use Rattle.std.proofs.Common.{◌≡◌, ◌∙◌, List, [], Option, None, Some, IfNone}
+use Rattle.std.proofs.Common.{◌≡◌, ◌∙◌, ℕ, List, [], Option, None, Some, IfNone, Result, Ok, Err, IfOk, ap, sym}
 use Rattle.sync_types.specs.declared.Item.{Item}
 use Rattle.sync_types.specs.declared.Step.{Step}
-use Rattle.channel_machine.specs.Kept.{Kept, GoesOn, Advances, IsSegment}
-use Rattle.channel_machine.specs.Run.{Setting, Channel, segment_of}
+use Rattle.tape_job.specs.Job.{JobView}
+use Rattle.channel_machine.specs.Kept.{Kept, GoesOn, Advances, IsSegment, IsSettingIn}
+use Rattle.channel_machine.specs.Run.{Setting, Channel, offset_of, segment_of}
+
+pub if_ok : {A E : Type 0} {P Q : A → Type 0} (r : Result A E) → ((x : A) → P x → Q x) → IfOk r P → IfOk r Q
+if_ok (Ok x) each p = each x p
+if_ok (Err e) each p = tt
 
 pub none_holds : {A : Type 0} {P : Type 0} (o : Option A) → o ≡ None → IfNone o P → P
 none_holds None is p = p
@@ -19,3 +24,12 @@ module _ (s : Setting) (c : Channel) (mid after : List Item) (kept later : Kept)
   pub goes_so : (halt : Option Step) → halt ≡ None → Advances s was.next mid halt after later → GoesOn s c [] after later
   goes_so None is told = record { next = told.next; keeps = told.keeps; rest = was.rest ∙ told.rest }
   goes_so (Some step) is told = absurd cc
+
+-- a setting is one of the job for a channel, however far that has come
+pub setting_kept : (job : JobView) (s : Setting) (k later : Kept) → IsSettingIn job s k → later.channel ≡ k.channel → IsSettingIn job s later
+setting_kept job s k later set same = record {
+  programs = set.programs;
+  axes = set.axes;
+  offset = set.offset ∙ ap (λ (n : ℕ). offset_of job n) (sym same);
+  skip = set.skip;
+}

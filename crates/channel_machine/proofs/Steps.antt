@@ -1,12 +1,19 @@
 -- One block of a segment, told by what is kept.
-use Rattle.std.proofs.Common.{◌≡◌, ◌∙◌, ℕ, zero, suc, ◌+◌, ◌-◌, ℤ, Bool, true, false, List, [], ◌∷◌, ◌++◌, append-nil, length, Option, None, Some, Result, Ok, Err, refl, sym, ap, arith}
+use Rattle.std.proofs.Common.{◌≡◌, ◌∙◌, ℕ, zero, suc, ◌+◌, ◌-◌, ℤ, Bool, true, false, List, [], ◌∷◌, ◌++◌, append-nil, length, Option, None, Some, Result, Ok, Err, refl, sym, ap, subst, arith}
 use mathlib.Core.Path.{fun_ext}
 use Rattle.std.proofs.lemmas.List.{append_assoc, length-append}
 use Rattle.std.specs.Option.{option_to_list}
-use Rattle.block_effects.specs.Effects.{Effect, effect_of}
-use Rattle.block_effects.specs.Motions.{stands, left_at, StandsAtEnd}
+use Rattle.axis_moves.specs.Motions.{stands, left_at, StandsAtEnd}
+use Rattle.axis_moves.proofs.Positions.{stands_more}
+use Rattle.block_effects.specs.Courses.{IsLeft, Does, course_view}
+use Rattle.block_effects.specs.Effects.{Course, Effect, group_words, effect_of}
 use Rattle.block_effects.specs.Words.{zeros}
-use Rattle.block_effects.proofs.Positions.{stands_more}
+use Rattle.block_effects.specs.declared.course.Done.{Done}
+use Rattle.block_effects.specs.declared.situation.Situation.{Situation}
+use Rattle.frames.specs.Composition.{IsComposed}
+use Rattle.frames.specs.Maps.{Map}
+use Rattle.g_groups.specs.Modal.{IsAfter}
+use Rattle.g_groups.specs.declared.GWord.{GWord}
 use Rattle.nc_blocks.specs.Statement.{BlockView}
 use Rattle.sync_types.specs.declared.Action.{Action}
 use Rattle.sync_types.specs.declared.Action.TheVariants.{End, Alarm}
@@ -14,9 +21,9 @@ use Rattle.sync_types.specs.declared.Item.{Item}
 use Rattle.sync_types.specs.declared.Step.{Step}
 use Rattle.channel_machine.specs.declared.levels.Levels.{Levels}
 use Rattle.channel_machine.specs.Levels.{followed}
-use Rattle.channel_machine.specs.Run.{Setting, Executed, Channel, SegmentView, names, items_of, header_of, parameters_after, stands_after, line_after, opener_at, block_at, executed, step_at, step_after, alarmed, onto, ends_main, behind, run_after, segment_of}
-use Rattle.channel_machine.specs.Kept.{Kept, Keeps, GoesOn}
-use Rattle.channel_machine.proofs.Pasts.{fold-push, items_of-push}
+use Rattle.channel_machine.specs.Run.{Setting, Executed, Channel, SegmentView, equipment, items_of, header_of, words_after, found_after, stands_after, line_after, opener_at, block_at, executed, step_at, step_after, alarmed, onto, ends_main, behind, run_after, segment_of}
+use Rattle.channel_machine.specs.Kept.{Kept, Keeps, GoesOn, Advances, IsBehind}
+use Rattle.channel_machine.proofs.Pasts.{fold-push, map-push, items_of-push}
 
 -- the segment ends with this step
 abbrev pub ended : List Item → Kept → ℕ → Action → SegmentView
@@ -24,6 +31,15 @@ ended items k line action = record { items = items; step = step_at k.axes k.on (
 
 abbrev pub segment_view : List Item → Step → SegmentView
 segment_view items step = record { items = items; step = step }
+
+-- what was done is the effect of the block
+pub effect_done : (r : Result Effect ℕ) (done : Done) (new : Situation) → Does r done new → (effect : Effect) × (r ≡ Ok effect) × IsLeft effect done new
+effect_done (Ok effect) done new is = (effect, refl, is)
+effect_done (Err code) done new is = absurd is
+
+-- what is kept, in another situation
+abbrev pub in_situation : Kept → Option Levels → Situation → Kept
+in_situation k levels new = record k { levels = levels; parameters = new.parameters; modal = new.modal; frame = new.frame; at = new.at }
 
 module _ (s : Setting) (c : Channel) (k : Kept) (keeps : Keeps s c k) (before : List Item) where
   same_at : stands k.at ≡ stands_after s c.past
@@ -89,55 +105,55 @@ module _ (s : Setting) (c : Channel) (k : Kept) (keeps : Keeps s c k) (before : 
       unfolding run_after
       goes more = rw (there, here) refl
 
-      does : (r : Result Effect ℕ) → effect_of (names s) k.slots k.parameters (stands k.at) line (opener_at s levels.here) block.statement ≡ r
-          → effect_of (names s) s.slots (parameters_after c.past) (stands_after s c.past) line (opener_at s levels.here) block.statement ≡ r
-      does r e = rw (sym keeps.slots, sym keeps.parameters, sym same_at) e
+      abbrev effect_here : Result Effect ℕ
+      effect_here = effect_of (equipment s) (found_after s c.past) line (opener_at s levels.here) block.statement
 
       -- the block alarms
-      pub stops : (more code : ℕ) → k.count + suc more ≡ 100000 → effect_of (names s) k.slots k.parameters (stands k.at) line (opener_at s levels.here) block.statement ≡ Err code
-          → onto before (segment_of s c) ≡ ended before k line (Alarm code)
+      pub stops : (more code : ℕ) → k.count + suc more ≡ 100000 → effect_here ≡ Err code → onto before (segment_of s c) ≡ ended before k line (Alarm code)
       stops more code room e =
           let left : 100000 - length c.past ≡ suc more = omega (arith, room, keeps.count) in
-          ap (onto before) (segment_is (suc more) left ∙ goes more ∙ rw (does (Err code) e) refl) ∙ alarm_is line line code refl
+          ap (onto before) (segment_is (suc more) left ∙ goes more ∙ rw e refl) ∙ alarm_is line line code refl
 
-      module _ (more : ℕ) (room : k.count + suc more ≡ 100000) (effect : Effect)
-          (done : effect_of (names s) k.slots k.parameters (stands k.at) line (opener_at s levels.here) block.statement ≡ Ok effect) where
+      module _ (more : ℕ) (room : k.count + suc more ≡ 100000) (effect : Effect) (done : effect_here ≡ Ok effect) where
         executed_as : segment_of s c ≡ behind s c.past levels line (Ok (record { line = line; block = block; effect = effect })) (λ after. run_after s more after)
-        executed_as =
-            let left : 100000 - length c.past ≡ suc more = omega (arith, room, keeps.count) in
-            segment_is (suc more) left ∙ goes more ∙ rw (does (Ok effect) done) refl
+        executed_as = let left : 100000 - length c.past ≡ suc more = omega (arith, room, keeps.count) in segment_is (suc more) left ∙ goes more ∙ rw done refl
 
         -- where it leads alarms
-        pub leads_not : (code : ℕ) → ends_main levels effect.course ≡ false → followed s.programs levels effect.course ≡ Err code
+        leads_not : (code : ℕ) → ends_main levels effect.course ≡ false → followed s.skip s.programs levels effect.course ≡ Err code
             → onto before (segment_of s c) ≡ ended before k line (Alarm code)
         leads_not code on e = ap (onto before) (executed_as ∙ rw (on, e) refl) ∙ alarm_is line line code refl
 
+        abbrev this : Executed
+        this = record { line = line; block = block; effect = effect }
+
         abbrev past_more : List Executed
-        past_more = c.past ++ record { line = line; block = block; effect = effect } ∷ []
+        past_more = c.past ++ this ∷ []
 
         items_more : items_of past_more ≡ items_of c.past ++ option_to_list effect.item
-        items_more = items_of-push c.past (record { line = line; block = block; effect = effect })
+        items_more = items_of-push c.past this
 
-        module _ (at : List (Option ℤ)) (stand : StandsAtEnd effect.item k.at at) where
-          at_more : (axis : ℕ) → stands at axis ≡ stands_after s past_more axis
+        module _ (mid : Kept) (counted : mid.count ≡ k.count) (channel : mid.channel ≡ k.channel) (slots : mid.slots ≡ k.slots) (axes : mid.axes ≡ k.axes) (on : mid.on ≡ k.on)
+            (stand : StandsAtEnd effect.item k.at mid.at) where
+          at_more : (axis : ℕ) → stands mid.at axis ≡ stands_after s past_more axis
           at_more axis =
-              stands_more (items_of c.past) effect.item s.grant.at k.at at keeps.at stand axis
+              stands_more (items_of c.past) effect.item s.grant.at k.at mid.at keeps.at stand axis
               ∙ ap (λ (items : List Item). left_at items (stands s.grant.at) axis) (sym items_more)
 
           -- the main program ends
-          pub finishes : ends_main levels effect.course ≡ true
-              → onto before (segment_of s c) ≡ segment_view (before ++ option_to_list effect.item) (step_at k.axes k.on (stands at) line End)
+          finishes : ends_main levels effect.course ≡ true
+              → onto before (segment_of s c) ≡ segment_view (before ++ option_to_list effect.item) (step_at mid.axes mid.on (stands mid.at) line End)
           finishes ends =
               ap (onto before) (executed_as ∙ rw ends refl)
               ∙ ap (segment_view (before ++ option_to_list effect.item))
-              (sym (ap (λ (axes : List Bool). step_at axes k.on (stands at) line End) keeps.axes ∙ ap (λ (on : List Bool). step_at s.grant.axes on (stands at) line End) keeps.on
+              (sym (ap (λ (axes : List Bool). step_at axes mid.on (stands mid.at) line End) (axes ∙ keeps.axes)
+              ∙ ap (λ (on : List Bool). step_at s.grant.axes on (stands mid.at) line End) (on ∙ keeps.on)
               ∙ ap (λ (f : ℕ → ℤ). step_at s.grant.axes s.grant.on f line End) (fun_ext at_more)))
 
           abbrev after : Option Levels → Channel
           after next = record { past = past_more; levels = next }
 
           longer : length past_more ≡ length c.past + 1
-          longer = length-append c.past (record { line = line; block = block; effect = effect } ∷ [])
+          longer = length-append c.past (this ∷ [])
 
           there_after : (next : Option Levels) → segment_of s (after next) ≡ run_after s more (after next)
           unfolding segment_of
@@ -146,21 +162,57 @@ module _ (s : Setting) (c : Channel) (k : Kept) (keeps : Keeps s c k) (before : 
           both : (segment : SegmentView) → onto before (onto (option_to_list effect.item) segment) ≡ onto (before ++ option_to_list effect.item) segment
           both segment = ap (λ (items : List Item). segment_view items segment.step) (sym (append_assoc before (option_to_list effect.item) segment.items))
 
-          -- control goes on
-          pub leads : (next : Option Levels) → ends_main levels effect.course ≡ false → followed s.programs levels effect.course ≡ Ok next
-              → GoesOn s c before (before ++ option_to_list effect.item)
-              (record { levels = next; count = k.count + 1; last = line; parameters = effect.parameters; at = at; slots = k.slots; axes = k.axes; on = k.on })
-          leads next on led = record {
-            next = after next;
-            keeps = record {
+          module _ (parameters : effect.parameters ≡ mid.parameters) (modal : IsAfter (words_after c.past ++ group_words block.statement ∷ []) mid.modal) (frame : IsComposed effect.chain mid.frame) where
+            abbrev kept_after : Option Levels → Kept
+            kept_after next = record mid { levels = next; count = mid.count + 1; last = line }
+
+            keeps_after : (next : Option Levels) → Keeps s (after next) (kept_after next)
+            keeps_after next = record {
               levels = refl;
-              count = ap (λ (n : ℕ). n + 1) keeps.count ∙ sym (length-append c.past (record { line = line; block = block; effect = effect } ∷ []));
-              last = sym (fold-push (λ (_ : ℕ) (e : Executed). e.line) (header_of s) c.past (record { line = line; block = block; effect = effect }));
-              parameters = sym (fold-push (λ (_ : List ℤ) (e : Executed). e.effect.parameters) zeros c.past (record { line = line; block = block; effect = effect }));
+              count = ap (λ (n : ℕ). n + 1) (counted ∙ keeps.count) ∙ sym longer;
+              last = sym (fold-push (λ (_ : ℕ) (e : Executed). e.line) (header_of s) c.past this);
+              parameters = sym parameters ∙ sym (fold-push (λ (_ : List ℤ) (e : Executed). e.effect.parameters) zeros c.past this);
+              modal = subst (λ (words : List (List GWord)). IsAfter words mid.modal) (sym (map-push (λ (e : Executed). group_words e.block.statement) c.past this)) modal;
+              frame = subst (λ (chain : List Map). IsComposed chain mid.frame) (sym (fold-push (λ (_ : List Map) (e : Executed). e.effect.chain) [] c.past this)) frame;
               at = at_more;
-              slots = keeps.slots;
-              axes = keeps.axes;
-              on = keeps.on;
-            };
-            rest = ap (onto before) (executed_as ∙ rw (on, led) refl) ∙ both (run_after s more (after next)) ∙ ap (onto (before ++ option_to_list effect.item)) (sym (there_after next));
-          }
+              slots = slots ∙ keeps.slots;
+              axes = axes ∙ keeps.axes;
+              on = on ∙ keeps.on;
+            }
+
+            -- control goes on
+            leads : (next : Option Levels) → ends_main levels effect.course ≡ false → followed s.skip s.programs levels effect.course ≡ Ok next
+                → GoesOn s c before (before ++ option_to_list effect.item) (kept_after next)
+            leads next on led = record {
+              next = after next;
+              keeps = keeps_after next;
+              rest = ap (onto before) (executed_as ∙ rw (on, led) refl) ∙ both (run_after s more (after next)) ∙ ap (onto (before ++ option_to_list effect.item)) (sym (there_after next));
+            }
+
+            led_so : (r : Result (Option Levels) ℕ) → ends_main levels effect.course ≡ false → followed s.skip s.programs levels effect.course ≡ r
+                → (halt : Option Step) (items : List Item) (new : Kept) → IsBehind mid k.at before effect.item line false r halt items new → Advances s c before halt items new
+            led_so (Err code) goes e halt items new is =
+                rw (is.0, is.1) (leads_not code goes e ∙ ap (segment_view before) (sym (ap (λ (row : List Bool). step_at row mid.on (stands k.at) line (Alarm code)) axes
+                ∙ ap (λ (row : List Bool). step_at k.axes row (stands k.at) line (Alarm code)) on)))
+            led_so (Ok next) goes e halt items new is = rw (is.0, is.1, is.2) (leads next goes e)
+
+            -- what comes behind the block
+            behind_so : (flag : Bool) → ends_main levels effect.course ≡ flag
+                → (halt : Option Step) (items : List Item) (new : Kept) → IsBehind mid k.at before effect.item line flag (followed s.skip s.programs levels effect.course) halt items new
+                → Advances s c before halt items new
+            behind_so true ends halt items new is = rw (is.0, is.1) (finishes ends)
+            behind_so false goes halt items new is = led_so (followed s.skip s.programs levels effect.course) goes refl halt items new is
+
+      -- what comes behind a block that has done this
+      pub performed : (more : ℕ) → k.count + suc more ≡ 100000 → (done : Done) (new : Situation) → Does effect_here done new
+          → IsAfter (words_after c.past ++ group_words block.statement ∷ []) new.modal → StandsAtEnd done.item k.at new.at
+          → (next : Option Levels) (halt : Option Step) (items : List Item) (kept : Kept)
+          → IsBehind (in_situation k next new) k.at before done.item line (ends_main levels (course_view done.course)) (followed s.skip s.programs levels (course_view done.course)) halt items kept
+          → Advances s c before halt items kept
+      performed more room done new does modal stand next halt items kept is =
+          let (effect, made, left) = effect_done effect_here done new does in
+          let mid = in_situation k next new in
+          behind_so more room effect made mid refl refl refl refl refl (subst (λ (o : Option Item). StandsAtEnd o k.at new.at) (sym left.item) stand)
+          left.parameters modal left.frame (ends_main levels effect.course) refl halt items kept
+          (subst (λ (o : Option Item). IsBehind mid k.at before o line (ends_main levels effect.course) (followed s.skip s.programs levels effect.course) halt items kept) (sym left.item)
+          (subst (λ (course : Course). IsBehind mid k.at before done.item line (ends_main levels course) (followed s.skip s.programs levels course) halt items kept) (sym left.course) is))

@@ -1,22 +1,45 @@
 -- What is kept of a channel between two blocks.
-use Rattle.std.specs.Prelude.{◌≡◌, ℕ, ℤ, Bool, List, length, Option, Some, None}
-use Rattle.block_effects.specs.Motions.{stands}
+use Rattle.std.specs.Prelude.{◌≡◌, ℕ, ◌+◌, ℤ, Bool, true, false, List, ◌++◌, length, slice_get, Option, Some, None, Result, Ok, Err}
+use Rattle.std.specs.Option.{option_to_list}
+use Rattle.axis_moves.specs.Motions.{stands}
+use Rattle.frames.specs.Composition.{IsComposed}
+use Rattle.frames.specs.declared.Frame.{Frame}
+use Rattle.g_groups.specs.Modal.{IsAfter}
+use Rattle.nc_blocks.specs.Indices.{StatementFits}
+use Rattle.nc_blocks.specs.Statement.{BlockView, Statement}
+use Rattle.nc_control_flow.specs.Parts.{statement_at}
+use Rattle.nc_control_flow.specs.Structures.{opening}
+use Rattle.nc_subprograms.specs.declared.Place.{Place}
+use Rattle.sync_types.specs.declared.Action.{Action}
+use Rattle.sync_types.specs.declared.Action.TheVariants.{End, Alarm}
 use Rattle.sync_types.specs.declared.Item.{Item}
 use Rattle.sync_types.specs.declared.Step.{Step}
 use Rattle.channel_machine.specs.declared.levels.Levels.{Levels}
 use Rattle.channel_machine.specs.declared.local.State.{State}
-use Rattle.channel_machine.specs.Run.{Setting, Channel, SegmentView, parameters_after, stands_after, line_after, onto, segment_of}
+use Rattle.tape_job.specs.Job.{JobView, ProgramView}
+use Rattle.channel_machine.specs.Levels.{lines_of, program_blocks}
+use Rattle.channel_machine.specs.Run.{Setting, Channel, SegmentView, offset_of, parameters_after, chain_after, words_after, stands_after, line_after, onto, segment_of, step_at}
 
--- where control is; how many blocks were executed, and the line of the last, or of the header; the parameters; where the axes stand; and what does not change: the axes in the slots, the owned axes, and the zones that are on
+-- where control is; how many blocks were executed, and the line of the last, or of the header; the parameters, the words of groups and the frame that hold; where the axes stand; and what does not change: the channel, the axes in its slots, the axes that it owns, and the zones that are on
 pub record Kept : Type 0 where
   pub levels : Option Levels
   pub count : ℕ
   pub last : ℕ
   pub parameters : List ℤ
+  pub modal : List ℕ
+  pub frame : Frame
   pub at : List (Option ℤ)
+  pub channel : ℕ
   pub slots : List (Option ℕ)
   pub axes : List Bool
   pub on : List Bool
+
+-- the setting is one of this job, for the channel of which this is kept
+pub record IsSettingIn (job : JobView) (setting : Setting) (kept : Kept) : Type 0 where
+  pub programs : setting.programs ≡ job.programs
+  pub axes : setting.axes ≡ job.axes
+  pub offset : setting.offset ≡ offset_of job kept.channel
+  pub skip : setting.skip ≡ job.skip
 
 -- this is kept of a channel
 pub record Keeps (setting : Setting) (channel : Channel) (kept : Kept) : Type 0 where
@@ -24,6 +47,8 @@ pub record Keeps (setting : Setting) (channel : Channel) (kept : Kept) : Type 0 
   pub count : kept.count ≡ length channel.past
   pub last : kept.last ≡ line_after setting channel.past
   pub parameters : kept.parameters ≡ parameters_after channel.past
+  pub modal : IsAfter (words_after channel.past) kept.modal
+  pub frame : IsComposed (chain_after channel.past) kept.frame
   pub at : (axis : ℕ) → stands kept.at axis ≡ stands_after setting channel.past axis
   pub slots : kept.slots ≡ setting.slots
   pub axes : kept.axes ≡ setting.grant.axes
@@ -50,9 +75,36 @@ kept_by state = record {
   levels = state.levels;
   count = state.count;
   last = state.last;
-  parameters = state.parameters;
-  at = state.at;
-  slots = state.slots;
-  axes = state.axes;
+  parameters = state.situation.parameters;
+  modal = state.situation.modal;
+  frame = state.situation.frame;
+  at = state.situation.at;
+  channel = state.channel;
+  slots = state.own.slots;
+  axes = state.own.owned;
   on = state.on;
 }
+
+-- ---- answers
+
+-- at a place stands this block on this line, with this beginning of the structure round it; both name parameters that there are
+pub record IsThere (programs : List (List ℕ × ProgramView)) (here : Place) (line : ℕ) (block : BlockView) (opener : Statement) : Type 0 where
+  pub found : slice_get (lines_of programs here.program) here.pc ≡ Some (line, block)
+  pub opens : opener ≡ statement_at (opening here.pc (program_blocks programs here.program)) (program_blocks programs here.program)
+  pub fits : StatementFits block.statement
+  pub opener_fits : StatementFits opener
+
+-- the segment ends on this line, where the axes stand so
+abbrev pub Stops : Kept → List (Option ℤ) → ℕ → Action → Option Step → Type 0
+Stops kept at line action halt = halt ≡ Some (step_at kept.axes kept.on (stands at) line action)
+
+-- where a block on this line with this motion leads: an alarm of that stops the channel where it stood before the block
+abbrev pub IsLed : Kept → List (Option ℤ) → List Item → Option Item → ℕ → Result (Option Levels) ℕ → Option Step → List Item → Kept → Type 0
+IsLed old before items item line (Err code) halt after new = Stops old before line (Alarm code) halt × (after ≡ items)
+IsLed old before items item line (Ok levels) halt after new =
+    (halt ≡ None) × (after ≡ items ++ option_to_list item) × (new ≡ record old { levels = levels; count = old.count + 1; last = line })
+
+-- behind a block: it ends the main program, or leads on
+abbrev pub IsBehind : Kept → List (Option ℤ) → List Item → Option Item → ℕ → Bool → Result (Option Levels) ℕ → Option Step → List Item → Kept → Type 0
+IsBehind old before items item line true led halt after new = Stops old old.at line End halt × (after ≡ items ++ option_to_list item)
+IsBehind old before items item line false led halt after new = IsLed old before items item line led halt after new

@@ -1,5 +1,5 @@
 -- Where control stands on the levels of calls.
-use Rattle.std.specs.Prelude.{◌≡◌, ℕ, zero, suc, ◌-◌, ◌==◌, nat_lt, true, false, Bool, if◌then◌else◌, List, [], ◌∷◌, length, map, slice_get, All, Option, Some, None, Result, Ok, Err}
+use Rattle.std.specs.Prelude.{◌≡◌, ℕ, zero, suc, nat_lt, true, false, Bool, if◌then◌else◌, List, [], ◌∷◌, length, map, slice_get, All, Option, Some, None, Result, Ok, Err}
 use Rattle.std.specs.Option.{option_map_or}
 use Rattle.block_effects.specs.Effects.{Course, Goes, Ends, Calls}
 use Rattle.nc_blocks.specs.declared.blocks.Block.{Block}
@@ -7,7 +7,7 @@ use Rattle.nc_blocks.specs.Statement.{BlockView}
 use Rattle.nc_control_flow.specs.declared.flow.Next.{Next}
 use Rattle.nc_control_flow.specs.declared.flow.Next.TheVariants.{At, Past}
 use Rattle.nc_control_flow.specs.Moves.{OutcomeView}
-use Rattle.nc_control_flow.specs.Flow.{next_block}
+use Rattle.nc_control_flow.specs.Counted.{counted, counts_at, has_counting, first_going, next_going, CountRepeats}
 use Rattle.nc_control_flow.specs.Nested.{blocks_of}
 use Rattle.nc_control_flow.specs.Repetitions.{Going, behind_block}
 use Rattle.nc_expressions.specs.Value.{◌>>=◌}
@@ -23,17 +23,17 @@ lines_of programs number = option_map_or (λ p. p.1.blocks) (slice_get programs 
 abbrev pub program_blocks : List (List ℕ × ProgramView) → ℕ → List BlockView
 program_blocks programs number = blocks_of (lines_of programs number)
 
--- a program at its first block, with so many passes still to begin behind this one
-abbrev pub first_place : ℕ → ℕ → Place
-first_place number passes = record { program = number; pc = 0; passes = passes; repeats = [] }
-
 -- a level goes on there
 abbrev pub gone_on : Place → Going → Place
 gone_on place going = record place { pc = going.place; repeats = going.running }
 
+-- a program at its first block that counts, with so many passes still to begin behind this one
+abbrev pub first_place : Bool → List (List ℕ × ProgramView) → ℕ → ℕ → Place
+first_place skip programs number passes = gone_on (record { program = number; pc = 0; passes = passes; repeats = [] }) (first_going skip (program_blocks programs number))
+
 -- a call is done, and control goes on behind it
-abbrev pub behind_call : Place → Place
-behind_call place = gone_on place (behind_block place.pc place.repeats)
+abbrev pub behind_call : Bool → List (List ℕ × ProgramView) → Place → Place
+behind_call skip programs place = gone_on place (counted skip (program_blocks programs place.program) (behind_block place.pc place.repeats))
 
 -- whether a block stands there
 abbrev pub has_block : List (List ℕ × ProgramView) → Place → Bool
@@ -43,43 +43,52 @@ has_block programs place = nat_lt place.pc (length (lines_of programs place.prog
 abbrev pub arrived : List (List ℕ × ProgramView) → Place → List Place → Option Levels → Option Levels
 arrived programs here returns past = if has_block programs here then Some (record { here = here; returns = returns }) else past
 
+-- the next of so many passes that a program has still to begin; one of a program in which no block counts is done at once
+abbrev pub next_pass : Bool → List (List ℕ × ProgramView) → ℕ → ℕ → Option Place
+next_pass skip programs number zero = None
+next_pass skip programs number (suc passes) = if has_counting skip (program_blocks programs number) then Some (first_place skip programs number passes) else None
+
+-- at the next pass, if there is one
+abbrev pub begun_or : Option Place → List Place → Option Levels → Option Levels
+begun_or (Some here) returns past = Some (record { here = here; returns = returns })
+begun_or None returns past = past
+
 -- where control is past the end of a program with so many passes still to begin: at the next pass; or else behind the call on the level below; and past the end of the main program nowhere
-abbrev pub past_end : List (List ℕ × ProgramView) → ℕ → ℕ → List Place → Option Levels
-past_end programs number zero [] = None
-past_end programs number (suc passes) [] = Some (record { here = first_place number passes; returns = [] })
-past_end programs number zero (place ∷ places) = arrived programs (behind_call place) places (past_end programs place.program place.passes places)
-past_end programs number (suc passes) (place ∷ places) = Some (record { here = first_place number passes; returns = place ∷ places })
+abbrev pub past_end : Bool → List (List ℕ × ProgramView) → ℕ → ℕ → List Place → Option Levels
+past_end skip programs number passes [] = begun_or (next_pass skip programs number passes) [] None
+past_end skip programs number passes (place ∷ places) =
+    begun_or (next_pass skip programs number passes) (place ∷ places)
+    (arrived programs (behind_call skip programs place) places (past_end skip programs place.program place.passes places))
 
 -- where control is when the level that runs has come so far
-abbrev pub come : List (List ℕ × ProgramView) → Place → List Place → Option Levels
-come programs here returns = arrived programs here returns (past_end programs here.program here.passes returns)
-
--- a program is called, so many times; one without a block is done at once
-abbrev pub entered : List (List ℕ × ProgramView) → ℕ → ℕ → List Place → Option Levels
-entered programs number passes returns =
-    if length (lines_of programs number) == 0 then past_end programs number 0 returns
-    else Some (record { here = first_place number (passes - 1); returns = returns })
+abbrev pub come : Bool → List (List ℕ × ProgramView) → Place → List Place → Option Levels
+come skip programs here returns = arrived programs here returns (past_end skip programs here.program here.passes returns)
 
 -- where control is behind a block that goes on in its program by this outcome; alarms 5 and 32
-abbrev pub going_on : List (List ℕ × ProgramView) → Levels → OutcomeView → Result (Option Levels) ℕ
-going_on programs levels outcome =
-    next_block levels.here.pc (program_blocks programs levels.here.program) levels.here.repeats outcome >>= λ going.
-    Ok (come programs (gone_on levels.here going) levels.returns)
+abbrev pub going_on : Bool → List (List ℕ × ProgramView) → Levels → OutcomeView → Result (Option Levels) ℕ
+going_on skip programs levels outcome =
+    next_going skip levels.here.pc (program_blocks programs levels.here.program) levels.here.repeats outcome >>= λ going.
+    Ok (come skip programs (gone_on levels.here going) levels.returns)
 
--- where control is behind a call; alarm 6
-abbrev pub calling : List (List ℕ × ProgramView) → Levels → ℕ → ℕ → Result (Option Levels) ℕ
-calling programs levels number passes = called levels.returns levels.here >>= λ returns. Ok (entered programs number passes returns)
+-- where control is behind a call of a program so many times: all its passes are still to begin; alarm 6
+abbrev pub calling : Bool → List (List ℕ × ProgramView) → Levels → ℕ → ℕ → Result (Option Levels) ℕ
+calling skip programs levels number passes = called levels.returns levels.here >>= λ returns. Ok (past_end skip programs number passes returns)
 
--- where control is behind a block with this course: by its outcome in its program, past the end of its program, or in the program that it calls
-unfoldable pub followed : List (List ℕ × ProgramView) → Levels → Course → Result (Option Levels) ℕ
-followed programs levels (Goes outcome) = going_on programs levels outcome
-followed programs levels Ends = Ok (past_end programs levels.here.program levels.here.passes levels.returns)
-followed programs levels (Calls number passes) = calling programs levels number passes
+-- where control is behind a block with this course: by its outcome in its program, past the end of its program, or in the program that it calls; whether blocks with `/` are passed over comes first
+unfoldable pub followed : Bool → List (List ℕ × ProgramView) → Levels → Course → Result (Option Levels) ℕ
+followed skip programs levels (Goes outcome) = going_on skip programs levels outcome
+followed skip programs levels Ends = Ok (past_end skip programs levels.here.program levels.here.passes levels.returns)
+followed skip programs levels (Calls number passes) = calling skip programs levels number passes
 
--- on each level a block stands
-pub record LevelsFit (programs : List (List ℕ × ProgramView)) (levels : Levels) : Type 0 where
-  pub here : has_block programs levels.here ≡ true
-  pub returns : All (λ place. has_block programs place ≡ true) levels.returns
+-- a level stands at a block that counts
+pub record Stands (skip : Bool) (programs : List (List ℕ × ProgramView)) (place : Place) : Type 0 where
+  pub counts : counts_at skip (program_blocks programs place.program) place.pc ≡ true
+  pub repeat : CountRepeats skip (program_blocks programs place.program) place.repeats
+
+-- each level does
+pub record LevelsFit (skip : Bool) (programs : List (List ℕ × ProgramView)) (levels : Levels) : Type 0 where
+  pub here : Stands skip programs levels.here
+  pub returns : All (Stands skip programs) levels.returns
 
 -- ---- answers
 
@@ -87,6 +96,11 @@ pub record LevelsFit (programs : List (List ℕ × ProgramView)) (levels : Level
 abbrev pub IsFlowOf : List (List ℕ × ProgramView) → ℕ → Option (List (ℕ × Block)) → Type 0
 IsFlowOf programs number (Some flow) = lines_of programs number ≡ map block_entry flow
 IsFlowOf programs number None = lines_of programs number ≡ []
+
+-- the program at its first block that counts, or none
+abbrev pub IsFirstPlace : Bool → List (List ℕ × ProgramView) → ℕ → ℕ → Option Place → Type 0
+IsFirstPlace skip programs number passes (Some place) = (has_counting skip (program_blocks programs number) ≡ true) × (place ≡ first_place skip programs number passes)
+IsFirstPlace skip programs number passes None = has_counting skip (program_blocks programs number) ≡ false
 
 -- the level stands at the next block, or there is none
 abbrev pub Lands : Next → Place → Bool → Place → Type 0

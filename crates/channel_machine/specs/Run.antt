@@ -1,11 +1,14 @@
 -- A segment of a channel's run, told over the list of the blocks that the channel has executed.
-use Rattle.std.specs.Prelude.{⊤, ℕ, zero, suc, ◌-◌, ◌==◌, ◌&&◌, ℤ, Bool, false, if◌then◌else◌, List, [], ◌∷◌, ◌++◌, length, map, fold, filter_map, find, slice_get, Option, None, Some, option_map, option_and_then, Result, Ok, Err}
+use Rattle.std.specs.Prelude.{⊤, ℕ, zero, suc, ◌+◌, ◌-◌, ◌/◌, ◌%◌, ◌==◌, ◌&&◌, nat_lt, ℤ, pos, Bool, false, position, if◌then◌else◌, List, [], ◌∷◌, ◌++◌, length, map, fold, filter_map, find, slice_get, Option, None, Some, option_map, option_and_then, Result, Ok, Err}
 use Rattle.std.specs.List.{range_with_len}
 use Rattle.std.specs.Option.{option_map_or, option_to_list}
+use Rattle.std.specs.Str.{bytes_eq}
 use Rattle.axis_sets.specs.Sets.{has}
-use Rattle.block_effects.specs.Effects.{Course, Goes, Ends, Calls, Effect, effect_of}
-use Rattle.block_effects.specs.Motions.{left_at, stands}
-use Rattle.block_effects.specs.Words.{zeros}
+use Rattle.axis_moves.specs.Motions.{left_at, stands}
+use Rattle.block_effects.specs.Effects.{Course, Goes, Ends, Calls, Effect, Found, group_words, effect_of}
+use Rattle.block_effects.specs.Words.{Equipment, zeros}
+use Rattle.frames.specs.Maps.{Map}
+use Rattle.g_groups.specs.declared.GWord.{GWord}
 use Rattle.nc_blocks.specs.Statement.{BlockView, Statement}
 use Rattle.nc_control_flow.specs.Parts.{statement_at}
 use Rattle.nc_control_flow.specs.Structures.{opening}
@@ -18,16 +21,22 @@ use Rattle.sync_types.specs.declared.Grant.{Grant}
 use Rattle.sync_types.specs.declared.Item.{Item}
 use Rattle.sync_types.specs.declared.Step.{Step}
 use Rattle.tape_job.specs.Job.{JobView, ProgramView}
+use Rattle.tape_job.specs.Rules.{axis_at}
+use Rattle.tape_job.specs.declared.job.AxisLine.{AxisLine}
 use Rattle.tape_job.specs.declared.job.GeoLine.{GeoLine}
+use Rattle.tape_job.specs.declared.job.OffsetLine.{OffsetLine}
 use Rattle.channel_machine.specs.declared.levels.Levels.{Levels}
 use Rattle.channel_machine.specs.Levels.{lines_of, program_blocks, first_place, come, followed}
 
 -- ---- what a channel runs by
 
--- the programs of the job, the axes in the channel's slots X, Y and Z, and what it was granted at its start
+-- the programs and the AXIS lines of the job, the axes in the channel's slots X, Y and Z, the settable offset of each slot under each word of group 8, whether blocks with '/' are passed over, and what the channel was granted at its start
 pub record Setting : Type 0 where
   pub programs : List (List ℕ × ProgramView)
+  pub axes : List AxisLine
   pub slots : List (Option ℕ)
+  pub offset : ℕ → ℕ → ℤ
+  pub skip : Bool
   pub grant : Grant
 
 -- the GEO line of a slot of a channel: 0, 1, 2 are the slots X, Y, Z
@@ -38,17 +47,50 @@ slot_line job channel slot = find (λ g. g.channel == channel && g.slot == slot)
 abbrev pub slot_axis : JobView → ℕ → ℕ → Option ℕ
 slot_axis job channel slot = option_map (λ g. g.axis) (slot_line job channel slot)
 
+-- the OFFSET line of a channel for a G word and a slot
+unfoldable pub offset_line : JobView → ℕ → ℕ → ℕ → Option OffsetLine
+offset_line job channel word slot = find (λ l. l.channel == channel && (l.g == word && l.slot == slot)) job.offsets
+
+-- the settable offset; 0 where no line gives one
+abbrev pub offset_of : JobView → ℕ → ℕ → ℕ → ℤ
+offset_of job channel word slot = option_map_or (λ l. l.by) (offset_line job channel word slot) (pos 0)
+
 -- what a channel of a job runs by
 abbrev pub setting_of : JobView → ℕ → Grant → Setting
 setting_of job channel grant = record {
   programs = job.programs;
+  axes = job.axes;
   slots = slot_axis job channel 0 ∷ slot_axis job channel 1 ∷ slot_axis job channel 2 ∷ [];
+  offset = offset_of job channel;
+  skip = job.skip;
   grant = grant;
 }
 
 -- the names of the programs, in the order of their numbers
 abbrev pub names : Setting → List (List ℕ)
 names setting = map (λ p. p.0) setting.programs
+
+-- a number from 1 to 99 in digits; 48 is '0'
+abbrev pub digits_of : ℕ → List ℕ
+digits_of number = if nat_lt number 10 then (48 + number) ∷ [] else (48 + number / 10) ∷ (48 + number % 10) ∷ []
+
+-- the name of an axis: its letter and its number
+abbrev pub axis_name : AxisLine → List ℕ
+axis_name line = line.letter ∷ digits_of line.number
+
+-- the axis with this name
+unfoldable pub axis_named : List AxisLine → List ℕ → Option ℕ
+axis_named axes name = option_and_then axis_at (position (λ line. bytes_eq name (axis_name line)) axes)
+
+-- what the blocks of the channel find in the job and in the channel
+abbrev pub equipment : Setting → Equipment
+equipment setting = record {
+  names = names setting;
+  axis_named = axis_named setting.axes;
+  offset = setting.offset;
+  slots = setting.slots;
+  owned = setting.grant.axes;
+}
 
 -- ---- executed blocks
 
@@ -66,6 +108,13 @@ pub record Channel : Type 0 where
 -- what the executed blocks leave: the parameters of the last, or the zeros of the start; and their motions in order
 abbrev pub parameters_after : List Executed → List ℤ
 parameters_after past = fold (λ _ e. e.effect.parameters) zeros past
+
+-- the frame that the last leaves, or the empty chain of the start; and the words of groups of each
+abbrev pub chain_after : List Executed → List Map
+chain_after past = fold (λ _ e. e.effect.chain) [] past
+
+abbrev pub words_after : List Executed → List (List GWord)
+words_after past = map (λ e. group_words e.block.statement) past
 
 abbrev pub items_of : List Executed → List Item
 items_of past = filter_map (λ e. e.effect.item) past
@@ -96,10 +145,19 @@ block_at setting place = slice_get (lines_of setting.programs place.program) pla
 abbrev pub opener_at : Setting → Place → Statement
 opener_at setting place = statement_at (opening place.pc (program_blocks setting.programs place.program)) (program_blocks setting.programs place.program)
 
+-- what a block finds after these blocks
+abbrev pub found_after : Setting → List Executed → Found
+found_after setting past = record {
+  parameters = parameters_after past;
+  words = words_after past;
+  chain = chain_after past;
+  at = stands_after setting past;
+}
+
 -- a block with its line, executed after these blocks
 abbrev pub executed : Setting → List Executed → Place → ℕ × BlockView → Result Executed ℕ
 executed setting past place (line, block) =
-    effect_of (names setting) setting.slots (parameters_after past) (stands_after setting past) line (opener_at setting place) block.statement >>= λ effect.
+    effect_of (equipment setting) (found_after setting past) line (opener_at setting place) block.statement >>= λ effect.
     Ok (record { line = line; block = block; effect = effect })
 
 -- ---- the segment
@@ -158,7 +216,7 @@ abbrev pub behind : Setting → List Executed → Levels → ℕ → Result Exec
 behind setting past levels line (Err code) go = alarmed setting past line code
 behind setting past levels line (Ok done) go =
     if ends_main levels done.effect.course then finished setting past done
-    else led setting past done (followed setting.programs levels done.effect.course) go
+    else led setting past done (followed setting.skip setting.programs levels done.effect.course) go
 
 -- the segment of a channel that may still execute so many blocks; one more is alarm 8
 unfoldable pub run_after : Setting → ℕ → Channel → SegmentView
@@ -171,13 +229,13 @@ run_after setting (suc more) channel =
 unfoldable pub segment_of : Setting → Channel → SegmentView
 segment_of setting channel = run_after setting (100000 - length channel.past) channel
 
--- a main program at its first block
-abbrev pub begin : List (List ℕ × ProgramView) → ℕ → Option Levels
-begin programs number = come programs (first_place number 0) []
+-- a main program at its first block that counts
+abbrev pub begin : Bool → List (List ℕ × ProgramView) → ℕ → Option Levels
+begin skip programs number = come skip programs (first_place skip programs number 0) []
 
 -- a channel at its start
 abbrev pub begun : Setting → Channel
-begun setting = record { past = []; levels = option_and_then (begin setting.programs) setting.grant.program }
+begun setting = record { past = []; levels = option_and_then (begin setting.skip setting.programs) setting.grant.program }
 
 -- the alarm of a step, where it is one, is in the table of alarms
 abbrev pub IsListedAction : Action → Type 0

@@ -2,17 +2,17 @@
 
 ghost use Rattle.std.specs.Prelude.{◌≡◌, ◌≤◌, ℕ, All, List, Some, length, slice_get, take};
 ghost use Rattle.path_geometry.specs.Motions.{IsInRange, IsSound};
-ghost use Rattle.block_effects.specs.Motions.{IsMotionOf, left_at};
+ghost use Rattle.axis_moves.specs.Motions.{IsMotionOf, left_at};
 ghost use Rattle.sync_types.specs.Items.{motion_of};
 ghost use Rattle.sync_types.specs.declared.Item.{Item};
 ghost use Rattle.channel_machine.specs.Run.{Setting, begun, segment_of, stands_at_start, IsListedAction};
 
-/// A law: each motion of a channel's first segment is one straight line of axes in the channel's slots, each once, from
+/// A law: each motion of a channel's first segment is one straight line of axes that the channel owns, each once, from
 /// where the motions before it left it to an end in range.
 pub fn motions_follow_one_another()
     ensures { (s : Setting) (place : ℕ) (item : Item)
         → slice_get (segment_of s (begun s)).items place ≡ Some item
-        → IsMotionOf s.slots (left_at (take place (segment_of s (begun s)).items) (stands_at_start s.grant)) (motion_of item) }
+        → IsMotionOf s.grant.axes (left_at (take place (segment_of s (begun s)).items) (stands_at_start s.grant)) (motion_of item) }
 {}
 
 /// A law: the motions of a channel's first segment are sound, where its axes start in range.

@@ -6,6 +6,7 @@ mod laws;
 mod levels;
 mod local;
 mod run;
+mod surroundings;
 
 pub use laws::{alarms_are_listed, motions_are_few, motions_are_sound, motions_follow_one_another};
 pub use local::Local;

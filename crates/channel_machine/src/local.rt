@@ -2,13 +2,15 @@
 
 ghost use Rattle.std.specs.Prelude.{◌≡◌, ◌==◌, ◌&&◌, ℕ, find, option_and_then, slice_get, IfOk, IfSome};
 ghost use Rattle.std.specs.Option.{option_map_or};
-ghost use Rattle.channel_machine.specs.Kept.{Keeps, kept_by};
+ghost use Rattle.channel_machine.specs.Kept.{IsSettingIn, Keeps, kept_by};
 ghost use Rattle.channel_machine.specs.Levels.{LevelsFit};
 ghost use Rattle.channel_machine.specs.Run as model;
 
 use crate::levels::{Levels, begin};
-use axis_sets::{AxisId, AxisSet, ChannelId, Positions, ZoneSet};
-use block_effects::Parameters;
+use axis_sets::{AxisId, ChannelId, ZoneSet};
+use block_effects::{ChannelAxes, Parameters, Situation};
+use frames::Frame;
+use g_groups::Modal;
 use nc_faults::NoMemory;
 use std::alloc::{AllocError, Global};
 use std::marker::Model;
@@ -24,14 +26,12 @@ pub(crate) struct State {
     pub count: u32,
     /// The line of the last, or of the header of the main program.
     pub last: u32,
-    /// The parameters.
-    pub parameters: Parameters,
-    /// Where the axes stand.
-    pub at: Positions,
-    /// The axes in the slots X, Y and Z.
-    pub slots: [Option<AxisId>; 3],
-    /// The axes that the channel owns.
-    pub axes: AxisSet,
+    /// What its blocks find: the parameters, the words of groups and the frame that hold, and where the axes stand.
+    pub situation: Situation,
+    /// The axes in its slots, and those that it owns.
+    pub own: ChannelAxes,
+    /// The channel.
+    pub channel: ChannelId,
     /// The zones that it holds and that are on.
     pub on: ZoneSet,
 }
@@ -46,22 +46,32 @@ fn copied_some(levels: &Option<Levels>) -> Option<Levels>
     }
 }
 
+/// The same situation once more.
+fn copied_situation(situation: &Situation) -> Result<Situation, AllocError>
+    ensures { IfOk result (λ copy. copy ≡ situation.now) }
+{
+    let parameters = situation.parameters.copied()?;
+    Ok(Situation {
+        parameters,
+        modal: situation.modal,
+        frame: situation.frame,
+        at: situation.at,
+    })
+}
+
 impl State {
     /// The same state once more.
     pub(crate) fn copied(&self) -> Result<State, AllocError>
         ensures { IfOk result (λ state. kept_by state ≡ kept_by self.now) }
     {
-        let parameters = self.parameters.copied()?;
-        let [x, y, z] = &self.slots;
-        let slots = [*x, *y, *z];
+        let situation = copied_situation(&self.situation)?;
         Ok(State {
             levels: copied_some(&self.levels),
             count: self.count,
             last: self.last,
-            parameters,
-            at: self.at,
-            slots,
-            axes: self.axes,
+            situation,
+            own: self.own,
+            channel: self.channel,
             on: self.on,
         })
     }
@@ -117,18 +127,32 @@ fn header_of(job: &Job, program: Option<u16>) -> u32
 
 /// Where control is at the start.
 fn begin_some(job: &Job, program: Option<u16>) -> Option<Levels>
-    ensures begun { result ≡ option_and_then (model.begin job.now.programs) program }
-    ensures fit { IfSome result (LevelsFit job.now.programs) }
+    ensures begun { result ≡ option_and_then (model.begin job.now.skip job.now.programs) program }
+    ensures fit { IfSome result (LevelsFit job.now.skip job.now.programs) }
 {
     match program {
-        Some(number) => begin(job, number),
+        Some(number) => begin(job, number, job.skip),
         None => None,
     }
 }
 
+/// The axes of a channel at its start.
+fn own_axes(job: &Job, channel: ChannelId, grant: &Grant) -> ChannelAxes
+    ensures slots { result.slots ≡ (model.setting_of job.now channel grant.now).slots }
+    ensures owned { result.owned ≡ grant.now.axes }
+{
+    let x = slot_axis(job, channel, 0);
+    let y = slot_axis(job, channel, 1);
+    let z = slot_axis(job, channel, 2);
+    ChannelAxes {
+        slots: [x, y, z],
+        owned: grant.axes,
+    }
+}
+
 impl Local {
-    /// A channel at its start: its program at the first block, all parameters 0, and its axes where
-    /// the grant puts them.
+    /// A channel at its start: its program at the first block, all parameters 0, the words of groups
+    /// that hold at the start, no frame, and its axes where the grant puts them.
     pub fn start(
         alloc: Global,
         job: &Job,
@@ -136,19 +160,22 @@ impl Local {
         grant: &Grant,
     ) -> Result<Local, NoMemory>
         ensures kept { IfOk result (λ local. Keeps (model.setting_of job.now channel grant.now) (model.begun (model.setting_of job.now channel grant.now)) local) }
-        ensures fit { IfOk result (λ local. IfSome local.levels (LevelsFit job.now.programs)) }
+        ensures fit { IfOk result (λ local. IfSome local.levels (LevelsFit job.now.skip job.now.programs)) }
+        ensures setting { IfOk result (λ local. IsSettingIn job.now (model.setting_of job.now channel grant.now) local) }
     {
-        let x = slot_axis(job, channel, 0);
-        let y = slot_axis(job, channel, 1);
-        let z = slot_axis(job, channel, 2);
+        let situation = Situation {
+            parameters: Parameters::new(alloc)?,
+            modal: Modal::start(),
+            frame: Frame::empty(),
+            at: grant.at,
+        };
         let state = State {
             levels: begin_some(job, grant.program),
             count: 0,
             last: header_of(job, grant.program),
-            parameters: Parameters::new(alloc)?,
-            at: grant.at,
-            slots: [x, y, z],
-            axes: grant.axes,
+            situation,
+            own: own_axes(job, channel, grant),
+            channel,
             on: grant.on,
         };
         Ok(Local { state })

@@ -1,29 +1,30 @@
 //! A segment of a channel's run, one block after another.
 
-ghost use Rattle.std.specs.Prelude.{◌≡◌, ◌≤◌, ◌<◌, ◌+◌, ◌^◌, ◌++◌, ◌==◌, ℕ, All, map, length, option_copied, slice_get, IfOk, IfNone, IfSome, OnOk, Ok};
+ghost use Rattle.std.specs.Prelude.{◌≡◌, ◌≤◌, ◌<◌, ◌+◌, ◌^◌, ◌++◌, ◌==◌, ℕ, All, map, length, option_copied, slice_get, IfOk, IfNone, IfSome, MatchOption, None, OnOk, Ok};
 ghost use Rattle.std.specs.Option.{option_to_list};
+ghost use Rattle.axis_moves.specs.Motions.{stands};
 ghost use Rattle.axis_sets.specs.Positions.{position_of};
 ghost use Rattle.block_effects.specs.Courses.{course_view};
-ghost use Rattle.block_effects.specs.Motions.{stands};
-ghost use Rattle.nc_blocks.specs.Statement.{statement_view, Empty};
+ghost use Rattle.nc_blocks.specs.Statement.{statement_view, view_of};
 ghost use Rattle.nc_control_flow.specs.Parts.{statement_at, views};
 ghost use Rattle.nc_control_flow.specs.Structures.{opening};
 ghost use Rattle.tape_job.specs.SoundJob.{BlocksFit};
-ghost use Rattle.channel_machine.specs.Kept.{Advances, IsSegment, Keeps, kept_by};
-ghost use Rattle.channel_machine.specs.Levels.{LevelsFit};
+ghost use Rattle.channel_machine.specs.Kept.{Advances, IsBehind, IsSegment, IsSettingIn, IsThere, Keeps, kept_by};
+ghost use Rattle.channel_machine.specs.Levels.{LevelsFit, followed, lines_of};
 ghost use Rattle.channel_machine.specs.Run as model;
 ghost use Rattle.channel_machine.specs.Run.{Setting, Channel, segment_of};
 
 use crate::levels::{Levels, flow_of, follow};
 use crate::local::{Local, State};
+use crate::surroundings::Surroundings;
 use axis_sets::{AxisId, AxisSet, Positions};
-use block_effects::{Course, Done, Library, execute};
+use block_effects::{BlockFault, Course, Done, execute};
 use micro_units::Um;
-use nc_blocks::{NameText, Stmt};
+use nc_blocks::{Block, Stmt};
 use nc_control_flow::Flow;
 use nc_faults::NoMemory;
+use nc_subprograms::Place;
 use std::alloc::{AllocError, Global};
-use std::marker::Model;
 use sync_types::{Action, Item, Step};
 use tape_job::Job;
 
@@ -40,34 +41,6 @@ pub struct Segment {
 
 /// How many blocks a channel may execute.
 const MOST_BLOCKS: u32 = 100_000;
-
-/// The programs of a job, which blocks call. A contract sees their names.
-#[derive(Drop)]
-struct Programs<'a> {
-    job: &'a Job,
-}
-
-impl<'a> Model for Programs<'a> {
-    ghost use Rattle.std.specs.Prelude.{◌≤◌, ℕ, List, length, map};
-
-    ghost Value = { List (List ℕ) };
-
-    ghost view = { λ p. map (λ q. q.0) p.job.now.programs };
-
-    ghost invariant = { λ p. length p.job.now.programs ≤ 65536 };
-}
-
-impl<'a> Library for Programs<'a> {
-    ghost names = { λ p. p };
-
-    fn number_of(&self, name: &NameText) -> Option<u16> {
-        let job = self.job;
-        match job.programs.get_index_of(name) {
-            Some(number) => Some(number as u16),
-            None => None,
-        }
-    }
-}
 
 /// Where an axis stands; one without a position at 0.
 fn standing(at: &Positions, axis: AxisId) -> Um
@@ -93,27 +66,63 @@ fn owned_at(axes: AxisSet, at: &Positions) -> Positions
     owned
 }
 
-/// The step of a channel on this line.
-fn step(state: &State, line: u32, action: Action) -> Step
-    ensures { result ≡ model.step_at state.now.axes state.now.on (stands state.now.at) line action }
+/// The step of a channel on this line, with its axes where these positions have them.
+fn step_at(state: &State, at: &Positions, line: u32, action: Action) -> Step
+    ensures { result ≡ model.step_at state.now.own.owned state.now.on (stands at.now) line action }
 {
     Step {
         line,
         action,
-        at: owned_at(state.axes, &state.at),
+        at: owned_at(state.own.owned, at),
         on: state.on,
     }
 }
 
-/// The statement that begins the structure round a place, or the one for none.
-fn opener_of<'a>(flow: &'a Flow, pc: u32, none: &'a Stmt) -> &'a Stmt
-    requires place { pc < length flow.now }
-    requires none { statement_view none.now ≡ Empty }
+/// The step of a channel on this line, with its axes where they stand.
+fn step(state: &State, line: u32, action: Action) -> Step
+    ensures { result ≡ model.step_at state.now.own.owned state.now.on (stands state.now.situation.at) line action }
+{
+    step_at(state, &state.situation.at, line, action)
+}
+
+/// The statement that begins the structure round a place.
+fn opener_of(flow: &Flow, pc: u32) -> &Stmt
+    requires { pc < length flow.now }
     ensures { statement_view result.now ≡ statement_at (opening pc (views flow.now)) (views flow.now) }
 {
     match flow.block(flow.opening(pc)) {
         Some((_, block)) => &block.stmt,
-        None => none,
+        None => unreachable!(),
+    }
+}
+
+/// A block that comes.
+#[derive(Clone, Copy)]
+struct NextBlock<'a> {
+    /// Its line.
+    line: u32,
+    /// The block.
+    block: &'a Block,
+    /// The statement that begins the structure round it.
+    opener: &'a Stmt,
+}
+
+/// The block at a place, if one stands there.
+fn find_block<'a>(job: &'a Job, here: &Place) -> Option<NextBlock<'a>>
+    requires { BlocksFit job.now }
+    ensures { MatchOption result (slice_get (lines_of job.now.programs here.now.program) here.now.pc ≡ None)
+        (λ next. IsThere job.now.programs here.now next.line (view_of next.block.now) (statement_view next.opener.now)) }
+{
+    let Some(flow) = flow_of(job, here.program) else {
+        return None;
+    };
+    match flow.block(here.pc) {
+        Some((line, block)) => Some(NextBlock {
+            line: *line,
+            block,
+            opener: opener_of(flow, here.pc),
+        }),
+        None => None,
     }
 }
 
@@ -137,64 +146,91 @@ fn ends_main(levels: &Levels, course: &Course) -> bool
     }
 }
 
+/// Goes on behind a block on this line that has done this, and answers the step where the segment ends with it.
+/// `before` is where the axes stood before the block.
+///
+/// The alarms are those of where it leads; nothing of the block stands behind one.
+fn leave(
+    job: &Job,
+    state: &mut State,
+    items: &mut Vec<Item>,
+    levels: Levels,
+    line: u32,
+    before: &Positions,
+    done: Done,
+) -> Result<Option<Step>, NoMemory>
+    requires fit { LevelsFit job.now.skip job.now.programs levels }
+    requires few { state.old.count < 100000 }
+    ensures told { IfOk result (λ halt. IsBehind (kept_by state.old) before.now items.old.items done.entry.item line (model.ends_main levels (course_view done.entry.course))
+        (followed job.now.skip job.now.programs levels (course_view done.entry.course)) halt items.new.items (kept_by state.new)) }
+    ensures fit { IfOk result (λ halt. IfNone halt (IfSome state.new.levels (LevelsFit job.now.skip job.now.programs))) }
+    ensures count { IfOk result (λ halt. IfNone halt ((state.new.count ≤ 100000) × (state.new.count ≡ state.old.count + 1))) }
+    ensures channel { IfOk result (λ halt. IfNone halt (state.new.channel ≡ state.old.channel)) }
+{
+    let Done { item, course } = done;
+    if ends_main(&levels, &course) {
+        push_some(items, item)?;
+        return Ok(Some(step(state, line, Action::End)));
+    }
+    match follow(job, levels, course, job.skip) {
+        Ok(levels) => {
+            push_some(items, item)?;
+            state.levels = levels;
+            state.count += 1;
+            state.last = line;
+            Ok(None)
+        }
+        Err(code) => Ok(Some(step_at(state, before, line, Action::Alarm(code)))),
+    }
+}
+
 /// Executes the block at which control stands, and answers the step where the segment ends with it.
 ///
 /// Alarm 9 where no block comes, alarm 8 where it is one more than may be executed, and the alarms of
 /// the block and of where it leads.
-fn advance(job: &Job, state: &mut State, items: &mut Vec<Item>) -> Result<Option<Step>, NoMemory>
+fn advance(
+    alloc: Global,
+    job: &Job,
+    state: &mut State,
+    items: &mut Vec<Item>,
+) -> Result<Option<Step>, NoMemory>
     requires blocks { BlocksFit job.now }
     requires programs { length job.now.programs ≤ 65536 }
-    requires fit { IfSome state.old.levels (LevelsFit job.now.programs) }
+    requires fit { IfSome state.old.levels (LevelsFit job.now.skip job.now.programs) }
     requires few { state.old.count ≤ 100000 }
-    ensures told { IfOk result (λ halt. (s : Setting) (c : Channel) → s.programs ≡ job.now.programs → Keeps s c (kept_by state.old)
+    ensures told { IfOk result (λ halt. (s : Setting) (c : Channel) → IsSettingIn job.now s (kept_by state.old) → Keeps s c (kept_by state.old)
         → Advances s c items.old.items halt items.new.items (kept_by state.new)) }
-    ensures fit { IfOk result (λ halt. IfNone halt (IfSome state.new.levels (LevelsFit job.now.programs))) }
+    ensures fit { IfOk result (λ halt. IfNone halt (IfSome state.new.levels (LevelsFit job.now.skip job.now.programs))) }
     ensures count { IfOk result (λ halt. IfNone halt ((state.new.count ≤ 100000) × (state.new.count ≡ state.old.count + 1))) }
+    ensures channel { IfOk result (λ halt. IfNone halt (state.new.channel ≡ state.old.channel)) }
 {
     let Some(levels) = state.levels.take() else {
         return Ok(Some(step(state, state.last, Action::Alarm(9))));
     };
-    let Some(flow) = flow_of(job, levels.here.program) else {
+    let Some(next) = find_block(job, &levels.here) else {
         return Ok(Some(step(state, state.last, Action::Alarm(9))));
     };
-    let Some((line, block)) = flow.block(levels.here.pc) else {
-        return Ok(Some(step(state, state.last, Action::Alarm(9))));
-    };
+    let line = next.line;
     if state.count == MOST_BLOCKS {
-        return Ok(Some(step(state, *line, Action::Alarm(8))));
+        return Ok(Some(step(state, line, Action::Alarm(8))));
     }
-    let empty = Stmt::Empty;
-    let opener = opener_of(flow, levels.here.pc, &empty);
-    let programs = Programs { job };
-    let mut at = state.at;
-    let done = execute(
-        &programs,
-        &state.slots,
-        &mut state.parameters,
-        &mut at,
-        *line,
-        opener,
-        &block.stmt,
-    );
-    let Done { item, course } = match done {
-        Ok(done) => done,
-        Err(code) => return Ok(Some(step(state, *line, Action::Alarm(code)))),
-    };
-    if ends_main(&levels, &course) {
-        push_some(items, item)?;
-        state.at = at;
-        return Ok(Some(step(state, *line, Action::End)));
-    }
-    match follow(job, levels, course) {
-        Ok(levels) => {
-            push_some(items, item)?;
-            state.levels = levels;
-            state.at = at;
-            state.count += 1;
-            state.last = *line;
-            Ok(None)
-        }
-        Err(code) => Ok(Some(step(state, *line, Action::Alarm(code)))),
+    let channel = state.channel;
+    let surroundings = Surroundings { job, channel };
+    let before = state.situation.at;
+    match execute(
+        alloc,
+        &surroundings,
+        &state.own,
+        &mut state.situation,
+        line,
+        next.opener,
+        &next.block.stmt,
+    ) {
+        Ok(done) => leave(job, state, items, levels, line, &before, done),
+        Err(fault) => match fault {
+            BlockFault::Alarm(code) => Ok(Some(step(state, line, Action::Alarm(code)))),
+            BlockFault::NoMemory => Err(NoMemory),
+        },
     }
 }
 
@@ -208,15 +244,15 @@ fn advance(job: &Job, state: &mut State, items: &mut Vec<Item>) -> Result<Option
 pub fn run_segment(alloc: Global, job: &Job, local: &Local) -> Result<Segment, NoMemory>
     requires blocks { BlocksFit job.now }
     requires programs { length job.now.programs ≤ 65536 }
-    requires fit { IfSome local.now.levels (LevelsFit job.now.programs) }
+    requires fit { IfSome local.now.levels (LevelsFit job.now.skip job.now.programs) }
     requires few { local.now.count ≤ 100000 }
-    ensures { IfOk result (λ g. (s : Setting) (c : Channel) → s.programs ≡ job.now.programs → Keeps s c local.now
+    ensures { IfOk result (λ g. (s : Setting) (c : Channel) → IsSettingIn job.now s local.now → Keeps s c local.now
         → IsSegment (segment_of s c) g.items.items g.step) }
 {
     let mut state = local.state.copied()?;
     let mut items = Vec::new(alloc);
     loop {
-        match advance(job, &mut state, &mut items)? {
+        match advance(alloc, job, &mut state, &mut items)? {
             Some(step) => {
                 let after = Local { state };
                 return Ok(Segment { items, step, after });

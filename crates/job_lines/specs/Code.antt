@@ -1,17 +1,24 @@
 -- The codes of refusals.
 use Rattle.std.specs.Prelude.{ℕ, Result, Ok, Err, Option, Some, None}
 use Rattle.job_lines.specs.declared.code.Code.{Code}
-use Rattle.job_lines.specs.declared.code.Code.TheVariants.{NoJobLine, LineTooLong, BadByte, NameRepeated, BadHeader, OpenText}
+use Rattle.job_lines.specs.declared.code.Code.TheVariants.{NoJobLine, LineTooLong, BadByte, UnknownJobLine, OutOfRange, DeclaredTwice, NotDeclared, OwnerDiffers, NameRepeated, BadHeader, TooMany, NotInLibrary, OpenText, NotBuilt}
 
--- what a refusal shows of a rule; a job line that breaks any other rule is shown as a form that is not built yet
+-- what a refusal shows of a rule
 unfoldable pub shown : Code → ℕ
 shown NoJobLine = 1
 shown LineTooLong = 2
 shown BadByte = 3
+shown UnknownJobLine = 4
+shown OutOfRange = 5
+shown DeclaredTwice = 6
+shown NotDeclared = 7
+shown OwnerDiffers = 8
 shown NameRepeated = 9
 shown BadHeader = 10
+shown TooMany = 11
+shown NotInLibrary = 12
 shown OpenText = 20
-shown _ = 60
+shown NotBuilt = 60
 
 -- one reading after the other: the first rule that is broken counts
 infixl 10 ◌>>=◌

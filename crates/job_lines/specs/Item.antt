@@ -1,24 +1,23 @@
 -- What a job line says by itself, from its words in upper case. The number of words and the options come before the forms.
-use Rattle.std.specs.Prelude.{ℕ, Bool, true, false, if◌then◌else◌, ◌==◌, nat_le, int_le, codes, List, [], ◌∷◌, Result, Ok, Err, Option, Some, None}
+use Rattle.std.specs.Prelude.{ℕ, Bool, true, false, ◌||◌, if◌then◌else◌, ◌==◌, nat_le, int_le, codes, List, [], ◌∷◌, Result, Ok, Err, Option, Some, None}
 use Rattle.std.specs.List.{list_any}
+use Rattle.std.specs.Option.{option_and_then}
 use Rattle.std.specs.Str.{bytes_eq}
 use Rattle.job_lines.specs.declared.code.Code.{Code}
-use Rattle.job_lines.specs.declared.code.Code.TheVariants.{NotBuilt, UnknownJobLine, OutOfRange, DeclaredTwice}
+use Rattle.job_lines.specs.declared.code.Code.TheVariants.{UnknownJobLine, OutOfRange, DeclaredTwice}
 use Rattle.job_lines.specs.declared.item.AxisName.{AxisName}
 use Rattle.job_lines.specs.declared.item.NamedSide.{NamedSide}
 use Rattle.job_lines.specs.declared.item.Item.{Item}
-use Rattle.job_lines.specs.declared.item.Item.TheVariants.{Channel, Axis, Geo, Zone}
+use Rattle.job_lines.specs.declared.item.Item.TheVariants.{Channel, Axis, Geo, Offset, Zone}
 use Rattle.nc_blocks.specs.Names.{name_of}
 use Rattle.job_lines.specs.Code.{◌>>=◌, or_code}
 use Rattle.job_lines.specs.Numbers.{number_within}
 use Rattle.job_lines.specs.Length.{length_of}
+use Rattle.job_lines.specs.OptionLines.{option_item_of}
 
--- a channel is 1 to 8; those above 2 are not built yet
-abbrev pub built_channel : ℕ → Result ℕ Code
-built_channel number = if nat_le number 2 then Ok number else Err NotBuilt
-
+-- a channel is 1 to 8
 unfoldable pub channel_of : List ℕ → Result ℕ Code
-channel_of word = or_code OutOfRange (number_within 1 8 word) >>= built_channel
+channel_of word = or_code OutOfRange (number_within 1 8 word)
 
 -- a zone, or a group
 unfoldable pub zone_of : List ℕ → Result ℕ Code
@@ -32,9 +31,9 @@ axis_name_of (letter ∷ digits) =
     then or_code OutOfRange (number_within 1 99 digits) >>= (λ number. Ok (record { letter = letter; number = number }))
     else Err OutOfRange
 
--- the owner of an axis and the holder of a zone; a free one is not built yet
-unfoldable pub owner_of : List ℕ → Result ℕ Code
-owner_of word = if bytes_eq word (codes "FREE") then Err NotBuilt else channel_of word
+-- the owner of an axis and the holder of a zone: a channel, or none where it is free
+unfoldable pub owner_of : List ℕ → Result (Option ℕ) Code
+owner_of word = if bytes_eq word (codes "FREE") then Ok None else channel_of word >>= (λ channel. Ok (Some channel))
 
 unfoldable pub slot_of : List ℕ → Result ℕ Code
 slot_of word =
@@ -42,6 +41,14 @@ slot_of word =
     else if bytes_eq word (codes "Y") then Ok 1
     else if bytes_eq word (codes "Z") then Ok 2
     else Err OutOfRange
+
+-- the G words of settable offsets that a line can give: G54 to G57 and G505 to G599
+abbrev pub settable : ℕ → Option ℕ
+settable number = if nat_le number 57 || nat_le 505 number then Some number else None
+
+unfoldable pub g_of : List ℕ → Result ℕ Code
+g_of [] = Err OutOfRange
+g_of (letter ∷ digits) = if letter == 71 then or_code OutOfRange (option_and_then settable (number_within 54 599 digits)) else Err OutOfRange
 
 -- the name behind a carrier's sign
 abbrev pub signed_name_of : Bool → List ℕ → Result (Option (AxisName × Bool)) Code
@@ -66,17 +73,18 @@ named_side_of carrier lo hi = do
   hi ← length_of hi
   if int_le lo hi then Ok (record { carrier = carrier; lo = lo; hi = hi }) else Err OutOfRange
 
--- the channel that runs a program from the start, and a line that says so; a channel that does not start is not built yet
-unfoldable pub channel_item_of : List ℕ → List ℕ → List ℕ → Result Item Code
-channel_item_of channel program start =
-    if bytes_eq start (codes "START")
-    then channel_of channel >>= (λ number. Ok (Channel number (name_of program)))
-    else Err UnknownJobLine
+-- a channel, with a program or none, that starts running or not
+unfoldable pub channel_item_of : List ℕ → Option (List ℕ) → Bool → Result Item Code
+channel_item_of channel program starts = channel_of channel >>= (λ number. Ok (Channel number program starts))
+
+unfoldable pub starting_item_of : List ℕ → List ℕ → List ℕ → Result Item Code
+starting_item_of channel program start =
+    if bytes_eq start (codes "START") then channel_item_of channel (Some (name_of program)) true else Err UnknownJobLine
 
 unfoldable pub channel_line : List (List ℕ) → Result Item Code
-channel_line (channel ∷ []) = Err NotBuilt
-channel_line (channel ∷ program ∷ []) = Err NotBuilt
-channel_line (channel ∷ program ∷ start ∷ []) = channel_item_of channel program start
+channel_line (channel ∷ []) = channel_item_of channel None false
+channel_line (channel ∷ program ∷ []) = channel_item_of channel (Some (name_of program)) false
+channel_line (channel ∷ program ∷ start ∷ []) = starting_item_of channel program start
 channel_line args = Err UnknownJobLine
 
 unfoldable pub axis_item_of : List ℕ → List ℕ → List ℕ → Result Item Code
@@ -101,11 +109,23 @@ unfoldable pub geo_line : List (List ℕ) → Result Item Code
 geo_line (channel ∷ slot ∷ axis ∷ []) = geo_item_of channel slot axis
 geo_line args = Err UnknownJobLine
 
--- whether a zone is on; one that is off is not built yet
+unfoldable pub offset_item_of : List ℕ → List ℕ → List ℕ → List ℕ → Result Item Code
+offset_item_of channel g slot length = do
+  channel ← channel_of channel
+  g ← g_of g
+  slot ← slot_of slot
+  by ← length_of length
+  Ok (Offset channel g slot by)
+
+unfoldable pub offset_line : List (List ℕ) → Result Item Code
+offset_line (channel ∷ g ∷ slot ∷ length ∷ []) = offset_item_of channel g slot length
+offset_line args = Err UnknownJobLine
+
+-- whether a zone is on
 unfoldable pub state_of : List ℕ → Result Bool Code
 state_of word =
     if bytes_eq word (codes "ON") then Ok true
-    else if bytes_eq word (codes "OFF") then Err NotBuilt
+    else if bytes_eq word (codes "OFF") then Ok false
     else Err UnknownJobLine
 
 unfoldable pub zone_item_of : List ℕ → List ℕ → List ℕ → List ℕ → List ℕ → List ℕ → List ℕ → List ℕ → List ℕ → List ℕ → List ℕ → List ℕ → List ℕ → Result Item Code
@@ -117,7 +137,7 @@ zone_item_of zone group holder state cx lx hx cy ly hy cz lz hz = do
   x ← named_side_of cx lx hx
   y ← named_side_of cy ly hy
   z ← named_side_of cz lz hz
-  Ok (Zone zone group holder x y z)
+  Ok (Zone (record { zone = zone; group = group; holder = holder; on = on; x = x; y = y; z = z }))
 
 unfoldable pub zone_line : List (List ℕ) → Result Item Code
 zone_line (zone ∷ group ∷ holder ∷ state ∷ cx ∷ lx ∷ hx ∷ cy ∷ ly ∷ hy ∷ cz ∷ lz ∷ hz ∷ []) =
@@ -129,19 +149,13 @@ unfoldable pub job_line : List (List ℕ) → Result Item Code
 job_line (version ∷ []) = Err DeclaredTwice
 job_line args = Err UnknownJobLine
 
--- the first words of job lines that are not built yet
-unfoldable pub is_later_kind : List ℕ → Bool
-is_later_kind kind =
-    list_any (bytes_eq kind)
-    (codes "OFFSET" ∷ codes "MARGIN" ∷ codes "DEPTH" ∷ codes "BUDGET" ∷ codes "COMPENSATION" ∷ codes "SKIP" ∷ [])
-
 -- what a job line says: its first word, and the others
 unfoldable pub item_of : List ℕ → List (List ℕ) → Result Item Code
 item_of kind args =
     if bytes_eq kind (codes "CHANNEL") then channel_line args
     else if bytes_eq kind (codes "AXIS") then axis_line args
     else if bytes_eq kind (codes "GEO") then geo_line args
+    else if bytes_eq kind (codes "OFFSET") then offset_line args
     else if bytes_eq kind (codes "ZONE") then zone_line args
     else if bytes_eq kind (codes "JOB") then job_line args
-    else if is_later_kind kind then Err NotBuilt
-    else Err UnknownJobLine
+    else option_item_of kind args

@@ -3,3 +3,4 @@ pub mod Header
 pub mod Item
 pub mod Length
 pub mod Numbers
+pub mod OptionLines

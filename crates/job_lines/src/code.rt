@@ -37,7 +37,7 @@ pub enum Code {
 }
 
 impl Code {
-    /// The code that a refusal shows. A job line that breaks any of the other rules is shown as a form that is not built yet.
+    /// The code that a refusal shows.
     #[tactic(auto, unfolding(crate::specs::Code::shown, nc_faults::specs::Texts::IsRefusalCode, nc_faults::specs::Texts::refusal_texts))]
     pub fn shown(self) -> u16
         ensures value { result ≡ shown self }
@@ -47,10 +47,17 @@ impl Code {
             Code::NoJobLine => 1,
             Code::LineTooLong => 2,
             Code::BadByte => 3,
+            Code::UnknownJobLine => 4,
+            Code::OutOfRange => 5,
+            Code::DeclaredTwice => 6,
+            Code::NotDeclared => 7,
+            Code::OwnerDiffers => 8,
             Code::NameRepeated => 9,
             Code::BadHeader => 10,
+            Code::TooMany => 11,
+            Code::NotInLibrary => 12,
             Code::OpenText => 20,
-            _ => 60,
+            Code::NotBuilt => 60,
         }
     }
 }

@@ -1,10 +1,11 @@
 //! Job lines, each read by itself.
 ghost use Rattle.std.specs.Prelude.{◌≡◌, map};
-ghost use Rattle.job_lines.specs.Item.{channel_of, zone_of, axis_name_of, owner_of, slot_of, carrier_of, named_side_of, channel_item_of, channel_line, axis_item_of, axis_line, geo_item_of, geo_line, state_of, zone_item_of, zone_line, job_line, is_later_kind, item_of};
+ghost use Rattle.job_lines.specs.Item.{channel_of, zone_of, axis_name_of, owner_of, slot_of, g_of, carrier_of, named_side_of, channel_item_of, starting_item_of, channel_line, axis_item_of, axis_line, geo_item_of, geo_line, offset_item_of, offset_line, state_of, zone_item_of, zone_line, job_line, item_of};
 
 use crate::code::Code;
 use crate::length::length_in;
-use crate::numbers::number_within;
+use crate::numbers::{number_within, small_within};
+use crate::option_lines::option_item_in;
 use axis_sets::{ChannelId, ZoneId};
 use micro_units::Um;
 use nc_blocks::NameText;
@@ -29,27 +30,87 @@ pub struct NamedSide {
     pub hi: Um,
 }
 
+/// A zone whose axes are names.
+#[derive(Clone, Copy, Debug, PartialEq, Eq)]
+pub struct NamedZone {
+    /// The zone.
+    pub zone: ZoneId,
+    /// Its group, 1 to 32.
+    pub group: u8,
+    /// The channel that holds it, or none where it is held free.
+    pub holder: Option<ChannelId>,
+    /// Whether it is on.
+    pub on: bool,
+    /// Its direction along X.
+    pub x: NamedSide,
+    /// Its direction along Y.
+    pub y: NamedSide,
+    /// Its direction along Z.
+    pub z: NamedSide,
+}
+
 /// What a job line says by itself.
 #[derive(Debug, Drop)]
 pub enum Item {
-    /// A channel that runs a program from the start.
-    Channel(ChannelId, NameText),
-    /// An axis, its owner and its position at the start.
-    Axis(AxisName, ChannelId, Um),
+    /// A channel, the program that is selected in it, and whether it starts running.
+    Channel {
+        /// The channel.
+        channel: ChannelId,
+        /// The name of the program.
+        program: Option<NameText>,
+        /// Whether the channel runs the program from the beginning.
+        starts: bool,
+    },
+    /// An axis, its owner or none where it is free, and its position at the start.
+    Axis {
+        /// The name.
+        name: AxisName,
+        /// The owner.
+        owner: Option<ChannelId>,
+        /// The position.
+        at: Um,
+    },
     /// A slot of a channel, and the axis in it.
-    Geo(ChannelId, u8, AxisName),
-    /// A zone, its group, its holder and its directions.
-    Zone(ZoneId, u8, ChannelId, NamedSide, NamedSide, NamedSide),
+    Geo {
+        /// The channel.
+        channel: ChannelId,
+        /// The slot: 0 for X, 1 for Y, 2 for Z.
+        slot: u8,
+        /// The axis.
+        axis: AxisName,
+    },
+    /// A settable offset of a slot of a channel.
+    Offset {
+        /// The channel.
+        channel: ChannelId,
+        /// The number of the G word that selects it, 54 to 57 or 505 to 599.
+        g: u16,
+        /// The slot: 0 for X, 1 for Y, 2 for Z.
+        slot: u8,
+        /// The offset.
+        by: Um,
+    },
+    /// A zone.
+    Zone(NamedZone),
+    /// The margin of all zones, 0 to 1,000 millimetres.
+    Margin(Um),
+    /// The depth of comparison, 0 to 4.
+    Depth(u8),
+    /// The budget of comparison, 1 to 100,000,000.
+    Budget(u32),
+    /// Tool radius compensation is accepted.
+    Compensation,
+    /// Blocks that begin with `/` are left out.
+    Skip,
 }
 
-/// The channel that the word names: 1 or 2 as yet.
+/// The channel that the word names.
 #[tactic(auto, unfolding(crate::specs::Item::channel_of))]
 fn channel_in(word: &[u8]) -> Result<ChannelId, Code>
     ensures { result ≡ channel_of word.now }
 {
-    match number_within(1, 8, word) {
-        Some(number) if number <= 2 => Ok(ChannelId { number }),
-        Some(_) => Err(Code::NotBuilt),
+    match small_within(1, 8, word) {
+        Some(number) => Ok(ChannelId { number }),
         None => Err(Code::OutOfRange),
     }
 }
@@ -59,7 +120,7 @@ fn channel_in(word: &[u8]) -> Result<ChannelId, Code>
 fn zone_in(word: &[u8]) -> Result<ZoneId, Code>
     ensures { result ≡ zone_of word.now }
 {
-    match number_within(1, 32, word) {
+    match small_within(1, 32, word) {
         Some(number) => Ok(ZoneId { number }),
         None => Err(Code::OutOfRange),
     }
@@ -70,7 +131,7 @@ fn zone_in(word: &[u8]) -> Result<ZoneId, Code>
 fn group_in(word: &[u8]) -> Result<u8, Code>
     ensures { result ≡ zone_of word.now }
 {
-    match number_within(1, 32, word) {
+    match small_within(1, 32, word) {
         Some(number) => Ok(number),
         None => Err(Code::OutOfRange),
     }
@@ -87,7 +148,7 @@ fn axis_name_in(word: &[u8]) -> Result<AxisName, Code>
     if !b"ABCUVWXYZ".contains(letter) {
         return Err(Code::OutOfRange);
     }
-    match number_within(1, 99, digits) {
+    match small_within(1, 99, digits) {
         Some(number) => Ok(AxisName {
             letter: *letter,
             number,
@@ -96,15 +157,15 @@ fn axis_name_in(word: &[u8]) -> Result<AxisName, Code>
     }
 }
 
-/// The channel that owns an axis or holds a zone.
+/// The channel that owns an axis or holds a zone, or none where it is free.
 #[tactic(auto, unfolding(crate::specs::Item::owner_of))]
-fn owner_in(word: &[u8]) -> Result<ChannelId, Code>
+fn owner_in(word: &[u8]) -> Result<Option<ChannelId>, Code>
     ensures { result ≡ owner_of word.now }
 {
     if word == b"FREE".as_slice() {
-        return Err(Code::NotBuilt);
+        return Ok(None);
     }
-    channel_in(word)
+    Ok(Some(channel_in(word)?))
 }
 
 /// The slot that the word names.
@@ -120,6 +181,20 @@ fn slot_in(word: &[u8]) -> Result<u8, Code>
         Ok(2)
     } else {
         Err(Code::OutOfRange)
+    }
+}
+
+/// The number of the G word of a settable offset.
+#[tactic(auto, unfolding(crate::specs::Item::g_of))]
+fn g_in(word: &[u8]) -> Result<u16, Code>
+    ensures { result ≡ g_of word.now }
+{
+    let [b'G', digits @ ..] = word else {
+        return Err(Code::OutOfRange);
+    };
+    match number_within(54, 599, digits) {
+        Some(number) if number <= 57 || number >= 505 => Ok(number as u16),
+        _ => Err(Code::OutOfRange),
     }
 }
 
@@ -150,16 +225,28 @@ fn named_side_in(carrier: &[u8], lo: &[u8], hi: &[u8]) -> Result<NamedSide, Code
     Ok(NamedSide { carrier, lo, hi })
 }
 
-/// The channel that runs a program from the start.
+/// A channel with a program or none.
 #[tactic(auto, unfolding(crate::specs::Item::channel_item_of))]
-fn channel_item_in(channel: &[u8], program: &[u8], start: &[u8]) -> Result<Item, Code>
-    ensures { result ≡ channel_item_of channel.now program.now start.now }
+fn channel_item_in(channel: &[u8], program: Option<NameText>, starts: bool) -> Result<Item, Code>
+    ensures { result ≡ channel_item_of channel.now program starts }
+{
+    let channel = channel_in(channel)?;
+    Ok(Item::Channel {
+        channel,
+        program,
+        starts,
+    })
+}
+
+/// A channel that runs a program from the beginning.
+#[tactic(auto, unfolding(crate::specs::Item::starting_item_of))]
+fn starting_item_in(channel: &[u8], program: &[u8], start: &[u8]) -> Result<Item, Code>
+    ensures { result ≡ starting_item_of channel.now program.now start.now }
 {
     if start != b"START".as_slice() {
         return Err(Code::UnknownJobLine);
     }
-    let channel = channel_in(channel)?;
-    Ok(Item::Channel(channel, NameText::of_word(program)))
+    channel_item_in(channel, Some(NameText::of_word(program)), true)
 }
 
 /// What follows CHANNEL.
@@ -168,8 +255,9 @@ fn channel_line_in(args: &[&[u8]]) -> Result<Item, Code>
     ensures { result ≡ channel_line (map (λ word. word.now) args.now) }
 {
     match args {
-        [_] | [_, _] => Err(Code::NotBuilt),
-        [channel, program, start] => channel_item_in(channel, program, start),
+        [channel] => channel_item_in(channel, None, false),
+        [channel, program] => channel_item_in(channel, Some(NameText::of_word(program)), false),
+        [channel, program, start] => starting_item_in(channel, program, start),
         _ => Err(Code::UnknownJobLine),
     }
 }
@@ -182,7 +270,7 @@ fn axis_item_in(name: &[u8], owner: &[u8], at: &[u8]) -> Result<Item, Code>
     let name = axis_name_in(name)?;
     let owner = owner_in(owner)?;
     let at = length_in(at)?;
-    Ok(Item::Axis(name, owner, at))
+    Ok(Item::Axis { name, owner, at })
 }
 
 /// What follows AXIS.
@@ -204,7 +292,11 @@ fn geo_item_in(channel: &[u8], slot: &[u8], axis: &[u8]) -> Result<Item, Code>
     let channel = channel_in(channel)?;
     let slot = slot_in(slot)?;
     let axis = axis_name_in(axis)?;
-    Ok(Item::Geo(channel, slot, axis))
+    Ok(Item::Geo {
+        channel,
+        slot,
+        axis,
+    })
 }
 
 /// What follows GEO.
@@ -218,6 +310,34 @@ fn geo_line_in(args: &[&[u8]]) -> Result<Item, Code>
     }
 }
 
+/// A settable offset.
+#[tactic(auto, unfolding(crate::specs::Item::offset_item_of))]
+fn offset_item_in(channel: &[u8], g: &[u8], slot: &[u8], by: &[u8]) -> Result<Item, Code>
+    ensures { result ≡ offset_item_of channel.now g.now slot.now by.now }
+{
+    let channel = channel_in(channel)?;
+    let g = g_in(g)?;
+    let slot = slot_in(slot)?;
+    let by = length_in(by)?;
+    Ok(Item::Offset {
+        channel,
+        g,
+        slot,
+        by,
+    })
+}
+
+/// What follows OFFSET.
+#[tactic(auto, unfolding(crate::specs::Item::offset_line))]
+fn offset_line_in(args: &[&[u8]]) -> Result<Item, Code>
+    ensures { result ≡ offset_line (map (λ word. word.now) args.now) }
+{
+    match args {
+        [channel, g, slot, by] => offset_item_in(channel, g, slot, by),
+        _ => Err(Code::UnknownJobLine),
+    }
+}
+
 /// Whether a zone is on.
 #[tactic(auto, unfolding(crate::specs::Item::state_of))]
 fn state_in(word: &[u8]) -> Result<bool, Code>
@@ -226,7 +346,7 @@ fn state_in(word: &[u8]) -> Result<bool, Code>
     if word == b"ON".as_slice() {
         Ok(true)
     } else if word == b"OFF".as_slice() {
-        Err(Code::NotBuilt)
+        Ok(false)
     } else {
         Err(Code::UnknownJobLine)
     }
@@ -251,14 +371,22 @@ fn zone_item_in(
 ) -> Result<Item, Code>
     ensures { result ≡ zone_item_of zone.now group.now holder.now state.now cx.now lx.now hx.now cy.now ly.now hy.now cz.now lz.now hz.now }
 {
-    let _on = state_in(state)?;
+    let on = state_in(state)?;
     let zone = zone_in(zone)?;
     let group = group_in(group)?;
     let holder = owner_in(holder)?;
     let x = named_side_in(cx, lx, hx)?;
     let y = named_side_in(cy, ly, hy)?;
     let z = named_side_in(cz, lz, hz)?;
-    Ok(Item::Zone(zone, group, holder, x, y, z))
+    Ok(Item::Zone(NamedZone {
+        zone,
+        group,
+        holder,
+        on,
+        x,
+        y,
+        z,
+    }))
 }
 
 /// What follows ZONE.
@@ -299,20 +427,9 @@ fn job_line_in(args: &[&[u8]]) -> Result<Item, Code>
     }
 }
 
-/// Whether the word begins a job line that is not built yet.
-#[tactic(auto, unfolding(crate::specs::Item::is_later_kind))]
-fn is_later_kind(kind: &[u8]) -> bool
-    ensures { result ≡ is_later_kind kind.now }
-{
-    kind == b"OFFSET".as_slice()
-        || kind == b"MARGIN".as_slice()
-        || kind == b"DEPTH".as_slice()
-        || kind == b"BUDGET".as_slice()
-        || kind == b"COMPENSATION".as_slice()
-        || kind == b"SKIP".as_slice()
-}
-
 /// What a job line says, from its first word and the others, all in upper case.
+///
+/// A first word that begins no job line, a wrong number of words, and a word in the place of START, ON, OFF or CONTOUR that is none of these are tried first (`UnknownJobLine`); then, from left to right, the numbers, names and lengths (`OutOfRange`).
 #[tactic(auto, unfolding(crate::specs::Item::item_of))]
 pub fn item_in(kind: &[u8], args: &[&[u8]]) -> Result<Item, Code>
     ensures { result ≡ item_of kind.now (map (λ word. word.now) args.now) }
@@ -323,13 +440,13 @@ pub fn item_in(kind: &[u8], args: &[&[u8]]) -> Result<Item, Code>
         axis_line_in(args)
     } else if kind == b"GEO".as_slice() {
         geo_line_in(args)
+    } else if kind == b"OFFSET".as_slice() {
+        offset_line_in(args)
     } else if kind == b"ZONE".as_slice() {
         zone_line_in(args)
     } else if kind == b"JOB".as_slice() {
         job_line_in(args)
-    } else if is_later_kind(kind) {
-        Err(Code::NotBuilt)
     } else {
-        Err(Code::UnknownJobLine)
+        option_item_in(kind, args)
     }
 }

@@ -6,7 +6,8 @@ mod header;
 mod item;
 mod length;
 mod numbers;
+mod option_lines;
 
 pub use code::Code;
 pub use header::header_in;
-pub use item::{AxisName, Item, NamedSide, item_in};
+pub use item::{AxisName, Item, NamedSide, NamedZone, item_in};

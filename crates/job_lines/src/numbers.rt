@@ -67,14 +67,25 @@ fn whole_in(word: &[u8]) -> Option<u32>
 
 /// The whole number from `low` to `high` that the word writes.
 #[tactic(auto, unfolding(crate::specs::Numbers::number_within))]
-pub(crate) fn number_within(low: u8, high: u8, word: &[u8]) -> Option<u8>
+pub(crate) fn number_within(low: u32, high: u32, word: &[u8]) -> Option<u32>
     ensures value { result ≡ number_within low high word.now }
     ensures within { IfSome result (λ number. (low ≤ number) × (number ≤ high)) }
 {
     let number = whole_in(word)?;
-    if u32::from(low) <= number && number <= u32::from(high) {
-        Some(number as u8)
+    if low <= number && number <= high {
+        Some(number)
     } else {
         None
+    }
+}
+
+/// The whole number from `low` to `high` that the word writes, where these are small.
+pub(crate) fn small_within(low: u8, high: u8, word: &[u8]) -> Option<u8>
+    ensures value { result ≡ number_within low high word.now }
+    ensures within { IfSome result (λ number. (low ≤ number) × (number ≤ high)) }
+{
+    match number_within(u32::from(low), u32::from(high), word) {
+        Some(number) => Some(number as u8),
+        None => None,
     }
 }

@@ -7,7 +7,7 @@ use std::test::Fail;
 use tape_job::*;
 
 /// The job of a text, or none where it is refused or memory runs out.
-fn job_of(alloc: Global, text: &str) -> Option<Job> {
+pub(crate) fn job_of(alloc: Global, text: &str) -> Option<Job> {
     let bytes = text.as_bytes();
     if bytes.len() > 8_388_609 {
         return None;
@@ -19,7 +19,7 @@ fn job_of(alloc: Global, text: &str) -> Option<Job> {
 }
 
 /// The code and the line of the refusal of an input, or none where it is accepted or memory runs out.
-fn refusal_of(alloc: Global, bytes: &[u8]) -> Option<(u16, u32)> {
+pub(crate) fn refusal_of(alloc: Global, bytes: &[u8]) -> Option<(u16, u32)> {
     if bytes.len() > 8_388_609 {
         return None;
     }
@@ -125,11 +125,12 @@ fn tries_each_rule_in_order(rt: HostRuntime) {
         (b"JOB 2 \x01\n", Some((3, 1))),
         (b"\n\x01\n", Some((3, 2))),
         (b"JOB 1 ;\x01\n", None),
-        (b"JOB 1\nJOB 1\n", Some((60, 2))),
-        (b"JOB 1\nFOO\n", Some((60, 2))),
-        (b"JOB 1\nCHANNEL 1 A START\n%_N_B_MPF\n", Some((60, 2))),
+        (b"JOB 1\nJOB 1\n", Some((6, 2))),
+        (b"JOB 1\nFOO\n", Some((4, 2))),
+        (b"JOB 1\nCHANNEL 1 A START\n%_N_B_MPF\n", Some((12, 2))),
+        (b"JOB 1\nCHANNEL 1 A START\n%_N_B_MPF\nG2\n", Some((60, 4))),
         (b"JOB 1\n%_N_A\n", Some((10, 2))),
-        (b"JOB 1\n%_N_A_MPF x\n", Some((10, 2))),
+        (b"JOB 1\n%_N_A_MPF\n%_N_A_MPF x\n", Some((10, 3))),
         (b"JOB 1\n%_N_A_MPF\n%_n_a_spf\n", Some((9, 3))),
         (b"JOB 1\n%_N_A_MPF\n%_N_A_SPF\x01\n", Some((3, 3))),
         (b"JOB 1\n%_N_A_MPF\nX5 \x01 \"a\n", Some((3, 3))),
@@ -138,9 +139,6 @@ fn tries_each_rule_in_order(rt: HostRuntime) {
         (b"JOB 1\n%_N_A_MPF\nG2 $\n", Some((44, 3))),
         (b"JOB 1\n%_N_A_MPF\nG2 X5 5\n", Some((22, 3))),
         (b"JOB 1\n%_N_A_MPF\nG2 X5\n", Some((60, 3))),
-        (b"JOB 1\n%_N_A_MPF\nG0 G1 X5\n", Some((60, 3))),
-        (b"JOB 1\n%_N_A_MPF\nX=IC(5)\n", Some((60, 3))),
-        (b"JOB 1\n%_N_A_MPF\nTRANS X5\n", Some((60, 3))),
         (b"JOB 1\n%_N_A_MPF\n%_N_A_MPF\nG2\n", Some((9, 3))),
     ];
     for (bytes, refusal) in cases {

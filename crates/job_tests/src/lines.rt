@@ -7,12 +7,30 @@ const X2: AxisName = AxisName {
     number: 2,
 };
 
-/// Whether a line is that of channel 2 with the program LEFT_1.
+/// Whether a line is that of channel 2, which starts with the program LEFT_1.
 fn is_channel(item: &Result<Item, Code>) -> bool {
     match item {
-        Ok(Item::Channel(channel, program)) => {
-            channel.number == 2 && program.as_bytes() == b"LEFT_1".as_slice()
-        }
+        Ok(
+            Item::Channel {
+                channel,
+                program: Some(program),
+                starts,
+            },
+        ) => channel.number == 2 && program.as_bytes() == b"LEFT_1".as_slice() && *starts,
+        _ => false,
+    }
+}
+
+/// Whether a line is that of channel 8, idle and without a program.
+fn is_idle(item: &Result<Item, Code>) -> bool {
+    match item {
+        Ok(
+            Item::Channel {
+                channel,
+                program: None,
+                starts,
+            },
+        ) => channel.number == 8 && !*starts,
         _ => false,
     }
 }
@@ -20,9 +38,13 @@ fn is_channel(item: &Result<Item, Code>) -> bool {
 /// Whether a line is that of the axis X2 of channel 1 at -100.25.
 fn is_axis(item: &Result<Item, Code>) -> bool {
     match item {
-        Ok(Item::Axis(name, owner, at)) => {
-            *name == X2 && owner.number == 1 && at.micrometres == -100_250
-        }
+        Ok(
+            Item::Axis {
+                name,
+                owner: Some(owner),
+                at,
+            },
+        ) => *name == X2 && owner.number == 1 && at.micrometres == -100_250,
         _ => false,
     }
 }
@@ -30,19 +52,42 @@ fn is_axis(item: &Result<Item, Code>) -> bool {
 /// Whether a line puts the axis X2 into slot Z of channel 1.
 fn is_slot(item: &Result<Item, Code>) -> bool {
     match item {
-        Ok(Item::Geo(channel, slot, name)) => channel.number == 1 && *slot == 2 && *name == X2,
+        Ok(
+            Item::Geo {
+                channel,
+                slot,
+                axis,
+            },
+        ) => channel.number == 1 && *slot == 2 && *axis == X2,
         _ => false,
     }
 }
 
-/// Whether a line is that of zone 32 of group 5, whose first direction goes against X2 up to 10.125.
+/// Whether a line gives G505 of slot Y of channel 3 the offset -0.5.
+fn is_offset(item: &Result<Item, Code>) -> bool {
+    match item {
+        Ok(
+            Item::Offset {
+                channel,
+                g,
+                slot,
+                by,
+            },
+        ) => channel.number == 3 && *g == 505 && *slot == 1 && by.micrometres == -500,
+        _ => false,
+    }
+}
+
+/// Whether a line is that of zone 32 of group 5, held free and off, whose first direction goes against X2 up to 10.125.
 fn is_zone(item: &Result<Item, Code>) -> bool {
     match item {
-        Ok(Item::Zone(zone, group, _, x, _, _)) => {
-            zone.number == 32
-                && *group == 5
-                && x.carrier == Some((X2, true))
-                && x.hi.micrometres == 10_125
+        Ok(Item::Zone(zone)) => {
+            zone.zone.number == 32
+                && zone.group == 5
+                && zone.holder.is_none()
+                && !zone.on
+                && zone.x.carrier == Some((X2, true))
+                && zone.x.hi.micrometres == 10_125
         }
         _ => false,
     }
@@ -51,13 +96,15 @@ fn is_zone(item: &Result<Item, Code>) -> bool {
 #[test]
 fn reads_job_lines(rt: HostRuntime) {
     assert!(rt; is_channel(&item_in(b"CHANNEL", &[b"2", b"LEFT_1", b"START"])));
+    assert!(rt; is_idle(&item_in(b"CHANNEL", &[b"8"])));
     assert!(rt; is_axis(&item_in(b"AXIS", &[b"X2", b"1", b"-100.25"])));
     assert!(rt; is_slot(&item_in(b"GEO", &[b"1", b"Z", b"X2"])));
+    assert!(rt; is_offset(&item_in(b"OFFSET", &[b"3", b"G505", b"Y", b"-0.5"])));
     let words = [
         b"32".as_slice(),
         b"5",
-        b"1",
-        b"ON",
+        b"FREE",
+        b"OFF",
         b"-X2",
         b"-10",
         b"10.125",
@@ -87,8 +134,12 @@ fn refuses_job_lines(rt: HostRuntime) {
             Code::OutOfRange,
         ),
         (item_in(b"JOB", &[b"1"]), Code::DeclaredTwice),
-        (item_in(b"AXIS", &[b"X2", b"FREE", b"0"]), Code::NotBuilt),
-        (item_in(b"MARGIN", &[b"1"]), Code::NotBuilt),
+        (
+            item_in(b"OFFSET", &[b"1", b"G500", b"X", b"0"]),
+            Code::OutOfRange,
+        ),
+        (item_in(b"MARGIN", &[b"1000.001"]), Code::OutOfRange),
+        (item_in(b"BUDGET", &[b"0"]), Code::OutOfRange),
     ];
     for (item, code) in cases {
         match item {
@@ -138,7 +189,10 @@ fn shows_codes(rt: HostRuntime) {
         (Code::NameRepeated, 9),
         (Code::BadHeader, 10),
         (Code::OpenText, 20),
-        (Code::NotInLibrary, 60),
+        (Code::UnknownJobLine, 4),
+        (Code::OwnerDiffers, 8),
+        (Code::TooMany, 11),
+        (Code::NotInLibrary, 12),
         (Code::NotBuilt, 60),
     ];
     for (code, shown) in codes {

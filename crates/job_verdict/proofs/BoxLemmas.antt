@@ -14,10 +14,10 @@ use Rattle.job_verdict.proofs.Positions.{le_or_lt}
 use Rattle.sync_types.specs.Items.{motion_of}
 
 -- with no ranges every axis stands
-pub box_standing : (zone : ZoneLine) (axes : List (ℕ × ℤ × ℤ)) (at : ℕ → ℤ) → axes ≡ []
-    → zone_box zone (low_in (record { axes = axes }) at) (high_in (record { axes = axes }) at) ≡ zone_box zone at at
+pub box_standing : (margin : ℤ) (zone : ZoneLine) (axes : List (ℕ × ℤ × ℤ)) (at : ℕ → ℤ) → axes ≡ []
+    → zone_box margin zone (low_in (record { axes = axes }) at) (high_in (record { axes = axes }) at) ≡ zone_box margin zone at at
 unfolding low_in high_in
-box_standing zone axes at e =
+box_standing margin zone axes at e =
     let low : low_in (record { axes = [] }) at ≡ at = fun_ext (λ axis. refl) in
     let high : high_in (record { axes = [] }) at ≡ at = fun_ext (λ axis. refl) in
     rw (e, low, high) refl
@@ -56,23 +56,23 @@ after_waiting : (b : Bool) (f : PlaceBox → ZoneBox) (xs ys : List PlaceBox) (o
 after_waiting true f xs ys own standing rest h k = h
 after_waiting false f xs ys own standing rest h k = k
 
-shown_moving : (zone : ZoneLine) (line place from : ℕ) (item : Item) (began at : ℕ → ℤ) (items : List Item)
-    → map (shown_box zone line) (walk zone place (Moving from item began) at items) ≡ moving_box zone item began ∷ moving_boxes zone at items
+shown_moving : (margin : ℤ) (zone : ZoneLine) (line place from : ℕ) (item : Item) (began at : ℕ → ℤ) (items : List Item)
+    → map (shown_box margin zone line) (walk zone place (Moving from item began) at items) ≡ moving_box margin zone item began ∷ moving_boxes margin zone at items
 unfolding shown_box boxes_during
-shown_moving zone line place from item began at [] = refl
-shown_moving zone line place from item began at (next ∷ items) =
-    after_moving (moves_zone zone next) (shown_box zone line) _ _ (moving_box zone item began) (moving_box zone next at) (moving_boxes zone (after next at) items)
-    (ap (λ (boxes : List ZoneBox). moving_box zone item began ∷ boxes) (shown_moving zone line (place + 1) place next at (after next at) items))
-    (shown_moving zone line (place + 1) from item began (after next at) items)
+shown_moving margin zone line place from item began at [] = refl
+shown_moving margin zone line place from item began at (next ∷ items) =
+    after_moving (moves_zone zone next) (shown_box margin zone line) _ _ (moving_box margin zone item began) (moving_box margin zone next at) (moving_boxes margin zone (after next at) items)
+    (ap (λ (boxes : List ZoneBox). moving_box margin zone item began ∷ boxes) (shown_moving margin zone line (place + 1) place next at (after next at) items))
+    (shown_moving margin zone line (place + 1) from item began (after next at) items)
 
-shown_waiting : (zone : ZoneLine) (line place from : ℕ) (began at : ℕ → ℤ) (items : List Item)
-    → map (shown_box zone line) (walk zone place (Waiting from began) at items) ≡ or_standing (moving_boxes zone at items) (standing_box zone line began)
+shown_waiting : (margin : ℤ) (zone : ZoneLine) (line place from : ℕ) (began at : ℕ → ℤ) (items : List Item)
+    → map (shown_box margin zone line) (walk zone place (Waiting from began) at items) ≡ or_standing (moving_boxes margin zone at items) (standing_box margin zone line began)
 unfolding shown_box boxes_during
-shown_waiting zone line place from began at [] = refl
-shown_waiting zone line place from began at (next ∷ items) =
-    after_waiting (moves_zone zone next) (shown_box zone line) _ _ (moving_box zone next at) (standing_box zone line began) (moving_boxes zone (after next at) items)
-    (shown_moving zone line (place + 1) from next at (after next at) items)
-    (shown_waiting zone line (place + 1) from began (after next at) items)
+shown_waiting margin zone line place from began at [] = refl
+shown_waiting margin zone line place from began at (next ∷ items) =
+    after_waiting (moves_zone zone next) (shown_box margin zone line) _ _ (moving_box margin zone next at) (standing_box margin zone line began) (moving_boxes margin zone (after next at) items)
+    (shown_moving margin zone line (place + 1) from next at (after next at) items)
+    (shown_waiting margin zone line (place + 1) from began (after next at) items)
 
 -- a list that is not empty, and one that is
 pub filled : (xs : List ZoneBox) (box : ZoneBox) → (length xs == 0) ≡ false → xs ≡ or_standing xs box
@@ -84,7 +84,7 @@ emptied [] box e = refl
 emptied (x ∷ xs) box e = absurd (omega (arith, eqb-true (length (x ∷ xs)) 0 e))
 
 -- the boxes of a zone as they are compared
-pub shown_boxes : (zone : ZoneLine) (line : ℕ) (at : ℕ → ℤ) (items : List Item)
-    → map (shown_box zone line) (boxes_of zone at items) ≡ or_standing (moving_boxes zone at items) (standing_box zone line at)
+pub shown_boxes : (margin : ℤ) (zone : ZoneLine) (line : ℕ) (at : ℕ → ℤ) (items : List Item)
+    → map (shown_box margin zone line) (boxes_of zone at items) ≡ or_standing (moving_boxes margin zone at items) (standing_box margin zone line at)
 unfolding boxes_of
-shown_boxes zone line at items = shown_waiting zone line 1 0 at at items
+shown_boxes margin zone line at items = shown_waiting margin zone line 1 0 at at items

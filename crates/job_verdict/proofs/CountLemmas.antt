@@ -10,14 +10,14 @@ use Rattle.std.proofs.lemmas.List.Sums.{sum_by-append, sum_by-cons, sum_by-le}
 use Rattle.tape_job.specs.Job.{JobView}
 use Rattle.tape_job.specs.declared.job.ChannelLine.{ChannelLine}
 use Rattle.tape_job.specs.declared.job.ZoneLine.{ZoneLine}
-use Rattle.job_verdict.proofs.JudgeLemmas.{IsHeld, AllHeld, all_held, overlap_is}
+use Rattle.job_verdict.proofs.JudgeLemmas.{IsTimed, AllTimed, all_timed, overlap_is}
 use Rattle.job_verdict.proofs.Runs.{good_run}
 use Rattle.job_verdict.specs.Channels.{IsRunnable, start_position, items_of}
 use Rattle.job_verdict.specs.Clash.{own_clock, zones_in_order, pairs_by_group, zone_pairs, BoxPlace, box_pairs, stretch_pairs, pairs_of_zones, compared_pairs, pair_count}
-use Rattle.block_effects.specs.Motions.{left_at}
+use Rattle.axis_moves.specs.Motions.{left_at}
 use Rattle.job_verdict.specs.PairCounts.{count_in_stretches, count_against, count_of_zones, count_of}
 use Rattle.job_verdict.specs.ShownStretches.{shown_stretch, held_zone, HeldView, do_overlap}
-use Rattle.job_verdict.specs.Stretches.{Stretch, spans_of, stretches_from, channel_line, stretches_of}
+use Rattle.job_verdict.specs.Stretches.{Stretch, spans_of, stretches_from, channel_line, free_stretch, stretches_of}
 use Rattle.job_verdict.specs.StretchView.{StretchView}
 use Rattle.job_verdict.specs.ZoneBoxes.{PlaceBox, Opened, Waiting, Moving, closed, next_open, walk, boxes_of, shown_box, after, moves_zone, has_axis}
 use Rattle.sync_types.specs.declared.Item.{Item}
@@ -37,9 +37,9 @@ sum_by-same : {X : Type 0} (f g : X → ℕ) → ((x : X) → f x ≡ g x) → (
 sum_by-same f g same [] = refl
 sum_by-same f g same (x ∷ xs) = sum_by-step f g x xs (same x) (sum_by-same f g same xs)
 
-sum_by-held : (f g : Stretch → ℕ) → ((s : Stretch) → IsHeld s → f s ≡ g s) → (ss : List Stretch) → AllHeld ss → sum_by f ss ≡ sum_by g ss
-sum_by-held f g same [] all = refl
-sum_by-held f g same (s ∷ ss) all = sum_by-step f g s ss (same s all.0) (sum_by-held f g same ss all.1)
+sum_by-timed : (f g : Stretch → ℕ) → ((s : Stretch) → IsTimed s → f s ≡ g s) → (ss : List Stretch) → AllTimed ss → sum_by f ss ≡ sum_by g ss
+sum_by-timed f g same [] all = refl
+sum_by-timed f g same (s ∷ ss) all = sum_by-step f g s ss (same s all.0) (sum_by-timed f g same ss all.1)
 
 filter_step : {X : Type 0} (f : X → ℕ) (b : Bool) (x : X) (xs : List X) → sum_by f (cond b (x ∷ xs) xs) ≡ cond b (f x) 0 + sum_by f xs
 filter_step f true x xs = sum_by-cons f x xs
@@ -69,26 +69,26 @@ chosen : (b : Bool) (pairs : List (BoxPlace × BoxPlace)) (n : ℕ) → length p
 chosen true pairs n e = e
 chosen false pairs n e = refl
 
-count_stretches : (zone other : ZoneLine) (s t : Stretch) → IsHeld s → IsHeld t → length (stretch_pairs own_clock zone s other t) ≡ count_in_stretches (shown_stretch zone s) (shown_stretch other t)
+count_stretches : (job : JobView) (zone other : ZoneLine) (s t : Stretch) → IsTimed s → IsTimed t → length (stretch_pairs own_clock zone s other t) ≡ count_in_stretches (shown_stretch job zone s) (shown_stretch job other t)
 unfolding count_in_stretches shown_stretch
-count_stretches zone other s t p q =
-    rw (overlap_is zone other s t p q)
-    (chosen (do_overlap (shown_stretch zone s) (shown_stretch other t)) (box_pairs zone s other t) _
-    (count_boxes zone other s t ∙ rw (length-map s.boxes (shown_box zone s.line), length-map t.boxes (shown_box other t.line)) refl))
+count_stretches job zone other s t p q =
+    rw (overlap_is job zone other s t p q)
+    (chosen (do_overlap (shown_stretch job zone s) (shown_stretch job other t)) (box_pairs zone s other t) _
+    (count_boxes zone other s t ∙ rw (length-map s.boxes (shown_box job.margin zone s.line), length-map t.boxes (shown_box job.margin other t.line)) refl))
 
 -- the pairs of two zones
 count_zones : (job : JobView) (zone other : ZoneLine) → length (pairs_of_zones own_clock job zone other) ≡ sum_by (count_against (held_zone job other)) (held_zone job zone).stretches
 unfolding pairs_of_zones held_zone count_against
 count_zones job zone other =
     length-flat_map (λ (s : Stretch). flat_map (λ (t : Stretch). stretch_pairs own_clock zone s other t) (stretches_of job other)) (stretches_of job zone)
-    ∙ sum_by-held (λ (s : Stretch). length (flat_map (λ (t : Stretch). stretch_pairs own_clock zone s other t) (stretches_of job other)))
-    (λ (s : Stretch). sum_by (count_in_stretches (shown_stretch zone s)) (map (shown_stretch other) (stretches_of job other)))
-    (λ s held. length-flat_map (λ (t : Stretch). stretch_pairs own_clock zone s other t) (stretches_of job other)
-    ∙ sum_by-held (λ (t : Stretch). length (stretch_pairs own_clock zone s other t)) (λ (t : Stretch). count_in_stretches (shown_stretch zone s) (shown_stretch other t))
-    (λ t later. count_stretches zone other s t held later) (stretches_of job other) (all_held job other)
-    ∙ sym (sum_by-map (count_in_stretches (shown_stretch zone s)) (shown_stretch other) (stretches_of job other)))
-    (stretches_of job zone) (all_held job zone)
-    ∙ sym (sum_by-map (λ (view : StretchView). sum_by (count_in_stretches view) (map (shown_stretch other) (stretches_of job other))) (shown_stretch zone) (stretches_of job zone))
+    ∙ sum_by-timed (λ (s : Stretch). length (flat_map (λ (t : Stretch). stretch_pairs own_clock zone s other t) (stretches_of job other)))
+    (λ (s : Stretch). sum_by (count_in_stretches (shown_stretch job zone s)) (map (shown_stretch job other) (stretches_of job other)))
+    (λ s timed. length-flat_map (λ (t : Stretch). stretch_pairs own_clock zone s other t) (stretches_of job other)
+    ∙ sum_by-timed (λ (t : Stretch). length (stretch_pairs own_clock zone s other t)) (λ (t : Stretch). count_in_stretches (shown_stretch job zone s) (shown_stretch job other t))
+    (λ t later. count_stretches job zone other s t timed later) (stretches_of job other) (all_timed job other)
+    ∙ sym (sum_by-map (count_in_stretches (shown_stretch job zone s)) (shown_stretch job other) (stretches_of job other)))
+    (stretches_of job zone) (all_timed job zone)
+    ∙ sym (sum_by-map (λ (view : StretchView). sum_by (count_in_stretches view) (map (shown_stretch job other) (stretches_of job other))) (shown_stretch job zone) (stretches_of job zone))
 
 unless : (b : Bool) (m n : ℕ) → m ≡ n → cond (not b) m 0 ≡ cond b 0 n
 unless true m n e = refl
@@ -159,7 +159,7 @@ abbrev AreFew : List Stretch → Type 0
 AreFew stretches = (length stretches ≤ 2) × EachOf (λ (stretch : Stretch). length stretch.boxes ≤ 100001) stretches
 
 stretches_few : (job : JobView) → IsRunnable job → (zone : ZoneLine) → AreFew (stretches_of job zone)
-unfolding stretches_of spans_of boxes_of moves_zone has_axis
+unfolding stretches_of spans_of free_stretch boxes_of moves_zone has_axis
 stretches_few job runnable zone = by_holder zone.holder refl
   where
     by_line : (c : ℕ) (o : Option ChannelLine) → AreFew (option_map_or (λ line. stretches_from zone c 0 (spans_of job line)) o [])
@@ -173,7 +173,7 @@ stretches_few job runnable zone = by_holder zone.holder refl
     )
 
     by_holder : (h : Option ℕ) → zone.holder ≡ h → AreFew (stretches_of job zone)
-    by_holder None e = rw e (omega arith, tt)
+    by_holder None e = rw e (omega arith, (boxes_few zone (start_position job) [] (omega arith), tt))
     by_holder (Some c) e = rw e (by_line c (channel_line job c))
 
 held_few : (job : JobView) → IsRunnable job → (zone : ZoneLine) → HasFewBoxes (held_zone job zone)
@@ -181,10 +181,10 @@ unfolding held_zone shown_stretch
 held_few job runnable zone =
     let few = stretches_few job runnable zone in
     record {
-      stretches = rw (length-map (stretches_of job zone) (shown_stretch zone)) few.0;
-      boxes = All-map (λ (view : StretchView). length view.boxes ≤ 100001) (shown_stretch zone) (stretches_of job zone)
-          (All-weaker (λ (s : Stretch). length s.boxes ≤ 100001) (λ s. length (map (shown_box zone s.line) s.boxes) ≤ 100001)
-          (λ s short. rw (length-map s.boxes (shown_box zone s.line)) short) (stretches_of job zone)
+      stretches = rw (length-map (stretches_of job zone) (shown_stretch job zone)) few.0;
+      boxes = All-map (λ (view : StretchView). length view.boxes ≤ 100001) (shown_stretch job zone) (stretches_of job zone)
+          (All-weaker (λ (s : Stretch). length s.boxes ≤ 100001) (λ s. length (map (shown_box job.margin zone s.line) s.boxes) ≤ 100001)
+          (λ s short. rw (length-map s.boxes (shown_box job.margin zone s.line)) short) (stretches_of job zone)
           (all_of (λ (s : Stretch). length s.boxes ≤ 100001) (stretches_of job zone) few.1));
     }
 

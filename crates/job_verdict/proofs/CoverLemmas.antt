@@ -11,7 +11,7 @@ use Rattle.tape_job.specs.declared.job.ZoneLine.{ZoneLine}
 use Rattle.job_verdict.proofs.PositionLemmas.{Joins, AllJoin, after_is, left_at-nil, left_at-cons}
 use Rattle.job_verdict.proofs.SomeLemmas.{SomeOf}
 use Rattle.path_geometry.specs.Path.{Point, IsOnPath, along}
-use Rattle.block_effects.specs.Motions.{end_in, left_at, IsStraight}
+use Rattle.axis_moves.specs.Motions.{end_in, left_at, IsStraight}
 use Rattle.job_verdict.specs.SmallSteps.{StandsAt, IsAlong, IsAtPlace}
 use Rattle.path_geometry.specs.Motions.{axes_of}
 use Rattle.job_verdict.specs.ZoneBoxes.{after, has_axis, moves_zone, PlaceBox, Opened, Waiting, Moving, close, closed, next_open, walk, boxes_of}

@@ -1,5 +1,5 @@
 -- What a channel is granted at its start.
-use Rattle.std.proofs.Common.{◌≡◌, ◌⊎◌, ◌∙◌, ℕ, ℤ, pos, ◌<◌, ◌≤◌, ◌==◌, Bool, true, false, cond, List, map, length, get_or, slice_get, option_and_then, Option, None, Some, unwrap_or, All, inl, inr, zero-add, refl, sym, ap, subst, arith}
+use Rattle.std.proofs.Common.{◌≡◌, ◌⊎◌, ◌∙◌, ℕ, ℤ, pos, ◌<◌, ◌≤◌, Bool, true, false, cond, map, length, slice_get, option_and_then, Option, None, Some, unwrap_or, All, inl, inr, zero-add, refl, sym, ap, subst, arith}
 use Rattle.std.specs.List.{range_with_len}
 use Rattle.std.proofs.lemmas.Bool.{eq-eqb}
 use Rattle.std.proofs.lemmas.List.{get_or_past}
@@ -11,7 +11,7 @@ use Rattle.tape_job.specs.SoundJob.{first_owner, IsSoundJob}
 use Rattle.tape_job.specs.declared.job.AxisLine.{AxisLine}
 use Rattle.tape_job.specs.declared.job.ChannelLine.{ChannelLine}
 use Rattle.job_verdict.proofs.Positions.{le_or_lt, starts_in_range}
-use Rattle.job_verdict.specs.Channels.{start_position, is_of, owns, owned_position, owned_positions, grant_of, granted_position}
+use Rattle.job_verdict.specs.Channels.{start_position, owns, owned_position, owned_positions, grant_of, granted_position}
 
 -- what is granted for an axis of the row
 granted_is : (job : JobView) (line : ChannelLine) (axis : ℕ) → axis < 16 → granted_position job line axis ≡ unwrap_or (owned_position job line.channel axis) (pos 0)

@@ -1,12 +1,13 @@
 -- The verdict of the comparison is that of the definition.
-use Rattle.std.proofs.Common.{◌≡◌, ℕ, ◌==◌, ◌&&◌, ◌||◌, not, cond, nat_lt, Bool, true, false, inl, inr, List, [], ◌∷◌, ◌++◌, map, filter, refl, ap, sym, ◌∙◌, Option, None, Some, find, unwrap_or, eqb-true}
+use Rattle.std.proofs.Common.{◌≡◌, ℕ, ℤ, ◌==◌, ◌&&◌, ◌||◌, not, cond, nat_lt, Bool, true, false, inl, inr, List, [], ◌∷◌, ◌++◌, map, filter, refl, ap, sym, ◌∙◌, Option, None, Some, find, eqb-true}
 use Rattle.std.specs.List.{flat_map}
-use Rattle.std.specs.Option.{option_map, option_map_or, option_and_then, option_or}
+use Rattle.std.specs.Option.{option_map, option_map_or, option_or}
 use Rattle.std.proofs.lemmas.Bool.Decides.{eqb_tells}
 use Rattle.std.proofs.lemmas.List.Folds.{find-append}
 use Rattle.swept_boxes.specs.Cover.{cover_of}
 use Rattle.swept_boxes.specs.Pieces.{pieces_at}
 use Rattle.swept_boxes.specs.Ranges.{RangesView}
+use Rattle.swept_boxes.specs.declared.Box3.{Box3}
 use Rattle.path_geometry.specs.declared.motion.Motion.{Motion}
 use Rattle.path_geometry.specs.declared.motion.Motion.TheVariants.{Line, Rapid}
 use Rattle.path_geometry.specs.declared.motion.Motion.TheVariants as Kind
@@ -20,16 +21,16 @@ use Rattle.job_verdict.proofs.StraightLemmas.{OfItem, MovesStraight, AllMoveStra
 use Rattle.job_verdict.specs.ChannelRun.{RunView, run_of, runs_of, run_in}
 use Rattle.job_verdict.specs.Channels.{start_position, granted_position, items_of}
 use Rattle.job_verdict.specs.FirstAnswer.{first_some}
-use Rattle.block_effects.specs.Motions.{left_at, IsStraight}
+use Rattle.axis_moves.specs.Motions.{left_at, IsStraight}
 use Rattle.job_verdict.specs.Clash.{own_clock, is_open_at, may_overlap, zones_in_order, pairs_by_group, zone_pairs, BoxPlace, box_pairs, stretch_pairs, pairs_of_zones, compared_pairs, boxes_meet, pair_meets, name_of, pairs_verdict}
-use Rattle.job_verdict.specs.ShownStretches.{run_stretch, end_stretch, shown_stretch, held_zone, same_kind, do_overlap, first_touched, first_lines, named, first_in_stretches, first_against, first_of_zones, first_meeting, verdict_by}
-use Rattle.job_verdict.specs.Stretches.{Event, Stretch, spans_of, stretches_from, channel_line, stretches_of}
+use Rattle.job_verdict.specs.ShownStretches.{run_stretch, end_stretch, shown_stretch, held_zone, share_channel, are_run_and_end, do_overlap, first_touched, first_lines, named, first_in_stretches, first_against, first_of_zones, first_meeting, verdict_by}
+use Rattle.job_verdict.specs.Stretches.{Event, Stretch, spans_of, stretches_from, channel_line, free_stretch, stretches_of}
 use Rattle.job_verdict.specs.StretchView.{StretchView}
 use Rattle.job_verdict.specs.ZoneBoxes.{PlaceBox, zone_box, low_in, high_in, boxes_of, shown_box, moving_box, standing_box, piece_boxes, moves_zone, has_axis}
 use Rattle.sync_types.specs.declared.Item.{Item}
 use Rattle.job_verdict.specs.declared.stretches.PlaceName.{PlaceName}
 use Rattle.job_verdict.specs.declared.stretches.StretchKind.{StretchKind}
-use Rattle.job_verdict.specs.declared.stretches.StretchKind.TheVariants.{Run, End}
+use Rattle.job_verdict.specs.declared.stretches.StretchKind.TheVariants.{Run, End, Free}
 use Rattle.job_verdict.specs.declared.zone_boxes.ZoneBox.{ZoneBox}
 use Rattle.sync_types.specs.Items.{motion_of}
 
@@ -91,47 +92,49 @@ whole_motion (Kind.Arc arc) straight = absurd straight
 whole_motion (Line ends) straight = ap (λ (r : RangesView). r ∷ []) (whole_line ends)
 
 -- where motions are not cut, a box that moves straight has one piece, its cover
-one_piece : (zone : ZoneLine) (line : ℕ) (box : PlaceBox) → MovesStraight box → piece_boxes zone 0 box ≡ (shown_box zone line box).cover ∷ []
+one_piece : (margin : ℤ) (zone : ZoneLine) (line : ℕ) (box : PlaceBox) → MovesStraight box → piece_boxes margin zone 0 box ≡ (shown_box margin zone line box).cover ∷ []
 unfolding piece_boxes shown_box moving_box standing_box
-one_piece zone line box moves = go box.motion refl moves
+one_piece margin zone line box moves = go box.motion refl moves
   where
-    go : (m : Option Item) → box.motion ≡ m → OfItem m → piece_boxes zone 0 box ≡ (shown_box zone line box).cover ∷ []
+    go : (m : Option Item) → box.motion ≡ m → OfItem m → piece_boxes margin zone 0 box ≡ (shown_box margin zone line box).cover ∷ []
     go None e straight = rw e refl
     go (Some item) e straight = rw e
-        (ap (λ (pieces : List RangesView). map (λ ranges. zone_box zone (low_in ranges box.at) (high_in ranges box.at)) pieces) (whole_motion (motion_of item) straight))
+        (ap (λ (pieces : List RangesView). map (λ ranges. zone_box margin zone (low_in ranges box.at) (high_in ranges box.at)) pieces) (whole_motion (motion_of item) straight))
 
 or_false : (b : Bool) → (b || false) ≡ b
 or_false true = refl
 or_false false = refl
 
 -- so two boxes are compared by their covers
-pair_by_covers : (job : JobView) (zone other : ZoneLine) (s t : Stretch) (l r : PlaceBox) → MovesStraight l → MovesStraight r
-    → pair_meets job (record { zone = zone; stretch = s; box = l }, record { zone = other; stretch = t; box = r }) ≡ boxes_meet (shown_box zone s.line l).cover (shown_box other t.line r).cover
+pair_by_covers : (job : JobView) → job.depth ≡ 0 → (zone other : ZoneLine) (s t : Stretch) (l r : PlaceBox) → MovesStraight l → MovesStraight r
+    → pair_meets job (record { zone = zone; stretch = s; box = l }, record { zone = other; stretch = t; box = r })
+    ≡ boxes_meet (shown_box job.margin zone s.line l).cover (shown_box job.margin other t.line r).cover
 unfolding pair_meets
-pair_by_covers job zone other s t l r p q =
-    rw (one_piece zone s.line l p, one_piece other t.line r q)
-    (or_false (boxes_meet (shown_box zone s.line l).cover (shown_box other t.line r).cover || false) ∙ or_false (boxes_meet (shown_box zone s.line l).cover (shown_box other t.line r).cover))
+pair_by_covers job uncut zone other s t l r p q =
+    let left : Box3 = (shown_box job.margin zone s.line l).cover in
+    let right : Box3 = (shown_box job.margin other t.line r).cover in
+    rw (uncut, one_piece job.margin zone s.line l p, one_piece job.margin other t.line r q) (or_false (boxes_meet left right || false) ∙ or_false (boxes_meet left right))
 
 -- and named by the lines that they show
-name_by_line : (zone : ZoneLine) (s : Stretch) (c : ℕ) (box : PlaceBox) → s.channel ≡ Some c
-    → name_of (record { zone = zone; stretch = s; box = box }) ≡ named zone (shown_stretch zone s) (shown_box zone s.line box).line
+name_by_line : (job : JobView) (zone : ZoneLine) (s : Stretch) (box : PlaceBox)
+    → name_of (record { zone = zone; stretch = s; box = box }) ≡ named zone (shown_stretch job zone s) (shown_box job.margin zone s.line box).line
 unfolding name_of shown_stretch shown_box moving_box standing_box
-name_by_line zone s c box e = go box.motion refl
+name_by_line job zone s box = go box.motion refl
   where
-    go : (m : Option Item) → box.motion ≡ m → name_of (record { zone = zone; stretch = s; box = box }) ≡ named zone (shown_stretch zone s) (shown_box zone s.line box).line
-    go None k = rw (k, e) refl
-    go (Some item) k = rw (k, e) refl
+    go : (m : Option Item) → box.motion ≡ m → name_of (record { zone = zone; stretch = s; box = box }) ≡ named zone (shown_stretch job zone s) (shown_box job.margin zone s.line box).line
+    go None k = rw k refl
+    go (Some item) k = rw k refl
 
 -- the names of two boxes of these stretches with these lines
-abbrev named_by : ZoneLine → Stretch → ZoneLine → Stretch → ℕ × ℕ → PlaceName × PlaceName
-named_by zone s other t lines = (named zone (shown_stretch zone s) lines.0, named other (shown_stretch other t) lines.1)
+abbrev named_by : JobView → ZoneLine → Stretch → ZoneLine → Stretch → ℕ × ℕ → PlaceName × PlaceName
+named_by job zone s other t lines = (named zone (shown_stretch job zone s) lines.0, named other (shown_stretch job other t) lines.1)
 
 abbrev pair_of : ZoneLine → Stretch → PlaceBox → ZoneLine → Stretch → PlaceBox → BoxPlace × BoxPlace
 pair_of zone s l other t r = (record { zone = zone; stretch = s; box = l }, record { zone = other; stretch = t; box = r })
 
-names_by_lines : (zone other : ZoneLine) (s t : Stretch) (c d : ℕ) → s.channel ≡ Some c → t.channel ≡ Some d → (l r : PlaceBox)
-    → names_of (pair_of zone s l other t r) ≡ named_by zone s other t ((shown_box zone s.line l).line, (shown_box other t.line r).line)
-names_by_lines zone other s t c d e k l r = rw (name_by_line zone s c l e, name_by_line other t d r k) refl
+names_by_lines : (job : JobView) (zone other : ZoneLine) (s t : Stretch) (l r : PlaceBox)
+    → names_of (pair_of zone s l other t r) ≡ named_by job zone s other t ((shown_box job.margin zone s.line l).line, (shown_box job.margin other t.line r).line)
+names_by_lines job zone other s t l r = rw (name_by_line job zone s l, name_by_line job other t r) refl
 
 found_step : (b : Bool) (names : PlaceName × PlaceName) (pair : BoxPlace × BoxPlace) (rest : Option (BoxPlace × BoxPlace)) (name : ZoneBox → PlaceName × PlaceName) (box : ZoneBox) (boxes : Option ZoneBox)
     → names_of pair ≡ name box → option_map names_of rest ≡ option_map name boxes
@@ -140,76 +143,73 @@ found_step true names pair rest name box boxes h k = ap (λ (n : PlaceName × Pl
 found_step false names pair rest name box boxes h k = k
 
 -- the first of some boxes that meets a box, and how the two are named
-touched_by_covers : (job : JobView) (zone other : ZoneLine) (s t : Stretch) (c d : ℕ) → s.channel ≡ Some c → t.channel ≡ Some d → (l : PlaceBox) (rs : List PlaceBox) → MovesStraight l → AllMoveStraight rs
+touched_by_covers : (job : JobView) → job.depth ≡ 0 → (zone other : ZoneLine) (s t : Stretch) (l : PlaceBox) (rs : List PlaceBox) → MovesStraight l → AllMoveStraight rs
     → option_map names_of (find (pair_meets job) (map (pair_of zone s l other t) rs))
-    ≡ option_map (λ (box : ZoneBox). named_by zone s other t ((shown_box zone s.line l).line, box.line)) (find (λ box. boxes_meet (shown_box zone s.line l).cover box.cover) (map (shown_box other t.line) rs))
-touched_by_covers job zone other s t c d e k l [] p q = refl
-touched_by_covers job zone other s t c d e k l (r ∷ rs) p q =
-    rw (pair_by_covers job zone other s t l r p q.0)
-    (found_step (boxes_meet (shown_box zone s.line l).cover (shown_box other t.line r).cover) (names_of (pair_of zone s l other t r)) (pair_of zone s l other t r) _
-    (λ (box : ZoneBox). named_by zone s other t ((shown_box zone s.line l).line, box.line)) (shown_box other t.line r) _
-    (names_by_lines zone other s t c d e k l r) (touched_by_covers job zone other s t c d e k l rs p q.1))
+    ≡ option_map (λ (box : ZoneBox). named_by job zone s other t ((shown_box job.margin zone s.line l).line, box.line))
+    (find (λ box. boxes_meet (shown_box job.margin zone s.line l).cover box.cover) (map (shown_box job.margin other t.line) rs))
+touched_by_covers job uncut zone other s t l [] p q = refl
+touched_by_covers job uncut zone other s t l (r ∷ rs) p q =
+    rw (pair_by_covers job uncut zone other s t l r p q.0)
+    (found_step (boxes_meet (shown_box job.margin zone s.line l).cover (shown_box job.margin other t.line r).cover) (names_of (pair_of zone s l other t r)) (pair_of zone s l other t r) _
+    (λ (box : ZoneBox). named_by job zone s other t ((shown_box job.margin zone s.line l).line, box.line)) (shown_box job.margin other t.line r) _
+    (names_by_lines job zone other s t l r) (touched_by_covers job uncut zone other s t l rs p q.1))
 
-touched_by_lines : (job : JobView) (zone other : ZoneLine) (s t : Stretch) (c d : ℕ) → s.channel ≡ Some c → t.channel ≡ Some d → (l : PlaceBox) → MovesStraight l → AllMoveStraight t.boxes
+touched_by_lines : (job : JobView) → job.depth ≡ 0 → (zone other : ZoneLine) (s t : Stretch) (l : PlaceBox) → MovesStraight l → AllMoveStraight t.boxes
     → option_map names_of (find (pair_meets job) (map (pair_of zone s l other t) t.boxes))
-    ≡ option_map (named_by zone s other t) (first_touched (map (shown_box other t.line) t.boxes) (shown_box zone s.line l))
+    ≡ option_map (named_by job zone s other t) (first_touched (map (shown_box job.margin other t.line) t.boxes) (shown_box job.margin zone s.line l))
 unfolding first_touched
-touched_by_lines job zone other s t c d e k l p q =
-    touched_by_covers job zone other s t c d e k l t.boxes p q
-    ∙ sym (option_map-map (named_by zone s other t) (λ (box : ZoneBox). let lines : ℕ × ℕ = ((shown_box zone s.line l).line, box.line) in lines)
-    (find (λ box. boxes_meet (shown_box zone s.line l).cover box.cover) (map (shown_box other t.line) t.boxes)))
+touched_by_lines job uncut zone other s t l p q =
+    touched_by_covers job uncut zone other s t l t.boxes p q
+    ∙ sym (option_map-map (named_by job zone s other t) (λ (box : ZoneBox). let lines : ℕ × ℕ = ((shown_box job.margin zone s.line l).line, box.line) in lines)
+    (find (λ box. boxes_meet (shown_box job.margin zone s.line l).cover box.cover) (map (shown_box job.margin other t.line) t.boxes)))
 
 first_some-straight : {Y : Type 0} (f g : PlaceBox → Option Y) → ((l : PlaceBox) → MovesStraight l → f l ≡ g l) → (ls : List PlaceBox) → AllMoveStraight ls → first_some f ls ≡ first_some g ls
 first_some-straight f g same [] all = refl
 first_some-straight f g same (l ∷ ls) all = rw (same l all.0, first_some-straight f g same ls all.1) refl
 
 -- the first two boxes of two stretches that meet
-first_by_covers : (job : JobView) (zone other : ZoneLine) (s t : Stretch) (c d : ℕ) → s.channel ≡ Some c → t.channel ≡ Some d → AllMoveStraight s.boxes → AllMoveStraight t.boxes
+first_by_covers : (job : JobView) → job.depth ≡ 0 → (zone other : ZoneLine) (s t : Stretch) → AllMoveStraight s.boxes → AllMoveStraight t.boxes
     → option_map names_of (find (pair_meets job) (box_pairs zone s other t))
-    ≡ option_map (named_by zone s other t) (first_lines (map (shown_box zone s.line) s.boxes) (map (shown_box other t.line) t.boxes))
+    ≡ option_map (named_by job zone s other t) (first_lines (map (shown_box job.margin zone s.line) s.boxes) (map (shown_box job.margin other t.line) t.boxes))
 unfolding first_lines
-first_by_covers job zone other s t c d e k p q =
-    let boxes : List ZoneBox = map (shown_box other t.line) t.boxes in
+first_by_covers job uncut zone other s t p q =
+    let boxes : List ZoneBox = map (shown_box job.margin other t.line) t.boxes in
     find-flat_map names_of (pair_meets job) (λ (l : PlaceBox). map (pair_of zone s l other t) t.boxes) s.boxes
-    ∙ first_some-straight (λ (l : PlaceBox). option_map names_of (find (pair_meets job) (map (pair_of zone s l other t) t.boxes))) (λ (l : PlaceBox). option_map (named_by zone s other t) (first_touched boxes (shown_box zone s.line l)))
-    (λ l straight. touched_by_lines job zone other s t c d e k l straight q) s.boxes p
-    ∙ sym (first_some-map (λ (box : ZoneBox). option_map (named_by zone s other t) (first_touched boxes box)) (shown_box zone s.line) s.boxes)
-    ∙ sym (map-first_some (named_by zone s other t) (first_touched boxes) (map (shown_box zone s.line) s.boxes))
+    ∙ first_some-straight (λ (l : PlaceBox). option_map names_of (find (pair_meets job) (map (pair_of zone s l other t) t.boxes)))
+    (λ (l : PlaceBox). option_map (named_by job zone s other t) (first_touched boxes (shown_box job.margin zone s.line l)))
+    (λ l straight. touched_by_lines job uncut zone other s t l straight q) s.boxes p
+    ∙ sym (first_some-map (λ (box : ZoneBox). option_map (named_by job zone s other t) (first_touched boxes box)) (shown_box job.margin zone s.line) s.boxes)
+    ∙ sym (map-first_some (named_by job zone s other t) (first_touched boxes) (map (shown_box job.margin zone s.line) s.boxes))
 
 -- ---- stretches that may overlap
 
 -- with no coordination a channel runs up to its first event, and stands after it
-abbrev pub first_of : ℕ → StretchKind → Option Event
-first_of c Run = None
-first_of c End = Some (record { channel = c; place = 1 })
+abbrev pub first_of : Option ℕ → StretchKind → Option Event
+first_of (Some c) End = Some (record { channel = c; place = 1 })
+first_of channel kind = None
 
-abbrev pub last_of : ℕ → StretchKind → Option Event
-last_of c Run = Some (record { channel = c; place = 1 })
-last_of c End = None
+abbrev pub last_of : Option ℕ → StretchKind → Option Event
+last_of (Some c) Run = Some (record { channel = c; place = 1 })
+last_of channel kind = None
 
--- the stretch of a channel
-pub record IsHeld (s : Stretch) : Type 0 where
-  pub channel : ℕ
-  pub held : s.channel ≡ Some channel
-  pub begins : s.first ≡ first_of channel s.kind
-  pub ends : s.last ≡ last_of channel s.kind
+-- a stretch of a job with no coordination: between the events of its channel, if it has one
+pub record IsTimed (s : Stretch) : Type 0 where
+  pub begins : s.first ≡ first_of s.channel s.kind
+  pub ends : s.last ≡ last_of s.channel s.kind
   pub straight : AllMoveStraight s.boxes
-
-or_true : (b : Bool) → (b || true) ≡ true
-or_true true = refl
-or_true false = refl
 
 and_true : (b : Bool) → (b && true) ≡ b
 and_true true = refl
 and_true false = refl
 
+not_both : (b : Bool) → true ≡ not (b && false)
+not_both true = refl
+not_both false = refl
+
 -- one event of a channel is before another channel's end only where the channels are one
 apart : (b : Bool) → nat_lt (cond {A = ℕ} b 1 0) 1 ≡ not b
 apart true = refl
 apart false = refl
-
-eqb_itself : (n : ℕ) → (n == n) ≡ true
-eqb_itself n = elim (eqb_tells n n) [ inl k ↦ k.0 | inr k ↦ absurd (k.1 refl) ]
 
 eqb-turned : (a b : ℕ) → (a == b) ≡ (b == a)
 eqb-turned a b = elim (eqb_tells a b) [
@@ -220,22 +220,32 @@ eqb-turned a b = elim (eqb_tells a b) [
 abbrev open_at : Option Event → Option Event → Option Event → Option Event → Bool
 open_at l g h f = is_open_at own_clock l g && is_open_at own_clock h f
 
-overlap_at : (c d : ℕ) (k m : StretchKind) → open_at (last_of c k) (first_of d m) (last_of d m) (first_of c k) ≡ (not (c == d) || same_kind k m)
-overlap_at c d Run Run = sym (or_true (not (c == d)))
-overlap_at c d Run End = and_true (nat_lt (cond {A = ℕ} (c == d) 1 0) 1) ∙ apart (c == d) ∙ sym (or_false (not (c == d)))
-overlap_at c d End Run = apart (d == c) ∙ ap not (eqb-turned d c) ∙ sym (or_false (not (c == d)))
-overlap_at c d End End = sym (or_true (not (c == d)))
+open_free : (h : Option Event) → is_open_at own_clock h None ≡ true
+open_free None = refl
+open_free (Some h) = refl
 
-pub overlap_is : (zone other : ZoneLine) (s t : Stretch) → IsHeld s → IsHeld t → may_overlap own_clock s t ≡ do_overlap (shown_stretch zone s) (shown_stretch other t)
+both_open : (l h : Option Event) → (is_open_at own_clock l None && is_open_at own_clock h None) ≡ true
+both_open l h = rw (open_free l, open_free h) refl
+
+overlap_at : (c d : Option ℕ) (k m : StretchKind) → open_at (last_of c k) (first_of d m) (last_of d m) (first_of c k) ≡ not (share_channel c d && are_run_and_end k m)
+overlap_at None d k m = open_free (last_of d m)
+overlap_at (Some c) None k m = and_true (is_open_at own_clock (last_of (Some c) k) None) ∙ open_free (last_of (Some c) k)
+overlap_at (Some c) (Some d) Run Run = not_both (d == c)
+overlap_at (Some c) (Some d) Run End = and_true (nat_lt (cond {A = ℕ} (c == d) 1 0) 1) ∙ apart (c == d) ∙ ap not (eqb-turned c d ∙ sym (and_true (d == c)))
+overlap_at (Some c) (Some d) Run Free = not_both (d == c)
+overlap_at (Some c) (Some d) End Run = apart (d == c) ∙ ap not (sym (and_true (d == c)))
+overlap_at (Some c) (Some d) End End = not_both (d == c)
+overlap_at (Some c) (Some d) End Free = not_both (d == c)
+overlap_at (Some c) (Some d) Free m = both_open None (last_of (Some d) m) ∙ not_both (d == c)
+
+pub overlap_is : (job : JobView) (zone other : ZoneLine) (s t : Stretch) → IsTimed s → IsTimed t → may_overlap own_clock s t ≡ do_overlap (shown_stretch job zone s) (shown_stretch job other t)
 unfolding may_overlap do_overlap shown_stretch
-overlap_is zone other s t p q =
+overlap_is job zone other s t p q =
     ap (λ (l : Option Event). open_at l t.first t.last s.first) p.ends
-    ∙ ap (λ (g : Option Event). open_at (last_of p.channel s.kind) g t.last s.first) q.begins
-    ∙ ap (λ (h : Option Event). open_at (last_of p.channel s.kind) (first_of q.channel t.kind) h s.first) q.ends
-    ∙ ap (λ (f : Option Event). open_at (last_of p.channel s.kind) (first_of q.channel t.kind) (last_of q.channel t.kind) f) p.begins
-    ∙ overlap_at p.channel q.channel s.kind t.kind
-    ∙ ap (λ (c : ℕ). not (c == q.channel) || same_kind s.kind t.kind) (sym (ap (λ (o : Option ℕ). unwrap_or o 0) p.held))
-    ∙ ap (λ (d : ℕ). not (unwrap_or s.channel 0 == d) || same_kind s.kind t.kind) (sym (ap (λ (o : Option ℕ). unwrap_or o 0) q.held))
+    ∙ ap (λ (g : Option Event). open_at (last_of s.channel s.kind) g t.last s.first) q.begins
+    ∙ ap (λ (h : Option Event). open_at (last_of s.channel s.kind) (first_of t.channel t.kind) h s.first) q.ends
+    ∙ ap (λ (f : Option Event). open_at (last_of s.channel s.kind) (first_of t.channel t.kind) (last_of t.channel t.kind) f) p.begins
+    ∙ overlap_at s.channel t.channel s.kind t.kind
 
 open_step : (job : JobView) (b : Bool) (pairs : List (BoxPlace × BoxPlace)) (r : Option (PlaceName × PlaceName))
     → option_map names_of (find (pair_meets job) pairs) ≡ r → option_map names_of (find (pair_meets job) (cond b pairs [])) ≡ cond b r None
@@ -243,53 +253,53 @@ open_step job true pairs r h = h
 open_step job false pairs r h = refl
 
 -- the names of the first two boxes of two stretches that meet
-stretches_by_covers : (job : JobView) (zone other : ZoneLine) (s t : Stretch) → IsHeld s → IsHeld t
-    → option_map names_of (find (pair_meets job) (stretch_pairs own_clock zone s other t)) ≡ first_in_stretches zone other (shown_stretch zone s) (shown_stretch other t)
+stretches_by_covers : (job : JobView) → job.depth ≡ 0 → (zone other : ZoneLine) (s t : Stretch) → IsTimed s → IsTimed t
+    → option_map names_of (find (pair_meets job) (stretch_pairs own_clock zone s other t)) ≡ first_in_stretches zone other (shown_stretch job zone s) (shown_stretch job other t)
 unfolding first_in_stretches shown_stretch
-stretches_by_covers job zone other s t p q =
-    rw (overlap_is zone other s t p q)
-    (open_step job (do_overlap (shown_stretch zone s) (shown_stretch other t)) (box_pairs zone s other t) _ (first_by_covers job zone other s t p.channel q.channel p.held q.held p.straight q.straight))
+stretches_by_covers job uncut zone other s t p q =
+    rw (overlap_is job zone other s t p q)
+    (open_step job (do_overlap (shown_stretch job zone s) (shown_stretch job other t)) (box_pairs zone s other t) _ (first_by_covers job uncut zone other s t p.straight q.straight))
 
 -- ---- zones
 
-abbrev pub AllHeld : List Stretch → Type 0
-AllHeld [] = Unit {0}
-AllHeld (s ∷ ss) = IsHeld s × AllHeld ss
+abbrev pub AllTimed : List Stretch → Type 0
+AllTimed [] = Unit {0}
+AllTimed (s ∷ ss) = IsTimed s × AllTimed ss
 
-first_some-held : {Y : Type 0} (f g : Stretch → Option Y) → ((s : Stretch) → IsHeld s → f s ≡ g s) → (ss : List Stretch) → AllHeld ss → first_some f ss ≡ first_some g ss
-first_some-held f g same [] all = refl
-first_some-held f g same (s ∷ ss) all = rw (same s all.0, first_some-held f g same ss all.1) refl
+first_some-timed : {Y : Type 0} (f g : Stretch → Option Y) → ((s : Stretch) → IsTimed s → f s ≡ g s) → (ss : List Stretch) → AllTimed ss → first_some f ss ≡ first_some g ss
+first_some-timed f g same [] all = refl
+first_some-timed f g same (s ∷ ss) all = rw (same s all.0, first_some-timed f g same ss all.1) refl
 
-pub all_held : (job : JobView) (zone : ZoneLine) → AllHeld (stretches_of job zone)
-unfolding stretches_of spans_of boxes_of moves_zone has_axis
-all_held job zone = by_holder zone.holder refl
+pub all_timed : (job : JobView) (zone : ZoneLine) → AllTimed (stretches_of job zone)
+unfolding stretches_of spans_of free_stretch boxes_of moves_zone has_axis
+all_timed job zone = by_holder zone.holder refl
   where
-    by_line : (c : ℕ) (o : Option ChannelLine) → AllHeld (option_map_or (λ line. stretches_from zone c 0 (spans_of job line)) o [])
+    by_line : (c : ℕ) (o : Option ChannelLine) → AllTimed (option_map_or (λ line. stretches_from zone c 0 (spans_of job line)) o [])
     by_line c None = tt
     by_line c (Some line) = (
-      record { channel = c; held = refl; begins = refl; ends = refl; straight = boxes_straight zone (start_position job) (items_of job line) (joined_straight (granted_position job line) (items_of job line) (granted_join job line)) },
-      (record { channel = c; held = refl; begins = refl; ends = refl; straight = boxes_straight zone (left_at (items_of job line) (start_position job)) [] tt }, tt),
+      record { begins = refl; ends = refl; straight = boxes_straight zone (start_position job) (items_of job line) (joined_straight (granted_position job line) (items_of job line) (granted_join job line)) },
+      (record { begins = refl; ends = refl; straight = boxes_straight zone (left_at (items_of job line) (start_position job)) [] tt }, tt),
     )
 
-    by_holder : (h : Option ℕ) → zone.holder ≡ h → AllHeld (stretches_of job zone)
-    by_holder None e = rw e tt
+    by_holder : (h : Option ℕ) → zone.holder ≡ h → AllTimed (stretches_of job zone)
+    by_holder None e = rw e (record { begins = refl; ends = refl; straight = boxes_straight zone (start_position job) [] tt }, tt)
     by_holder (Some c) e = rw e (by_line c (channel_line job c))
 
 -- the names of the first two boxes of two zones that meet
-zones_by_covers : (job : JobView) (zone other : ZoneLine)
+zones_by_covers : (job : JobView) → job.depth ≡ 0 → (zone other : ZoneLine)
     → option_map names_of (find (pair_meets job) (pairs_of_zones own_clock job zone other)) ≡ first_some (first_against zone (held_zone job other)) (held_zone job zone).stretches
 unfolding pairs_of_zones held_zone first_against
-zones_by_covers job zone other =
+zones_by_covers job uncut zone other =
     let given : Stretch → Stretch → Option (PlaceName × PlaceName) = λ s t. option_map names_of (find (pair_meets job) (stretch_pairs own_clock zone s other t)) in
-    let found : Stretch → Stretch → Option (PlaceName × PlaceName) = λ s t. first_in_stretches zone other (shown_stretch zone s) (shown_stretch other t) in
+    let found : Stretch → Stretch → Option (PlaceName × PlaceName) = λ s t. first_in_stretches zone other (shown_stretch job zone s) (shown_stretch job other t) in
     find-flat_map names_of (pair_meets job) (λ (s : Stretch). flat_map (λ (t : Stretch). stretch_pairs own_clock zone s other t) (stretches_of job other)) (stretches_of job zone)
-    ∙ first_some-held (λ (s : Stretch). option_map names_of (find (pair_meets job) (flat_map (λ (t : Stretch). stretch_pairs own_clock zone s other t) (stretches_of job other))))
-    (λ (s : Stretch). first_some (first_in_stretches zone other (shown_stretch zone s)) (map (shown_stretch other) (stretches_of job other)))
-    (λ s held. find-flat_map names_of (pair_meets job) (λ (t : Stretch). stretch_pairs own_clock zone s other t) (stretches_of job other)
-    ∙ first_some-held (given s) (found s) (λ t later. stretches_by_covers job zone other s t held later) (stretches_of job other) (all_held job other)
-    ∙ sym (first_some-map (first_in_stretches zone other (shown_stretch zone s)) (shown_stretch other) (stretches_of job other)))
-    (stretches_of job zone) (all_held job zone)
-    ∙ sym (first_some-map (λ (view : StretchView). first_some (first_in_stretches zone other view) (map (shown_stretch other) (stretches_of job other))) (shown_stretch zone) (stretches_of job zone))
+    ∙ first_some-timed (λ (s : Stretch). option_map names_of (find (pair_meets job) (flat_map (λ (t : Stretch). stretch_pairs own_clock zone s other t) (stretches_of job other))))
+    (λ (s : Stretch). first_some (first_in_stretches zone other (shown_stretch job zone s)) (map (shown_stretch job other) (stretches_of job other)))
+    (λ s timed. find-flat_map names_of (pair_meets job) (λ (t : Stretch). stretch_pairs own_clock zone s other t) (stretches_of job other)
+    ∙ first_some-timed (given s) (found s) (λ t later. stretches_by_covers job uncut zone other s t timed later) (stretches_of job other) (all_timed job other)
+    ∙ sym (first_some-map (first_in_stretches zone other (shown_stretch job zone s)) (shown_stretch job other) (stretches_of job other)))
+    (stretches_of job zone) (all_timed job zone)
+    ∙ sym (first_some-map (λ (view : StretchView). first_some (first_in_stretches zone other view) (map (shown_stretch job other) (stretches_of job other))) (shown_stretch job zone) (stretches_of job zone))
 
 filter_step : {X Y : Type 0} (f : X → Option Y) (b : Bool) (x : X) (xs : List X) → first_some f (cond b (x ∷ xs) xs) ≡ option_or (cond b (f x) None) (first_some f xs)
 filter_step f true x xs = refl
@@ -307,26 +317,26 @@ of_pair : JobView → ZoneLine × ZoneLine → Option (PlaceName × PlaceName)
 of_pair job pair = option_map names_of (find (pair_meets job) (pairs_of_zones own_clock job pair.0 pair.1))
 
 -- the names of the first two boxes of any two zones that meet
-groups_by_covers : (job : JobView) (zones : List ZoneLine) → first_some (of_pair job) (pairs_by_group zones) ≡ first_meeting (map (held_zone job) zones)
+groups_by_covers : (job : JobView) → job.depth ≡ 0 → (zones : List ZoneLine) → first_some (of_pair job) (pairs_by_group zones) ≡ first_meeting (map (held_zone job) zones)
 unfolding of_pair first_of_zones held_zone
-groups_by_covers job [] = refl
-groups_by_covers job (zone ∷ zones) =
+groups_by_covers job uncut [] = refl
+groups_by_covers job uncut (zone ∷ zones) =
     first_some-append (of_pair job) (map (λ (other : ZoneLine). (zone, other)) (filter (λ other. not (zone.group == other.group)) zones)) (pairs_by_group zones)
     ∙ ap (λ (r : Option (PlaceName × PlaceName)). option_or r (first_some (of_pair job) (pairs_by_group zones)))
     (first_some-map (of_pair job) (λ (other : ZoneLine). (zone, other)) (filter (λ other. not (zone.group == other.group)) zones)
     ∙ first_some-filter (λ (other : ZoneLine). of_pair job (zone, other)) (λ other. not (zone.group == other.group)) zones
     ∙ first_some-same (λ (other : ZoneLine). cond (not (zone.group == other.group)) (of_pair job (zone, other)) None) (λ (other : ZoneLine). first_of_zones (held_zone job zone) (held_zone job other)) (with_other zone) zones
     ∙ sym (first_some-map (first_of_zones (held_zone job zone)) (held_zone job) zones))
-    ∙ ap (λ (r : Option (PlaceName × PlaceName)). option_or (first_some (first_of_zones (held_zone job zone)) (map (held_zone job) zones)) r) (groups_by_covers job zones)
+    ∙ ap (λ (r : Option (PlaceName × PlaceName)). option_or (first_some (first_of_zones (held_zone job zone)) (map (held_zone job) zones)) r) (groups_by_covers job uncut zones)
   where
     with_other : (zone other : ZoneLine) → cond (not (zone.group == other.group)) (of_pair job (zone, other)) None ≡ first_of_zones (held_zone job zone) (held_zone job other)
-    with_other zone other = unless (zone.group == other.group) _ _ (zones_by_covers job zone other)
+    with_other zone other = unless (zone.group == other.group) _ _ (zones_by_covers job uncut zone other)
 
 -- the verdict on the zones with their stretches is that of the definition
-pub verdict_is : (job : JobView) → verdict_by (first_meeting (map (held_zone job) (zones_in_order job))) ≡ pairs_verdict job
+pub verdict_is : (job : JobView) → job.depth ≡ 0 → verdict_by (first_meeting (map (held_zone job) (zones_in_order job))) ≡ pairs_verdict job
 unfolding pairs_verdict compared_pairs zone_pairs of_pair
-verdict_is job =
-    ap verdict_by (sym (find-flat_map names_of (pair_meets job) (λ (pair : ZoneLine × ZoneLine). pairs_of_zones own_clock job pair.0 pair.1) (pairs_by_group (zones_in_order job)) ∙ groups_by_covers job (zones_in_order job)))
+verdict_is job uncut =
+    ap verdict_by (sym (find-flat_map names_of (pair_meets job) (λ (pair : ZoneLine × ZoneLine). pairs_of_zones own_clock job pair.0 pair.1) (pairs_by_group (zones_in_order job)) ∙ groups_by_covers job uncut (zones_in_order job)))
     ∙ by_found (find (pair_meets job) (compared_pairs job)) refl
   where
     by_found : (o : Option (BoxPlace × BoxPlace)) → find (pair_meets job) (compared_pairs job) ≡ o → verdict_by (option_map names_of (find (pair_meets job) (compared_pairs job))) ≡ pairs_verdict job
@@ -340,34 +350,29 @@ pub run_in-runs_of : (job : JobView) (channel : ℕ) → run_in (runs_of job) ch
 unfolding run_in runs_of run_of
 run_in-runs_of job channel = find-map (λ (run : RunView). run.channel == channel) (run_of job) job.channels
 
--- the stretches of a zone come from the run of its holder
-pub run_stretches : (job : JobView) (zone : ZoneLine) (run : RunView) → option_and_then (run_in (runs_of job)) zone.holder ≡ Some run
-    → run_stretch job zone run ∷ end_stretch job zone run ∷ [] ≡ map (shown_stretch zone) (stretches_of job zone)
+-- the stretches of a zone that a channel holds come from the run of that channel
+pub run_stretches : (job : JobView) (zone : ZoneLine) (c : ℕ) (run : RunView) → zone.holder ≡ Some c → run_in (runs_of job) c ≡ Some run
+    → run_stretch job zone run ∷ end_stretch job zone run ∷ [] ≡ map (shown_stretch job zone) (stretches_of job zone)
 unfolding stretches_of spans_of shown_stretch run_stretch end_stretch run_of
-run_stretches job zone run found = by_holder zone.holder refl found
+run_stretches job zone c run held found = by_line (channel_line job c) refl (sym (run_in-runs_of job c) ∙ found)
   where
-    Goal : Type 0
-    Goal = run_stretch job zone run ∷ end_stretch job zone run ∷ [] ≡ map (shown_stretch zone) (stretches_of job zone)
-
-    by_line : (c : ℕ) → zone.holder ≡ Some c → (o : Option ChannelLine) → channel_line job c ≡ o → option_map (run_of job) o ≡ Some run → Goal
-    by_line c e None k is = absurd cc
-    by_line c e (Some line) k is =
+    by_line : (o : Option ChannelLine) → channel_line job c ≡ o → option_map (run_of job) o ≡ Some run
+        → run_stretch job zone run ∷ end_stretch job zone run ∷ [] ≡ map (shown_stretch job zone) (stretches_of job zone)
+    by_line None k is = absurd cc
+    by_line (Some line) k is =
         let same : line.channel ≡ c = eqb-true line.channel c (found_passes (λ (other : ChannelLine). other.channel == c) job.channels line k) in
         let ran : run_of job line ≡ run = cc in
-        rw (← ran, e, k, ← same) refl
+        rw (← ran, held, k, ← same) refl
 
-    by_holder : (h : Option ℕ) → zone.holder ≡ h → option_and_then (run_in (runs_of job)) h ≡ Some run → Goal
-    by_holder None e k = absurd cc
-    by_holder (Some c) e k = by_line c e (channel_line job c) refl (sym (run_in-runs_of job c) ∙ k)
-
-pub no_stretches : (job : JobView) (zone : ZoneLine) → option_and_then (run_in (runs_of job)) zone.holder ≡ None → [] ≡ map (shown_stretch zone) (stretches_of job zone)
+pub no_stretches : (job : JobView) (zone : ZoneLine) (c : ℕ) → zone.holder ≡ Some c → run_in (runs_of job) c ≡ None → [] ≡ map (shown_stretch job zone) (stretches_of job zone)
 unfolding stretches_of
-no_stretches job zone none = by_holder zone.holder refl none
+no_stretches job zone c held none = by_line (channel_line job c) refl (sym (run_in-runs_of job c) ∙ none)
   where
-    by_line : (c : ℕ) → zone.holder ≡ Some c → (o : Option ChannelLine) → channel_line job c ≡ o → option_map (run_of job) o ≡ None → [] ≡ map (shown_stretch zone) (stretches_of job zone)
-    by_line c e None k is = rw (e, k) refl
-    by_line c e (Some line) k is = absurd cc
+    by_line : (o : Option ChannelLine) → channel_line job c ≡ o → option_map (run_of job) o ≡ None → [] ≡ map (shown_stretch job zone) (stretches_of job zone)
+    by_line None k is = rw (held, k) refl
+    by_line (Some line) k is = absurd cc
 
-    by_holder : (h : Option ℕ) → zone.holder ≡ h → option_and_then (run_in (runs_of job)) h ≡ None → [] ≡ map (shown_stretch zone) (stretches_of job zone)
-    by_holder None e k = rw e refl
-    by_holder (Some c) e k = by_line c e (channel_line job c) refl (sym (run_in-runs_of job c) ∙ k)
+-- and the one stretch of a zone that none holds
+pub free_is : (job : JobView) (zone : ZoneLine) → zone.holder ≡ None → shown_stretch job zone (free_stretch job zone) ∷ [] ≡ map (shown_stretch job zone) (stretches_of job zone)
+unfolding stretches_of
+free_is job zone free = rw free refl

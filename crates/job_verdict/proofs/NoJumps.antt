@@ -14,7 +14,7 @@ use Rattle.job_verdict.proofs.Runs.{motions_join}
 use Rattle.job_verdict.proofs.StateLemmas.{WellPlaced, WellPlaced-step, well_placed, WellPlaced-opening, not_ended, run_place, board_last, end_place, one_under}
 use Rattle.job_verdict.specs.Channels.{start_position, items_of}
 use Rattle.job_verdict.specs.Safety.{axis_owner, axis_position, fraction_of, NoJump}
-use Rattle.block_effects.specs.Motions.{end_in, left_at}
+use Rattle.axis_moves.specs.Motions.{end_in, left_at}
 use Rattle.job_verdict.specs.SmallSteps.{StandsAt, IsAlong, IsEndOf, IsAtPlace, IsAtEnd, Spot, State, opening, span_of, has_ended, motions_of, board_position, beginning, present, Act, after_step, IsLawful, reached}
 use Rattle.job_verdict.specs.Stretches.{channel_line}
 use Rattle.path_geometry.specs.Motions.{axes_of}

@@ -34,18 +34,18 @@ owned_by_one job sound state axis = by_line (slice_get job.axes axis) refl
     by_line None is = tt
     by_line (Some line) is = by_owner line.owner (All-at (λ l. IsSomeAnd l.owner (IsDeclared job)) job.axes axis line sound.owners is)
 
-moves_own : (job : JobView) → IsSoundJob job → (state : State) (channel : ℕ) → All (λ item. All (λ e. axis_owner job state e.0 ≡ Some channel) (axes_of (motion_of item))) (motions_of job channel)
+moves_own : (job : JobView) (state : State) (channel : ℕ) → All (λ item. All (λ e. axis_owner job state e.0 ≡ Some channel) (axes_of (motion_of item))) (motions_of job channel)
 unfolding motions_of axis_owner first_owner
-moves_own job sound state channel = by_line (channel_line job channel) refl
+moves_own job state channel = by_line (channel_line job channel) refl
   where
     by_line : (o : Option ChannelLine) → channel_line job channel ≡ o → All (HasOwnAxes job channel) (option_map_or (items_of job) o [])
     by_line None is = All-nil (HasOwnAxes job channel)
     by_line (Some line) is =
         let same : line.channel ≡ channel = eqb-true line.channel channel (found_passes (λ (l : ChannelLine). l.channel == channel) job.channels line is) in
-        subst (λ c. All (HasOwnAxes job c) (items_of job line)) same (motions_owned job sound line)
+        subst (λ c. All (HasOwnAxes job c) (items_of job line)) same (motions_owned job line)
 
 pub one_owner : (job : JobView) → IsSoundJob job → (state : State) → OneOwner job state
 one_owner job sound state = record {
   owned = λ axis within. owned_by_one job sound state axis;
-  own = λ channel running. moves_own job sound state channel;
+  own = λ channel running. moves_own job state channel;
 }

@@ -143,13 +143,13 @@ meet_is left right meet =
 
 -- a pair meets where a point of space is in a piece of the one and in a piece of the other
 pub pair_is : (job : JobView) (pair : BoxPlace × BoxPlace) (point : SpacePoint)
-    → SomeOf (λ piece. IsInBox piece point) (piece_boxes pair.0.zone (depth_of job) pair.0.box)
-    → SomeOf (λ piece. IsInBox piece point) (piece_boxes pair.1.zone (depth_of job) pair.1.box) → pair_meets job pair ≡ true
+    → SomeOf (λ piece. IsInBox piece point) (piece_boxes job.margin pair.0.zone (depth_of job) pair.0.box)
+    → SomeOf (λ piece. IsInBox piece point) (piece_boxes job.margin pair.1.zone (depth_of job) pair.1.box) → pair_meets job pair ≡ true
 unfolding pair_meets
 pair_is job pair point left right =
-    list_any-some (λ l. list_any (λ r. boxes_meet l r) (piece_boxes pair.1.zone (depth_of job) pair.1.box)) (piece_boxes pair.0.zone (depth_of job) pair.0.box)
-    (SomeOf-weaker (λ piece. IsInBox piece point) (λ l. list_any (λ r. boxes_meet l r) (piece_boxes pair.1.zone (depth_of job) pair.1.box) ≡ true)
-    (λ l in_left. list_any-some (λ r. boxes_meet l r) (piece_boxes pair.1.zone (depth_of job) pair.1.box)
+    list_any-some (λ l. list_any (λ r. boxes_meet l r) (piece_boxes job.margin pair.1.zone (depth_of job) pair.1.box)) (piece_boxes job.margin pair.0.zone (depth_of job) pair.0.box)
+    (SomeOf-weaker (λ piece. IsInBox piece point) (λ l. list_any (λ r. boxes_meet l r) (piece_boxes job.margin pair.1.zone (depth_of job) pair.1.box) ≡ true)
+    (λ l in_left. list_any-some (λ r. boxes_meet l r) (piece_boxes job.margin pair.1.zone (depth_of job) pair.1.box)
     (SomeOf-weaker (λ piece. IsInBox piece point) (λ r. boxes_meet l r ≡ true) (λ r in_right. meet_is l r (point, in_left, in_right))
-    (piece_boxes pair.1.zone (depth_of job) pair.1.box) right))
-    (piece_boxes pair.0.zone (depth_of job) pair.0.box) left)
+    (piece_boxes job.margin pair.1.zone (depth_of job) pair.1.box) right))
+    (piece_boxes job.margin pair.0.zone (depth_of job) pair.0.box) left)

@@ -17,7 +17,7 @@ use Rattle.tape_job.specs.declared.job.ZoneLine.{ZoneLine}
 use Rattle.job_verdict.proofs.CoverLemmas.{Covers, IsCovered}
 use Rattle.job_verdict.proofs.SomeLemmas.{SomeOf, SomeOf-weaker, SomeOf-map, found_passes, All-found}
 use Rattle.path_geometry.specs.Path.{Point, IsOnPath}
-use Rattle.block_effects.specs.Motions.{end_in, IsStraight}
+use Rattle.axis_moves.specs.Motions.{end_in, IsStraight}
 use Rattle.job_verdict.specs.SmallSteps.{StandsAt, IsAlong}
 use Rattle.path_geometry.specs.Motions.{axes_of}
 use Rattle.job_verdict.specs.ZoneBoxes.{has_axis, PlaceBox, zone_box, low_in, high_in, piece_boxes}
@@ -84,24 +84,24 @@ abbrev pub AxesWithin : ZoneLine → (ℕ → ℤ) → (ℕ → ℤ) → Point �
 AxesWithin zone low high point = (axis : ℕ) → has_axis zone axis ≡ true → IsIn (low axis) (high axis) (point.top axis) point.under
 
 -- what holds of the zone box of bounds that hold the zone's axes, holds of some piece of a box that covers the point
-pub some_piece : (P : Box3 → Type 0) (zone : ZoneLine) (depth place : ℕ) (point : Point) (box : PlaceBox)
-    → ((low high : ℕ → ℤ) → AxesWithin zone low high point → P (zone_box zone low high)) → Covers zone place point box → SomeOf P (piece_boxes zone depth box)
+pub some_piece : (P : Box3 → Type 0) (margin : ℤ) (zone : ZoneLine) (depth place : ℕ) (point : Point) (box : PlaceBox)
+    → ((low high : ℕ → ℤ) → AxesWithin zone low high point → P (zone_box margin zone low high)) → Covers zone place point box → SomeOf P (piece_boxes margin zone depth box)
 unfolding piece_boxes
-some_piece P zone depth place point box holds covers = by_motion box.motion covers.covered
+some_piece P margin zone depth place point box holds covers = by_motion box.motion covers.covered
   where
     of_other : (item : Item) (other : Point) (ranges : RangesView) → IsAlong box.at item other → other.under ≡ point.under
         → ((axis : ℕ) → has_axis zone axis ≡ true → other.top axis ≡ point.top axis) → Hold ranges other × HasAxesOf (motion_of item) ranges
-        → P (zone_box zone (low_in ranges box.at) (high_in ranges box.at))
+        → P (zone_box margin zone (low_in ranges box.at) (high_in ranges box.at))
     of_other item other ranges along under tops piece = holds (low_in ranges box.at) (high_in ranges box.at)
         (λ axis has. subst (λ n. IsIn (low_in ranges box.at axis) (high_in ranges box.at axis) (point.top axis) n) under
         (subst (λ t. IsIn (low_in ranges box.at axis) (high_in ranges box.at axis) t other.under) (tops axis has)
         (within_piece box.at item other ranges along piece.0 piece.1 axis)))
 
-    by_motion : (o : Option Item) → IsCovered zone box.at o point → SomeOf P (piece_boxes zone depth (record box { motion = o }))
+    by_motion : (o : Option Item) → IsCovered zone box.at o point → SomeOf P (piece_boxes margin zone depth (record box { motion = o }))
     by_motion None stands = inl (holds box.at box.at (λ axis has. in_itself (box.at axis) (point.top axis) point.under (stands axis has)))
     by_motion (Some item) (straight, other, along, under, tops) =
-        SomeOf-map P (λ ranges. zone_box zone (low_in ranges box.at) (high_in ranges box.at)) (pieces_at (motion_of item) depth)
-        (SomeOf-weaker (λ ranges. Hold ranges other × HasAxesOf (motion_of item) ranges) (λ ranges. P (zone_box zone (low_in ranges box.at) (high_in ranges box.at)))
+        SomeOf-map P (λ ranges. zone_box margin zone (low_in ranges box.at) (high_in ranges box.at)) (pieces_at (motion_of item) depth)
+        (SomeOf-weaker (λ ranges. Hold ranges other × HasAxesOf (motion_of item) ranges) (λ ranges. P (zone_box margin zone (low_in ranges box.at) (high_in ranges box.at)))
         (λ ranges piece. of_other item other ranges along under tops piece) (pieces_at (motion_of item) depth)
         (some_with_all (λ ranges. Hold ranges other) (HasAxesOf (motion_of item)) (pieces_at (motion_of item) depth)
         (straight_covered (motion_of item) depth other straight along.path) (pieces_have_axes (motion_of item) depth straight)))

@@ -6,7 +6,7 @@ use Rattle.std.proofs.lemmas.List.Elements.{All-weaker}
 use Rattle.std.specs.Prelude.{⊤}
 use Rattle.std.specs.List.{last_or, cons_option}
 use Rattle.std.specs.Option.{option_map_or}
-use Rattle.block_effects.specs.Motions.{end_in, left_at, IsStraight}
+use Rattle.axis_moves.specs.Motions.{end_in, left_at, IsStraight}
 use Rattle.path_geometry.specs.Motions.{axes_of}
 use Rattle.job_verdict.specs.ZoneBoxes.{after}
 use Rattle.sync_types.specs.declared.Item.{Item}

@@ -9,8 +9,9 @@ use Rattle.job_verdict.specs.Channels.{IsRunnable}
 
 pub runnable : (job : JobView) → IsSoundJob job → BlocksFit job → IsRunnable job
 runnable job sound fit = record {
-  axes = record { few = sound.few_axes; slots = sound.slot_axes };
+  axes = sound.few_axes;
   starts = sound.positions;
+  depth = sound.depth;
   programs = sound.few_programs;
   blocks = fit;
 }

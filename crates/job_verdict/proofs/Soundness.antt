@@ -1,10 +1,10 @@
 -- The verdict YES is sound at all speeds.
-use Rattle.std.proofs.Common.{◌≡◌, ◌≢◌, ◌⊎◌, ◌∙◌, ℕ, zero, suc, ℤ, pos, ◌*ℤ◌, ◌<◌, Bool, true, false, cond, ◌||◌, ◌==◌, List, [], ◌∷◌, length, get_or, find, Option, None, Some, IfSome, IsSomeAnd, All, Contains, inl, inr, refl, sym, ap, subst, arith}
+use Rattle.std.proofs.Common.{◌≡◌, ◌≢◌, ◌⊎◌, ◌∙◌, ℕ, zero, suc, ℤ, pos, ◌*ℤ◌, ◌<◌, Bool, true, false, cond, ◌||◌, ◌==◌, List, [], ◌∷◌, length, get_or, find, Option, None, Some, IfSome, All, Contains, inl, inr, refl, sym, ap, subst, arith}
 use Rattle.std.proofs.lemmas.Bool.{false≢true, eqb-true, eq-eqb, cases_Bool}
 use Rattle.std.proofs.lemmas.List.Elements.{All-head, All-tail, All-contains}
 use Rattle.std.specs.Prelude.{Result, Ok, Err, IfOk}
 use Rattle.std.specs.List.{list_any}
-use Rattle.number_laws.specs.Fractions.{Fraction, IsIn}
+use Rattle.number_laws.specs.Fractions.{Fraction, IsIn, whole}
 use Rattle.swept_boxes.specs.Boxes.{SpacePoint, IsInBox}
 use Rattle.tape_job.specs.Job.{JobView}
 use Rattle.tape_job.specs.declared.job.ChannelLine.{ChannelLine}
@@ -15,17 +15,18 @@ use Rattle.job_verdict.proofs.OwnerLemmas.{one_owner}
 use Rattle.job_verdict.proofs.PairLemmas.{is_in_order, some_zone_pair, IsCurrent, IsCut-own_clock, HasBox, some_box_pair, pair_is}
 use Rattle.job_verdict.proofs.PieceLemmas.{AxesWithin, some_piece}
 use Rattle.job_verdict.proofs.Runs.{motions_join}
-use Rattle.job_verdict.proofs.SomeLemmas.{SomeOf, SomeOf-weaker, SomeOf-flat_map, none_found, found_passes}
+use Rattle.job_verdict.proofs.SomeLemmas.{SomeOf, SomeOf-weaker, SomeOf-flat_map, none_found}
 use Rattle.job_verdict.proofs.StateLemmas.{WellPlaced, well_placed, WellPlaced-opening, run_place, end_place, first_span_of, later_span_of, board_last, one_under}
 use Rattle.job_verdict.proofs.VerdictLemmas.{none_meets}
 use Rattle.job_verdict.proofs.ZoneLemmas.{FractionsWithin, in_zone_box}
 use Rattle.job_verdict.specs.Channels.{start_position, items_of}
 use Rattle.job_verdict.specs.Clash.{own_clock, zones_in_order, zone_pairs, pairs_of_zones, compared_pairs, depth_of, pair_meets, verdict_of}
 use Rattle.job_verdict.specs.Safety.{axis_owner, axis_position, fraction_of, IsInZone, ZonesMeet, NoneMeet, SafeAlways}
-use Rattle.block_effects.specs.Motions.{left_at}
+use Rattle.axis_moves.specs.Motions.{left_at}
+use Rattle.path_geometry.specs.Path.{Point}
 use Rattle.job_verdict.specs.SmallSteps.{StandsAt, IsAtPlace, Spot, State, opening, span_of, has_ended, motions_of, board_position, beginning, present, reached}
 use Rattle.tape_job.specs.SoundJob.{IsDeclared, first_owner, IsCarriedBy, IsSoundZone, IsSoundJob}
-use Rattle.job_verdict.specs.Stretches.{Stretch, channel_line, spans_of, stretches_from, stretches_of}
+use Rattle.job_verdict.specs.Stretches.{Stretch, channel_line, spans_of, stretches_from, free_stretch, stretches_of}
 use Rattle.job_verdict.specs.ZoneBoxes.{is_carrier, has_axis, PlaceBox, boxes_of, piece_boxes}
 use Rattle.sync_types.specs.declared.Item.{Item}
 use Rattle.job_verdict.specs.declared.stretches.Verdict.TheVariants.{Yes}
@@ -43,9 +44,6 @@ some_found {X = X} test (y ∷ ys) (suc k) x within is passes = by_test (test y)
 
 declared_line : (job : JobView) (channel : ℕ) → IsDeclared job channel → (line : ChannelLine) × (channel_line job channel ≡ Some line)
 declared_line job channel (k, line, within, is, same) = some_found (λ l. l.channel == channel) job.channels k line within is (eq-eqb line.channel channel same)
-
-line_channel : (job : JobView) (channel : ℕ) (line : ChannelLine) → channel_line job channel ≡ Some line → line.channel ≡ channel
-line_channel job channel line is = eqb-true line.channel channel (found_passes (λ (l : ChannelLine). l.channel == channel) job.channels line is)
 
 motions_are : (job : JobView) (channel : ℕ) (line : ChannelLine) → channel_line job channel ≡ Some line → motions_of job channel ≡ items_of job line
 unfolding motions_of
@@ -141,29 +139,69 @@ fractions_within job state zone sound channel held some low high within = λ axi
     (sym (position_is job state axis channel (carrier_owned job zone sound axis has ∙ held)))
     (some, within axis has)
 
+free_position : (job : JobView) (state : State) (axis : ℕ) → first_owner job axis ≡ None → axis_position job state axis ≡ whole (start_position job axis)
+unfolding axis_position axis_owner first_owner
+free_position job state axis free = rw free refl
+
+free_within : (job : JobView) (state : State) (zone : ZoneLine) → IsSoundZone job zone → zone.holder ≡ None
+    → (low high : ℕ → ℤ) → AxesWithin zone low high (record { top = start_position job; under = 1 }) → FractionsWithin zone low high (axis_position job state)
+free_within job state zone sound free low high within = λ axis has.
+    subst (λ (f : Fraction). (0 < f.under) × IsIn (low axis) (high axis) f.top f.under)
+    (sym (free_position job state axis (carrier_owned job zone sound axis has ∙ free)))
+    (omega arith, within axis has)
+
+-- a point of space in the zone is in a piece of this box
+abbrev InPieceOf : JobView → SpacePoint → ZoneLine → PlaceBox → Type 0
+InPieceOf job point zone box = SomeOf (λ piece. IsInBox piece point) (piece_boxes job.margin zone (depth_of job) box)
+
+-- so it is in a piece of each box that covers the zone's axes where they are
+in_covered : (job : JobView) (state : State) (zone : ZoneLine) → length zone.sides ≡ 3 → (here : Point)
+    → ((low high : ℕ → ℤ) → AxesWithin zone low high here → FractionsWithin zone low high (axis_position job state))
+    → (point : SpacePoint) → IsInZone job.margin (axis_position job state) zone point → (place : ℕ) (box : PlaceBox) → Covers zone place here box → InPieceOf job point zone box
+in_covered job state zone three here located point in_zone place box covers =
+    some_piece (λ piece. IsInBox piece point) job.margin zone (depth_of job) place here box
+    (λ low high within. in_zone_box job.margin zone low high (axis_position job state) three (located low high within) point in_zone) covers
+
+-- a zone that no channel holds stands in its one stretch, which is always current
+free_are : (job : JobView) (zone : ZoneLine) → zone.holder ≡ None → stretches_of job zone ≡ free_stretch job zone ∷ []
+unfolding stretches_of
+free_are job zone free = rw free refl
+
+free_in_pieces : (job : JobView) (state : State) (zone : ZoneLine) → IsSoundZone job zone → zone.holder ≡ None → (point : SpacePoint)
+    → IsInZone job.margin (axis_position job state) zone point → HasBox job (span_of state) zone (InPieceOf job point zone)
+unfolding free_stretch
+free_in_pieces job state zone sound free point in_zone =
+    let at : ℕ → ℤ = start_position job in
+    let here : Point = record { top = at; under = 1 } in
+    subst (λ (stretches : List Stretch). SomeOf (λ stretch. IsCurrent (span_of state) stretch × SomeOf (InPieceOf job point zone) stretch.boxes) stretches)
+    (sym (free_are job zone free)) (inl (
+      record { begun = tt; not_over = tt },
+      SomeOf-weaker (Covers zone 0 here) (InPieceOf job point zone)
+          (λ box covers. in_covered job state zone sound.directions here (free_within job state zone sound free) point in_zone 0 box covers)
+          (boxes_of zone at []) (standing_covers zone at here (λ axis has. one_under (at axis))),
+    ))
+
 -- a point of space in the zone is in a piece of a box of a current stretch
-zone_in_pieces : (job : JobView) → IsSoundJob job → (state : State) → WellPlaced job state → (zone : ZoneLine) → IsSoundZone job zone → (point : SpacePoint) → IsInZone (axis_position job state) zone point
-    → HasBox job (span_of state) zone (λ box. SomeOf (λ piece. IsInBox piece point) (piece_boxes zone (depth_of job) box))
+zone_in_pieces : (job : JobView) → IsSoundJob job → (state : State) → WellPlaced job state → (zone : ZoneLine) → IsSoundZone job zone → (point : SpacePoint)
+    → IsInZone job.margin (axis_position job state) zone point → HasBox job (span_of state) zone (InPieceOf job point zone)
 zone_in_pieces job sound_job state placed zone sound point in_zone = by_holder zone.holder refl sound.held
   where
-    of_line : (channel : ℕ) → zone.holder ≡ Some channel → (line : ChannelLine) × (channel_line job channel ≡ Some line)
-        → HasBox job (span_of state) zone (λ box. SomeOf (λ piece. IsInBox piece point) (piece_boxes zone (depth_of job) box))
+    of_line : (channel : ℕ) → zone.holder ≡ Some channel → (line : ChannelLine) × (channel_line job channel ≡ Some line) → HasBox job (span_of state) zone (InPieceOf job point zone)
     of_line channel held (line, is) =
         let has = zone_has_box job sound_job state placed zone sound channel held line is in
         let spot = present job state channel in
         SomeOf-weaker (λ stretch. IsCurrent (span_of state) stretch × SomeOf (Covers zone spot.place spot.point) stretch.boxes)
-        (λ stretch. IsCurrent (span_of state) stretch × SomeOf (λ box. SomeOf (λ piece. IsInBox piece point) (piece_boxes zone (depth_of job) box)) stretch.boxes)
+        (λ stretch. IsCurrent (span_of state) stretch × SomeOf (InPieceOf job point zone) stretch.boxes)
         (λ stretch here. (
           here.0,
-          SomeOf-weaker (Covers zone spot.place spot.point) (λ box. SomeOf (λ piece. IsInBox piece point) (piece_boxes zone (depth_of job) box))
-              (λ box covers. some_piece (λ piece. IsInBox piece point) zone (depth_of job) spot.place spot.point box
-              (λ low high within. in_zone_box zone low high (axis_position job state) sound.directions (fractions_within job state zone sound channel held has.0 low high within) point in_zone) covers)
+          SomeOf-weaker (Covers zone spot.place spot.point) (InPieceOf job point zone)
+              (λ box covers. in_covered job state zone sound.directions spot.point (fractions_within job state zone sound channel held has.0) point in_zone spot.place box covers)
               stretch.boxes here.1,
         ))
         (stretches_of job zone) has.1
 
-    by_holder : (o : Option ℕ) → zone.holder ≡ o → IsSomeAnd o (IsDeclared job) → HasBox job (span_of state) zone (λ box. SomeOf (λ piece. IsInBox piece point) (piece_boxes zone (depth_of job) box))
-    by_holder None held declared = absurd declared
+    by_holder : (o : Option ℕ) → zone.holder ≡ o → IfSome o (IsDeclared job) → HasBox job (span_of state) zone (InPieceOf job point zone)
+    by_holder None held declared = free_in_pieces job state zone sound held point in_zone
     by_holder (Some channel) held declared = of_line channel held (declared_line job channel declared)
 
 -- ---- the verdict
@@ -182,13 +220,10 @@ zones_meet_in_pair job sound state placed zone other in_job in_job' apart (point
     (compared zone other here there) (compared other zone there here) (zones_in_order job)
     (is_in_order job sound.zone_numbers zone z.low_number z.high_number in_job) (is_in_order job sound.zone_numbers other o.low_number o.high_number in_job'))
   where
-    InPiece : ZoneLine → PlaceBox → Type 0
-    InPiece z box = SomeOf (λ piece. IsInBox piece point) (piece_boxes z (depth_of job) box)
-
-    compared : (left right : ZoneLine) → HasBox job (span_of state) left (InPiece left) → HasBox job (span_of state) right (InPiece right)
+    compared : (left right : ZoneLine) → HasBox job (span_of state) left (InPieceOf job point left) → HasBox job (span_of state) right (InPieceOf job point right)
         → SomeOf (λ pair. pair_meets job pair ≡ true) (pairs_of_zones own_clock job left right)
     compared left right here there =
-        some_box_pair own_clock (span_of state) (IsCut-own_clock (span_of state)) job left right (InPiece left) (InPiece right) (λ pair. pair_meets job pair ≡ true)
+        some_box_pair own_clock (span_of state) (IsCut-own_clock (span_of state)) job left right (InPieceOf job point left) (InPieceOf job point right) (λ pair. pair_meets job pair ≡ true)
         (λ stretch later box next q r. pair_is job (record { zone = left; stretch = stretch; box = box }, record { zone = right; stretch = later; box = next }) point q r) here there
 
 -- at YES no two zones of different groups meet in any state that a list of small steps reaches, and each axis has one owner there

@@ -3,7 +3,7 @@ use Rattle.std.proofs.Common.{ℕ, ℤ, ◌+◌, Bool, true, false, cond, List, 
 use Rattle.std.specs.Prelude.{⊤}
 use Rattle.tape_job.specs.declared.job.ZoneLine.{ZoneLine}
 use Rattle.job_verdict.proofs.PositionLemmas.{AllJoin}
-use Rattle.block_effects.specs.Motions.{IsStraight}
+use Rattle.axis_moves.specs.Motions.{IsStraight}
 use Rattle.job_verdict.specs.ZoneBoxes.{PlaceBox, Opened, Waiting, Moving, closed, next_open, walk, boxes_of, after, moves_zone}
 use Rattle.sync_types.specs.declared.Item.{Item}
 use Rattle.sync_types.specs.Items.{motion_of}

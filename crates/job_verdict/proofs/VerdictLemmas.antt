@@ -1,5 +1,5 @@
 -- The verdict, by what comes first.
-use Rattle.std.proofs.Common.{◌≡◌, ◌∙◌, ℕ, suc, ◌+◌, ◌-◌, ◌<◌, ◌≤◌, Bool, true, false, cond, nat_lt, ◌==◌, Option, None, Some, option_and_then, find, List, All, get_or, refl, sym, ap, arith}
+use Rattle.std.proofs.Common.{◌≡◌, ◌∙◌, ℕ, suc, ◌+◌, ◌-◌, ◌<◌, ◌≤◌, Bool, true, false, cond, nat_lt, ◌==◌, Option, None, Some, find, List, All, get_or, refl, sym, ap, arith}
 use Rattle.std.proofs.lemmas.Bool.{lt-ltb, ltb-true}
 use Rattle.std.proofs.lemmas.List.Elements.{All-map}
 use Rattle.std.specs.List.{range_with_len}
@@ -14,7 +14,7 @@ use Rattle.job_verdict.specs.ChannelRun.{RunView, run_of, runs_of, run_in}
 use Rattle.job_verdict.specs.Channels.{IsRunnable}
 use Rattle.job_verdict.specs.FirstAnswer.{first_some}
 use Rattle.job_verdict.specs.Clash.{BoxPlace, alarm_of, stop_of, first_alarm, compared_pairs, pair_count, pair_meets, pairs_verdict, boxes_verdict, verdict_of}
-use Rattle.job_verdict.specs.declared.stretches.Verdict.TheVariants.{Yes, No, Undecided}
+use Rattle.job_verdict.specs.declared.stretches.Verdict.TheVariants.{Yes, Undecided}
 use Rattle.job_verdict.specs.declared.stretches.Verdict.TheVariants as verdicts
 
 -- the first answer from a number on that gives none
@@ -39,17 +39,17 @@ unfolding verdict_of
 verdict_boxes job e = rw e refl
 
 -- UNDECIDED
-pub verdict_many : (job : JobView) (n : ℕ) → n ≡ pair_count job → 1000000 < n → boxes_verdict job ≡ Undecided n 1000000
+pub verdict_many : (job : JobView) (n : ℕ) → n ≡ pair_count job → job.budget < n → boxes_verdict job ≡ Undecided n job.budget
 unfolding boxes_verdict
-verdict_many job n counted many = let more : nat_lt 1000000 n ≡ true = lt-ltb 1000000 n many in rw (← counted, more) refl
+verdict_many job n counted many = let more : nat_lt job.budget n ≡ true = lt-ltb job.budget n many in rw (← counted, more) refl
 
 -- NO or YES
-pub verdict_few : (job : JobView) (n : ℕ) → n ≡ pair_count job → n ≤ 1000000 → boxes_verdict job ≡ pairs_verdict job
+pub verdict_few : (job : JobView) (n : ℕ) → n ≡ pair_count job → n ≤ job.budget → boxes_verdict job ≡ pairs_verdict job
 unfolding boxes_verdict
-verdict_few job n counted few = by_count (nat_lt 1000000 (pair_count job)) refl
+verdict_few job n counted few = by_count (nat_lt job.budget (pair_count job)) refl
   where
-    by_count : (b : Bool) → nat_lt 1000000 (pair_count job) ≡ b → cond b (Undecided (pair_count job) 1000000) (pairs_verdict job) ≡ pairs_verdict job
-    by_count true e = let many : 1000000 < pair_count job = ltb-true 1000000 (pair_count job) e in absurd (omega arith)
+    by_count : (b : Bool) → nat_lt job.budget (pair_count job) ≡ b → cond b (Undecided (pair_count job) job.budget) (pairs_verdict job) ≡ pairs_verdict job
+    by_count true e = let many : job.budget < pair_count job = ltb-true job.budget (pair_count job) e in absurd (omega arith)
     by_count false e = refl
 
 -- at YES no compared pair meets
@@ -61,12 +61,12 @@ none_meets job says = by_alarm (first_alarm (runs_of job)) refl
     by_found None is at_yes = is
     by_found (Some pair) is at_yes = let named = rw is at at_yes in absurd cc
 
-    by_count : (b : Bool) → cond b (Undecided (pair_count job) 1000000) (pairs_verdict job) ≡ Yes → find (pair_meets job) (compared_pairs job) ≡ None
+    by_count : (b : Bool) → cond b (Undecided (pair_count job) job.budget) (pairs_verdict job) ≡ Yes → find (pair_meets job) (compared_pairs job) ≡ None
     by_count true at_yes = absurd cc
     by_count false at_yes = by_found (find (pair_meets job) (compared_pairs job)) refl at_yes
 
     by_alarm : (o : Option (ℕ × Alarm)) → first_alarm (runs_of job) ≡ o → find (pair_meets job) (compared_pairs job) ≡ None
-    by_alarm None e = by_count (nat_lt 1000000 (pair_count job)) (rw e at says)
+    by_alarm None e = by_count (nat_lt job.budget (pair_count job)) (rw e at says)
     by_alarm (Some stopped) e = let alarmed = rw e at says in absurd cc
 
 -- the alarms of the runs have their texts
@@ -79,7 +79,6 @@ unfolding runs_of run_of
 fit_runs job runnable = All-map (λ (run : RunView). All IsFit run.items) (run_of job) job.channels (λ k d within. (good_run job runnable (get_or job.channels k d)).fit)
 
 -- the motions of a run of the job are sound
-pub fit_run : (job : JobView) → IsRunnable job → (holder : Option ℕ) (run : RunView) → option_and_then (run_in (runs_of job)) holder ≡ Some run → All IsFit run.items
+pub fit_run : (job : JobView) → IsRunnable job → (channel : ℕ) (run : RunView) → run_in (runs_of job) channel ≡ Some run → All IsFit run.items
 unfolding run_in
-fit_run job runnable None run found = absurd cc
-fit_run job runnable (Some channel) run found = All-found (λ (r : RunView). All IsFit r.items) (λ r. r.channel == channel) (runs_of job) run (fit_runs job runnable) found
+fit_run job runnable channel run found = All-found (λ (r : RunView). All IsFit r.items) (λ r. r.channel == channel) (runs_of job) run (fit_runs job runnable) found

@@ -132,17 +132,17 @@ any_at test (y ∷ ys) (suc i) x is passes = later (test y) (any_at test ys i x 
     later false e = e
 
 -- a point of space in the zone is in the zone box of bounds that hold the zone's axes
-pub in_zone_box : (zone : ZoneLine) (low high : ℕ → ℤ) (position : ℕ → Fraction) → length zone.sides ≡ 3 → FractionsWithin zone low high position
-    → (point : SpacePoint) → IsInZone position zone point → IsInBox (zone_box zone low high) point
+pub in_zone_box : (margin : ℤ) (zone : ZoneLine) (low high : ℕ → ℤ) (position : ℕ → Fraction) → length zone.sides ≡ 3 → FractionsWithin zone low high position
+    → (point : SpacePoint) → IsInZone margin position zone point → IsInBox (zone_box margin zone low high) point
 unfolding box_of side_low side_high has_axis
-in_zone_box zone low high position three within point is = record {
+in_zone_box margin zone low high position three within point is = record {
   fraction = is.fraction;
   above = λ direction in_space. let at = some_at zone.sides direction (omega arith) in
-      subst (λ (b : ℤ). (b *ℤ pos point.under) ≤ℤ point.top direction) (sym (get_or-map_at (side_low low high) zone.sides direction at.0 (pos 0) at.1))
-      (is_above zone low high position within at.0.carrier at.0.lo (point.top direction) point.under
+      subst (λ (b : ℤ). (b *ℤ pos point.under) ≤ℤ point.top direction) (sym (get_or-map_at (side_low margin low high) zone.sides direction at.0 (pos 0) at.1))
+      (is_above zone low high position within at.0.carrier (at.0.lo -ℤ margin) (point.top direction) point.under
       (λ axis carries. any_at (λ side. is_carrier axis side.carrier) zone.sides direction at.0 at.1 carries) (is.above direction at.0 at.1));
   below = λ direction in_space. let at = some_at zone.sides direction (omega arith) in
-      subst (λ (b : ℤ). point.top direction ≤ℤ (b *ℤ pos point.under)) (sym (get_or-map_at (side_high low high) zone.sides direction at.0 (pos 0) at.1))
-      (is_below zone low high position within at.0.carrier at.0.hi (point.top direction) point.under
+      subst (λ (b : ℤ). point.top direction ≤ℤ (b *ℤ pos point.under)) (sym (get_or-map_at (side_high margin low high) zone.sides direction at.0 (pos 0) at.1))
+      (is_below zone low high position within at.0.carrier (at.0.hi +ℤ margin) (point.top direction) point.under
       (λ axis carries. any_at (λ side. is_carrier axis side.carrier) zone.sides direction at.0 at.1 carries) (is.below direction at.0 at.1));
 }

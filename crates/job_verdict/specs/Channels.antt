@@ -1,12 +1,10 @@
 -- What a channel does: the program that it runs, what it is granted at its start, and what comes of both.
-use Rattle.std.specs.Prelude.{◌≡◌, ◌≤◌, ◌<◌, All, ℕ, ℤ, pos, ◌-◌, ◌==◌, ◌&&◌, Bool, false, if◌then◌else◌, List, [], ◌++◌, map, length, replicate, Option, None, Some, slice_get, slice_index_or, position}
+use Rattle.std.specs.Prelude.{◌≡◌, ◌≤◌, All, ℕ, ℤ, pos, ◌-◌, ◌==◌, ◌&&◌, Bool, false, if◌then◌else◌, List, ◌++◌, map, length, replicate, Option, None, Some, slice_get, slice_index_or, position}
 use Rattle.std.specs.List.{list_any, range_with_len}
 use Rattle.std.specs.Map.{keys_of}
 use Rattle.std.specs.Option.{option_map_or, option_and_then}
 use Rattle.std.specs.Str.{bytes_eq}
-use Rattle.block_effects.specs.Motions.{stands}
 use Rattle.channel_machine.specs.Run.{Setting, SegmentView, setting_of, begun, segment_of, stands_at_start}
-use Rattle.nc_blocks.specs.Indices.{StatementFits}
 use Rattle.path_geometry.specs.Motions.{IsInRange}
 use Rattle.sync_types.specs.declared.Action.{Action}
 use Rattle.sync_types.specs.declared.Action.TheVariants as action
@@ -116,14 +114,11 @@ end_of job line = end_of_step (program_run job line).step
 
 -- ---- jobs that can be run
 
--- the job names few axes, and the slots of its channels are axes that it names
-pub record HasFewAxes (job : JobView) : Type 0 where
-  pub few : length job.axes ≤ 16
-  pub slots : All (λ g. g.axis < length job.axes) job.geo
-
--- the job can be run: its axes start in range, its programs can be numbered, and its blocks name parameters that there are
+-- the job can be run and judged: it has few axes, they start in range, its motions are not cut, its programs can be numbered,
+-- and its blocks name parameters that there are
 pub record IsRunnable (job : JobView) : Type 0 where
-  pub axes : HasFewAxes job
+  pub axes : length job.axes ≤ 16
   pub starts : All (λ line. IsInRange line.at) job.axes
+  pub depth : job.depth ≡ 0
   pub programs : length job.programs ≤ 256
   pub blocks : BlocksFit job

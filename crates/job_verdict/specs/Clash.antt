@@ -82,11 +82,11 @@ boxes_meet left right = do_touch left right 0 && (do_touch left right 1 && do_to
 
 -- the depth at which motions are cut into pieces
 abbrev pub depth_of : JobView → ℕ
-depth_of job = 0
+depth_of job = job.depth
 
 -- a piece of the one and a piece of the other meet
 unfoldable pub pair_meets : JobView → BoxPlace × BoxPlace → Bool
-pair_meets job pair = list_any (λ left. list_any (λ right. boxes_meet left right) (piece_boxes pair.1.zone (depth_of job) pair.1.box)) (piece_boxes pair.0.zone (depth_of job) pair.0.box)
+pair_meets job pair = list_any (λ left. list_any (λ right. boxes_meet left right) (piece_boxes job.margin pair.1.zone (depth_of job) pair.1.box)) (piece_boxes job.margin pair.0.zone (depth_of job) pair.0.box)
 
 -- a box as it is named: its zone, the channel, the kind of the stretch, and the line of its motion, or of the stretch where it stands
 unfoldable pub name_of : BoxPlace → PlaceName
@@ -94,7 +94,7 @@ name_of place = record { zone = place.zone.zone; channel = place.stretch.channel
 
 -- how many pairs of boxes may be compared
 abbrev pub budget_of : JobView → ℕ
-budget_of job = 1000000
+budget_of job = job.budget
 
 -- the alarm that stops a channel, if there is a run of it that ends with one
 unfoldable pub alarm_of : List RunView → ℕ → Option Alarm

@@ -1,5 +1,5 @@
 -- The report of a job, and the line of a refused input. Each line ends with a line feed, and its words are separated by one blank.
-use Rattle.std.specs.Prelude.{ℕ, ℤ, pos, negsuc, suc, nat_lt, if◌then◌else◌, ◌/◌, ◌%◌, List, [], ◌++◌, unwrap_or, slice_get, codes, encode_utf8}
+use Rattle.std.specs.Prelude.{ℕ, ℤ, pos, negsuc, suc, nat_lt, Bool, if◌then◌else◌, ◌/◌, ◌%◌, List, [], ◌++◌, unwrap_or, slice_get, codes, encode_utf8}
 use Rattle.std.specs.Fmt.{decimal}
 use Rattle.std.specs.List.{flat_map, range_with_len}
 use Rattle.std.specs.Option.{option_map_or}
@@ -17,7 +17,7 @@ use Rattle.sync_types.specs.declared.ChannelEnd.TheVariants.{Ended, Alarmed}
 use Rattle.sync_types.specs.declared.Item.{Item}
 use Rattle.job_verdict.specs.declared.stretches.PlaceName.{PlaceName}
 use Rattle.job_verdict.specs.declared.stretches.StretchKind.{StretchKind}
-use Rattle.job_verdict.specs.declared.stretches.StretchKind.TheVariants.{Run, End}
+use Rattle.job_verdict.specs.declared.stretches.StretchKind.TheVariants.{Run, End, Free}
 use Rattle.job_verdict.specs.declared.stretches.Verdict.{Verdict}
 use Rattle.job_verdict.specs.declared.stretches.Verdict.TheVariants.{Yes, No, Undecided}
 use Rattle.job_verdict.specs.declared.stretches.Verdict.TheVariants as verdicts
@@ -88,6 +88,7 @@ all_lines job runs = flat_map (lines_of job runs) (range_with_len 1 8)
 unfoldable pub kind_text : StretchKind → List ℕ
 kind_text Run = codes "RUN"
 kind_text End = codes "END"
+kind_text Free = codes "FREE"
 
 -- a place as the verdict names it; channel 0 is none
 unfoldable pub place_text : PlaceName → List ℕ
@@ -100,9 +101,13 @@ verdict_line (No place other) = codes "VERDICT NO " ++ (place_text place ++ (cod
 verdict_line (Undecided count budget) = codes "VERDICT UNDECIDED COUNT " ++ (decimal count ++ (codes " BUDGET " ++ (decimal budget ++ codes "\n")))
 verdict_line (verdicts.Alarm channel alarm) = codes "VERDICT ALARM CHANNEL " ++ (decimal channel ++ (codes " LINE " ++ (decimal alarm.line ++ (codes " CODE " ++ (decimal alarm.code ++ codes "\n")))))
 
+-- a job whose blocks may compensate the radius of a tool has a line that says so: its contour is judged, and not the tool's path
+unfoldable pub note_line : Bool → List ℕ
+note_line compensation = if compensation then codes "NOTE COMPENSATION CONTOUR\n" else []
+
 -- the report of a job
 unfoldable pub report_bytes : JobView → List RunView → Verdict → List ℕ
-report_bytes job runs verdict = codes "TURNMILL 1\n" ++ (all_lines job runs ++ verdict_line verdict)
+report_bytes job runs verdict = codes "TURNMILL 1\n" ++ (note_line job.compensation ++ (all_lines job runs ++ verdict_line verdict))
 
 -- the line of a refused input
 unfoldable pub refusal_bytes : Refusal → List ℕ

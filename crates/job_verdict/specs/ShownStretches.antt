@@ -1,13 +1,13 @@
 -- The stretches of a zone as the comparison takes them, and the first two boxes that meet.
-use Rattle.std.specs.Prelude.{ℕ, ◌==◌, ◌||◌, not, Bool, true, false, if◌then◌else◌, List, [], ◌∷◌, map, Option, None, Some, find, unwrap_or}
+use Rattle.std.specs.Prelude.{ℕ, ◌==◌, ◌&&◌, not, Bool, true, false, if◌then◌else◌, List, [], ◌∷◌, map, Option, None, Some, find}
 use Rattle.std.specs.Option.{option_map, option_or}
 use Rattle.tape_job.specs.Job.{JobView}
 use Rattle.tape_job.specs.declared.job.ZoneLine.{ZoneLine}
 use Rattle.job_verdict.specs.ChannelRun.{RunView, line_of_end}
-use Rattle.job_verdict.specs.Channels.{start_position}
+use Rattle.job_verdict.specs.Channels.{start_position, is_of}
 use Rattle.job_verdict.specs.Clash.{boxes_meet}
 use Rattle.job_verdict.specs.FirstAnswer.{first_some}
-use Rattle.block_effects.specs.Motions.{left_at}
+use Rattle.axis_moves.specs.Motions.{left_at}
 use Rattle.job_verdict.specs.StretchView.{StretchView}
 use Rattle.job_verdict.specs.Stretches.{Stretch, stretches_of}
 use Rattle.job_verdict.specs.ZoneBoxes.{boxes_of, shown_box}
@@ -20,14 +20,14 @@ use Rattle.job_verdict.specs.declared.zone_boxes.ZoneBox.{ZoneBox}
 
 -- while the channel runs, and after its end
 unfoldable pub run_stretch : JobView → ZoneLine → RunView → StretchView
-run_stretch job zone run = record { kind = Run; channel = run.channel; boxes = map (shown_box zone 0) (boxes_of zone (start_position job) run.items) }
+run_stretch job zone run = record { kind = Run; channel = Some run.channel; boxes = map (shown_box job.margin zone 0) (boxes_of zone (start_position job) run.items) }
 
 unfoldable pub end_stretch : JobView → ZoneLine → RunView → StretchView
-end_stretch job zone run = record { kind = End; channel = run.channel; boxes = map (shown_box zone (line_of_end run.end)) (boxes_of zone (left_at run.items (start_position job)) []) }
+end_stretch job zone run = record { kind = End; channel = Some run.channel; boxes = map (shown_box job.margin zone (line_of_end run.end)) (boxes_of zone (left_at run.items (start_position job)) []) }
 
 -- a stretch as the comparison takes it
-unfoldable pub shown_stretch : ZoneLine → Stretch → StretchView
-shown_stretch zone stretch = record { kind = stretch.kind; channel = unwrap_or stretch.channel 0; boxes = map (shown_box zone stretch.line) stretch.boxes }
+unfoldable pub shown_stretch : JobView → ZoneLine → Stretch → StretchView
+shown_stretch job zone stretch = record { kind = stretch.kind; channel = stretch.channel; boxes = map (shown_box job.margin zone stretch.line) stretch.boxes }
 
 -- a zone with its stretches
 pub record HeldView : Type 0 where
@@ -36,20 +36,22 @@ pub record HeldView : Type 0 where
 
 -- a zone of the job with its stretches
 unfoldable pub held_zone : JobView → ZoneLine → HeldView
-held_zone job zone = record { zone = zone; stretches = map (shown_stretch zone) (stretches_of job zone) }
+held_zone job zone = record { zone = zone; stretches = map (shown_stretch job zone) (stretches_of job zone) }
 
-abbrev pub is_run : StretchKind → Bool
-is_run Run = true
-is_run End = false
+-- both are of one channel
+abbrev pub share_channel : Option ℕ → Option ℕ → Bool
+share_channel None right = false
+share_channel (Some channel) right = is_of channel right
 
--- the two kinds are the same
-abbrev pub same_kind : StretchKind → StretchKind → Bool
-same_kind Run kind = is_run kind
-same_kind End kind = not (is_run kind)
+-- the one is a run and the other an end
+abbrev pub are_run_and_end : StretchKind → StretchKind → Bool
+are_run_and_end Run End = true
+are_run_and_end End Run = true
+are_run_and_end left right = false
 
 -- two stretches may overlap but where one channel's run and its end are compared
 unfoldable pub do_overlap : StretchView → StretchView → Bool
-do_overlap left right = not (left.channel == right.channel) || same_kind left.kind right.kind
+do_overlap left right = not (share_channel left.channel right.channel && are_run_and_end left.kind right.kind)
 
 -- the lines of the first box of the second list that meets this one
 unfoldable pub first_touched : List ZoneBox → ZoneBox → Option (ℕ × ℕ)
@@ -61,7 +63,7 @@ first_lines left right = first_some (first_touched right) left
 
 -- how a box of a stretch with this line is named
 abbrev pub named : ZoneLine → StretchView → ℕ → PlaceName
-named zone stretch line = record { zone = zone.zone; channel = Some stretch.channel; kind = stretch.kind; line = line }
+named zone stretch line = record { zone = zone.zone; channel = stretch.channel; kind = stretch.kind; line = line }
 
 -- the names of the first two boxes of two stretches that meet
 unfoldable pub first_in_stretches : ZoneLine → ZoneLine → StretchView → StretchView → Option (PlaceName × PlaceName)

@@ -6,11 +6,11 @@ use Rattle.tape_job.specs.declared.job.ChannelLine.{ChannelLine}
 use Rattle.tape_job.specs.declared.job.ZoneLine.{ZoneLine}
 use Rattle.job_verdict.specs.ChannelRun.{line_of_end}
 use Rattle.job_verdict.specs.Channels.{start_position, items_of, end_of}
-use Rattle.block_effects.specs.Motions.{left_at}
+use Rattle.axis_moves.specs.Motions.{left_at}
 use Rattle.job_verdict.specs.ZoneBoxes.{PlaceBox, boxes_of}
 use Rattle.sync_types.specs.declared.Item.{Item}
 use Rattle.job_verdict.specs.declared.stretches.StretchKind.{StretchKind}
-use Rattle.job_verdict.specs.declared.stretches.StretchKind.TheVariants.{Run, End}
+use Rattle.job_verdict.specs.declared.stretches.StretchKind.TheVariants.{Run, End, Free}
 
 -- an event of a channel: the first, the second and so on, counted from 1
 pub record Event : Type 0 where
@@ -31,7 +31,8 @@ spans_of job line =
     ∷ record { kind = End; line = line_of_end (end_of job line); start = left_at (items_of job line) (start_position job); items = [] }
     ∷ []
 
--- a stretch of a zone: its kind, channel and line as they are printed, its first and last event, and its boxes
+-- a stretch of a zone: its kind, channel and line as they are printed, its first and last event, and its boxes;
+-- no channel where the zone is free, and no event where it begins or ends with the job
 pub record Stretch : Type 0 where
   pub kind : StretchKind
   pub channel : Option ℕ
@@ -58,10 +59,14 @@ stretches_from zone channel k (span ∷ next ∷ spans) =
 abbrev pub channel_line : JobView → ℕ → Option ChannelLine
 channel_line job channel = find (λ line. line.channel == channel) job.channels
 
+-- a zone that no channel holds has one stretch: it stands where the job puts its axes, before all events and after them
+unfoldable pub free_stretch : JobView → ZoneLine → Stretch
+free_stretch job zone = record { kind = Free; channel = None; line = 0; first = None; last = None; boxes = boxes_of zone (start_position job) [] }
+
 -- the stretches of a zone, in order
 unfoldable pub stretches_of : JobView → ZoneLine → List Stretch
 stretches_of job zone = held_by zone.holder
   where
     held_by : Option ℕ → List Stretch
-    held_by None = []
+    held_by None = free_stretch job zone ∷ []
     held_by (Some channel) = option_map_or (λ line. stretches_from zone channel 0 (spans_of job line)) (channel_line job channel) []

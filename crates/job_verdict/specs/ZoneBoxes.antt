@@ -33,18 +33,19 @@ carried_high None hi low high = hi
 carried_high (Some (axis, false)) hi low high = carried hi (high axis) false
 carried_high (Some (axis, true)) hi low high = carried hi (low axis) true
 
-unfoldable pub side_low : (ℕ → ℤ) → (ℕ → ℤ) → Side → ℤ
-side_low low high side = carried_low side.carrier side.lo low high
+-- the bounds of a side: the margin grows it downwards and upwards
+unfoldable pub side_low : ℤ → (ℕ → ℤ) → (ℕ → ℤ) → Side → ℤ
+side_low margin low high side = carried_low side.carrier (side.lo -ℤ margin) low high
 
-unfoldable pub side_high : (ℕ → ℤ) → (ℕ → ℤ) → Side → ℤ
-side_high low high side = carried_high side.carrier side.hi low high
+unfoldable pub side_high : ℤ → (ℕ → ℤ) → (ℕ → ℤ) → Side → ℤ
+side_high margin low high side = carried_high side.carrier (side.hi +ℤ margin) low high
 
--- the box of a zone whose axes are within low and high
-unfoldable pub box_of : List Side → (ℕ → ℤ) → (ℕ → ℤ) → Box3
-box_of sides low high = record { lo = map (side_low low high) sides; hi = map (side_high low high) sides }
+-- the box of a zone whose axes are within low and high, grown by the margin in each direction
+unfoldable pub box_of : ℤ → List Side → (ℕ → ℤ) → (ℕ → ℤ) → Box3
+box_of margin sides low high = record { lo = map (side_low margin low high) sides; hi = map (side_high margin low high) sides }
 
-abbrev pub zone_box : ZoneLine → (ℕ → ℤ) → (ℕ → ℤ) → Box3
-zone_box zone low high = box_of zone.sides low high
+abbrev pub zone_box : ℤ → ZoneLine → (ℕ → ℤ) → (ℕ → ℤ) → Box3
+zone_box margin zone low high = box_of margin zone.sides low high
 
 -- the zone has this axis: one of its directions is carried by it
 abbrev pub is_carrier : ℕ → Option (ℕ × Bool) → Bool
@@ -106,12 +107,12 @@ unfoldable pub high_in : RangesView → (ℕ → ℤ) → ℕ → ℤ
 high_in ranges at axis = option_map_or (λ r. r.2) (find (λ r. r.0 == axis) ranges.axes) (at axis)
 
 -- the zone boxes of the pieces of a box; a standing box is one piece
-unfoldable pub piece_boxes : ZoneLine → ℕ → PlaceBox → List Box3
-piece_boxes zone depth box = piece_boxes_by box.motion
+unfoldable pub piece_boxes : ℤ → ZoneLine → ℕ → PlaceBox → List Box3
+piece_boxes margin zone depth box = piece_boxes_by box.motion
   where
     piece_boxes_by : Option Item → List Box3
-    piece_boxes_by None = zone_box zone box.at box.at ∷ []
-    piece_boxes_by (Some item) = map (λ ranges. zone_box zone (low_in ranges box.at) (high_in ranges box.at)) (pieces_at (motion_of item) depth)
+    piece_boxes_by None = zone_box margin zone box.at box.at ∷ []
+    piece_boxes_by (Some item) = map (λ ranges. zone_box margin zone (low_in ranges box.at) (high_in ranges box.at)) (pieces_at (motion_of item) depth)
 
 -- a motion is sound, and moves axes of the row of positions
 pub record IsFit (item : Item) : Type 0 where
@@ -119,19 +120,19 @@ pub record IsFit (item : Item) : Type 0 where
   pub within : All (λ e. e.0 < 16) (axes_of (motion_of item))
 
 -- the boxes as they are compared where motions are not cut: the line that names it, and the zone box of the cover of its motion, or where it stands
-unfoldable pub moving_box : ZoneLine → Item → (ℕ → ℤ) → ZoneBox
-moving_box zone item at = record { line = item.line; cover = zone_box zone (low_in (cover_of (motion_of item)) at) (high_in (cover_of (motion_of item)) at) }
+unfoldable pub moving_box : ℤ → ZoneLine → Item → (ℕ → ℤ) → ZoneBox
+moving_box margin zone item at = record { line = item.line; cover = zone_box margin zone (low_in (cover_of (motion_of item)) at) (high_in (cover_of (motion_of item)) at) }
 
-unfoldable pub standing_box : ZoneLine → ℕ → (ℕ → ℤ) → ZoneBox
-standing_box zone line at = record { line = line; cover = zone_box zone at at }
+unfoldable pub standing_box : ℤ → ZoneLine → ℕ → (ℕ → ℤ) → ZoneBox
+standing_box margin zone line at = record { line = line; cover = zone_box margin zone at at }
 
-unfoldable pub shown_box : ZoneLine → ℕ → PlaceBox → ZoneBox
-shown_box zone line box = option_map_or (λ item. moving_box zone item box.at) box.motion (standing_box zone line box.at)
+unfoldable pub shown_box : ℤ → ZoneLine → ℕ → PlaceBox → ZoneBox
+shown_box margin zone line box = option_map_or (λ item. moving_box margin zone item box.at) box.motion (standing_box margin zone line box.at)
 
 -- the boxes of the motions that have an axis of the zone
-unfoldable pub boxes_during : ZoneLine → Item → (ℕ → ℤ) → List ZoneBox
-boxes_during zone item at = if moves_zone zone item then moving_box zone item at ∷ [] else []
+unfoldable pub boxes_during : ℤ → ZoneLine → Item → (ℕ → ℤ) → List ZoneBox
+boxes_during margin zone item at = if moves_zone zone item then moving_box margin zone item at ∷ [] else []
 
-abbrev pub moving_boxes : ZoneLine → (ℕ → ℤ) → List Item → List ZoneBox
-moving_boxes zone at [] = []
-moving_boxes zone at (item ∷ items) = boxes_during zone item at ++ moving_boxes zone (after item at) items
+abbrev pub moving_boxes : ℤ → ZoneLine → (ℕ → ℤ) → List Item → List ZoneBox
+moving_boxes margin zone at [] = []
+moving_boxes margin zone at (item ∷ items) = boxes_during margin zone item at ++ moving_boxes margin zone (after item at) items

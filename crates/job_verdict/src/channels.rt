@@ -42,7 +42,7 @@ pub fn start_positions(job: &Job) -> Row
 }
 
 /// Whether this is the channel.
-fn is_of(channel: ChannelId, owner: Option<ChannelId>) -> bool
+pub fn is_of(channel: ChannelId, owner: Option<ChannelId>) -> bool
     ensures { result ≡ model.is_of channel owner }
 {
     match owner {

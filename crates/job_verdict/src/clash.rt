@@ -1,13 +1,14 @@
 //! The first two boxes that meet, of zones that may not.
 ghost use Rattle.std.specs.Prelude.{◌≡◌, ◌==◌, All, IfOk, Option, None, Some, find, map, option_map};
-ghost use Rattle.job_verdict.specs.Channels.{HasFewAxes};
 ghost use Rattle.job_verdict.specs.Clash as model;
 ghost use Rattle.job_verdict.specs.FirstAnswer.{first_some};
 ghost use Rattle.job_verdict.specs.ShownStretches as shown;
 ghost use Rattle.job_verdict.specs.StretchView.{StretchView};
 
+use crate::channels::is_of;
 use crate::stretches::{PlaceName, Stretch, StretchKind, Verdict};
 use crate::zone_boxes::ZoneBox;
+use axis_sets::ChannelId;
 use std::marker::Model;
 use swept_boxes::Box3;
 use tape_job::ZoneLine;
@@ -36,19 +37,24 @@ fn do_meet(left: &Box3, right: &Box3) -> bool
     left.meets(right)
 }
 
-/// Whether two kinds are the same.
-fn same_kind(left: StretchKind, right: StretchKind) -> bool
-    ensures { result ≡ shown.same_kind left right }
+/// Whether both are of one channel.
+fn share_channel(left: Option<ChannelId>, right: Option<ChannelId>) -> bool
+    ensures { result ≡ shown.share_channel left right }
 {
     match left {
-        StretchKind::Run => match right {
-            StretchKind::Run => true,
-            StretchKind::End => false,
-        },
-        StretchKind::End => match right {
-            StretchKind::Run => false,
-            StretchKind::End => true,
-        },
+        Some(channel) => is_of(channel, right),
+        None => false,
+    }
+}
+
+/// Whether the one is a run and the other an end.
+fn are_run_and_end(left: StretchKind, right: StretchKind) -> bool
+    ensures { result ≡ shown.are_run_and_end left right }
+{
+    match left {
+        StretchKind::Run => matches!(right, StretchKind::End),
+        StretchKind::End => matches!(right, StretchKind::Run),
+        StretchKind::Free => false,
     }
 }
 
@@ -57,7 +63,7 @@ fn same_kind(left: StretchKind, right: StretchKind) -> bool
 pub fn do_overlap(left: &Stretch, right: &Stretch) -> bool
     ensures { result ≡ shown.do_overlap left.now right.now }
 {
-    left.channel != right.channel || same_kind(left.kind, right.kind)
+    !(share_channel(left.channel, right.channel) && are_run_and_end(left.kind, right.kind))
 }
 
 /// The first of the boxes that meets this one.
@@ -100,7 +106,7 @@ fn named(zone: &ZoneLine, stretch: &Stretch, line: u32) -> PlaceName
 {
     PlaceName {
         zone: zone.zone,
-        channel: Some(stretch.channel),
+        channel: stretch.channel,
         kind: stretch.kind,
         line,
     }

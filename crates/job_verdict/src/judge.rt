@@ -1,6 +1,6 @@
 //! Runs a job and judges it.
-ghost use Rattle.std.specs.Prelude.{◌≡◌, ◌==◌, IfOk, find, map, option_and_then, option_copied};
-ghost use Rattle.job_verdict.specs.ChannelRun.{runs_of, run_in};
+ghost use Rattle.std.specs.Prelude.{◌≡◌, ◌==◌, IfOk, Some, find, map};
+ghost use Rattle.job_verdict.specs.ChannelRun.{runs_of};
 ghost use Rattle.job_verdict.specs.Channels.{IsRunnable};
 ghost use Rattle.job_verdict.specs.Clash as model;
 ghost use Rattle.job_verdict.specs.ShownStretches as shown;
@@ -9,27 +9,33 @@ ghost use Rattle.job_verdict.specs.Stretches.{stretches_of};
 use crate::channels::{ChannelRun, alarm_in, run_channel, run_in};
 use crate::clash::{HeldZone, verdict_on};
 use crate::pair_counts::count_pairs;
-use crate::stretches::{Stretch, Verdict, stretches_of_run};
+use crate::stretches::{Stretch, Verdict, free_stretches, stretches_of_run};
 use axis_sets::ChannelId;
 use nc_faults::Alarm;
 use std::alloc::{AllocError, Global};
 use tape_job::{Job, ZoneLine};
 
-/// How many pairs of boxes may be compared.
-const BUDGET: u32 = 1_000_000;
-
-/// The run of the channel that holds a zone.
-fn holder_run<'a>(runs: &'a [ChannelRun], zone: &ZoneLine) -> Option<&'a ChannelRun>
-    ensures { option_copied result ≡ option_and_then (run_in runs.now) zone.now.holder }
+/// The stretches of a zone that this channel holds, from its run.
+fn held_stretches(
+    alloc: Global,
+    job: &Job,
+    runs: &[ChannelRun],
+    zone: &ZoneLine,
+    holder: ChannelId,
+) -> Result<Vec<Stretch>, AllocError>
+    requires runnable { IsRunnable job.now }
+    requires ran { runs.now ≡ runs_of job.now }
+    requires held { zone.now.holder ≡ Some holder }
+    ensures { IfOk result (λ stretches. stretches.items ≡ map (shown.shown_stretch job.now zone.now) (stretches_of job.now zone.now)) }
 {
-    match zone.holder {
-        Some(holder) => run_in(runs, holder),
-        None => None,
+    match run_in(runs, holder) {
+        Some(run) => stretches_of_run(alloc, job, zone, run),
+        None => Ok(Vec::new(alloc)),
     }
 }
 
-/// The stretches of a zone, from the run of the channel that holds it.
-fn held_stretches(
+/// The stretches of a zone.
+fn zone_stretches(
     alloc: Global,
     job: &Job,
     runs: &[ChannelRun],
@@ -37,11 +43,11 @@ fn held_stretches(
 ) -> Result<Vec<Stretch>, AllocError>
     requires runnable { IsRunnable job.now }
     requires ran { runs.now ≡ runs_of job.now }
-    ensures { IfOk result (λ stretches. stretches.items ≡ map (shown.shown_stretch zone.now) (stretches_of job.now zone.now)) }
+    ensures { IfOk result (λ stretches. stretches.items ≡ map (shown.shown_stretch job.now zone.now) (stretches_of job.now zone.now)) }
 {
-    match holder_run(runs, zone) {
-        Some(run) => stretches_of_run(alloc, job, zone, run),
-        None => Ok(Vec::new(alloc)),
+    match zone.holder {
+        Some(holder) => held_stretches(alloc, job, runs, zone, holder),
+        None => free_stretches(alloc, job, zone),
     }
 }
 
@@ -57,7 +63,7 @@ fn held_zone(
     requires ran { runs.now ≡ runs_of job.now }
     ensures { IfOk result (λ held. held ≡ shown.held_zone job.now zone.now) }
 {
-    let stretches = held_stretches(alloc, job, runs, zone)?;
+    let stretches = zone_stretches(alloc, job, runs, zone)?;
     Ok(HeldZone {
         zone: *zone,
         stretches,
@@ -136,10 +142,10 @@ fn judge_boxes(alloc: Global, job: &Job, runs: &[ChannelRun]) -> Result<Verdict,
 {
     let zones = held_zones(alloc, job, runs)?;
     let count = count_pairs(&zones);
-    if count > u64::from(BUDGET) {
+    if count > u64::from(job.budget) {
         return Ok(Verdict::Undecided {
             count,
-            budget: BUDGET,
+            budget: job.budget,
         });
     }
     Ok(verdict_on(&zones))

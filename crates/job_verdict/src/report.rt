@@ -222,6 +222,7 @@ fn kind_text(kind: StretchKind) -> &'static str
     match kind {
         StretchKind::Run => "RUN",
         StretchKind::End => "END",
+        StretchKind::Free => "FREE",
     }
 }
 
@@ -276,6 +277,17 @@ fn push_verdict_line(out: &mut String, verdict: &Verdict) -> Result<(), AllocErr
     }
 }
 
+/// Writes the line of a job whose blocks may compensate the radius of a tool: its contour is judged.
+#[tactic(auto, unfolding(crate::specs::Report::note_line))]
+fn push_note(out: &mut String, compensation: bool) -> Result<(), AllocError>
+    ensures { OnOk result (string_bytes out.new ≡ string_bytes out.old ++ model.note_line compensation) }
+{
+    if compensation {
+        out.push_str("NOTE COMPENSATION CONTOUR\n")?;
+    }
+    Ok(())
+}
+
 /// The report of a job, from the runs of its channels and the verdict.
 #[tactic(auto, unfolding(crate::specs::Report::report_bytes))]
 pub fn report_text(
@@ -288,6 +300,7 @@ pub fn report_text(
     ensures { IfOk result (λ text. string_bytes text ≡ model.report_bytes job.now runs.now verdict.now) }
 {
     let mut out = String::from_str(alloc, "TURNMILL 1\n")?;
+    push_note(&mut out, job.compensation)?;
     push_all_lines(&mut out, job, runs)?;
     push_verdict_line(&mut out, verdict)?;
     Ok(out)

@@ -1,9 +1,10 @@
 //! The stretches of each zone, and the verdict's words.
-ghost use Rattle.std.specs.Prelude.{◌≡◌, ℕ, [], ◌∷◌, All, IfOk, map};
-ghost use Rattle.block_effects.specs.Motions.{left_at};
+ghost use Rattle.std.specs.Prelude.{◌≡◌, ◌≤◌, ℕ, [], ◌∷◌, All, IfOk, length, map};
+ghost use Rattle.axis_moves.specs.Motions.{left_at};
 ghost use Rattle.job_verdict.specs.Channels.{positions_in};
-ghost use Rattle.job_verdict.specs.Channels.{start_position, HasFewAxes};
+ghost use Rattle.job_verdict.specs.Channels.{start_position};
 ghost use Rattle.job_verdict.specs.ShownStretches as model;
+ghost use Rattle.job_verdict.specs.Stretches.{free_stretch};
 ghost use Rattle.job_verdict.specs.ZoneBoxes.{IsFit};
 
 use crate::channels::{ChannelRun, Row, line_of_end, start_positions};
@@ -15,13 +16,15 @@ use std::marker::Model;
 use sync_types::Item;
 use tape_job::{Job, ZoneLine};
 
-/// What a channel does in a stretch of a zone that it holds.
+/// What happens in a stretch of a zone: what the channel does that holds it, or that none does.
 #[derive(Clone, Copy, Debug, PartialEq, Eq)]
 pub enum StretchKind {
     /// It runs its program.
     Run,
     /// Its program has ended, or an alarm has stopped it.
     End,
+    /// No channel holds the zone.
+    Free,
 }
 
 /// How a box of a stretch is named.
@@ -60,8 +63,8 @@ pub enum Verdict {
 pub struct Stretch {
     /// What the channel does.
     pub kind: StretchKind,
-    /// The channel that holds the zone.
-    pub channel: ChannelId,
+    /// The channel that holds the zone, or none.
+    pub channel: Option<ChannelId>,
     /// The boxes, in order.
     pub boxes: Vec<ZoneBox>,
 }
@@ -81,21 +84,21 @@ fn run_stretch(
     zone: &ZoneLine,
     run: &ChannelRun,
 ) -> Result<Stretch, AllocError>
-    requires axes { HasFewAxes job.now }
+    requires axes { length job.now.axes ≤ 16 }
     requires fit { All IsFit run.now.items }
     ensures { IfOk result (λ s. s ≡ model.run_stretch job.now zone.now run.now) }
 {
     let start = start_positions(job);
     Ok(Stretch {
         kind: StretchKind::Run,
-        channel: run.channel,
-        boxes: boxes_of(alloc, zone, 0, &start, &run.items)?,
+        channel: Some(run.channel),
+        boxes: boxes_of(alloc, job.margin, zone, 0, &start, &run.items)?,
     })
 }
 
 /// Where these motions leave the axes of a job.
 fn end_positions(job: &Job, items: &[Item]) -> Row
-    requires axes { HasFewAxes job.now }
+    requires axes { length job.now.axes ≤ 16 }
     requires fit { All IsFit items.now }
     ensures { (axis : ℕ) → positions_in result axis ≡ left_at items.now (start_position job.now) axis }
 {
@@ -113,16 +116,40 @@ fn end_stretch(
     zone: &ZoneLine,
     run: &ChannelRun,
 ) -> Result<Stretch, AllocError>
-    requires axes { HasFewAxes job.now }
+    requires axes { length job.now.axes ≤ 16 }
     requires fit { All IsFit run.now.items }
     ensures { IfOk result (λ s. s ≡ model.end_stretch job.now zone.now run.now) }
 {
     let at = end_positions(job, &run.items);
     Ok(Stretch {
         kind: StretchKind::End,
-        channel: run.channel,
-        boxes: boxes_of(alloc, zone, line_of_end(&run.end), &at, &[])?,
+        channel: Some(run.channel),
+        boxes: boxes_of(alloc, job.margin, zone, line_of_end(&run.end), &at, &[])?,
     })
+}
+
+/// The one stretch of a zone that no channel holds.
+#[tactic(auto, unfolding(crate::specs::ShownStretches::shown_stretch, crate::specs::Stretches::free_stretch))]
+fn free_stretch(alloc: Global, job: &Job, zone: &ZoneLine) -> Result<Stretch, AllocError>
+    requires { length job.now.axes ≤ 16 }
+    ensures { IfOk result (λ s. s ≡ model.shown_stretch job.now zone.now (free_stretch job.now zone.now)) }
+{
+    let start = start_positions(job);
+    Ok(Stretch {
+        kind: StretchKind::Free,
+        channel: None,
+        boxes: boxes_of(alloc, job.margin, zone, 0, &start, &[])?,
+    })
+}
+
+/// The stretches of a zone that no channel holds.
+pub fn free_stretches(alloc: Global, job: &Job, zone: &ZoneLine) -> Result<Vec<Stretch>, AllocError>
+    requires { length job.now.axes ≤ 16 }
+    ensures { IfOk result (λ s. s.items ≡ model.shown_stretch job.now zone.now (free_stretch job.now zone.now) ∷ []) }
+{
+    let mut stretches = Vec::new(alloc);
+    stretches.push(free_stretch(alloc, job, zone)?)?;
+    Ok(stretches)
 }
 
 /// The two stretches of a zone that is held by the channel of this run.
@@ -132,7 +159,7 @@ pub fn stretches_of_run(
     zone: &ZoneLine,
     run: &ChannelRun,
 ) -> Result<Vec<Stretch>, AllocError>
-    requires axes { HasFewAxes job.now }
+    requires axes { length job.now.axes ≤ 16 }
     requires fit { All IsFit run.now.items }
     ensures { IfOk result (λ s. s.items ≡ model.run_stretch job.now zone.now run.now ∷ model.end_stretch job.now zone.now run.now ∷ []) }
 {

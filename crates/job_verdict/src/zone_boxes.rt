@@ -1,5 +1,6 @@
 //! The boxes of a zone, from where its axes are.
-ghost use Rattle.std.specs.Prelude.{◌≡◌, ◌==◌, ◌<◌, ℕ, ◌++◌, All, IfOk, OnOk, find, map};
+ghost use Rattle.std.specs.Prelude.{◌≡◌, ◌==◌, ◌<◌, ◌≤◌, ℕ, ◌+ℤ◌, ◌-ℤ◌, ◌++◌, All, IfOk, OnOk, find, map};
+ghost use Rattle.std.specs.Int.RustNames.{unsigned_abs};
 ghost use Rattle.job_verdict.specs.Channels.{positions_in};
 ghost use Rattle.path_geometry.specs.Motions.{IsSound, axes_of};
 ghost use Rattle.job_verdict.specs.ZoneBoxes as model;
@@ -44,53 +45,68 @@ fn span_of(ranges: &Ranges, at: &Row, axis: AxisId) -> (Um, Um)
 }
 
 /// A bound that an axis carries: the two added, or where the zone goes against the axis their difference.
-fn carried(bound: Um, position: Um, minus: bool) -> i32
+fn carried(bound: i32, position: Um, minus: bool) -> i32
+    requires { unsigned_abs bound ≤ 100000000 }
     ensures { result ≡ model.carried bound position minus }
 {
     if minus {
-        bound.micrometres - position.micrometres
+        bound - position.micrometres
     } else {
-        bound.micrometres + position.micrometres
+        bound + position.micrometres
     }
 }
 
-#[tactic(auto, unfolding(crate::specs::ZoneBoxes::side_low, crate::specs::ZoneBoxes::side_high))]
-/// The bounds of a direction of a zone whose axes are within ranges.
-fn bounds_of(side: &Side, ranges: &Ranges, at: &Row) -> (i32, i32)
-    ensures low { result.0 ≡ model.side_low (model.low_in ranges.now (positions_in at.now)) (model.high_in ranges.now (positions_in at.now)) side.now }
-    ensures high { result.1 ≡ model.side_high (model.low_in ranges.now (positions_in at.now)) (model.high_in ranges.now (positions_in at.now)) side.now }
+/// The bounds of a direction, grown by the margin.
+fn grown(margin: Um, side: &Side) -> (i32, i32)
+    ensures low { result.0 ≡ side.now.lo -ℤ margin }
+    ensures high { result.1 ≡ side.now.hi +ℤ margin }
+    ensures small_low { unsigned_abs result.0 ≤ 100000000 }
+    ensures small_high { unsigned_abs result.1 ≤ 100000000 }
 {
+    (
+        side.lo.micrometres - margin.micrometres,
+        side.hi.micrometres + margin.micrometres,
+    )
+}
+
+/// The bounds of a direction of a zone whose axes are within ranges, grown by the margin.
+#[tactic(auto, unfolding(crate::specs::ZoneBoxes::side_low, crate::specs::ZoneBoxes::side_high))]
+fn bounds_of(margin: Um, side: &Side, ranges: &Ranges, at: &Row) -> (i32, i32)
+    ensures low { result.0 ≡ model.side_low margin (model.low_in ranges.now (positions_in at.now)) (model.high_in ranges.now (positions_in at.now)) side.now }
+    ensures high { result.1 ≡ model.side_high margin (model.low_in ranges.now (positions_in at.now)) (model.high_in ranges.now (positions_in at.now)) side.now }
+{
+    let (lo, hi) = grown(margin, side);
     match side.carrier {
-        None => (side.lo.micrometres, side.hi.micrometres),
+        None => (lo, hi),
         Some((axis, minus)) => {
             let (low, high) = span_of(ranges, at, axis);
             if minus {
-                (carried(side.lo, high, true), carried(side.hi, low, true))
+                (carried(lo, high, true), carried(hi, low, true))
             } else {
-                (carried(side.lo, low, false), carried(side.hi, high, false))
+                (carried(lo, low, false), carried(hi, high, false))
             }
         }
     }
 }
 
 /// The box whose directions have these bounds.
-fn box_of(sides: &[Side; 3], ranges: &Ranges, at: &Row) -> Box3
-    ensures { result ≡ model.box_of sides.now (model.low_in ranges.now (positions_in at.now)) (model.high_in ranges.now (positions_in at.now)) }
+fn box_of(margin: Um, sides: &[Side; 3], ranges: &Ranges, at: &Row) -> Box3
+    ensures { result ≡ model.box_of margin sides.now (model.low_in ranges.now (positions_in at.now)) (model.high_in ranges.now (positions_in at.now)) }
 {
-    let x = bounds_of(&sides[0], ranges, at);
-    let y = bounds_of(&sides[1], ranges, at);
-    let z = bounds_of(&sides[2], ranges, at);
+    let x = bounds_of(margin, &sides[0], ranges, at);
+    let y = bounds_of(margin, &sides[1], ranges, at);
+    let z = bounds_of(margin, &sides[2], ranges, at);
     Box3 {
         lo: [x.0, y.0, z.0],
         hi: [x.1, y.1, z.1],
     }
 }
 
-/// The box of a zone whose axes are within ranges, and elsewhere stand.
-pub fn zone_box(zone: &ZoneLine, ranges: &Ranges, at: &Row) -> Box3
-    ensures { result ≡ model.zone_box zone.now (model.low_in ranges.now (positions_in at.now)) (model.high_in ranges.now (positions_in at.now)) }
+/// The box of a zone whose axes are within ranges, and elsewhere stand, grown by the margin.
+pub fn zone_box(margin: Um, zone: &ZoneLine, ranges: &Ranges, at: &Row) -> Box3
+    ensures { result ≡ model.zone_box margin zone.now (model.low_in ranges.now (positions_in at.now)) (model.high_in ranges.now (positions_in at.now)) }
 {
-    box_of(&zone.sides, ranges, at)
+    box_of(margin, &zone.sides, ranges, at)
 }
 
 /// Whether a direction is carried by this axis.
@@ -165,27 +181,27 @@ pub struct ZoneBox {
 
 /// The box of a zone during a motion that begins with its axes at these positions.
 #[tactic(auto, unfolding(crate::specs::ZoneBoxes::moving_box))]
-fn moving_box(zone: &ZoneLine, item: &Item, at: &Row) -> ZoneBox
+fn moving_box(margin: Um, zone: &ZoneLine, item: &Item, at: &Row) -> ZoneBox
     requires { IsSound (motion_of item.now) }
-    ensures { result ≡ model.moving_box zone.now item.now (positions_in at.now) }
+    ensures { result ≡ model.moving_box margin zone.now item.now (positions_in at.now) }
 {
     ZoneBox {
         line: item.line,
-        cover: zone_box(zone, &cover(item.motion()), at),
+        cover: zone_box(margin, zone, &cover(item.motion()), at),
     }
 }
 
 /// The box of a zone that stands.
 #[tactic(auto, unfolding(crate::specs::ZoneBoxes::standing_box))]
-fn standing_box(zone: &ZoneLine, line: u32, at: &Row) -> ZoneBox
-    ensures { result ≡ model.standing_box zone.now line (positions_in at.now) }
+fn standing_box(margin: Um, zone: &ZoneLine, line: u32, at: &Row) -> ZoneBox
+    ensures { result ≡ model.standing_box margin zone.now line (positions_in at.now) }
 {
     let nothing = Ranges {
         axes: ArrayVec::new(),
     };
     ZoneBox {
         line,
-        cover: zone_box(zone, &nothing, at),
+        cover: zone_box(margin, zone, &nothing, at),
     }
 }
 
@@ -193,15 +209,16 @@ fn standing_box(zone: &ZoneLine, line: u32, at: &Row) -> ZoneBox
 #[tactic(auto, unfolding(crate::specs::ZoneBoxes::boxes_during))]
 fn add_box(
     boxes: &mut Vec<ZoneBox>,
+    margin: Um,
     zone: &ZoneLine,
     item: &Item,
     at: &Row,
 ) -> Result<(), AllocError>
     requires { IsSound (motion_of item.now) }
-    ensures { OnOk result (boxes.new.items ≡ boxes.old.items ++ model.boxes_during zone.now item.now (positions_in at.now)) }
+    ensures { OnOk result (boxes.new.items ≡ boxes.old.items ++ model.boxes_during margin zone.now item.now (positions_in at.now)) }
 {
     if moves_zone(zone, item) {
-        boxes.push(moving_box(zone, item, at))?;
+        boxes.push(moving_box(margin, zone, item, at))?;
     }
     Ok(())
 }
@@ -209,17 +226,18 @@ fn add_box(
 /// The boxes of the motions that have an axis of the zone.
 fn moving_boxes(
     alloc: Global,
+    margin: Um,
     zone: &ZoneLine,
     start: &Row,
     items: &[Item],
 ) -> Result<Vec<ZoneBox>, AllocError>
     requires { All model.IsFit items.now }
-    ensures { IfOk result (λ boxes. boxes.items ≡ model.moving_boxes zone.now (positions_in start.now) items.now) }
+    ensures { IfOk result (λ boxes. boxes.items ≡ model.moving_boxes margin zone.now (positions_in start.now) items.now) }
 {
     let mut boxes = Vec::new(alloc);
     let mut at = *start;
     for item in items {
-        add_box(&mut boxes, zone, item, &at)?;
+        add_box(&mut boxes, margin, zone, item, &at)?;
         settle(item, &mut at);
     }
     Ok(boxes)
@@ -228,17 +246,18 @@ fn moving_boxes(
 /// The boxes of a zone while its holder makes these motions, or the one where it stands.
 pub fn boxes_of(
     alloc: Global,
+    margin: Um,
     zone: &ZoneLine,
     line: u32,
     start: &Row,
     items: &[Item],
 ) -> Result<Vec<ZoneBox>, AllocError>
     requires { All model.IsFit items.now }
-    ensures { IfOk result (λ boxes. boxes.items ≡ map (model.shown_box zone.now line) (model.boxes_of zone.now (positions_in start.now) items.now)) }
+    ensures { IfOk result (λ boxes. boxes.items ≡ map (model.shown_box margin zone.now line) (model.boxes_of zone.now (positions_in start.now) items.now)) }
 {
-    let mut boxes = moving_boxes(alloc, zone, start, items)?;
+    let mut boxes = moving_boxes(alloc, margin, zone, start, items)?;
     if boxes.as_slice().is_empty() {
-        boxes.push(standing_box(zone, line, start))?;
+        boxes.push(standing_box(margin, zone, line, start))?;
     }
     Ok(boxes)
 }

@@ -1,5 +1,9 @@
 //! Small programs, with the places to which control goes. Places are counted from 0.
 
+ghost use Rattle.std.specs.Prelude.{true};
+ghost use Rattle.nc_control_flow.specs.Parts.{views};
+ghost use Rattle.nc_control_flow.specs.Counted.{CountRepeats};
+
 use nc_blocks::{Block, NameText, Stmt, Target, Way};
 use nc_control_flow::Next::{At, Past};
 use nc_control_flow::Outcome::{Again, Jump, Plain, Skipped, Truth};
@@ -27,11 +31,13 @@ fn stmt(word: &str) -> Stmt {
         "REPEAT-A" => Stmt::RepeatFrom(NameText::of_word(b"A"), Some(value)),
         "REPEATB-A" => Stmt::RepeatBlock(NameText::of_word(b"A"), Some(value)),
         "REPEATB-B" => Stmt::RepeatBlock(NameText::of_word(b"B"), Some(value)),
+        "REPEATB-C" => Stmt::RepeatBlock(NameText::of_word(b"C"), Some(value)),
         _ => Stmt::Empty,
     }
 }
 
-/// The program whose blocks stand between blanks, each behind its label or number.
+/// The program whose blocks stand between blanks, each behind its label or number; one that begins with
+/// `/` has it.
 fn program(rt: &impl Abort, alloc: Global, text: &str) -> Result<Flow, Fail> {
     let mut blocks = Vec::new(alloc);
     let mut label = None;
@@ -43,10 +49,10 @@ fn program(rt: &impl Abort, alloc: Global, text: &str) -> Result<Flow, Fail> {
             None => {
                 let line = 7;
                 let block = Block {
-                    skip: false,
+                    skip: word.starts_with('/'),
                     number,
                     label,
-                    stmt: stmt(word),
+                    stmt: stmt(word.trim_start_matches('/')),
                 };
                 blocks.push((line, block))?;
                 label = None;
@@ -240,6 +246,159 @@ fn sixteen_repetitions(rt: HostRuntime) -> Result<(), Fail> {
     assert_eq!(rt; step(&flow, 0, &mut repeats, Again(1)), Err(32));
     // Each of the sixteen ends with the block that it repeats, and so does the one round it.
     assert_eq!(rt; step(&flow, 0, &mut repeats, Plain), Ok(At(1)));
+    Ok(())
+}
+
+/// Where the block at a place goes on, over blocks with `/`.
+fn step_over(flow: &Flow, pc: u32, repeats: &mut Repeats, outcome: Outcome) -> Result<Next, u16>
+    requires { CountRepeats true (views flow.now) repeats.old }
+    ensures { CountRepeats true (views flow.now) repeats.new }
+{
+    match flow.block(pc) {
+        Some((_, block)) if !block.skip => flow.next_counted(pc, repeats, outcome, true),
+        _ => Ok(Past),
+    }
+}
+
+/// Goes on from a place, over blocks with `/`, by what comes of each block that counts, and compares
+/// where each goes on.
+fn steps_over(
+    rt: &impl Abort,
+    flow: &Flow,
+    repeats: &mut Repeats,
+    start: u32,
+    steps: &[(Outcome, Result<Next, u16>)],
+)
+    requires { CountRepeats true (views flow.now) repeats.old }
+    ensures { CountRepeats true (views flow.now) repeats.new }
+{
+    let mut pc = start;
+    for (outcome, expected) in steps {
+        let next = step_over(flow, pc, repeats, *outcome);
+        assert_eq!(rt; next, *expected, "at {pc}");
+        if let Ok(At(place)) = next {
+            pc = place;
+        }
+    }
+}
+
+/// Runs a program from a place on in the same way.
+fn run_over(
+    rt: &impl Abort,
+    alloc: Global,
+    text: &str,
+    start: u32,
+    steps: &[(Outcome, Result<Next, u16>)],
+) -> Result<(), Fail> {
+    let flow = program(rt, alloc, text)?;
+    let mut repeats = Repeats::new();
+    steps_over(rt, &flow, &mut repeats, start, steps);
+    Ok(())
+}
+
+#[test]
+fn passes_over_blocks(rt: HostRuntime) -> Result<(), Fail> {
+    let alloc = rt.alloc();
+    let a = Target::Label(NameText::of_word(b"A"));
+    let ten = Target::Number(10);
+    let labels = ". /. A: /. . N10: /. /.";
+    let branches = "IF /. /. /ELSE /. . ENDIF";
+    let cases = [
+        (labels, 0, Plain, Ok(At(3))),
+        (labels, 0, Jump(Way::Forward, &a), Ok(At(3))),
+        (labels, 3, Jump(Way::Backward, &a), Ok(At(3))),
+        (labels, 3, Jump(Way::Forward, &a), Err(5)),
+        (labels, 0, Jump(Way::Either, &ten), Ok(Past)),
+        (labels, 3, Plain, Ok(Past)),
+        (branches, 0, Truth(false), Ok(At(5))),
+        (branches, 0, Truth(true), Ok(At(5))),
+        (". /REPEAT-A A: .", 0, Plain, Ok(At(2))),
+    ];
+    for (text, pc, outcome, expected) in cases.iter() {
+        run_over(&rt, alloc, text, *pc, &[(*outcome, *expected)])?;
+    }
+    Ok(())
+}
+
+#[test]
+fn first_blocks(rt: HostRuntime) -> Result<(), Fail> {
+    let cases = [
+        ("", Past, Past),
+        ("/.", At(0), Past),
+        ("/. A: /. /.", At(0), Past),
+        (". /.", At(0), At(0)),
+        ("/. /. . /. .", At(0), At(2)),
+    ];
+    for (text, as_it_is, over) in cases.iter() {
+        let flow = program(&rt, rt.alloc(), text)?;
+        assert_eq!(rt; flow.first_counted(false), *as_it_is, "of {text}");
+        assert_eq!(rt; flow.first_counted(true), *over, "of {text}");
+        assert_eq!(rt; flow.has_counting(false), *as_it_is != Past, "of {text}");
+        assert_eq!(rt; flow.has_counting(true), *over != Past, "of {text}");
+    }
+    Ok(())
+}
+
+#[test]
+fn repeats_over_blocks(rt: HostRuntime) -> Result<(), Fail> {
+    let alloc = rt.alloc();
+    let range = "A: /. . /. REPEAT-A /. .";
+    let twice = [
+        (Again(2), Ok(At(1))),
+        (Plain, Ok(At(1))),
+        (Plain, Ok(At(5))),
+    ];
+    run_over(&rt, alloc, range, 3, &twice)?;
+    let idle = "A: /. /. REPEAT-A REPEATB-A .";
+    run_over(&rt, alloc, idle, 2, &[(Again(9999), Ok(At(3)))])?;
+    run_over(&rt, alloc, idle, 3, &[(Again(9999), Ok(At(4)))])?;
+    let single = [(Again(2), Ok(At(0))), (Plain, Ok(At(0))), (Plain, Ok(Past))];
+    run_over(&rt, alloc, "A: . /. REPEATB-A /.", 2, &single)?;
+    // The repetition of B is not begun, and its block ends a pass of that round it.
+    let nested = [
+        (Again(1), Ok(At(0))),
+        (Plain, Ok(At(2))),
+        (Again(5), Ok(At(5))),
+        (Again(1), Ok(At(0))),
+        (Plain, Ok(At(2))),
+        (Again(0), Ok(At(3))),
+        (Again(0), Ok(Past)),
+    ];
+    run_over(
+        &rt,
+        alloc,
+        "A: . B: /. REPEATB-B REPEAT-A /. .",
+        3,
+        &nested[..3],
+    )?;
+    run_over(
+        &rt,
+        alloc,
+        "A: . B: /. REPEATB-B REPEAT-A /. REPEAT-A",
+        3,
+        &nested,
+    )
+}
+
+#[test]
+fn seventeenth_over_blocks(rt: HostRuntime) -> Result<(), Fail> {
+    let text = "A: REPEATB-B B: REPEATB-A C: /. REPEATB-C .";
+    let flow = program(&rt, rt.alloc(), text)?;
+    let mut repeats = Repeats::new();
+    let idle = [(Again(9), Ok(At(4)))];
+    let four = [
+        (Again(1), Ok(At(1))),
+        (Again(1), Ok(At(0))),
+        (Again(1), Ok(At(1))),
+        (Again(1), Ok(At(0))),
+    ];
+    steps_over(&rt, &flow, &mut repeats, 3, &idle);
+    steps_over(&rt, &flow, &mut repeats, 0, &four);
+    steps_over(&rt, &flow, &mut repeats, 0, &four);
+    steps_over(&rt, &flow, &mut repeats, 0, &four);
+    steps_over(&rt, &flow, &mut repeats, 0, &four);
+    // Sixteen run, so even one that repeats no block that counts is refused.
+    steps_over(&rt, &flow, &mut repeats, 3, &[(Again(9), Err(32))]);
     Ok(())
 }
 

@@ -7,6 +7,7 @@ use Rattle.nc_control_flow.specs.declared.flow.Move.{Move}
 use Rattle.nc_control_flow.specs.declared.flow.Move.TheVariants.{Onward, Leap, Start}
 use Rattle.nc_control_flow.specs.declared.repeats.Running.{Running}
 use Rattle.nc_control_flow.specs.declared.repeats.Control.TheVariants.{Comes}
+use Rattle.nc_control_flow.specs.Counted.{up_to_counting, next_going}
 use Rattle.nc_control_flow.specs.Flow.{going, gone, next_block}
 use Rattle.nc_control_flow.specs.Moves.{OutcomeView, Plain, Truth, Jump, Again, Skipped, jump, range, single, repetition, move_of}
 use Rattle.nc_control_flow.specs.Parts.{statement_at}
@@ -53,20 +54,28 @@ move_alarms pc blocks statement (Jump way target) = jump_alarms way (target_of w
 move_alarms pc blocks statement (Again times) = repetition_alarms pc blocks statement times
 move_alarms pc blocks statement Skipped = tt
 
-going_alarms : (pc : ℕ) (running : List Running) (move : Move) → Alarms (going pc running move)
+move_going_alarms : (pc : ℕ) (running : List Running) (move : Move) → Alarms (going pc running move)
 unfolding going
-going_alarms pc running Onward = tt
-going_alarms pc running (Leap place) = tt
-going_alarms pc running (Start r) = by_room (length running == 16)
+move_going_alarms pc running Onward = tt
+move_going_alarms pc running (Leap place) = tt
+move_going_alarms pc running (Start r) = by_room (length running == 16)
   where
     by_room : (b : Bool) → Alarms (cond b (Err 32) (Ok (settled (Comes r.first) (r ∷ running))))
     by_room true = inr refl
     by_room false = tt
 
 gone_alarms : (pc : ℕ) (running : List Running) (r : Result Move ℕ) → Alarms r → Alarms (gone pc running r)
-gone_alarms pc running (Ok move) alarms = going_alarms pc running move
+gone_alarms pc running (Ok move) alarms = move_going_alarms pc running move
 gone_alarms pc running (Err code) alarms = alarms
 
-pub next_alarms : (pc : ℕ) (blocks : List BlockView) (running : List Running) (outcome : OutcomeView) → Alarms (next_block pc blocks running outcome)
+next_alarms : (pc : ℕ) (blocks : List BlockView) (running : List Running) (outcome : OutcomeView) → Alarms (next_block pc blocks running outcome)
 unfolding next_block
 next_alarms pc blocks running outcome = gone_alarms pc running (move_of pc blocks (statement_at pc blocks) outcome) (move_alarms pc blocks (statement_at pc blocks) outcome)
+
+counted_alarms : (skip : Bool) (blocks : List BlockView) (r : Result Going ℕ) → Alarms r → Alarms (up_to_counting skip blocks r)
+counted_alarms skip blocks (Ok going) alarms = tt
+counted_alarms skip blocks (Err code) alarms = alarms
+
+-- up to a block that counts too
+pub going_alarms : (skip : Bool) (pc : ℕ) (blocks : List BlockView) (running : List Running) (outcome : OutcomeView) → Alarms (next_going skip pc blocks running outcome)
+going_alarms skip pc blocks running outcome = counted_alarms skip blocks (next_block pc blocks running outcome) (next_alarms pc blocks running outcome)

@@ -5,3 +5,7 @@ pub mod Indexed
 pub mod Resolving
 pub mod Nesting
 pub mod Alarms
+pub mod Turning
+pub mod Counting
+pub mod Leading
+pub mod Starting

@@ -126,7 +126,7 @@ hopped : (n : ℕ) (control : Control) (rs : List Running) (level : Level) → h
 unfolding settled
 hopped n control rs level e t = ap (λ o. after_hop control rs o (λ c r. hops n c r)) e ∙ ap (λ k. hops k level.control level.running) t
 
-stopped : (n : ℕ) (control : Control) (rs : List Running) → hop control rs ≡ None → hops n control rs ≡ record { place = past control; running = rs }
+pub stopped : (n : ℕ) (control : Control) (rs : List Running) → hop control rs ≡ None → hops n control rs ≡ record { place = past control; running = rs }
 stopped zero control rs e = refl
 stopped (suc n) control rs e = ap (λ o. after_hop control rs o (λ c r. hops n c r)) e
 

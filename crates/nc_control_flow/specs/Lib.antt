@@ -11,3 +11,4 @@ pub mod Resolved
 pub mod Repetitions
 pub mod Moves
 pub mod Flow
+pub mod Counted

@@ -3,6 +3,7 @@ use Rattle.std.specs.Prelude.{◌≡◌, ℕ, ◌^◌, ◌<◌, List, length, sl
 use Rattle.nc_blocks.specs.Statement.{BlockView}
 use Rattle.nc_control_flow.specs.Structures.{closing, branching, opening}
 use Rattle.nc_control_flow.specs.Index.{Labels, Numbers, IsIndex}
+use Rattle.nc_control_flow.specs.Counted.{plain_from}
 
 -- these hold the end, the branch and the beginning of the structure round each place
 pub record AreStructures (blocks : List BlockView) (ends branches openers : List ℕ) : Type 0 where
@@ -13,7 +14,13 @@ pub record AreStructures (blocks : List BlockView) (ends branches openers : List
   pub branch_at : (k : ℕ) → k < length blocks → slice_index branches k ≡ branching k blocks
   pub opener_at : (k : ℕ) → k < length blocks → slice_index openers k ≡ opening k blocks
 
-pub record IsResolved (blocks : List BlockView) (ends branches openers : List ℕ) (labels : Labels) (numbers : Numbers) : Type 0 where
+-- these hold the place of the nearest block without `/` at or behind each place
+pub record IsPlain (blocks : List BlockView) (plain : List ℕ) : Type 0 where
+  pub plain_length : length plain ≡ length blocks
+  pub plain_at : (k : ℕ) → k < length blocks → slice_index plain k ≡ plain_from blocks k
+
+pub record IsResolved (blocks : List BlockView) (ends branches openers plain : List ℕ) (labels : Labels) (numbers : Numbers) : Type 0 where
   pub few : length blocks < 2 ^ 32
   pub structures : AreStructures blocks ends branches openers
+  pub plain_places : IsPlain blocks plain
   pub index : IsIndex blocks labels numbers

@@ -3,6 +3,7 @@
 ghost use Rattle.std.specs.Prelude.{◌≡◌, ◌+◌, ◌<◌, ◌^◌, length, vec_len, option_copied, slice_get, IfOk, IsSome, ◌↔◌};
 ghost use Rattle.nc_control_flow.specs.Parts.{views};
 
+use crate::counted::plain_places;
 use crate::index::Index;
 use crate::parts::{Sought, parts};
 use crate::repeats::{Control, Repeats, Running};
@@ -55,6 +56,7 @@ pub struct Flow {
     pub(crate) ends: Vec<u32>,
     pub(crate) branches: Vec<u32>,
     pub(crate) openers: Vec<u32>,
+    pub(crate) plain: Vec<u32>,
     pub(crate) index: Index,
 }
 
@@ -72,7 +74,7 @@ impl Model for Flow {
 
     ghost view = { λ f. f.blocks.items };
 
-    ghost invariant = { λ f. IsResolved (views f.blocks.items) f.ends.items f.branches.items f.openers.items f.index.labels f.index.numbers };
+    ghost invariant = { λ f. IsResolved (views f.blocks.items) f.ends.items f.branches.items f.openers.items f.plain.items f.index.labels f.index.numbers };
 }
 
 /// Finds the structures, the labels and the block numbers of a program, whose blocks come with their
@@ -86,12 +88,14 @@ pub fn resolve(alloc: Global, blocks: Vec<(u32, Block)>) -> Result<Flow, AllocEr
     let ends = found_ahead(alloc, &parts, Sought::End)?;
     let branches = found_ahead(alloc, &parts, Sought::Branch)?;
     let openers = found_behind(alloc, &parts, Sought::Opener)?;
+    let plain = plain_places(alloc, &blocks)?;
     let index = Index::of(alloc, &blocks)?;
     Ok(Flow {
         blocks,
         ends,
         branches,
         openers,
+        plain,
         index,
     })
 }
@@ -147,7 +151,7 @@ impl Flow {
     }
 
     /// What stands at a place.
-    fn at(&self, place: u32) -> Next
+    pub(crate) fn at(&self, place: u32) -> Next
         ensures { result ≡ next_at (views self.now) place }
     {
         if (place as usize) < self.blocks.len() {

@@ -2,8 +2,10 @@
 //!
 //! What follows a block is defined by search in the text of its program. `resolve` finds the
 //! structures and the places of labels and block numbers once, and `Flow::next` answers by them.
+//! Where blocks with `/` are passed over, `Flow::next_counted` answers in place of it.
 #![tactic(auto)]
 
+mod counted;
 mod flow;
 mod index;
 mod laws;

@@ -1,28 +1,54 @@
-//! Blocks, with what they do by the rules: the ends of their axes in micrometres, and what becomes of control.
+//! Blocks, with what they do by the rules: the starts and ends of their axes in micrometres, and what becomes of control.
 
 ghost use Rattle.std.specs.Prelude.{IfOk};
-ghost use Rattle.nc_blocks.specs.Indices.{OptionFits, StatementFits};
-ghost use Rattle.nc_blocks.specs.Statement.{statement_view, tree_option};
-ghost use Rattle.nc_expressions.specs.Tree.{tree_of, IndicesFit};
+ghost use Rattle.nc_blocks.specs.Indices.{StatementFits};
+ghost use Rattle.nc_blocks.specs.Statement.{statement_view};
 
-use axis_sets::{AxisId, Positions};
+use axis_sets::{AxisId, AxisSet, Positions};
 use block_effects::*;
 use block_scanner::scan;
-use micro_units::{Num, Um};
-use nc_blocks::{JumpTo, NameText, Stmt, Target, Way, words_form};
-use nc_expressions::{Expr, parse_expr};
+use frames::Frame;
+use g_groups::Modal;
+use micro_units::Um;
+use nc_blocks::{NameText, Stmt};
+use nc_syntax::statement;
 use std::alloc::Global;
 use std::process::Abort;
 use std::test::Fail;
 
-/// The programs A and B.
-#[derive(Drop)]
-struct TwoPrograms;
+/// The axis X1, in the slot X.
+const X: AxisId = AxisId { index: 0 };
 
-impl Library for TwoPrograms {
-    ghost use Rattle.std.specs.Prelude.{[], ◌∷◌, codes};
+/// The axis Z1, in the slot Z.
+const Z: AxisId = AxisId { index: 2 };
+
+/// The axis C1, in no slot.
+const C: AxisId = AxisId { index: 3 };
+
+/// The axis B1, which the channel does not own.
+const B: AxisId = AxisId { index: 4 };
+
+/// The programs A and B, the axes X1, Z1, C1 and B1, and offsets of X and Z under G54 and of X under G55.
+#[derive(Drop)]
+struct Bench;
+
+impl Setup for Bench {
+    ghost use Rattle.std.specs.Prelude.{◌==◌, pos, if◌then◌else◌, [], ◌∷◌, codes, Some, None};
+    ghost use Rattle.std.specs.Str.{bytes_eq};
 
     ghost names = { λ _. codes "A" ∷ codes "B" ∷ [] };
+
+    ghost axis_named = { λ _ name.
+        if bytes_eq name (codes "X1") then Some 0
+        else if bytes_eq name (codes "Z1") then Some 2
+        else if bytes_eq name (codes "C1") then Some 3
+        else if bytes_eq name (codes "B1") then Some 4
+        else None };
+
+    ghost offset = { λ _ word slot.
+        if word == 55 then (if slot == 0 then pos 100000 else pos 0)
+        else if word == 54 then (if slot == 0 then pos 10000 else if slot == 2 then pos 20000 else pos 0)
+        else pos 0 };
 
     fn number_of(&self, name: &NameText) -> Option<u16> {
         if b"A".as_slice() == name.as_bytes() {
@@ -33,113 +59,61 @@ impl Library for TwoPrograms {
             None
         }
     }
+
+    fn axis_named(&self, name: &[u8]) -> Option<AxisId> {
+        if name == b"X1".as_slice() {
+            Some(X)
+        } else if name == b"Z1".as_slice() {
+            Some(Z)
+        } else if name == b"C1".as_slice() {
+            Some(C)
+        } else if name == b"B1".as_slice() {
+            Some(B)
+        } else {
+            None
+        }
+    }
+
+    fn offset(&self, word: u16, slot: u8) -> Um {
+        let micrometres = match (word, slot) {
+            (55, 0) => 100_000,
+            (54, 0) => 10_000,
+            (54, 2) => 20_000,
+            _ => 0,
+        };
+        Um { micrometres }
+    }
 }
 
-/// An expression.
-fn value(rt: &impl Abort, alloc: Global, text: &str) -> Result<Expr, Fail>
-    ensures { IfOk result (λ e. IndicesFit (tree_of e)) }
+/// A block.
+fn block(rt: &impl Abort, alloc: Global, text: &str) -> Result<Stmt, Fail>
+    ensures { IfOk result (λ s. StatementFits (statement_view s)) }
 {
     let text = text.as_bytes();
     assert!(rt; text.len() <= 512);
     let words = scan(alloc, text)?;
-    let (tree, _) = parse_expr(alloc, &words, 0)?;
-    Ok(tree)
+    let block = statement(alloc, &words, false)?;
+    Ok(block.stmt)
 }
 
-/// An expression, or none of an empty text.
-fn option_value(rt: &impl Abort, alloc: Global, text: &str) -> Result<Option<Expr>, Fail>
-    ensures { IfOk result (λ o. OptionFits (tree_option o)) }
-{
-    if text.is_empty() {
-        return Ok(None);
-    }
-    let tree = value(rt, alloc, text)?;
-    Ok(Some(tree))
-}
-
-/// A block of words.
-fn words(rt: &impl Abort, alloc: Global, text: &str) -> Result<Stmt, Fail>
-    ensures { IfOk result (λ s. StatementFits (statement_view s)) }
-{
-    let text = text.as_bytes();
-    assert!(rt; text.len() <= 512);
-    let words = scan(alloc, text)?;
-    Ok(words_form(alloc, &words, 0)?)
-}
-
-/// A jump forward to a label.
-fn to(label: &[u8]) -> JumpTo {
-    JumpTo {
-        way: Way::Forward,
-        target: Target::Label(NameText::of_word(label)),
-    }
-}
-
-/// A CASE with jumps at 5, at 5 again and at 3.
-fn case(alloc: Global, value: Expr, default: Option<JumpTo>) -> Result<Stmt, Fail>
-    requires { IndicesFit (tree_of value) }
-    ensures { IfOk result (λ s. StatementFits (statement_view s)) }
-{
-    let five = Num {
-        millionths: 5_000_000,
-    };
-    let three = Num {
-        millionths: 3_000_000,
-    };
-    let mut pairs = Vec::new(alloc);
-    pairs.push((five, to(b"FIRST")))?;
-    pairs.push((five, to(b"SECOND")))?;
-    pairs.push((three, to(b"THIRD")))?;
-    Ok(Stmt::Case(value, pairs, default))
-}
-
-/// A block of this form with these values.
-fn block(
-    rt: &impl Abort,
-    alloc: Global,
-    form: &str,
-    first: &str,
-    second: &str,
-) -> Result<Stmt, Fail>
-    ensures { IfOk result (λ s. StatementFits (statement_view s)) }
-{
-    Ok(match form {
-        "GOTOF" => Stmt::Jump(to(b"A")),
-        "IF GOTOF" => Stmt::IfJump(value(rt, alloc, first)?, to(b"A")),
-        "IF" => Stmt::If(value(rt, alloc, first)?),
-        "WHILE" => Stmt::While(value(rt, alloc, first)?),
-        "UNTIL" => Stmt::Until(value(rt, alloc, first)?),
-        "FOR R1" => Stmt::For(1, value(rt, alloc, first)?, value(rt, alloc, second)?),
-        "ENDFOR" => Stmt::EndFor,
-        "CASE" => case(alloc, value(rt, alloc, first)?, None)?,
-        "CASE DEFAULT" => case(alloc, value(rt, alloc, first)?, Some(to(b"OTHER")))?,
-        "REPEAT" => Stmt::RepeatFrom(NameText::of_word(b"A"), option_value(rt, alloc, first)?),
-        "REPEATB" => Stmt::RepeatBlock(NameText::of_word(b"A"), option_value(rt, alloc, first)?),
-        "CALL B" => Stmt::Call(NameText::of_word(b"B"), 3),
-        "CALL C" => Stmt::Call(NameText::of_word(b"C"), 3),
-        "RET" => Stmt::Return,
-        "ROT" => Stmt::Turn(false, option_value(rt, alloc, first)?),
-        "ELSE" => Stmt::Else,
-        words_of_block => words(rt, alloc, words_of_block)?,
-    })
-}
-
-/// A block as text: the ends of its axes, and the course of control where it does not simply go on; or its alarm.
+/// A block as text: the starts and ends of its axes, and the course of control; or its alarm.
 fn said(
     alloc: Global,
-    parameters: &mut Parameters,
+    situation: &mut Situation,
     opener: &Stmt,
     stmt: &Stmt,
 ) -> Result<String, Fail>
     requires opener { StatementFits (statement_view opener.now) }
     requires fits { StatementFits (statement_view stmt.now) }
 {
-    let slots = [Some(AxisId { index: 0 }), None, Some(AxisId { index: 2 })];
-    let mut at = Positions::empty();
-    at.set(AxisId { index: 2 }, Um { micrometres: 7 });
-    let done = match execute(&TwoPrograms, &slots, parameters, &mut at, 9, opener, stmt) {
+    let axes = ChannelAxes {
+        slots: [Some(X), None, Some(Z)],
+        owned: AxisSet::empty().with(X).with(Z).with(C),
+    };
+    let done = match execute(alloc, &Bench, &axes, situation, 9, opener, stmt) {
         Ok(done) => done,
-        Err(code) => return Ok(format!(in alloc; "ALARM {code}")?),
+        Err(BlockFault::Alarm(code)) => return Ok(format!(in alloc; "ALARM {code}")?),
+        Err(BlockFault::NoMemory) => return Ok(format!(in alloc; "NO MEMORY")?),
     };
     let mut text = String::new(alloc);
     if let Some(item) = &done.item {
@@ -153,6 +127,21 @@ fn said(
     let course = done.course;
     text.push_str(format!(in alloc; "{course:?}")?.as_str())?;
     Ok(text)
+}
+
+/// The start of a channel, where Z1 stands at 0.007, with parameters that these words give.
+fn situation(rt: &impl Abort, alloc: Global, set: &str) -> Result<Situation, Fail> {
+    let mut at = Positions::empty();
+    at.set(Z, Um { micrometres: 7 });
+    let mut situation = Situation {
+        parameters: Parameters::new(alloc)?,
+        modal: Modal::start(),
+        frame: Frame::empty(),
+        at,
+    };
+    let stmt = block(rt, alloc, set)?;
+    let _said = said(alloc, &mut situation, &Stmt::Empty, &stmt)?;
+    Ok(situation)
 }
 
 /// Blocks of words where R1 is 5 and R2 is 3, with what they do.
@@ -193,95 +182,274 @@ static WORDS: [(&str, &str); 34] = [
     ("F100 S=2 T=\"A\" M3=5 LIMS=3 SF=4", "Goes(Plain)"),
 ];
 
-/// Blocks by their form and their values where R1 is 5 and R2 is 3, with what becomes of control. Their structure is
-/// begun by FOR R1=1 TO the second value.
-static CONTROL: [(&str, &str, &str, &str); 35] = [
-    ("GOTOF", "", "", "Goes(Jump(Forward, Label(A)))"),
-    ("IF GOTOF", "R1==5", "", "Goes(Jump(Forward, Label(A)))"),
-    ("IF GOTOF", "R1==6", "", "Goes(Plain)"),
-    ("IF GOTOF", "1/0", "", "ALARM 2"),
-    ("IF", "-0.5", "", "Goes(Truth(true))"),
-    ("IF", "R1-5", "", "Goes(Truth(false))"),
-    ("WHILE", "R1>R2", "", "Goes(Truth(true))"),
-    ("UNTIL", "SQRT(-1)", "", "ALARM 3"),
-    ("FOR R1", "1", "1", "Goes(Truth(true))"),
-    ("FOR R1", "1.000001", "1", "Goes(Truth(false))"),
-    ("FOR R1", "9", "R1", "Goes(Truth(true))"),
-    ("FOR R1", "1/0", "SQRT(-1)", "ALARM 2"),
-    ("FOR R1", "1", "SQRT(-1)", "ALARM 3"),
-    ("ENDFOR", "", "6", "Goes(Truth(true))"),
-    ("ENDFOR", "", "5", "Goes(Truth(false))"),
-    ("ENDFOR", "", "R1", "Goes(Truth(true))"),
-    ("ENDFOR", "", "1/0", "ALARM 2"),
-    ("CASE", "R1", "", "Goes(Jump(Forward, Label(FIRST)))"),
-    ("CASE DEFAULT", "3", "", "Goes(Jump(Forward, Label(THIRD)))"),
-    (
-        "CASE DEFAULT",
-        "3.000001",
-        "",
-        "Goes(Jump(Forward, Label(OTHER)))",
-    ),
-    ("CASE", "4", "", "Goes(Plain)"),
-    ("CASE", "R[-1]", "", "ALARM 4"),
-    ("REPEAT", "", "", "Goes(Again(1))"),
-    ("REPEAT", "0", "", "Goes(Again(0))"),
-    ("REPEATB", "9999", "", "Goes(Again(9999))"),
-    ("REPEATB", "10000", "", "ALARM 33"),
-    ("REPEAT", "1.5", "", "ALARM 33"),
-    ("REPEAT", "-1", "", "ALARM 33"),
-    ("REPEAT", "1/0", "", "ALARM 2"),
-    ("CALL B", "", "", "Calls(1, 3)"),
-    ("CALL C", "", "", "ALARM 7"),
-    ("RET", "", "", "Ends"),
-    ("ROT", "1/0", "", "Goes(Plain)"),
-    ("ELSE", "", "", "Goes(Plain)"),
-    ("M30", "", "", "Ends"),
+/// Blocks of words where an alarm meets others, or does not come.
+static ALARMS: [(&str, &str); 37] = [
+    ("G0 G1 X5", "ALARM 10"),
+    ("G1 G01", "ALARM 10"),
+    ("DIAMON X5 DIAM90", "ALARM 10"),
+    ("SUPA G53", "ALARM 10"),
+    ("NORM KONT", "ALARM 10"),
+    ("G90 X=1/0 Y1 X1=5 G91", "ALARM 10"),
+    ("G0 G90 G54 X1", "0:0:11000 Goes(Plain)"),
+    ("X1=5", "ALARM 16"),
+    ("Z1=AC(5)", "ALARM 16"),
+    ("X1=SQRT(-1)", "ALARM 3"),
+    ("A5=1", "ALARM 14"),
+    ("X100=5", "ALARM 14"),
+    ("X01=5", "ALARM 14"),
+    ("A5=1/0", "ALARM 2"),
+    ("X1=5 A5=1", "ALARM 16"),
+    ("A5=1 X1=5", "ALARM 14"),
+    ("Y1 X1=5", "ALARM 14"),
+    ("C1=1 C1=IC(2)", "ALARM 17"),
+    ("X1 X2 X1=5", "ALARM 17"),
+    ("X1=5 X1 X2", "ALARM 16"),
+    ("C1=1 C1=2 A5=1", "ALARM 17"),
+    ("X1 X2 R1=1/0", "ALARM 17"),
+    ("C1=1.5 X1", "0:0:1000 3:0:1500 Goes(Plain)"),
+    ("B1=5", "ALARM 15"),
+    ("B1=20000", "ALARM 13"),
+    ("X20000 B1=5", "ALARM 13"),
+    ("B1=5 X1 X2", "ALARM 17"),
+    ("B1=IC(20000)", "ALARM 15"),
+    ("B1=IC(20000.001)", "ALARM 13"),
+    ("G4 F1 X5", "Goes(Plain)"),
+    ("X20000 B1=5 G25", "Goes(Plain)"),
+    ("G26 X1 X2", "ALARM 17"),
+    ("G4 Y1", "ALARM 14"),
+    ("G4 X=1/0", "ALARM 2"),
+    ("G4 X1=5", "ALARM 16"),
+    ("G4 G4", "ALARM 10"),
+    ("G4 R1=7 M30", "Ends"),
 ];
 
-/// Parameters with R1 at 5 and R2 at 3, or with the values of other words.
-fn parameters(rt: &impl Abort, alloc: Global, set: &str) -> Result<Parameters, Fail> {
-    let mut parameters = Parameters::new(alloc)?;
-    let stmt = words(rt, alloc, set)?;
-    let _said = said(alloc, &mut parameters, &Stmt::Empty, &stmt)?;
-    Ok(parameters)
-}
+/// Blocks one after another, with what the last does.
+static RUNS: [(&[&str], &str); 46] = [
+    (&["X10 DIAMON"], "0:0:5000 Goes(Plain)"),
+    (&["DIAMON", "X10 Z10"], "0:0:5000 2:7:10000 Goes(Plain)"),
+    (&["DIAM90", "G91 X10"], "0:0:10000 Goes(Plain)"),
+    (&["DIAMON", "DIAMOF X10"], "0:0:10000 Goes(Plain)"),
+    (&["X5", "X2 G91"], "0:5000:7000 Goes(Plain)"),
+    (&["X5 G91", "X2"], "0:5000:7000 Goes(Plain)"),
+    (&["X5 G91", "X=AC(2)"], "0:5000:2000 Goes(Plain)"),
+    (
+        &["X5", "X=IC(2) C1=IC(3)"],
+        "0:5000:7000 3:0:3000 Goes(Plain)",
+    ),
+    (&["X5 G54"], "0:0:15000 Goes(Plain)"),
+    (&["G54", "X5 Z5"], "0:0:15000 2:7:25000 Goes(Plain)"),
+    (&["G54 X5", "G55 X5"], "0:15000:105000 Goes(Plain)"),
+    (&["G54", "G500", "X5"], "0:0:5000 Goes(Plain)"),
+    (&["G54", "G91 X5"], "0:0:5000 Goes(Plain)"),
+    (&["G54", "G53 X5"], "0:0:5000 Goes(Plain)"),
+    (&["G54 SUPA", "X5"], "0:0:15000 Goes(Plain)"),
+    (&["G54", "G53", "TRANS X1", "X5"], "0:0:16000 Goes(Plain)"),
+    (&["G54", "C1=5"], "3:0:5000 Goes(Plain)"),
+    (
+        &["TRANS X=R1 Z=R2*2", "X1 Z1"],
+        "0:0:6000 2:7:7000 Goes(Plain)",
+    ),
+    (
+        &["TRANS X1", "TRANS X2 Z3", "X0 Z0"],
+        "0:0:2000 2:7:3000 Goes(Plain)",
+    ),
+    (&["TRANS X1", "TRANS Z3", "X0"], "0:0:0 Goes(Plain)"),
+    (&["TRANS X1", "ATRANS X2", "X0"], "0:0:3000 Goes(Plain)"),
+    (&["ATRANS X2", "X0"], "0:0:2000 Goes(Plain)"),
+    (&["TRANS X1", "SUPA X0"], "0:0:0 Goes(Plain)"),
+    (&["TRANS X1", "G91 X5"], "0:0:5000 Goes(Plain)"),
+    (&["G91", "TRANS X1", "X5", "X5"], "0:5000:10000 Goes(Plain)"),
+    (&["TRANS Y1", "X1"], "0:0:1000 Goes(Plain)"),
+    (&["SCALE X2", "TRANS X1", "X5"], "0:0:6000 Goes(Plain)"),
+    (&["SCALE X2", "ATRANS X1", "X5"], "0:0:12000 Goes(Plain)"),
+    (&["TRANS X1", "ASCALE X2", "X5"], "0:0:11000 Goes(Plain)"),
+    (&["MIRROR X0", "X5"], "0:0:-5000 Goes(Plain)"),
+    (&["TRANS X1", "AMIRROR X0", "X5"], "0:0:-4000 Goes(Plain)"),
+    (&["ROT RPL=90", "X1 Z2"], "0:0:2000 2:7:-1000 Goes(Plain)"),
+    (
+        &["ROT RPL=90", "AROT RPL=-90", "X1"],
+        "0:0:1000 Goes(Plain)",
+    ),
+    (&["TRANS X1", "ROT", "X1"], "0:0:1000 Goes(Plain)"),
+    (&["TRANS X1", "AROT", "X1"], "0:0:2000 Goes(Plain)"),
+    (&["G19", "ROT RPL=90", "X1"], "0:0:1000 Goes(Plain)"),
+    (&["G17", "ROT RPL=90", "X1"], "ALARM 14"),
+    (&["G17", "ROT RPL=90", "Z1"], "2:7:1000 Goes(Plain)"),
+    (&["G17", "ROT RPL=90", "X1 X2"], "ALARM 17"),
+    (&["G17", "ROT RPL=90", "X1 Z20000 B1=1"], "ALARM 14"),
+    (&["G17", "ROT RPL=90", "G53 X1"], "0:0:1000 Goes(Plain)"),
+    (&["G17", "ROT RPL=90", "G4 X1"], "Goes(Plain)"),
+    (&["TRANS X6000", "ATRANS X6000"], "ALARM 13"),
+    (&["TRANS X6000", "TRANS X6000"], "Goes(Plain)"),
+    (&["SCALE X1000", "ASCALE X2"], "ALARM 11"),
+    (&["X5", "X20000", "X6"], "0:5000:6000 Goes(Plain)"),
+];
+
+/// Blocks of frames that alarm.
+static FRAMES: [(&str, &str); 12] = [
+    ("TRANS X10000.000001", "ALARM 13"),
+    ("ATRANS X20000 Z=1/0", "ALARM 2"),
+    ("TRANS X=1/0 Z=SQRT(-1)", "ALARM 2"),
+    ("SCALE X0.0005", "ALARM 11"),
+    ("SCALE X0", "ALARM 11"),
+    ("SCALE X0 Z=R[0.5]", "ALARM 4"),
+    ("MIRROR X=SQRT(-1)", "ALARM 3"),
+    ("AMIRROR X=99999999+1", "ALARM 1"),
+    ("ROT RPL=45", "ALARM 12"),
+    ("AROT RPL=1/0", "ALARM 2"),
+    ("ROT RPL=-450", "Goes(Plain)"),
+    ("TRANS", "Goes(Plain)"),
+];
+
+/// Other blocks where R1 is 5 and R2 is 3, with what becomes of control. Their structure is begun by FOR R1=1 TO the
+/// first text, if it is one.
+static CONTROL: [(&str, &str, &str); 34] = [
+    ("", "GOTOF AA", "Goes(Jump(Forward, Label(AA)))"),
+    ("", "IF R1==5 GOTOF AA", "Goes(Jump(Forward, Label(AA)))"),
+    ("", "IF R1==6 GOTOF AA", "Goes(Plain)"),
+    ("", "IF 1/0 GOTOF AA", "ALARM 2"),
+    ("", "IF -0.5", "Goes(Truth(true))"),
+    ("", "IF R1-5", "Goes(Truth(false))"),
+    ("", "WHILE R1>R2", "Goes(Truth(true))"),
+    ("", "UNTIL SQRT(-1)", "ALARM 3"),
+    ("", "FOR R1=1 TO 1", "Goes(Truth(true))"),
+    ("", "FOR R1=1.000001 TO 1", "Goes(Truth(false))"),
+    ("", "FOR R1=9 TO R1", "Goes(Truth(true))"),
+    ("", "FOR R1=1/0 TO SQRT(-1)", "ALARM 2"),
+    ("", "FOR R1=1 TO SQRT(-1)", "ALARM 3"),
+    ("6", "ENDFOR", "Goes(Truth(true))"),
+    ("5", "ENDFOR", "Goes(Truth(false))"),
+    ("R1", "ENDFOR", "Goes(Truth(true))"),
+    ("1/0", "ENDFOR", "ALARM 2"),
+    (
+        "",
+        "CASE(R1) OF 5 GOTOF FIRST 5 GOTOF SECOND 3 GOTOF THIRD",
+        "Goes(Jump(Forward, Label(FIRST)))",
+    ),
+    (
+        "",
+        "CASE(3) OF 5 GOTOF FIRST 3 GOTOF THIRD DEFAULT GOTOF OTHER",
+        "Goes(Jump(Forward, Label(THIRD)))",
+    ),
+    (
+        "",
+        "CASE(3.000001) OF 5 GOTOF FIRST 3 GOTOF THIRD DEFAULT GOTOF OTHER",
+        "Goes(Jump(Forward, Label(OTHER)))",
+    ),
+    ("", "CASE(4) OF 5 GOTOF FIRST", "Goes(Plain)"),
+    ("", "CASE(R[-1]) OF 5 GOTOF FIRST", "ALARM 4"),
+    ("", "REPEAT AA", "Goes(Again(1))"),
+    ("", "REPEAT AA P=0", "Goes(Again(0))"),
+    ("", "REPEATB AA P=9999", "Goes(Again(9999))"),
+    ("", "REPEATB AA P=10000", "ALARM 33"),
+    ("", "REPEAT AA P=1.5", "ALARM 33"),
+    ("", "REPEAT AA P=-1", "ALARM 33"),
+    ("", "REPEAT AA P=1/0", "ALARM 2"),
+    ("", "L1 P3", "ALARM 7"),
+    ("", "RET", "Ends"),
+    ("", "ELSE", "Goes(Plain)"),
+    ("", "MSG(\"A\")", "Goes(Plain)"),
+    ("", "M30", "Ends"),
+];
 
 #[test]
 fn words_act(rt: HostRuntime) -> Result<(), Fail> {
     let alloc = rt.alloc();
     for (text, expected) in &WORDS {
-        let mut parameters = parameters(&rt, alloc, "R1=5 R2=3")?;
-        let stmt = words(&rt, alloc, text)?;
-        let said = said(alloc, &mut parameters, &Stmt::Empty, &stmt)?;
+        let mut situation = situation(&rt, alloc, "R1=5 R2=3")?;
+        let stmt = block(&rt, alloc, text)?;
+        let said = said(alloc, &mut situation, &Stmt::Empty, &stmt)?;
         assert_eq!(rt; said.as_str(), *expected, "in {text}");
     }
     Ok(())
 }
 
 #[test]
+fn alarms_come_in_their_order(rt: HostRuntime) -> Result<(), Fail> {
+    let alloc = rt.alloc();
+    for (text, expected) in &ALARMS {
+        let mut situation = situation(&rt, alloc, "R1=5 R2=3")?;
+        let stmt = block(&rt, alloc, text)?;
+        let said = said(alloc, &mut situation, &Stmt::Empty, &stmt)?;
+        assert_eq!(rt; said.as_str(), *expected, "in {text}");
+    }
+    Ok(())
+}
+
+#[test]
+fn blocks_leave_what_later_blocks_find(rt: HostRuntime) -> Result<(), Fail> {
+    let alloc = rt.alloc();
+    for (texts, expected) in &RUNS {
+        let mut situation = situation(&rt, alloc, "R1=5 R2=3")?;
+        let mut last = String::new(alloc);
+        for text in texts.iter() {
+            let stmt = block(&rt, alloc, text)?;
+            last = said(alloc, &mut situation, &Stmt::Empty, &stmt)?;
+        }
+        assert_eq!(rt; last.as_str(), *expected);
+    }
+    Ok(())
+}
+
+#[test]
+fn frames_alarm(rt: HostRuntime) -> Result<(), Fail> {
+    let alloc = rt.alloc();
+    for (text, expected) in &FRAMES {
+        let mut situation = situation(&rt, alloc, "R1=5 R2=3")?;
+        let stmt = block(&rt, alloc, text)?;
+        let said = said(alloc, &mut situation, &Stmt::Empty, &stmt)?;
+        assert_eq!(rt; said.as_str(), *expected, "in {text}");
+    }
+    Ok(())
+}
+
+/// FOR R1=1 TO this bound, or to 1 of an empty text.
+fn opener(rt: &impl Abort, alloc: Global, bound: &str) -> Result<Stmt, Fail>
+    ensures { IfOk result (λ s. StatementFits (statement_view s)) }
+{
+    let bound = if bound.is_empty() { "1" } else { bound };
+    let text = format!(in alloc; "FOR R1=1 TO {bound}")?;
+    block(rt, alloc, text.as_str())
+}
+
+#[test]
 fn control_goes_on(rt: HostRuntime) -> Result<(), Fail> {
     let alloc = rt.alloc();
-    for (form, first, second, expected) in &CONTROL {
-        let mut parameters = parameters(&rt, alloc, "R1=5 R2=3")?;
-        let bound = if second.is_empty() { "1" } else { *second };
-        let opener = block(&rt, alloc, "FOR R1", "1", bound)?;
-        let stmt = block(&rt, alloc, form, first, second)?;
-        let said = said(alloc, &mut parameters, &opener, &stmt)?;
-        assert_eq!(rt; said.as_str(), *expected, "in {form} {first} {second}");
+    for (bound, text, expected) in &CONTROL {
+        let mut situation = situation(&rt, alloc, "R1=5 R2=3")?;
+        let opener = opener(&rt, alloc, bound)?;
+        let stmt = block(&rt, alloc, text)?;
+        let said = said(alloc, &mut situation, &opener, &stmt)?;
+        assert_eq!(rt; said.as_str(), *expected, "in {text}");
     }
+    Ok(())
+}
+
+#[test]
+fn calls_find_their_program(rt: HostRuntime) -> Result<(), Fail> {
+    let alloc = rt.alloc();
+    let mut situation = situation(&rt, alloc, "R1=5")?;
+    let stmt = Stmt::Call(NameText::of_word(b"B"), 3);
+    let said = said(alloc, &mut situation, &Stmt::Empty, &stmt)?;
+    assert_eq!(rt; said.as_str(), "Calls(1, 3)");
     Ok(())
 }
 
 #[test]
 fn endfor_counts_to_the_end_of_the_range(rt: HostRuntime) -> Result<(), Fail> {
     let alloc = rt.alloc();
-    let mut parameters = parameters(&rt, alloc, "R1=99999998.5")?;
-    let opener = block(&rt, alloc, "FOR R1", "1", "1")?;
-    let first = said(alloc, &mut parameters, &opener, &Stmt::EndFor)?;
-    assert_eq!(rt; first.as_str(), "Goes(Truth(false))");
-    let mut copied = parameters.copied()?;
-    let opener = block(&rt, alloc, "FOR R1", "1", "1/0")?;
-    let second = said(alloc, &mut copied, &opener, &Stmt::EndFor)?;
-    assert_eq!(rt; second.as_str(), "ALARM 1");
+    let mut situation = situation(&rt, alloc, "R1=99999998.5")?;
+    let first = opener(&rt, alloc, "1")?;
+    let said_first = said(alloc, &mut situation, &first, &Stmt::EndFor)?;
+    assert_eq!(rt; said_first.as_str(), "Goes(Truth(false))");
+    let mut copied = Situation {
+        parameters: situation.parameters.copied()?,
+        modal: situation.modal,
+        frame: situation.frame,
+        at: situation.at,
+    };
+    let second = opener(&rt, alloc, "1/0")?;
+    let said_second = said(alloc, &mut copied, &second, &Stmt::EndFor)?;
+    assert_eq!(rt; said_second.as_str(), "ALARM 1");
     Ok(())
 }

@@ -13,7 +13,7 @@ use Rattle.nc_faults.specs.Texts.{refusal_texts, has_code, IsRefusalCode}
 use Rattle.nc_syntax.specs.Blocks.{statement_of}
 use Rattle.std.specs.Option.{option_map}
 use Rattle.job_lines.specs.declared.code.Code.{Code}
-use Rattle.tape_job.specs.Job.{JobView}
+use Rattle.tape_job.specs.Draft.{DraftView}
 use Rattle.tape_job.specs.Read.{code_by}
 use Rattle.tape_job.specs.Rules.{rule_of}
 use Rattle.tape_job.specs.Reading.{ReadingView, First, Entry, Header, Step, Blank, words_of, step_of, tokens_reading, block_reading}
@@ -72,7 +72,7 @@ unfolding IsBlockRefusal IsRefusalCode block_refusals refusal_texts
 block_refusal_has_text code is = one_has_text code block_refusals refl is
 
 -- a rule that a line breaks gives its code
-pub rule_breaks : (job : JobView) (number : ℕ) (reading : ReadingView) (code : Code) → rule_of job reading ≡ Some code → code_by job number (Ok reading) ≡ Some (shown code)
+pub rule_breaks : (job : DraftView) (number : ℕ) (reading : ReadingView) (code : Code) → rule_of job reading ≡ Some code → code_by job number (Ok reading) ≡ Some (shown code)
 unfolding rule_of
 rule_breaks job number (Entry item) code breaks = ap (option_map shown) breaks
 rule_breaks job number (Header name) code breaks = ap (option_map shown) breaks

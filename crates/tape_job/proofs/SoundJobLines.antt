@@ -1,61 +1,75 @@
 -- What job lines tell that break no rule is sound.
 use Rattle.std.specs.Prelude.{IsSomeAnd}
-use Rattle.std.proofs.Common.{◌≡◌, ◌≢◌, ◌∙◌, ℕ, ◌<◌, ◌≤◌, ℤ, Bool, true, false, ◌&&◌, ◌||◌, not, ◌==◌, nat_le, List, [], ◌∷◌, ◌++◌, length, slice_get, Option, Some, None, IfSome, IsSome, get_or, subst, refl, sym, ap, arith, length-append, rules}
-use Rattle.std.specs.List.{All, AllPairs}
+use Rattle.std.proofs.Common.{◌≡◌, ◌≢◌, ◌∙◌, ℕ, ◌+◌, ◌<◌, ◌≤◌, ℤ, Bool, true, false, ◌&&◌, ◌||◌, not, ◌==◌, nat_le, nat_lt, if◌then◌else◌, true≢false, is_some, position, List, [], ◌∷◌, ◌++◌, length, slice_get, Option, Some, None, IfSome, IsSome, get_or, subst, refl, sym, ap, arith, length-append, rules}
+use Rattle.std.specs.List.{All, AllPairs, position_or_len}
 use Rattle.std.specs.Option.{option_and_then, option_map}
-use Rattle.std.proofs.lemmas.Bool.{eqb-true, eqb-false}
-use Rattle.std.proofs.lemmas.Option.{slice_get_within}
+use Rattle.std.proofs.lemmas.Bool.{eqb-true, eqb-false, eq-eqb}
+use Rattle.std.proofs.lemmas.Option.{slice_get_within, get_or_from_slice_get}
 use Rattle.std.proofs.lemmas.List.Elements.{All-nil, All-cons, All-push, All-weaker}
 use Rattle.std.proofs.lemmas.List.Kept.{AllPairs-cons}
 use Rattle.std.proofs.lemmas.List.Quantifiers.{all_pairs_push}
-use Rattle.job_lines.specs.declared.code.Code.TheVariants.{NotDeclared, DeclaredTwice, OwnerDiffers, TooMany, NotBuilt}
+use Rattle.job_lines.specs.declared.code.Code.TheVariants.{NotDeclared, DeclaredTwice, OwnerDiffers, TooMany}
 use Rattle.job_lines.specs.declared.item.AxisName.{AxisName}
 use Rattle.job_lines.specs.declared.item.NamedSide.{NamedSide}
+use Rattle.job_lines.specs.declared.item.NamedZone.{NamedZone}
 use Rattle.tape_job.specs.declared.job.AxisLine.{AxisLine}
 use Rattle.tape_job.specs.declared.job.ChannelLine.{ChannelLine}
 use Rattle.tape_job.specs.declared.job.GeoLine.{GeoLine}
+use Rattle.tape_job.specs.declared.job.OffsetLine.{OffsetLine}
 use Rattle.tape_job.specs.declared.job.Side.{Side}
 use Rattle.tape_job.specs.declared.job.ZoneLine.{ZoneLine}
+use Rattle.tape_job.specs.Draft.{DraftView, nothing_told, job_of}
 use Rattle.tape_job.specs.Job.{JobView, ProgramView}
 use Rattle.tape_job.specs.Rules as rule
-use Rattle.tape_job.specs.SoundJob.{IsInReach, IsDeclared, first_owner, HaveOtherNames, HaveOtherSlots, IsCarriedBy, HaveOtherCarriers, IsSoundRange, IsSoundZone}
+use Rattle.tape_job.specs.SoundJob.{IsInReach, IsDeclared, first_owner, HaveOtherNames, HaveOtherSlots, HaveOtherPlaces, IsSettable, IsSoundOffset, HaveOtherHolders, IsCarriedBy, HaveOtherCarriers, IsSoundRange, IsSoundZone, IsSoundMargin}
+use Rattle.tape_job.proofs.LineLemmas.{place}
 use Rattle.tape_job.proofs.SoundLists.{unbroken, not_false, or_fails, and_holds, differs, none_pass, Any-more, found, slice_get-more}
 
 -- what holds of the job list so far
-pub record ChannelFacts (job : JobView) : Type 0 where
-  pub numbers : AllPairs (λ line other. line.channel ≢ other.channel) job.channels
-  pub low : All (λ line. 1 ≤ line.channel) job.channels
-  pub high : All (λ line. line.channel ≤ 2) job.channels
-  pub starting : All (λ line. line.starts ≡ true) job.channels
-  pub named : All (λ line. IsSome line.program) job.channels
+pub record ChannelFacts (channels : List ChannelLine) : Type 0 where
+  pub numbers : AllPairs (λ line other. line.channel ≢ other.channel) channels
+  pub low : All (λ line. 1 ≤ line.channel) channels
+  pub high : All (λ line. line.channel ≤ 8) channels
+  pub starting : All (λ line. line.starts ≡ true) channels
+  pub named : All (λ line. IsSome line.program) channels
 
-pub record AxisFacts (job : JobView) : Type 0 where
-  pub few : length job.axes ≤ 16
-  pub names : AllPairs HaveOtherNames job.axes
-  pub owners : All (λ line. IsSomeAnd line.owner (IsDeclared job)) job.axes
-  pub positions : All (λ line. IsInReach line.at) job.axes
+pub record AxisFacts (axes : List AxisLine) : Type 0 where
+  pub few : length axes ≤ 16
+  pub names : AllPairs HaveOtherNames axes
+  pub positions : All (λ line. IsInReach line.at) axes
 
-pub record SlotFacts (job : JobView) : Type 0 where
-  pub numbers : AllPairs HaveOtherSlots job.geo
-  pub axes : All (λ g. g.axis < length job.axes) job.geo
-  pub owners : All (λ g. first_owner job g.axis ≡ Some g.channel) job.geo
+pub record SlotFacts (count : ℕ) (geo : List GeoLine) : Type 0 where
+  pub numbers : AllPairs HaveOtherSlots geo
+  pub axes : All (λ g. g.axis < count) geo
 
-pub record ZoneFacts (job : JobView) : Type 0 where
-  pub numbers : AllPairs (λ zone other. zone.zone ≢ other.zone) job.zones
-  pub holders : AllPairs (λ zone other. zone.holder ≢ other.holder) job.zones
-  pub zones : All (IsSoundZone job) job.zones
+pub record ZoneFacts (zones : List ZoneLine) : Type 0 where
+  pub numbers : AllPairs (λ zone other. zone.zone ≢ other.zone) zones
+  pub holders : AllPairs HaveOtherHolders zones
 
-pub record ListFacts (job : JobView) : Type 0 where
-  pub channels : ChannelFacts job
-  pub axes : AxisFacts job
-  pub slots : SlotFacts job
-  pub zones : ZoneFacts job
+pub record OptionFacts (margin : Option ℤ) (depth budget : Option ℕ) : Type 0 where
+  pub sound_margin : IfSome margin IsSoundMargin
+  pub no_depth : depth ≡ None
+  pub sound_budget : IfSome budget (λ n. (1 ≤ n) × (n ≤ 100000000))
+
+-- what holds of lines that name channels and axes of the job
+pub record Linked (job : JobView) (axis_lines : List AxisLine) (offset_lines : List OffsetLine) (zone_lines : List ZoneLine) : Type 0 where
+  pub owners : All (λ line. IsSomeAnd line.owner (IsDeclared job)) axis_lines
+  pub offsets : All (IsSoundOffset job) offset_lines
+  pub zones : All (IsSoundZone job) zone_lines
+
+pub record ListFacts (job : DraftView) : Type 0 where
+  pub channels : ChannelFacts job.channels
+  pub axes : AxisFacts job.axes
+  pub slots : SlotFacts (length job.axes) job.geo
+  pub places : AllPairs HaveOtherPlaces job.offsets
+  pub zones : ZoneFacts job.zones
+  pub options : OptionFacts job.margin job.depth job.budget
+  pub linked : Linked (job_of job) job.axes job.offsets job.zones
 
 -- what is declared stays declared
 record Extends (old new : JobView) : Type 0 where
   declared : (channel : ℕ) → IsDeclared old channel → IsDeclared new channel
   owned : (axis channel : ℕ) → first_owner old axis ≡ Some channel → first_owner new axis ≡ Some channel
-  more : length old.axes ≤ length new.axes
 
 declared_by_one : (old new : JobView) → Extends old new → (owner : Option ℕ) → IsSomeAnd owner (IsDeclared old) → IsSomeAnd owner (IsDeclared new)
 declared_by_one old new extends None declared = declared
@@ -66,11 +80,19 @@ carrier_extends : (old new : JobView) → Extends old new → (holder : ℕ) (ca
 carrier_extends old new extends holder None carried = tt
 carrier_extends old new extends holder (Some c) carried = extends.owned c.0 holder carried
 
-carried_extends : (old new : JobView) → Extends old new → (holder : Option ℕ) → IsSomeAnd holder (IsDeclared old) → (sides : List Side)
+still_carried : (job : JobView) (side : Side) → side.carrier ≡ None → IsCarriedBy job None side
+still_carried job side still = rw still tt
+
+carried_extends : (old new : JobView) → Extends old new → (holder : Option ℕ) (sides : List Side) → (holder ≡ None → All (λ side. side.carrier ≡ None) sides)
     → All (IsCarriedBy old holder) sides → All (IsCarriedBy new holder) sides
-carried_extends old new extends None held sides carried = absurd held
-carried_extends old new extends (Some holder) held sides carried =
+carried_extends old new extends None sides still carried =
+    All-weaker (λ (side : Side). side.carrier ≡ None) (IsCarriedBy new None) (still_carried new) sides (still refl)
+carried_extends old new extends (Some holder) sides still carried =
     All-weaker (IsCarriedBy old (Some holder)) (IsCarriedBy new (Some holder)) (λ side. carrier_extends old new extends holder side.carrier) sides carried
+
+held_extends : (old new : JobView) → Extends old new → (holder : Option ℕ) → IfSome holder (IsDeclared old) → IfSome holder (IsDeclared new)
+held_extends old new extends None held = tt
+held_extends old new extends (Some holder) held = extends.declared holder held
 
 zone_extends : (old new : JobView) → Extends old new → (zone : ZoneLine) → IsSoundZone old zone → IsSoundZone new zone
 zone_extends old new extends zone sound = record {
@@ -79,113 +101,147 @@ zone_extends old new extends zone sound = record {
   low_group = sound.low_group;
   high_group = sound.high_group;
   active = sound.active;
-  held = declared_by_one old new extends zone.holder sound.held;
+  held = held_extends old new extends zone.holder sound.held;
+  still = sound.still;
   directions = sound.directions;
-  carried = carried_extends old new extends zone.holder sound.held zone.sides sound.carried;
+  carried = carried_extends old new extends zone.holder zone.sides sound.still sound.carried;
   carriers = sound.carriers;
   ranges = sound.ranges;
 }
 
+offset_extends : (old new : JobView) → Extends old new → (line : OffsetLine) → IsSoundOffset old line → IsSoundOffset new line
+offset_extends old new extends line sound = record {
+  declared = extends.declared line.channel sound.declared;
+  word = sound.word;
+  slot = sound.slot;
+  by = sound.by;
+}
+
+linked_extends : (old new : JobView) → Extends old new → (axes : List AxisLine) (offsets : List OffsetLine) (zones : List ZoneLine)
+    → Linked old axes offsets zones → Linked new axes offsets zones
+linked_extends old new extends axes offsets zones linked = record {
+  owners = All-weaker (λ (l : AxisLine). IsSomeAnd l.owner (IsDeclared old)) (λ (l : AxisLine). IsSomeAnd l.owner (IsDeclared new))
+      (λ l. declared_by_one old new extends l.owner) axes linked.owners;
+  offsets = All-weaker (IsSoundOffset old) (IsSoundOffset new) (offset_extends old new extends) offsets linked.offsets;
+  zones = All-weaker (IsSoundZone old) (IsSoundZone new) (zone_extends old new extends) zones linked.zones;
+}
+
 -- the owner of an axis
-owner_is : (channel : ℕ) (owner : Option ℕ) → rule.is_channel channel owner ≡ true → owner ≡ Some channel
-owner_is channel None owned = absurd cc
-owner_is channel (Some other) owned = ap Some (eqb-true other channel owned)
+same_owner : (owner other : Option ℕ) → rule.is_same_owner owner other ≡ true → owner ≡ other
+same_owner None None same = refl
+same_owner None (Some other) same = absurd cc
+same_owner (Some owner) None same = absurd cc
+same_owner (Some owner) (Some other) same = ap Some (eqb-true owner other same)
 
-owner_not : (channel : ℕ) (owner : Option ℕ) → rule.is_channel channel owner ≡ false → owner ≢ Some channel
-owner_not channel None free same = absurd cc
-owner_not channel (Some other) free same = let equal : other ≡ channel = cc in eqb-false other channel free equal
+line_owner : (owner : Option ℕ) (line : Option AxisLine) → rule.is_owned_line owner line ≡ true → option_and_then (λ l. l.owner) line ≡ owner
+line_owner owner None owned = absurd cc
+line_owner owner (Some line) owned = same_owner line.owner owner owned
 
-line_owner : (channel : ℕ) (line : Option AxisLine) → rule.is_owned_line channel line ≡ true → option_and_then (λ l. l.owner) line ≡ Some channel
-line_owner channel None owned = absurd cc
-line_owner channel (Some line) owned = owner_is channel line.owner owned
-
-owns_first : (job : JobView) (channel axis : ℕ) → rule.owns job channel axis ≡ true → first_owner job axis ≡ Some channel
+owns_first : (job : DraftView) (owner : Option ℕ) (axis : ℕ) → rule.owns job owner axis ≡ true → first_owner (job_of job) axis ≡ owner
 unfolding rule.owns first_owner
-owns_first job channel axis owned = line_owner channel (slice_get job.axes axis) owned
+owns_first job owner axis owned = line_owner owner (slice_get job.axes axis) owned
 
-line_within : (axes : List AxisLine) (channel axis : ℕ) (line : Option AxisLine) → slice_get axes axis ≡ line → rule.is_owned_line channel line ≡ true → axis < length axes
-line_within axes channel axis None at owned = absurd cc
-line_within axes channel axis (Some line) at owned = slice_get_within axes axis line at
-
-owns_within : (job : JobView) (channel axis : ℕ) → rule.owns job channel axis ≡ true → axis < length job.axes
-unfolding rule.owns
-owns_within job channel axis owned = line_within job.axes channel axis (slice_get job.axes axis) refl owned
-
-declared_from : (job : JobView) (channel : ℕ) → rule.has_channel job channel ≡ true → IsDeclared job channel
+declared_from : (job : DraftView) (channel : ℕ) → rule.has_channel job channel ≡ true → IsDeclared (job_of job) channel
 unfolding rule.has_channel
 declared_from job channel has = found (λ line. line.channel ≡ channel) (λ line. line.channel == channel) (λ line. eqb-true line.channel channel) job.channels has
 
--- a CHANNEL line
-abbrev pub with_channel : JobView → ChannelLine → JobView
-with_channel job line = record { channels = job.channels ++ line ∷ []; axes = job.axes; geo = job.geo; zones = job.zones; programs = job.programs }
+owner_declared : (job : DraftView) (owner : Option ℕ) → rule.has_owner job owner ≡ true → IfSome owner (IsDeclared (job_of job))
+unfolding rule.has_owner
+owner_declared job None has = tt
+owner_declared job (Some channel) has = declared_from job channel has
 
-channel_extends : (job : JobView) (line : ChannelLine) → Extends job (with_channel job line)
+some_declared : (job : JobView) (owner : Option ℕ) → IfSome owner (IsDeclared job) → is_some owner ≡ true → IsSomeAnd owner (IsDeclared job)
+some_declared job None declared some = absurd cc
+some_declared job (Some channel) declared some = declared
+
+-- where each axis has an owner, no carrier is free
+axis_not_free : (job : JobView) (axes : List AxisLine) (axis : ℕ) (line : Option AxisLine) → slice_get axes axis ≡ line
+    → All (λ (l : AxisLine). IsSomeAnd l.owner (IsDeclared job)) axes → rule.is_owned_line None line ≡ false
+axis_not_free job axes axis None at owners = refl
+axis_not_free job axes axis (Some line) at owners =
+    let here : IsSomeAnd line.owner (IsDeclared job) =
+    subst (λ (l : AxisLine). IsSomeAnd l.owner (IsDeclared job)) (get_or_from_slice_get axes axis line line at) (owners axis line (slice_get_within axes axis line at)) in
+    by line.owner here
+  where
+    by : (owner : Option ℕ) → IsSomeAnd owner (IsDeclared job) → rule.is_same_owner owner None ≡ false
+    by None there = absurd there
+    by (Some channel) there = refl
+
+no_free_carrier : (job : DraftView) (carrier : Option (ℕ × Bool)) → All (λ (l : AxisLine). IsSomeAnd l.owner (IsDeclared (job_of job))) job.axes
+    → rule.is_owned_carrier job None carrier ≡ true → carrier ≡ None
+unfolding rule.owns
+no_free_carrier job None owners owned = refl
+no_free_carrier job (Some c) owners owned =
+    absurd (true≢false (sym owned ∙ axis_not_free (job_of job) job.axes c.0 (slice_get job.axes c.0) refl owners))
+
+side_still : (job : DraftView) (side : Side) → All (λ (l : AxisLine). IsSomeAnd l.owner (IsDeclared (job_of job))) job.axes
+    → rule.owns_carrier job None side ≡ true → side.carrier ≡ None
+unfolding rule.owns_carrier
+side_still job side owners owned = no_free_carrier job side.carrier owners owned
+
+-- a line that is built
+all_built : (built : Bool) → rule.unless_built built ≡ None → built ≡ true
+all_built true none = refl
+all_built false none = absurd cc
+
+-- a CHANNEL line
+abbrev pub with_channel : DraftView → ChannelLine → DraftView
+with_channel job line = record job { channels = job.channels ++ line ∷ [] }
+
+channel_extends : (job : DraftView) (line : ChannelLine) → Extends (job_of job) (job_of (with_channel job line))
 unfolding first_owner
 channel_extends job line = record {
   declared = λ channel. Any-more (λ l. l.channel ≡ channel) job.channels line;
   owned = λ axis channel owned. owned;
-  more = omega arith;
 }
 
-channel_differs : (job : JobView) (channel : ℕ) → rule.channel_rule job channel ≡ None → All (λ line. line.channel ≢ channel) job.channels
+channel_differs : (job : DraftView) (channel : ℕ) → rule.channel_rule job channel ≡ None → All (λ line. line.channel ≢ channel) job.channels
 unfolding rule.channel_rule rule.has_channel
 channel_differs job channel none =
     let new = unbroken (rule.has_channel job channel) DeclaredTwice None none in
     All-weaker (λ line. (line.channel == channel) ≡ false) (λ line. line.channel ≢ channel) (λ line. eqb-false line.channel channel) job.channels
     (none_pass (λ line. line.channel == channel) job.channels new.0)
 
-pub channel_told : (job : JobView) (number channel : ℕ) (program : List ℕ) → ListFacts job → rule.channel_rule job channel ≡ None → (1 ≤ channel) × (channel ≤ 2)
-    → ListFacts (with_channel job (record { line = number; channel = channel; program = Some program; starts = true }))
-channel_told job number channel program facts none range =
-    let line : ChannelLine = record { line = number; channel = channel; program = Some program; starts = true } in
-    let new : JobView = with_channel job line in
-    let extends : Extends job new = channel_extends job line in
+pub channel_told : (job : DraftView) (number channel : ℕ) (program : Option (List ℕ)) (starts : Bool) → ListFacts job → rule.channel_rule job channel ≡ None
+    → rule.unless_built starts ≡ None → ((1 ≤ channel) × (channel ≤ 8)) × (starts ≡ true → IsSome program)
+    → ListFacts (with_channel job (record { line = number; channel = channel; program = program; starts = starts }))
+channel_told job number channel program starts facts none built sound =
+    let line : ChannelLine = record { line = number; channel = channel; program = program; starts = starts } in
+    let new : DraftView = with_channel job line in
+    let running : starts ≡ true = all_built starts built in
     record {
       channels = record {
         numbers = all_pairs_push (λ (l other : ChannelLine). l.channel ≢ other.channel) job.channels line facts.channels.numbers (channel_differs job channel none);
-        low = All-push (λ (l : ChannelLine). 1 ≤ l.channel) job.channels line facts.channels.low range.0;
-        high = All-push (λ (l : ChannelLine). l.channel ≤ 2) job.channels line facts.channels.high range.1;
-        starting = All-push (λ (l : ChannelLine). l.starts ≡ true) job.channels line facts.channels.starting refl;
-        named = All-push (λ (l : ChannelLine). IsSome l.program) job.channels line facts.channels.named refl;
+        low = All-push (λ (l : ChannelLine). 1 ≤ l.channel) job.channels line facts.channels.low sound.0.0;
+        high = All-push (λ (l : ChannelLine). l.channel ≤ 8) job.channels line facts.channels.high sound.0.1;
+        starting = All-push (λ (l : ChannelLine). l.starts ≡ true) job.channels line facts.channels.starting running;
+        named = All-push (λ (l : ChannelLine). IsSome l.program) job.channels line facts.channels.named (sound.1 running);
       };
-      axes = record {
-        few = facts.axes.few;
-        names = facts.axes.names;
-        owners = All-weaker (λ (l : AxisLine). IsSomeAnd l.owner (IsDeclared job)) (λ (l : AxisLine). IsSomeAnd l.owner (IsDeclared new))
-            (λ l. declared_by_one job new extends l.owner) job.axes facts.axes.owners;
-        positions = facts.axes.positions;
-      };
-      slots = record {
-        numbers = facts.slots.numbers;
-        axes = facts.slots.axes;
-        owners = All-weaker (λ (g : GeoLine). first_owner job g.axis ≡ Some g.channel) (λ (g : GeoLine). first_owner new g.axis ≡ Some g.channel)
-            (λ g. extends.owned g.axis g.channel) job.geo facts.slots.owners;
-      };
-      zones = record {
-        numbers = facts.zones.numbers;
-        holders = facts.zones.holders;
-        zones = All-weaker (IsSoundZone job) (IsSoundZone new) (zone_extends job new extends) job.zones facts.zones.zones;
-      };
+      axes = facts.axes;
+      slots = facts.slots;
+      places = facts.places;
+      zones = facts.zones;
+      options = facts.options;
+      linked = linked_extends (job_of job) (job_of new) (channel_extends job line) job.axes job.offsets job.zones facts.linked;
     }
 
 -- an AXIS line
-abbrev pub with_axis : JobView → AxisLine → JobView
-with_axis job line = record { channels = job.channels; axes = job.axes ++ line ∷ []; geo = job.geo; zones = job.zones; programs = job.programs }
+abbrev pub with_axis : DraftView → AxisLine → DraftView
+with_axis job line = record job { axes = job.axes ++ line ∷ [] }
 
 owner_more : (axes : List AxisLine) (line : AxisLine) (axis channel : ℕ) (at : Option AxisLine) → slice_get axes axis ≡ at
     → option_and_then (λ l. l.owner) at ≡ Some channel → option_and_then (λ l. l.owner) (slice_get (axes ++ line ∷ []) axis) ≡ Some channel
 owner_more axes line axis channel None at owned = absurd cc
 owner_more axes line axis channel (Some there) at owned = rw (slice_get-more axes axis there line at) owned
 
-axis_extends : (job : JobView) (line : AxisLine) → Extends job (with_axis job line)
+axis_extends : (job : DraftView) (line : AxisLine) → Extends (job_of job) (job_of (with_axis job line))
 unfolding first_owner
 axis_extends job line = record {
   declared = λ channel declared. declared;
   owned = λ axis channel. owner_more job.axes line axis channel (slice_get job.axes axis) refl;
-  more = let further = length-append job.axes (line ∷ []) in omega arith;
 }
 
-axis_differs : (job : JobView) (name : AxisName) → rule.has_axis job name ≡ false → (line : AxisLine) → line.letter ≡ name.letter → line.number ≡ name.number
+axis_differs : (job : DraftView) (name : AxisName) → rule.has_axis job name ≡ false → (line : AxisLine) → line.letter ≡ name.letter → line.number ≡ name.number
     → All (λ other. HaveOtherNames other line) job.axes
 unfolding rule.has_axis
 axis_differs job name none line letter number =
@@ -194,54 +250,71 @@ axis_differs job name none line letter number =
     (λ also. differs other.letter name.letter other.number name.number fails equal (also ∙ number)))
     job.axes (none_pass (rule.is_named name) job.axes none)
 
-pub axis_told : (job : JobView) (number : ℕ) (name : AxisName) (owner : ℕ) (at : ℤ) → ListFacts job → rule.axis_rule job name owner ≡ None → IsInReach at
-    → ListFacts (with_axis job (record { line = number; letter = name.letter; number = name.number; owner = Some owner; at = at }))
+pub axis_told : (job : DraftView) (number : ℕ) (name : AxisName) (owner : Option ℕ) (at : ℤ) → ListFacts job → rule.axis_rule job name owner ≡ None
+    → rule.unless_built (is_some owner) ≡ None → IsInReach at
+    → ListFacts (with_axis job (record { line = number; letter = name.letter; number = name.number; owner = owner; at = at }))
 unfolding rule.axis_rule
-axis_told job number name owner at facts none near =
-    let line : AxisLine = record { line = number; letter = name.letter; number = name.number; owner = Some owner; at = at } in
-    let new : JobView = with_axis job line in
-    let extends : Extends job new = axis_extends job line in
-    let first = unbroken (not (rule.has_channel job owner)) NotDeclared _ none in
+axis_told job number name owner at facts none built near =
+    let line : AxisLine = record { line = number; letter = name.letter; number = name.number; owner = owner; at = at } in
+    let new : DraftView = with_axis job line in
+    let extends : Extends (job_of job) (job_of new) = axis_extends job line in
+    let first = unbroken (not (rule.has_owner job owner)) NotDeclared _ none in
     let second = unbroken (rule.has_axis job name) DeclaredTwice _ first.1 in
     let third = unbroken (nat_le 16 (length job.axes)) TooMany None second.1 in
     let few : length job.axes < 16 = search (rules, third.0) in
-    let further = length-append job.axes (line ∷ []) in
+    let further : length (job.axes ++ line ∷ []) ≡ length job.axes + 1 = length-append job.axes (line ∷ []) in
+    let linked : Linked (job_of new) job.axes job.offsets job.zones = linked_extends (job_of job) (job_of new) extends job.axes job.offsets job.zones facts.linked in
     record {
-      channels = record {
-        numbers = facts.channels.numbers;
-        low = facts.channels.low;
-        high = facts.channels.high;
-        starting = facts.channels.starting;
-        named = facts.channels.named;
-      };
+      channels = facts.channels;
       axes = record {
         few = omega arith;
         names = all_pairs_push HaveOtherNames job.axes line facts.axes.names (axis_differs job name second.0 line refl refl);
-        owners = All-push (λ (l : AxisLine). IsSomeAnd l.owner (IsDeclared job)) job.axes line facts.axes.owners (declared_from job owner (not_false (rule.has_channel job owner) first.0));
         positions = All-push (λ (l : AxisLine). IsInReach l.at) job.axes line facts.axes.positions near;
       };
       slots = record {
         numbers = facts.slots.numbers;
-        axes = All-weaker (λ (g : GeoLine). g.axis < length job.axes) (λ (g : GeoLine). g.axis < length new.axes) (λ g within. omega (arith, extends.more)) job.geo facts.slots.axes;
-        owners = All-weaker (λ (g : GeoLine). first_owner job g.axis ≡ Some g.channel) (λ (g : GeoLine). first_owner new g.axis ≡ Some g.channel)
-            (λ g. extends.owned g.axis g.channel) job.geo facts.slots.owners;
+        axes = All-weaker (λ (g : GeoLine). g.axis < length job.axes) (λ (g : GeoLine). g.axis < length (job.axes ++ line ∷ [])) (λ g within. omega arith) job.geo facts.slots.axes;
       };
-      zones = record {
-        numbers = facts.zones.numbers;
-        holders = facts.zones.holders;
-        zones = All-weaker (IsSoundZone job) (IsSoundZone new) (zone_extends job new extends) job.zones facts.zones.zones;
+      places = facts.places;
+      zones = facts.zones;
+      options = facts.options;
+      linked = record {
+        owners = All-push (λ (l : AxisLine). IsSomeAnd l.owner (IsDeclared (job_of new))) job.axes line linked.owners
+            (some_declared (job_of job) owner (owner_declared job owner (not_false (rule.has_owner job owner) first.0)) (all_built (is_some owner) built));
+        offsets = linked.offsets;
+        zones = linked.zones;
       };
     }
 
 -- a GEO line
-abbrev pub with_geo : JobView → GeoLine → JobView
-with_geo job line = record { channels = job.channels; axes = job.axes; geo = job.geo ++ line ∷ []; zones = job.zones; programs = job.programs }
+abbrev pub with_geo : DraftView → GeoLine → DraftView
+with_geo job line = record job { geo = job.geo ++ line ∷ [] }
 
-geo_extends : (job : JobView) (line : GeoLine) → Extends job (with_geo job line)
+-- a line that declares neither a channel nor an axis
+lines_extend : (old new : JobView) → new.channels ≡ old.channels → new.axes ≡ old.axes → Extends old new
 unfolding first_owner
-geo_extends job line = record { declared = λ channel declared. declared; owned = λ axis channel owned. owned; more = omega arith }
+lines_extend old new channels axes = record {
+  declared = λ channel declared. rw channels declared;
+  owned = λ axis channel owned. rw axes owned;
+}
 
-slot_differs : (job : JobView) (channel slot axis : ℕ) → rule.has_slot job channel slot ≡ false → rule.has_slot_axis job channel axis ≡ false
+-- the axis of a name is one of the list
+axis_place : (place : ℕ) (axes : List AxisLine) (few : Bool) → place < length axes → IfSome (if few then Some place else None) (λ axis. axis < length axes)
+axis_place place axes true within = within
+axis_place place axes false within = tt
+
+axis_found : (axes : List AxisLine) (name : AxisName) (place : Option ℕ) → position (rule.is_named name) axes ≡ place
+    → IfSome (option_and_then rule.axis_at place) (λ axis. axis < length axes)
+axis_found axes name None at = tt
+axis_found axes name (Some i) at =
+    let found = place (nat_lt (position_or_len (rule.is_named name) axes) (length axes)) (position_or_len (rule.is_named name) axes) (length axes) i refl at in
+    axis_place i axes (nat_lt i 16) (omega (arith, found.0, found.1))
+
+pub axis_within : (axes : List AxisLine) (name : AxisName) → IfSome (rule.axis_of axes name) (λ axis. axis < length axes)
+unfolding rule.axis_of
+axis_within axes name = axis_found axes name (position (rule.is_named name) axes) refl
+
+slot_differs : (job : DraftView) (channel slot axis : ℕ) → rule.has_slot job channel slot ≡ false → rule.has_slot_axis job channel axis ≡ false
     → (line : GeoLine) → line.channel ≡ channel → line.slot ≡ slot → line.axis ≡ axis → (k : ℕ) (d : GeoLine) → k < length job.geo → HaveOtherSlots (get_or job.geo k d) line
 unfolding rule.has_slot rule.has_slot_axis
 slot_differs job channel slot axis slots axes line is_channel is_slot is_axis k d within same =
@@ -253,55 +326,82 @@ slot_differs job channel slot axis slots axes line is_channel is_slot is_axis k 
       λ also. differs other.channel channel other.axis axis no_axis equal (also ∙ is_axis),
     )
 
-pub geo_told : (job : JobView) (number channel slot axis : ℕ) → ListFacts job → rule.slot_rule job channel slot (Some axis) ≡ None
+pub geo_told : (job : DraftView) (number channel slot axis : ℕ) → ListFacts job → rule.slot_rule job channel slot (Some axis) ≡ None → axis < length job.axes
     → ListFacts (with_geo job (record { line = number; channel = channel; slot = slot; axis = axis }))
 unfolding rule.slot_rule
-geo_told job number channel slot axis facts none =
+geo_told job number channel slot axis facts none within =
     let line : GeoLine = record { line = number; channel = channel; slot = slot; axis = axis } in
-    let new : JobView = with_geo job line in
-    let extends : Extends job new = geo_extends job line in
     let first = unbroken (not (rule.has_channel job channel)) NotDeclared _ none in
     let second = unbroken (rule.has_slot job channel slot || rule.has_slot_axis job channel axis) DeclaredTwice _ first.1 in
     let free = or_fails (rule.has_slot job channel slot) (rule.has_slot_axis job channel axis) second.0 in
-    let third = unbroken (not (rule.owns job channel axis)) NotBuilt None second.1 in
-    let owned = not_false (rule.owns job channel axis) third.0 in
     record {
-      channels = record {
-        numbers = facts.channels.numbers;
-        low = facts.channels.low;
-        high = facts.channels.high;
-        starting = facts.channels.starting;
-        named = facts.channels.named;
-      };
-      axes = record { few = facts.axes.few; names = facts.axes.names; owners = facts.axes.owners; positions = facts.axes.positions };
+      channels = facts.channels;
+      axes = facts.axes;
       slots = record {
         numbers = all_pairs_push HaveOtherSlots job.geo line facts.slots.numbers (slot_differs job channel slot axis free.0 free.1 line refl refl refl);
-        axes = All-push (λ (g : GeoLine). g.axis < length job.axes) job.geo line facts.slots.axes (owns_within job channel axis owned);
-        owners = All-weaker (λ (g : GeoLine). first_owner job g.axis ≡ Some g.channel) (λ (g : GeoLine). first_owner new g.axis ≡ Some g.channel)
-            (λ g. extends.owned g.axis g.channel) new.geo
-            (All-push (λ (g : GeoLine). first_owner job g.axis ≡ Some g.channel) job.geo line facts.slots.owners (owns_first job channel axis owned));
+        axes = All-push (λ (g : GeoLine). g.axis < length job.axes) job.geo line facts.slots.axes within;
       };
-      zones = record {
-        numbers = facts.zones.numbers;
-        holders = facts.zones.holders;
-        zones = All-weaker (IsSoundZone job) (IsSoundZone new) (zone_extends job new extends) job.zones facts.zones.zones;
+      places = facts.places;
+      zones = facts.zones;
+      options = facts.options;
+      linked = linked_extends (job_of job) (job_of (with_geo job line)) (lines_extend (job_of job) (job_of (with_geo job line)) refl refl) job.axes job.offsets job.zones facts.linked;
+    }
+
+-- an OFFSET line
+abbrev pub with_offset : DraftView → OffsetLine → DraftView
+with_offset job line = record job { offsets = job.offsets ++ line ∷ [] }
+
+-- a failed test of three equations
+differs_last : (a b c d e f : ℕ) → (a == b) && (c == d) && (e == f) ≡ false → a ≡ b → c ≡ d → e ≢ f
+differs_last a b c d e f fails same also last = true≢false (sym (rw (eq-eqb a b same, eq-eqb c d also, eq-eqb e f last) refl) ∙ fails)
+
+offset_differs : (job : DraftView) (channel g slot : ℕ) → rule.has_offset job channel g slot ≡ false
+    → (line : OffsetLine) → line.channel ≡ channel → line.g ≡ g → line.slot ≡ slot → (k : ℕ) (d : OffsetLine) → k < length job.offsets → HaveOtherPlaces (get_or job.offsets k d) line
+unfolding rule.has_offset
+offset_differs job channel g slot none line is_channel is_g is_slot k d within same also last =
+    let other : OffsetLine = get_or job.offsets k d in
+    let fails = none_pass (λ (l : OffsetLine). (l.channel == channel) && (l.g == g) && (l.slot == slot)) job.offsets none k d within in
+    differs_last other.channel channel other.g g other.slot slot fails (same ∙ is_channel) (also ∙ is_g) (last ∙ is_slot)
+
+pub offset_told : (job : DraftView) (number channel g slot : ℕ) (by : ℤ) → ListFacts job → rule.offset_rule job channel g slot ≡ None
+    → IsSettable g × (slot < 3) × IsInReach by → ListFacts (with_offset job (record { line = number; channel = channel; g = g; slot = slot; by = by }))
+unfolding rule.offset_rule
+offset_told job number channel g slot by facts none sound =
+    let line : OffsetLine = record { line = number; channel = channel; g = g; slot = slot; by = by } in
+    let new : DraftView = with_offset job line in
+    let first = unbroken (not (rule.has_channel job channel)) NotDeclared _ none in
+    let second = unbroken (rule.has_offset job channel g slot) DeclaredTwice None first.1 in
+    let linked : Linked (job_of new) job.axes job.offsets job.zones =
+    linked_extends (job_of job) (job_of new) (lines_extend (job_of job) (job_of new) refl refl) job.axes job.offsets job.zones facts.linked in
+    record {
+      channels = facts.channels;
+      axes = facts.axes;
+      slots = facts.slots;
+      places = all_pairs_push HaveOtherPlaces job.offsets line facts.places (offset_differs job channel g slot second.0 line refl refl refl);
+      zones = facts.zones;
+      options = facts.options;
+      linked = record {
+        owners = linked.owners;
+        offsets = All-push (IsSoundOffset (job_of new)) job.offsets line linked.offsets (record {
+          declared = declared_from job channel (not_false (rule.has_channel job channel) first.0);
+          word = sound.0;
+          slot = sound.1;
+          by = sound.2;
+        });
+        zones = linked.zones;
       };
     }
 
 -- a ZONE line
-abbrev pub with_zone : JobView → ZoneLine → JobView
-with_zone job line = record { channels = job.channels; axes = job.axes; geo = job.geo; zones = job.zones ++ line ∷ []; programs = job.programs }
+abbrev pub with_zone : DraftView → ZoneLine → DraftView
+with_zone job line = record job { zones = job.zones ++ line ∷ [] }
 
-zone_added : (job : JobView) (line : ZoneLine) → Extends job (with_zone job line)
-unfolding first_owner
-zone_added job line = record { declared = λ channel declared. declared; owned = λ axis channel owned. owned; more = omega arith }
-
-carrier_owned : (job : JobView) (holder : ℕ) (carrier : Option (ℕ × Bool)) → rule.is_owned_carrier job holder carrier ≡ true
-    → IfSome carrier (λ c. first_owner job c.0 ≡ Some holder)
+carrier_owned : (job : DraftView) (holder : Option ℕ) (carrier : Option (ℕ × Bool)) → rule.is_owned_carrier job holder carrier ≡ true
+    → IfSome carrier (λ c. first_owner (job_of job) c.0 ≡ holder)
 carrier_owned job holder None owned = tt
 carrier_owned job holder (Some c) owned = owns_first job holder c.0 owned
 
-side_owned : (job : JobView) (holder : ℕ) (side : Side) → rule.owns_carrier job holder side ≡ true → IsCarriedBy job (Some holder) side
+side_owned : (job : DraftView) (holder : Option ℕ) (side : Side) → rule.owns_carrier job holder side ≡ true → IsCarriedBy (job_of job) holder side
 unfolding rule.owns_carrier
 side_owned job holder side owned = carrier_owned job holder side.carrier owned
 
@@ -346,131 +446,157 @@ side_range axes side = carried_range axes side side.carrier
 pub sound_range : (named : NamedSide) (side : Side) → HasRange named side → IsSoundRange named.lo named.hi → IsSoundRange side.lo side.hi
 sound_range named side same sound = subst (λ lo. IsSoundRange lo side.hi) same.0 (subst (λ hi. IsSoundRange named.lo hi) same.1 sound)
 
-zone_differs : (job : JobView) (zone : ℕ) → rule.has_zone job zone ≡ false → (line : ZoneLine) → line.zone ≡ zone → (k : ℕ) (d : ZoneLine) → k < length job.zones
+zone_differs : (job : DraftView) (zone : ℕ) → rule.has_zone job zone ≡ false → (line : ZoneLine) → line.zone ≡ zone → (k : ℕ) (d : ZoneLine) → k < length job.zones
     → (get_or job.zones k d).zone ≢ line.zone
 unfolding rule.has_zone
 zone_differs job zone none line is_zone k d within same =
     eqb-false (get_or job.zones k d).zone zone (none_pass (λ (l : ZoneLine). l.zone == zone) job.zones none k d within) (same ∙ is_zone)
 
-holder_differs : (job : JobView) (holder : ℕ) → rule.holds_zone job holder ≡ false → (line : ZoneLine) → line.holder ≡ Some holder → (k : ℕ) (d : ZoneLine) → k < length job.zones
-    → (get_or job.zones k d).holder ≢ line.holder
-unfolding rule.holds_zone
-holder_differs job holder none line is_holder k d within same =
-    owner_not holder (get_or job.zones k d).holder (none_pass (λ (l : ZoneLine). rule.is_channel holder l.holder) job.zones none k d within) (same ∙ is_holder)
+other_holder : (holder : ℕ) (other : Option ℕ) → rule.is_same_owner other (Some holder) ≡ false → IfSome other (λ channel. Some holder ≢ Some channel)
+other_holder holder None free = tt
+other_holder holder (Some other) free = λ same. let equal : other ≡ holder = cc in eqb-false other holder free equal
 
-pub zone_told : (job : JobView) (number zone group holder : ℕ) (x y z : Side) → ListFacts job → rule.zone_rule job zone holder (Some x) (Some y) (Some z) ≡ None
-    → (1 ≤ zone) × (zone ≤ 32) → (1 ≤ group) × (group ≤ 32) → IsSoundRange x.lo x.hi → IsSoundRange y.lo y.hi → IsSoundRange z.lo z.hi
-    → ListFacts (with_zone job (record { line = number; zone = zone; group = group; holder = Some holder; on = true; sides = x ∷ y ∷ z ∷ [] }))
+not_held : (other : Option ℕ) → IfSome other (λ channel. None ≢ Some channel)
+not_held None = tt
+not_held (Some other) = λ same. absurd cc
+
+holder_differs : (job : DraftView) (holder : Option ℕ) → rule.holds_another job holder ≡ false → (line : ZoneLine) → line.holder ≡ holder → (k : ℕ) (d : ZoneLine) → k < length job.zones
+    → HaveOtherHolders (get_or job.zones k d) line
+unfolding rule.holds_zone
+holder_differs job None none line is_holder k d within = rw is_holder (not_held (get_or job.zones k d).holder)
+holder_differs job (Some holder) none line is_holder k d within =
+    rw is_holder (other_holder holder (get_or job.zones k d).holder
+    (none_pass (λ (l : ZoneLine). rule.is_same_owner l.holder (Some holder)) job.zones none k d within))
+
+-- what the rules say of the directions of a zone
+record SidesPass (job : DraftView) (holder : Option ℕ) (x y z : Side) : Type 0 where
+  declared : IfSome holder (IsDeclared (job_of job))
+  carried : All (IsCarriedBy (job_of job) holder) (x ∷ y ∷ z ∷ [])
+  still : holder ≡ None → All (λ (side : Side). side.carrier ≡ None) (x ∷ y ∷ z ∷ [])
+  carriers : AllPairs HaveOtherCarriers (x ∷ y ∷ z ∷ [])
+
+sides_pass : (job : DraftView) (zone : ℕ) (holder : Option ℕ) (x y z : Side) → ListFacts job → rule.zone_rule job zone holder (Some x) (Some y) (Some z) ≡ None
+    → (rule.has_zone job zone ≡ false) × SidesPass job holder x y z
 unfolding rule.zone_rule rule.sides_rule
-zone_told job number zone group holder x y z facts none zone_range group_range x_range y_range z_range =
-    let line : ZoneLine = record { line = number; zone = zone; group = group; holder = Some holder; on = true; sides = x ∷ y ∷ z ∷ [] } in
-    let new : JobView = with_zone job line in
-    let extends : Extends job new = zone_added job line in
-    let first = unbroken (not (rule.has_channel job holder)) NotDeclared _ none in
+sides_pass job zone holder x y z facts none =
+    let first = unbroken (not (rule.has_owner job holder)) NotDeclared _ none in
     let second = unbroken (rule.has_zone job zone) DeclaredTwice _ first.1 in
     let third = unbroken (rule.same_axis x y || rule.same_axis x z || rule.same_axis y z) DeclaredTwice _ second.1 in
     let apart = or_fails (rule.same_axis x y || rule.same_axis x z) (rule.same_axis y z) third.0 in
     let apart_x = or_fails (rule.same_axis x y) (rule.same_axis x z) apart.0 in
-    let fourth = unbroken (not (rule.owns_carrier job holder x && rule.owns_carrier job holder y && rule.owns_carrier job holder z)) OwnerDiffers _ third.1 in
+    let fourth = unbroken (not (rule.owns_carrier job holder x && rule.owns_carrier job holder y && rule.owns_carrier job holder z)) OwnerDiffers None third.1 in
     let owned = not_false (rule.owns_carrier job holder x && rule.owns_carrier job holder y && rule.owns_carrier job holder z) fourth.0 in
     let owned_z = and_holds (rule.owns_carrier job holder x && rule.owns_carrier job holder y) (rule.owns_carrier job holder z) owned in
     let owned_xy = and_holds (rule.owns_carrier job holder x) (rule.owns_carrier job holder y) owned_z.0 in
-    let fifth = unbroken (rule.holds_zone job holder) NotBuilt None fourth.1 in
-    let sound : IsSoundZone job line = record {
+    let stands : (side : Side) → rule.owns_carrier job holder side ≡ true → holder ≡ None → side.carrier ≡ None =
+    λ side owned free. side_still job side facts.linked.owners (subst (λ h. rule.owns_carrier job h side ≡ true) free owned) in (
+      second.0,
+      record {
+        declared = owner_declared job holder (not_false (rule.has_owner job holder) first.0);
+        carried = All-three (IsCarriedBy (job_of job) holder) x y z (side_owned job holder x owned_xy.0) (side_owned job holder y owned_xy.1) (side_owned job holder z owned_z.1);
+        still = λ free. All-three (λ (side : Side). side.carrier ≡ None) x y z (stands x owned_xy.0 free) (stands y owned_xy.1 free) (stands z owned_z.1 free);
+        carriers = AllPairs-three HaveOtherCarriers x y z (sides_differ x y apart_x.0) (sides_differ x z apart_x.1) (sides_differ y z apart.1);
+      },
+    )
+
+not_true : (b : Bool) → not b ≡ true → b ≡ false
+not_true true e = absurd cc
+not_true false e = refl
+
+pub zone_told : (job : DraftView) (number : ℕ) (zone : NamedZone) (x y z : Side) → ListFacts job → rule.zone_rule job zone.zone zone.holder (Some x) (Some y) (Some z) ≡ None
+    → rule.unless_built (zone.on && not (rule.holds_another job zone.holder)) ≡ None
+    → (1 ≤ zone.zone) × (zone.zone ≤ 32) → (1 ≤ zone.group) × (zone.group ≤ 32) → IsSoundRange x.lo x.hi → IsSoundRange y.lo y.hi → IsSoundRange z.lo z.hi
+    → ListFacts (with_zone job (record { line = number; zone = zone.zone; group = zone.group; holder = zone.holder; on = zone.on; sides = x ∷ y ∷ z ∷ [] }))
+zone_told job number zone x y z facts none built zone_range group_range x_range y_range z_range =
+    let line : ZoneLine = record { line = number; zone = zone.zone; group = zone.group; holder = zone.holder; on = zone.on; sides = x ∷ y ∷ z ∷ [] } in
+    let new : DraftView = with_zone job line in
+    let extends : Extends (job_of job) (job_of new) = lines_extend (job_of job) (job_of new) refl refl in
+    let passed = sides_pass job zone.zone zone.holder x y z facts none in
+    let active = and_holds zone.on (not (rule.holds_another job zone.holder)) (all_built (zone.on && not (rule.holds_another job zone.holder)) built) in
+    let sound : IsSoundZone (job_of job) line = record {
       low_number = zone_range.0;
       high_number = zone_range.1;
       low_group = group_range.0;
       high_group = group_range.1;
-      active = refl;
-      held = declared_from job holder (not_false (rule.has_channel job holder) first.0);
+      active = active.0;
+      held = passed.1.declared;
+      still = passed.1.still;
       directions = refl;
-      carried = All-three (IsCarriedBy job (Some holder)) x y z (side_owned job holder x owned_xy.0) (side_owned job holder y owned_xy.1) (side_owned job holder z owned_z.1);
-      carriers = AllPairs-three HaveOtherCarriers x y z (sides_differ x y apart_x.0) (sides_differ x z apart_x.1) (sides_differ y z apart.1);
+      carried = passed.1.carried;
+      carriers = passed.1.carriers;
       ranges = All-three (λ (side : Side). IsSoundRange side.lo side.hi) x y z x_range y_range z_range;
     } in
+    let linked : Linked (job_of new) job.axes job.offsets job.zones = linked_extends (job_of job) (job_of new) extends job.axes job.offsets job.zones facts.linked in
     record {
-      channels = record {
-        numbers = facts.channels.numbers;
-        low = facts.channels.low;
-        high = facts.channels.high;
-        starting = facts.channels.starting;
-        named = facts.channels.named;
-      };
-      axes = record { few = facts.axes.few; names = facts.axes.names; owners = facts.axes.owners; positions = facts.axes.positions };
-      slots = record {
-        numbers = facts.slots.numbers;
-        axes = facts.slots.axes;
-        owners = All-weaker (λ (g : GeoLine). first_owner job g.axis ≡ Some g.channel) (λ (g : GeoLine). first_owner new g.axis ≡ Some g.channel)
-            (λ g. extends.owned g.axis g.channel) job.geo facts.slots.owners;
-      };
+      channels = facts.channels;
+      axes = facts.axes;
+      slots = facts.slots;
+      places = facts.places;
       zones = record {
-        numbers = all_pairs_push (λ (l other : ZoneLine). l.zone ≢ other.zone) job.zones line facts.zones.numbers (zone_differs job zone second.0 line refl);
-        holders = all_pairs_push (λ (l other : ZoneLine). l.holder ≢ other.holder) job.zones line facts.zones.holders (holder_differs job holder fifth.0 line refl);
-        zones = All-push (IsSoundZone new) job.zones line
-            (All-weaker (IsSoundZone job) (IsSoundZone new) (zone_extends job new extends) job.zones facts.zones.zones) (zone_extends job new extends line sound);
+        numbers = all_pairs_push (λ (l other : ZoneLine). l.zone ≢ other.zone) job.zones line facts.zones.numbers (zone_differs job zone.zone passed.0 line refl);
+        holders = all_pairs_push HaveOtherHolders job.zones line facts.zones.holders
+            (holder_differs job zone.holder (not_true (rule.holds_another job zone.holder) active.1) line refl);
+      };
+      options = facts.options;
+      linked = record {
+        owners = linked.owners;
+        offsets = linked.offsets;
+        zones = All-push (IsSoundZone (job_of new)) job.zones line linked.zones (zone_extends (job_of job) (job_of new) extends line sound);
       };
     }
 
--- other programs
-abbrev pub with_programs : JobView → List (List ℕ × ProgramView) → JobView
-with_programs job programs = record { channels = job.channels; axes = job.axes; geo = job.geo; zones = job.zones; programs = programs }
+-- options and programs
+abbrev pub with_options : DraftView → Option ℤ → Option ℕ → Option ℕ → Bool → Bool → DraftView
+with_options job margin depth budget compensation skip = record job { margin = margin; depth = depth; budget = budget; compensation = compensation; skip = skip }
 
-programs_extend : (job : JobView) (programs : List (List ℕ × ProgramView)) → Extends job (with_programs job programs)
-unfolding first_owner
-programs_extend job programs = record { declared = λ channel declared. declared; owned = λ axis channel owned. owned; more = omega arith }
-
-pub list_kept : (job : JobView) (programs : List (List ℕ × ProgramView)) → ListFacts job → ListFacts (with_programs job programs)
-list_kept job programs facts =
-    let new : JobView = with_programs job programs in
-    let extends : Extends job new = programs_extend job programs in
+pub options_told : (job : DraftView) (margin : Option ℤ) (depth budget : Option ℕ) (compensation skip : Bool) → ListFacts job → OptionFacts margin depth budget
+    → ListFacts (with_options job margin depth budget compensation skip)
+options_told job margin depth budget compensation skip facts options =
+    let new : DraftView = with_options job margin depth budget compensation skip in
     record {
-      channels = record {
-        numbers = facts.channels.numbers;
-        low = facts.channels.low;
-        high = facts.channels.high;
-        starting = facts.channels.starting;
-        named = facts.channels.named;
-      };
-      axes = record { few = facts.axes.few; names = facts.axes.names; owners = facts.axes.owners; positions = facts.axes.positions };
-      slots = record {
-        numbers = facts.slots.numbers;
-        axes = facts.slots.axes;
-        owners = All-weaker (λ (g : GeoLine). first_owner job g.axis ≡ Some g.channel) (λ (g : GeoLine). first_owner new g.axis ≡ Some g.channel)
-            (λ g. extends.owned g.axis g.channel) job.geo facts.slots.owners;
-      };
-      zones = record {
-        numbers = facts.zones.numbers;
-        holders = facts.zones.holders;
-        zones = All-weaker (IsSoundZone job) (IsSoundZone new) (zone_extends job new extends) job.zones facts.zones.zones;
-      };
+      channels = facts.channels;
+      axes = facts.axes;
+      slots = facts.slots;
+      places = facts.places;
+      zones = facts.zones;
+      options = options;
+      linked = linked_extends (job_of job) (job_of new) (lines_extend (job_of job) (job_of new) refl refl) job.axes job.offsets job.zones facts.linked;
+    }
+
+abbrev pub with_programs : DraftView → List (List ℕ × ProgramView) → DraftView
+with_programs job programs = record job { programs = programs }
+
+pub list_kept : (job : DraftView) (programs : List (List ℕ × ProgramView)) → ListFacts job → ListFacts (with_programs job programs)
+list_kept job programs facts =
+    let new : DraftView = with_programs job programs in
+    record {
+      channels = facts.channels;
+      axes = facts.axes;
+      slots = facts.slots;
+      places = facts.places;
+      zones = facts.zones;
+      options = facts.options;
+      linked = linked_extends (job_of job) (job_of new) (lines_extend (job_of job) (job_of new) refl refl) job.axes job.offsets job.zones facts.linked;
     }
 
 -- of nothing
-pub nothing_listed : (programs : List (List ℕ × ProgramView)) → ListFacts (record { channels = []; axes = []; geo = []; zones = []; programs = programs })
-nothing_listed programs =
-    let none : JobView = record { channels = []; axes = []; geo = []; zones = []; programs = programs } in
-    record {
-      channels = record {
-        numbers = no_pairs (λ (l other : ChannelLine). l.channel ≢ other.channel);
-        low = All-nil (λ (l : ChannelLine). 1 ≤ l.channel);
-        high = All-nil (λ (l : ChannelLine). l.channel ≤ 2);
-        starting = All-nil (λ (l : ChannelLine). l.starts ≡ true);
-        named = All-nil (λ (l : ChannelLine). IsSome l.program);
-      };
-      axes = record {
-        few = omega arith;
-        names = no_pairs HaveOtherNames;
-        owners = All-nil (λ (l : AxisLine). IsSomeAnd l.owner (IsDeclared none));
-        positions = All-nil (λ (l : AxisLine). IsInReach l.at);
-      };
-      slots = record {
-        numbers = no_pairs HaveOtherSlots;
-        axes = All-nil (λ (g : GeoLine). g.axis < 0);
-        owners = All-nil (λ (g : GeoLine). first_owner none g.axis ≡ Some g.channel);
-      };
-      zones = record {
-        numbers = no_pairs (λ (z other : ZoneLine). z.zone ≢ other.zone);
-        holders = no_pairs (λ (z other : ZoneLine). z.holder ≢ other.holder);
-        zones = All-nil (IsSoundZone none);
-      };
-    }
+pub nothing_listed : ListFacts nothing_told
+nothing_listed = record {
+  channels = record {
+    numbers = no_pairs (λ (l other : ChannelLine). l.channel ≢ other.channel);
+    low = All-nil (λ (l : ChannelLine). 1 ≤ l.channel);
+    high = All-nil (λ (l : ChannelLine). l.channel ≤ 8);
+    starting = All-nil (λ (l : ChannelLine). l.starts ≡ true);
+    named = All-nil (λ (l : ChannelLine). IsSome l.program);
+  };
+  axes = record { few = omega arith; names = no_pairs HaveOtherNames; positions = All-nil (λ (l : AxisLine). IsInReach l.at) };
+  slots = record { numbers = no_pairs HaveOtherSlots; axes = All-nil (λ (g : GeoLine). g.axis < 0) };
+  places = no_pairs HaveOtherPlaces;
+  zones = record { numbers = no_pairs (λ (z other : ZoneLine). z.zone ≢ other.zone); holders = no_pairs HaveOtherHolders };
+  options = record { sound_margin = tt; no_depth = refl; sound_budget = tt };
+  linked = record {
+    owners = All-nil (λ (l : AxisLine). IsSomeAnd l.owner (IsDeclared (job_of nothing_told)));
+    offsets = All-nil (IsSoundOffset (job_of nothing_told));
+    zones = All-nil (IsSoundZone (job_of nothing_told));
+  };
+}

@@ -1,6 +1,6 @@
 -- Every accepted job is sound.
 use Rattle.std.specs.Prelude.{IsSomeAnd}
-use Rattle.std.proofs.Common.{◌≡◌, ◌≢◌, ◌∙◌, ℕ, ◌≤◌, ◌<◌, Bool, true, false, ◌||◌, not, nat_le, if◌then◌else◌, List, [], ◌∷◌, ◌++◌, length, Result, Ok, Err, IfOk, Option, Some, None, IfSome, IsSome, find, get_or, subst, refl, sym, arith, length-append, rules}
+use Rattle.std.proofs.Common.{◌≡◌, ◌≢◌, ◌∙◌, ℕ, ◌≤◌, ◌<◌, ℤ, pos, Bool, true, false, ◌&&◌, ◌||◌, not, unwrap_or, ap, nat_le, if◌then◌else◌, List, [], ◌∷◌, ◌++◌, length, Result, Ok, Err, IfOk, Option, Some, None, IfSome, IsSome, find, get_or, subst, refl, sym, arith, length-append, rules}
 use Rattle.std.specs.List.{All, Any, AllPairs, enumerate_from}
 use Rattle.std.specs.Map.{keys_of}
 use Rattle.std.specs.Option.{option_map, option_or}
@@ -11,24 +11,25 @@ use Rattle.std.proofs.lemmas.List.Quantifiers.{all_pairs_push}
 use Rattle.job_lines.specs.Code.{shown}
 use Rattle.job_lines.specs.declared.code.Code.TheVariants.{NameRepeated, TooMany, NotInLibrary}
 use Rattle.job_lines.specs.declared.item.Item.{Item}
-use Rattle.job_lines.specs.declared.item.Item.TheVariants.{Channel, Axis, Geo, Zone}
-use Rattle.job_lines.specs.declared.item.NamedSide.{NamedSide}
+use Rattle.job_lines.specs.declared.item.Item.TheVariants.{Channel, Axis, Geo, Offset, Zone, Margin, Depth, Budget, Compensation, Skip}
+use Rattle.job_lines.specs.declared.item.NamedZone.{NamedZone}
 use Rattle.nc_blocks.specs.Statement.{BlockView}
 use Rattle.nc_faults.specs.declared.Refusal.{Refusal}
 use Rattle.tape_job.specs.declared.job.ChannelLine.{ChannelLine}
 use Rattle.tape_job.specs.declared.job.Side.{Side}
 use Rattle.tape_job.specs.Built.{is_built}
+use Rattle.tape_job.specs.Draft.{DraftView, job_of}
 use Rattle.tape_job.specs.Job.{JobView, ProgramView}
 use Rattle.tape_job.specs.Lines.{Line, has_token, begins_with_percent, raw_lines}
 use Rattle.tape_job.specs.Reading.{ReadingView, Blank, First, Entry, Header, Step, reading_of}
 use Rattle.tape_job.specs.Rules as rule
-use Rattle.tape_job.specs.Told.{Told, told, geo_line, zone_line}
+use Rattle.tape_job.specs.Told.{Told, told, accept_compensation, geo_line, zone_line}
 use Rattle.tape_job.specs.Read.{code_by, line_trial, end_of_program, trial, end_trial, answer, read_of}
 use Rattle.tape_job.specs.Steps.{with_entry, with_line, with_block, tell, unless_refused, run, finish}
-use Rattle.tape_job.specs.SoundJob.{IsSoundJob}
+use Rattle.tape_job.specs.SoundJob.{IsSoundMargin, IsSoundJob}
 use Rattle.tape_job.proofs.SoundLists.{unbroken, not_false, none_found}
 use Rattle.tape_job.proofs.SoundReadings.{IsSoundItem, IsSoundReading, reading_sound}
-use Rattle.tape_job.proofs.SoundJobLines.{ListFacts, HasRange, no_pairs, list_kept, nothing_listed, side_range, sound_range, channel_told, axis_told, geo_told, zone_told}
+use Rattle.tape_job.proofs.SoundJobLines.{ListFacts, HasRange, no_pairs, list_kept, nothing_listed, side_range, sound_range, axis_within, channel_told, axis_told, geo_told, offset_told, zone_told, options_told}
 use Rattle.tape_job.proofs.SoundPrograms.{InAll, NestedSoFar, nested_block, nested_header, all_nested, block_told, header_told, keys-with_block, length-with_block, keys-push, names_differ, program_found}
 use Rattle.tape_job.proofs.TellingLemmas.{read_of_is}
 
@@ -40,37 +41,56 @@ record Sound (told : Told) : Type 0 where
   few : length told.job.programs ≤ 256
   nested : NestedSoFar told.job.programs
 
--- a job line
-abbrev with_item : JobView → ℕ → Item → JobView
-with_item job number item = with_line job number (Ok (Entry item))
-
-geo_item_told : (job : JobView) (number channel slot : ℕ) (axis : Option ℕ) → ListFacts job → rule.slot_rule job channel slot axis ≡ None
-    → ListFacts (record { channels = job.channels; axes = job.axes; geo = with_entry job.geo (geo_line number channel slot axis); zones = job.zones; programs = job.programs })
-unfolding rule.slot_rule
-geo_item_told job number channel slot None facts none = absurd cc
-geo_item_told job number channel slot (Some axis) facts none = geo_told job number channel slot axis facts none
-
-zone_item_told : (job : JobView) (number zone group holder : ℕ) (x y z : NamedSide) (a b c : Option Side) → ListFacts job → rule.zone_rule job zone holder a b c ≡ None
-    → IsSoundItem (Zone zone group holder x y z) → IfSome a (HasRange x) → IfSome b (HasRange y) → IfSome c (HasRange z)
-    → ListFacts (record { channels = job.channels; axes = job.axes; geo = job.geo; zones = with_entry job.zones (zone_line number zone group holder a b c); programs = job.programs })
-unfolding rule.zone_rule
-zone_item_told job number zone group holder x y z (Some a) (Some b) (Some c) facts none sound is_x is_y is_z =
-    zone_told job number zone group holder a b c facts none sound.0 sound.1 (sound_range x a is_x sound.2) (sound_range y b is_y sound.3) (sound_range z c is_z sound.4)
-zone_item_told job number zone group holder x y z a b c facts none sound is_x is_y is_z = absurd cc
-
-item_told : (job : JobView) (number : ℕ) (item : Item) → ListFacts job → rule.item_rule job item ≡ None → IsSoundItem item → ListFacts (with_item job number item)
-unfolding rule.item_rule with_line
-item_told job number (Channel channel program) facts none sound = channel_told job number channel program facts none sound
-item_told job number (Axis name owner at) facts none sound = axis_told job number name owner at facts none sound
-item_told job number (Geo channel slot axis) facts none sound = geo_item_told job number channel slot (rule.axis_of job.axes axis) facts none
-item_told job number (Zone zone group holder x y z) facts none sound =
-    zone_item_told job number zone group holder x y z (rule.side_of job.axes x) (rule.side_of job.axes y) (rule.side_of job.axes z) facts none sound
-    (side_range job.axes x) (side_range job.axes y) (side_range job.axes z)
-
 -- where neither of two gives a refusal
 neither : {A : Type 0} (a b : Option A) → option_or a b ≡ None → (a ≡ None) × (b ≡ None)
 neither None b none = (refl, none)
 neither (Some a) b none = absurd cc
+
+-- a job line
+abbrev with_item : DraftView → ℕ → Item → DraftView
+with_item job number item = with_line job number (Ok (Entry item))
+
+geo_item_told : (job : DraftView) (number channel slot : ℕ) (axis : Option ℕ) → ListFacts job → rule.slot_rule job channel slot axis ≡ None
+    → IfSome axis (λ a. a < length job.axes) → ListFacts (record job { geo = with_entry job.geo (geo_line number channel slot axis) })
+unfolding rule.slot_rule
+geo_item_told job number channel slot None facts none within = absurd cc
+geo_item_told job number channel slot (Some axis) facts none within = geo_told job number channel slot axis facts none within
+
+zone_item_told : (job : DraftView) (number : ℕ) (zone : NamedZone) (a b c : Option Side) → ListFacts job → rule.zone_rule job zone.zone zone.holder a b c ≡ None
+    → rule.unless_built (zone.on && not (rule.holds_another job zone.holder)) ≡ None
+    → IsSoundItem (Zone zone) → IfSome a (HasRange zone.x) → IfSome b (HasRange zone.y) → IfSome c (HasRange zone.z)
+    → ListFacts (record job { zones = with_entry job.zones (zone_line number zone a b c) })
+unfolding rule.zone_rule
+zone_item_told job number zone (Some a) (Some b) (Some c) facts none built sound is_x is_y is_z =
+    zone_told job number zone a b c facts none built sound.0 sound.1 (sound_range zone.x a is_x sound.2) (sound_range zone.y b is_y sound.3) (sound_range zone.z c is_z sound.4)
+zone_item_told job number zone a b c facts none built sound is_x is_y is_z = absurd cc
+
+declared_told : (job : DraftView) (number : ℕ) (item : Item) → ListFacts job → rule.declaration_rule job item ≡ None → rule.built_rule job item ≡ None → IsSoundItem item
+    → ListFacts (with_item job number item)
+unfolding rule.declaration_rule rule.built_rule with_line
+declared_told job number (Channel channel program starts) facts none built sound = channel_told job number channel program starts facts none built sound
+declared_told job number (Axis name owner at) facts none built sound = axis_told job number name owner at facts none built sound
+declared_told job number (Geo channel slot axis) facts none built sound =
+    geo_item_told job number channel slot (rule.axis_of job.axes axis) facts none (axis_within job.axes axis)
+declared_told job number (Offset channel g slot by) facts none built sound = offset_told job number channel g slot by facts none sound
+declared_told job number (Zone zone) facts none built sound =
+    zone_item_told job number zone (rule.side_of job.axes zone.x) (rule.side_of job.axes zone.y) (rule.side_of job.axes zone.z) facts none built sound
+    (side_range job.axes zone.x) (side_range job.axes zone.y) (side_range job.axes zone.z)
+declared_told job number (Margin margin) facts none built sound =
+    options_told job (Some margin) job.depth job.budget job.compensation job.skip facts
+    (record { sound_margin = sound; no_depth = facts.options.no_depth; sound_budget = facts.options.sound_budget })
+declared_told job number (Depth depth) facts none built sound = absurd cc
+declared_told job number (Budget budget) facts none built sound =
+    options_told job job.margin job.depth (Some budget) job.compensation job.skip facts
+    (record { sound_margin = facts.options.sound_margin; no_depth = facts.options.no_depth; sound_budget = sound })
+declared_told job number Compensation facts none built sound = options_told job job.margin job.depth job.budget true job.skip facts facts.options
+declared_told job number Skip facts none built sound = options_told job job.margin job.depth job.budget job.compensation true facts facts.options
+
+item_told : (job : DraftView) (number : ℕ) (item : Item) → ListFacts job → rule.item_rule job item ≡ None → IsSoundItem item → ListFacts (with_item job number item)
+unfolding rule.item_rule
+item_told job number item facts none sound =
+    let both = neither (rule.declaration_rule job item) (rule.built_rule job item) none in
+    declared_told job number item facts both.0 both.1 sound
 
 unmapped : {A B : Type 0} (f : A → B) (a : Option A) → option_map f a ≡ None → a ≡ None
 unmapped f None none = refl
@@ -82,17 +102,11 @@ entry_told : (told : Told) (number : ℕ) (seen late : Bool) (item : Item) → S
 unfolding with_line
 entry_told told number seen late item sound none fits = record {
   list = item_told told.job number item sound.list none fits;
-  programs = subst (InAll (λ block. is_built block.1.statement ≡ true)) (sym (kept number told.job item)) sound.programs;
-  names = subst (λ programs. AllPairs (λ name other. name ≢ other) (keys_of programs)) (sym (kept number told.job item)) sound.names;
-  few = subst (λ programs. length programs ≤ 256) (sym (kept number told.job item)) sound.few;
-  nested = subst NestedSoFar (sym (kept number told.job item)) sound.nested;
+  programs = sound.programs;
+  names = sound.names;
+  few = sound.few;
+  nested = sound.nested;
 }
-  where
-    kept : (number : ℕ) (job : JobView) (item : Item) → (with_item job number item).programs ≡ job.programs
-    kept number job (Channel channel program) = refl
-    kept number job (Axis name owner at) = refl
-    kept number job (Geo channel slot axis) = refl
-    kept number job (Zone zone group holder x y z) = refl
 
 -- a header
 header_line_told : (told : Told) (number : ℕ) (seen late : Bool) (name : List ℕ) → Sound told
@@ -144,12 +158,12 @@ line_told told number seen late percent (Ok (Header name)) sound none ended fits
     header_line_told told number seen late name sound (unmapped shown (rule.header_rule told.job name) none) (ended fits)
 line_told told number seen late percent (Ok (Step block)) sound none ended fits = block_line_told told number seen late block sound fits none
 
-none_open : (job : JobView) → rule.unmatched job ≡ None → rule.left_open job.programs ≡ None
+none_open : (job : DraftView) → rule.unmatched job ≡ None → rule.left_open job.programs ≡ None
 unfolding rule.unmatched
 none_open job none = unmapped _ (rule.left_open job.programs) none
 
 -- a line that begins with '%' leaves no structure open
-program_ends : (percent : Bool) (job : JobView) → (if percent then rule.unmatched job else None) ≡ None → percent ≡ true → rule.left_open job.programs ≡ None
+program_ends : (percent : Bool) (job : DraftView) → (if percent then rule.unmatched job else None) ≡ None → percent ≡ true → rule.left_open job.programs ≡ None
 program_ends true job none is = none_open job none
 program_ends false job none is = absurd cc
 
@@ -158,10 +172,10 @@ unfolding trial line_trial end_of_program tell
 tell_sound told line sound none =
     let both = neither (end_of_program told.job line.1) (line_trial told line) none in
     line_told told line.0 (told.seen || has_token line.1) (told.in_programs || begins_with_percent line.1) (begins_with_percent line.1)
-    (reading_of told.seen told.in_programs line.1) sound
-    (unmapped _ (code_by told.job line.0 (reading_of told.seen told.in_programs line.1)) both.1)
+    (reading_of told.seen told.in_programs told.job.compensation line.1) sound
+    (unmapped _ (code_by told.job line.0 (reading_of told.seen told.in_programs told.job.compensation line.1)) both.1)
     (program_ends (begins_with_percent line.1) told.job both.0)
-    (reading_sound told.seen told.in_programs line.1)
+    (reading_sound told.seen told.in_programs told.job.compensation line.1)
 
 run_sound : (now : Told) (lines : List Line) (end : Told) → Sound now → run now lines ≡ Ok end → Sound end
 run_sound now [] end sound ran = let same : now ≡ end = cc in subst Sound same sound
@@ -173,9 +187,9 @@ run_sound now (line ∷ lines) end sound ran = by (trial now line) refl (λ none
     by (Some refused) some goes ran = absurd cc
 
 nothing_told : Sound (told [])
-unfolding told
+unfolding told accept_compensation
 nothing_told = record {
-  list = nothing_listed [];
+  list = nothing_listed;
   programs = All-nil (λ program. All (λ block. is_built block.1.statement ≡ true) program.1.blocks);
   names = no_pairs (λ (name other : List ℕ). name ≢ other);
   few = omega arith;
@@ -188,7 +202,7 @@ known_program : (programs : List (List ℕ × ProgramView)) (program : Option (L
 known_program programs None known there = absurd cc
 known_program programs (Some name) known there = program_found programs name known
 
-selected : (job : JobView) (channels : List ChannelLine) → find (λ line. not (rule.is_known job.programs line.program)) channels ≡ None → All (λ (l : ChannelLine). IsSome l.program) channels
+selected : (job : DraftView) (channels : List ChannelLine) → find (λ line. not (rule.is_known job.programs line.program)) channels ≡ None → All (λ (l : ChannelLine). IsSome l.program) channels
     → All (λ (l : ChannelLine). IsSomeAnd l.program (λ name. Any (λ (p : List ℕ × ProgramView). p.0 ≡ name) job.programs)) channels
 selected job channels none there k d within =
     let line : ChannelLine = get_or channels k d in
@@ -204,8 +218,17 @@ program_names programs names i j d before within same =
     let short : length (keys_of programs) ≡ length programs = length-map programs name in
     names i j d.0 before (omega arith) (get_or-map name programs i d ∙ same ∙ sym (get_or-map name programs j d))
 
+-- options that no line gives
+margin_or : (margin : Option ℤ) → IfSome margin IsSoundMargin → IsSoundMargin (unwrap_or margin (pos 0))
+margin_or None sound = (omega arith, omega arith)
+margin_or (Some margin) sound = sound
+
+budget_or : (budget : Option ℕ) → IfSome budget (λ n. (1 ≤ n) × (n ≤ 100000000)) → (1 ≤ unwrap_or budget 1000000) × (unwrap_or budget 1000000 ≤ 100000000)
+budget_or None sound = (omega arith, omega arith)
+budget_or (Some budget) sound = sound
+
 -- what is told is sound at the end
-told_sound : (now : Told) → Sound now → end_trial now ≡ None → IsSoundJob now.job
+told_sound : (now : Told) → Sound now → end_trial now ≡ None → IsSoundJob (job_of now.job)
 unfolding end_trial rule.missing
 told_sound now sound none =
     let matched = neither (rule.unmatched now.job) _ none in
@@ -220,14 +243,18 @@ told_sound now sound none =
       selected = selected now.job now.job.channels all_known sound.list.channels.named;
       few_axes = sound.list.axes.few;
       axis_names = sound.list.axes.names;
-      owners = sound.list.axes.owners;
+      owners = sound.list.linked.owners;
       positions = sound.list.axes.positions;
       slot_numbers = sound.list.slots.numbers;
       slot_axes = sound.list.slots.axes;
-      slots = sound.list.slots.owners;
+      offset_places = sound.list.places;
+      offsets = sound.list.linked.offsets;
       zone_numbers = sound.list.zones.numbers;
       zone_holders = sound.list.zones.holders;
-      zones = sound.list.zones.zones;
+      zones = sound.list.linked.zones;
+      margin = margin_or now.job.margin sound.list.options.sound_margin;
+      depth = ap (λ depth. unwrap_or depth 0) sound.list.options.no_depth;
+      budget = budget_or now.job.budget sound.list.options.sound_budget;
       few_programs = sound.few;
       program_names = program_names now.job.programs sound.names;
       programs = λ k d within. record { built = sound.programs k d within; nested = nested k d within };
@@ -241,7 +268,7 @@ finished_sound : (ran : Result Told Refusal) (lines : List Line) (job : JobView)
 unfolding finish
 finished_sound (Err refused) lines job ran same = absurd cc
 finished_sound (Ok now) lines job ran same =
-    let end = answered (end_trial now) now.job job same in
+    let end = answered (end_trial now) (job_of now.job) job same in
     subst IsSoundJob end.1 (told_sound now (run_sound (told []) lines now nothing_told ran) end.0)
 
 pub accepted_sound : (input : List ℕ) (job : JobView) → read_of input ≡ Ok job → IsSoundJob job

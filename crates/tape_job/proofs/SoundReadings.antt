@@ -1,6 +1,6 @@
 -- What holds of all that a line can say by itself.
 use Rattle.std.specs.Bool.{⊤}
-use Rattle.std.proofs.Common.{◌≡◌, ℕ, zero, suc, ◌≤◌, ℤ, pos, negsuc, neg_ℤ, unsigned_abs, Bool, true, false, ◌&&◌, not, if◌then◌else◌, nat_le, nat_lt, int_le, length, ◌==◌, codes, List, [], ◌∷◌, Result, Ok, Err, IfOk, Option, Some, None, IfSome, refl, rules}
+use Rattle.std.proofs.Common.{◌≡◌, inl, inr, ℕ, zero, suc, ◌≤◌, ◌<◌, ℤ, pos, negsuc, neg_ℤ, unsigned_abs, Bool, true, false, ◌&&◌, ◌||◌, not, if◌then◌else◌, nat_le, nat_lt, int_le, length, ◌==◌, codes, List, [], ◌∷◌, Result, Ok, Err, IfOk, Option, Some, None, IfSome, IsSome, refl, rules, arith}
 use Rattle.std.specs.List.{list_any}
 use Rattle.std.specs.Option.{option_and_then, option_map}
 use Rattle.std.specs.Str.{bytes_eq}
@@ -16,20 +16,21 @@ use Rattle.job_lines.specs.declared.code.Code.TheVariants.{OutOfRange, NotBuilt}
 use Rattle.job_lines.specs.declared.item.AxisName.{AxisName}
 use Rattle.job_lines.specs.declared.item.NamedSide.{NamedSide}
 use Rattle.job_lines.specs.declared.item.Item.{Item}
-use Rattle.job_lines.specs.declared.item.Item.TheVariants.{Channel, Axis, Geo, Zone}
+use Rattle.job_lines.specs.declared.item.Item.TheVariants.{Channel, Axis, Offset, Zone, Margin, Budget}
 use Rattle.job_lines.specs.Code.{◌>>=◌, or_code, shown}
 use Rattle.job_lines.specs.Header.{header_of}
 use Rattle.job_lines.specs.Item as item
+use Rattle.job_lines.specs.OptionLines as option
 use Rattle.job_lines.specs.Numbers.{whole_of, within, number_within}
 use Rattle.job_lines.specs.Length.{in_reach, size_of, is_size, signed_size_of, length_of}
-use Rattle.nc_blocks.specs.Names.{upper}
+use Rattle.nc_blocks.specs.Names.{upper, name_of}
 use Rattle.nc_blocks.specs.Statement.{BlockView}
 use Rattle.nc_syntax.specs.Blocks.{statement_of}
 use Rattle.tape_job.specs.Built.{is_built}
 use Rattle.tape_job.specs.Lines.{words, is_visible, begins_with_percent, text_of, before_comment}
 use Rattle.tape_job.specs.Reading as reading
 use Rattle.tape_job.specs.Reading.{ReadingView, Entry, Header, Step}
-use Rattle.tape_job.specs.SoundJob.{IsInReach, IsSoundRange}
+use Rattle.tape_job.specs.SoundJob.{IsInReach, IsSettable, IsSoundRange, IsSoundMargin}
 
 -- what holds of each result of a reading holds of the next reading's
 then_ok : {A B : Type 0} (P : A → Type 0) (Q : B → Type 0) (read : Result A Code) (next : A → Result B Code)
@@ -67,16 +68,9 @@ number_sound : (low high : ℕ) (word : List ℕ) → IfSome (number_within low 
 unfolding number_within
 number_sound low high word = found_within low high (whole_of word)
 
-built_sound : (small : Bool) (number : ℕ) → nat_le number 2 ≡ small → IsWithin 1 8 number → IfOk (if small then Ok number else Err NotBuilt) (IsWithin 1 2)
-built_sound true number small range = (range.0, leb-true number 2 small)
-built_sound false number small range = tt
-
-channel_sound : (word : List ℕ) → IfOk (item.channel_of word) (IsWithin 1 2)
+channel_sound : (word : List ℕ) → IfOk (item.channel_of word) (IsWithin 1 8)
 unfolding item.channel_of
-channel_sound word =
-    then_ok (IsWithin 1 8) (IsWithin 1 2) (or_code OutOfRange (number_within 1 8 word)) item.built_channel
-    (or_ok (IsWithin 1 8) OutOfRange (number_within 1 8 word) (number_sound 1 8 word))
-    (λ number range. built_sound (nat_le number 2) number refl range)
+channel_sound word = or_ok (IsWithin 1 8) OutOfRange (number_within 1 8 word) (number_sound 1 8 word)
 
 zone_sound : (word : List ℕ) → IfOk (item.zone_of word) (IsWithin 1 32)
 unfolding item.zone_of
@@ -124,6 +118,31 @@ length_sound : (word : List ℕ) → IfOk (length_of word) IsInReach
 unfolding length_of
 length_sound word = or_ok IsInReach OutOfRange (signed_size_of word) (signed_sound word)
 
+-- G words, slots
+settable_by : (low high : Bool) (number : ℕ) → nat_le number 57 ≡ low → nat_le 505 number ≡ high → IsWithin 54 599 number
+    → IfSome (if low || high then Some number else None) IsSettable
+settable_by true high number low high_is range = inl (range.0, leb-true number 57 low)
+settable_by false true number low high range = inr (leb-true 505 number high, range.1)
+settable_by false false number low high range = tt
+
+settable_sound : (found : Option ℕ) → IfSome found (IsWithin 54 599) → IfSome (option_and_then item.settable found) IsSettable
+settable_sound None range = tt
+settable_sound (Some number) range = settable_by (nat_le number 57) (nat_le 505 number) number refl refl range
+
+g_sound : (word : List ℕ) → IfOk (item.g_of word) IsSettable
+unfolding item.g_of
+g_sound [] = tt
+g_sound (letter ∷ digits) =
+    if_ok IsSettable (letter == 71) _ _
+    (λ _. or_ok IsSettable OutOfRange (option_and_then item.settable (number_within 54 599 digits)) (settable_sound (number_within 54 599 digits) (number_sound 54 599 digits))) tt
+
+slot_sound : (word : List ℕ) → IfOk (item.slot_of word) (λ slot. slot < 3)
+unfolding item.slot_of
+slot_sound word =
+    if_ok (λ slot. slot < 3) (bytes_eq word (codes "X")) _ _ (λ _. omega arith)
+    (if_ok (λ slot. slot < 3) (bytes_eq word (codes "Y")) _ _ (λ _. omega arith)
+    (if_ok (λ slot. slot < 3) (bytes_eq word (codes "Z")) _ _ (λ _. omega arith) tt))
+
 -- job lines
 abbrev pub IsSoundSide : NamedSide → Type 0
 IsSoundSide side = IsSoundRange side.lo side.hi
@@ -142,20 +161,29 @@ side_sound carrier lo hi =
 
 -- what holds of a job line
 abbrev pub IsSoundItem : Item → Type 0
-IsSoundItem (Channel channel program) = IsWithin 1 2 channel
+IsSoundItem (Channel channel program starts) = IsWithin 1 8 channel × (starts ≡ true → IsSome program)
 IsSoundItem (Axis name owner at) = IsInReach at
-IsSoundItem (Geo channel slot axis) = ⊤
-IsSoundItem (Zone zone group holder x y z) = IsWithin 1 32 zone × IsWithin 1 32 group × IsSoundSide x × IsSoundSide y × IsSoundSide z
+IsSoundItem (Offset channel g slot by) = IsSettable g × (slot < 3) × IsInReach by
+IsSoundItem (Zone zone) = IsWithin 1 32 zone.zone × IsWithin 1 32 zone.group × IsSoundSide zone.x × IsSoundSide zone.y × IsSoundSide zone.z
+IsSoundItem (Margin margin) = IsSoundMargin margin
+IsSoundItem (Budget budget) = IsWithin 1 100000000 budget
+IsSoundItem item = ⊤
 
-channel_item_sound : (channel program start : List ℕ) → IfOk (item.channel_item_of channel program start) IsSoundItem
+channel_item_sound : (channel : List ℕ) (program : Option (List ℕ)) (starts : Bool) → (starts ≡ true → IsSome program) → IfOk (item.channel_item_of channel program starts) IsSoundItem
 unfolding item.channel_item_of
-channel_item_sound channel program start =
-    if_ok IsSoundItem (bytes_eq start (codes "START")) _ _
-    (λ _. then_ok (IsWithin 1 2) IsSoundItem (item.channel_of channel) _ (channel_sound channel) (λ number range. range)) tt
+channel_item_sound channel program starts named =
+    then_ok (IsWithin 1 8) IsSoundItem (item.channel_of channel) _ (channel_sound channel) (λ number range. (range, named))
+
+starting_item_sound : (channel program start : List ℕ) → IfOk (item.starting_item_of channel program start) IsSoundItem
+unfolding item.starting_item_of
+starting_item_sound channel program start =
+    if_ok IsSoundItem (bytes_eq start (codes "START")) _ _ (λ _. channel_item_sound channel (Some (name_of program)) true (λ _. refl)) tt
 
 channel_line_sound : (args : List (List ℕ)) → IfOk (item.channel_line args) IsSoundItem
 unfolding item.channel_line
-channel_line_sound (channel ∷ program ∷ start ∷ []) = channel_item_sound channel program start
+channel_line_sound (channel ∷ []) = channel_item_sound channel None false (λ starts. absurd cc)
+channel_line_sound (channel ∷ program ∷ []) = channel_item_sound channel (Some (name_of program)) false (λ starts. absurd cc)
+channel_line_sound (channel ∷ program ∷ start ∷ []) = starting_item_sound channel program start
 channel_line_sound args = tt
 
 axis_item_sound : (name owner at : List ℕ) → IfOk (item.axis_item_of name owner at) IsSoundItem
@@ -180,6 +208,19 @@ unfolding item.geo_line
 geo_line_sound (channel ∷ slot ∷ axis ∷ []) = geo_item_sound channel slot axis
 geo_line_sound args = tt
 
+offset_item_sound : (channel g slot by : List ℕ) → IfOk (item.offset_item_of channel g slot by) IsSoundItem
+unfolding item.offset_item_of
+offset_item_sound channel g slot by =
+    then_any IsSoundItem (item.channel_of channel) _ (λ c.
+    then_ok IsSettable IsSoundItem (item.g_of g) _ (g_sound g) (λ w settable.
+    then_ok (λ n. n < 3) IsSoundItem (item.slot_of slot) _ (slot_sound slot) (λ s low.
+    then_ok IsInReach IsSoundItem (length_of by) _ (length_sound by) (λ l near. (settable, low, near)))))
+
+offset_line_sound : (args : List (List ℕ)) → IfOk (item.offset_line args) IsSoundItem
+unfolding item.offset_line
+offset_line_sound (channel ∷ g ∷ slot ∷ by ∷ []) = offset_item_sound channel g slot by
+offset_line_sound args = tt
+
 zone_item_sound : (zone group holder state cx lx hx cy ly hy cz lz hz : List ℕ)
     → IfOk (item.zone_item_of zone group holder state cx lx hx cy ly hy cz lz hz) IsSoundItem
 unfolding item.zone_item_of
@@ -203,15 +244,77 @@ unfolding item.job_line
 job_line_sound (version ∷ []) = tt
 job_line_sound args = tt
 
+margin_by : (low high : Bool) (margin : ℤ) → int_le (pos 0) margin ≡ low → int_le margin (pos 1000000) ≡ high
+    → IfOk {T = Item} {E = Code} (if low && high then Ok (Margin margin) else Err OutOfRange) IsSoundItem
+margin_by true true margin low high = (search (rules, low), search (rules, high))
+margin_by true false margin low high = tt
+margin_by false high margin low high_is = tt
+
+margin_sound : (word : List ℕ) → IfOk (option.margin_of word) IsSoundItem
+unfolding option.margin_of
+margin_sound word = then_any IsSoundItem (length_of word) _ (λ m. margin_by (int_le (pos 0) m) (int_le m (pos 1000000)) m refl refl)
+
+margin_line_sound : (args : List (List ℕ)) → IfOk (option.margin_line args) IsSoundItem
+unfolding option.margin_line
+margin_line_sound (margin ∷ []) = margin_sound margin
+margin_line_sound args = tt
+
+depth_sound : (word : List ℕ) → IfOk (option.depth_of word) IsSoundItem
+unfolding option.depth_of
+depth_sound word = then_any IsSoundItem (or_code OutOfRange (number_within 0 4 word)) _ (λ depth. tt)
+
+depth_line_sound : (args : List (List ℕ)) → IfOk (option.depth_line args) IsSoundItem
+unfolding option.depth_line
+depth_line_sound (depth ∷ []) = depth_sound depth
+depth_line_sound args = tt
+
+budget_sound : (word : List ℕ) → IfOk (option.budget_of word) IsSoundItem
+unfolding option.budget_of
+budget_sound word =
+    then_ok (IsWithin 1 100000000) IsSoundItem (or_code OutOfRange (number_within 1 100000000 word)) _
+    (or_ok (IsWithin 1 100000000) OutOfRange (number_within 1 100000000 word) (number_sound 1 100000000 word)) (λ budget range. range)
+
+budget_line_sound : (args : List (List ℕ)) → IfOk (option.budget_line args) IsSoundItem
+unfolding option.budget_line
+budget_line_sound (budget ∷ []) = budget_sound budget
+budget_line_sound args = tt
+
+compensation_sound : (word : List ℕ) → IfOk (option.compensation_of word) IsSoundItem
+unfolding option.compensation_of
+compensation_sound word = if_ok IsSoundItem (bytes_eq word (codes "CONTOUR")) _ _ (λ _. tt) tt
+
+compensation_line_sound : (args : List (List ℕ)) → IfOk (option.compensation_line args) IsSoundItem
+unfolding option.compensation_line
+compensation_line_sound (word ∷ []) = compensation_sound word
+compensation_line_sound args = tt
+
+skip_sound : (word : List ℕ) → IfOk (option.skip_of word) IsSoundItem
+unfolding option.skip_of
+skip_sound word = if_ok IsSoundItem (bytes_eq word (codes "ON")) _ _ (λ _. tt) tt
+
+skip_line_sound : (args : List (List ℕ)) → IfOk (option.skip_line args) IsSoundItem
+unfolding option.skip_line
+skip_line_sound (word ∷ []) = skip_sound word
+skip_line_sound args = tt
+
+option_item_sound : (kind : List ℕ) (args : List (List ℕ)) → IfOk (option.option_item_of kind args) IsSoundItem
+unfolding option.option_item_of
+option_item_sound kind args =
+    if_ok IsSoundItem (bytes_eq kind (codes "MARGIN")) _ _ (λ _. margin_line_sound args)
+    (if_ok IsSoundItem (bytes_eq kind (codes "DEPTH")) _ _ (λ _. depth_line_sound args)
+    (if_ok IsSoundItem (bytes_eq kind (codes "BUDGET")) _ _ (λ _. budget_line_sound args)
+    (if_ok IsSoundItem (bytes_eq kind (codes "COMPENSATION")) _ _ (λ _. compensation_line_sound args)
+    (if_ok IsSoundItem (bytes_eq kind (codes "SKIP")) _ _ (λ _. skip_line_sound args) tt))))
+
 item_sound : (kind : List ℕ) (args : List (List ℕ)) → IfOk (item.item_of kind args) IsSoundItem
 unfolding item.item_of
 item_sound kind args =
     if_ok IsSoundItem (bytes_eq kind (codes "CHANNEL")) _ _ (λ _. channel_line_sound args)
     (if_ok IsSoundItem (bytes_eq kind (codes "AXIS")) _ _ (λ _. axis_line_sound args)
     (if_ok IsSoundItem (bytes_eq kind (codes "GEO")) _ _ (λ _. geo_line_sound args)
+    (if_ok IsSoundItem (bytes_eq kind (codes "OFFSET")) _ _ (λ _. offset_line_sound args)
     (if_ok IsSoundItem (bytes_eq kind (codes "ZONE")) _ _ (λ _. zone_line_sound args)
-    (if_ok IsSoundItem (bytes_eq kind (codes "JOB")) _ _ (λ _. job_line_sound args)
-    (if_ok IsSoundItem (item.is_later_kind kind) _ _ (λ _. tt) tt)))))
+    (if_ok IsSoundItem (bytes_eq kind (codes "JOB")) _ _ (λ _. job_line_sound args) (option_item_sound kind args))))))
 
 -- what holds of what a line says that begins with '%' or not
 abbrev pub IsSoundReading : Bool → ReadingView → Type 0
@@ -269,11 +372,11 @@ either_sound : (percent test : Bool) (first second : Result ReadingView ℕ) →
 either_sound percent true first second sound other = sound
 either_sound percent false first second other sound = sound
 
-pub reading_sound : (seen in_programs : Bool) (raw : List ℕ) → IfOk (reading.reading_of seen in_programs raw) (IsSoundReading (begins_with_percent raw))
+pub reading_sound : (seen in_programs compensation : Bool) (raw : List ℕ) → IfOk (reading.reading_of seen in_programs compensation raw) (IsSoundReading (begins_with_percent raw))
 unfolding reading.reading_of
-reading_sound seen in_programs raw =
+reading_sound seen in_programs compensation raw =
     let percent : Bool = begins_with_percent raw in
     either_sound percent (nat_lt 512 (length raw)) _ _ tt
-    (either_sound percent (in_programs && not percent) _ _ (block_sound percent false (text_of raw))
+    (either_sound percent (in_programs && not percent) _ _ (block_sound percent compensation (text_of raw))
     (shown_sound percent (reading.entry_reading seen percent (before_comment (text_of raw)))
     (entry_reading_sound seen percent (before_comment (text_of raw)))))

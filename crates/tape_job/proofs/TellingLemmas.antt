@@ -1,15 +1,24 @@
 -- One line more: what lines tell together, and what is told line by line, are the same.
-use Rattle.std.proofs.Common.{◌≡◌, ◌∙◌, ℕ, Bool, true, false, ◌||◌, List, [], ◌∷◌, ◌++◌, Result, Ok, Err, Option, Some, None, refl, sym, ap, append_assoc, append-nil, ◌+◌, length, arith}
+use Rattle.std.proofs.Common.{◌≡◌, ◌∙◌, ℕ, Bool, true, false, not, ◌&&◌, ◌||◌, if◌then◌else◌, nat_lt, List, [], ◌∷◌, ◌++◌, Result, Ok, Err, Option, Some, None, refl, sym, ap, append_assoc, append-nil, ◌+◌, length, arith}
 use Rattle.std.specs.List.{list_any, cons_option, enumerate_from}
 use Rattle.std.specs.Option.{option_or}
 use Rattle.nc_faults.specs.declared.Refusal.{Refusal}
 use Rattle.nc_blocks.specs.Statement.{BlockView}
-use Rattle.tape_job.specs.Reading.{ReadingView, Header, Step}
+use Rattle.tape_job.specs.Reading.{ReadingView, Header, Step, words_of, step_of, tokens_reading, block_reading, entry_reading, with_shown, reading_of}
+use Rattle.tape_job.specs.Built.{is_built}
+use Rattle.tape_job.specs.Draft.{job_of}
+use Rattle.nc_syntax.specs.Blocks.{statement_of}
+use Rattle.block_scanner.specs.Tokens.{tokens_of}
+use Rattle.block_scanner.specs.declared.ScanFault.{ScanFault}
+use Rattle.block_scanner.specs.declared.ScanFault.TheVariants as fault
+use Rattle.block_scanner.specs.declared.Token.{Token}
+use Rattle.job_lines.specs.Code.{shown}
+use Rattle.job_lines.specs.declared.code.Code.TheVariants.{LineTooLong, NotBuilt}
 use Rattle.tape_job.specs.declared.fault.JobFault.{JobFault}
 use Rattle.tape_job.specs.declared.fault.JobFault.TheVariants.{Refused, NoMemory}
 use Rattle.tape_job.specs.Job.{JobView, ProgramView}
-use Rattle.tape_job.specs.Lines.{Line, has_token, begins_with_percent, raw_lines}
-use Rattle.tape_job.specs.Told.{Told, told, reading_after, entries, axes_in, channel_from, axis_from, geo_from, zone_from, block_from, name_from, until_header, blocks_in, with_program, programs_in}
+use Rattle.tape_job.specs.Lines.{Line, has_token, begins_with_percent, raw_lines, text_of, before_comment}
+use Rattle.tape_job.specs.Told.{Told, told, reading_under, reading_after, accept_compensation, says_compensation, says_skip, any_after, last_of, option_in, entries, axes_in, channel_from, axis_from, geo_from, offset_from, zone_from, margin_from, depth_from, budget_from, block_from, name_from, until_header, blocks_in, with_program, programs_in}
 use Rattle.tape_job.specs.Read.{trial, first_trial, end_trial, answer, read_of, GivesRead}
 use Rattle.tape_job.specs.Steps.{with_entry, with_block_of, with_header, with_line, tell, unless_refused, run, finish, Tells}
 
@@ -43,6 +52,78 @@ entries_push give before (next ∷ lines) line =
     ap (cons_option (give before next)) (entries_push give (before ++ next ∷ []) lines line)
     ∙ cons_with_entry (give before next) (entries give (before ++ next ∷ []) lines) (give ((before ++ next ∷ []) ++ lines) line)
     ∙ ap (λ b. with_entry (cons_option (give before next) (entries give (before ++ next ∷ []) lines)) (give b line)) (append_assoc before (next ∷ []) lines)
+
+-- a test of each line in the light of those before it
+or_other : (a b c : Bool) → a || (b || c) ≡ b || (a || c)
+or_other true true c = refl
+or_other true false c = refl
+or_other false b c = refl
+
+any_after_push : (test : List Line → Line → Bool) (before lines : List Line) (line : Line)
+    → any_after test before (lines ++ line ∷ []) ≡ test (before ++ lines) line || any_after test before lines
+any_after_push test before [] line = ap (λ b. test b line || false) (sym (append-nil before))
+any_after_push test before (next ∷ lines) line =
+    ap (λ b. test before next || b) (any_after_push test (before ++ next ∷ []) lines line)
+    ∙ or_other (test before next) (test ((before ++ next ∷ []) ++ lines) line) (any_after test (before ++ next ∷ []) lines)
+    ∙ ap (λ b. test b line || (test before next || any_after test (before ++ next ∷ []) lines)) (append_assoc before (next ∷ []) lines)
+
+-- the last entry
+last_push : {A : Type 0} (xs : List A) (x : A) → last_of (xs ++ x ∷ []) ≡ Some x
+last_push [] x = refl
+last_push (y ∷ []) x = refl
+last_push (y ∷ z ∷ xs) x = last_push (z ∷ xs) x
+
+last_with_entry : {A : Type 0} (xs : List A) (entry : Option A) → last_of (with_entry xs entry) ≡ option_or entry (last_of xs)
+last_with_entry xs None = refl
+last_with_entry xs (Some x) = last_push xs x
+
+option_push : {A : Type 0} (give : Result ReadingView ℕ → Option A) (lines : List Line) (line : Line)
+    → option_in give (lines ++ line ∷ []) ≡ option_or (give (reading_after lines line.1)) (option_in give lines)
+option_push give lines line =
+    ap last_of (entries_push (λ before (l : Line). give (reading_after before l.1)) [] lines line)
+    ∙ last_with_entry (entries (λ before (l : Line). give (reading_after before l.1)) [] lines) (give (reading_after lines line.1))
+
+-- no block accepts compensation, so that a line does so hangs on no line before it that does
+step_accepts_none : (built : Bool) (block : BlockView) → says_compensation (if built then Ok (Step block) else Err (shown NotBuilt)) ≡ false
+step_accepts_none true block = refl
+step_accepts_none false block = refl
+
+block_accepts_none : (read : Result BlockView ℕ) → says_compensation (step_of read) ≡ false
+unfolding step_of
+block_accepts_none (Ok block) = step_accepts_none (is_built block.statement) block
+block_accepts_none (Err code) = refl
+
+tokens_accept_none : (compensation : Bool) (text : List ℕ) (tokens : Result (List Token) ScanFault) → says_compensation (tokens_reading compensation text tokens) ≡ false
+tokens_accept_none compensation text (Ok []) = refl
+tokens_accept_none compensation text (Ok (token ∷ tokens)) = block_accepts_none (statement_of (words_of text (token ∷ tokens)) compensation)
+tokens_accept_none compensation text (Err (fault.OpenText place)) = refl
+tokens_accept_none compensation text (Err _) = refl
+
+text_accepts_none : (compensation : Bool) (text : List ℕ) → says_compensation (block_reading compensation text) ≡ false
+unfolding block_reading
+text_accepts_none compensation text = tokens_accept_none compensation text (tokens_of text)
+
+accepts_alike : (long block : Bool) (a b other : Result ReadingView ℕ) → says_compensation a ≡ false → says_compensation b ≡ false
+    → says_compensation (if long then Err (shown LineTooLong) else if block then a else other) ≡ says_compensation (if long then Err (shown LineTooLong) else if block then b else other)
+accepts_alike true block a b other none_a none_b = refl
+accepts_alike false true a b other none_a none_b = none_a ∙ sym none_b
+accepts_alike false false a b other none_a none_b = refl
+
+compensation_alike : (seen in_programs compensation : Bool) (raw : List ℕ)
+    → says_compensation (reading_of seen in_programs false raw) ≡ says_compensation (reading_of seen in_programs compensation raw)
+unfolding reading_of
+compensation_alike seen in_programs compensation raw =
+    accepts_alike (nat_lt 512 (length raw)) (in_programs && not (begins_with_percent raw)) (block_reading false (text_of raw)) (block_reading compensation (text_of raw))
+    (with_shown (entry_reading seen (begins_with_percent raw) (before_comment (text_of raw))))
+    (text_accepts_none false (text_of raw)) (text_accepts_none compensation (text_of raw))
+
+accept_push : (lines : List Line) (line : Line)
+    → accept_compensation (lines ++ line ∷ []) ≡ says_compensation (reading_after lines line.1) || accept_compensation lines
+unfolding accept_compensation
+accept_push lines line =
+    any_after_push (λ before (l : Line). says_compensation (reading_under false before l.1)) [] lines line
+    ∙ ap (λ says. says || accept_compensation lines)
+    (compensation_alike (list_any (λ (l : Line). has_token l.1) lines) (list_any (λ (l : Line). begins_with_percent l.1) lines) (accept_compensation lines) line.1)
 
 -- the blocks of a program go on where no header follows
 abbrev extended : List (List ℕ × ProgramView) → ℕ → Result ReadingView ℕ → List (ℕ × BlockView) → List (ℕ × BlockView)
@@ -120,7 +201,13 @@ told-push lines line =
       entries_push (λ before (l : Line). channel_from l.0 (reading_after before l.1)) [] lines line,
       entries_push (λ before (l : Line). axis_from l.0 (reading_after before l.1)) [] lines line,
       entries_push (λ before (l : Line). geo_from (axes_in before) l.0 (reading_after before l.1)) [] lines line,
+      entries_push (λ before (l : Line). offset_from l.0 (reading_after before l.1)) [] lines line,
       entries_push (λ before (l : Line). zone_from (axes_in before) l.0 (reading_after before l.1)) [] lines line,
+      option_push margin_from lines line,
+      option_push depth_from lines line,
+      option_push budget_from lines line,
+      accept_push lines line,
+      any_after_push (λ before (l : Line). says_skip (reading_after before l.1)) [] lines line,
       programs_push [] lines line,
     )
     refl
@@ -134,16 +221,16 @@ step None now more rest job same = same
 step (Some refused) now more rest job same = refl
 
 read_lines_is : (before lines : List Line)
-    → answer (option_or (first_trial before lines) (end_trial (told (before ++ lines)))) (told (before ++ lines)).job ≡ finish (run (told before) lines)
+    → answer (option_or (first_trial before lines) (end_trial (told (before ++ lines)))) (job_of (told (before ++ lines)).job) ≡ finish (run (told before) lines)
 unfolding finish
 read_lines_is before [] = rw (append-nil before) refl
 read_lines_is before (line ∷ lines) =
-    let behind : answer (option_or (first_trial (before ++ line ∷ []) lines) (end_trial (told (before ++ line ∷ lines)))) (told (before ++ line ∷ lines)).job
+    let behind : answer (option_or (first_trial (before ++ line ∷ []) lines) (end_trial (told (before ++ line ∷ lines)))) (job_of (told (before ++ line ∷ lines)).job)
     ≡ finish (run (tell (told before) line) lines) =
-    ap (λ all. answer (option_or (first_trial (before ++ line ∷ []) lines) (end_trial (told all))) (told all).job) (sym (append_assoc before (line ∷ []) lines))
+    ap (λ all. answer (option_or (first_trial (before ++ line ∷ []) lines) (end_trial (told all))) (job_of (told all).job)) (sym (append_assoc before (line ∷ []) lines))
     ∙ read_lines_is (before ++ line ∷ []) lines
     ∙ ap (λ now. finish (run now lines)) (told-push before line) in
-    step (trial (told before) line) (told (before ++ line ∷ lines)) (first_trial (before ++ line ∷ []) lines) (run (tell (told before) line) lines) (told (before ++ line ∷ lines)).job behind
+    step (trial (told before) line) (told (before ++ line ∷ lines)) (first_trial (before ++ line ∷ []) lines) (run (tell (told before) line) lines) (job_of (told (before ++ line ∷ lines)).job) behind
 
 pub read_of_is : (bytes : List ℕ) → read_of bytes ≡ finish (run (told []) (enumerate_from 1 (raw_lines bytes)))
 unfolding read_of
@@ -162,7 +249,7 @@ read_refused bytes rest raw after reader new number NoMemory same lines tells = 
 -- where no line is left, the input is what is tried at the end
 pub read_finished : (bytes rest : List ℕ) (reader : Told) (number : ℕ)
     → run reader (enumerate_from (number + 1) (raw_lines rest)) ≡ run (told []) (enumerate_from 1 (raw_lines bytes))
-    → length rest ≡ 0 → read_of bytes ≡ answer (end_trial reader) reader.job
+    → length rest ≡ 0 → read_of bytes ≡ answer (end_trial reader) (job_of reader.job)
 unfolding finish
 read_finished bytes [] reader number same empty = read_of_is bytes ∙ ap finish (sym same)
 read_finished bytes (byte ∷ rest) reader number same empty = absurd (omega arith)

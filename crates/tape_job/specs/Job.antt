@@ -1,10 +1,11 @@
 -- What a contract sees of a job and of a program.
-use Rattle.std.specs.Prelude.{ℕ, List}
+use Rattle.std.specs.Prelude.{ℕ, ℤ, Bool, List}
 use Rattle.nc_blocks.specs.declared.blocks.Block.{Block}
 use Rattle.nc_blocks.specs.Statement.{BlockView, view_of}
 use Rattle.tape_job.specs.declared.job.ChannelLine.{ChannelLine}
 use Rattle.tape_job.specs.declared.job.AxisLine.{AxisLine}
 use Rattle.tape_job.specs.declared.job.GeoLine.{GeoLine}
+use Rattle.tape_job.specs.declared.job.OffsetLine.{OffsetLine}
 use Rattle.tape_job.specs.declared.job.ZoneLine.{ZoneLine}
 
 -- a block and its line
@@ -21,5 +22,11 @@ pub record JobView : Type 0 where
   pub channels : List ChannelLine
   pub axes : List AxisLine
   pub geo : List GeoLine
+  pub offsets : List OffsetLine
   pub zones : List ZoneLine
+  pub margin : ℤ
+  pub depth : ℕ
+  pub budget : ℕ
+  pub compensation : Bool
+  pub skip : Bool
   pub programs : List (List ℕ × ProgramView)

@@ -1,4 +1,5 @@
 pub mod Built
+pub mod Draft
 pub mod FirstRefusal
 pub mod Job
 pub mod Lines

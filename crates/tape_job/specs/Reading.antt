@@ -92,12 +92,12 @@ abbrev pub with_shown : Result ReadingView Code → Result ReadingView ℕ
 with_shown (Ok reading) = Ok reading
 with_shown (Err code) = Err (shown code)
 
--- what a line says, where a line before it has a token or not, and the programs have begun or not: a reading, or the code of its refusal.
--- A job cannot accept compensation yet.
-unfoldable pub reading_of : Bool → Bool → List ℕ → Result ReadingView ℕ
-reading_of seen in_programs raw =
+-- what a line says, where a line before it has a token or not, the programs have begun or not, and the job accepts tool radius compensation or not:
+-- a reading, or the code of its refusal
+unfoldable pub reading_of : Bool → Bool → Bool → List ℕ → Result ReadingView ℕ
+reading_of seen in_programs compensation raw =
     if nat_lt 512 (length raw) then Err (shown LineTooLong)
-    else if in_programs && not (begins_with_percent raw) then block_reading false (text_of raw)
+    else if in_programs && not (begins_with_percent raw) then block_reading compensation (text_of raw)
     else with_shown (entry_reading seen (begins_with_percent raw) (before_comment (text_of raw)))
 
 -- the call gives what is read, or the rule that is broken

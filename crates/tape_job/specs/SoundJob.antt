@@ -1,11 +1,12 @@
 -- What holds of every accepted job.
-use Rattle.std.specs.Prelude.{◌≡◌, ◌≢◌, ℕ, ◌<◌, ◌≤◌, ℤ, ◌≤ℤ◌, unsigned_abs, true, length, slice_get, Option, Some, IfSome, IsSomeAnd}
+use Rattle.std.specs.Prelude.{◌≡◌, ◌≢◌, ◌⊎◌, ℕ, ◌<◌, ◌≤◌, ℤ, pos, ◌≤ℤ◌, unsigned_abs, true, length, slice_get, Option, Some, None, IfSome, IsSomeAnd}
 use Rattle.std.specs.List.{All, Any, AllPairs}
 use Rattle.std.specs.Option.{option_and_then}
 use Rattle.nc_blocks.specs.Indices.{StatementFits}
 use Rattle.nc_control_flow.specs.Nested.{IsNested}
 use Rattle.tape_job.specs.declared.job.AxisLine.{AxisLine}
 use Rattle.tape_job.specs.declared.job.GeoLine.{GeoLine}
+use Rattle.tape_job.specs.declared.job.OffsetLine.{OffsetLine}
 use Rattle.tape_job.specs.declared.job.Side.{Side}
 use Rattle.tape_job.specs.declared.job.ZoneLine.{ZoneLine}
 use Rattle.tape_job.specs.Built.{is_built}
@@ -30,6 +31,25 @@ HaveOtherNames line other = line.letter ≡ other.letter → line.number ≢ oth
 abbrev pub HaveOtherSlots : GeoLine → GeoLine → Type 0
 HaveOtherSlots line other = line.channel ≡ other.channel → (line.slot ≢ other.slot) × (line.axis ≢ other.axis)
 
+-- two lines give the offsets of other channels, words or slots
+abbrev pub HaveOtherPlaces : OffsetLine → OffsetLine → Type 0
+HaveOtherPlaces line other = line.channel ≡ other.channel → line.g ≡ other.g → line.slot ≢ other.slot
+
+-- the words of settable offsets but G500, which has none: G54 to G57 and G505 to G599
+abbrev pub IsSettable : ℕ → Type 0
+IsSettable g = ((54 ≤ g) × (g ≤ 57)) ⊎ ((505 ≤ g) × (g ≤ 599))
+
+-- an offset of a declared channel
+pub record IsSoundOffset (job : JobView) (line : OffsetLine) : Type 0 where
+  pub declared : IsDeclared job line.channel
+  pub word : IsSettable line.g
+  pub slot : line.slot < 3
+  pub by : IsInReach line.by
+
+-- no channel holds both zones; any number of them may be held free
+abbrev pub HaveOtherHolders : ZoneLine → ZoneLine → Type 0
+HaveOtherHolders zone other = IfSome zone.holder (λ channel. other.holder ≢ Some channel)
+
 -- a side stands still, or an axis of this owner carries it
 abbrev pub IsCarriedBy : JobView → Option ℕ → Side → Type 0
 IsCarriedBy job owner side = IfSome side.carrier (λ carrier. first_owner job carrier.0 ≡ owner)
@@ -44,14 +64,15 @@ pub record IsSoundRange (lo hi : ℤ) : Type 0 where
   pub low : IsInReach lo
   pub high : IsInReach hi
 
--- a zone that is on, with a number and a group from 1 to 32, and three directions, carried by different axes of its holder
+-- a zone that is on, with a number and a group from 1 to 32, and three directions, carried by different axes of its holder, or by none where it is held free
 pub record IsSoundZone (job : JobView) (zone : ZoneLine) : Type 0 where
   pub low_number : 1 ≤ zone.zone
   pub high_number : zone.zone ≤ 32
   pub low_group : 1 ≤ zone.group
   pub high_group : zone.group ≤ 32
   pub active : zone.on ≡ true
-  pub held : IsSomeAnd zone.holder (IsDeclared job)
+  pub held : IfSome zone.holder (IsDeclared job)
+  pub still : zone.holder ≡ None → All (λ side. side.carrier ≡ None) zone.sides
   pub directions : length zone.sides ≡ 3
   pub carried : All (IsCarriedBy job zone.holder) zone.sides
   pub carriers : AllPairs HaveOtherCarriers zone.sides
@@ -62,10 +83,14 @@ pub record IsSoundProgram (program : ProgramView) : Type 0 where
   pub built : All (λ block. is_built block.1.statement ≡ true) program.blocks
   pub nested : IsNested program.blocks
 
+-- 0 to 1,000 millimetres
+abbrev pub IsSoundMargin : ℤ → Type 0
+IsSoundMargin margin = (pos 0 ≤ℤ margin) × (margin ≤ℤ pos 1000000)
+
 pub record IsSoundJob (job : JobView) : Type 0 where
   pub channel_numbers : AllPairs (λ line other. line.channel ≢ other.channel) job.channels
   pub low_channels : All (λ line. 1 ≤ line.channel) job.channels
-  pub high_channels : All (λ line. line.channel ≤ 2) job.channels
+  pub high_channels : All (λ line. line.channel ≤ 8) job.channels
   pub starting : All (λ line. line.starts ≡ true) job.channels
   pub selected : All (λ line. IsSomeAnd line.program (λ name. Any (λ program. program.0 ≡ name) job.programs)) job.channels
   pub few_axes : length job.axes ≤ 16
@@ -74,10 +99,14 @@ pub record IsSoundJob (job : JobView) : Type 0 where
   pub positions : All (λ line. IsInReach line.at) job.axes
   pub slot_numbers : AllPairs HaveOtherSlots job.geo
   pub slot_axes : All (λ g. g.axis < length job.axes) job.geo
-  pub slots : All (λ g. first_owner job g.axis ≡ Some g.channel) job.geo
+  pub offset_places : AllPairs HaveOtherPlaces job.offsets
+  pub offsets : All (IsSoundOffset job) job.offsets
   pub zone_numbers : AllPairs (λ zone other. zone.zone ≢ other.zone) job.zones
-  pub zone_holders : AllPairs (λ zone other. zone.holder ≢ other.holder) job.zones
+  pub zone_holders : AllPairs HaveOtherHolders job.zones
   pub zones : All (IsSoundZone job) job.zones
+  pub margin : IsSoundMargin job.margin
+  pub depth : job.depth ≡ 0
+  pub budget : (1 ≤ job.budget) × (job.budget ≤ 100000000)
   pub few_programs : length job.programs ≤ 256
   pub program_names : AllPairs (λ program other. program.0 ≢ other.0) job.programs
   pub programs : All (λ program. IsSoundProgram program.1) job.programs

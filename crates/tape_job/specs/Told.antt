@@ -1,42 +1,89 @@
 -- What lines tell together.
-use Rattle.std.specs.Prelude.{ℕ, Bool, true, List, [], ◌∷◌, ◌++◌, Result, Ok, Option, Some, None}
+use Rattle.std.specs.Prelude.{ℕ, ℤ, Bool, true, false, ◌||◌, List, [], ◌∷◌, ◌++◌, Result, Ok, Option, Some, None}
 use Rattle.std.specs.List.{list_any, cons_option}
 use Rattle.std.specs.Option.{option_map}
-use Rattle.job_lines.specs.declared.item.Item.TheVariants.{Channel, Axis, Geo, Zone}
+use Rattle.job_lines.specs.declared.item.Item.TheVariants.{Channel, Axis, Geo, Offset, Zone, Margin, Depth, Budget, Compensation, Skip}
+use Rattle.job_lines.specs.declared.item.NamedZone.{NamedZone}
 use Rattle.nc_blocks.specs.Statement.{BlockView}
 use Rattle.tape_job.specs.declared.job.ChannelLine.{ChannelLine}
 use Rattle.tape_job.specs.declared.job.AxisLine.{AxisLine}
 use Rattle.tape_job.specs.declared.job.GeoLine.{GeoLine}
+use Rattle.tape_job.specs.declared.job.OffsetLine.{OffsetLine}
 use Rattle.tape_job.specs.declared.job.ZoneLine.{ZoneLine}
 use Rattle.tape_job.specs.declared.job.Side.{Side}
-use Rattle.tape_job.specs.Job.{JobView, ProgramView}
+use Rattle.tape_job.specs.Draft.{DraftView}
+use Rattle.tape_job.specs.Job.{ProgramView}
 use Rattle.tape_job.specs.Lines.{Line, has_token, begins_with_percent}
 use Rattle.tape_job.specs.Reading.{ReadingView, Entry, Header, Step, reading_of}
 use Rattle.tape_job.specs.Rules.{axis_of, side_of}
 
--- what lines have told: whether one has a token, whether one begins with '%', where the programs begin, and the job so far
+-- what lines have told: whether one has a token, whether one begins with '%', where the programs begin, and the job list and programs so far
 pub record Told : Type 0 where
   pub seen : Bool
   pub in_programs : Bool
-  pub job : JobView
+  pub job : DraftView
+
+-- what a line says that follows the given lines, where the job accepts tool radius compensation or not
+abbrev pub reading_under : Bool → List Line → List ℕ → Result ReadingView ℕ
+reading_under compensation before raw =
+    reading_of (list_any (λ line. has_token line.1) before) (list_any (λ line. begins_with_percent line.1) before) compensation raw
+
+abbrev pub says_compensation : Result ReadingView ℕ → Bool
+says_compensation (Ok (Entry Compensation)) = true
+says_compensation reading = false
+
+abbrev pub says_skip : Result ReadingView ℕ → Bool
+says_skip (Ok (Entry Skip)) = true
+says_skip reading = false
+
+-- a line passes a test in the light of the lines before it
+abbrev pub any_after : (List Line → Line → Bool) → List Line → List Line → Bool
+any_after test before [] = false
+any_after test before (line ∷ lines) = test before line || any_after test (before ++ line ∷ []) lines
+
+-- a line accepts compensation; that it does so hangs on no other line that does
+unfoldable pub accept_compensation : List Line → Bool
+accept_compensation lines = any_after (λ before line. says_compensation (reading_under false before line.1)) [] lines
 
 -- what a line says that follows the given lines
 abbrev pub reading_after : List Line → List ℕ → Result ReadingView ℕ
-reading_after before raw = reading_of (list_any (λ line. has_token line.1) before) (list_any (λ line. begins_with_percent line.1) before) raw
+reading_after before raw = reading_under (accept_compensation before) before raw
 
 -- what each line gives in the light of the lines before it
 abbrev pub entries : {A : Type 0} → (List Line → Line → Option A) → List Line → List Line → List A
 entries give before [] = []
 entries give before (line ∷ lines) = cons_option (give before line) (entries give (before ++ line ∷ []) lines)
 
+-- the last entry of a list
+abbrev pub last_of : {A : Type 0} → List A → Option A
+last_of [] = None
+last_of (x ∷ []) = Some x
+last_of (x ∷ y ∷ xs) = last_of (y ∷ xs)
+
 -- what a line of the input tells by what it says
 abbrev pub channel_from : ℕ → Result ReadingView ℕ → Option ChannelLine
-channel_from number (Ok (Entry (Channel channel program))) = Some (record { line = number; channel = channel; program = Some program; starts = true })
+channel_from number (Ok (Entry (Channel channel program starts))) = Some (record { line = number; channel = channel; program = program; starts = starts })
 channel_from number reading = None
 
 abbrev pub axis_from : ℕ → Result ReadingView ℕ → Option AxisLine
-axis_from number (Ok (Entry (Axis name owner at))) = Some (record { line = number; letter = name.letter; number = name.number; owner = Some owner; at = at })
+axis_from number (Ok (Entry (Axis name owner at))) = Some (record { line = number; letter = name.letter; number = name.number; owner = owner; at = at })
 axis_from number reading = None
+
+abbrev pub offset_from : ℕ → Result ReadingView ℕ → Option OffsetLine
+offset_from number (Ok (Entry (Offset channel g slot by))) = Some (record { line = number; channel = channel; g = g; slot = slot; by = by })
+offset_from number reading = None
+
+abbrev pub margin_from : Result ReadingView ℕ → Option ℤ
+margin_from (Ok (Entry (Margin margin))) = Some margin
+margin_from reading = None
+
+abbrev pub depth_from : Result ReadingView ℕ → Option ℕ
+depth_from (Ok (Entry (Depth depth))) = Some depth
+depth_from reading = None
+
+abbrev pub budget_from : Result ReadingView ℕ → Option ℕ
+budget_from (Ok (Entry (Budget budget))) = Some budget
+budget_from reading = None
 
 abbrev pub geo_line : ℕ → ℕ → ℕ → Option ℕ → Option GeoLine
 geo_line number channel slot axis = option_map (λ axis. record { line = number; channel = channel; slot = slot; axis = axis }) axis
@@ -45,13 +92,13 @@ abbrev pub geo_from : List AxisLine → ℕ → Result ReadingView ℕ → Optio
 geo_from axes number (Ok (Entry (Geo channel slot axis))) = geo_line number channel slot (axis_of axes axis)
 geo_from axes number reading = None
 
-abbrev pub zone_line : ℕ → ℕ → ℕ → ℕ → Option Side → Option Side → Option Side → Option ZoneLine
-zone_line number zone group holder (Some x) (Some y) (Some z) =
-    Some (record { line = number; zone = zone; group = group; holder = Some holder; on = true; sides = x ∷ y ∷ z ∷ [] })
-zone_line number zone group holder x y z = None
+abbrev pub zone_line : ℕ → NamedZone → Option Side → Option Side → Option Side → Option ZoneLine
+zone_line number zone (Some x) (Some y) (Some z) =
+    Some (record { line = number; zone = zone.zone; group = zone.group; holder = zone.holder; on = zone.on; sides = x ∷ y ∷ z ∷ [] })
+zone_line number zone x y z = None
 
 abbrev pub zone_from : List AxisLine → ℕ → Result ReadingView ℕ → Option ZoneLine
-zone_from axes number (Ok (Entry (Zone zone group holder x y z))) = zone_line number zone group holder (side_of axes x) (side_of axes y) (side_of axes z)
+zone_from axes number (Ok (Entry (Zone zone))) = zone_line number zone (side_of axes zone.x) (side_of axes zone.y) (side_of axes zone.z)
 zone_from axes number reading = None
 
 abbrev pub block_from : ℕ → Result ReadingView ℕ → Option (ℕ × BlockView)
@@ -86,6 +133,10 @@ programs_in before (line ∷ lines) =
 abbrev pub axes_in : List Line → List AxisLine
 axes_in lines = entries (λ before line. axis_from line.0 (reading_after before line.1)) [] lines
 
+-- the option that a line gives; where no line is refused, there is one such line at most
+abbrev pub option_in : {A : Type 0} → (Result ReadingView ℕ → Option A) → List Line → Option A
+option_in give lines = last_of (entries (λ before line. give (reading_after before line.1)) [] lines)
+
 unfoldable pub told : List Line → Told
 told lines = record {
   seen = list_any (λ line. has_token line.1) lines;
@@ -94,7 +145,13 @@ told lines = record {
     channels = entries (λ before line. channel_from line.0 (reading_after before line.1)) [] lines;
     axes = axes_in lines;
     geo = entries (λ before line. geo_from (axes_in before) line.0 (reading_after before line.1)) [] lines;
+    offsets = entries (λ before line. offset_from line.0 (reading_after before line.1)) [] lines;
     zones = entries (λ before line. zone_from (axes_in before) line.0 (reading_after before line.1)) [] lines;
+    margin = option_in margin_from lines;
+    depth = option_in depth_from lines;
+    budget = option_in budget_from lines;
+    compensation = accept_compensation lines;
+    skip = any_after (λ before line. says_skip (reading_after before line.1)) [] lines;
     programs = programs_in [] lines;
   };
 }

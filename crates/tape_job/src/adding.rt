@@ -1,15 +1,15 @@
 //! What a line adds to a job.
 use crate::draft::Draft;
 use crate::reading::{LineFault, Reading};
-use crate::{AxisLine, ChannelLine, GeoLine, ZoneLine};
-use axis_sets::{ChannelId, ZoneId};
-use job_lines::{AxisName, Item, NamedSide};
+use crate::{AxisLine, ChannelLine, GeoLine, OffsetLine, ZoneLine};
+use axis_sets::ChannelId;
+use job_lines::{AxisName, Item, NamedZone};
 use micro_units::Um;
 use nc_blocks::NameText;
 use std::alloc::{AllocError, Global};
 
 impl Draft {
-    ghost use Rattle.std.specs.Prelude.{◌≡◌, ◌<◌, ◌^◌, [], ◌∷◌, ◌++◌, Ok, OnOk, IfErr, Some, None, true, false};
+    ghost use Rattle.std.specs.Prelude.{◌≡◌, ◌<◌, ◌^◌, [], ◌∷◌, ◌++◌, Ok, OnOk, IfErr, None};
     ghost use Rattle.tape_job.specs.Read.{code_by};
     ghost use Rattle.tape_job.specs.Reading.{Entry, reading_view, FaultIsListed};
     ghost use Rattle.tape_job.specs.Rules.{axis_of, side_of, last_count, rule_of};
@@ -21,18 +21,19 @@ impl Draft {
         &mut self,
         line: u32,
         channel: ChannelId,
-        program: NameText,
+        program: Option<NameText>,
+        starts: bool,
     ) -> Result<(), AllocError>
         ensures { OnOk result (self.new ≡ record self.old {
           channels = self.old.channels
-              ++ record { line = line; channel = channel; program = Some program; starts = true } ∷ [];
+              ++ record { line = line; channel = channel; program = program; starts = starts } ∷ [];
         }) }
     {
         self.channels.push(ChannelLine {
             line,
             channel,
-            program: Some(program),
-            starts: true,
+            program,
+            starts,
         })?;
         Ok(())
     }
@@ -42,19 +43,19 @@ impl Draft {
         &mut self,
         line: u32,
         name: AxisName,
-        owner: ChannelId,
+        owner: Option<ChannelId>,
         at: Um,
     ) -> Result<(), AllocError>
         ensures { OnOk result (self.new ≡ record self.old {
           axes = self.old.axes
-              ++ record { line = line; letter = name.letter; number = name.number; owner = Some owner; at = at } ∷ [];
+              ++ record { line = line; letter = name.letter; number = name.number; owner = owner; at = at } ∷ [];
         }) }
     {
         self.axes.push(AxisLine {
             line,
             letter: name.letter,
             number: name.number,
-            owner: Some(owner),
+            owner,
             at,
         })?;
         Ok(())
@@ -84,31 +85,48 @@ impl Draft {
         Ok(())
     }
 
-    /// Adds a zone, if its carriers are there.
-    fn add_zone(
+    /// Adds an offset.
+    fn add_offset(
         &mut self,
         line: u32,
-        zone: ZoneId,
-        group: u8,
-        holder: ChannelId,
-        sides: (NamedSide, NamedSide, NamedSide),
+        channel: ChannelId,
+        g: u16,
+        slot: u8,
+        by: Um,
     ) -> Result<(), AllocError>
         ensures { OnOk result (self.new ≡ record self.old {
+          offsets = self.old.offsets
+              ++ record { line = line; channel = channel; g = g; slot = slot; by = by } ∷ [];
+        }) }
+    {
+        self.offsets.push(OffsetLine {
+            line,
+            channel,
+            g,
+            slot,
+            by,
+        })?;
+        Ok(())
+    }
+
+    /// Adds a zone, if its carriers are there.
+    fn add_zone(&mut self, line: u32, zone: NamedZone) -> Result<(), AllocError>
+        ensures { OnOk result (self.new ≡ record self.old {
           zones = with_entry self.old.zones
-              (zone_line line zone group holder (side_of self.old.axes sides.0) (side_of self.old.axes sides.1) (side_of self.old.axes sides.2));
+              (zone_line line zone (side_of self.old.axes zone.x) (side_of self.old.axes zone.y) (side_of self.old.axes zone.z));
         }) }
     {
         if let (Some(x), Some(y), Some(z)) = (
-            self.side_of(sides.0),
-            self.side_of(sides.1),
-            self.side_of(sides.2),
+            self.side_of(zone.x),
+            self.side_of(zone.y),
+            self.side_of(zone.z),
         ) {
             self.zones.push(ZoneLine {
                 line,
-                zone,
-                group,
-                holder: Some(holder),
-                on: true,
+                zone: zone.zone,
+                group: zone.group,
+                holder: zone.holder,
+                on: zone.on,
                 sides: [x, y, z],
             })?;
         }
@@ -121,13 +139,31 @@ impl Draft {
         ensures { OnOk result (self.new ≡ with_line self.old line (Ok (Entry item))) }
     {
         match item {
-            Item::Channel(channel, program) => self.add_channel(line, channel, program),
-            Item::Axis(name, owner, at) => self.add_axis(line, name, owner, at),
-            Item::Geo(channel, slot, axis) => self.add_geo(line, channel, slot, axis),
-            Item::Zone(zone, group, holder, x, y, z) => {
-                self.add_zone(line, zone, group, holder, (x, y, z))
-            }
+            Item::Channel {
+                channel,
+                program,
+                starts,
+            } => self.add_channel(line, channel, program, starts)?,
+            Item::Axis { name, owner, at } => self.add_axis(line, name, owner, at)?,
+            Item::Geo {
+                channel,
+                slot,
+                axis,
+            } => self.add_geo(line, channel, slot, axis)?,
+            Item::Offset {
+                channel,
+                g,
+                slot,
+                by,
+            } => self.add_offset(line, channel, g, slot, by)?,
+            Item::Zone(zone) => self.add_zone(line, zone)?,
+            Item::Margin(margin) => self.margin = Some(margin),
+            Item::Depth(depth) => self.depth = Some(depth),
+            Item::Budget(budget) => self.budget = Some(budget),
+            Item::Compensation => self.compensation = true,
+            Item::Skip => self.skip = true,
         }
+        Ok(())
     }
 
     /// Adds what a line says that breaks no rule, but that a block may break the structures of its program.

@@ -1,17 +1,25 @@
 //! The blocks that are built.
-ghost use Rattle.std.specs.Prelude.{◌≡◌, map, length, filter};
+ghost use Rattle.std.specs.Prelude.{◌≡◌};
 ghost use Rattle.std.specs.List.{list_all};
 ghost use Rattle.nc_blocks.specs.Statement.{word_view, statement_view};
-ghost use Rattle.tape_job.specs.Built.{is_slot, is_built_word, is_g, are_built, is_built};
+ghost use Rattle.tape_job.specs.Built.{is_centre, is_later_g, is_built_word, is_built};
 
-use nc_blocks::{Measure, Stmt, Word};
+use nc_blocks::{Stmt, Word};
 
-/// Whether the address is the letter of a slot.
-#[tactic(auto, unfolding(crate::specs::Built::is_slot))]
-fn is_slot(address: &[u8]) -> bool
-    ensures { result ≡ is_slot address.now }
+/// Whether the address is a word of the centre of an arc.
+#[tactic(auto, unfolding(crate::specs::Built::is_centre))]
+fn is_centre(address: &[u8]) -> bool
+    ensures { result ≡ is_centre address.now }
 {
-    address == b"X".as_slice() || address == b"Y".as_slice() || address == b"Z".as_slice()
+    address == b"I".as_slice() || address == b"J".as_slice() || address == b"K".as_slice()
+}
+
+/// Whether the word is G2, G3 or RTLIOF.
+#[tactic(auto, unfolding(crate::specs::Built::is_later_g))]
+fn is_later_g(group: u8, code: u16) -> bool
+    ensures { result ≡ is_later_g group code }
+{
+    (group == 1 && (code == 2 || code == 3)) || (group == 0 && code == 2)
 }
 
 /// Whether the word is built.
@@ -21,54 +29,27 @@ fn is_built_word(word: &Word) -> bool
 {
     match word {
         Word::Assign(..) | Word::AssignAt(..) | Word::Aux(..) | Word::End => true,
-        Word::G(group, code) => *group == 1 && *code <= 1,
-        Word::Axis(address, measure, _) => {
-            is_slot(address.as_slice()) && *measure == Measure::Modal
-        }
+        Word::G(group, code) => !is_later_g(*group, *code),
+        Word::Axis(address, _, _) => !is_centre(address.as_slice()),
         Word::Radius(_) => false,
     }
 }
 
-/// Whether the word is one of a group.
-fn is_g(word: &Word) -> bool
-    ensures { result ≡ is_g (word_view word.now) }
-{
-    match word {
-        Word::G(..) => true,
-        _ => false,
-    }
-}
-
 /// Whether each word is built.
-fn are_built_words(words: &[Word]) -> bool
+fn are_built(words: &[Word]) -> bool
     ensures { result ≡ list_all (λ word. is_built_word (word_view word)) words.now }
 {
     words.iter().all(|word| is_built_word(word))
 }
 
-/// How many of the words are words of a group.
-fn groups_in(words: &[Word]) -> usize
-    ensures { result ≡ length (filter (λ word. is_g (word_view word)) words.now) }
-{
-    words.iter().filter(|word| is_g(word)).count()
-}
-
-/// Whether the words are built, with one word of a group at most.
-#[tactic(auto, using(crate::proofs::BuiltLemmas::all_built, crate::proofs::BuiltLemmas::count_g), unfolding(crate::specs::Built::are_built))]
-fn are_built(words: &[Word]) -> bool
-    ensures { result ≡ are_built (map word_view words.now) }
-{
-    are_built_words(words) && groups_in(words) <= 1
-}
-
 /// Whether the block is built.
-#[tactic(auto, unfolding(crate::specs::Built::is_built))]
+#[tactic(auto, using(crate::proofs::BuiltLemmas::all_built), unfolding(crate::specs::Built::is_built))]
 pub(crate) fn is_built(stmt: &Stmt) -> bool
     ensures { result ≡ is_built (statement_view stmt.now) }
 {
     match stmt {
         Stmt::Words(words) => are_built(words.as_slice()),
-        Stmt::Shape(..) | Stmt::Turn(..) | Stmt::Coord(..) => false,
+        Stmt::Coord(..) => false,
         _ => true,
     }
 }

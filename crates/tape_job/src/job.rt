@@ -15,8 +15,20 @@ pub struct Job {
     pub axes: Vec<AxisLine>,
     /// The slots of the channels.
     pub geo: Vec<GeoLine>,
+    /// The settable offsets; one that no line gives is 0.
+    pub offsets: Vec<OffsetLine>,
     /// The protection zones.
     pub zones: Vec<ZoneLine>,
+    /// By how much each zone is grown at both ends of each direction, 0 to 1,000 millimetres; 0 where no line gives it.
+    pub margin: Um,
+    /// How often a motion is halved to be compared in pieces, 0 to 4; 0 where no line gives it.
+    pub depth: u8,
+    /// How many pairs of places may be compared, 1 to 100,000,000; 1,000,000 where no line gives it.
+    pub budget: u32,
+    /// Whether the programs may have G41 and G42.
+    pub compensation: bool,
+    /// Whether blocks that begin with `/` are left out.
+    pub skip: bool,
     /// The programs by their names.
     pub programs: IndexMap<NameText, Program>,
 }
@@ -34,7 +46,13 @@ impl Model for Job {
       channels = j.channels.items;
       axes = j.axes.items;
       geo = j.geo.items;
+      offsets = j.offsets.items;
       zones = j.zones.items;
+      margin = j.margin;
+      depth = j.depth;
+      budget = j.budget;
+      compensation = j.compensation;
+      skip = j.skip;
       programs = j.programs.entries;
     } };
 }
@@ -78,6 +96,21 @@ pub struct GeoLine {
     pub slot: u8,
     /// The axis.
     pub axis: AxisId,
+}
+
+/// An OFFSET line: a settable offset of a slot of a channel.
+#[derive(Clone, Copy, Debug, PartialEq, Eq)]
+pub struct OffsetLine {
+    /// The line of the input, counted from 1.
+    pub line: u32,
+    /// The channel.
+    pub channel: ChannelId,
+    /// The number of the G word that selects it, 54 to 57 or 505 to 599.
+    pub g: u16,
+    /// The slot: 0 for X, 1 for Y, 2 for Z.
+    pub slot: u8,
+    /// The offset, at most 10,000 millimetres in size.
+    pub by: Um,
 }
 
 /// A ZONE line.

@@ -16,6 +16,6 @@ mod reading;
 mod rules;
 
 pub use fault::JobFault;
-pub use job::{AxisLine, ChannelLine, GeoLine, Job, Program, Side, ZoneLine};
+pub use job::{AxisLine, ChannelLine, GeoLine, Job, OffsetLine, Program, Side, ZoneLine};
 pub use laws::{accepted_jobs_are_sound, refusals_are_first};
 pub use read::read_job;

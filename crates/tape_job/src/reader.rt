@@ -34,16 +34,17 @@ impl Reader {
     ghost use Rattle.nc_faults.specs.Texts.{IsRefusalCode};
     ghost use Rattle.tape_job.specs.Reading.{reading_view, reading_of, ReadingFits, FaultIsListed};
     ghost use Rattle.tape_job.specs.Rules.{last_count, rule_of};
+    ghost use Rattle.tape_job.specs.Draft.{job_of};
     ghost use Rattle.tape_job.specs.SoundJob.{BlocksFit};
     ghost use Rattle.tape_job.specs.Told.{told};
     ghost use Rattle.tape_job.specs.Read.{answer, code_by, end_of_program, end_trial, GivesRead, IsListed};
     ghost use Rattle.tape_job.specs.Steps.{tell, Adds, Admits, Tells};
 
     /// A reader to which no line is told.
-    #[tactic(auto, using(crate::proofs::FitLemmas::nothing_fits, crate::proofs::FitLemmas::nothing_short), unfolding(crate::specs::Told::told))]
+    #[tactic(auto, using(crate::proofs::FitLemmas::nothing_fits, crate::proofs::FitLemmas::nothing_short), unfolding(crate::specs::Told::told, crate::specs::Told::accept_compensation))]
     pub(crate) fn new(alloc: Global) -> Reader
         ensures value { result ≡ told [] }
-        ensures fits { BlocksFit result.job }
+        ensures fits { BlocksFit (job_of result.job) }
         ensures count { last_count result.job.programs ≡ 0 }
     {
         Reader {
@@ -73,7 +74,13 @@ impl Reader {
         ensures fits { IfOk result (λ reading. ReadingFits (reading_view reading)) }
         ensures listed { IfErr result IsListed }
     {
-        match reading_in(alloc, self.seen, self.in_programs, raw) {
+        match reading_in(
+            alloc,
+            self.seen,
+            self.in_programs,
+            self.job.compensation,
+            raw,
+        ) {
             Ok(reading) => match self.job.rule(&reading) {
                 Some(code) => Err(JobFault::Refused(refusal(code, number))),
                 None => Ok(reading),
@@ -92,7 +99,7 @@ impl Reader {
         raw: &[u8],
         reading: Reading,
     ) -> Result<(), LineFault>
-        requires said { reading_of self.old.seen self.old.in_programs raw.now ≡ Ok (reading_view reading) }
+        requires said { reading_of self.old.seen self.old.in_programs self.old.job.compensation raw.now ≡ Ok (reading_view reading) }
         requires admitted { rule_of self.old.job (reading_view reading) ≡ None }
         requires short { last_count self.old.job.programs < 2 ^ 32 }
         ensures exact { Adds (code_by self.old.job number (Ok (reading_view reading))) (tell self.old (number, raw.now)) result self.new }
@@ -109,7 +116,7 @@ impl Reader {
     pub(crate) fn line(&mut self, alloc: Global, number: u32, raw: &[u8]) -> Result<(), JobFault>
         requires short { last_count self.old.job.programs < 2 ^ 32 }
         ensures exact { Tells self.old (number, raw.now) result self.new }
-        ensures fits { BlocksFit self.old.job → OnOk result (BlocksFit self.new.job) }
+        ensures fits { BlocksFit (job_of self.old.job) → OnOk result (BlocksFit (job_of self.new.job)) }
         ensures count { OnOk result (last_count self.new.job.programs ≤ last_count self.old.job.programs + 1) }
         ensures listed { IfErr result IsListed }
     {
@@ -128,7 +135,7 @@ impl Reader {
     #[tactic(auto, unfolding(crate::specs::Read::end_trial))]
     pub(crate) fn finish(self, alloc: Global) -> Result<Job, JobFault>
         requires { last_count self.job.programs < 2 ^ 32 }
-        ensures exact { GivesRead result (answer (end_trial self) self.job) }
+        ensures exact { GivesRead result (answer (end_trial self) (job_of self.job)) }
         ensures listed { IfErr result IsListed }
     {
         let Reader {

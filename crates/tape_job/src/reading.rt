@@ -195,15 +195,16 @@ fn block_reading_in(alloc: Global, compensation: bool, text: &[u8]) -> Result<Re
     }
 }
 
-/// What a line says, where a line before it has a token or not, and the programs have begun or not.
+/// What a line says, where a line before it has a token or not, the programs have begun or not, and the job accepts tool radius compensation or not.
 #[tactic(auto, unfolding(crate::specs::Reading::reading_of))]
 pub(crate) fn reading_in(
     alloc: Global,
     seen: bool,
     in_programs: bool,
+    compensation: bool,
     raw: &[u8],
 ) -> Result<Reading, LineFault>
-    ensures exact { Gives result (reading_of seen in_programs raw.now) }
+    ensures exact { Gives result (reading_of seen in_programs compensation raw.now) }
     ensures fits { IfOk result (λ reading. ReadingFits (reading_view reading)) }
     ensures listed { IfErr result FaultIsListed }
 {
@@ -212,7 +213,7 @@ pub(crate) fn reading_in(
     }
     let percent = begins_with_percent(raw);
     if in_programs && !percent {
-        block_reading_in(alloc, false, text_in(raw))
+        block_reading_in(alloc, compensation, text_in(raw))
     } else {
         entry_reading_in(alloc, seen, percent, before_comment(text_in(raw)))
     }

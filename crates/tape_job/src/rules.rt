@@ -1,12 +1,12 @@
 //! What a line breaks against what the lines before it told.
 ghost use Rattle.std.specs.Prelude.{◌≡◌, position};
 ghost use Rattle.std.specs.Option.{option_copied};
-ghost use Rattle.tape_job.specs.Rules.{is_named, axis_at, is_channel, is_owned_line, side_with, is_carrier, same_carrier, same_axis};
+ghost use Rattle.tape_job.specs.Rules.{is_named, axis_at, is_same_owner, is_owned_line, side_with, same_axis, option_rule, unless_built};
 
 use crate::draft::Draft;
 use crate::{AxisLine, Side};
 use axis_sets::{AxisId, ChannelId, ZoneId};
-use job_lines::{AxisName, Code, Item, NamedSide};
+use job_lines::{AxisName, Code, Item, NamedSide, NamedZone};
 
 /// Whether the axis has this name.
 fn is_named(name: AxisName, line: &AxisLine) -> bool
@@ -33,22 +33,23 @@ fn axis_at(place: usize) -> Option<AxisId>
     }
 }
 
-/// Whether the channel is there, and this one.
-fn is_channel(channel: ChannelId, other: Option<ChannelId>) -> bool
-    ensures { result ≡ is_channel channel other }
+/// Whether both are the same channel, or both free.
+fn is_same_owner(owner: Option<ChannelId>, other: Option<ChannelId>) -> bool
+    ensures { result ≡ is_same_owner owner other }
 {
-    match other {
-        Some(other) => other == channel,
-        None => false,
+    match (owner, other) {
+        (Some(owner), Some(other)) => owner == other,
+        (None, None) => true,
+        _ => false,
     }
 }
 
-/// Whether the axis is there, and the channel owns it.
-fn is_owned_line(channel: ChannelId, line: Option<&AxisLine>) -> bool
-    ensures { result ≡ is_owned_line channel (option_copied line.entry) }
+/// Whether the axis is there, and this is its owner.
+fn is_owned_line(owner: Option<ChannelId>, line: Option<&AxisLine>) -> bool
+    ensures { result ≡ is_owned_line owner (option_copied line.entry) }
 {
     match line {
-        Some(line) => is_channel(channel, line.owner),
+        Some(line) => is_same_owner(line.owner, owner),
         None => false,
     }
 }
@@ -75,9 +76,27 @@ fn same_axis(a: Side, b: Side) -> bool
     }
 }
 
+/// What a line of an option breaks, where one gave the option already or none did.
+fn option_rule(given: bool) -> Option<Code>
+    ensures { result ≡ option_rule given }
+{
+    if given {
+        Some(Code::DeclaredTwice)
+    } else {
+        None
+    }
+}
+
+/// What a line breaks that is built or not.
+fn unless_built(built: bool) -> Option<Code>
+    ensures { result ≡ unless_built built }
+{
+    if built { None } else { Some(Code::NotBuilt) }
+}
+
 impl Draft {
-    ghost use Rattle.std.specs.Prelude.{◌≡◌};
-    ghost use Rattle.tape_job.specs.Rules.{has_channel, axis_of, has_axis, has_slot, has_slot_axis, owns, has_zone, holds_zone, channel_rule, axis_rule, slot_rule, side_of, owns_carrier, sides_rule, zone_rule, item_rule};
+    ghost use Rattle.std.specs.Prelude.{◌≡◌, Some};
+    ghost use Rattle.tape_job.specs.Rules.{has_channel, axis_of, has_axis, has_slot, has_slot_axis, has_owner, has_offset, owns, has_zone, holds_zone, holds_another, channel_rule, axis_rule, slot_rule, offset_rule, side_of, owns_carrier, sides_rule, zone_rule, declaration_rule, built_rule, item_rule};
 
     /// Whether a line declares the channel.
     #[tactic(auto, unfolding(crate::specs::Rules::has_channel))]
@@ -126,12 +145,31 @@ impl Draft {
             .any(|line| line.channel == channel && line.axis == axis)
     }
 
-    /// Whether the channel owns the axis.
-    #[tactic(auto, unfolding(crate::specs::Rules::owns))]
-    fn owns(&self, channel: ChannelId, axis: AxisId) -> bool
-        ensures { result ≡ owns self.now channel axis }
+    /// Whether the owner or holder is declared, if it is a channel.
+    #[tactic(auto, unfolding(crate::specs::Rules::has_owner))]
+    fn has_owner(&self, owner: Option<ChannelId>) -> bool
+        ensures { result ≡ has_owner self.now owner }
     {
-        is_owned_line(channel, self.axes.get(axis.index as usize))
+        match owner {
+            Some(channel) => self.has_channel(channel),
+            None => true,
+        }
+    }
+
+    /// Whether a line gives the offset of this channel, G word and slot.
+    #[tactic(auto, unfolding(crate::specs::Rules::has_offset))]
+    fn has_offset(&self, channel: ChannelId, g: u16, slot: u8) -> bool
+        ensures { result ≡ has_offset self.now channel g slot }
+    {
+        self.offsets.iter().any(|line| line.channel == channel && line.g == g && line.slot == slot)
+    }
+
+    /// Whether the axis is there and has this owner, or is free where this is none.
+    #[tactic(auto, unfolding(crate::specs::Rules::owns))]
+    fn owns(&self, owner: Option<ChannelId>, axis: AxisId) -> bool
+        ensures { result ≡ owns self.now owner axis }
+    {
+        is_owned_line(owner, self.axes.get(axis.index as usize))
     }
 
     /// Whether a line declares the zone.
@@ -149,7 +187,17 @@ impl Draft {
     {
         self.zones
             .iter()
-            .any(|line| is_channel(channel, line.holder))
+            .any(|line| is_same_owner(line.holder, Some(channel)))
+    }
+
+    /// Whether the holder is a channel that holds a zone already.
+    fn holds_another(&self, holder: Option<ChannelId>) -> bool
+        ensures { result ≡ holds_another self.now holder }
+    {
+        match holder {
+            Some(channel) => self.holds_zone(channel),
+            None => false,
+        }
     }
 
     /// What a CHANNEL line breaks.
@@ -166,10 +214,10 @@ impl Draft {
 
     /// What an AXIS line breaks.
     #[tactic(auto, unfolding(crate::specs::Rules::axis_rule))]
-    fn axis_rule(&self, name: AxisName, owner: ChannelId) -> Option<Code>
+    fn axis_rule(&self, name: AxisName, owner: Option<ChannelId>) -> Option<Code>
         ensures { result ≡ axis_rule self.now name owner }
     {
-        if !self.has_channel(owner) {
+        if !self.has_owner(owner) {
             Some(Code::NotDeclared)
         } else if self.has_axis(name) {
             Some(Code::DeclaredTwice)
@@ -192,8 +240,20 @@ impl Draft {
             Some(Code::NotDeclared)
         } else if self.has_slot(channel, slot) || self.has_slot_axis(channel, axis) {
             Some(Code::DeclaredTwice)
-        } else if !self.owns(channel, axis) {
-            Some(Code::NotBuilt)
+        } else {
+            None
+        }
+    }
+
+    /// What an OFFSET line breaks.
+    #[tactic(auto, unfolding(crate::specs::Rules::offset_rule))]
+    fn offset_rule(&self, channel: ChannelId, g: u16, slot: u8) -> Option<Code>
+        ensures { result ≡ offset_rule self.now channel g slot }
+    {
+        if !self.has_channel(channel) {
+            Some(Code::NotDeclared)
+        } else if self.has_offset(channel, g, slot) {
+            Some(Code::DeclaredTwice)
         } else {
             None
         }
@@ -213,9 +273,9 @@ impl Draft {
         }
     }
 
-    /// Whether the channel owns the carrier of the direction, if it has one.
+    /// Whether the carrier of the direction has this owner, if there is a carrier.
     #[tactic(auto, unfolding(crate::specs::Rules::owns_carrier))]
-    fn owns_carrier(&self, holder: ChannelId, side: Side) -> bool
+    fn owns_carrier(&self, holder: Option<ChannelId>, side: Side) -> bool
         ensures { result ≡ owns_carrier self.now holder side }
     {
         match side.carrier {
@@ -226,7 +286,7 @@ impl Draft {
 
     /// What the directions of a zone break.
     #[tactic(auto, unfolding(crate::specs::Rules::sides_rule))]
-    fn sides_rule(&self, holder: ChannelId, x: Side, y: Side, z: Side) -> Option<Code>
+    fn sides_rule(&self, holder: Option<ChannelId>, x: Side, y: Side, z: Side) -> Option<Code>
         ensures { result ≡ sides_rule self.now holder x y z }
     {
         if same_axis(x, y) || same_axis(x, z) || same_axis(y, z) {
@@ -236,34 +296,85 @@ impl Draft {
             && self.owns_carrier(holder, z))
         {
             Some(Code::OwnerDiffers)
-        } else if self.holds_zone(holder) {
-            Some(Code::NotBuilt)
         } else {
             None
         }
     }
 
-    /// What a ZONE line breaks.
+    /// What a ZONE line breaks whose carriers are declared.
     #[tactic(auto, unfolding(crate::specs::Rules::zone_rule))]
-    fn zone_rule(
-        &self,
-        zone: ZoneId,
-        holder: ChannelId,
-        x: Option<Side>,
-        y: Option<Side>,
-        z: Option<Side>,
-    ) -> Option<Code>
-        ensures { result ≡ zone_rule self.now zone holder x y z }
+    fn carried_zone_rule(&self, zone: &NamedZone, x: Side, y: Side, z: Side) -> Option<Code>
+        ensures { result ≡ zone_rule self.now zone.now.zone zone.now.holder (Some x) (Some y) (Some z) }
     {
-        let (Some(x), Some(y), Some(z)) = (x, y, z) else {
-            return Some(Code::NotDeclared);
-        };
-        if !self.has_channel(holder) {
+        if !self.has_owner(zone.holder) {
             Some(Code::NotDeclared)
-        } else if self.has_zone(zone) {
+        } else if self.has_zone(zone.zone) {
             Some(Code::DeclaredTwice)
         } else {
-            self.sides_rule(holder, x, y, z)
+            self.sides_rule(zone.holder, x, y, z)
+        }
+    }
+
+    /// What a ZONE line breaks.
+    #[tactic(auto, unfolding(crate::specs::Rules::zone_rule))]
+    fn zone_rule(&self, zone: &NamedZone) -> Option<Code>
+        ensures { result ≡ zone_rule self.now zone.now.zone zone.now.holder
+            (side_of self.now.axes zone.now.x) (side_of self.now.axes zone.now.y) (side_of self.now.axes zone.now.z) }
+    {
+        match (
+            self.side_of(zone.x),
+            self.side_of(zone.y),
+            self.side_of(zone.z),
+        ) {
+            (Some(x), Some(y), Some(z)) => self.carried_zone_rule(zone, x, y, z),
+            _ => Some(Code::NotDeclared),
+        }
+    }
+
+    /// What a job line breaks of what must be declared before it, and of what is declared already.
+    #[tactic(auto, unfolding(crate::specs::Rules::declaration_rule))]
+    fn declaration_rule(&self, item: &Item) -> Option<Code>
+        ensures { result ≡ declaration_rule self.now item.now }
+    {
+        match item {
+            Item::Channel { channel, .. } => self.channel_rule(*channel),
+            Item::Axis { name, owner, .. } => self.axis_rule(*name, *owner),
+            Item::Geo {
+                channel,
+                slot,
+                axis,
+            } => self.slot_rule(*channel, *slot, self.axis_of(*axis)),
+            Item::Offset {
+                channel,
+                g,
+                slot,
+                ..
+            } => self.offset_rule(*channel, *g, *slot),
+            Item::Zone(zone) => self.zone_rule(zone),
+            Item::Margin(_) => option_rule(self.margin.is_some()),
+            Item::Depth(_) => option_rule(self.depth.is_some()),
+            Item::Budget(_) => option_rule(self.budget.is_some()),
+            Item::Compensation => option_rule(self.compensation),
+            Item::Skip => option_rule(self.skip),
+        }
+    }
+
+    /// Whether a job line is one that is not built yet.
+    #[tactic(auto, unfolding(crate::specs::Rules::built_rule))]
+    fn built_rule(&self, item: &Item) -> Option<Code>
+        ensures { result ≡ built_rule self.now item.now }
+    {
+        match item {
+            Item::Channel { starts, .. } => unless_built(*starts),
+            Item::Axis { owner, .. } => unless_built(owner.is_some()),
+            Item::Zone(zone) => unless_built(zone.on && !self.holds_another(zone.holder)),
+            Item::Depth(_) => Some(Code::NotBuilt),
+            Item::Geo { .. }
+            | Item::Offset { .. }
+            | Item::Margin(_)
+            | Item::Budget(_)
+            | Item::Compensation
+            | Item::Skip => None,
         }
     }
 
@@ -272,19 +383,9 @@ impl Draft {
     pub(crate) fn item_rule(&self, item: &Item) -> Option<Code>
         ensures { result ≡ item_rule self.now item.now }
     {
-        match item {
-            Item::Channel(channel, _) => self.channel_rule(*channel),
-            Item::Axis(name, owner, _) => self.axis_rule(*name, *owner),
-            Item::Geo(channel, slot, axis) => {
-                self.slot_rule(*channel, *slot, self.axis_of(*axis))
-            }
-            Item::Zone(zone, _, holder, x, y, z) => self.zone_rule(
-                *zone,
-                *holder,
-                self.side_of(*x),
-                self.side_of(*y),
-                self.side_of(*z),
-            ),
+        match self.declaration_rule(item) {
+            Some(code) => Some(code),
+            None => self.built_rule(item),
         }
     }
 }

@@ -363,7 +363,7 @@ fn runs_sixteen_repetitions_and_levels(rt: HostRuntime) -> Result<(), Fail> {
 }
 
 // Blocks that are refused by one code: each word that no block may have, and forms that are read but not built.
-static REFUSED_BLOCKS: [(u16, &str); 18] = [
+static REFUSED_BLOCKS: [(u16, &str); 19] = [
     (40, "ID|IDS|WHEN|WHENEVER|FROM|EVERY|DO"),
     (41, "MEAS|MEAW"),
     (42, "CYCLE95|MCALL"),
@@ -383,10 +383,11 @@ static REFUSED_BLOCKS: [(u16, &str); 18] = [
     (53, "SETINT|CLRINT"),
     (54, "SAVE"),
     (55, "GETD"),
+    (56, "G41|G42"),
     (57, "G7|GOTOS|CALL|PCALL|EXTCALL|EXTERN|ENDLABEL"),
     (
         60,
-        "ATRANS X1|SCALE X2|ASCALE X2|MIRROR X0|AMIRROR X0|WAITMC(1,2)|SETM(3)|START(2)|WAITE(2)|GET(X1)",
+        "G2 X1|G3 X1|RTLIOF|I1|J=1|K1|CR=5|WAITMC(1,2)|SETM(3)|START(2)|WAITE(2)|GET(X1)",
     ),
 ];
 

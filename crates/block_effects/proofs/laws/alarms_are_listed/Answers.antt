@@ -3,4 +3,4 @@ use Rattle.block_effects.proofs.AlarmLaws.{IsListed, effect_listed}
 use Rattle.block_effects.proofs.laws.alarms_are_listed.Goals as goal
 
 pub returns : goal.returns
-returns c names slots parameters at line opener statement code is = subst IsListed is (effect_listed names parameters opener slots at line statement)
+returns c equipment found line opener statement code is = subst IsListed is (effect_listed equipment found line opener statement)

@@ -1,11 +1,10 @@
-use Rattle.channel_machine.specs.Levels.{program_blocks}
 use Rattle.channel_machine.proofs.Going.{goes_behind, never_alarms}
 use Rattle.channel_machine.proofs.levels.go_behind.Goals as goal
 
 pub returns-in-Ok : goal.returns-in-Ok
 returns-in-Ok c =
-    goes_behind c.args.job.now.programs (program_blocks c.args.job.now.programs c.args.here.now.program) c.args.here.now c.go_on.new.here c.in-Ok.comes c.in-Ok.ensures
+    goes_behind c.args.skip c.args.job.now.programs c.args.here.now c.go_on.new.here c.in-Ok.comes c.in-Ok.ensures
 
 pub returns-in-Err : goal.returns-in-Err
 returns-in-Err c =
-    absurd (never_alarms c.args.job.now.programs (program_blocks c.args.job.now.programs c.args.here.now.program) c.args.here.now c.go_on.new.here _ c.in-Err.ensures)
+    absurd (never_alarms c.args.skip c.args.job.now.programs c.args.here.now c.go_on.new.here _ c.in-Err.ensures)

@@ -1,36 +1,33 @@
-use Rattle.std.proofs.Common.{arith, refl}
-use Rattle.channel_machine.proofs.Going.{again, at_main, fits_head, fits_tail, fewer, below_comes, below_ends}
+use Rattle.std.proofs.Common.{refl}
+use Rattle.channel_machine.proofs.Going.{begins, at_main, fits_head, fits_tail, fewer, below_comes, below_ends}
 use Rattle.channel_machine.proofs.levels.past_end.Goals as goal
 
-pub loop-passes-init : goal.loop-passes-init
-loop-passes-init c = record { fits = c.requires; same = refl }
+pub loop-here-init : goal.loop-here-init
+loop-here-init c = record { fits = c.requires; same = refl }
 
-pub returns-then-passes-gt0 : goal.returns-then-passes-gt0
-returns-then-passes-gt0 c =
-    again c.args.job.now.programs c.loop-passes.number c.loop-passes.passes c.loop-passes.returns c.first_place-here.result _ c.first_place-here.ensures c.if-passes-gt0.true c.loop-passes.invariant.same
+pub returns-in-Some : goal.returns-in-Some
+returns-in-Some c =
+    begins c.args.skip c.args.job.now.programs c.loop-here.number c.loop-here.passes c.next_pass.result c.next_pass.ensures c.loop-here.returns c.in-Some.here _ c.in-Some.is c.loop-here.invariant.same
 
 pub go_behind-requires : goal.go_behind-requires
-go_behind-requires c =
-    fits_head c.args.job.now.programs c.loop-passes.number c.loop-passes.passes c.loop-passes.returns c.ret.new.self c.in-Some.caller c.in-Some.caller (omega (arith, c.if-passes-gt0.false)) c.in-Some.ensures
-    c.loop-passes.invariant.fits
+go_behind-requires c = fits_head c.args.skip c.args.job.now.programs c.loop-here.returns c.ret.new.self c.in-Some-ret.caller c.in-Some-ret.ensures c.loop-here.invariant.fits
 
 pub returns-then-go_behind : goal.returns-then-go_behind
 returns-then-go_behind c =
-    below_comes c.args.job.now.programs c.loop-passes.number c.loop-passes.passes c.loop-passes.returns c.ret.new.self c.in-Some.caller c.go_behind.new.here (omega (arith, c.if-passes-gt0.false)) c.in-Some.ensures
-    c.go_behind.result _ c.if-go_behind.true c.go_behind.ensures c.loop-passes.invariant.same
+    below_comes c.args.skip c.args.job.now.programs c.loop-here.number c.loop-here.passes c.next_pass.result c.next_pass.ensures c.loop-here.returns c.ret.new.self c.in-Some-ret.caller c.go_behind.new.here
+    c.in-None.is c.in-Some-ret.ensures c.go_behind.result _ c.if-go_behind.true c.go_behind.ensures c.loop-here.invariant.same
 
-pub loop-passes-smaller : goal.loop-passes-smaller
-loop-passes-smaller c =
-    fewer c.args.job.now.programs c.loop-passes.number c.loop-passes.passes c.loop-passes.returns c.ret.new.self c.in-Some.caller c.go_behind.new.here (omega (arith, c.if-passes-gt0.false)) c.in-Some.ensures
+pub loop-here-smaller : goal.loop-here-smaller
+loop-here-smaller c = fewer c.args.skip c.args.job.now.programs c.loop-here.returns c.ret.new.self c.in-Some-ret.caller c.in-Some-ret.ensures
 
-pub loop-passes-preserved : goal.loop-passes-preserved
-loop-passes-preserved c = record {
-  fits = fits_tail c.args.job.now.programs c.loop-passes.number c.loop-passes.passes c.loop-passes.returns c.ret.new.self c.in-Some.caller c.go_behind.new.here (omega (arith, c.if-passes-gt0.false)) c.in-Some.ensures
-      c.loop-passes.invariant.fits;
-  same = below_ends c.args.job.now.programs c.loop-passes.number c.loop-passes.passes c.loop-passes.returns c.ret.new.self c.in-Some.caller c.go_behind.new.here (omega (arith, c.if-passes-gt0.false)) c.in-Some.ensures
-      c.go_behind.result _ c.if-go_behind.false c.go_behind.ensures c.loop-passes.invariant.same;
+pub loop-here-preserved : goal.loop-here-preserved
+loop-here-preserved c = record {
+  fits = fits_tail c.args.skip c.args.job.now.programs c.loop-here.returns c.ret.new.self c.in-Some-ret.caller c.in-Some-ret.ensures c.loop-here.invariant.fits;
+  same = below_ends c.args.skip c.args.job.now.programs c.loop-here.number c.loop-here.passes c.next_pass.result c.next_pass.ensures c.loop-here.returns c.ret.new.self c.in-Some-ret.caller c.go_behind.new.here
+      c.in-None.is c.in-Some-ret.ensures c.go_behind.result _ c.if-go_behind.false c.go_behind.ensures c.loop-here.invariant.same;
 }
 
-pub returns-in-None : goal.returns-in-None
-returns-in-None c =
-    at_main c.args.job.now.programs c.loop-passes.number c.loop-passes.passes c.loop-passes.returns c.ret.new.self _ (omega (arith, c.if-passes-gt0.false)) c.in-None.ensures c.loop-passes.invariant.same
+pub returns-in-None-ret : goal.returns-in-None-ret
+returns-in-None-ret c =
+    at_main c.args.skip c.args.job.now.programs c.loop-here.number c.loop-here.passes c.next_pass.result c.next_pass.ensures c.loop-here.returns c.ret.new.self _
+    c.in-None.is c.in-None-ret.ensures c.loop-here.invariant.same

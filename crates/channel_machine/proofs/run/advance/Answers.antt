@@ -1,115 +1,66 @@
-use Rattle.std.proofs.Common.{◌∙◌, ℕ, ◌+◌, ◌-◌, ap, sym, subst, List, Option, IfSome, option_copied}
-use Rattle.block_effects.specs.Courses.{course_view, effect_view}
-use Rattle.block_effects.specs.Motions.{stands}
-use Rattle.nc_blocks.specs.Indices.{StatementFits}
-use Rattle.nc_blocks.specs.Statement.{view_of, statement_view}
-use Rattle.nc_control_flow.specs.Parts.{views}
-use Rattle.nc_control_flow.specs.Structures.{opening}
-use Rattle.sync_types.specs.declared.Action.TheVariants.{End}
-use Rattle.sync_types.specs.declared.Item.{Item}
-use Rattle.tape_job.specs.Job.{ProgramView}
+use Rattle.std.proofs.Common.{◌∙◌, ◌-◌, ℕ, ℤ, List, Option, None, Some, Result, ap, subst, sym}
+use Rattle.axis_moves.specs.Motions.{stands}
+use Rattle.block_effects.specs.Courses.{Does, course_view}
+use Rattle.block_effects.specs.Effects.{Effect}
+use Rattle.nc_blocks.specs.Statement.{statement_view, view_of}
+use Rattle.sync_types.specs.declared.Action.TheVariants.{Alarm}
+use Rattle.sync_types.specs.declared.Step.{Step}
+use Rattle.channel_machine.specs.Kept.{IsBehind, kept_by}
 use Rattle.channel_machine.specs.declared.levels.Levels.{Levels}
-use Rattle.channel_machine.specs.Kept.{Kept, kept_by, GoesOn}
-use Rattle.channel_machine.specs.Levels.{followed, LevelsFit}
-use Rattle.channel_machine.specs.Run.{step_at}
-use Rattle.channel_machine.proofs.Fitting.{followed_fits, block_fits, statement_fits}
-use Rattle.channel_machine.proofs.Placed.{block_there, none_there, effect_there, room}
-use Rattle.channel_machine.proofs.Steps.{nowhere, no_block, spent, stops, finishes, leads, leads_not, segment_view}
+use Rattle.channel_machine.specs.Run.{chain_after, ends_main, step_at, words_after}
+use Rattle.channel_machine.proofs.Placed.{block_there, opener_there, effect_there, followed_there, room}
+use Rattle.channel_machine.proofs.Segments.{if_ok}
+use Rattle.channel_machine.proofs.Steps.{in_situation, nowhere, no_block, performed, spent, stops, segment_view}
 use Rattle.channel_machine.proofs.run.advance.Goals as goal
 
 pub returns-in_default-clause-told : goal.returns-in_default-clause-told
-returns-in_default-clause-told c s c' programs keeps =
+returns-in_default-clause-told c s c' set keeps =
     nowhere s c' (kept_by c.args.state.now) keeps c.args.items.now.items (sym c.take.ensures.value ∙ c.in_default.is) ∙ ap (segment_view c.args.items.now.items) (sym c.step.ensures)
 
-pub returns-in_default-block-clause-told : goal.returns-in_default-block-clause-told
-returns-in_default-block-clause-told c s c' programs keeps =
+pub returns-in_default-find_block-clause-told : goal.returns-in_default-find_block-clause-told
+returns-in_default-find_block-clause-told c s c' set keeps =
     no_block s c' (kept_by c.args.state.now) keeps c.args.items.now.items c.in-Some.levels (sym c.take.ensures.value ∙ c.in-Some.is)
-    (none_there s c.args.job.now.programs programs c.in-Some.levels.here c.in-Some-flow_of.flow.now c.in-Some-flow_of.ensures (sym c.block.ensures.block ∙ ap option_copied c.in_default-block.is))
-    ∙ ap (segment_view c.args.items.now.items) (sym c.step-in_default-block.ensures)
+    (block_there s c.args.job.now.programs set.programs c.in-Some.levels.here None c.in_default-find_block.ensures) ∙ ap (segment_view c.args.items.now.items) (sym c.step-in_default-find_block.ensures)
 
 pub returns-then-state-eq-MOST_BLOCKS-clause-told : goal.returns-then-state-eq-MOST_BLOCKS-clause-told
-returns-then-state-eq-MOST_BLOCKS-clause-told c s c' programs keeps =
-    let e = c.in-Some-block.field-0.now in
-    spent s c' (kept_by c.args.state.now) keeps c.args.items.now.items c.in-Some.levels (sym c.take.ensures.value ∙ c.in-Some.is) e.0 (view_of e.1)
-    (block_there s c.args.job.now.programs programs c.in-Some.levels.here c.in-Some-flow_of.flow.now c.in-Some-flow_of.ensures e (sym c.in-Some-block.ensures.block))
-    c.if-state-eq-MOST_BLOCKS.true ∙ ap (segment_view c.args.items.now.items) (sym c.step-then-state-eq-MOST_BLOCKS.ensures)
+returns-then-state-eq-MOST_BLOCKS-clause-told c s c' set keeps =
+    let next = c.in-Some-find_block.next in
+    spent s c' (kept_by c.args.state.now) keeps c.args.items.now.items c.in-Some.levels (sym c.take.ensures.value ∙ c.in-Some.is) next.line (view_of next.block.now)
+    (block_there s c.args.job.now.programs set.programs c.in-Some.levels.here (Some (next.line, view_of next.block.now)) c.in-Some-find_block.ensures.found) c.if-state-eq-MOST_BLOCKS.true
+    ∙ ap (segment_view c.args.items.now.items) (sym c.step-then-state-eq-MOST_BLOCKS.ensures)
 
-pub execute-done-requires-clause-opener : goal.execute-done-requires-clause-opener
-execute-done-requires-clause-opener c =
-    subst StatementFits (sym c.opener_of-opener.ensures)
-    (statement_fits c.args.job.now c.requires.blocks c.in-Some.levels.here.program c.in-Some-flow_of.flow.now c.in-Some-flow_of.ensures (opening c.in-Some.levels.here.pc (views c.in-Some-flow_of.flow.now)))
-
-pub execute-done-requires-clause-fits : goal.execute-done-requires-clause-fits
-execute-done-requires-clause-fits c =
-    block_fits c.args.job.now c.requires.blocks c.in-Some.levels.here.program c.in-Some-flow_of.flow.now c.in-Some-flow_of.ensures c.in-Some.levels.here.pc c.in-Some-block.field-0.now
-    (sym c.in-Some-block.ensures.block)
-
-pub returns-in-Err-clause-told : goal.returns-in-Err-clause-told
-returns-in-Err-clause-told c s c' programs keeps =
+pub returns-in-Ok-clause-told : goal.returns-in-Ok-clause-told
+returns-in-Ok-clause-told c =
+    if_ok c.leave.result (λ (halt : Option Step). λ behind. λ s. λ c'. λ set. λ keeps.
     let k = kept_by c.args.state.now in
-    let e = c.in-Some-block.field-0.now in
-    let flow = c.in-Some-flow_of.flow.now in
+    let next = c.in-Some-find_block.next in
     let here = c.in-Some.levels.here in
-    stops s c' k keeps c.args.items.now.items c.in-Some.levels (sym c.take.ensures.value ∙ c.in-Some.is) e.0 (view_of e.1)
-    (block_there s c.args.job.now.programs programs here flow c.in-Some-flow_of.ensures e (sym c.in-Some-block.ensures.block))
-    (99999 - k.count) c.in-Err.code (room k.count c.requires.few c.if-state-eq-MOST_BLOCKS.false)
-    (effect_there s c.args.job.now.programs programs here flow c.in-Some-flow_of.ensures k.slots k.parameters _ e.0 _ (statement_view e.1.stmt) c.opener_of-opener.ensures ∙ c.in-Err.ensures.leaves)
-    ∙ ap (segment_view c.args.items.now.items) (sym c.step-in-Err.ensures)
+    let there = c.in-Some-find_block.ensures in
+    let job = c.args.job.now in
+    performed s c' k keeps c.args.items.now.items c.in-Some.levels (sym c.take.ensures.value ∙ c.in-Some.is) next.line (view_of next.block.now)
+    (block_there s job.programs set.programs here (Some (next.line, view_of next.block.now)) there.found)
+    (99999 - k.count) (room k.count c.requires.few c.if-state-eq-MOST_BLOCKS.false) c.in-Ok.done c.execute.new.situation
+    (subst (λ (r : Result Effect ℕ). Does r c.in-Ok.done c.execute.new.situation)
+    (effect_there job s c' k set keeps here next.line (statement_view next.opener.now) (statement_view next.block.now.stmt) (opener_there s job.programs set.programs here (statement_view next.opener.now) there.opens))
+    (c.in-Ok.ensures.leaves (words_after c'.past) (chain_after c'.past) keeps.modal keeps.frame))
+    (c.in-Ok.ensures.modal (words_after c'.past) keeps.modal) c.in-Ok.ensures.stand
+    None halt c.leave.new.items.items (kept_by c.leave.new.state)
+    (subst (λ (r : Result (Option Levels) ℕ). IsBehind (in_situation k None c.execute.new.situation) k.at c.args.items.now.items c.in-Ok.done.item next.line
+    (ends_main c.in-Some.levels (course_view c.in-Ok.done.course)) r halt c.leave.new.items.items (kept_by c.leave.new.state))
+    (followed_there s job.skip job.programs set.skip set.programs c.in-Some.levels (course_view c.in-Ok.done.course)) behind)) c.leave.ensures.told
 
-pub returns-then-ends_main-clause-told : goal.returns-then-ends_main-clause-told
-returns-then-ends_main-clause-told c s c' programs keeps =
+pub returns-in-Alarm-clause-told : goal.returns-in-Alarm-clause-told
+returns-in-Alarm-clause-told c s c' set keeps =
     let k = kept_by c.args.state.now in
-    let e = c.in-Some-block.field-0.now in
-    let flow = c.in-Some-flow_of.flow.now in
+    let items = c.args.items.now.items in
+    let next = c.in-Some-find_block.next in
     let here = c.in-Some.levels.here in
-    finishes s c' k keeps c.args.items.now.items c.in-Some.levels (sym c.take.ensures.value ∙ c.in-Some.is) e.0 (view_of e.1)
-    (block_there s c.args.job.now.programs programs here flow c.in-Some-flow_of.ensures e (sym c.in-Some-block.ensures.block))
-    (99999 - k.count) (room k.count c.requires.few c.if-state-eq-MOST_BLOCKS.false) (effect_view c.execute-done.new.parameters c.in-Ok.done)
-    (effect_there s c.args.job.now.programs programs here flow c.in-Some-flow_of.ensures k.slots k.parameters _ e.0 _ (statement_view e.1.stmt) c.opener_of-opener.ensures ∙ c.in-Ok.ensures.leaves)
-    c.execute-done.new.at c.in-Ok.ensures.stand (sym c.ends_main.ensures ∙ c.if-ends_main.true)
-    ∙ ap (λ (items : List Item). segment_view items (step_at k.axes k.on (stands c.execute-done.new.at) e.0 End)) (sym c.in_ok-push_some.ensures)
-    ∙ ap (segment_view c.push_some.new.items.items) (sym c.step-then-ends_main.ensures)
-
-pub returns-in-Ok-follow-clause-told : goal.returns-in-Ok-follow-clause-told
-returns-in-Ok-follow-clause-told c s c' programs keeps =
-    let k = kept_by c.args.state.now in
-    let e = c.in-Some-block.field-0.now in
-    let flow = c.in-Some-flow_of.flow.now in
-    let here = c.in-Some.levels.here in
-    let after : Kept = record {
-      levels = c.in-Ok-follow.levels;
-      count = k.count + 1;
-      last = e.0;
-      parameters = c.execute-done.new.parameters;
-      at = c.execute-done.new.at;
-      slots = k.slots;
-      axes = k.axes;
-      on = k.on;
-    } in
-    subst (λ (items : List Item). GoesOn s c' c.args.items.now.items items after) (sym c.in_ok-push_some-in-Ok-follow.ensures)
-    (leads s c' k keeps c.args.items.now.items c.in-Some.levels (sym c.take.ensures.value ∙ c.in-Some.is) e.0 (view_of e.1)
-    (block_there s c.args.job.now.programs programs here flow c.in-Some-flow_of.ensures e (sym c.in-Some-block.ensures.block))
-    (99999 - k.count) (room k.count c.requires.few c.if-state-eq-MOST_BLOCKS.false) (effect_view c.execute-done.new.parameters c.in-Ok.done)
-    (effect_there s c.args.job.now.programs programs here flow c.in-Some-flow_of.ensures k.slots k.parameters _ e.0 _ (statement_view e.1.stmt) c.opener_of-opener.ensures ∙ c.in-Ok.ensures.leaves)
-    c.execute-done.new.at c.in-Ok.ensures.stand c.in-Ok-follow.levels (sym c.ends_main.ensures ∙ c.if-ends_main.false)
-    (ap (λ (ps : List (List ℕ × ProgramView)). followed ps c.in-Some.levels (course_view c.in-Ok.done.course)) programs ∙ sym c.follow.ensures ∙ c.in-Ok-follow.is))
-
-pub returns-in-Ok-follow-clause-fit : goal.returns-in-Ok-follow-clause-fit
-returns-in-Ok-follow-clause-fit c =
-    followed_fits c.args.job.now.programs c.in-Some.levels
-    (subst (λ (o : Option Levels). IfSome o (LevelsFit c.args.job.now.programs)) (sym c.take.ensures.value ∙ c.in-Some.is) c.requires.fit)
-    (course_view c.in-Ok.done.course) c.in-Ok-follow.levels (sym c.follow.ensures ∙ c.in-Ok-follow.is)
-
-pub returns-clause-told : goal.returns-clause-told
-returns-clause-told c s c' programs keeps =
-    let k = kept_by c.args.state.now in
-    let e = c.in-Some-block.field-0.now in
-    let flow = c.in-Some-flow_of.flow.now in
-    let here = c.in-Some.levels.here in
-    leads_not s c' k keeps c.args.items.now.items c.in-Some.levels (sym c.take.ensures.value ∙ c.in-Some.is) e.0 (view_of e.1)
-    (block_there s c.args.job.now.programs programs here flow c.in-Some-flow_of.ensures e (sym c.in-Some-block.ensures.block))
-    (99999 - k.count) (room k.count c.requires.few c.if-state-eq-MOST_BLOCKS.false) (effect_view c.execute-done.new.parameters c.in-Ok.done)
-    (effect_there s c.args.job.now.programs programs here flow c.in-Some-flow_of.ensures k.slots k.parameters _ e.0 _ (statement_view e.1.stmt) c.opener_of-opener.ensures ∙ c.in-Ok.ensures.leaves)
-    c.in-Err-follow.code (sym c.ends_main.ensures ∙ c.if-ends_main.false)
-    (ap (λ (ps : List (List ℕ × ProgramView)). followed ps c.in-Some.levels (course_view c.in-Ok.done.course)) programs ∙ sym c.follow.ensures ∙ c.in-Err-follow.is)
-    ∙ ap (segment_view c.args.items.now.items) (sym c.step-in-Err-follow.ensures)
+    let there = c.in-Some-find_block.ensures in
+    let job = c.args.job.now in
+    stops s c' k keeps items c.in-Some.levels (sym c.take.ensures.value ∙ c.in-Some.is) next.line (view_of next.block.now)
+    (block_there s job.programs set.programs here (Some (next.line, view_of next.block.now)) there.found)
+    (99999 - k.count) c.in-Alarm.code (room k.count c.requires.few c.if-state-eq-MOST_BLOCKS.false)
+    (sym (effect_there job s c' k set keeps here next.line (statement_view next.opener.now) (statement_view next.block.now.stmt) (opener_there s job.programs set.programs here (statement_view next.opener.now) there.opens))
+    ∙ (rw c.in-Alarm.is at (c.in-Err.ensures.leaves (words_after c'.past) (chain_after c'.past) keeps.modal keeps.frame)))
+    ∙ ap (segment_view items)
+    (ap (λ (at : List (Option ℤ)). step_at k.axes k.on (stands at) next.line (Alarm c.in-Alarm.code)) (sym c.in-Err.ensures.unmoved) ∙ sym c.step-in-Alarm.ensures)

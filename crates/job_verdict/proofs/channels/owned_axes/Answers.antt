@@ -1,4 +1,4 @@
-use Rattle.std.proofs.Common.{◌≡◌, ◌∙◌, ◌≤◌, ◌&&◌, Bool, false, ap, arith}
+use Rattle.std.proofs.Common.{◌∙◌, ◌≤◌, ◌&&◌, Bool, false, ap, arith}
 use Rattle.std.proofs.lemmas.Bool.{lt-ltb}
 use Rattle.std.proofs.lemmas.List.FromFn.{fill_by_all}
 use Rattle.job_verdict.specs.Channels.{owns, owned_axes}

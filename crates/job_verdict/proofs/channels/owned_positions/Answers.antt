@@ -1,4 +1,4 @@
-use Rattle.std.proofs.Common.{◌≡◌, ◌∙◌, ◌≤◌, Bool, cond, None, ap, arith}
+use Rattle.std.proofs.Common.{◌∙◌, ◌≤◌, Bool, cond, None, ap, arith}
 use Rattle.std.proofs.lemmas.Bool.{lt-ltb}
 use Rattle.std.proofs.lemmas.List.FromFn.{fill_by_all}
 use Rattle.job_verdict.specs.Channels.{owned_position, owned_positions}

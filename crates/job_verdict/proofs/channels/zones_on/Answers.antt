@@ -1,4 +1,4 @@
-use Rattle.std.proofs.Common.{◌≡◌, ◌∙◌, ◌≤◌, List, length, false, ap, arith}
+use Rattle.std.proofs.Common.{◌∙◌, ◌≤◌, List, length, false, ap, arith}
 use Rattle.std.proofs.lemmas.List.{take_all}
 use Rattle.std.proofs.lemmas.List.FromFn.{fill_by_all}
 use Rattle.tape_job.specs.Job.{JobView}

@@ -1,4 +1,5 @@
 use Rattle.std.proofs.Common.{◌≡◌, ◌<◌, ◌≤◌, ◌∙◌, ap, sym, List, arith}
+use Rattle.tape_job.specs.Job.{JobView}
 use Rattle.job_verdict.specs.Clash.{pair_count}
 use Rattle.job_verdict.specs.PairCounts.{count_of}
 use Rattle.job_verdict.specs.ShownStretches.{HeldView, first_meeting, verdict_by}
@@ -14,13 +15,15 @@ pub returns-then-count-from : goal.returns-then-count-from
 returns-then-count-from c =
     let counted : c.count_pairs-count.result ≡ pair_count c.args.job.now =
     c.count_pairs-count.ensures ∙ ap count_of (c.deref.ensures.value ∙ c.in_ok-zones.ensures) ∙ count_is c.args.job.now in
-    let many : 1000000 < c.count_pairs-count.result = omega arith in
-    sym (verdict_many c.args.job.now c.count_pairs-count.result counted many)
+    let budget : c.job.inside.budget ≡ c.args.job.now.budget = ap (λ (j : JobView). j.budget) c.job.view_is in
+    let many : c.args.job.now.budget < c.count_pairs-count.result = omega (arith, budget) in
+    rw budget (sym (verdict_many c.args.job.now c.count_pairs-count.result counted many))
 
 pub returns : goal.returns
 returns c =
     let counted : c.count_pairs-count.result ≡ pair_count c.args.job.now =
     c.count_pairs-count.ensures ∙ ap count_of (c.deref.ensures.value ∙ c.in_ok-zones.ensures) ∙ count_is c.args.job.now in
-    let few : c.count_pairs-count.result ≤ 1000000 = omega arith in
+    let budget : c.job.inside.budget ≡ c.args.job.now.budget = ap (λ (j : JobView). j.budget) c.job.view_is in
+    let few : c.count_pairs-count.result ≤ c.args.job.now.budget = omega (arith, budget) in
     c.verdict_on.ensures ∙ ap (λ (zones : List HeldView). verdict_by (first_meeting zones)) (c.deref-2.ensures.value ∙ c.in_ok-zones.ensures)
-    ∙ verdict_is c.args.job.now ∙ sym (verdict_few c.args.job.now c.count_pairs-count.result counted few)
+    ∙ verdict_is c.args.job.now c.requires.runnable.depth ∙ sym (verdict_few c.args.job.now c.count_pairs-count.result counted few)

@@ -1,7 +1,8 @@
-use Rattle.std.proofs.Common.{◌≡◌, refl}
+use Rattle.std.proofs.Common.{◌≡◌, ap, refl}
 use mathlib.Core.Path.{fun_ext}
+use Rattle.tape_job.specs.Job.{JobView}
 use Rattle.job_verdict.specs.Channels.{start_position}
-use Rattle.block_effects.specs.Motions.{left_at}
+use Rattle.axis_moves.specs.Motions.{left_at}
 use Rattle.job_verdict.specs.Channels.{positions_in}
 use Rattle.job_verdict.specs.ShownStretches.{end_stretch}
 use Rattle.job_verdict.proofs.stretches.end_stretch.Goals as goal
@@ -10,4 +11,5 @@ pub returns : goal.returns
 unfolding end_stretch
 returns c =
     let at : positions_in c.end_positions-at.result ≡ left_at c.deref.result.now (start_position c.args.job.now) = fun_ext c.end_positions-at.ensures in
-    rw (← c.run.view_is, c.in_ok-boxes_of.ensures, c.line_of_end.ensures, at, c.deref.ensures.value) refl
+    let margin : c.job.inside.margin ≡ c.args.job.now.margin = ap (λ (j : JobView). j.margin) c.job.view_is in
+    rw (← c.run.view_is, c.in_ok-boxes_of.ensures, c.line_of_end.ensures, at, c.deref.ensures.value, margin) refl

@@ -9,4 +9,4 @@ use Rattle.job_verdict.proofs.zone_boxes.standing_box.Goals as goal
 pub returns : goal.returns
 unfolding standing_box
 returns c = ap (λ (box : Box3). let shown : ZoneBox = record { line = c.args.line; cover = box } in shown)
-    (c.zone_box.ensures ∙ box_standing c.args.zone.now c.new.result.items (positions_in c.args.at.now) c.new.ensures)
+    (c.zone_box.ensures ∙ box_standing c.args.margin c.args.zone.now c.new.result.items (positions_in c.args.at.now) c.new.ensures)

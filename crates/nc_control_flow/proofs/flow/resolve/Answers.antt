@@ -1,5 +1,6 @@
 use Rattle.std.proofs.Common.{◌∙◌, length, ap, arith}
 use Rattle.nc_control_flow.specs.Parts.{views, parts}
+use Rattle.nc_control_flow.proofs.Leading.{plain_found}
 use Rattle.nc_control_flow.proofs.Resolving.{length-views, length-parts, ends_found, branches_found, openers_found}
 use Rattle.nc_control_flow.proofs.flow.resolve.Goals as goal
 
@@ -22,5 +23,6 @@ invariant_of-result c =
         branch_at = branches_found blocks c.deref-3.result.now c.in_ok-branches.branches.items branches c.in_ok-branches.ensures.each;
         opener_at = openers_found blocks c.deref-4.result.now c.in_ok-openers.openers.items openers c.in_ok-openers.ensures.each;
       };
-      index = rw (← c.deref-5.ensures.value) c.in_ok-index.ensures;
+      plain_places = plain_found c.args.blocks.items c.deref-5.result.now c.in_ok-plain.plain.items c.deref-5.ensures.value (omega (arith, c.in_ok-plain.ensures.len)) c.in_ok-plain.ensures.each;
+      index = rw (← c.deref-6.ensures.value) c.in_ok-index.ensures;
     }

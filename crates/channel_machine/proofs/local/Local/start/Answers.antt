@@ -1,6 +1,6 @@
 use Rattle.std.proofs.Common.{refl, sym}
-use Rattle.block_effects.specs.Motions.{stands}
-use Rattle.block_effects.proofs.Positions.{left_at-nil}
+use Rattle.axis_moves.specs.Motions.{stands}
+use Rattle.axis_moves.proofs.Positions.{left_at-nil}
 use Rattle.channel_machine.proofs.local.Local.start.Goals as goal
 
 pub returns-clause-kept : goal.returns-clause-kept
@@ -9,8 +9,10 @@ returns-clause-kept c = record {
   count = refl;
   last = c.header_of.ensures;
   parameters = c.in_ok-new.ensures;
+  modal = c.start.ensures;
+  frame = c.empty.ensures;
   at = λ axis. sym (left_at-nil (stands c.args.grant.now.at) axis);
-  slots = rw (c.slot_axis-x.ensures, c.slot_axis-y.ensures, c.slot_axis-z.ensures) refl;
-  axes = refl;
+  slots = c.own_axes.ensures.slots;
+  axes = c.own_axes.ensures.owned;
   on = refl;
 }

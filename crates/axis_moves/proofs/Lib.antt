@@ -1,0 +1,10 @@
+pub mod AlarmLaws
+pub mod Arrivals
+pub mod Ends
+pub mod GoalLaws
+pub mod MotionLaws
+pub mod Moves
+pub mod Positions
+pub mod Reaches
+pub mod Rows
+pub mod Words

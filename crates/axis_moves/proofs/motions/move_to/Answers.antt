@@ -1,0 +1,22 @@
+use Rattle.std.proofs.Common.{◌≡◌, ◌∙◌, ◌==◌, true, false, length, sym, ap}
+use Rattle.path_geometry.specs.Ends.{EndsView}
+use Rattle.axis_moves.specs.Motions as model
+use Rattle.axis_moves.proofs.Arrivals.{at_none, at_item}
+use Rattle.axis_moves.proofs.Reaches.{are_reached}
+use Rattle.axis_moves.proofs.motions.move_to.Goals as goal
+
+pub move_axes-ends-requires : goal.move_axes-ends-requires
+move_axes-ends-requires c =
+    are_reached c.args.owned (model.stands c.args.at.now) c.args.goals.now (sym c.are_in_reach.ensures ∙ c.if-not-are_in_reach.false) (sym c.are_own.ensures ∙ c.if-not-are_own.false)
+
+pub returns-then-is_empty-clause-stand : goal.returns-then-is_empty-clause-stand
+returns-then-is_empty-clause-stand c =
+    let none : (length c.move_axes-ends.result.axes == 0) ≡ true =
+    ap (λ (ends : EndsView). length ends.axes == 0) (sym c.ends.view_is) ∙ sym c.is_empty.ensures ∙ c.if-is_empty.true in
+    at_none c.args.at.now c.move_axes-ends.new.at c.args.goals.now c.args.line c.type_inv.goals c.move_axes-ends.ensures.stand c.move_axes-ends.result c.move_axes-ends.ensures.ends none
+
+pub returns-clause-stand : goal.returns-clause-stand
+returns-clause-stand c =
+    let some : (length c.move_axes-ends.result.axes == 0) ≡ false =
+    ap (λ (ends : EndsView). length ends.axes == 0) (sym c.ends.view_is) ∙ sym c.is_empty.ensures ∙ c.if-is_empty.false in
+    at_item c.args.at.now c.move_axes-ends.new.at c.args.goals.now c.args.line c.type_inv.goals c.move_axes-ends.ensures.stand c.move_axes-ends.result c.move_axes-ends.ensures.ends some

@@ -1,0 +1,13 @@
+//! The motion of a block: from the values that it programs for axes to the positions at which they
+//! end.
+//!
+//! X, Y and Z go through the frame to the slots of the channel, other axes by their own names.
+#![tactic(auto)]
+
+mod goals;
+mod laws;
+mod motions;
+
+pub use goals::{Conditions, Programmed, Targets};
+pub use laws::{alarms_are_listed, motions_begin_where_axes_stand};
+pub use motions::make_item;

@@ -1,0 +1,164 @@
+//! The motion of a block.
+
+ghost use Rattle.std.specs.Prelude.{◌≡◌, true, IsTrue, IfOk, OnErr};
+ghost use Rattle.axis_moves.specs.Goals.{InForce, AreInForce};
+ghost use Rattle.axis_moves.specs.Motions as model;
+
+use crate::goals::{Conditions, Goal, Targets, goals_of, have_axes, is_position};
+use arrayvec::ArrayVec;
+use axis_sets::{AxisId, AxisSet, Positions};
+use micro_units::Um;
+use path_geometry::{Ends, Motion};
+use sync_types::{Item, Part};
+
+/// Where an axis stands.
+fn stands(at: &Positions, axis: AxisId) -> Um
+    ensures { result ≡ model.stands at.now axis }
+{
+    match at.get(axis) {
+        Some(position) => position,
+        None => Um { micrometres: 0 },
+    }
+}
+
+/// Whether an axis that starts there reaches its goal, if it has one.
+fn is_in_reach(owned: bool, start: Um, goal: Option<Goal>) -> bool
+    ensures { result ≡ model.is_in_reach owned start goal }
+{
+    match goal {
+        Some(goal) => is_goal_in_reach(owned, start, goal),
+        None => true,
+    }
+}
+
+/// Whether an axis that starts there reaches its goal.
+fn is_goal_in_reach(owned: bool, start: Um, goal: Goal) -> bool
+    ensures { result ≡ model.is_goal_in_reach owned start goal }
+{
+    match goal {
+        Goal::To(_) => true,
+        Goal::By(change) => !owned || is_position(start.micrometres + change.micrometres),
+        Goal::TooFar => false,
+    }
+}
+
+/// Whether all goals are in reach.
+#[tactic(auto, unfolding(crate::specs::Motions::are_in_reach))]
+fn are_in_reach(owned: AxisSet, at: &Positions, goals: &[Option<Goal>; 16]) -> bool
+    ensures { result ≡ model.are_in_reach owned (model.stands at.now) goals.now }
+{
+    for index in 0..16 {
+        let axis = AxisId { index: index as u8 };
+        if !is_in_reach(owned.contains(axis), stands(at, axis), goals[index]) {
+            return false;
+        }
+    }
+    true
+}
+
+/// Whether all goals are those of axes of the set.
+#[tactic(auto, unfolding(crate::specs::Motions::are_own))]
+fn are_own(owned: AxisSet, goals: &[Option<Goal>; 16]) -> bool
+    ensures { result ≡ model.are_own owned goals.now }
+{
+    for index in 0..16 {
+        let axis = AxisId { index: index as u8 };
+        if goals[index].is_some() && !owned.contains(axis) {
+            return false;
+        }
+    }
+    true
+}
+
+/// Where an axis ends that starts there.
+fn end_from(start: Um, goal: Goal) -> Um
+    requires { IsTrue (model.is_goal_in_reach true start goal) }
+    ensures { result ≡ model.end_from start goal }
+{
+    match goal {
+        Goal::To(end) => end,
+        Goal::By(change) => Um {
+            micrometres: start.micrometres + change.micrometres,
+        },
+        Goal::TooFar => unreachable!(),
+    }
+}
+
+/// Moves the axes to their goals, and answers their starts and ends.
+fn move_axes(goals: &[Option<Goal>; 16], at: &mut Positions) -> Ends
+    requires { model.AreReached (model.stands at.old) goals.now }
+    ensures ends { result.axes ≡ model.ends_from (model.stands at.old) goals.now }
+    ensures stand { model.StandsMoved goals.now at.old at.new }
+{
+    let mut axes = ArrayVec::new();
+    for index in 0..16 {
+        if let Some(goal) = goals[index] {
+            let axis = AxisId { index: index as u8 };
+            let start = stands(at, axis);
+            let end = end_from(start, goal);
+            axes.push((axis, start, end));
+            at.set(axis, end);
+        }
+    }
+    Ends { axes }
+}
+
+/// Makes the motion to these goals, or alarms.
+#[tactic(auto, unfolding(crate::specs::Motions::moved_to))]
+fn move_to(
+    line: u32,
+    owned: AxisSet,
+    goals: &[Option<Goal>; 16],
+    at: &mut Positions,
+) -> Result<Option<Item>, u16>
+    ensures made { result ≡ model.moved_to owned (model.stands at.old) line goals.now }
+    ensures stand { IfOk result (λ item. model.StandsAtEnd item at.old at.new) }
+    ensures unmoved { OnErr result (at.new ≡ at.old) }
+{
+    if !are_in_reach(owned, at, goals) {
+        return Err(13);
+    }
+    if !are_own(owned, goals) {
+        return Err(15);
+    }
+    let ends = move_axes(goals, at);
+    if ends.axes.is_empty() {
+        return Ok(None);
+    }
+    Ok(Some(Item {
+        line,
+        part: Part::Move(Motion::Line(ends)),
+    }))
+}
+
+/// Makes the motion of a block on this line, and takes the axes to its ends. A block that programs
+/// no axis has none.
+///
+/// X, Y and Z are halved where they are diameters, and go through the frame to the slots, with
+/// their offsets; axes by their own names go without either. A value in millimetres is rounded
+/// once, to whole micrometres. The alarms come in this order, and after one no axis has moved:
+///
+/// - 14: the frame sends X, Y or Z to a slot without axis.
+/// - 13: an axis would end more than 10,000,000 micrometres from 0, or change by more than
+///   20,000,000. Of an axis that is not owned, of which nobody knows where it stands, a change is
+///   tested alone.
+/// - 15: an axis is not owned.
+#[tactic(auto, unfolding(crate::specs::Motions::moved))]
+pub fn make_item(
+    line: u32,
+    slots: &[Option<AxisId>; 3],
+    owned: AxisSet,
+    conditions: &Conditions,
+    targets: &Targets,
+    at: &mut Positions,
+) -> Result<Option<Item>, u16>
+    ensures made { (h : InForce) → AreInForce h conditions.now
+        → result ≡ model.moved slots.now owned h (model.stands at.old) line targets.now }
+    ensures stand { IfOk result (λ item. model.StandsAtEnd item at.old at.new) }
+    ensures unmoved { OnErr result (at.new ≡ at.old) }
+{
+    if !have_axes(slots, conditions, &targets.slots) {
+        return Err(14);
+    }
+    move_to(line, owned, &goals_of(slots, conditions, targets), at)
+}

@@ -1,0 +1,55 @@
+-- Blocks of frames: what they make of the chain of maps.
+use Rattle.std.specs.Prelude.{ℕ, ◌==◌, ℤ, Bool, true, false, if◌then◌else◌, List, [], ◌∷◌, ◌++◌, replicate, slice_set, Option, None, Some, Result, Ok, Err}
+use Rattle.frames.specs.Composition.{shifts, scales, mirrors, turns}
+use Rattle.frames.specs.Faults.{adding_fault}
+use Rattle.frames.specs.Maps.{Map}
+use Rattle.frames.specs.declared.Plane.{Plane}
+use Rattle.frames.specs.declared.Plane.TheVariants.{G17, G18, G19}
+use Rattle.nc_blocks.specs.declared.blocks.FrameWord.{FrameWord}
+use Rattle.nc_blocks.specs.declared.blocks.FrameWord.TheVariants.{Trans, Atrans, Scale, Ascale, Mirror, Amirror}
+use Rattle.nc_expressions.specs.Tree.{Tree}
+use Rattle.nc_expressions.specs.Value.{◌>>=◌}
+use Rattle.block_effects.specs.Words.{value_in, option_read}
+
+-- the values of the words X, Y and Z, found from left to right
+abbrev pub values_done : List ℤ → List (Option ℤ) → List (ℕ × Tree) → Result (List (Option ℤ)) ℕ
+values_done parameters row [] = Ok row
+values_done parameters row ((axis, tree) ∷ more) = value_in parameters tree >>= λ value. values_done parameters (slice_set row axis (Some value)) more
+
+-- no value
+unfoldable pub no_values : List (Option ℤ)
+no_values = replicate 3 None
+
+abbrev pub unless_alarmed : Option ℕ → List Map → Result (List Map) ℕ
+unless_alarmed None chain = Ok chain
+unless_alarmed (Some code) chain = Err code
+
+-- a chain with maps at its end, or the alarm of that
+unfoldable pub added : List Map → List Map → Result (List Map) ℕ
+added chain maps = unless_alarmed (adding_fault chain maps) (chain ++ maps)
+
+-- TRANS, SCALE and MIRROR begin a new chain; the others add to the one that is there
+unfoldable pub shaped : List Map → FrameWord → List (Option ℤ) → Result (List Map) ℕ
+shaped chain Trans values = added [] (shifts 0 values)
+shaped chain Atrans values = added chain (shifts 0 values)
+shaped chain Scale values = added [] (scales 0 values)
+shaped chain Ascale values = added chain (scales 0 values)
+shaped chain Mirror values = added [] (mirrors 0 values)
+shaped chain Amirror values = added chain (mirrors 0 values)
+
+-- ROT begins a new chain, AROT adds to the one that is there
+unfoldable pub turned : List Map → Plane → Bool → Option ℤ → Result (List Map) ℕ
+turned chain plane false angle = added [] (turns plane angle)
+turned chain plane true angle = added chain (turns plane angle)
+
+-- what a block makes of the chain that is a frame word and the words X, Y and Z behind it: all values are found before the maps are added
+abbrev pub shaped_by : List ℤ → List Map → FrameWord → List (ℕ × Tree) → Result (List Map) ℕ
+shaped_by parameters chain word words = values_done parameters no_values words >>= λ row. shaped chain word row
+
+-- and one that is ROT or AROT with this angle
+abbrev pub turned_by : List ℤ → List Map → Plane → Bool → Option Tree → Result (List Map) ℕ
+turned_by parameters chain plane additive angle = option_read parameters angle >>= λ value. turned chain plane additive value
+
+-- the plane of a word of group 6
+unfoldable pub plane_of : ℕ → Plane
+plane_of code = if code == 17 then G17 else if code == 19 then G19 else G18

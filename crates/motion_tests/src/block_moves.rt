@@ -1,0 +1,334 @@
+//! Blocks of axis words, with the ends of their motions in micrometres. The axes are X1, Y1, Z1 and C1 of
+//! the channel, and W1 of another one; their numbers are 0 to 4.
+
+use axis_moves::*;
+use axis_sets::{AxisId, AxisSet, Positions};
+use frames::{Frame, Plane};
+use g_groups::{GWord, Modal, apply};
+use micro_units::{Num, Um};
+use nc_blocks::Measure;
+use std::alloc::Global;
+use std::process::Abort;
+use std::test::Fail;
+use sync_types::Item;
+
+/// The words of a block: its G words and names, the values of X, Y, Z, C1 and W1, and its motion or its alarm.
+type Row = (&'static str, [&'static str; 5], &'static str);
+
+/// What stays from block to block.
+#[derive(Drop)]
+struct Lathe {
+    slots: [Option<AxisId>; 3],
+    conditions: Conditions,
+    at: Positions,
+}
+
+/// A lathe with X1, Y1 and Z1 in its slots, which stand at 10, 5 and 0 millimetres.
+fn lathe_with(frame: Frame, offsets: [Um; 3]) -> Lathe {
+    let mut at = Positions::empty();
+    at.set(AxisId { index: 0 }, um(10_000));
+    at.set(AxisId { index: 1 }, um(5_000));
+    at.set(AxisId { index: 2 }, um(0));
+    at.set(AxisId { index: 3 }, um(0));
+    Lathe {
+        slots: [
+            Some(AxisId { index: 0 }),
+            Some(AxisId { index: 1 }),
+            Some(AxisId { index: 2 }),
+        ],
+        conditions: Conditions {
+            modal: Modal::start(),
+            frame,
+            offsets,
+        },
+        at,
+    }
+}
+
+/// A lathe with offsets of X and Z.
+fn lathe_with_offsets(frame: Frame) -> Lathe {
+    lathe_with(frame, [um(1_000), um(0), um(50_000)])
+}
+
+/// A lathe with no offset.
+fn bare_lathe(frame: Frame) -> Lathe {
+    lathe_with(frame, [um(0), um(0), um(0)])
+}
+
+fn um(micrometres: u16) -> Um {
+    Um {
+        micrometres: i32::from(micrometres),
+    }
+}
+
+/// The number of so many thousandths.
+fn num(thousandths: i32) -> Option<Num> {
+    Some(Num {
+        millionths: i64::from(thousandths) * 1000,
+    })
+}
+
+/// The axes of the channel.
+fn owned() -> AxisSet {
+    AxisSet::empty()
+        .with(AxisId { index: 0 })
+        .with(AxisId { index: 1 })
+        .with(AxisId { index: 2 })
+        .with(AxisId { index: 3 })
+}
+
+/// The modal words after the words of a block.
+fn after(modal: &Modal, words: &str) -> Result<Modal, u16> {
+    let measure = |code| GWord { group: 14, code };
+    let of_block = |code| GWord { group: 9, code };
+    let diameter = |code| GWord { group: 29, code };
+    match words {
+        "G90" => apply(modal, &[measure(90)]),
+        "G91" => apply(modal, &[measure(91)]),
+        "G53" => apply(modal, &[of_block(53)]),
+        "G90 G53" => apply(modal, &[measure(90), of_block(53)]),
+        "G91 G153" => apply(modal, &[measure(91), of_block(153)]),
+        "G90 SUPA" => apply(modal, &[measure(90), of_block(3)]),
+        "DIAMON" => apply(modal, &[diameter(1)]),
+        "DIAMOF" => apply(modal, &[diameter(2)]),
+        "DIAM90" => apply(modal, &[diameter(3)]),
+        _ => apply(modal, &[]),
+    }
+}
+
+/// A value, as it stands behind the letter of its axis, with A for AC and I for IC; none of an empty text.
+fn value(text: &str) -> Result<Option<Programmed>, Fail> {
+    match text.as_bytes() {
+        [] => Ok(None),
+        [b'A', digits @ ..] => Ok(Some(programmed(Measure::Absolute, digits)?)),
+        [b'I', digits @ ..] => Ok(Some(programmed(Measure::Incremental, digits)?)),
+        digits => Ok(Some(programmed(Measure::Modal, digits)?)),
+    }
+}
+
+fn programmed(measure: Measure, text: &[u8]) -> Result<Programmed, Fail> {
+    let value = match text {
+        [b'-', digits @ ..] => Num {
+            millionths: -Num::parse(digits)?.millionths,
+        },
+        digits => Num::parse(digits)?,
+    };
+    Ok(Programmed { measure, value })
+}
+
+/// What a block programs.
+fn targets(texts: &[&str; 5]) -> Result<Targets, Fail> {
+    let mut axes = [None; 16];
+    axes[3] = value(texts[3])?;
+    axes[4] = value(texts[4])?;
+    let slots = [value(texts[0])?, value(texts[1])?, value(texts[2])?];
+    Ok(Targets { slots, axes })
+}
+
+/// The motion of a block on line 7 as text: each of its axes with its start and its end, where it stands now.
+fn said(
+    rt: &impl Abort,
+    alloc: Global,
+    item: &Option<Item>,
+    at: &Positions,
+) -> Result<String, Fail> {
+    let mut text = String::new(alloc);
+    if let Some(item) = item {
+        assert_eq!(rt; item.line, 7);
+        for (axis, start, end) in item.motion().ends().axes.as_slice() {
+            assert!(rt; at.get(*axis) == Some(*end));
+            let axis = axis.index;
+            let start = start.micrometres;
+            let end = end.micrometres;
+            text.push_str(format!(in alloc; "{axis}:{start}:{end} ")?.as_str())?;
+        }
+    }
+    Ok(text)
+}
+
+/// Does a block, and says its motion or its alarm, after which no axis has moved.
+fn done(rt: &impl Abort, alloc: Global, lathe: &mut Lathe, row: &Row) -> Result<String, Fail> {
+    lathe.conditions.modal = after(&lathe.conditions.modal, row.0)?;
+    let before = lathe.at;
+    let targets = targets(&row.1)?;
+    match make_item(
+        7,
+        &lathe.slots,
+        owned(),
+        &lathe.conditions,
+        &targets,
+        &mut lathe.at,
+    ) {
+        Ok(item) => said(rt, alloc, &item, &lathe.at),
+        Err(code) => {
+            assert!(rt; lathe.at == before);
+            Ok(format!(in alloc; "ALARM {code}")?)
+        }
+    }
+}
+
+/// Does blocks one after another.
+fn do_all(rt: &impl Abort, alloc: Global, lathe: &mut Lathe, rows: &[Row]) -> Result<(), Fail> {
+    for row in rows {
+        let text = done(rt, alloc, lathe, row)?;
+        assert_eq!(rt; text.as_str(), row.2);
+    }
+    Ok(())
+}
+
+/// Under G54, with no frame.
+static ENDS: [Row; 9] = [
+    ("", ["5", "", "2", "", ""], "0:10000:6000 2:0:52000 "),
+    (
+        "G91",
+        ["5", "", "-2", "", ""],
+        "0:6000:11000 2:52000:50000 ",
+    ),
+    ("", ["A7", "", "I3", "", ""], "0:11000:8000 2:50000:53000 "),
+    ("", ["", "", "", "20", ""], "3:0:20000 "),
+    ("G90", ["", "", "", "A3", ""], "3:20000:3000 "),
+    ("", ["", "", "", "I2.0005", ""], "3:3000:5001 "),
+    ("", ["I1", "3", "", "", ""], "0:8000:9000 1:5000:3000 "),
+    ("", ["", "", "", "", ""], ""),
+    ("", ["8", "", "", "", ""], "0:9000:9000 "),
+];
+
+/// Under G54, with a shift of X by 10 and of Z by -20, then X halved, then Z mirrored.
+static IN_A_FRAME: [Row; 6] = [
+    ("", ["4", "", "3", "", ""], "0:10000:13000 2:0:27000 "),
+    (
+        "G91",
+        ["1", "", "1", "", ""],
+        "0:13000:13500 2:27000:26000 ",
+    ),
+    (
+        "G90 G53",
+        ["2", "", "3", "", ""],
+        "0:13500:2000 2:26000:3000 ",
+    ),
+    (
+        "G91 G153",
+        ["2", "", "3", "", ""],
+        "0:2000:4000 2:3000:6000 ",
+    ),
+    (
+        "G90 SUPA",
+        ["I1", "", "A0.5", "", ""],
+        "0:4000:5000 2:6000:500 ",
+    ),
+    ("", ["4", "", "", "7", ""], "0:5000:13000 3:0:7000 "),
+];
+
+/// Under G54, with a turn of 90 degrees from Z towards X.
+static IN_A_TURN: [Row; 4] = [
+    ("", ["4", "", "3", "", ""], "0:10000:4000 2:0:46000 "),
+    ("G91", ["1", "", "2", "", ""], "0:4000:6000 2:46000:45000 "),
+    ("G90", ["7", "", "", "", ""], "2:45000:43000 "),
+    ("", ["", "", "7", "", ""], "0:6000:8000 "),
+];
+
+/// With no offset.
+static DIAMETERS: [Row; 16] = [
+    ("DIAMON", ["20.001", "", "", "", ""], "0:10000:10001 "),
+    (
+        "",
+        ["I5", "7", "7", "", ""],
+        "0:10001:12501 1:5000:7000 2:0:7000 ",
+    ),
+    ("DIAM90", ["20.001", "", "", "", ""], "0:12501:10001 "),
+    ("", ["I5", "", "", "", ""], "0:10001:15001 "),
+    ("G91", ["5", "", "", "", ""], "0:15001:20001 "),
+    ("", ["A5", "", "", "", ""], "0:20001:2500 "),
+    ("DIAMOF", ["7", "", "", "", ""], "0:2500:9500 "),
+    ("G90", ["7", "", "", "", ""], "0:9500:7000 "),
+    ("DIAMON", ["0.000999", "", "", "", ""], "0:7000:0 "),
+    ("", ["0.001", "", "", "", ""], "0:0:1 "),
+    ("", ["0.002999", "", "", "", ""], "0:1:1 "),
+    ("", ["0.003", "", "", "", ""], "0:1:2 "),
+    ("", ["0.001001", "", "", "", ""], "0:2:1 "),
+    ("", ["I0.000999", "", "", "", ""], "0:1:1 "),
+    ("", ["I0.001001", "", "", "", ""], "0:1:2 "),
+    ("", ["I-0.001", "", "", "", ""], "0:2:1 "),
+];
+
+/// With no offset and no frame.
+static ALARMS: [Row; 15] = [
+    ("", ["10000", "", "", "", ""], "0:10000:10000000 "),
+    ("", ["10000.001", "", "", "", ""], "ALARM 13"),
+    ("", ["I0.001", "", "", "", ""], "ALARM 13"),
+    ("", ["I-20000", "", "", "", ""], "0:10000000:-10000000 "),
+    ("", ["I20000.001", "", "", "", ""], "ALARM 13"),
+    ("", ["10000.0004", "", "", "", ""], "0:-10000000:10000000 "),
+    ("", ["10000.0005", "", "", "", ""], "ALARM 13"),
+    ("", ["", "", "", "-10000.001", ""], "ALARM 13"),
+    ("", ["", "", "", "", "I20000"], "ALARM 15"),
+    ("", ["", "", "", "", "I20000.001"], "ALARM 13"),
+    ("", ["", "", "", "", "I-20000.0005"], "ALARM 13"),
+    ("", ["", "", "", "", "10000.001"], "ALARM 13"),
+    ("", ["10001", "", "", "", "5"], "ALARM 13"),
+    ("", ["1", "", "", "", "5"], "ALARM 15"),
+    ("", ["1", "2", "", "", ""], "0:10000000:1000 1:5000:2000 "),
+];
+
+/// With no axis in the slots Y and Z, and a turn of 90 degrees from Z towards X.
+static NO_AXIS: [Row; 7] = [
+    ("", ["4", "", "", "", ""], "ALARM 14"),
+    ("", ["", "", "4", "", ""], "0:10000:5000 "),
+    ("", ["", "4", "", "", ""], "ALARM 14"),
+    ("", ["99999", "", "", "", ""], "ALARM 14"),
+    ("", ["4", "", "", "", "7"], "ALARM 14"),
+    ("G53", ["4", "", "", "", ""], "0:5000:4000 "),
+    ("G53", ["", "", "4", "", ""], "ALARM 14"),
+];
+
+/// With the axis W1 of another channel in the slot Y.
+static FOREIGN_SLOT: [Row; 3] = [
+    ("", ["", "I20000", "", "", ""], "ALARM 15"),
+    ("", ["", "I20000.001", "", "", ""], "ALARM 13"),
+    ("", ["", "10000.001", "", "", ""], "ALARM 13"),
+];
+
+#[test]
+fn axes_go_to_their_ends(rt: HostRuntime) -> Result<(), Fail> {
+    motions_begin_where_axes_stand();
+    alarms_are_listed();
+    let mut lathe = lathe_with_offsets(Frame::empty());
+    do_all(&rt, rt.alloc(), &mut lathe, &ENDS)
+}
+
+#[test]
+fn ends_go_through_the_frame(rt: HostRuntime) -> Result<(), Fail> {
+    let mut frame = Frame::empty();
+    frame.trans([num(10_000), None, num(-20_000)])?;
+    frame.ascale([num(500), None, None])?;
+    frame.amirror([None, None, num(0)])?;
+    let mut lathe = lathe_with_offsets(frame);
+    do_all(&rt, rt.alloc(), &mut lathe, &IN_A_FRAME)
+}
+
+#[test]
+fn a_turn_sends_axes_to_other_slots(rt: HostRuntime) -> Result<(), Fail> {
+    let mut frame = Frame::empty();
+    frame.arot(Plane::G18, num(90_000))?;
+    let mut turned = lathe_with_offsets(frame);
+    do_all(&rt, rt.alloc(), &mut turned, &IN_A_TURN)?;
+    let mut without = lathe_with_offsets(frame);
+    without.slots[1] = None;
+    without.slots[2] = None;
+    do_all(&rt, rt.alloc(), &mut without, &NO_AXIS)
+}
+
+#[test]
+fn diameters_are_halved(rt: HostRuntime) -> Result<(), Fail> {
+    let mut lathe = bare_lathe(Frame::empty());
+    do_all(&rt, rt.alloc(), &mut lathe, &DIAMETERS)
+}
+
+#[test]
+fn alarms_come_in_their_order(rt: HostRuntime) -> Result<(), Fail> {
+    let mut bare = bare_lathe(Frame::empty());
+    do_all(&rt, rt.alloc(), &mut bare, &ALARMS)?;
+    let mut foreign = bare_lathe(Frame::empty());
+    foreign.slots[1] = Some(AxisId { index: 4 });
+    do_all(&rt, rt.alloc(), &mut foreign, &FOREIGN_SLOT)
+}
