@@ -53,7 +53,7 @@ pub le_or_lt : (a b : ℕ) → (a ≤ b) ⊎ (b < a)
 le_or_lt a b = grind arith
 
 -- the end of an axis among them is that of its goal
-found : (at : ℕ → ℤ) (goals : List (Option Goal)) (axis : ℕ) → length goals ≡ 16
+pub found : (at : ℕ → ℤ) (goals : List (Option Goal)) (axis : ℕ) → length goals ≡ 16
     → option_map (λ (e : ℕ × ℤ × ℤ). e.2) (find (λ e. e.0 == axis) (ends_from at goals)) ≡ end_for at goals axis
 found at goals axis long = by_order (le_or_lt 16 axis)
   where

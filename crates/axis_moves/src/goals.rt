@@ -59,7 +59,7 @@ pub struct Conditions {
 
 /// Where an axis is to go.
 #[derive(Clone, Copy, Debug, PartialEq, Eq)]
-pub(crate) enum Goal {
+pub enum Goal {
     /// To this position, in micrometres.
     To(Um),
     /// On by so much, in micrometres.
@@ -69,7 +69,7 @@ pub(crate) enum Goal {
 }
 
 /// The code of the word of a group that holds in the block.
-fn word(conditions: &Conditions, group: u8) -> u16
+pub fn word(conditions: &Conditions, group: u8) -> u16
     requires { HasModalValue group }
     ensures { (h : InForce) → AreInForce h conditions.now → result ≡ h.word group }
 {
@@ -85,7 +85,7 @@ fn is_in_frame(conditions: &Conditions) -> bool
 }
 
 /// The frame of the block.
-fn frame_in(conditions: &Conditions) -> Frame
+pub fn frame_in(conditions: &Conditions) -> Frame
     ensures { (h : InForce) → AreInForce h conditions.now → IsComposed (model.chain_in h) result }
 {
     if is_in_frame(conditions) {
@@ -151,7 +151,7 @@ fn slot_of(frame: &Frame, axis: u8) -> u8
 }
 
 /// By how much X, Y or Z goes through the frame.
-fn change_through(frame: &Frame, axis: u8, twice: i64) -> Goal
+pub fn change_through(frame: &Frame, axis: u8, twice: i64) -> Goal
     requires { axis < 3 }
     ensures { (chain : List Map) → IsComposed chain frame.now
         → result ≡ model.change_by (change_of (image_of chain axis) twice) }
@@ -196,14 +196,14 @@ fn position_at(value: Num) -> Goal
 }
 
 /// Whether a count of micrometres is that of a position.
-pub(crate) fn is_position(micrometres: i32) -> bool
+pub fn is_position(micrometres: i32) -> bool
     ensures { result ≡ model.is_position micrometres }
 {
     micrometres.unsigned_abs() <= RANGE
 }
 
 /// The goal of X, Y or Z with this value, through the frame.
-fn goal_through(conditions: &Conditions, axis: u8, programmed: Programmed) -> Goal
+pub fn goal_through(conditions: &Conditions, axis: u8, programmed: Programmed) -> Goal
     requires { axis < 3 }
     ensures { (h : InForce) → AreInForce h conditions.now → result ≡ model.goal_through h axis programmed }
 {
@@ -234,7 +234,7 @@ fn goal_by_name(conditions: &Conditions, programmed: Programmed) -> Goal
 }
 
 /// The axis that X, Y or Z moves.
-fn axis_in(slots: &[Option<AxisId>; 3], conditions: &Conditions, axis: u8) -> Option<AxisId>
+pub fn axis_in(slots: &[Option<AxisId>; 3], conditions: &Conditions, axis: u8) -> Option<AxisId>
     requires { axis < 3 }
     ensures { (h : InForce) → AreInForce h conditions.now → result ≡ model.axis_in slots.now h axis }
 {
@@ -257,7 +257,7 @@ fn has_axis(
 
 /// Whether each of X, Y and Z that is programmed has an axis that it moves.
 #[tactic(auto, unfolding(crate::specs::Goals::have_axes))]
-pub(crate) fn have_axes(
+pub fn have_axes(
     slots: &[Option<AxisId>; 3],
     conditions: &Conditions,
     values: &[Option<Programmed>; 3],
@@ -314,7 +314,7 @@ fn with_goal(
 
 /// The goals of a block by the numbers of the axes.
 #[tactic(auto, unfolding(crate::specs::Goals::goals_of))]
-pub(crate) fn goals_of(
+pub fn goals_of(
     slots: &[Option<AxisId>; 3],
     conditions: &Conditions,
     targets: &Targets,

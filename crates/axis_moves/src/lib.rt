@@ -8,6 +8,11 @@ mod goals;
 mod laws;
 mod motions;
 
-pub use goals::{Conditions, Programmed, Targets};
+pub use goals::{
+    Conditions, Goal, Programmed, Targets, axis_in, change_through, frame_in, goal_through,
+    goals_of, have_axes, is_position, word,
+};
 pub use laws::{alarms_are_listed, motions_begin_where_axes_stand};
-pub use motions::make_item;
+pub use motions::{
+    are_in_reach, are_own, end_from, is_goal_in_reach, make_item, move_axes, stands,
+};

@@ -12,7 +12,7 @@ use path_geometry::{Ends, Motion};
 use sync_types::{Item, Part};
 
 /// Where an axis stands.
-fn stands(at: &Positions, axis: AxisId) -> Um
+pub fn stands(at: &Positions, axis: AxisId) -> Um
     ensures { result ≡ model.stands at.now axis }
 {
     match at.get(axis) {
@@ -32,7 +32,7 @@ fn is_in_reach(owned: bool, start: Um, goal: Option<Goal>) -> bool
 }
 
 /// Whether an axis that starts there reaches its goal.
-fn is_goal_in_reach(owned: bool, start: Um, goal: Goal) -> bool
+pub fn is_goal_in_reach(owned: bool, start: Um, goal: Goal) -> bool
     ensures { result ≡ model.is_goal_in_reach owned start goal }
 {
     match goal {
@@ -44,7 +44,7 @@ fn is_goal_in_reach(owned: bool, start: Um, goal: Goal) -> bool
 
 /// Whether all goals are in reach.
 #[tactic(auto, unfolding(crate::specs::Motions::are_in_reach))]
-fn are_in_reach(owned: AxisSet, at: &Positions, goals: &[Option<Goal>; 16]) -> bool
+pub fn are_in_reach(owned: AxisSet, at: &Positions, goals: &[Option<Goal>; 16]) -> bool
     ensures { result ≡ model.are_in_reach owned (model.stands at.now) goals.now }
 {
     for index in 0..16 {
@@ -58,7 +58,7 @@ fn are_in_reach(owned: AxisSet, at: &Positions, goals: &[Option<Goal>; 16]) -> b
 
 /// Whether all goals are those of axes of the set.
 #[tactic(auto, unfolding(crate::specs::Motions::are_own))]
-fn are_own(owned: AxisSet, goals: &[Option<Goal>; 16]) -> bool
+pub fn are_own(owned: AxisSet, goals: &[Option<Goal>; 16]) -> bool
     ensures { result ≡ model.are_own owned goals.now }
 {
     for index in 0..16 {
@@ -71,7 +71,7 @@ fn are_own(owned: AxisSet, goals: &[Option<Goal>; 16]) -> bool
 }
 
 /// Where an axis ends that starts there.
-fn end_from(start: Um, goal: Goal) -> Um
+pub fn end_from(start: Um, goal: Goal) -> Um
     requires { IsTrue (model.is_goal_in_reach true start goal) }
     ensures { result ≡ model.end_from start goal }
 {
@@ -85,7 +85,7 @@ fn end_from(start: Um, goal: Goal) -> Um
 }
 
 /// Moves the axes to their goals, and answers their starts and ends.
-fn move_axes(goals: &[Option<Goal>; 16], at: &mut Positions) -> Ends
+pub fn move_axes(goals: &[Option<Goal>; 16], at: &mut Positions) -> Ends
     requires { model.AreReached (model.stands at.old) goals.now }
     ensures ends { result.axes ≡ model.ends_from (model.stands at.old) goals.now }
     ensures stand { model.StandsMoved goals.now at.old at.new }

@@ -17,10 +17,10 @@ type Row = (&'static str, [&'static str; 5], &'static str);
 
 /// What stays from block to block.
 #[derive(Drop)]
-struct Lathe {
-    slots: [Option<AxisId>; 3],
-    conditions: Conditions,
-    at: Positions,
+pub(crate) struct Lathe {
+    pub(crate) slots: [Option<AxisId>; 3],
+    pub(crate) conditions: Conditions,
+    pub(crate) at: Positions,
 }
 
 /// A lathe with X1, Y1 and Z1 in its slots, which stand at 10, 5 and 0 millimetres.
@@ -46,12 +46,12 @@ fn lathe_with(frame: Frame, offsets: [Um; 3]) -> Lathe {
 }
 
 /// A lathe with offsets of X and Z.
-fn lathe_with_offsets(frame: Frame) -> Lathe {
+pub(crate) fn lathe_with_offsets(frame: Frame) -> Lathe {
     lathe_with(frame, [um(1_000), um(0), um(50_000)])
 }
 
 /// A lathe with no offset.
-fn bare_lathe(frame: Frame) -> Lathe {
+pub(crate) fn bare_lathe(frame: Frame) -> Lathe {
     lathe_with(frame, [um(0), um(0), um(0)])
 }
 
@@ -62,14 +62,14 @@ fn um(micrometres: u16) -> Um {
 }
 
 /// The number of so many thousandths.
-fn num(thousandths: i32) -> Option<Num> {
+pub(crate) fn num(thousandths: i32) -> Option<Num> {
     Some(Num {
         millionths: i64::from(thousandths) * 1000,
     })
 }
 
 /// The axes of the channel.
-fn owned() -> AxisSet {
+pub(crate) fn owned() -> AxisSet {
     AxisSet::empty()
         .with(AxisId { index: 0 })
         .with(AxisId { index: 1 })
@@ -78,10 +78,12 @@ fn owned() -> AxisSet {
 }
 
 /// The modal words after the words of a block.
-fn after(modal: &Modal, words: &str) -> Result<Modal, u16> {
+pub(crate) fn after(modal: &Modal, words: &str) -> Result<Modal, u16> {
     let measure = |code| GWord { group: 14, code };
     let of_block = |code| GWord { group: 9, code };
     let diameter = |code| GWord { group: 29, code };
+    let plane = |code| GWord { group: 6, code };
+    let motion = |code| GWord { group: 1, code };
     match words {
         "G90" => apply(modal, &[measure(90)]),
         "G91" => apply(modal, &[measure(91)]),
@@ -89,6 +91,13 @@ fn after(modal: &Modal, words: &str) -> Result<Modal, u16> {
         "G90 G53" => apply(modal, &[measure(90), of_block(53)]),
         "G91 G153" => apply(modal, &[measure(91), of_block(153)]),
         "G90 SUPA" => apply(modal, &[measure(90), of_block(3)]),
+        "SUPA" => apply(modal, &[of_block(3)]),
+        "G1" => apply(modal, &[motion(1)]),
+        "G2" => apply(modal, &[motion(2)]),
+        "G3" => apply(modal, &[motion(3)]),
+        "G17" => apply(modal, &[plane(17)]),
+        "G18" => apply(modal, &[plane(18)]),
+        "G19" => apply(modal, &[plane(19)]),
         "DIAMON" => apply(modal, &[diameter(1)]),
         "DIAMOF" => apply(modal, &[diameter(2)]),
         "DIAM90" => apply(modal, &[diameter(3)]),
@@ -97,8 +106,8 @@ fn after(modal: &Modal, words: &str) -> Result<Modal, u16> {
 }
 
 /// A value, as it stands behind the letter of its axis, with A for AC and I for IC; none of an empty text.
-fn value(text: &str) -> Result<Option<Programmed>, Fail> {
-    match text.as_bytes() {
+pub(crate) fn value(text: &[u8]) -> Result<Option<Programmed>, Fail> {
+    match text {
         [] => Ok(None),
         [b'A', digits @ ..] => Ok(Some(programmed(Measure::Absolute, digits)?)),
         [b'I', digits @ ..] => Ok(Some(programmed(Measure::Incremental, digits)?)),
@@ -119,9 +128,14 @@ fn programmed(measure: Measure, text: &[u8]) -> Result<Programmed, Fail> {
 /// What a block programs.
 fn targets(texts: &[&str; 5]) -> Result<Targets, Fail> {
     let mut axes = [None; 16];
-    axes[3] = value(texts[3])?;
-    axes[4] = value(texts[4])?;
-    let slots = [value(texts[0])?, value(texts[1])?, value(texts[2])?];
+    axes[3] = value(texts[3].as_bytes())?;
+    axes[4] = value(texts[4].as_bytes())?;
+    let [x, y, z] = [texts[0], texts[1], texts[2]];
+    let slots = [
+        value(x.as_bytes())?,
+        value(y.as_bytes())?,
+        value(z.as_bytes())?,
+    ];
     Ok(Targets { slots, axes })
 }
 

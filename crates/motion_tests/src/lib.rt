@@ -5,6 +5,8 @@
 #![tactic(auto)]
 
 #[cfg(test)]
+mod arc_blocks;
+#[cfg(test)]
 mod block_moves;
 #[cfg(test)]
 mod boxes;
