@@ -1,6 +1,6 @@
 //! Laws of segments.
 
-ghost use Rattle.std.specs.Prelude.{◌≡◌, ◌≤◌, ℕ, All, List, Some, length, slice_get, take};
+ghost use Rattle.std.specs.Prelude.{◌≡◌, ◌≤◌, ℕ, All, Some, length, slice_get, take};
 ghost use Rattle.path_geometry.specs.Motions.{IsInRange, IsSound};
 ghost use Rattle.axis_moves.specs.Motions.{IsMotionOf, left_at};
 ghost use Rattle.sync_types.specs.Items.{motion_of};

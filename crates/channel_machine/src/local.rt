@@ -1,6 +1,6 @@
 //! A channel between two blocks.
 
-ghost use Rattle.std.specs.Prelude.{◌≡◌, ◌==◌, ◌&&◌, ℕ, find, option_and_then, slice_get, IfOk, IfSome};
+ghost use Rattle.std.specs.Prelude.{◌≡◌, option_and_then, slice_get, IfOk, IfSome};
 ghost use Rattle.std.specs.Option.{option_map_or};
 ghost use Rattle.channel_machine.specs.Kept.{IsSettingIn, Keeps, kept_by};
 ghost use Rattle.channel_machine.specs.Levels.{LevelsFit};

@@ -1,9 +1,8 @@
 //! A segment of a channel's run, one block after another.
 
-ghost use Rattle.std.specs.Prelude.{◌≡◌, ◌≤◌, ◌<◌, ◌+◌, ◌^◌, ◌++◌, ◌==◌, ℕ, All, map, length, option_copied, slice_get, IfOk, IfNone, IfSome, MatchOption, None, OnOk, Ok};
+ghost use Rattle.std.specs.Prelude.{◌≡◌, ◌≤◌, ◌<◌, ◌+◌, ◌++◌, length, slice_get, IfOk, IfNone, IfSome, MatchOption, None, OnOk};
 ghost use Rattle.std.specs.Option.{option_to_list};
 ghost use Rattle.axis_moves.specs.Motions.{stands};
-ghost use Rattle.axis_sets.specs.Positions.{position_of};
 ghost use Rattle.block_effects.specs.Courses.{course_view};
 ghost use Rattle.nc_blocks.specs.Statement.{statement_view, view_of};
 ghost use Rattle.nc_control_flow.specs.Parts.{statement_at, views};

@@ -1,6 +1,6 @@
 //! What the blocks of a channel find in its job.
 
-ghost use Rattle.std.specs.Prelude.{◌≡◌, ◌≤◌, ◌==◌, ◌&&◌, find, length, position};
+ghost use Rattle.std.specs.Prelude.{◌≡◌, ◌≤◌, length, position};
 ghost use Rattle.std.specs.Str.{bytes_eq};
 ghost use Rattle.tape_job.specs.Rules.{axis_at};
 ghost use Rattle.channel_machine.specs.Run as model;

@@ -5,11 +5,11 @@ use Rattle.std.proofs.Math.ListN.{get_or-eq_default}
 use Rattle.std.proofs.lemmas.Bool.Decides.{eqb_tells}
 use Rattle.std.proofs.lemmas.List.Elements.{All-tail}
 use Rattle.tape_job.specs.declared.job.ZoneLine.{ZoneLine}
+use Rattle.job_verdict.specs.BoxView.{BoxView}
 use Rattle.job_verdict.specs.Channels.{positions_in}
 use Rattle.path_geometry.specs.Motions.{axes_of}
 use Rattle.job_verdict.specs.ZoneBoxes.{zone_box, low_in, high_in, after, moves_zone, walk, boxes_of, Waiting, Moving, PlaceBox, moving_box, standing_box, shown_box, boxes_during, moving_boxes}
 use Rattle.sync_types.specs.declared.Item.{Item}
-use Rattle.job_verdict.specs.declared.zone_boxes.ZoneBox.{ZoneBox}
 use Rattle.job_verdict.proofs.Positions.{le_or_lt}
 use Rattle.sync_types.specs.Items.{motion_of}
 
@@ -40,18 +40,18 @@ all_after item old new within few many put k = elim (le_or_lt 16 k) [
 ]
 
 -- the boxes of the motions, or the one where the zone stands
-abbrev pub or_standing : List ZoneBox → ZoneBox → List ZoneBox
+abbrev pub or_standing : List BoxView → BoxView → List BoxView
 or_standing [] box = box ∷ []
 or_standing (x ∷ xs) box = x ∷ xs
 
 -- a motion of the zone has a box of its own after the one that is open
-after_moving : (b : Bool) (f : PlaceBox → ZoneBox) (xs ys : List PlaceBox) (first own : ZoneBox) (rest : List ZoneBox)
+after_moving : (b : Bool) (f : PlaceBox → BoxView) (xs ys : List PlaceBox) (first own : BoxView) (rest : List BoxView)
     → map f xs ≡ first ∷ own ∷ rest → map f ys ≡ first ∷ rest → map f (cond b xs ys) ≡ first ∷ (cond b (own ∷ []) [] ++ rest)
 after_moving true f xs ys first own rest h k = h
 after_moving false f xs ys first own rest h k = k
 
 -- and takes over the one that waits
-after_waiting : (b : Bool) (f : PlaceBox → ZoneBox) (xs ys : List PlaceBox) (own standing : ZoneBox) (rest : List ZoneBox)
+after_waiting : (b : Bool) (f : PlaceBox → BoxView) (xs ys : List PlaceBox) (own standing : BoxView) (rest : List BoxView)
     → map f xs ≡ own ∷ rest → map f ys ≡ or_standing rest standing → map f (cond b xs ys) ≡ or_standing (cond b (own ∷ []) [] ++ rest) standing
 after_waiting true f xs ys own standing rest h k = h
 after_waiting false f xs ys own standing rest h k = k
@@ -62,7 +62,7 @@ unfolding shown_box boxes_during
 shown_moving margin zone line place from item began at [] = refl
 shown_moving margin zone line place from item began at (next ∷ items) =
     after_moving (moves_zone zone next) (shown_box margin zone line) _ _ (moving_box margin zone item began) (moving_box margin zone next at) (moving_boxes margin zone (after next at) items)
-    (ap (λ (boxes : List ZoneBox). moving_box margin zone item began ∷ boxes) (shown_moving margin zone line (place + 1) place next at (after next at) items))
+    (ap (λ (boxes : List BoxView). moving_box margin zone item began ∷ boxes) (shown_moving margin zone line (place + 1) place next at (after next at) items))
     (shown_moving margin zone line (place + 1) from item began (after next at) items)
 
 shown_waiting : (margin : ℤ) (zone : ZoneLine) (line place from : ℕ) (began at : ℕ → ℤ) (items : List Item)
@@ -75,11 +75,11 @@ shown_waiting margin zone line place from began at (next ∷ items) =
     (shown_waiting margin zone line (place + 1) from began (after next at) items)
 
 -- a list that is not empty, and one that is
-pub filled : (xs : List ZoneBox) (box : ZoneBox) → (length xs == 0) ≡ false → xs ≡ or_standing xs box
+pub filled : (xs : List BoxView) (box : BoxView) → (length xs == 0) ≡ false → xs ≡ or_standing xs box
 filled [] box e = absurd (cc)
 filled (x ∷ xs) box e = refl
 
-pub emptied : (xs : List ZoneBox) (box : ZoneBox) → (length xs == 0) ≡ true → xs ++ box ∷ [] ≡ or_standing xs box
+pub emptied : (xs : List BoxView) (box : BoxView) → (length xs == 0) ≡ true → xs ++ box ∷ [] ≡ or_standing xs box
 emptied [] box e = refl
 emptied (x ∷ xs) box e = absurd (omega (arith, eqb-true (length (x ∷ xs)) 0 e))
 

@@ -77,17 +77,17 @@ count_stretches job zone other s t p q =
     (count_boxes zone other s t ∙ rw (length-map s.boxes (shown_box job.margin zone s.line), length-map t.boxes (shown_box job.margin other t.line)) refl))
 
 -- the pairs of two zones
-count_zones : (job : JobView) (zone other : ZoneLine) → length (pairs_of_zones own_clock job zone other) ≡ sum_by (count_against (held_zone job other)) (held_zone job zone).stretches
+count_zones : (job : JobView) → IsRunnable job → (zone other : ZoneLine) → length (pairs_of_zones own_clock job zone other) ≡ sum_by (count_against (held_zone job other)) (held_zone job zone).stretches
 unfolding pairs_of_zones held_zone count_against
-count_zones job zone other =
+count_zones job runnable zone other =
     length-flat_map (λ (s : Stretch). flat_map (λ (t : Stretch). stretch_pairs own_clock zone s other t) (stretches_of job other)) (stretches_of job zone)
     ∙ sum_by-timed (λ (s : Stretch). length (flat_map (λ (t : Stretch). stretch_pairs own_clock zone s other t) (stretches_of job other)))
     (λ (s : Stretch). sum_by (count_in_stretches (shown_stretch job zone s)) (map (shown_stretch job other) (stretches_of job other)))
     (λ s timed. length-flat_map (λ (t : Stretch). stretch_pairs own_clock zone s other t) (stretches_of job other)
     ∙ sum_by-timed (λ (t : Stretch). length (stretch_pairs own_clock zone s other t)) (λ (t : Stretch). count_in_stretches (shown_stretch job zone s) (shown_stretch job other t))
-    (λ t later. count_stretches job zone other s t timed later) (stretches_of job other) (all_timed job other)
+    (λ t later. count_stretches job zone other s t timed later) (stretches_of job other) (all_timed job runnable other)
     ∙ sym (sum_by-map (count_in_stretches (shown_stretch job zone s)) (shown_stretch job other) (stretches_of job other)))
-    (stretches_of job zone) (all_timed job zone)
+    (stretches_of job zone) (all_timed job runnable zone)
     ∙ sym (sum_by-map (λ (view : StretchView). sum_by (count_in_stretches view) (map (shown_stretch job other) (stretches_of job other))) (shown_stretch job zone) (stretches_of job zone))
 
 unless : (b : Bool) (m n : ℕ) → m ≡ n → cond (not b) m 0 ≡ cond b 0 n
@@ -97,26 +97,26 @@ unless false m n e = e
 of_pair : JobView → ZoneLine × ZoneLine → ℕ
 of_pair job pair = length (pairs_of_zones own_clock job pair.0 pair.1)
 
-count_groups : (job : JobView) (zones : List ZoneLine) → sum_by (of_pair job) (pairs_by_group zones) ≡ count_of (map (held_zone job) zones)
+count_groups : (job : JobView) → IsRunnable job → (zones : List ZoneLine) → sum_by (of_pair job) (pairs_by_group zones) ≡ count_of (map (held_zone job) zones)
 unfolding of_pair count_of_zones held_zone
-count_groups job [] = refl
-count_groups job (zone ∷ zones) =
+count_groups job runnable [] = refl
+count_groups job runnable (zone ∷ zones) =
     sum_by-append (of_pair job) (map (λ (other : ZoneLine). (zone, other)) (filter (λ other. not (zone.group == other.group)) zones)) (pairs_by_group zones)
     ∙ ap (λ (n : ℕ). n + sum_by (of_pair job) (pairs_by_group zones))
     (sum_by-map (of_pair job) (λ (other : ZoneLine). (zone, other)) (filter (λ other. not (zone.group == other.group)) zones)
     ∙ sum_by-filter (λ (other : ZoneLine). of_pair job (zone, other)) (λ other. not (zone.group == other.group)) zones
     ∙ sum_by-same (λ (other : ZoneLine). cond (not (zone.group == other.group)) (of_pair job (zone, other)) 0) (λ (other : ZoneLine). count_of_zones (held_zone job zone) (held_zone job other)) (with_other zone) zones
     ∙ sym (sum_by-map (count_of_zones (held_zone job zone)) (held_zone job) zones))
-    ∙ ap (λ (n : ℕ). sum_by (count_of_zones (held_zone job zone)) (map (held_zone job) zones) + n) (count_groups job zones)
+    ∙ ap (λ (n : ℕ). sum_by (count_of_zones (held_zone job zone)) (map (held_zone job) zones) + n) (count_groups job runnable zones)
   where
     with_other : (zone other : ZoneLine) → cond (not (zone.group == other.group)) (of_pair job (zone, other)) 0 ≡ count_of_zones (held_zone job zone) (held_zone job other)
-    with_other zone other = unless (zone.group == other.group) _ _ (count_zones job zone other)
+    with_other zone other = unless (zone.group == other.group) _ _ (count_zones job runnable zone other)
 
 -- the count by the numbers of boxes is the number of the compared pairs
-pub count_is : (job : JobView) → count_of (map (held_zone job) (zones_in_order job)) ≡ pair_count job
+pub count_is : (job : JobView) → IsRunnable job → count_of (map (held_zone job) (zones_in_order job)) ≡ pair_count job
 unfolding pair_count compared_pairs zone_pairs of_pair
-count_is job =
-    sym (length-flat_map (λ (pair : ZoneLine × ZoneLine). pairs_of_zones own_clock job pair.0 pair.1) (pairs_by_group (zones_in_order job)) ∙ count_groups job (zones_in_order job))
+count_is job runnable =
+    sym (length-flat_map (λ (pair : ZoneLine × ZoneLine). pairs_of_zones own_clock job pair.0 pair.1) (pairs_by_group (zones_in_order job)) ∙ count_groups job runnable (zones_in_order job))
 
 -- ---- its bound
 

@@ -1,38 +1,32 @@
 -- The verdict of the comparison is that of the definition.
-use Rattle.std.proofs.Common.{◌≡◌, ℕ, ℤ, ◌==◌, ◌&&◌, ◌||◌, not, cond, nat_lt, Bool, true, false, inl, inr, List, [], ◌∷◌, ◌++◌, map, filter, refl, ap, sym, ◌∙◌, Option, None, Some, find, eqb-true}
+use Rattle.std.proofs.Common.{◌≡◌, ℕ, ◌==◌, ◌&&◌, not, cond, nat_lt, Bool, true, false, inl, inr, List, [], ◌∷◌, ◌++◌, map, filter, refl, ap, sym, ◌∙◌, Option, None, Some, find, eqb-true}
 use Rattle.std.specs.List.{flat_map}
 use Rattle.std.specs.Option.{option_map, option_map_or, option_or}
 use Rattle.std.proofs.lemmas.Bool.Decides.{eqb_tells}
+use Rattle.std.proofs.lemmas.List.Elements.{All-nil}
 use Rattle.std.proofs.lemmas.List.Folds.{find-append}
-use Rattle.swept_boxes.specs.Cover.{cover_of}
-use Rattle.swept_boxes.specs.Pieces.{pieces_at}
-use Rattle.swept_boxes.specs.Ranges.{RangesView}
-use Rattle.swept_boxes.specs.declared.Box3.{Box3}
-use Rattle.path_geometry.specs.declared.motion.Motion.{Motion}
-use Rattle.path_geometry.specs.declared.motion.Motion.TheVariants.{Line, Rapid}
-use Rattle.path_geometry.specs.declared.motion.Motion.TheVariants as Kind
-use Rattle.swept_boxes.proofs.PieceLaws.{whole_line}
 use Rattle.tape_job.specs.Job.{JobView}
 use Rattle.tape_job.specs.declared.job.ChannelLine.{ChannelLine}
 use Rattle.tape_job.specs.declared.job.ZoneLine.{ZoneLine}
 use Rattle.job_verdict.proofs.SomeLemmas.{found_passes}
-use Rattle.job_verdict.proofs.Runs.{granted_join}
-use Rattle.job_verdict.proofs.StraightLemmas.{OfItem, MovesStraight, AllMoveStraight, joined_straight, boxes_straight}
+use Rattle.job_verdict.proofs.PieceBoxes.{meets_by_pieces}
+use Rattle.job_verdict.proofs.Runs.{good_run}
+use Rattle.job_verdict.proofs.SoundBoxes.{AllMoveSoundly, boxes_sound}
+use Rattle.job_verdict.specs.BoxView.{BoxView, MovesSoundly}
 use Rattle.job_verdict.specs.ChannelRun.{RunView, run_of, runs_of, run_in}
-use Rattle.job_verdict.specs.Channels.{start_position, granted_position, items_of}
+use Rattle.job_verdict.specs.Channels.{start_position, items_of, IsRunnable}
 use Rattle.job_verdict.specs.FirstAnswer.{first_some}
-use Rattle.axis_moves.specs.Motions.{left_at, IsStraight}
-use Rattle.job_verdict.specs.Clash.{own_clock, is_open_at, may_overlap, zones_in_order, pairs_by_group, zone_pairs, BoxPlace, box_pairs, stretch_pairs, pairs_of_zones, compared_pairs, boxes_meet, pair_meets, name_of, pairs_verdict}
-use Rattle.job_verdict.specs.ShownStretches.{run_stretch, end_stretch, shown_stretch, held_zone, share_channel, are_run_and_end, do_overlap, first_touched, first_lines, named, first_in_stretches, first_against, first_of_zones, first_meeting, verdict_by}
+use Rattle.axis_moves.specs.Motions.{left_at}
+use Rattle.job_verdict.specs.Clash.{own_clock, is_open_at, may_overlap, zones_in_order, pairs_by_group, zone_pairs, BoxPlace, box_pairs, stretch_pairs, pairs_of_zones, compared_pairs, pair_meets, name_of, pairs_verdict}
+use Rattle.job_verdict.specs.PieceTests.{do_meet}
+use Rattle.job_verdict.specs.ShownStretches.{measure_of, lines_of, run_stretch, end_stretch, shown_stretch, held_zone, share_channel, are_run_and_end, do_overlap, first_touched, first_lines, named, first_in_stretches, first_against, first_of_zones, first_meeting, verdict_by}
 use Rattle.job_verdict.specs.Stretches.{Event, Stretch, spans_of, stretches_from, channel_line, free_stretch, stretches_of}
 use Rattle.job_verdict.specs.StretchView.{StretchView}
-use Rattle.job_verdict.specs.ZoneBoxes.{PlaceBox, zone_box, low_in, high_in, boxes_of, shown_box, moving_box, standing_box, piece_boxes, moves_zone, has_axis}
+use Rattle.job_verdict.specs.ZoneBoxes.{IsFit, PlaceBox, boxes_of, shown_box, moving_box, standing_box, moves_zone, has_axis}
 use Rattle.sync_types.specs.declared.Item.{Item}
 use Rattle.job_verdict.specs.declared.stretches.PlaceName.{PlaceName}
 use Rattle.job_verdict.specs.declared.stretches.StretchKind.{StretchKind}
 use Rattle.job_verdict.specs.declared.stretches.StretchKind.TheVariants.{Run, End, Free}
-use Rattle.job_verdict.specs.declared.zone_boxes.ZoneBox.{ZoneBox}
-use Rattle.sync_types.specs.Items.{motion_of}
 
 -- ---- the first answer
 
@@ -86,34 +80,14 @@ find-map test g (x ∷ xs) = rw (find-map test g xs) (sym (cond-map (test (g x))
 abbrev names_of : BoxPlace × BoxPlace → PlaceName × PlaceName
 names_of pair = (name_of pair.0, name_of pair.1)
 
-whole_motion : (motion : Motion) → IsStraight motion → pieces_at motion 0 ≡ cover_of motion ∷ []
-whole_motion (Rapid ends) straight = absurd straight
-whole_motion (Kind.Arc arc) straight = absurd straight
-whole_motion (Line ends) straight = ap (λ (r : RangesView). r ∷ []) (whole_line ends)
+abbrev pair_of : ZoneLine → Stretch → PlaceBox → ZoneLine → Stretch → PlaceBox → BoxPlace × BoxPlace
+pair_of zone s l other t r = (record { zone = zone; stretch = s; box = l }, record { zone = other; stretch = t; box = r })
 
--- where motions are not cut, a box that moves straight has one piece, its cover
-one_piece : (margin : ℤ) (zone : ZoneLine) (line : ℕ) (box : PlaceBox) → MovesStraight box → piece_boxes margin zone 0 box ≡ (shown_box margin zone line box).cover ∷ []
-unfolding piece_boxes shown_box moving_box standing_box
-one_piece margin zone line box moves = go box.motion refl moves
-  where
-    go : (m : Option Item) → box.motion ≡ m → OfItem m → piece_boxes margin zone 0 box ≡ (shown_box margin zone line box).cover ∷ []
-    go None e straight = rw e refl
-    go (Some item) e straight = rw e
-        (ap (λ (pieces : List RangesView). map (λ ranges. zone_box margin zone (low_in ranges box.at) (high_in ranges box.at)) pieces) (whole_motion (motion_of item) straight))
-
-or_false : (b : Bool) → (b || false) ≡ b
-or_false true = refl
-or_false false = refl
-
--- so two boxes are compared by their covers
-pair_by_covers : (job : JobView) → job.depth ≡ 0 → (zone other : ZoneLine) (s t : Stretch) (l r : PlaceBox) → MovesStraight l → MovesStraight r
-    → pair_meets job (record { zone = zone; stretch = s; box = l }, record { zone = other; stretch = t; box = r })
-    ≡ boxes_meet (shown_box job.margin zone s.line l).cover (shown_box job.margin other t.line r).cover
-unfolding pair_meets
-pair_by_covers job uncut zone other s t l r p q =
-    let left : Box3 = (shown_box job.margin zone s.line l).cover in
-    let right : Box3 = (shown_box job.margin other t.line r).cover in
-    rw (uncut, one_piece job.margin zone s.line l p, one_piece job.margin other t.line r q) (or_false (boxes_meet left right || false) ∙ or_false (boxes_meet left right))
+-- two boxes are compared by their covers first, and then by their pieces
+pair_by_pieces : (job : JobView) (zone other : ZoneLine) (s t : Stretch) (l r : PlaceBox) → MovesSoundly l.motion → MovesSoundly r.motion
+    → pair_meets job (pair_of zone s l other t r) ≡ do_meet (measure_of job) zone (shown_box job.margin zone s.line l) other (shown_box job.margin other t.line r)
+unfolding pair_meets measure_of
+pair_by_pieces job zone other s t l r p q = meets_by_pieces (measure_of job) zone other s.line t.line l r p q
 
 -- and named by the lines that they show
 name_by_line : (job : JobView) (zone : ZoneLine) (s : Stretch) (box : PlaceBox)
@@ -129,57 +103,46 @@ name_by_line job zone s box = go box.motion refl
 abbrev named_by : JobView → ZoneLine → Stretch → ZoneLine → Stretch → ℕ × ℕ → PlaceName × PlaceName
 named_by job zone s other t lines = (named zone (shown_stretch job zone s) lines.0, named other (shown_stretch job other t) lines.1)
 
-abbrev pair_of : ZoneLine → Stretch → PlaceBox → ZoneLine → Stretch → PlaceBox → BoxPlace × BoxPlace
-pair_of zone s l other t r = (record { zone = zone; stretch = s; box = l }, record { zone = other; stretch = t; box = r })
-
 names_by_lines : (job : JobView) (zone other : ZoneLine) (s t : Stretch) (l r : PlaceBox)
     → names_of (pair_of zone s l other t r) ≡ named_by job zone s other t ((shown_box job.margin zone s.line l).line, (shown_box job.margin other t.line r).line)
 names_by_lines job zone other s t l r = rw (name_by_line job zone s l, name_by_line job other t r) refl
 
-found_step : (b : Bool) (names : PlaceName × PlaceName) (pair : BoxPlace × BoxPlace) (rest : Option (BoxPlace × BoxPlace)) (name : ZoneBox → PlaceName × PlaceName) (box : ZoneBox) (boxes : Option ZoneBox)
-    → names_of pair ≡ name box → option_map names_of rest ≡ option_map name boxes
-    → option_map names_of (cond b (Some pair) rest) ≡ option_map name (cond b (Some box) boxes)
-found_step true names pair rest name box boxes h k = ap (λ (n : PlaceName × PlaceName). Some n) h
-found_step false names pair rest name box boxes h k = k
+found_step : (b : Bool) (pair : BoxPlace × BoxPlace) (rest : Option (BoxPlace × BoxPlace)) (name : ℕ × ℕ → PlaceName × PlaceName) (lines : ℕ × ℕ) (others : Option (ℕ × ℕ))
+    → names_of pair ≡ name lines → option_map names_of rest ≡ option_map name others
+    → option_map names_of (cond b (Some pair) rest) ≡ option_map name (option_or (cond b (Some lines) None) others)
+found_step true pair rest name lines others h k = ap (λ (n : PlaceName × PlaceName). Some n) h
+found_step false pair rest name lines others h k = k
 
 -- the first of some boxes that meets a box, and how the two are named
-touched_by_covers : (job : JobView) → job.depth ≡ 0 → (zone other : ZoneLine) (s t : Stretch) (l : PlaceBox) (rs : List PlaceBox) → MovesStraight l → AllMoveStraight rs
+touched_by_lines : (job : JobView) (zone other : ZoneLine) (s t : Stretch) (l : PlaceBox) (rs : List PlaceBox) → MovesSoundly l.motion → AllMoveSoundly rs
     → option_map names_of (find (pair_meets job) (map (pair_of zone s l other t) rs))
-    ≡ option_map (λ (box : ZoneBox). named_by job zone s other t ((shown_box job.margin zone s.line l).line, box.line))
-    (find (λ box. boxes_meet (shown_box job.margin zone s.line l).cover box.cover) (map (shown_box job.margin other t.line) rs))
-touched_by_covers job uncut zone other s t l [] p q = refl
-touched_by_covers job uncut zone other s t l (r ∷ rs) p q =
-    rw (pair_by_covers job uncut zone other s t l r p q.0)
-    (found_step (boxes_meet (shown_box job.margin zone s.line l).cover (shown_box job.margin other t.line r).cover) (names_of (pair_of zone s l other t r)) (pair_of zone s l other t r) _
-    (λ (box : ZoneBox). named_by job zone s other t ((shown_box job.margin zone s.line l).line, box.line)) (shown_box job.margin other t.line r) _
-    (names_by_lines job zone other s t l r) (touched_by_covers job uncut zone other s t l rs p q.1))
+    ≡ option_map (named_by job zone s other t)
+    (first_some (lines_of (measure_of job) zone (shown_box job.margin zone s.line l) other) (map (shown_box job.margin other t.line) rs))
+unfolding lines_of
+touched_by_lines job zone other s t l [] p q = refl
+touched_by_lines job zone other s t l (r ∷ rs) p q =
+    rw (pair_by_pieces job zone other s t l r p q.0)
+    (found_step (do_meet (measure_of job) zone (shown_box job.margin zone s.line l) other (shown_box job.margin other t.line r)) (pair_of zone s l other t r) _
+    (named_by job zone s other t) ((shown_box job.margin zone s.line l).line, (shown_box job.margin other t.line r).line) _
+    (names_by_lines job zone other s t l r) (touched_by_lines job zone other s t l rs p q.1))
 
-touched_by_lines : (job : JobView) → job.depth ≡ 0 → (zone other : ZoneLine) (s t : Stretch) (l : PlaceBox) → MovesStraight l → AllMoveStraight t.boxes
-    → option_map names_of (find (pair_meets job) (map (pair_of zone s l other t) t.boxes))
-    ≡ option_map (named_by job zone s other t) (first_touched (map (shown_box job.margin other t.line) t.boxes) (shown_box job.margin zone s.line l))
-unfolding first_touched
-touched_by_lines job uncut zone other s t l p q =
-    touched_by_covers job uncut zone other s t l t.boxes p q
-    ∙ sym (option_map-map (named_by job zone s other t) (λ (box : ZoneBox). let lines : ℕ × ℕ = ((shown_box job.margin zone s.line l).line, box.line) in lines)
-    (find (λ box. boxes_meet (shown_box job.margin zone s.line l).cover box.cover) (map (shown_box job.margin other t.line) t.boxes)))
-
-first_some-straight : {Y : Type 0} (f g : PlaceBox → Option Y) → ((l : PlaceBox) → MovesStraight l → f l ≡ g l) → (ls : List PlaceBox) → AllMoveStraight ls → first_some f ls ≡ first_some g ls
-first_some-straight f g same [] all = refl
-first_some-straight f g same (l ∷ ls) all = rw (same l all.0, first_some-straight f g same ls all.1) refl
+first_some-sound : {Y : Type 0} (f g : PlaceBox → Option Y) → ((l : PlaceBox) → MovesSoundly l.motion → f l ≡ g l) → (ls : List PlaceBox) → AllMoveSoundly ls → first_some f ls ≡ first_some g ls
+first_some-sound f g same [] all = refl
+first_some-sound f g same (l ∷ ls) all = rw (same l all.0, first_some-sound f g same ls all.1) refl
 
 -- the first two boxes of two stretches that meet
-first_by_covers : (job : JobView) → job.depth ≡ 0 → (zone other : ZoneLine) (s t : Stretch) → AllMoveStraight s.boxes → AllMoveStraight t.boxes
+first_by_lines : (job : JobView) (zone other : ZoneLine) (s t : Stretch) → AllMoveSoundly s.boxes → AllMoveSoundly t.boxes
     → option_map names_of (find (pair_meets job) (box_pairs zone s other t))
-    ≡ option_map (named_by job zone s other t) (first_lines (map (shown_box job.margin zone s.line) s.boxes) (map (shown_box job.margin other t.line) t.boxes))
-unfolding first_lines
-first_by_covers job uncut zone other s t p q =
-    let boxes : List ZoneBox = map (shown_box job.margin other t.line) t.boxes in
+    ≡ option_map (named_by job zone s other t) (first_lines (measure_of job) zone other (map (shown_box job.margin zone s.line) s.boxes) (map (shown_box job.margin other t.line) t.boxes))
+unfolding first_lines first_touched
+first_by_lines job zone other s t p q =
+    let boxes : List BoxView = map (shown_box job.margin other t.line) t.boxes in
     find-flat_map names_of (pair_meets job) (λ (l : PlaceBox). map (pair_of zone s l other t) t.boxes) s.boxes
-    ∙ first_some-straight (λ (l : PlaceBox). option_map names_of (find (pair_meets job) (map (pair_of zone s l other t) t.boxes)))
-    (λ (l : PlaceBox). option_map (named_by job zone s other t) (first_touched boxes (shown_box job.margin zone s.line l)))
-    (λ l straight. touched_by_lines job uncut zone other s t l straight q) s.boxes p
-    ∙ sym (first_some-map (λ (box : ZoneBox). option_map (named_by job zone s other t) (first_touched boxes box)) (shown_box job.margin zone s.line) s.boxes)
-    ∙ sym (map-first_some (named_by job zone s other t) (first_touched boxes) (map (shown_box job.margin zone s.line) s.boxes))
+    ∙ first_some-sound (λ (l : PlaceBox). option_map names_of (find (pair_meets job) (map (pair_of zone s l other t) t.boxes)))
+    (λ (l : PlaceBox). option_map (named_by job zone s other t) (first_touched (measure_of job) zone other boxes (shown_box job.margin zone s.line l)))
+    (λ l sound. touched_by_lines job zone other s t l t.boxes sound q) s.boxes p
+    ∙ sym (first_some-map (λ (box : BoxView). option_map (named_by job zone s other t) (first_touched (measure_of job) zone other boxes box)) (shown_box job.margin zone s.line) s.boxes)
+    ∙ sym (map-first_some (named_by job zone s other t) (first_touched (measure_of job) zone other boxes) (map (shown_box job.margin zone s.line) s.boxes))
 
 -- ---- stretches that may overlap
 
@@ -196,7 +159,7 @@ last_of channel kind = None
 pub record IsTimed (s : Stretch) : Type 0 where
   pub begins : s.first ≡ first_of s.channel s.kind
   pub ends : s.last ≡ last_of s.channel s.kind
-  pub straight : AllMoveStraight s.boxes
+  pub sound : AllMoveSoundly s.boxes
 
 and_true : (b : Bool) → (b && true) ≡ b
 and_true true = refl
@@ -253,12 +216,12 @@ open_step job true pairs r h = h
 open_step job false pairs r h = refl
 
 -- the names of the first two boxes of two stretches that meet
-stretches_by_covers : (job : JobView) → job.depth ≡ 0 → (zone other : ZoneLine) (s t : Stretch) → IsTimed s → IsTimed t
-    → option_map names_of (find (pair_meets job) (stretch_pairs own_clock zone s other t)) ≡ first_in_stretches zone other (shown_stretch job zone s) (shown_stretch job other t)
+stretches_by_lines : (job : JobView) (zone other : ZoneLine) (s t : Stretch) → IsTimed s → IsTimed t
+    → option_map names_of (find (pair_meets job) (stretch_pairs own_clock zone s other t)) ≡ first_in_stretches (measure_of job) zone other (shown_stretch job zone s) (shown_stretch job other t)
 unfolding first_in_stretches shown_stretch
-stretches_by_covers job uncut zone other s t p q =
+stretches_by_lines job zone other s t p q =
     rw (overlap_is job zone other s t p q)
-    (open_step job (do_overlap (shown_stretch job zone s) (shown_stretch job other t)) (box_pairs zone s other t) _ (first_by_covers job uncut zone other s t p.straight q.straight))
+    (open_step job (do_overlap (shown_stretch job zone s) (shown_stretch job other t)) (box_pairs zone s other t) _ (first_by_lines job zone other s t p.sound q.sound))
 
 -- ---- zones
 
@@ -270,36 +233,36 @@ first_some-timed : {Y : Type 0} (f g : Stretch → Option Y) → ((s : Stretch) 
 first_some-timed f g same [] all = refl
 first_some-timed f g same (s ∷ ss) all = rw (same s all.0, first_some-timed f g same ss all.1) refl
 
-pub all_timed : (job : JobView) (zone : ZoneLine) → AllTimed (stretches_of job zone)
+pub all_timed : (job : JobView) → IsRunnable job → (zone : ZoneLine) → AllTimed (stretches_of job zone)
 unfolding stretches_of spans_of free_stretch boxes_of moves_zone has_axis
-all_timed job zone = by_holder zone.holder refl
+all_timed job runnable zone = by_holder zone.holder refl
   where
     by_line : (c : ℕ) (o : Option ChannelLine) → AllTimed (option_map_or (λ line. stretches_from zone c 0 (spans_of job line)) o [])
     by_line c None = tt
     by_line c (Some line) = (
-      record { begins = refl; ends = refl; straight = boxes_straight zone (start_position job) (items_of job line) (joined_straight (granted_position job line) (items_of job line) (granted_join job line)) },
-      (record { begins = refl; ends = refl; straight = boxes_straight zone (left_at (items_of job line) (start_position job)) [] tt }, tt),
+      record { begins = refl; ends = refl; sound = boxes_sound zone (start_position job) (items_of job line) (good_run job runnable line).fit },
+      (record { begins = refl; ends = refl; sound = boxes_sound zone (left_at (items_of job line) (start_position job)) [] (All-nil IsFit) }, tt),
     )
 
     by_holder : (h : Option ℕ) → zone.holder ≡ h → AllTimed (stretches_of job zone)
-    by_holder None e = rw e (record { begins = refl; ends = refl; straight = boxes_straight zone (start_position job) [] tt }, tt)
+    by_holder None e = rw e (record { begins = refl; ends = refl; sound = boxes_sound zone (start_position job) [] (All-nil IsFit) }, tt)
     by_holder (Some c) e = rw e (by_line c (channel_line job c))
 
 -- the names of the first two boxes of two zones that meet
-zones_by_covers : (job : JobView) → job.depth ≡ 0 → (zone other : ZoneLine)
-    → option_map names_of (find (pair_meets job) (pairs_of_zones own_clock job zone other)) ≡ first_some (first_against zone (held_zone job other)) (held_zone job zone).stretches
+zones_by_lines : (job : JobView) → IsRunnable job → (zone other : ZoneLine)
+    → option_map names_of (find (pair_meets job) (pairs_of_zones own_clock job zone other)) ≡ first_some (first_against (measure_of job) zone (held_zone job other)) (held_zone job zone).stretches
 unfolding pairs_of_zones held_zone first_against
-zones_by_covers job uncut zone other =
+zones_by_lines job runnable zone other =
     let given : Stretch → Stretch → Option (PlaceName × PlaceName) = λ s t. option_map names_of (find (pair_meets job) (stretch_pairs own_clock zone s other t)) in
-    let found : Stretch → Stretch → Option (PlaceName × PlaceName) = λ s t. first_in_stretches zone other (shown_stretch job zone s) (shown_stretch job other t) in
+    let found : Stretch → Stretch → Option (PlaceName × PlaceName) = λ s t. first_in_stretches (measure_of job) zone other (shown_stretch job zone s) (shown_stretch job other t) in
     find-flat_map names_of (pair_meets job) (λ (s : Stretch). flat_map (λ (t : Stretch). stretch_pairs own_clock zone s other t) (stretches_of job other)) (stretches_of job zone)
     ∙ first_some-timed (λ (s : Stretch). option_map names_of (find (pair_meets job) (flat_map (λ (t : Stretch). stretch_pairs own_clock zone s other t) (stretches_of job other))))
-    (λ (s : Stretch). first_some (first_in_stretches zone other (shown_stretch job zone s)) (map (shown_stretch job other) (stretches_of job other)))
+    (λ (s : Stretch). first_some (first_in_stretches (measure_of job) zone other (shown_stretch job zone s)) (map (shown_stretch job other) (stretches_of job other)))
     (λ s timed. find-flat_map names_of (pair_meets job) (λ (t : Stretch). stretch_pairs own_clock zone s other t) (stretches_of job other)
-    ∙ first_some-timed (given s) (found s) (λ t later. stretches_by_covers job uncut zone other s t timed later) (stretches_of job other) (all_timed job other)
-    ∙ sym (first_some-map (first_in_stretches zone other (shown_stretch job zone s)) (shown_stretch job other) (stretches_of job other)))
-    (stretches_of job zone) (all_timed job zone)
-    ∙ sym (first_some-map (λ (view : StretchView). first_some (first_in_stretches zone other view) (map (shown_stretch job other) (stretches_of job other))) (shown_stretch job zone) (stretches_of job zone))
+    ∙ first_some-timed (given s) (found s) (λ t later. stretches_by_lines job zone other s t timed later) (stretches_of job other) (all_timed job runnable other)
+    ∙ sym (first_some-map (first_in_stretches (measure_of job) zone other (shown_stretch job zone s)) (shown_stretch job other) (stretches_of job other)))
+    (stretches_of job zone) (all_timed job runnable zone)
+    ∙ sym (first_some-map (λ (view : StretchView). first_some (first_in_stretches (measure_of job) zone other view) (map (shown_stretch job other) (stretches_of job other))) (shown_stretch job zone) (stretches_of job zone))
 
 filter_step : {X Y : Type 0} (f : X → Option Y) (b : Bool) (x : X) (xs : List X) → first_some f (cond b (x ∷ xs) xs) ≡ option_or (cond b (f x) None) (first_some f xs)
 filter_step f true x xs = refl
@@ -317,26 +280,26 @@ of_pair : JobView → ZoneLine × ZoneLine → Option (PlaceName × PlaceName)
 of_pair job pair = option_map names_of (find (pair_meets job) (pairs_of_zones own_clock job pair.0 pair.1))
 
 -- the names of the first two boxes of any two zones that meet
-groups_by_covers : (job : JobView) → job.depth ≡ 0 → (zones : List ZoneLine) → first_some (of_pair job) (pairs_by_group zones) ≡ first_meeting (map (held_zone job) zones)
+groups_by_lines : (job : JobView) → IsRunnable job → (zones : List ZoneLine) → first_some (of_pair job) (pairs_by_group zones) ≡ first_meeting (measure_of job) (map (held_zone job) zones)
 unfolding of_pair first_of_zones held_zone
-groups_by_covers job uncut [] = refl
-groups_by_covers job uncut (zone ∷ zones) =
+groups_by_lines job runnable [] = refl
+groups_by_lines job runnable (zone ∷ zones) =
     first_some-append (of_pair job) (map (λ (other : ZoneLine). (zone, other)) (filter (λ other. not (zone.group == other.group)) zones)) (pairs_by_group zones)
     ∙ ap (λ (r : Option (PlaceName × PlaceName)). option_or r (first_some (of_pair job) (pairs_by_group zones)))
     (first_some-map (of_pair job) (λ (other : ZoneLine). (zone, other)) (filter (λ other. not (zone.group == other.group)) zones)
     ∙ first_some-filter (λ (other : ZoneLine). of_pair job (zone, other)) (λ other. not (zone.group == other.group)) zones
-    ∙ first_some-same (λ (other : ZoneLine). cond (not (zone.group == other.group)) (of_pair job (zone, other)) None) (λ (other : ZoneLine). first_of_zones (held_zone job zone) (held_zone job other)) (with_other zone) zones
-    ∙ sym (first_some-map (first_of_zones (held_zone job zone)) (held_zone job) zones))
-    ∙ ap (λ (r : Option (PlaceName × PlaceName)). option_or (first_some (first_of_zones (held_zone job zone)) (map (held_zone job) zones)) r) (groups_by_covers job uncut zones)
+    ∙ first_some-same (λ (other : ZoneLine). cond (not (zone.group == other.group)) (of_pair job (zone, other)) None) (λ (other : ZoneLine). first_of_zones (measure_of job) (held_zone job zone) (held_zone job other)) (with_other zone) zones
+    ∙ sym (first_some-map (first_of_zones (measure_of job) (held_zone job zone)) (held_zone job) zones))
+    ∙ ap (λ (r : Option (PlaceName × PlaceName)). option_or (first_some (first_of_zones (measure_of job) (held_zone job zone)) (map (held_zone job) zones)) r) (groups_by_lines job runnable zones)
   where
-    with_other : (zone other : ZoneLine) → cond (not (zone.group == other.group)) (of_pair job (zone, other)) None ≡ first_of_zones (held_zone job zone) (held_zone job other)
-    with_other zone other = unless (zone.group == other.group) _ _ (zones_by_covers job uncut zone other)
+    with_other : (zone other : ZoneLine) → cond (not (zone.group == other.group)) (of_pair job (zone, other)) None ≡ first_of_zones (measure_of job) (held_zone job zone) (held_zone job other)
+    with_other zone other = unless (zone.group == other.group) _ _ (zones_by_lines job runnable zone other)
 
 -- the verdict on the zones with their stretches is that of the definition
-pub verdict_is : (job : JobView) → job.depth ≡ 0 → verdict_by (first_meeting (map (held_zone job) (zones_in_order job))) ≡ pairs_verdict job
+pub verdict_is : (job : JobView) → IsRunnable job → verdict_by (first_meeting (measure_of job) (map (held_zone job) (zones_in_order job))) ≡ pairs_verdict job
 unfolding pairs_verdict compared_pairs zone_pairs of_pair
-verdict_is job uncut =
-    ap verdict_by (sym (find-flat_map names_of (pair_meets job) (λ (pair : ZoneLine × ZoneLine). pairs_of_zones own_clock job pair.0 pair.1) (pairs_by_group (zones_in_order job)) ∙ groups_by_covers job uncut (zones_in_order job)))
+verdict_is job runnable =
+    ap verdict_by (sym (find-flat_map names_of (pair_meets job) (λ (pair : ZoneLine × ZoneLine). pairs_of_zones own_clock job pair.0 pair.1) (pairs_by_group (zones_in_order job)) ∙ groups_by_lines job runnable (zones_in_order job)))
     ∙ by_found (find (pair_meets job) (compared_pairs job)) refl
   where
     by_found : (o : Option (BoxPlace × BoxPlace)) → find (pair_meets job) (compared_pairs job) ≡ o → verdict_by (option_map names_of (find (pair_meets job) (compared_pairs job))) ≡ pairs_verdict job

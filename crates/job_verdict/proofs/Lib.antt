@@ -3,6 +3,7 @@ pub mod PositionLemmas
 pub mod GrantLemmas
 pub mod Runs
 pub mod CoverLemmas
+pub mod PieceBoxes
 pub mod PieceLemmas
 pub mod ZoneLemmas
 pub mod PairLemmas
@@ -15,7 +16,7 @@ pub mod Ranges
 pub mod Positions
 pub mod BoxLemmas
 pub mod MeetLemmas
-pub mod StraightLemmas
+pub mod SoundBoxes
 pub mod JudgeLemmas
 pub mod CountLemmas
 pub mod VerdictLemmas

@@ -7,6 +7,8 @@ use mir.Val.{to_z, of_z, SFits}
 use Rattle.std.proofs.lemmas.List.Elements.{filter_map-append}
 use Rattle.std.proofs.lemmas.List.{map-append}
 use Rattle.std.specs.List.{filter_map, range_with_len}
+use Rattle.tape_job.specs.declared.job.Side.{Side}
+use Rattle.job_verdict.specs.PieceTests.{by_direction}
 
 -- one number more at the end of a row
 pub range_with_len-push : (a n : ℕ) → range_with_len a (suc n) ≡ range_with_len a n ++ (a + n) ∷ []
@@ -63,3 +65,12 @@ map-three f (x ∷ y ∷ z ∷ w ∷ xs) a b c n = absurd (omega arith)
 -- a signed number that is stored keeps its value
 pub stored : (z v : ℤ) → SFits w32 z → z ≡ v → to_z w32 (of_z w32 z) ≡ v
 stored z v fits e = to_z-of_z w32 z fits ∙ e
+
+-- each of three sides with its direction, one by one
+pub by_direction-three : (f : Side → ℕ → ℤ) (sides : List Side) (a b c : Side) → length sides ≡ 3
+    → by_direction f 0 sides ≡ f (get_or sides 0 a) 0 ∷ f (get_or sides 1 b) 1 ∷ f (get_or sides 2 c) 2 ∷ []
+by_direction-three f [] a b c n = absurd (omega arith)
+by_direction-three f (x ∷ []) a b c n = absurd (omega arith)
+by_direction-three f (x ∷ y ∷ []) a b c n = absurd (omega arith)
+by_direction-three f (x ∷ y ∷ z ∷ []) a b c n = refl
+by_direction-three f (x ∷ y ∷ z ∷ w ∷ xs) a b c n = absurd (omega arith)

@@ -1,5 +1,5 @@
 -- An accepted job can be run.
-use Rattle.std.proofs.Common.{◌≡◌, ℕ, List, IfOk, Result, Ok, Err, refl}
+use Rattle.std.proofs.Common.{◌≡◌, ◌≤◌, ℕ, List, IfOk, Result, Ok, Err, refl, arith}
 use Rattle.nc_faults.specs.declared.Refusal.{Refusal}
 use Rattle.tape_job.proofs.SoundJobs.{accepted_sound}
 use Rattle.tape_job.specs.Job.{JobView}
@@ -7,11 +7,15 @@ use Rattle.tape_job.specs.Read.{read_of}
 use Rattle.tape_job.specs.SoundJob.{IsSoundJob, BlocksFit}
 use Rattle.job_verdict.specs.Channels.{IsRunnable}
 
+-- motions that are not cut are cut at most four times
+shallow : (job : JobView) → job.depth ≡ 0 → job.depth ≤ 4
+shallow job uncut = omega (arith, uncut)
+
 pub runnable : (job : JobView) → IsSoundJob job → BlocksFit job → IsRunnable job
 runnable job sound fit = record {
   axes = sound.few_axes;
   starts = sound.positions;
-  depth = sound.depth;
+  depth = shallow job sound.depth;
   programs = sound.few_programs;
   blocks = fit;
 }

@@ -1,9 +1,9 @@
 -- What the other proofs need of the run of a channel. They speak of no block.
-use Rattle.std.proofs.Common.{◌≡◌, ◌≢◌, ◌⊎◌, ◌∙◌, ℕ, suc, ℤ, ◌≤◌, ◌<◌, ◌==◌, Bool, true, false, List, [], ◌∷◌, take, length, get_or, slice_get, find, Option, None, Some, option_map, unwrap_or, All, AllPairs, inl, inr, zero-add, refl, sym, ap, subst, arith}
+use Rattle.std.proofs.Common.{◌≡◌, ◌⊎◌, ◌∙◌, ℕ, suc, ℤ, ◌≤◌, ◌<◌, Bool, true, false, List, [], ◌∷◌, take, length, get_or, slice_get, Option, None, Some, unwrap_or, All, inl, inr, zero-add, refl, sym, ap, subst, arith}
 use mathlib.Core.Path.{fun_ext}
-use Rattle.std.proofs.lemmas.Bool.{eqb-true, eq-eqb, ne_eqb, false≢true}
+use Rattle.std.proofs.lemmas.Bool.{eqb-true, false≢true}
 use Rattle.std.proofs.lemmas.List.{get_or_past}
-use Rattle.std.proofs.lemmas.List.Elements.{All-nil, All-cons, All-weaker}
+use Rattle.std.proofs.lemmas.List.Elements.{All-weaker}
 use Rattle.std.proofs.lemmas.List.FromFn.{get_or-map-range_with_len, length-map-range_with_len}
 use Rattle.std.proofs.lemmas.Option.{slice_get-get_or}
 use Rattle.axis_sets.specs.Sets.{has}
@@ -11,8 +11,7 @@ use Rattle.axis_moves.proofs.MotionLaws.{ends_found}
 use Rattle.axis_moves.specs.Motions.{left_at, IsMotionOf}
 use Rattle.channel_machine.proofs.RunLaws.{all_follow, few_items, items_sound, end_listed}
 use Rattle.channel_machine.specs.Run.{IsListedAction}
-use Rattle.path_geometry.specs.Motions.{axes_of, IsInRange}
-use Rattle.path_geometry.specs.declared.motion.Motion.{Motion}
+use Rattle.path_geometry.specs.Motions.{axes_of}
 use Rattle.sync_types.specs.Items.{motion_of}
 use Rattle.sync_types.specs.declared.Action.{Action}
 use Rattle.sync_types.specs.declared.Action.TheVariants as action

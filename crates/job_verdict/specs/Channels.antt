@@ -1,5 +1,5 @@
 -- What a channel does: the program that it runs, what it is granted at its start, and what comes of both.
-use Rattle.std.specs.Prelude.{◌≡◌, ◌≤◌, All, ℕ, ℤ, pos, ◌-◌, ◌==◌, ◌&&◌, Bool, false, if◌then◌else◌, List, ◌++◌, map, length, replicate, Option, None, Some, slice_get, slice_index_or, position}
+use Rattle.std.specs.Prelude.{◌≤◌, All, ℕ, ℤ, pos, ◌-◌, ◌==◌, ◌&&◌, Bool, false, if◌then◌else◌, List, ◌++◌, map, length, replicate, Option, None, Some, slice_get, slice_index_or, position}
 use Rattle.std.specs.List.{list_any, range_with_len}
 use Rattle.std.specs.Map.{keys_of}
 use Rattle.std.specs.Option.{option_map_or, option_and_then}
@@ -114,11 +114,11 @@ end_of job line = end_of_step (program_run job line).step
 
 -- ---- jobs that can be run
 
--- the job can be run and judged: it has few axes, they start in range, its motions are not cut, its programs can be numbered,
+-- the job can be run and judged: it has few axes, they start in range, its motions are cut at most four times, its programs can be numbered,
 -- and its blocks name parameters that there are
 pub record IsRunnable (job : JobView) : Type 0 where
   pub axes : length job.axes ≤ 16
   pub starts : All (λ line. IsInRange line.at) job.axes
-  pub depth : job.depth ≡ 0
+  pub depth : job.depth ≤ 4
   pub programs : length job.programs ≤ 256
   pub blocks : BlocksFit job

@@ -1,8 +1,10 @@
 pub mod Channels
 pub mod ChannelRun
+pub mod BoxView
 pub mod ZoneBoxes
 pub mod Stretches
 pub mod StretchView
+pub mod PieceTests
 pub mod ShownStretches
 pub mod PairCounts
 pub mod FirstAnswer

@@ -1,22 +1,23 @@
 -- The stretches of a zone as the comparison takes them, and the first two boxes that meet.
-use Rattle.std.specs.Prelude.{ℕ, ◌==◌, ◌&&◌, not, Bool, true, false, if◌then◌else◌, List, [], ◌∷◌, map, Option, None, Some, find}
+use Rattle.std.specs.Prelude.{ℕ, ◌==◌, ◌&&◌, not, Bool, true, false, if◌then◌else◌, List, [], ◌∷◌, map, Option, None, Some}
 use Rattle.std.specs.Option.{option_map, option_or}
 use Rattle.tape_job.specs.Job.{JobView}
 use Rattle.tape_job.specs.declared.job.ZoneLine.{ZoneLine}
+use Rattle.job_verdict.specs.BoxView.{BoxView}
 use Rattle.job_verdict.specs.ChannelRun.{RunView, line_of_end}
 use Rattle.job_verdict.specs.Channels.{start_position, is_of}
-use Rattle.job_verdict.specs.Clash.{boxes_meet}
 use Rattle.job_verdict.specs.FirstAnswer.{first_some}
 use Rattle.axis_moves.specs.Motions.{left_at}
+use Rattle.job_verdict.specs.PieceTests.{do_meet}
 use Rattle.job_verdict.specs.StretchView.{StretchView}
 use Rattle.job_verdict.specs.Stretches.{Stretch, stretches_of}
 use Rattle.job_verdict.specs.ZoneBoxes.{boxes_of, shown_box}
+use Rattle.job_verdict.specs.declared.pieces.Measure.{Measure}
 use Rattle.job_verdict.specs.declared.stretches.PlaceName.{PlaceName}
 use Rattle.job_verdict.specs.declared.stretches.StretchKind.{StretchKind}
 use Rattle.job_verdict.specs.declared.stretches.StretchKind.TheVariants.{Run, End}
 use Rattle.job_verdict.specs.declared.stretches.Verdict.{Verdict}
 use Rattle.job_verdict.specs.declared.stretches.Verdict.TheVariants.{Yes, No}
-use Rattle.job_verdict.specs.declared.zone_boxes.ZoneBox.{ZoneBox}
 
 -- while the channel runs, and after its end
 unfoldable pub run_stretch : JobView → ZoneLine → RunView → StretchView
@@ -53,33 +54,41 @@ are_run_and_end left right = false
 unfoldable pub do_overlap : StretchView → StretchView → Bool
 do_overlap left right = not (share_channel left.channel right.channel && are_run_and_end left.kind right.kind)
 
--- the lines of the first box of the second list that meets this one
-unfoldable pub first_touched : List ZoneBox → ZoneBox → Option (ℕ × ℕ)
-first_touched others box = option_map (λ other. (box.line, other.line)) (find (λ other. boxes_meet box.cover other.cover) others)
+-- how the boxes of a job are compared
+unfoldable pub measure_of : JobView → Measure
+measure_of job = record { margin = job.margin; depth = job.depth }
+
+-- the lines of two boxes, where they meet
+unfoldable pub lines_of : Measure → ZoneLine → BoxView → ZoneLine → BoxView → Option (ℕ × ℕ)
+lines_of measure zone own other later = if do_meet measure zone own other later then Some (own.line, later.line) else None
+
+-- the lines of a box and of the first box of a list that meets it
+unfoldable pub first_touched : Measure → ZoneLine → ZoneLine → List BoxView → BoxView → Option (ℕ × ℕ)
+first_touched measure zone other others own = first_some (lines_of measure zone own other) others
 
 -- and of the first two boxes that meet
-unfoldable pub first_lines : List ZoneBox → List ZoneBox → Option (ℕ × ℕ)
-first_lines left right = first_some (first_touched right) left
+unfoldable pub first_lines : Measure → ZoneLine → ZoneLine → List BoxView → List BoxView → Option (ℕ × ℕ)
+first_lines measure zone other left right = first_some (first_touched measure zone other right) left
 
 -- how a box of a stretch with this line is named
 abbrev pub named : ZoneLine → StretchView → ℕ → PlaceName
 named zone stretch line = record { zone = zone.zone; channel = stretch.channel; kind = stretch.kind; line = line }
 
 -- the names of the first two boxes of two stretches that meet
-unfoldable pub first_in_stretches : ZoneLine → ZoneLine → StretchView → StretchView → Option (PlaceName × PlaceName)
-first_in_stretches zone other left right =
-    if do_overlap left right then option_map (λ lines. (named zone left lines.0, named other right lines.1)) (first_lines left.boxes right.boxes) else None
+unfoldable pub first_in_stretches : Measure → ZoneLine → ZoneLine → StretchView → StretchView → Option (PlaceName × PlaceName)
+first_in_stretches measure zone other left right =
+    if do_overlap left right then option_map (λ lines. (named zone left lines.0, named other right lines.1)) (first_lines measure zone other left.boxes right.boxes) else None
 
-unfoldable pub first_against : ZoneLine → HeldView → StretchView → Option (PlaceName × PlaceName)
-first_against zone other stretch = first_some (first_in_stretches zone other.zone stretch) other.stretches
+unfoldable pub first_against : Measure → ZoneLine → HeldView → StretchView → Option (PlaceName × PlaceName)
+first_against measure zone other stretch = first_some (first_in_stretches measure zone other.zone stretch) other.stretches
 
-unfoldable pub first_of_zones : HeldView → HeldView → Option (PlaceName × PlaceName)
-first_of_zones held other = if held.zone.group == other.zone.group then None else first_some (first_against held.zone other) held.stretches
+unfoldable pub first_of_zones : Measure → HeldView → HeldView → Option (PlaceName × PlaceName)
+first_of_zones measure held other = if held.zone.group == other.zone.group then None else first_some (first_against measure held.zone other) held.stretches
 
 -- the names of the first two boxes of any two zones of different groups that meet
-abbrev pub first_meeting : List HeldView → Option (PlaceName × PlaceName)
-first_meeting [] = None
-first_meeting (held ∷ others) = option_or (first_some (first_of_zones held) others) (first_meeting others)
+abbrev pub first_meeting : Measure → List HeldView → Option (PlaceName × PlaceName)
+first_meeting measure [] = None
+first_meeting measure (held ∷ others) = option_or (first_some (first_of_zones measure held) others) (first_meeting measure others)
 
 abbrev pub verdict_by : Option (PlaceName × PlaceName) → Verdict
 verdict_by None = Yes

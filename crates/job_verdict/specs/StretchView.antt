@@ -1,10 +1,10 @@
 -- What a contract sees of a stretch as its boxes are compared.
 use Rattle.std.specs.Prelude.{ℕ, List, Option}
+use Rattle.job_verdict.specs.BoxView.{BoxView}
 use Rattle.job_verdict.specs.declared.stretches.StretchKind.{StretchKind}
-use Rattle.job_verdict.specs.declared.zone_boxes.ZoneBox.{ZoneBox}
 
 -- what the channel does, the channel or none, and the boxes
 pub record StretchView : Type 0 where
   pub kind : StretchKind
   pub channel : Option ℕ
-  pub boxes : List ZoneBox
+  pub boxes : List BoxView

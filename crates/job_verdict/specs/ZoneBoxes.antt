@@ -10,7 +10,7 @@ use Rattle.swept_boxes.specs.declared.Box3.{Box3}
 use Rattle.tape_job.specs.declared.job.Side.{Side}
 use Rattle.tape_job.specs.declared.job.ZoneLine.{ZoneLine}
 use Rattle.sync_types.specs.declared.Item.{Item}
-use Rattle.job_verdict.specs.declared.zone_boxes.ZoneBox.{ZoneBox}
+use Rattle.job_verdict.specs.BoxView.{BoxView}
 use Rattle.sync_types.specs.Items.{motion_of}
 
 -- where the axes stand after a motion: at its ends, and elsewhere where they stood
@@ -119,20 +119,20 @@ pub record IsFit (item : Item) : Type 0 where
   pub sound : IsSound (motion_of item)
   pub within : All (λ e. e.0 < 16) (axes_of (motion_of item))
 
--- the boxes as they are compared where motions are not cut: the line that names it, and the zone box of the cover of its motion, or where it stands
-unfoldable pub moving_box : ℤ → ZoneLine → Item → (ℕ → ℤ) → ZoneBox
-moving_box margin zone item at = record { line = item.line; cover = zone_box margin zone (low_in (cover_of (motion_of item)) at) (high_in (cover_of (motion_of item)) at) }
+-- the boxes as they are compared: the line that names it, the zone box of the cover of its motion, or where it stands, and the motion
+unfoldable pub moving_box : ℤ → ZoneLine → Item → (ℕ → ℤ) → BoxView
+moving_box margin zone item at = record { line = item.line; cover = zone_box margin zone (low_in (cover_of (motion_of item)) at) (high_in (cover_of (motion_of item)) at); motion = Some item }
 
-unfoldable pub standing_box : ℤ → ZoneLine → ℕ → (ℕ → ℤ) → ZoneBox
-standing_box margin zone line at = record { line = line; cover = zone_box margin zone at at }
+unfoldable pub standing_box : ℤ → ZoneLine → ℕ → (ℕ → ℤ) → BoxView
+standing_box margin zone line at = record { line = line; cover = zone_box margin zone at at; motion = None }
 
-unfoldable pub shown_box : ℤ → ZoneLine → ℕ → PlaceBox → ZoneBox
+unfoldable pub shown_box : ℤ → ZoneLine → ℕ → PlaceBox → BoxView
 shown_box margin zone line box = option_map_or (λ item. moving_box margin zone item box.at) box.motion (standing_box margin zone line box.at)
 
 -- the boxes of the motions that have an axis of the zone
-unfoldable pub boxes_during : ℤ → ZoneLine → Item → (ℕ → ℤ) → List ZoneBox
+unfoldable pub boxes_during : ℤ → ZoneLine → Item → (ℕ → ℤ) → List BoxView
 boxes_during margin zone item at = if moves_zone zone item then moving_box margin zone item at ∷ [] else []
 
-abbrev pub moving_boxes : ℤ → ZoneLine → (ℕ → ℤ) → List Item → List ZoneBox
+abbrev pub moving_boxes : ℤ → ZoneLine → (ℕ → ℤ) → List Item → List BoxView
 moving_boxes margin zone at [] = []
 moving_boxes margin zone at (item ∷ items) = boxes_during margin zone item at ++ moving_boxes margin zone (after item at) items

@@ -1,40 +1,32 @@
 //! The first two boxes that meet, of zones that may not.
-ghost use Rattle.std.specs.Prelude.{◌≡◌, ◌==◌, All, IfOk, Option, None, Some, find, map, option_map};
-ghost use Rattle.job_verdict.specs.Clash as model;
+ghost use Rattle.std.specs.Prelude.{◌≡◌, ◌≤◌};
 ghost use Rattle.job_verdict.specs.FirstAnswer.{first_some};
 ghost use Rattle.job_verdict.specs.ShownStretches as shown;
 ghost use Rattle.job_verdict.specs.StretchView.{StretchView};
 
 use crate::channels::is_of;
+use crate::pieces::{Measure, do_pieces_meet};
 use crate::stretches::{PlaceName, Stretch, StretchKind, Verdict};
 use crate::zone_boxes::ZoneBox;
 use axis_sets::ChannelId;
 use std::marker::Model;
-use swept_boxes::Box3;
 use tape_job::ZoneLine;
 
 /// A zone with its stretches.
 #[derive(Debug, Drop)]
-pub struct HeldZone {
+pub struct HeldZone<'a> {
     /// The zone.
     pub zone: ZoneLine,
     /// Its stretches, in order.
-    pub stretches: Vec<Stretch>,
+    pub stretches: Vec<Stretch<'a>>,
 }
 
-impl Model for HeldZone {
+impl<'a> Model for HeldZone<'a> {
     ghost use Rattle.job_verdict.specs.ShownStretches.{HeldView};
 
     ghost Value = { HeldView };
 
     ghost view = { λ h. record { zone = h.zone; stretches = h.stretches.items } };
-}
-
-/// Whether two boxes share a point.
-fn do_meet(left: &Box3, right: &Box3) -> bool
-    ensures { result ≡ model.boxes_meet left.now right.now }
-{
-    left.meets(right)
 }
 
 /// Whether both are of one channel.
@@ -66,34 +58,59 @@ pub fn do_overlap(left: &Stretch, right: &Stretch) -> bool
     !(share_channel(left.channel, right.channel) && are_run_and_end(left.kind, right.kind))
 }
 
-/// The first of the boxes that meets this one.
-fn touched(others: &[ZoneBox], cover: Box3) -> Option<ZoneBox>
-    ensures { result ≡ find (λ other. model.boxes_meet cover other.cover) others.now }
+/// The lines of two boxes, where they meet.
+#[tactic(auto, unfolding(crate::specs::ShownStretches::lines_of))]
+fn lines_of(
+    measure: &Measure,
+    zone: &ZoneLine,
+    own: &ZoneBox,
+    other: &ZoneLine,
+    later: &ZoneBox,
+) -> Option<(u32, u32)>
+    requires { measure.now.depth ≤ 4 }
+    ensures { result ≡ shown.lines_of measure.now zone.now own.now other.now later.now }
 {
-    others
-        .iter()
-        .copied()
-        .find(|other| do_meet(&cover, &other.cover))
+    if do_pieces_meet(measure, zone, own, other, later) {
+        Some((own.line, later.line))
+    } else {
+        None
+    }
 }
 
 /// The lines of this box and of the first of the others that meets it.
 #[tactic(auto, unfolding(crate::specs::ShownStretches::first_touched))]
-fn first_touched(others: &[ZoneBox], own: &ZoneBox) -> Option<(u32, u32)>
-    ensures { result ≡ shown.first_touched others.now own.now }
+fn first_touched(
+    measure: &Measure,
+    zone: &ZoneLine,
+    other: &ZoneLine,
+    others: &[ZoneBox],
+    own: &ZoneBox,
+) -> Option<(u32, u32)>
+    requires { measure.now.depth ≤ 4 }
+    ensures { result ≡ shown.first_touched measure.now zone.now other.now others.now own.now }
 {
-    match touched(others, own.cover) {
-        Some(other) => Some((own.line, other.line)),
-        None => None,
+    for later in others {
+        if let Some(lines) = lines_of(measure, zone, own, other, later) {
+            return Some(lines);
+        }
     }
+    None
 }
 
 /// The lines of the first two boxes that meet.
 #[tactic(auto, unfolding(crate::specs::ShownStretches::first_lines))]
-fn first_lines(left: &[ZoneBox], right: &[ZoneBox]) -> Option<(u32, u32)>
-    ensures { result ≡ shown.first_lines left.now right.now }
+fn first_lines(
+    measure: &Measure,
+    zone: &ZoneLine,
+    other: &ZoneLine,
+    left: &[ZoneBox],
+    right: &[ZoneBox],
+) -> Option<(u32, u32)>
+    requires { measure.now.depth ≤ 4 }
+    ensures { result ≡ shown.first_lines measure.now zone.now other.now left.now right.now }
 {
     for own in left {
-        if let Some(lines) = first_touched(right, own) {
+        if let Some(lines) = first_touched(measure, zone, other, right, own) {
             return Some(lines);
         }
     }
@@ -115,17 +132,19 @@ fn named(zone: &ZoneLine, stretch: &Stretch, line: u32) -> PlaceName
 /// The names of the first two boxes of two stretches that meet.
 #[tactic(auto, unfolding(crate::specs::ShownStretches::first_in_stretches))]
 fn first_in_stretches(
+    measure: &Measure,
     zone: &ZoneLine,
     other: &ZoneLine,
     left: &Stretch,
     right: &Stretch,
 ) -> Option<(PlaceName, PlaceName)>
-    ensures { result ≡ shown.first_in_stretches zone.now other.now left.now right.now }
+    requires { measure.now.depth ≤ 4 }
+    ensures { result ≡ shown.first_in_stretches measure.now zone.now other.now left.now right.now }
 {
     if !do_overlap(left, right) {
         return None;
     }
-    match first_lines(&left.boxes, &right.boxes) {
+    match first_lines(measure, zone, other, &left.boxes, &right.boxes) {
         Some((line, later)) => Some((named(zone, left, line), named(other, right, later))),
         None => None,
     }
@@ -134,14 +153,16 @@ fn first_in_stretches(
 /// The names of the first boxes of this stretch and a stretch of the other zone that meet.
 #[tactic(auto, unfolding(crate::specs::ShownStretches::first_against))]
 fn first_against(
+    measure: &Measure,
     zone: &ZoneLine,
     other: &HeldZone,
     stretch: &Stretch,
 ) -> Option<(PlaceName, PlaceName)>
-    ensures { result ≡ shown.first_against zone.now other.now stretch.now }
+    requires { measure.now.depth ≤ 4 }
+    ensures { result ≡ shown.first_against measure.now zone.now other.now stretch.now }
 {
     for later in &other.stretches {
-        if let Some(names) = first_in_stretches(zone, &other.zone, stretch, later) {
+        if let Some(names) = first_in_stretches(measure, zone, &other.zone, stretch, later) {
             return Some(names);
         }
     }
@@ -150,14 +171,19 @@ fn first_against(
 
 /// The names of the first two boxes of two zones that meet, where they are of different groups.
 #[tactic(auto, unfolding(crate::specs::ShownStretches::first_of_zones))]
-fn first_of_zones(held: &HeldZone, other: &HeldZone) -> Option<(PlaceName, PlaceName)>
-    ensures { result ≡ shown.first_of_zones held.now other.now }
+fn first_of_zones(
+    measure: &Measure,
+    held: &HeldZone,
+    other: &HeldZone,
+) -> Option<(PlaceName, PlaceName)>
+    requires { measure.now.depth ≤ 4 }
+    ensures { result ≡ shown.first_of_zones measure.now held.now other.now }
 {
     if held.zone.group == other.zone.group {
         return None;
     }
     for stretch in &held.stretches {
-        if let Some(names) = first_against(&held.zone, other, stretch) {
+        if let Some(names) = first_against(measure, &held.zone, other, stretch) {
             return Some(names);
         }
     }
@@ -165,11 +191,16 @@ fn first_of_zones(held: &HeldZone, other: &HeldZone) -> Option<(PlaceName, Place
 }
 
 /// The names of the first two boxes of this zone and a later one that meet.
-fn first_with(held: &HeldZone, others: &[HeldZone]) -> Option<(PlaceName, PlaceName)>
-    ensures { result ≡ first_some (shown.first_of_zones held.now) others.now }
+fn first_with(
+    measure: &Measure,
+    held: &HeldZone,
+    others: &[HeldZone],
+) -> Option<(PlaceName, PlaceName)>
+    requires { measure.now.depth ≤ 4 }
+    ensures { result ≡ first_some (shown.first_of_zones measure.now held.now) others.now }
 {
     for other in others {
-        if let Some(names) = first_of_zones(held, other) {
+        if let Some(names) = first_of_zones(measure, held, other) {
             return Some(names);
         }
     }
@@ -177,11 +208,12 @@ fn first_with(held: &HeldZone, others: &[HeldZone]) -> Option<(PlaceName, PlaceN
 }
 
 /// The names of the first two boxes of any two zones of different groups that meet.
-fn first_meeting(zones: &[HeldZone]) -> Option<(PlaceName, PlaceName)>
-    ensures { result ≡ shown.first_meeting zones.now }
+fn first_meeting(measure: &Measure, zones: &[HeldZone]) -> Option<(PlaceName, PlaceName)>
+    requires { measure.now.depth ≤ 4 }
+    ensures { result ≡ shown.first_meeting measure.now zones.now }
 {
     for (index, held) in zones.iter().enumerate() {
-        if let Some(names) = first_with(held, &zones[index + 1..]) {
+        if let Some(names) = first_with(measure, held, &zones[index + 1..]) {
             return Some(names);
         }
     }
@@ -189,10 +221,11 @@ fn first_meeting(zones: &[HeldZone]) -> Option<(PlaceName, PlaceName)>
 }
 
 /// NO with the names of the first two boxes that meet, or YES, on zones that stand in ascending order.
-pub fn verdict_on(zones: &[HeldZone]) -> Verdict
-    ensures { result ≡ shown.verdict_by (shown.first_meeting zones.now) }
+pub fn verdict_on(measure: &Measure, zones: &[HeldZone]) -> Verdict
+    requires { measure.now.depth ≤ 4 }
+    ensures { result ≡ shown.verdict_by (shown.first_meeting measure.now zones.now) }
 {
-    match first_meeting(zones) {
+    match first_meeting(measure, zones) {
         Some((first, second)) => Verdict::No(first, second),
         None => Verdict::Yes,
     }

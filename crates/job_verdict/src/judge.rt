@@ -9,6 +9,7 @@ ghost use Rattle.job_verdict.specs.Stretches.{stretches_of};
 use crate::channels::{ChannelRun, alarm_in, run_channel, run_in};
 use crate::clash::{HeldZone, verdict_on};
 use crate::pair_counts::count_pairs;
+use crate::pieces::Measure;
 use crate::stretches::{Stretch, Verdict, free_stretches, stretches_of_run};
 use axis_sets::ChannelId;
 use nc_faults::Alarm;
@@ -16,13 +17,13 @@ use std::alloc::{AllocError, Global};
 use tape_job::{Job, ZoneLine};
 
 /// The stretches of a zone that this channel holds, from its run.
-fn held_stretches(
+fn held_stretches<'a>(
     alloc: Global,
     job: &Job,
-    runs: &[ChannelRun],
+    runs: &'a [ChannelRun],
     zone: &ZoneLine,
     holder: ChannelId,
-) -> Result<Vec<Stretch>, AllocError>
+) -> Result<Vec<Stretch<'a>>, AllocError>
     requires runnable { IsRunnable job.now }
     requires ran { runs.now ≡ runs_of job.now }
     requires held { zone.now.holder ≡ Some holder }
@@ -35,12 +36,12 @@ fn held_stretches(
 }
 
 /// The stretches of a zone.
-fn zone_stretches(
+fn zone_stretches<'a>(
     alloc: Global,
     job: &Job,
-    runs: &[ChannelRun],
+    runs: &'a [ChannelRun],
     zone: &ZoneLine,
-) -> Result<Vec<Stretch>, AllocError>
+) -> Result<Vec<Stretch<'a>>, AllocError>
     requires runnable { IsRunnable job.now }
     requires ran { runs.now ≡ runs_of job.now }
     ensures { IfOk result (λ stretches. stretches.items ≡ map (shown.shown_stretch job.now zone.now) (stretches_of job.now zone.now)) }
@@ -53,12 +54,12 @@ fn zone_stretches(
 
 /// A zone with its stretches.
 #[tactic(auto, unfolding(crate::specs::ShownStretches::held_zone))]
-fn held_zone(
+fn held_zone<'a>(
     alloc: Global,
     job: &Job,
-    runs: &[ChannelRun],
+    runs: &'a [ChannelRun],
     zone: &ZoneLine,
-) -> Result<HeldZone, AllocError>
+) -> Result<HeldZone<'a>, AllocError>
     requires runnable { IsRunnable job.now }
     requires ran { runs.now ≡ runs_of job.now }
     ensures { IfOk result (λ held. held ≡ shown.held_zone job.now zone.now) }
@@ -82,7 +83,11 @@ fn zone_numbered(job: &Job, number: u8) -> Option<ZoneLine>
 
 /// The zones with their stretches, in ascending order of their numbers.
 #[tactic(auto, unfolding(crate::specs::Clash::zones_in_order))]
-fn held_zones(alloc: Global, job: &Job, runs: &[ChannelRun]) -> Result<Vec<HeldZone>, AllocError>
+fn held_zones<'a>(
+    alloc: Global,
+    job: &Job,
+    runs: &'a [ChannelRun],
+) -> Result<Vec<HeldZone<'a>>, AllocError>
     requires runnable { IsRunnable job.now }
     requires ran { runs.now ≡ runs_of job.now }
     ensures { IfOk result (λ zones. zones.items ≡ map (shown.held_zone job.now) (model.zones_in_order job.now)) }
@@ -134,6 +139,17 @@ fn first_alarm(runs: &[ChannelRun]) -> Option<(ChannelId, Alarm)>
     None
 }
 
+/// How the boxes of a job are compared.
+#[tactic(auto, unfolding(crate::specs::ShownStretches::measure_of))]
+fn measure_of(job: &Job) -> Measure
+    ensures { result ≡ shown.measure_of job.now }
+{
+    Measure {
+        margin: job.margin,
+        depth: job.depth,
+    }
+}
+
 /// The verdict by the boxes alone. They are not compared where there are too many pairs.
 fn judge_boxes(alloc: Global, job: &Job, runs: &[ChannelRun]) -> Result<Verdict, AllocError>
     requires runnable { IsRunnable job.now }
@@ -148,7 +164,7 @@ fn judge_boxes(alloc: Global, job: &Job, runs: &[ChannelRun]) -> Result<Verdict,
             budget: job.budget,
         });
     }
-    Ok(verdict_on(&zones))
+    Ok(verdict_on(&measure_of(job), &zones))
 }
 
 /// The verdict on these runs. There are no boxes where a channel is stopped.

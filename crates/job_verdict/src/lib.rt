@@ -7,6 +7,7 @@ mod clash;
 mod judge;
 mod laws;
 mod pair_counts;
+mod pieces;
 mod report;
 mod stretches;
 mod zone_boxes;

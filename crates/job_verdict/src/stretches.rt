@@ -60,16 +60,16 @@ pub enum Verdict {
 
 /// A stretch of a zone, as its boxes are compared.
 #[derive(Debug, Drop)]
-pub struct Stretch {
+pub struct Stretch<'a> {
     /// What the channel does.
     pub kind: StretchKind,
     /// The channel that holds the zone, or none.
     pub channel: Option<ChannelId>,
     /// The boxes, in order.
-    pub boxes: Vec<ZoneBox>,
+    pub boxes: Vec<ZoneBox<'a>>,
 }
 
-impl Model for Stretch {
+impl<'a> Model for Stretch<'a> {
     ghost use Rattle.job_verdict.specs.StretchView.{StretchView};
 
     ghost Value = { StretchView };
@@ -78,12 +78,12 @@ impl Model for Stretch {
 }
 
 /// The stretch in which the channel runs its program.
-fn run_stretch(
+fn run_stretch<'a>(
     alloc: Global,
     job: &Job,
     zone: &ZoneLine,
-    run: &ChannelRun,
-) -> Result<Stretch, AllocError>
+    run: &'a ChannelRun,
+) -> Result<Stretch<'a>, AllocError>
     requires axes { length job.now.axes ≤ 16 }
     requires fit { All IsFit run.now.items }
     ensures { IfOk result (λ s. s ≡ model.run_stretch job.now zone.now run.now) }
@@ -110,12 +110,12 @@ fn end_positions(job: &Job, items: &[Item]) -> Row
 }
 
 /// The stretch after its program end or its alarm.
-fn end_stretch(
+fn end_stretch<'a>(
     alloc: Global,
     job: &Job,
     zone: &ZoneLine,
-    run: &ChannelRun,
-) -> Result<Stretch, AllocError>
+    run: &'a ChannelRun,
+) -> Result<Stretch<'a>, AllocError>
     requires axes { length job.now.axes ≤ 16 }
     requires fit { All IsFit run.now.items }
     ensures { IfOk result (λ s. s ≡ model.end_stretch job.now zone.now run.now) }
@@ -130,7 +130,7 @@ fn end_stretch(
 
 /// The one stretch of a zone that no channel holds.
 #[tactic(auto, unfolding(crate::specs::ShownStretches::shown_stretch, crate::specs::Stretches::free_stretch))]
-fn free_stretch(alloc: Global, job: &Job, zone: &ZoneLine) -> Result<Stretch, AllocError>
+fn free_stretch<'a>(alloc: Global, job: &Job, zone: &ZoneLine) -> Result<Stretch<'a>, AllocError>
     requires { length job.now.axes ≤ 16 }
     ensures { IfOk result (λ s. s ≡ model.shown_stretch job.now zone.now (free_stretch job.now zone.now)) }
 {
@@ -143,7 +143,11 @@ fn free_stretch(alloc: Global, job: &Job, zone: &ZoneLine) -> Result<Stretch, Al
 }
 
 /// The stretches of a zone that no channel holds.
-pub fn free_stretches(alloc: Global, job: &Job, zone: &ZoneLine) -> Result<Vec<Stretch>, AllocError>
+pub fn free_stretches<'a>(
+    alloc: Global,
+    job: &Job,
+    zone: &ZoneLine,
+) -> Result<Vec<Stretch<'a>>, AllocError>
     requires { length job.now.axes ≤ 16 }
     ensures { IfOk result (λ s. s.items ≡ model.shown_stretch job.now zone.now (free_stretch job.now zone.now) ∷ []) }
 {
@@ -153,12 +157,12 @@ pub fn free_stretches(alloc: Global, job: &Job, zone: &ZoneLine) -> Result<Vec<S
 }
 
 /// The two stretches of a zone that is held by the channel of this run.
-pub fn stretches_of_run(
+pub fn stretches_of_run<'a>(
     alloc: Global,
     job: &Job,
     zone: &ZoneLine,
-    run: &ChannelRun,
-) -> Result<Vec<Stretch>, AllocError>
+    run: &'a ChannelRun,
+) -> Result<Vec<Stretch<'a>>, AllocError>
     requires axes { length job.now.axes ≤ 16 }
     requires fit { All IsFit run.now.items }
     ensures { IfOk result (λ s. s.items ≡ model.run_stretch job.now zone.now run.now ∷ model.end_stretch job.now zone.now run.now ∷ []) }

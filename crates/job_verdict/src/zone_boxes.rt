@@ -1,5 +1,5 @@
 //! The boxes of a zone, from where its axes are.
-ghost use Rattle.std.specs.Prelude.{◌≡◌, ◌==◌, ◌<◌, ◌≤◌, ℕ, ◌+ℤ◌, ◌-ℤ◌, ◌++◌, All, IfOk, OnOk, find, map};
+ghost use Rattle.std.specs.Prelude.{◌≡◌, ◌==◌, ◌<◌, ◌≤◌, ℕ, ◌+ℤ◌, ◌-ℤ◌, ◌++◌, if◌then◌else◌, All, IfOk, OnOk, find, map};
 ghost use Rattle.std.specs.Int.RustNames.{unsigned_abs};
 ghost use Rattle.job_verdict.specs.Channels.{positions_in};
 ghost use Rattle.path_geometry.specs.Motions.{IsSound, axes_of};
@@ -11,6 +11,7 @@ use arrayvec::ArrayVec;
 use axis_sets::AxisId;
 use micro_units::Um;
 use std::alloc::{AllocError, Global};
+use std::marker::Model;
 use swept_boxes::{Box3, Ranges, cover};
 use sync_types::Item;
 use tape_job::{Side, ZoneLine};
@@ -23,7 +24,7 @@ fn standing(at: &Row, axis: AxisId) -> Um
 }
 
 /// The range that is named for an axis.
-fn range_of(ranges: &[(AxisId, Um, Um)], axis: AxisId) -> Option<(AxisId, Um, Um)>
+pub fn range_of(ranges: &[(AxisId, Um, Um)], axis: AxisId) -> Option<(AxisId, Um, Um)>
     ensures { result ≡ find (λ range. range.0 == axis) ranges.now }
 {
     ranges.iter().copied().find(|range| range.0 == axis)
@@ -69,22 +70,30 @@ fn grown(margin: Um, side: &Side) -> (i32, i32)
     )
 }
 
+/// The bounds of a direction whose carrier is between two positions, grown by the margin.
+pub fn bounds_between(margin: Um, side: &Side, minus: bool, low: Um, high: Um) -> (i32, i32)
+    ensures low { result.0 ≡ model.carried (side.now.lo -ℤ margin) (if minus then high else low) minus }
+    ensures high { result.1 ≡ model.carried (side.now.hi +ℤ margin) (if minus then low else high) minus }
+{
+    let (lo, hi) = grown(margin, side);
+    if minus {
+        (carried(lo, high, true), carried(hi, low, true))
+    } else {
+        (carried(lo, low, false), carried(hi, high, false))
+    }
+}
+
 /// The bounds of a direction of a zone whose axes are within ranges, grown by the margin.
 #[tactic(auto, unfolding(crate::specs::ZoneBoxes::side_low, crate::specs::ZoneBoxes::side_high))]
 fn bounds_of(margin: Um, side: &Side, ranges: &Ranges, at: &Row) -> (i32, i32)
     ensures low { result.0 ≡ model.side_low margin (model.low_in ranges.now (positions_in at.now)) (model.high_in ranges.now (positions_in at.now)) side.now }
     ensures high { result.1 ≡ model.side_high margin (model.low_in ranges.now (positions_in at.now)) (model.high_in ranges.now (positions_in at.now)) side.now }
 {
-    let (lo, hi) = grown(margin, side);
     match side.carrier {
-        None => (lo, hi),
+        None => grown(margin, side),
         Some((axis, minus)) => {
             let (low, high) = span_of(ranges, at, axis);
-            if minus {
-                (carried(lo, high, true), carried(hi, low, true))
-            } else {
-                (carried(lo, low, false), carried(hi, high, false))
-            }
+            bounds_between(margin, side, minus, low, high)
         }
     }
 }
@@ -170,30 +179,44 @@ pub fn settle(item: &Item, at: &mut Row)
     }
 }
 
-/// A box of a stretch: the line that names it, and what its zone sweeps.
-#[derive(Clone, Copy, Debug, PartialEq, Eq)]
-pub struct ZoneBox {
+/// A box of a stretch: the line that names it, what its zone sweeps, and the motion that is cut into pieces.
+#[derive(Debug, Drop)]
+pub struct ZoneBox<'a> {
     /// The line of its motion, or where it stands that of its stretch.
     pub line: u32,
     /// The zone box of the ranges that the motion covers.
     pub cover: Box3,
+    /// Its motion, or none where it stands.
+    pub motion: Option<&'a Item>,
+}
+
+impl<'a> Model for ZoneBox<'a> {
+    ghost use Rattle.std.specs.Prelude.{option_copied};
+    ghost use Rattle.job_verdict.specs.BoxView.{BoxView, MovesSoundly};
+
+    ghost Value = { BoxView };
+
+    ghost view = { λ b. record { line = b.line; cover = b.cover; motion = option_copied b.motion } };
+
+    ghost invariant = { λ b. MovesSoundly (option_copied b.motion) };
 }
 
 /// The box of a zone during a motion that begins with its axes at these positions.
 #[tactic(auto, unfolding(crate::specs::ZoneBoxes::moving_box))]
-fn moving_box(margin: Um, zone: &ZoneLine, item: &Item, at: &Row) -> ZoneBox
+fn moving_box<'a>(margin: Um, zone: &ZoneLine, item: &'a Item, at: &Row) -> ZoneBox<'a>
     requires { IsSound (motion_of item.now) }
     ensures { result ≡ model.moving_box margin zone.now item.now (positions_in at.now) }
 {
     ZoneBox {
         line: item.line,
         cover: zone_box(margin, zone, &cover(item.motion()), at),
+        motion: Some(item),
     }
 }
 
 /// The box of a zone that stands.
 #[tactic(auto, unfolding(crate::specs::ZoneBoxes::standing_box))]
-fn standing_box(margin: Um, zone: &ZoneLine, line: u32, at: &Row) -> ZoneBox
+fn standing_box<'a>(margin: Um, zone: &ZoneLine, line: u32, at: &Row) -> ZoneBox<'a>
     ensures { result ≡ model.standing_box margin zone.now line (positions_in at.now) }
 {
     let nothing = Ranges {
@@ -202,16 +225,17 @@ fn standing_box(margin: Um, zone: &ZoneLine, line: u32, at: &Row) -> ZoneBox
     ZoneBox {
         line,
         cover: zone_box(margin, zone, &nothing, at),
+        motion: None,
     }
 }
 
 /// Adds the box of a motion, where an axis of the zone is among its axes.
 #[tactic(auto, unfolding(crate::specs::ZoneBoxes::boxes_during))]
-fn add_box(
-    boxes: &mut Vec<ZoneBox>,
+fn add_box<'a>(
+    boxes: &mut Vec<ZoneBox<'a>>,
     margin: Um,
     zone: &ZoneLine,
-    item: &Item,
+    item: &'a Item,
     at: &Row,
 ) -> Result<(), AllocError>
     requires { IsSound (motion_of item.now) }
@@ -224,13 +248,13 @@ fn add_box(
 }
 
 /// The boxes of the motions that have an axis of the zone.
-fn moving_boxes(
+fn moving_boxes<'a>(
     alloc: Global,
     margin: Um,
     zone: &ZoneLine,
     start: &Row,
-    items: &[Item],
-) -> Result<Vec<ZoneBox>, AllocError>
+    items: &'a [Item],
+) -> Result<Vec<ZoneBox<'a>>, AllocError>
     requires { All model.IsFit items.now }
     ensures { IfOk result (λ boxes. boxes.items ≡ model.moving_boxes margin zone.now (positions_in start.now) items.now) }
 {
@@ -244,14 +268,14 @@ fn moving_boxes(
 }
 
 /// The boxes of a zone while its holder makes these motions, or the one where it stands.
-pub fn boxes_of(
+pub fn boxes_of<'a>(
     alloc: Global,
     margin: Um,
     zone: &ZoneLine,
     line: u32,
     start: &Row,
-    items: &[Item],
-) -> Result<Vec<ZoneBox>, AllocError>
+    items: &'a [Item],
+) -> Result<Vec<ZoneBox<'a>>, AllocError>
     requires { All model.IsFit items.now }
     ensures { IfOk result (λ boxes. boxes.items ≡ map (model.shown_box margin zone.now line) (model.boxes_of zone.now (positions_in start.now) items.now)) }
 {

@@ -16,6 +16,18 @@ ZONE 1 1 1 ON +X1 -10 10 - -10 10 +Z1 -10 10
 %_N_A_MPF
 ";
 
+// The same with a settable offset.
+const OFFSET: &str = "JOB 1
+CHANNEL 1 A START
+AXIS X1 1 0
+AXIS Z1 1 0
+GEO 1 X X1
+GEO 1 Z Z1
+ZONE 1 1 1 ON +X1 -10 10 - -10 10 +Z1 -10 10
+OFFSET 1 G54 Z 50
+%_N_A_MPF
+";
+
 const TWO: &str = "JOB 1
 CHANNEL 1 A START
 CHANNEL 2 B START
@@ -63,92 +75,106 @@ fn job_source(
     Ok(MemSource::new(bytes, piece, fails.to_vec(alloc)?))
 }
 
+// Inputs, each in two parts, with the status and the whole output that they call for.
+static INPUTS: [(&str, &str, Status, &str); 16] = [
+    ("", "", Status::Refused, "REFUSED 1 1 no job line\n"),
+    (
+        ONE,
+        "N10 M30\n",
+        Status::Yes,
+        "TURNMILL 1\nCHANNEL 1\n9 END\nSTATE ENDED 9\nVERDICT YES\n",
+    ),
+    (ONE, MOVES, Status::Yes, MOVES_OUTPUT),
+    (
+        ONE,
+        "X=7/2\nX=7 DIV 2\nX=7 MOD 2\nR1=2/3 X=R1*1000\nDIAMON X41.001\nR1=1/0\n",
+        Status::Alarm,
+        "TURNMILL 1\nCHANNEL 1\n9 LINE X1=3.500\n10 LINE X1=3.000\n11 LINE X1=1.000\n12 LINE X1=666.667\n13 LINE X1=20.501\nSTATE ALARM 14 2 division by zero\nVERDICT ALARM CHANNEL 1 LINE 14 CODE 2\n",
+    ),
+    (
+        OFFSET,
+        "TRANS Z10\nG54 Z5\nG53 Z5\nG91 Z1\nM30\n",
+        Status::Yes,
+        "TURNMILL 1\nCHANNEL 1\n11 LINE Z1=65.000\n12 LINE Z1=5.000\n13 LINE Z1=6.000\n14 END\nSTATE ENDED 14\nVERDICT YES\n",
+    ),
+    (
+        ONE,
+        "SCALE X0.333\nASCALE X0.333\nX0.5\nASCALE X0.333\n",
+        Status::Alarm,
+        "TURNMILL 1\nCHANNEL 1\n11 LINE X1=0.055\nSTATE ALARM 12 11 scale not allowed\nVERDICT ALARM CHANNEL 1 LINE 12 CODE 11\n",
+    ),
+    (
+        ONE,
+        "X-0.8 Z120.012\nM30\n",
+        Status::Yes,
+        "TURNMILL 1\nCHANNEL 1\n9 LINE X1=-0.800 Z1=120.012\n10 END\nSTATE ENDED 10\nVERDICT YES\n",
+    ),
+    (
+        ONE,
+        "N10 G1 X5",
+        Status::Alarm,
+        "TURNMILL 1\nCHANNEL 1\n9 LINE X1=5.000\nSTATE ALARM 9 9 no program end\nVERDICT ALARM CHANNEL 1 LINE 9 CODE 9\n",
+    ),
+    (
+        ONE,
+        "M30\nCYCLE95\n",
+        Status::Refused,
+        "REFUSED 42 10 cycle not supported\n",
+    ),
+    (
+        ONE,
+        "M30\nWHEN TRUE DO M8\n",
+        Status::Refused,
+        "REFUSED 40 10 synchronised action not supported\n",
+    ),
+    (
+        ONE,
+        "M30\n%_N_A_SPF\n",
+        Status::Refused,
+        "REFUSED 9 10 program name repeated\n",
+    ),
+    // The lower of two channels that alarm is named. Two zones that meet are not.
+    (
+        TWO,
+        "R1=1/0\n%_N_B_MPF\nG1 X10 F0.2\nG1 Y5\n",
+        Status::Alarm,
+        "TURNMILL 1\nCHANNEL 1\nSTATE ALARM 15 2 division by zero\nCHANNEL 2\n17 LINE X2=10.000\nSTATE ALARM 18 14 no such axis\nVERDICT ALARM CHANNEL 1 LINE 15 CODE 2\n",
+    ),
+    (
+        TWO,
+        "G1 X100\nM30\n%_N_B_MPF\nG1 X100\n",
+        Status::Alarm,
+        "TURNMILL 1\nCHANNEL 1\n15 LINE X1=100.000\n16 END\nSTATE ENDED 16\nCHANNEL 2\n18 LINE X2=100.000\nSTATE ALARM 18 9 no program end\nVERDICT ALARM CHANNEL 2 LINE 18 CODE 9\n",
+    ),
+    (
+        TWO,
+        "G1 X10.001\nM30\n%_N_B_MPF\nG1 X-10\nM30\n",
+        Status::Yes,
+        "TURNMILL 1\nCHANNEL 1\n15 LINE X1=10.001\n16 END\nSTATE ENDED 16\nCHANNEL 2\n18 LINE X2=-10.000\n19 END\nSTATE ENDED 19\nVERDICT YES\n",
+    ),
+    (
+        TWO,
+        "G1 X10\nM30\n%_N_B_MPF\nG1 X-10\nM30\n",
+        Status::No,
+        "TURNMILL 1\nCHANNEL 1\n15 LINE X1=10.000\n16 END\nSTATE ENDED 16\nCHANNEL 2\n18 LINE X2=-10.000\n19 END\nSTATE ENDED 19\nVERDICT NO ZONE 1 CHANNEL 1 RUN 15 ZONE 2 CHANNEL 2 RUN 18\n",
+    ),
+    (
+        TWO,
+        "G1 X-100 Z200\nM30\n%_N_B_MPF\nG1 X100 Z200\nM30\n",
+        Status::No,
+        "TURNMILL 1\nCHANNEL 1\n15 LINE X1=-100.000 Z1=200.000\n16 END\nSTATE ENDED 16\nCHANNEL 2\n18 LINE X2=100.000 Z2=200.000\n19 END\nSTATE ENDED 19\nVERDICT NO ZONE 1 CHANNEL 1 RUN 15 ZONE 2 CHANNEL 2 RUN 18\n",
+    ),
+];
+
 #[test]
 fn answers_inputs(rt: HostRuntime) -> Result<(), Fail> {
     let alloc = rt.alloc();
-    let rows: [(&str, &str, Status, &str); 14] = [
-        ("", "", Status::Refused, "REFUSED 1 1 no job line\n"),
-        (
-            ONE,
-            "N10 M30\n",
-            Status::Yes,
-            "TURNMILL 1\nCHANNEL 1\n9 END\nSTATE ENDED 9\nVERDICT YES\n",
-        ),
-        (ONE, MOVES, Status::Yes, MOVES_OUTPUT),
-        (
-            ONE,
-            "X=7/2\nX=7 DIV 2\nX=7 MOD 2\nR1=2/3 X=R1*1000\nR1=1/0\n",
-            Status::Alarm,
-            "TURNMILL 1\nCHANNEL 1\n9 LINE X1=3.500\n10 LINE X1=3.000\n11 LINE X1=1.000\n12 LINE X1=666.667\nSTATE ALARM 13 2 division by zero\nVERDICT ALARM CHANNEL 1 LINE 13 CODE 2\n",
-        ),
-        (
-            ONE,
-            "X-0.8 Z120.012\nM30\n",
-            Status::Yes,
-            "TURNMILL 1\nCHANNEL 1\n9 LINE X1=-0.800 Z1=120.012\n10 END\nSTATE ENDED 10\nVERDICT YES\n",
-        ),
-        (
-            ONE,
-            "N10 G1 X5",
-            Status::Alarm,
-            "TURNMILL 1\nCHANNEL 1\n9 LINE X1=5.000\nSTATE ALARM 9 9 no program end\nVERDICT ALARM CHANNEL 1 LINE 9 CODE 9\n",
-        ),
-        (
-            ONE,
-            "M30\nCYCLE95\n",
-            Status::Refused,
-            "REFUSED 42 10 cycle not supported\n",
-        ),
-        (
-            ONE,
-            "M30\nWHEN TRUE DO M8\n",
-            Status::Refused,
-            "REFUSED 40 10 synchronised action not supported\n",
-        ),
-        (
-            ONE,
-            "M30\n%_N_A_SPF\n",
-            Status::Refused,
-            "REFUSED 9 10 program name repeated\n",
-        ),
-        // The lower of two channels that alarm is named. Two zones that meet are not.
-        (
-            TWO,
-            "R1=1/0\n%_N_B_MPF\nG1 X10 F0.2\nG1 Y5\n",
-            Status::Alarm,
-            "TURNMILL 1\nCHANNEL 1\nSTATE ALARM 15 2 division by zero\nCHANNEL 2\n17 LINE X2=10.000\nSTATE ALARM 18 14 no such axis\nVERDICT ALARM CHANNEL 1 LINE 15 CODE 2\n",
-        ),
-        (
-            TWO,
-            "G1 X100\nM30\n%_N_B_MPF\nG1 X100\n",
-            Status::Alarm,
-            "TURNMILL 1\nCHANNEL 1\n15 LINE X1=100.000\n16 END\nSTATE ENDED 16\nCHANNEL 2\n18 LINE X2=100.000\nSTATE ALARM 18 9 no program end\nVERDICT ALARM CHANNEL 2 LINE 18 CODE 9\n",
-        ),
-        (
-            TWO,
-            "G1 X10.001\nM30\n%_N_B_MPF\nG1 X-10\nM30\n",
-            Status::Yes,
-            "TURNMILL 1\nCHANNEL 1\n15 LINE X1=10.001\n16 END\nSTATE ENDED 16\nCHANNEL 2\n18 LINE X2=-10.000\n19 END\nSTATE ENDED 19\nVERDICT YES\n",
-        ),
-        (
-            TWO,
-            "G1 X10\nM30\n%_N_B_MPF\nG1 X-10\nM30\n",
-            Status::No,
-            "TURNMILL 1\nCHANNEL 1\n15 LINE X1=10.000\n16 END\nSTATE ENDED 16\nCHANNEL 2\n18 LINE X2=-10.000\n19 END\nSTATE ENDED 19\nVERDICT NO ZONE 1 CHANNEL 1 RUN 15 ZONE 2 CHANNEL 2 RUN 18\n",
-        ),
-        (
-            TWO,
-            "G1 X-100 Z200\nM30\n%_N_B_MPF\nG1 X100 Z200\nM30\n",
-            Status::No,
-            "TURNMILL 1\nCHANNEL 1\n15 LINE X1=-100.000 Z1=200.000\n16 END\nSTATE ENDED 16\nCHANNEL 2\n18 LINE X2=100.000 Z2=200.000\n19 END\nSTATE ENDED 19\nVERDICT NO ZONE 1 CHANNEL 1 RUN 15 ZONE 2 CHANNEL 2 RUN 18\n",
-        ),
-    ];
-    for (head, blocks, status, output) in rows {
+    for (head, blocks, status, output) in INPUTS.iter() {
         let mut source = job_source(alloc, head, blocks, 1000, &[])?;
         let mut sink = MemSink::new(alloc, 1000, Vec::new(alloc));
         assert_eq!(rt;
             check_words(alloc, &["check"], &mut source, &mut sink),
-            status
+            *status
         );
         assert_eq!(rt; sink.bytes(), output.as_bytes());
     }

@@ -4,4 +4,4 @@ use Rattle.job_verdict.specs.ShownStretches as shown
 use Rattle.job_verdict.proofs.clash.first_with.Given as goal
 
 abbrev pub invariant-loop-other : goal.invariant-loop-other
-invariant-loop-other l = first_some (shown.first_of_zones l.held) (drop l.other-index l.others) ≡ first_some (shown.first_of_zones l.held) l.others
+invariant-loop-other l = first_some (shown.first_of_zones l.measure l.held) (drop l.other-index l.others) ≡ first_some (shown.first_of_zones l.measure l.held) l.others

@@ -1,5 +1,5 @@
 use Rattle.job_verdict.proofs.MeetLemmas.{meets_is}
-use Rattle.job_verdict.proofs.clash.do_meet.Goals as goal
+use Rattle.job_verdict.proofs.pieces.do_meet.Goals as goal
 
 pub returns : goal.returns
 returns c = meets_is c.args.left.now c.args.right.now c.meets.result c.meets.ensures.ranges
