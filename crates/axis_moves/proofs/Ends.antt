@@ -1,5 +1,5 @@
 -- The ends of a block's motion.
-use Rattle.std.proofs.Common.{◌≡◌, ◌≢◌, ◌⊎◌, ◌∙◌, ℕ, zero, suc, ℤ, ◌+◌, ◌<◌, ◌≤◌, ◌==◌, List, [], ◌∷◌, length, find, Option, None, Some, option_map, option_and_then, get_or, All, AllPairs, inl, inr, refl, ap, subst, arith}
+use Rattle.std.proofs.Common.{◌≡◌, ◌≢◌, ◌⊎◌, ◌∙◌, ℕ, zero, suc, ℤ, Bool, true, false, ◌+◌, ◌<◌, ◌≤◌, ◌==◌, List, [], ◌∷◌, length, find, Option, None, Some, option_map, option_and_then, get_or, All, AllPairs, inl, inr, refl, ap, subst, arith}
 use Rattle.std.proofs.Math.ListN.{get_or-eq_default}
 use Rattle.std.proofs.lemmas.Bool.{eq-eqb, ne_eqb, cases_eq}
 use Rattle.std.proofs.lemmas.List.Elements.{All-nil, All-cons, All-weaker}
@@ -71,15 +71,16 @@ found at goals axis long = by_order (le_or_lt 16 axis)
         ∙ ends_to (end_for at goals axis)
 
 -- so the motion of a block gives an axis the end of its goal
-pub item_end : (at : ℕ → ℤ) (line : ℕ) (goals : List (Option Goal)) (axis : ℕ) → length goals ≡ 16
-    → option_and_then (λ item. end_in axis item) (item_of line (ends_from at goals)) ≡ end_for at goals axis
+pub item_end : (at : ℕ → ℤ) (line : ℕ) (rapid : Bool) (goals : List (Option Goal)) (axis : ℕ) → length goals ≡ 16
+    → option_and_then (λ item. end_in axis item) (item_of line rapid (ends_from at goals)) ≡ end_for at goals axis
 unfolding end_in
-item_end at line goals axis long = by_ends (ends_from at goals) (found at goals axis long)
+item_end at line rapid goals axis long = by_ends rapid (ends_from at goals) (found at goals axis long)
   where
-    by_ends : (ends : List (ℕ × ℤ × ℤ)) → option_map (λ (e : ℕ × ℤ × ℤ). e.2) (find (λ e. e.0 == axis) ends) ≡ end_for at goals axis
-        → option_and_then (λ item. end_in axis item) (item_of line ends) ≡ end_for at goals axis
-    by_ends [] is = is
-    by_ends (e ∷ ends) is = is
+    by_ends : (rapid : Bool) (ends : List (ℕ × ℤ × ℤ)) → option_map (λ (e : ℕ × ℤ × ℤ). e.2) (find (λ e. e.0 == axis) ends) ≡ end_for at goals axis
+        → option_and_then (λ item. end_in axis item) (item_of line rapid ends) ≡ end_for at goals axis
+    by_ends rapid [] is = is
+    by_ends true (e ∷ ends) is = is
+    by_ends false (e ∷ ends) is = is
 
 -- what holds of each end holds of all
 pub ends_all : (P : ℕ × ℤ × ℤ → Type 0) (start : ℕ → ℤ) (end : ℕ → Option ℤ) (low n : ℕ)

@@ -8,16 +8,15 @@ use Rattle.std.proofs.lemmas.List.Elements.{All-nil, All-cons, All-head, All-tai
 use Rattle.std.proofs.lemmas.Option.{slice_get_within, slice_get-get_or}
 use Rattle.std.specs.List.{filter_map, last_or, cons_option}
 use Rattle.std.specs.Option.{option_to_list}
-use Rattle.path_geometry.specs.Motions.{axes_of, IsInRange, IsSound}
+use Rattle.path_geometry.specs.Ends.{EndsView}
+use Rattle.path_geometry.specs.Motions.{axes_of, IsInRange, AreSound, IsSound}
 use Rattle.path_geometry.specs.declared.motion.Motion.{Motion}
-use Rattle.path_geometry.specs.declared.motion.Motion.TheVariants.{Line, Rapid}
-use Rattle.path_geometry.specs.declared.motion.Motion.TheVariants as kind
 use Rattle.axis_sets.specs.Sets.{has}
 use Rattle.axis_moves.specs.declared.goals.Goal.{Goal}
 use Rattle.axis_moves.specs.declared.goals.Goal.TheVariants.{To, By, TooFar}
 use Rattle.axis_moves.specs.declared.goals.Targets.{Targets}
 use Rattle.axis_moves.specs.Goals.{InForce, have_axes, goals_of}
-use Rattle.axis_moves.specs.Motions.{end_in, left_at, end_from, is_in_reach, are_in_reach, is_own, are_own, goal_at, end_for, ends_from, item_of, moved_to, moved, IsMotionOf}
+use Rattle.axis_moves.specs.Motions.{end_in, left_at, end_from, is_in_reach, are_in_reach, is_own, are_own, goal_at, end_for, ends_from, is_rapid, motion_between, item_of, moved_to, moved, IsMotionOf}
 use Rattle.sync_types.specs.declared.Item.{Item}
 use Rattle.sync_types.specs.declared.Part.TheVariants.{Move}
 use Rattle.sync_types.specs.Items.{motion_of}
@@ -41,42 +40,53 @@ end_own mine start to None own is = absurd cc
 end_own mine start to (Some goal) own is = own
 
 module _ (owned : List Bool) (at : ℕ → ℤ) (line : ℕ) where
-  ends_are : (goals : List (Option Goal)) → AllFit goals → are_in_reach owned at goals ≡ true → are_own owned goals ≡ true
-      → IsMotionOf owned at (Line (record { axes = ends_from at goals }))
-  ends_are goals fit reach own = record {
-    straight = tt;
-    once = ends_once at (end_for at goals) 0 16;
-    owned = ends_all (λ e. has owned e.0 ≡ true) at (end_for at goals) 0 16
-        (λ axis to above below is. end_own (has owned axis) (at axis) to (goal_at goals axis) (own_at owned goals axis own (omega arith)) is);
-    begins = ends_all (λ e. e.1 ≡ at e.0) at (end_for at goals) 0 16 (λ axis to above below is. refl);
-    in_range = ends_all (λ e. IsInRange e.2) at (end_for at goals) 0 16
-        (λ axis to above below is. end_fit (has owned axis) (at axis) to (goal_at goals axis) (fit axis) (reach_at owned at goals axis reach (omega arith)) (own_at owned goals axis own (omega arith)) is);
-  }
+  -- ends of axes that the channel owns, each once, from where it stands to an end in range
+  between_is : (rapid : Bool) (ends : EndsView) → AllPairs (λ e f. e.0 ≢ f.0) ends.axes → All (λ e. has owned e.0 ≡ true) ends.axes → All (λ e. e.1 ≡ at e.0) ends.axes
+      → All (λ e. IsInRange e.2) ends.axes → IsMotionOf owned at (motion_between rapid ends)
+  between_is rapid ends once own begins near = by_kind rapid
+    where
+      sound : ((axis : ℕ) → IsInRange (at axis)) → AreSound ends
+      sound within = record { once = once; in_range = λ k d inside. (subst IsInRange (sym (begins k d inside)) (within (get_or ends.axes k d).0), near k d inside) }
 
-  item_is : (ends : List (ℕ × ℤ × ℤ)) (item : Item) → IsMotionOf owned at (Line (record { axes = ends })) → item_of line ends ≡ Some item → IsMotionOf owned at (motion_of item)
-  item_is [] item motion is = absurd cc
-  item_is (e ∷ ends) item motion is =
-      let first : Item = record { line = line; part = Move (Line (record { axes = e ∷ ends })) } in
+      by_kind : (rapid : Bool) → IsMotionOf owned at (motion_between rapid ends)
+      by_kind true = record { once = once; owned = own; begins = begins; in_range = near; sound = sound }
+      by_kind false = record { once = once; owned = own; begins = begins; in_range = near; sound = sound }
+
+  ends_are : (rapid : Bool) (goals : List (Option Goal)) → AllFit goals → are_in_reach owned at goals ≡ true → are_own owned goals ≡ true
+      → IsMotionOf owned at (motion_between rapid (record { axes = ends_from at goals }))
+  ends_are rapid goals fit reach own =
+      between_is rapid (record { axes = ends_from at goals }) (ends_once at (end_for at goals) 0 16)
+      (ends_all (λ e. has owned e.0 ≡ true) at (end_for at goals) 0 16
+      (λ axis to above below is. end_own (has owned axis) (at axis) to (goal_at goals axis) (own_at owned goals axis own (omega arith)) is))
+      (ends_all (λ e. e.1 ≡ at e.0) at (end_for at goals) 0 16 (λ axis to above below is. refl))
+      (ends_all (λ e. IsInRange e.2) at (end_for at goals) 0 16
+      (λ axis to above below is. end_fit (has owned axis) (at axis) to (goal_at goals axis) (fit axis) (reach_at owned at goals axis reach (omega arith)) (own_at owned goals axis own (omega arith)) is))
+
+  item_is : (rapid : Bool) (ends : List (ℕ × ℤ × ℤ)) (item : Item) → IsMotionOf owned at (motion_between rapid (record { axes = ends })) → item_of line rapid ends ≡ Some item
+      → IsMotionOf owned at (motion_of item)
+  item_is rapid [] item motion is = absurd cc
+  item_is rapid (e ∷ ends) item motion is =
+      let first : Item = record { line = line; part = Move (motion_between rapid (record { axes = e ∷ ends })) } in
       let same : first ≡ item = cc in subst (λ (i : Item). IsMotionOf owned at (motion_of i)) same motion
 
-  moved_to_is : (goals : List (Option Goal)) (item : Item) → AllFit goals → moved_to owned at line goals ≡ Ok (Some item) → IsMotionOf owned at (motion_of item)
+  moved_to_is : (rapid : Bool) (goals : List (Option Goal)) (item : Item) → AllFit goals → moved_to owned at line rapid goals ≡ Ok (Some item) → IsMotionOf owned at (motion_of item)
   unfolding moved_to
-  moved_to_is goals item fit is = by_tests (are_in_reach owned at goals) (are_own owned goals) refl refl is
+  moved_to_is rapid goals item fit is = by_tests (are_in_reach owned at goals) (are_own owned goals) refl refl is
     where
       by_tests : (reach own : Bool) → are_in_reach owned at goals ≡ reach → are_own owned goals ≡ own
-          → cond {A = Result (Option Item) ℕ} (not reach) (Err 13) (cond (not own) (Err 15) (Ok (item_of line (ends_from at goals)))) ≡ Ok (Some item) → IsMotionOf owned at (motion_of item)
+          → cond {A = Result (Option Item) ℕ} (not reach) (Err 13) (cond (not own) (Err 15) (Ok (item_of line rapid (ends_from at goals)))) ≡ Ok (Some item) → IsMotionOf owned at (motion_of item)
       by_tests false own reached mine is = absurd cc
       by_tests true false reached mine is = absurd cc
       by_tests true true reached mine is =
-          let made : item_of line (ends_from at goals) ≡ Some item = cc in item_is (ends_from at goals) item (ends_are goals fit reached mine) made
+          let made : item_of line rapid (ends_from at goals) ≡ Some item = cc in item_is rapid (ends_from at goals) item (ends_are rapid goals fit reached mine) made
 
   pub moved_is : (slots : List (Option ℕ)) (h : InForce) (targets : Targets) (item : Item) → moved slots owned h at line targets ≡ Ok (Some item) → IsMotionOf owned at (motion_of item)
   unfolding moved
   moved_is slots h targets item is = by_axes (have_axes slots h targets.slots) is
     where
-      by_axes : (b : Bool) → cond {A = Result (Option Item) ℕ} (not b) (Err 14) (moved_to owned at line (goals_of slots h targets)) ≡ Ok (Some item) → IsMotionOf owned at (motion_of item)
+      by_axes : (b : Bool) → cond {A = Result (Option Item) ℕ} (not b) (Err 14) (moved_to owned at line (is_rapid h) (goals_of slots h targets)) ≡ Ok (Some item) → IsMotionOf owned at (motion_of item)
       by_axes false is = absurd cc
-      by_axes true is = moved_to_is (goals_of slots h targets) item (goals_fit h slots targets) is
+      by_axes true is = moved_to_is (is_rapid h) (goals_of slots h targets) item (goals_fit h slots targets) is
 
 -- ---- motions one after another
 
@@ -169,16 +179,8 @@ pub ends_in_range : (owned : List Bool) (start : ℕ → ℤ) (items : List Item
 ends_in_range owned start items all = by_places (λ item. All (λ e. IsInRange e.2) (axes_of (motion_of item))) items (λ place item is. (all.follows place item is).in_range)
 
 pub sound_motions : (owned : List Bool) (start : ℕ → ℤ) (items : List Item) → AllFollow owned start items → ((axis : ℕ) → IsInRange (start axis)) → All (λ item. IsSound (motion_of item)) items
-sound_motions owned start items all starts = by_places (λ item. IsSound (motion_of item)) items (λ place item is. sound (motion_of item) (left_at (take place items) start) (all.follows place item is)
+sound_motions owned start items all starts = by_places (λ item. IsSound (motion_of item)) items (λ place item is. (all.follows place item is).sound
     (left_in_range (take place items) start (All-take (λ item. All (λ e. IsInRange e.2) (axes_of (motion_of item))) place items (ends_in_range owned start items all)) starts))
-  where
-    sound : (motion : Motion) (at : ℕ → ℤ) → IsMotionOf owned at motion → ((axis : ℕ) → IsInRange (at axis)) → IsSound motion
-    sound (Line ends) at motion within = record {
-      once = motion.once;
-      in_range = λ k d inside. (subst IsInRange (sym (motion.begins k d inside)) (within (get_or ends.axes k d).0), motion.in_range k d inside);
-    }
-    sound (Rapid ends) at motion within = absurd motion.straight
-    sound (kind.Arc arc) at motion within = absurd motion.straight
 
 -- ---- for what stands on motions
 

@@ -13,3 +13,11 @@ has_measure_word = refl
 pub has_diameter_word : HasModalValue 29
 unfolding holding_of
 has_diameter_word = refl
+
+pub has_rapid_word : HasModalValue 0
+unfolding holding_of
+has_rapid_word = refl
+
+pub has_motion_word : HasModalValue 1
+unfolding holding_of
+has_motion_word = refl

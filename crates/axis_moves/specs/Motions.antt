@@ -1,12 +1,12 @@
 -- Where the axes of a channel stand, and the motions that take them on.
-use Rattle.std.specs.Prelude.{◌≡◌, ◌≢◌, ◌<◌, ⊤, All, AllPairs, ℕ, ℤ, pos, ◌+ℤ◌, ◌==◌, ◌||◌, not, Bool, true, false, if◌then◌else◌, List, [], ◌∷◌, find, filter_map, slice_index_or, Option, None, Some, option_map, option_and_then, unwrap_or, Result, Ok, Err}
+use Rattle.std.specs.Prelude.{◌≡◌, ◌≢◌, ◌<◌, All, AllPairs, ℕ, ℤ, pos, ◌+ℤ◌, ◌==◌, ◌&&◌, ◌||◌, not, Bool, true, false, if◌then◌else◌, List, [], ◌∷◌, find, filter_map, slice_index_or, Option, None, Some, option_map, option_and_then, unwrap_or, Result, Ok, Err}
 use Rattle.std.specs.List.{last_or, list_all, range_with_len}
 use Rattle.axis_sets.specs.Positions.{position_of}
 use Rattle.axis_sets.specs.Sets.{has}
-use Rattle.path_geometry.specs.Motions.{axes_of, IsInRange}
+use Rattle.path_geometry.specs.Ends.{EndsView}
+use Rattle.path_geometry.specs.Motions.{axes_of, IsInRange, IsSound}
 use Rattle.path_geometry.specs.declared.motion.Motion.{Motion}
 use Rattle.path_geometry.specs.declared.motion.Motion.TheVariants.{Line, Rapid}
-use Rattle.path_geometry.specs.declared.motion.Motion.TheVariants as kind
 use Rattle.sync_types.specs.declared.Item.{Item}
 use Rattle.sync_types.specs.declared.Part.TheVariants.{Move}
 use Rattle.sync_types.specs.Items.{motion_of}
@@ -74,23 +74,31 @@ end_for at goals axis = option_map (end_from (at axis)) (goal_at goals axis)
 abbrev pub ends_from : (ℕ → ℤ) → List (Option Goal) → List (ℕ × ℤ × ℤ)
 ends_from at goals = filter_map (λ axis. option_map (λ end. (axis, at axis, end)) (end_for at goals axis)) (range_with_len 0 16)
 
+-- each axis goes by itself under G0 with RTLIOF, the words 0 of group 1 and 2 of group 0
+abbrev pub is_rapid : InForce → Bool
+is_rapid h = h.word 1 == 0 && h.word 0 == 2
+
+-- a rapid, or else a straight line
+abbrev pub motion_between : Bool → EndsView → Motion
+motion_between rapid ends = if rapid then Rapid ends else Line ends
+
 -- a block moves where an axis has a goal
-abbrev pub item_of : ℕ → List (ℕ × ℤ × ℤ) → Option Item
-item_of line [] = None
-item_of line (e ∷ ends) = Some (record { line = line; part = Move (Line (record { axes = e ∷ ends })) })
+abbrev pub item_of : ℕ → Bool → List (ℕ × ℤ × ℤ) → Option Item
+item_of line rapid [] = None
+item_of line rapid (e ∷ ends) = Some (record { line = line; part = Move (motion_between rapid (record { axes = e ∷ ends })) })
 
 -- the motion to these goals; alarm 13 where one is out of reach, then 15 where an axis is not the channel's own
-unfoldable pub moved_to : List Bool → (ℕ → ℤ) → ℕ → List (Option Goal) → Result (Option Item) ℕ
-moved_to owned at line goals =
+unfoldable pub moved_to : List Bool → (ℕ → ℤ) → ℕ → Bool → List (Option Goal) → Result (Option Item) ℕ
+moved_to owned at line rapid goals =
     if not (are_in_reach owned at goals) then Err 13
     else if not (are_own owned goals) then Err 15
-    else Ok (item_of line (ends_from at goals))
+    else Ok (item_of line rapid (ends_from at goals))
 
 -- the motion of a block on this line that programs these values, of a channel with these slots and axes, where this holds and the axes stand so; alarm 14, before the others, where the frame sends X, Y or Z to a slot without axis
 unfoldable pub moved : List (Option ℕ) → List Bool → InForce → (ℕ → ℤ) → ℕ → Targets → Result (Option Item) ℕ
 moved slots owned h at line targets =
     if not (have_axes slots h targets.slots) then Err 14
-    else moved_to owned at line (goals_of slots h targets)
+    else moved_to owned at line (is_rapid h) (goals_of slots h targets)
 
 -- the axes stand at the ends of these goals, and elsewhere where they stood
 abbrev pub StandsMoved : List (Option Goal) → List (Option ℤ) → List (Option ℤ) → Type 0
@@ -104,16 +112,10 @@ StandsAtEnd item old new = (axis : ℕ) → stands new axis ≡ unwrap_or (optio
 abbrev pub StandsAfter : List Item → List (Option ℤ) → List (Option ℤ) → Type 0
 StandsAfter items start at = (axis : ℕ) → stands at axis ≡ left_at items (stands start) axis
 
--- a motion along one straight line
-abbrev pub IsStraight : Motion → Type 0
-IsStraight (Line ends) = ⊤
-IsStraight (Rapid ends) = ⊥
-IsStraight (kind.Arc arc) = ⊥
-
--- a motion of a block where the axes stand so: one straight line of axes that the channel owns, each once, from where it stands to an end in range
+-- a motion of a block where the axes stand so: axes that the channel owns, each once, from where it stands to an end in range; it is sound where they stand in range
 pub record IsMotionOf (axes : List Bool) (at : ℕ → ℤ) (motion : Motion) : Type 0 where
-  pub straight : IsStraight motion
   pub once : AllPairs (λ e f. e.0 ≢ f.0) (axes_of motion)
   pub owned : All (λ e. has axes e.0 ≡ true) (axes_of motion)
   pub begins : All (λ e. e.1 ≡ at e.0) (axes_of motion)
   pub in_range : All (λ e. IsInRange e.2) (axes_of motion)
+  pub sound : ((axis : ℕ) → IsInRange (at axis)) → IsSound motion

@@ -8,8 +8,8 @@ ghost use Rattle.axis_moves.specs.declared.goals.Targets.{Targets};
 ghost use Rattle.axis_moves.specs.Goals.{InForce};
 ghost use Rattle.axis_moves.specs.Motions.{IsMotionOf, moved};
 
-/// A law: the motion of a block is one straight line of axes that the channel owns, each once, from
-/// where it stands to an end in range.
+/// A law: the motion of a block is one of axes that the channel owns, each once, from where it
+/// stands to an end in range. It is sound where the axes stand in range.
 pub fn motions_begin_where_axes_stand()
     ensures { (slots : List (Option ℕ)) (owned : List Bool) (h : InForce) (at : ℕ → ℤ) (line : ℕ)
         (targets : Targets) (item : Item)

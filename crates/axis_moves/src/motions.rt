@@ -4,12 +4,18 @@ ghost use Rattle.std.specs.Prelude.{◌≡◌, true, IsTrue, IfOk, OnErr};
 ghost use Rattle.axis_moves.specs.Goals.{InForce, AreInForce};
 ghost use Rattle.axis_moves.specs.Motions as model;
 
-use crate::goals::{Conditions, Goal, Targets, goals_of, have_axes, is_position};
+use crate::goals::{Conditions, Goal, Targets, goals_of, have_axes, is_position, word};
 use arrayvec::ArrayVec;
 use axis_sets::{AxisId, AxisSet, Positions};
 use micro_units::Um;
 use path_geometry::{Ends, Motion};
 use sync_types::{Item, Part};
+
+/// The group of RTLION and RTLIOF, the first and second word in it.
+const RAPID_GROUP: u8 = 0;
+
+/// The group of G0, G1, G2, G3 and G33.
+const MOTION_GROUP: u8 = 1;
 
 /// Where an axis stands.
 pub fn stands(at: &Positions, axis: AxisId) -> Um
@@ -103,15 +109,35 @@ pub fn move_axes(goals: &[Option<Goal>; 16], at: &mut Positions) -> Ends
     Ends { axes }
 }
 
+/// Whether each axis goes by itself.
+#[tactic(auto, using(crate::proofs::Words::has_rapid_word, crate::proofs::Words::has_motion_word))]
+fn is_rapid(conditions: &Conditions) -> bool
+    ensures { (h : InForce) → AreInForce h conditions.now → result ≡ model.is_rapid h }
+{
+    word(conditions, MOTION_GROUP) == 0 && word(conditions, RAPID_GROUP) == 2
+}
+
+/// A rapid, or else a straight line.
+fn motion_between(rapid: bool, ends: Ends) -> Motion
+    ensures { result ≡ model.motion_between rapid ends }
+{
+    if rapid {
+        Motion::Rapid(ends)
+    } else {
+        Motion::Line(ends)
+    }
+}
+
 /// Makes the motion to these goals, or alarms.
 #[tactic(auto, unfolding(crate::specs::Motions::moved_to))]
 fn move_to(
     line: u32,
     owned: AxisSet,
+    rapid: bool,
     goals: &[Option<Goal>; 16],
     at: &mut Positions,
 ) -> Result<Option<Item>, u16>
-    ensures made { result ≡ model.moved_to owned (model.stands at.old) line goals.now }
+    ensures made { result ≡ model.moved_to owned (model.stands at.old) line rapid goals.now }
     ensures stand { IfOk result (λ item. model.StandsAtEnd item at.old at.new) }
     ensures unmoved { OnErr result (at.new ≡ at.old) }
 {
@@ -127,12 +153,13 @@ fn move_to(
     }
     Ok(Some(Item {
         line,
-        part: Part::Move(Motion::Line(ends)),
+        part: Part::Move(motion_between(rapid, ends)),
     }))
 }
 
 /// Makes the motion of a block on this line, and takes the axes to its ends. A block that programs
-/// no axis has none.
+/// no axis has none. It is a straight line; under G0 with RTLIOF it is a rapid, in which each axis
+/// goes by itself.
 ///
 /// X, Y and Z are halved where they are diameters, and go through the frame to the slots, with
 /// their offsets; axes by their own names go without either. A value in millimetres is rounded
@@ -160,5 +187,11 @@ pub fn make_item(
     if !have_axes(slots, conditions, &targets.slots) {
         return Err(14);
     }
-    move_to(line, owned, &goals_of(slots, conditions, targets), at)
+    move_to(
+        line,
+        owned,
+        is_rapid(conditions),
+        &goals_of(slots, conditions, targets),
+        at,
+    )
 }

@@ -1,5 +1,7 @@
-use Rattle.std.proofs.Common.{◌≡◌, ◌∙◌, ◌==◌, true, false, length, sym, ap}
+use Rattle.std.proofs.Common.{◌≡◌, ◌∙◌, ◌==◌, true, false, length, Some, sym, ap, subst}
 use Rattle.path_geometry.specs.Ends.{EndsView}
+use Rattle.path_geometry.specs.declared.motion.Motion.{Motion}
+use Rattle.sync_types.specs.declared.Part.TheVariants.{Move}
 use Rattle.axis_moves.specs.Motions as model
 use Rattle.axis_moves.proofs.Arrivals.{at_none, at_item}
 use Rattle.axis_moves.proofs.Reaches.{are_reached}
@@ -13,10 +15,11 @@ pub returns-then-is_empty-clause-stand : goal.returns-then-is_empty-clause-stand
 returns-then-is_empty-clause-stand c =
     let none : (length c.move_axes-ends.result.axes == 0) ≡ true =
     ap (λ (ends : EndsView). length ends.axes == 0) (sym c.ends.view_is) ∙ sym c.is_empty.ensures ∙ c.if-is_empty.true in
-    at_none c.args.at.now c.move_axes-ends.new.at c.args.goals.now c.args.line c.type_inv.goals c.move_axes-ends.ensures.stand c.move_axes-ends.result c.move_axes-ends.ensures.ends none
+    at_none c.args.at.now c.move_axes-ends.new.at c.args.goals.now c.args.line c.args.rapid c.type_inv.goals c.move_axes-ends.ensures.stand c.move_axes-ends.result c.move_axes-ends.ensures.ends none
 
 pub returns-clause-stand : goal.returns-clause-stand
 returns-clause-stand c =
     let some : (length c.move_axes-ends.result.axes == 0) ≡ false =
     ap (λ (ends : EndsView). length ends.axes == 0) (sym c.ends.view_is) ∙ sym c.is_empty.ensures ∙ c.if-is_empty.false in
-    at_item c.args.at.now c.move_axes-ends.new.at c.args.goals.now c.args.line c.type_inv.goals c.move_axes-ends.ensures.stand c.move_axes-ends.result c.move_axes-ends.ensures.ends some
+    subst (λ (motion : Motion). model.StandsAtEnd (Some (record { line = c.args.line; part = Move motion })) c.args.at.now c.move_axes-ends.new.at) (sym c.motion_between.ensures)
+    (at_item c.args.at.now c.move_axes-ends.new.at c.args.goals.now c.args.line c.args.rapid c.type_inv.goals c.move_axes-ends.ensures.stand c.move_axes-ends.result c.move_axes-ends.ensures.ends some)
