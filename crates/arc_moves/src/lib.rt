@@ -10,4 +10,4 @@ mod words;
 
 pub use arcs::make_arc;
 pub use laws::{alarms_are_listed, arcs_begin_where_axes_stand};
-pub use words::ArcWords;
+pub use words::{ArcWords, is_any};

@@ -21,7 +21,7 @@ pub struct ArcWords {
 }
 
 /// Whether one of the values is programmed.
-fn is_any(values: &[Option<Programmed>]) -> bool
+pub fn is_any(values: &[Option<Programmed>]) -> bool
     ensures { result ≡ model.is_any values.now }
 {
     values.iter().any(|value| value.is_some())

@@ -1,8 +1,11 @@
 -- The alarms of blocks are in the table of alarms.
-use Rattle.std.proofs.Common.{◌≡◌, ℕ, ℤ, pos, negsuc, ◌^◌, ◌%◌, ◌/◌, ◌==◌, ◌&&◌, ◌++◌, ◌+ℤ◌, Bool, true, false, cond, nat_lt, int_lt, List, [], ◌∷◌, Option, None, Some, is_some, get_or, Result, Ok, Err, set, refl}
+use Rattle.std.proofs.Common.{◌≡◌, ℕ, ℤ, pos, negsuc, ◌^◌, ◌%◌, ◌/◌, ◌==◌, ◌&&◌, ◌++◌, ◌+ℤ◌, Bool, true, false, not, cond, nat_lt, int_lt, List, [], ◌∷◌, Option, None, Some, is_some, get_or, Result, Ok, Err, set, refl}
 use Rattle.std.specs.Prelude.{⊤}
 use Rattle.std.specs.Ordering.{int_eq}
 use Rattle.std.specs.Int.RustNames.{unsigned_abs}
+use Rattle.arc_moves.specs.Arcs.{arc_moved}
+use Rattle.arc_moves.specs.declared.words.ArcWords.{ArcWords}
+use Rattle.arc_moves.proofs.AlarmLaws.{moved_listed as arc_listed}
 use Rattle.axis_moves.specs.declared.goals.Programmed.{Programmed}
 use Rattle.axis_moves.specs.declared.goals.Targets.{Targets}
 use Rattle.axis_moves.specs.Goals.{InForce}
@@ -27,9 +30,10 @@ use Rattle.nc_faults.specs.Texts.{IsAlarmCode, alarm_texts}
 use Rattle.nc_blocks.specs.declared.blocks.FrameWord.{FrameWord}
 use Rattle.nc_blocks.specs.declared.blocks.FrameWord.TheVariants.{Trans, Atrans, Scale, Ascale, Mirror, Amirror}
 use Rattle.nc_blocks.specs.Statement.{OperandView, Value, Text, AxisName, WordView, Assign, AssignAt, G, Axis, Radius, Aux, End, Statement, WordBlock, IfJump, If, While, Until, For, EndFor, Case, RepeatFrom, RepeatBlock, Call, Shape, Turn}
-use Rattle.block_effects.specs.Words.{Equipment, Progress, parameter_in, value_in, index_in, begun, given, given_at, counted, assigned, aimed, meant, slot_named, is_in_slot, programmed_once, slot_programmed, named_programmed, programmed_by, option_read, operand_read, aux_read, word_done, words_done}
+use Rattle.sync_types.specs.declared.Item.{Item}
+use Rattle.block_effects.specs.Words.{Equipment, Progress, parameter_in, value_in, index_in, begun, given, given_at, counted, assigned, aimed, meant, slot_named, is_in_slot, programmed_once, slot_programmed, named_programmed, programmed_by, centre_named, centred, rounded, curved, addressed, option_read, operand_read, aux_read, word_done, words_done}
 use Rattle.block_effects.specs.Shapes.{values_done, no_values, unless_alarmed, added, shaped, turned, plane_of, shaped_by, turned_by}
-use Rattle.block_effects.specs.Effects.{Found, word_in, in_force, stands_still, moved_or_still, words_moved, words_run, words_effect, group_words, framed, bounded, for_continued, times_in, times_of, repeated, called, number_of, control_effect, effect_of}
+use Rattle.block_effects.specs.Effects.{Found, word_in, in_force, is_arc, has_stray_words, stands_still, motion_made, moved_or_still, words_moved, words_run, words_effect, group_words, framed, bounded, for_continued, times_in, times_of, repeated, called, number_of, control_effect, effect_of}
 use Rattle.block_effects.proofs.EffectSteps.{left}
 
 -- the codes that a run can end with
@@ -88,6 +92,10 @@ listed_16 = refl
 listed_17 : IsAlarmCode 17
 unfolding IsAlarmCode alarm_texts
 listed_17 = refl
+
+listed_18 : IsAlarmCode 18
+unfolding IsAlarmCode alarm_texts
+listed_18 = refl
 
 listed_33 : IsAlarmCode 33
 unfolding IsAlarmCode alarm_texts
@@ -195,6 +203,9 @@ assigned_listed p values listed = bind_listed values (λ parameters. Ok (record 
 aimed_listed : (p : Progress) (targets : Result Targets ℕ) → IsListed targets → IsListed (aimed p targets)
 aimed_listed p targets listed = bind_listed targets (λ new. Ok (record p { targets = new })) listed (λ new. tt)
 
+curved_listed : (p : Progress) (words : Result ArcWords ℕ) → IsListed words → IsListed (curved p words)
+curved_listed p words listed = bind_listed words (λ new. Ok (record p { arc = new })) listed (λ new. tt)
+
 once_listed : (row : List (Option Programmed)) (place : ℕ) (value : Programmed) → IsListed (programmed_once row place value)
 unfolding programmed_once
 once_listed row place value = by_word (is_some (get_or row place None))
@@ -230,6 +241,17 @@ programmed_listed : (equipment : Equipment) (targets : Targets) (name : List ℕ
 programmed_listed equipment targets name (Some slot) value = slot_listed equipment.slots targets slot value
 programmed_listed equipment targets name None value = named_listed equipment.slots targets (equipment.axis_named name) value
 
+centred_listed : (words : ArcWords) (axis : ℕ) (value : Programmed) → IsListed (centred words axis value)
+centred_listed words axis value =
+    bind_listed (programmed_once words.centre axis value) (λ row. Ok (record words { centre = row })) (once_listed words.centre axis value) (λ row. tt)
+
+rounded_listed : (words : ArcWords) (value : ℤ) → IsListed (rounded words value)
+rounded_listed words value = by_word (is_some words.radius)
+  where
+    by_word : (b : Bool) → IsListed (cond b (Err 17) (Ok (record words { radius = Some value })))
+    by_word true = listed_17
+    by_word false = tt
+
 option_listed : (parameters : List ℤ) (o : Option Tree) → IsListed (option_read parameters o)
 option_listed parameters None = tt
 option_listed parameters (Some tree) = bind_listed (value_in parameters tree) (λ value. Ok (Some value)) (value_listed (parameter_in parameters) tree) (λ value. tt)
@@ -240,17 +262,22 @@ operand_listed parameters (Text bytes) = tt
 operand_listed parameters (AxisName bytes) = tt
 
 module _ (equipment : Equipment) where
+  addressed_listed : (p : Progress) (name : List ℕ) (o : Option ℕ) (value : Programmed) → IsListed (addressed equipment p name o value)
+  addressed_listed p name (Some axis) value = curved_listed p (centred p.arc axis value) (centred_listed p.arc axis value)
+  addressed_listed p name None value =
+      aimed_listed p (programmed_by equipment p.targets name (slot_named name) value) (programmed_listed equipment p.targets name (slot_named name) value)
+
   word_listed : (p : Progress) (word : WordView) → IsListed (word_done equipment p word)
   unfolding word_done
   word_listed p (Assign index tree) = assigned_listed p (given p.parameters index tree) (given_listed p.parameters index tree)
   word_listed p (AssignAt at tree) = assigned_listed p (given_at p.parameters at tree) (given_at_listed p.parameters at tree)
   word_listed p (G group code) = tt
   word_listed p (Axis name measure tree) =
-      bind_listed (value_in p.parameters tree) (λ value. aimed p (programmed_by equipment p.targets name (slot_named name) (meant measure value)))
-      (value_listed (parameter_in p.parameters) tree)
-      (λ value. aimed_listed p (programmed_by equipment p.targets name (slot_named name) (meant measure value))
-      (programmed_listed equipment p.targets name (slot_named name) (meant measure value)))
-  word_listed p (Radius tree) = tt
+      bind_listed (value_in p.parameters tree) (λ value. addressed equipment p name (centre_named name) (meant measure value))
+      (value_listed (parameter_in p.parameters) tree) (λ value. addressed_listed p name (centre_named name) (meant measure value))
+  word_listed p (Radius tree) =
+      bind_listed (value_in p.parameters tree) (λ value. curved p (rounded p.arc value)) (value_listed (parameter_in p.parameters) tree)
+      (λ value. curved_listed p (rounded p.arc value) (rounded_listed p.arc value))
   word_listed p (Aux name index operand) =
       bind_listed (aux_read p.parameters index operand) (λ _. Ok p)
       (bind_listed (option_read p.parameters index) (λ _. operand_read p.parameters operand) (option_listed p.parameters index) (λ _. operand_listed p.parameters operand))
@@ -267,21 +294,30 @@ listed_of : {A : Type 0} (r : Result A ℕ) → ((code : ℕ) → r ≡ Err code
 listed_of (Ok x) each = tt
 listed_of (Err code) each = each code refl
 
-still_listed : (slots : List (Option ℕ)) (owned : List Bool) (h : InForce) (at : ℕ → ℤ) (line : ℕ) (groups : List GWord) (targets : Targets)
-    → IsListed (moved_or_still slots owned h at line groups targets)
-still_listed slots owned h at line groups targets = by_word (stands_still groups)
-  where
-    by_word : (b : Bool) → IsListed (cond b (Ok None) (moved slots owned h at line targets))
-    by_word true = tt
-    by_word false = listed_of (moved slots owned h at line targets) (λ code is. moved_listed slots owned h at line targets code is)
+module _ (slots : List (Option ℕ)) (owned : List Bool) (h : InForce) (at : ℕ → ℤ) (line : ℕ) (targets : Targets) (arc : ArcWords) where
+  made_listed : IsListed (motion_made slots owned h at line targets arc)
+  made_listed = by_kind (is_arc h)
+    where
+      by_kind : (b : Bool) → IsListed (cond b (arc_moved slots owned h at line targets arc) (moved slots owned h at line targets))
+      by_kind true = listed_of (arc_moved slots owned h at line targets arc) (λ code is. arc_listed owned h at line arc slots targets code is)
+      by_kind false = listed_of (moved slots owned h at line targets) (λ code is. moved_listed slots owned h at line targets code is)
+
+  still_listed : (groups : List GWord) → IsListed (moved_or_still slots owned h at line groups targets arc)
+  unfolding moved_or_still
+  still_listed groups = by_words (not (is_arc h) && has_stray_words h arc) (stands_still groups)
+    where
+      by_words : (stray still : Bool) → IsListed (cond {A = Result (Option Item) ℕ} stray (Err 18) (cond still (Ok None) (motion_made slots owned h at line targets arc)))
+      by_words true still = listed_18
+      by_words false true = tt
+      by_words false false = made_listed
 
 module _ (equipment : Equipment) (found : Found) (line : ℕ) (groups : List GWord) (words : List WordView) where
   words_run_listed : IsListed (words_run equipment found line groups words)
   words_run_listed =
-      bind_listed (words_done equipment (begun found.parameters) words) (λ p. words_moved equipment found line groups p.targets >>= λ item. Ok (left found p item))
+      bind_listed (words_done equipment (begun found.parameters) words) (λ p. words_moved equipment found line groups p.targets p.arc >>= λ item. Ok (left found p item))
       (words_listed equipment (begun found.parameters) words)
-      (λ p. bind_listed (words_moved equipment found line groups p.targets) (λ item. Ok (left found p item))
-      (still_listed equipment.slots equipment.owned (in_force equipment found groups) found.at line groups p.targets) (λ item. tt))
+      (λ p. bind_listed (words_moved equipment found line groups p.targets p.arc) (λ item. Ok (left found p item))
+      (still_listed equipment.slots equipment.owned (in_force equipment found groups) found.at line p.targets p.arc groups) (λ item. tt))
 
   words_effect_listed : IsListed (words_effect equipment found line groups words)
   words_effect_listed = by_test (has_group_twice groups)

@@ -1,5 +1,8 @@
 -- The motion of a block, whatever it says.
-use Rattle.std.proofs.Common.{◌≡◌, ◌∙◌, ℕ, Bool, true, false, cond, List, [], Option, None, Some, Result, Ok, Err, refl, ap, subst}
+use Rattle.std.proofs.Common.{◌≡◌, ◌∙◌, ℕ, ℤ, Bool, true, false, not, ◌&&◌, cond, List, [], Option, None, Some, Result, Ok, Err, refl, ap, subst}
+use Rattle.arc_moves.specs.Arcs.{IsArcOf, arc_moved}
+use Rattle.arc_moves.specs.declared.words.ArcWords.{ArcWords}
+use Rattle.arc_moves.proofs.ArcLaws.{arc_is}
 use Rattle.axis_moves.specs.declared.goals.Targets.{Targets}
 use Rattle.axis_moves.specs.Goals.{InForce}
 use Rattle.axis_moves.specs.Motions.{IsMotionOf, moved}
@@ -13,8 +16,12 @@ use Rattle.sync_types.specs.declared.Item.{Item}
 use Rattle.sync_types.specs.Items.{motion_of}
 use Rattle.block_effects.specs.Words.{Equipment, begun, words_done}
 use Rattle.block_effects.specs.Shapes.{plane_of, shaped_by, turned_by}
-use Rattle.block_effects.specs.Effects.{Effect, Turning, Found, word_in, in_force, stands_still, moved_or_still, words_moved, words_run, words_effect, group_words, framed, turned_only, control_effect, effect_of}
+use Rattle.block_effects.specs.Effects.{Effect, Turning, Found, word_in, in_force, is_arc, has_stray_words, stands_still, motion_made, moved_or_still, words_moved, words_run, words_effect, group_words, framed, turned_only, control_effect, effect_of}
 use Rattle.block_effects.proofs.EffectSteps.{left}
+
+-- an arc is a motion, and sound wherever the axes stand
+arc_motion : (axes : List Bool) (at : ℕ → ℤ) (item : Item) → IsArcOf axes at (motion_of item) → IsMotionOf axes at (motion_of item)
+arc_motion axes at item arc = record { once = arc.once; owned = arc.owned; begins = arc.begins; in_range = arc.in_range; sound = λ _. arc.sound }
 
 module _ (equipment : Equipment) (found : Found) (line : ℕ) where
   -- the motion that a block has, if it is done and has one, is one from where the axes stand
@@ -26,20 +33,33 @@ module _ (equipment : Equipment) (found : Found) (line : ℕ) where
   moves_bind (Ok x) f each = each x refl
   moves_bind (Err code) f each = tt
 
-  moved_from : (h : InForce) (groups : List GWord) (targets : Targets) (item : Item)
-      → moved_or_still equipment.slots equipment.owned h found.at line groups targets ≡ Ok (Some item) → IsMotionOf equipment.owned found.at (motion_of item)
-  moved_from h groups targets item is = by_word (stands_still groups) is
+  made_from : (h : InForce) (targets : Targets) (arc : ArcWords) (item : Item)
+      → motion_made equipment.slots equipment.owned h found.at line targets arc ≡ Ok (Some item) → IsMotionOf equipment.owned found.at (motion_of item)
+  made_from h targets arc item is = by_kind (is_arc h) is
     where
-      by_word : (b : Bool) → cond {A = Result (Option Item) ℕ} b (Ok None) (moved equipment.slots equipment.owned h found.at line targets) ≡ Ok (Some item)
+      by_kind : (b : Bool)
+          → cond b (arc_moved equipment.slots equipment.owned h found.at line targets arc) (moved equipment.slots equipment.owned h found.at line targets) ≡ Ok (Some item)
           → IsMotionOf equipment.owned found.at (motion_of item)
-      by_word true is = absurd cc
-      by_word false is = moved_is equipment.owned found.at line equipment.slots h targets item is
+      by_kind true is = arc_motion equipment.owned found.at item (arc_is equipment.owned found.at line arc item h equipment.slots targets is)
+      by_kind false is = moved_is equipment.owned found.at line equipment.slots h targets item is
+
+  moved_from : (h : InForce) (groups : List GWord) (targets : Targets) (arc : ArcWords) (item : Item)
+      → moved_or_still equipment.slots equipment.owned h found.at line groups targets arc ≡ Ok (Some item) → IsMotionOf equipment.owned found.at (motion_of item)
+  unfolding moved_or_still
+  moved_from h groups targets arc item is = by_words (not (is_arc h) && has_stray_words h arc) (stands_still groups) is
+    where
+      by_words : (stray still : Bool)
+          → cond {A = Result (Option Item) ℕ} stray (Err 18) (cond still (Ok None) (motion_made equipment.slots equipment.owned h found.at line targets arc)) ≡ Ok (Some item)
+          → IsMotionOf equipment.owned found.at (motion_of item)
+      by_words true still is = absurd cc
+      by_words false true is = absurd cc
+      by_words false false is = made_from h targets arc item is
 
   run_moves : (groups : List GWord) (words : List WordView) → Moves (words_run equipment found line groups words)
   run_moves groups words =
-      moves_bind (words_done equipment (begun found.parameters) words) (λ p. words_moved equipment found line groups p.targets >>= λ item. Ok (left found p item))
-      (λ p done. moves_bind (words_moved equipment found line groups p.targets) (λ item. Ok (left found p item))
-      (λ o made item is. moved_from (in_force equipment found groups) groups p.targets item (made ∙ ap (λ (i : Option Item). Ok i) is)))
+      moves_bind (words_done equipment (begun found.parameters) words) (λ p. words_moved equipment found line groups p.targets p.arc >>= λ item. Ok (left found p item))
+      (λ p done. moves_bind (words_moved equipment found line groups p.targets p.arc) (λ item. Ok (left found p item))
+      (λ o made item is. moved_from (in_force equipment found groups) groups p.targets p.arc item (made ∙ ap (λ (i : Option Item). Ok i) is)))
 
   words_move : (groups : List GWord) (words : List WordView) → Moves (words_effect equipment found line groups words)
   words_move groups words = by_test (has_group_twice groups)

@@ -18,10 +18,10 @@ left found p item = record { parameters = p.parameters; chain = found.chain; ite
 
 module _ (equipment : Equipment) (found : Found) (line : ℕ) (groups : List GWord) (words : List WordView) (p : Progress) where
   abbrev moves : Progress → Result Effect ℕ
-  moves p = words_moved equipment found line groups p.targets >>= λ item. Ok (left found p item)
+  moves p = words_moved equipment found line groups p.targets p.arc >>= λ item. Ok (left found p item)
 
   -- the words have acted, and the axes do what this says
-  pub words_end : (r : Result (Option Item) ℕ) → words_done equipment (begun found.parameters) words ≡ Ok p → r ≡ words_moved equipment found line groups p.targets
+  pub words_end : (r : Result (Option Item) ℕ) → words_done equipment (begun found.parameters) words ≡ Ok p → r ≡ words_moved equipment found line groups p.targets p.arc
       → words_run equipment found line groups words ≡ (r >>= λ item. Ok (left found p item))
   words_end r done moved = ap (λ (q : Result Progress ℕ). q >>= moves) done ∙ ap (λ (q : Result (Option Item) ℕ). q >>= λ item. Ok (left found p item)) (sym moved)
 

@@ -1,9 +1,11 @@
 -- What a block does, by what it says.
-use Rattle.std.specs.Prelude.{ℕ, ◌%◌, ◌/◌, ℤ, pos, negsuc, Bool, true, false, not, ◌&&◌, ◌||◌, ◌==◌, nat_lt, int_lt, if◌then◌else◌, List, [], ◌∷◌, ◌++◌, find, filter_map, position, Option, Some, None, option_map, Result, Ok, Err}
+use Rattle.std.specs.Prelude.{ℕ, ◌%◌, ◌/◌, ℤ, pos, negsuc, Bool, true, false, not, ◌&&◌, ◌||◌, ◌==◌, nat_lt, int_lt, if◌then◌else◌, List, [], ◌∷◌, ◌++◌, find, filter_map, is_some, position, Option, Some, None, option_map, Result, Ok, Err}
 use Rattle.std.specs.List.{list_any}
 use Rattle.std.specs.Option.{option_or}
 use Rattle.std.specs.Ordering.{int_eq}
 use Rattle.std.specs.Str.{bytes_eq}
+use Rattle.arc_moves.specs.Arcs.{is_any, arc_moved}
+use Rattle.arc_moves.specs.declared.words.ArcWords.{ArcWords}
 use Rattle.axis_moves.specs.Goals.{InForce}
 use Rattle.axis_moves.specs.Motions.{moved}
 use Rattle.axis_moves.specs.declared.goals.Targets.{Targets}
@@ -173,13 +175,28 @@ held_behind offset blocks chain = record { word = modal_word blocks; chain = cha
 abbrev pub in_force : Equipment → Found → List GWord → InForce
 in_force equipment found words = held_behind equipment.offset (found.words ++ words ∷ []) found.chain
 
--- the motion of a block with these words of groups
-abbrev pub moved_or_still : List (Option ℕ) → List Bool → InForce → (ℕ → ℤ) → ℕ → List GWord → Targets → Result (Option Item) ℕ
-moved_or_still slots owned h at line words targets = if stands_still words then Ok None else moved slots owned h at line targets
+-- G2 and G3, the words 2 and 3 of group 1, make arcs
+abbrev pub is_arc : InForce → Bool
+is_arc h = h.word 1 == 2 || h.word 1 == 3
 
-abbrev pub words_moved : Equipment → Found → ℕ → List GWord → Targets → Result (Option Item) ℕ
-words_moved equipment found line words targets =
-    moved_or_still equipment.slots equipment.owned (in_force equipment found words) found.at line words targets
+-- words of an arc that may not stand where there is none: a radius, and a centre but under G33, the word 33 of group 1, where I, J and K are pitches
+abbrev pub has_stray_words : InForce → ArcWords → Bool
+has_stray_words h words = is_some words.radius || (not (h.word 1 == 33) && is_any words.centre)
+
+-- an arc, or else a straight line or a rapid
+abbrev pub motion_made : List (Option ℕ) → List Bool → InForce → (ℕ → ℤ) → ℕ → Targets → ArcWords → Result (Option Item) ℕ
+motion_made slots owned h at line targets arc = if is_arc h then arc_moved slots owned h at line targets arc else moved slots owned h at line targets
+
+-- the motion of a block with these words of groups that programs these values and these words of an arc; none where it stands still. Alarm 18, before the others of the motion and also where it stands still, where it makes no arc and has words of one that may not stand there
+unfoldable pub moved_or_still : List (Option ℕ) → List Bool → InForce → (ℕ → ℤ) → ℕ → List GWord → Targets → ArcWords → Result (Option Item) ℕ
+moved_or_still slots owned h at line words targets arc =
+    if not (is_arc h) && has_stray_words h arc then Err 18
+    else if stands_still words then Ok None
+    else motion_made slots owned h at line targets arc
+
+abbrev pub words_moved : Equipment → Found → ℕ → List GWord → Targets → ArcWords → Result (Option Item) ℕ
+words_moved equipment found line words targets arc =
+    moved_or_still equipment.slots equipment.owned (in_force equipment found words) found.at line words targets arc
 
 abbrev pub course_of : Bool → Course
 course_of ends = if ends then Ends else Goes outcome.Plain
@@ -188,7 +205,7 @@ course_of ends = if ends then Ends else Goes outcome.Plain
 abbrev pub words_run : Equipment → Found → ℕ → List GWord → List WordView → Result Effect ℕ
 words_run equipment found line groups words =
     words_done equipment (begun found.parameters) words >>= λ p.
-    words_moved equipment found line groups p.targets >>= λ item.
+    words_moved equipment found line groups p.targets p.arc >>= λ item.
     Ok (record { parameters = p.parameters; chain = found.chain; item = item; course = course_of p.ends })
 
 -- alarm 10, before all others, where two words of one group stand in the block

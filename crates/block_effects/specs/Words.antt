@@ -2,6 +2,7 @@
 use Rattle.std.specs.Prelude.{◌≡◌, ⊤, MatchResult, IsOk, ℕ, ◌==◌, ℤ, pos, ◌+ℤ◌, Bool, true, false, if◌then◌else◌, is_some, List, [], ◌∷◌, codes, replicate, slice_index_or, slice_set, Option, None, Some, Result, Ok, Err}
 use Rattle.std.specs.List.{list_any}
 use Rattle.std.specs.Str.{bytes_eq}
+use Rattle.arc_moves.specs.declared.words.ArcWords.{ArcWords}
 use Rattle.axis_moves.specs.declared.goals.Programmed.{Programmed}
 use Rattle.axis_moves.specs.declared.goals.Targets.{Targets}
 use Rattle.nc_blocks.specs.declared.blocks.Measure.{Measure}
@@ -85,20 +86,43 @@ abbrev pub programmed_by : Equipment → Targets → List ℕ → Option ℕ →
 programmed_by equipment targets name (Some slot) value = slot_programmed equipment.slots targets slot value
 programmed_by equipment targets name None value = named_programmed equipment.slots targets (equipment.axis_named name) value
 
+-- ---- words of arcs
+
+-- the axis X, Y or Z of a word of the centre
+abbrev pub centre_named : List ℕ → Option ℕ
+centre_named name =
+    if bytes_eq name (codes "I") then Some 0
+    else if bytes_eq name (codes "J") then Some 1
+    else if bytes_eq name (codes "K") then Some 2
+    else None
+
+-- no word of an arc
+unfoldable pub no_arc : ArcWords
+no_arc = record { centre = replicate 3 None; radius = None }
+
+-- a word of the centre more; alarm 17 where a word before has programmed it
+abbrev pub centred : ArcWords → ℕ → Programmed → Result ArcWords ℕ
+centred words axis value = programmed_once words.centre axis value >>= λ row. Ok (record words { centre = row })
+
+-- the radius; alarm 17 where a word before has programmed it
+abbrev pub rounded : ArcWords → ℤ → Result ArcWords ℕ
+rounded words value = if is_some words.radius then Err 17 else Ok (record words { radius = Some value })
+
 -- ---- words
 
--- how far the words of a block have come: the parameters, the values that are programmed, and whether the program ends behind the block
+-- how far the words of a block have come: the parameters, the values that are programmed, the words of an arc, and whether the program ends behind the block
 pub record Progress : Type 0 where
   pub parameters : List ℤ
   pub targets : Targets
+  pub arc : ArcWords
   pub ends : Bool
 
--- before the first word of a block: the parameters are as they are, and no axis is programmed
+-- before the first word of a block: the parameters are as they are, and nothing is programmed
 unfoldable pub nothing_programmed : Targets
 nothing_programmed = record { slots = replicate 3 None; axes = replicate 16 None }
 
 abbrev pub begun : List ℤ → Progress
-begun parameters = record { parameters = parameters; targets = nothing_programmed; ends = false }
+begun parameters = record { parameters = parameters; targets = nothing_programmed; arc = no_arc; ends = false }
 
 -- the index comes before the value
 abbrev pub given_at : List ℤ → Tree → Tree → Result (List ℤ) ℕ
@@ -111,6 +135,10 @@ assigned p values = values >>= λ parameters. Ok (record p { parameters = parame
 -- a word programs an axis alone
 abbrev pub aimed : Progress → Result Targets ℕ → Result Progress ℕ
 aimed p targets = targets >>= λ new. Ok (record p { targets = new })
+
+-- a word programs a centre or a radius alone
+abbrev pub curved : Progress → Result ArcWords ℕ → Result Progress ℕ
+curved p words = words >>= λ new. Ok (record p { arc = new })
 
 abbrev pub meant : Measure → ℤ → Programmed
 meant measure value = record { measure = measure; value = value }
@@ -129,14 +157,19 @@ operand_read parameters (AxisName bytes) = Ok None
 abbrev pub aux_read : List ℤ → Option Tree → OperandView → Result (Option ℤ) ℕ
 aux_read parameters index operand = option_read parameters index >>= λ _. operand_read parameters operand
 
--- what a word does, or its first alarm: words of groups hold for the whole block, and CR does nothing. A job with arcs is refused
+-- I, J and K are words of the centre, and all others program axes
+abbrev pub addressed : Equipment → Progress → List ℕ → Option ℕ → Programmed → Result Progress ℕ
+addressed equipment p name (Some axis) value = curved p (centred p.arc axis value)
+addressed equipment p name None value = aimed p (programmed_by equipment p.targets name (slot_named name) value)
+
+-- what a word does, or its first alarm: words of groups hold for the whole block
 unfoldable pub word_done : Equipment → Progress → WordView → Result Progress ℕ
 word_done equipment p (Assign index tree) = assigned p (given p.parameters index tree)
 word_done equipment p (AssignAt at tree) = assigned p (given_at p.parameters at tree)
 word_done equipment p (G group code) = Ok p
 word_done equipment p (Axis name measure tree) =
-    value_in p.parameters tree >>= λ value. aimed p (programmed_by equipment p.targets name (slot_named name) (meant measure value))
-word_done equipment p (Radius tree) = Ok p
+    value_in p.parameters tree >>= λ value. addressed equipment p name (centre_named name) (meant measure value)
+word_done equipment p (Radius tree) = value_in p.parameters tree >>= λ value. curved p (rounded p.arc value)
 word_done equipment p (Aux name index operand) = aux_read p.parameters index operand >>= λ _. Ok p
 word_done equipment p End = Ok (record p { ends = true })
 
@@ -148,11 +181,15 @@ words_done equipment p (word ∷ words) = word_done equipment p word >>= λ q. w
 -- ---- answers
 
 abbrev pub progress_of : List ℤ → WordsDone → Progress
-progress_of parameters done = record { parameters = parameters; targets = done.targets; ends = done.ends }
+progress_of parameters done = record { parameters = parameters; targets = done.targets; arc = done.arc; ends = done.ends }
 
 -- the words have done this, or alarm
 abbrev pub Acts : Result Progress ℕ → Result ⊤ ℕ → Progress → Type 0
 Acts done result new = MatchResult result (λ _. done ≡ Ok new) (λ code. done ≡ Err code)
+
+-- a word of an arc is programmed, or alarms
+abbrev pub Curves : Result ArcWords ℕ → Result ⊤ ℕ → ArcWords → Type 0
+Curves curved result new = MatchResult result (λ _. curved ≡ Ok new) (λ code. curved ≡ Err code)
 
 -- an axis is programmed, or alarms
 abbrev pub Aims : Result Targets ℕ → Result ⊤ ℕ → Targets → Type 0

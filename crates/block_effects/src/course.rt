@@ -22,7 +22,7 @@ pub enum Course<'a> {
 /// What a block has done, besides what it left in its situation.
 #[derive(Debug, Drop)]
 pub struct Done<'a> {
-    /// Its motion, where it moves an axis.
+    /// Its motion, if it has one: a straight line, a rapid or an arc.
     pub item: Option<Item>,
     /// What becomes of control.
     pub course: Course<'a>,

@@ -17,16 +17,20 @@ use crate::control::{begin_for, called, choice, conditional, continue_for, jumpe
 use crate::course::{BlockFault, Course, Done, Setup};
 use crate::groups::{conditions, group_words, plane_in, stands_still};
 use crate::parameters::Parameters;
-use crate::progress::act_all;
+use crate::progress::{WordsDone, act_all};
 use crate::shapes::{shape, turn};
 use crate::situation::{ChannelAxes, Situation};
-use axis_moves::{Conditions, Targets, make_item};
+use arc_moves::{ArcWords, is_any, make_arc};
+use axis_moves::{Conditions, Targets, make_item, word};
 use axis_sets::Positions;
 use g_groups::{GWord, apply};
 use nc_blocks::{Stmt, Word};
 use nc_control_flow::Outcome;
 use std::alloc::Global;
 use sync_types::Item;
+
+/// The group of G0, G1, G2, G3 and G33.
+const MOTION_GROUP: u8 = 1;
 
 /// The course of a block of words.
 fn course_of<'a>(ends: bool) -> Course<'a>
@@ -50,25 +54,66 @@ fn framed<'a>() -> Done<'a>
     }
 }
 
-/// Moves the axes to these targets, unless the block has a word under which they stand still.
+/// Whether a block makes an arc.
+#[tactic(auto, using(axis_moves::proofs::Words::has_motion_word))]
+fn is_arc(conditions: &Conditions) -> bool
+    ensures { (h : InForce) → AreInForce h conditions.now → result ≡ model.is_arc h }
+{
+    let code = word(conditions, MOTION_GROUP);
+    code == 2 || code == 3
+}
+
+/// Whether there are words of an arc that may not stand where there is none.
+#[tactic(auto, using(axis_moves::proofs::Words::has_motion_word))]
+fn has_stray_words(conditions: &Conditions, arc: &ArcWords) -> bool
+    ensures { (h : InForce) → AreInForce h conditions.now → result ≡ model.has_stray_words h arc.now }
+{
+    arc.radius.is_some() || (word(conditions, MOTION_GROUP) != 33 && is_any(&arc.centre))
+}
+
+/// Makes the motion of a block: an arc, or else a straight line or a rapid.
+fn make_motion(
+    axes: &ChannelAxes,
+    conditions: &Conditions,
+    line: u32,
+    targets: &Targets,
+    arc: &ArcWords,
+    at: &mut Positions,
+) -> Result<Option<Item>, u16>
+    ensures made { (h : InForce) → AreInForce h conditions.now
+        → result ≡ model.motion_made axes.now.slots axes.now.owned h (stands at.old) line targets.now arc.now }
+    ensures stand { IfOk result (λ item. StandsAtEnd item at.old at.new) }
+    ensures unmoved { OnErr result (at.new ≡ at.old) }
+{
+    if is_arc(conditions) {
+        make_arc(line, &axes.slots, axes.owned, conditions, targets, arc, at)
+    } else {
+        make_item(line, &axes.slots, axes.owned, conditions, targets, at)
+    }
+}
+
+/// Moves the axes as the words of the block say, unless it has a word under which they stand still.
+#[tactic(auto, unfolding(crate::specs::Effects::moved_or_still))]
 fn move_axes(
     axes: &ChannelAxes,
     conditions: &Conditions,
     line: u32,
     groups: &[GWord],
-    targets: &Targets,
+    done: &WordsDone,
     at: &mut Positions,
 ) -> Result<Option<Item>, u16>
     ensures made { (h : InForce) → AreInForce h conditions.now
-        → result ≡ model.moved_or_still axes.now.slots axes.now.owned h (stands at.old) line groups.now targets.now }
+        → result ≡ model.moved_or_still axes.now.slots axes.now.owned h (stands at.old) line groups.now done.now.targets done.now.arc }
     ensures stand { IfOk result (λ item. StandsAtEnd item at.old at.new) }
     ensures unmoved { OnErr result (at.new ≡ at.old) }
 {
-    if stands_still(groups) {
-        Ok(None)
-    } else {
-        make_item(line, &axes.slots, axes.owned, conditions, targets, at)
+    if !is_arc(conditions) && has_stray_words(conditions, &done.arc) {
+        return Err(18);
     }
+    if stands_still(groups) {
+        return Ok(None);
+    }
+    make_motion(axes, conditions, line, &done.targets, &done.arc, at)
 }
 
 /// The words of a block act, and then the axes move. The modal words are those with the words of this block.
@@ -91,14 +136,7 @@ fn run_words<'a, S: Setup>(
 {
     let done = act_all(setup, axes, &mut situation.parameters, words)?;
     let conditions = conditions(setup, &situation.modal, &situation.frame);
-    let item = move_axes(
-        axes,
-        &conditions,
-        line,
-        groups,
-        &done.targets,
-        &mut situation.at,
-    )?;
+    let item = move_axes(axes, &conditions, line, groups, &done, &mut situation.at)?;
     Ok(Done {
         item,
         course: course_of(done.ends),
@@ -206,9 +244,10 @@ fn run<'a, S: Setup>(
 ///
 /// The alarms of a block of words, in this order: 10 where two words of one group stand in it; then for each word from
 /// the left 1 to 4 of its values, 14 where a slot has no axis or the job has no axis of the name, 16 where an axis of a
-/// slot is named itself, 17 where an axis is programmed twice; then those of its motion, 14 where the frame sends an
-/// axis to a slot without axis, 13 where an end is out of range, 15 where an axis is not the channel's own. A block with
-/// G4, G25 or G26 moves nothing and has no alarm of a motion.
+/// slot is named itself, 17 where an axis, a word of the centre or the radius is programmed twice. Then comes 18 where
+/// no arc is made, under G0, G1 or G33, and a radius stands there, or under G0 or G1 a word of the centre, also in a
+/// block that moves nothing; then under G2 and G3 the alarms of `make_arc`, else those of `make_item`. A block with G4,
+/// G25 or G26 moves nothing and has no further alarm.
 ///
 /// Those of a block of a frame: 1 to 4 of its values, then 11 and 12 of its maps, then 11 and 13 of the whole chain.
 /// Those of other blocks: 1 to 4 of their values, 33 where a number of repetitions is not a whole number 0 to 9999, 7

@@ -9,8 +9,8 @@ ghost use Rattle.sync_types.specs.Items.{motion_of};
 ghost use Rattle.block_effects.specs.Effects.{Effect, Found, effect_of};
 ghost use Rattle.block_effects.specs.Words.{Equipment};
 
-/// A law: the motion of a block is one straight line of axes that the channel owns, each once, from
-/// where it stands to an end in range.
+/// A law: the motion of a block is one of axes that the channel owns, each once, from where it stands
+/// to an end in range. It is sound where the axes stand in range.
 pub fn motions_begin_where_axes_stand()
     ensures { (equipment : Equipment) (found : Found) (line : ℕ) (opener statement : Statement) (effect : Effect) (item : Item)
         → effect_of equipment found line opener statement ≡ Ok effect

@@ -1,4 +1,5 @@
-//! What one block does: it changes parameters, modal words and the frame, moves axes, and says where control goes on.
+//! What one block does: it changes parameters, modal words and the frame, moves axes along a line or an arc or each by
+//! itself, and says where control goes on.
 //!
 //! `execute` does what a block says, or answers its first alarm.
 #![tactic(auto)]

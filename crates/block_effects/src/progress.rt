@@ -1,15 +1,16 @@
 //! The words of a block, which act from left to right.
 
-ghost use Rattle.std.specs.Prelude.{◌≡◌, ◌≤◌, ◌<◌, ℕ, All, IfSome, MatchResult, map, false, length, Ok, Err};
+ghost use Rattle.std.specs.Prelude.{◌≡◌, ◌≤◌, ◌<◌, ℕ, ℤ, List, All, IfSome, MatchResult, map, false, length, Ok, Err};
 ghost use Rattle.nc_blocks.specs.Indices.{WordFits, OptionFits, OperandFits};
 ghost use Rattle.nc_blocks.specs.Statement.{word_view, operand_view, tree_option};
 ghost use Rattle.block_effects.specs.Words as model;
-ghost use Rattle.block_effects.specs.Words.{progress_of, Acts, Aims, IsPut, IsRead, WordsAct};
+ghost use Rattle.block_effects.specs.Words.{progress_of, Acts, Aims, Curves, IsPut, IsRead, WordsAct};
 ghost use Rattle.block_effects.specs.Courses.{equipment_of};
 
 use crate::course::Setup;
 use crate::parameters::Parameters;
 use crate::situation::ChannelAxes;
+use arc_moves::ArcWords;
 use axis_moves::{Programmed, Targets};
 use axis_sets::AxisId;
 use micro_units::Num;
@@ -21,6 +22,8 @@ use nc_expressions::{Expr, eval};
 pub(crate) struct WordsDone {
     /// The values that are programmed for axes.
     pub(crate) targets: Targets,
+    /// The words of an arc.
+    pub(crate) arc: ArcWords,
     /// Whether the program ends behind the block.
     pub(crate) ends: bool,
 }
@@ -35,6 +38,22 @@ fn slot_named(name: &[u8]) -> Option<u8>
     } else if name == b"Y".as_slice() {
         Some(1)
     } else if name == b"Z".as_slice() {
+        Some(2)
+    } else {
+        None
+    }
+}
+
+/// The axis of this word of the centre, 0, 1 and 2 for X, Y and Z.
+fn centre_named(name: &[u8]) -> Option<u8>
+    ensures axis { result ≡ model.centre_named name.now }
+    ensures below { IfSome result (λ axis. axis < 3) }
+{
+    if name == b"I".as_slice() {
+        Some(0)
+    } else if name == b"J".as_slice() {
+        Some(1)
+    } else if name == b"K".as_slice() {
         Some(2)
     } else {
         None
@@ -108,8 +127,27 @@ fn program_named(
     put(&mut targets.axes, usize::from(axis.index), value)
 }
 
-/// Programs what has this name.
-fn program<S: Setup>(
+/// Programs the centre of an arc.
+fn program_centre(arc: &mut ArcWords, axis: u8, value: Programmed) -> Result<(), u16>
+    requires { axis < 3 }
+    ensures { Curves (model.centred arc.old axis value) result arc.new }
+{
+    put(&mut arc.centre, usize::from(axis), value)
+}
+
+/// Programs the radius of an arc.
+fn program_radius(arc: &mut ArcWords, value: Num) -> Result<(), u16>
+    ensures { Curves (model.rounded arc.old value) result arc.new }
+{
+    if arc.radius.is_some() {
+        return Err(17);
+    }
+    arc.radius = Some(value);
+    Ok(())
+}
+
+/// Programs the axis that has this name.
+fn program_axis<S: Setup>(
     setup: &S,
     axes: &ChannelAxes,
     targets: &mut Targets,
@@ -161,9 +199,10 @@ fn read(parameters: &Parameters, index: &Option<Expr>, operand: &Operand) -> Res
 
 impl WordsDone {
     /// Before the first word of a block.
-    #[tactic(auto, unfolding(crate::specs::Words::nothing_programmed))]
+    #[tactic(auto, unfolding(crate::specs::Words::nothing_programmed, crate::specs::Words::no_arc))]
     fn nothing() -> WordsDone
         ensures targets { result.targets ≡ model.nothing_programmed }
+        ensures arc { result.arc ≡ model.no_arc }
         ensures ends { result.ends ≡ false }
     {
         WordsDone {
@@ -171,7 +210,29 @@ impl WordsDone {
                 slots: [None; 3],
                 axes: [None; 16],
             },
+            arc: ArcWords {
+                centre: [None; 3],
+                radius: None,
+            },
             ends: false,
+        }
+    }
+
+    /// Programs what has this name: the centre of an arc, or an axis.
+    fn program<S: Setup>(
+        &mut self,
+        setup: &S,
+        axes: &ChannelAxes,
+        name: &[u8],
+        value: Programmed,
+    ) -> Result<(), u16>
+        ensures { (parameters : List ℤ)
+            → Acts (model.addressed (equipment_of (S.names setup.now) (S.axis_named setup.now) (S.offset setup.now) axes.now)
+            (progress_of parameters self.old) name.now (model.centre_named name.now) value) result (progress_of parameters self.new) }
+    {
+        match centre_named(name) {
+            Some(axis) => program_centre(&mut self.arc, axis, value),
+            None => program_axis(setup, axes, &mut self.targets, name, value),
         }
     }
 
@@ -196,14 +257,18 @@ impl WordsDone {
                     measure: *measure,
                     value: eval(value, parameters)?,
                 };
-                program(setup, axes, &mut self.targets, name.as_slice(), value)
+                self.program(setup, axes, name.as_slice(), value)
             }
             Word::Aux(_, index, operand) => read(parameters, index, operand),
             Word::End => {
                 self.ends = true;
                 Ok(())
             }
-            Word::G(_, _) | Word::Radius(_) => Ok(()),
+            Word::Radius(value) => {
+                let value = eval(value, parameters)?;
+                program_radius(&mut self.arc, value)
+            }
+            Word::G(_, _) => Ok(()),
         }
     }
 }

@@ -7,8 +7,8 @@ ghost use Rattle.sync_types.specs.Items.{motion_of};
 ghost use Rattle.sync_types.specs.declared.Item.{Item};
 ghost use Rattle.channel_machine.specs.Run.{Setting, begun, segment_of, stands_at_start, IsListedAction};
 
-/// A law: each motion of a channel's first segment is one straight line of axes that the channel owns, each once, from
-/// where the motions before it left it to an end in range.
+/// A law: each motion of a channel's first segment is one of axes that the channel owns, each once, from where the motions
+/// before it left it to an end in range. It is sound where they left the axes in range.
 pub fn motions_follow_one_another()
     ensures { (s : Setting) (place : ℕ) (item : Item)
         → slice_get (segment_of s (begun s)).items place ≡ Some item
