@@ -3,17 +3,17 @@ use Rattle.std.proofs.Common.{◌≡◌, ◌⊎◌, ◌∙◌, ℕ, zero, suc, �
 use Rattle.std.proofs.lemmas.Bool.{ne_eqb, cases_eq}
 use Rattle.std.proofs.lemmas.List.Elements.{All-weaker}
 use Rattle.std.specs.List.{list_any}
-use Rattle.path_geometry.proofs.PathLaws.{start_on_line, end_on_line}
 use Rattle.path_geometry.specs.declared.motion.Motion.{Motion}
 use Rattle.path_geometry.specs.declared.motion.Motion.TheVariants.{Line, Rapid}
 use Rattle.path_geometry.specs.declared.motion.Motion.TheVariants as Kind
 use Rattle.tape_job.specs.declared.job.ZoneLine.{ZoneLine}
+use Rattle.job_verdict.proofs.PathEnds.{start_on_path, end_on_path}
 use Rattle.job_verdict.proofs.PositionLemmas.{Joins, AllJoin, after_is, left_at-nil, left_at-cons}
 use Rattle.job_verdict.proofs.SomeLemmas.{SomeOf}
-use Rattle.path_geometry.specs.Path.{Point, IsOnPath, along}
-use Rattle.axis_moves.specs.Motions.{end_in, left_at, IsStraight}
+use Rattle.path_geometry.specs.Path.{Point, IsOnPath}
+use Rattle.axis_moves.specs.Motions.{end_in, left_at}
 use Rattle.job_verdict.specs.SmallSteps.{StandsAt, IsAlong, IsAtPlace}
-use Rattle.path_geometry.specs.Motions.{axes_of}
+use Rattle.path_geometry.specs.Motions.{axes_of, IsSound}
 use Rattle.job_verdict.specs.ZoneBoxes.{after, has_axis, moves_zone, PlaceBox, Opened, Waiting, Moving, close, closed, next_open, walk, boxes_of}
 use Rattle.sync_types.specs.declared.Item.{Item}
 use Rattle.sync_types.specs.Items.{motion_of}
@@ -34,35 +34,28 @@ stays_there item at axis none = after_is item at axis ∙ by_end (end_in axis it
 
 -- the start and the end of a motion that joins are points of its path
 pub along_at_start : (at : ℕ → ℤ) (item : Item) (under : ℕ) → Joins at item → 0 < under → IsAlong at item (standing at under)
-along_at_start at item under joins some = record { path = by_motion (motion_of item) joins.0 starts; others = λ axis none. refl }
+along_at_start at item under joins some = record { path = start_on_path (motion_of item) (standing at under) joins.0 some starts; others = λ axis none. refl }
   where
     starts : All (λ e. at e.0 *ℤ pos under ≡ e.1 *ℤ pos under) (axes_of (motion_of item))
     starts = All-weaker (λ e. (e.1 ≡ at e.0) × (e.2 ≡ after item at e.0)) (λ e. at e.0 *ℤ pos under ≡ e.1 *ℤ pos under)
         (λ e joined. ap (λ x. x *ℤ pos under) (sym joined.0)) (axes_of (motion_of item)) joins.1
 
-    by_motion : (motion : Motion) → IsStraight motion → All (λ e. at e.0 *ℤ pos under ≡ e.1 *ℤ pos under) (axes_of motion) → IsOnPath motion (standing at under)
-    by_motion (Line ends) straight begun = start_on_line ends (standing at under) some begun
-    by_motion (Rapid ends) straight begun = absurd straight
-    by_motion (Kind.Arc arc) straight begun = absurd straight
-
 pub along_at_end : (at : ℕ → ℤ) (item : Item) (under : ℕ) → Joins at item → 0 < under → IsAlong at item (standing (after item at) under)
-along_at_end at item under joins some = record { path = by_motion (motion_of item) joins.0 ends_there; others = λ axis none. ap (λ x. x *ℤ pos under) (stays_there item at axis none) }
+along_at_end at item under joins some = record {
+  path = end_on_path (motion_of item) (standing (after item at) under) joins.0 some ends_there;
+  others = λ axis none. ap (λ x. x *ℤ pos under) (stays_there item at axis none);
+}
   where
     ends_there : All (λ e. after item at e.0 *ℤ pos under ≡ e.2 *ℤ pos under) (axes_of (motion_of item))
     ends_there = All-weaker (λ e. (e.1 ≡ at e.0) × (e.2 ≡ after item at e.0)) (λ e. after item at e.0 *ℤ pos under ≡ e.2 *ℤ pos under)
         (λ e joined. ap (λ x. x *ℤ pos under) (sym joined.1)) (axes_of (motion_of item)) joins.1
 
-    by_motion : (motion : Motion) → IsStraight motion → All (λ e. after item at e.0 *ℤ pos under ≡ e.2 *ℤ pos under) (axes_of motion) → IsOnPath motion (standing (after item at) under)
-    by_motion (Line ends) straight ended = end_on_line ends (standing (after item at) under) some ended
-    by_motion (Rapid ends) straight ended = absurd straight
-    by_motion (Kind.Arc arc) straight ended = absurd straight
-
 -- ---- boxes that cover a point
 
--- the zone's axes are at the point where a box has them: at its positions where it stands, or as at some point of its motion, which is straight and begins there
+-- the zone's axes are at the point where a box has them: at its positions where it stands, or as at some point of its motion, which is sound and begins there
 abbrev pub IsCovered : ZoneLine → (ℕ → ℤ) → Option Item → Point → Type 0
 IsCovered zone at None point = (axis : ℕ) → has_axis zone axis ≡ true → StandsAt point axis (at axis)
-IsCovered zone at (Some item) point = IsStraight (motion_of item) × (other : Point) × IsAlong at item other × (other.under ≡ point.under) × ((axis : ℕ) → has_axis zone axis ≡ true → other.top axis ≡ point.top axis)
+IsCovered zone at (Some item) point = IsSound (motion_of item) × (other : Point) × IsAlong at item other × (other.under ≡ point.under) × ((axis : ℕ) → has_axis zone axis ≡ true → other.top axis ≡ point.top axis)
 
 -- the box holds the place and covers the point
 pub record Covers (zone : ZoneLine) (place : ℕ) (point : Point) (box : PlaceBox) : Type 0 where

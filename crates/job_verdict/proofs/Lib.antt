@@ -2,6 +2,7 @@ pub mod SomeLemmas
 pub mod PositionLemmas
 pub mod GrantLemmas
 pub mod Runs
+pub mod PathEnds
 pub mod CoverLemmas
 pub mod PieceBoxes
 pub mod PieceLemmas

@@ -64,7 +64,7 @@ abbrev IsWithin : ℕ × ℤ × ℤ → ℕ × ℤ × ℤ → Type 0
 IsWithin r s = (r.0 ≡ s.0) × (s.1 ≤ℤ r.1) × (r.2 ≤ℤ s.2)
 
 -- an axis that a piece has not, its cover has not
-absent : (inner outer : List (ℕ × ℤ × ℤ)) (axis : ℕ) → AllZip IsWithin inner outer → find (λ r. r.0 == axis) inner ≡ None → find (λ r. r.0 == axis) outer ≡ None
+pub absent : (inner outer : List (ℕ × ℤ × ℤ)) (axis : ℕ) → AllZip IsWithin inner outer → find (λ r. r.0 == axis) inner ≡ None → find (λ r. r.0 == axis) outer ≡ None
 absent [] [] axis lie none = refl
 absent [] (s ∷ ss) axis lie none = absurd lie
 absent (r ∷ rs) [] axis lie none = absurd lie

@@ -1,25 +1,28 @@
 -- A point that a box covers is in the zone box of one of its pieces.
-use Rattle.std.proofs.Common.{◌≡◌, ℕ, zero, suc, ℤ, pos, ◌*ℤ◌, ◌<◌, ◌^◌, Bool, true, false, cond, ◌==◌, List, [], ◌∷◌, map, length, get_or, find, Option, None, Some, All, Any, inl, inr, refl, sym, subst, arith}
+use Rattle.std.proofs.Common.{◌≡◌, ℕ, zero, suc, ℤ, pos, ◌+ℤ◌, ◌*ℤ◌, ◌<◌, Bool, true, false, cond, ◌==◌, List, [], ◌∷◌, map, length, get_or, find, Option, None, Some, All, Any, inl, inr, refl, sym, subst, arith}
 use Rattle.std.proofs.lemmas.Bool.{eqb-true}
 use Rattle.std.proofs.lemmas.Int.{ints}
-use Rattle.std.proofs.lemmas.List.Elements.{All-head, All-tail, All-map}
-use Rattle.std.specs.List.{range_with_len}
+use Rattle.std.proofs.lemmas.List.Elements.{All-head, All-tail, All-weaker}
 use Rattle.std.specs.Option.{option_map_or}
 use Rattle.number_laws.specs.Fractions.{IsIn}
-use Rattle.swept_boxes.proofs.PieceLaws.{line_covered}
-use Rattle.swept_boxes.specs.Pieces.{range_of_part, part_of_line, pieces_at}
-use Rattle.swept_boxes.specs.Ranges.{RangesView, Hold}
+use Rattle.swept_boxes.proofs.PieceLaws.{covered, in_cover}
+use Rattle.swept_boxes.specs.Cover.{cover_of}
+use Rattle.swept_boxes.specs.Pieces.{range_between, range_over, pieces_at}
+use Rattle.swept_boxes.specs.PlaneBoxes.{BoxInPlane}
+use Rattle.swept_boxes.specs.Ranges.{RangesView, Hold, LieIn}
 use Rattle.swept_boxes.specs.declared.Box3.{Box3}
+use Rattle.path_geometry.specs.declared.motion.Arc.{Arc}
 use Rattle.path_geometry.specs.declared.motion.Motion.{Motion}
 use Rattle.path_geometry.specs.declared.motion.Motion.TheVariants.{Line, Rapid}
 use Rattle.path_geometry.specs.declared.motion.Motion.TheVariants as Kind
 use Rattle.tape_job.specs.declared.job.ZoneLine.{ZoneLine}
 use Rattle.job_verdict.proofs.CoverLemmas.{Covers, IsCovered}
+use Rattle.job_verdict.proofs.PieceBoxes.{absent}
 use Rattle.job_verdict.proofs.SomeLemmas.{SomeOf, SomeOf-weaker, SomeOf-map, found_passes, All-found}
-use Rattle.path_geometry.specs.Path.{Point, IsOnPath}
-use Rattle.axis_moves.specs.Motions.{end_in, IsStraight}
+use Rattle.path_geometry.specs.Path.{Point}
+use Rattle.axis_moves.specs.Motions.{end_in}
 use Rattle.job_verdict.specs.SmallSteps.{StandsAt, IsAlong}
-use Rattle.path_geometry.specs.Motions.{axes_of}
+use Rattle.path_geometry.specs.Motions.{axes_of, IsSound}
 use Rattle.job_verdict.specs.ZoneBoxes.{has_axis, PlaceBox, zone_box, low_in, high_in, piece_boxes}
 use Rattle.sync_types.specs.declared.Item.{Item}
 use Rattle.sync_types.specs.Items.{motion_of}
@@ -30,26 +33,36 @@ use Rattle.sync_types.specs.Items.{motion_of}
 abbrev HasAxesOf : Motion → RangesView → Type 0
 HasAxesOf motion ranges = (axis : ℕ) → find (λ r. r.0 == axis) ranges.axes ≡ None → find (λ e. e.0 == axis) (axes_of motion) ≡ None
 
-part_has_axes : (parts part axis : ℕ) (ends : List (ℕ × ℤ × ℤ)) → find (λ r. r.0 == axis) (map (range_of_part parts part) ends) ≡ None → find (λ e. e.0 == axis) ends ≡ None
-part_has_axes parts part axis [] none = refl
-part_has_axes parts part axis (e ∷ ends) none = by_test (e.0 == axis) none (part_has_axes parts part axis ends)
+-- ranges made of the axes one by one have each of them
+made_has_axes : (f : ℕ × ℤ × ℤ → ℕ × ℤ × ℤ) → ((e : ℕ × ℤ × ℤ) → (f e).0 ≡ e.0) → (axis : ℕ) (ends : List (ℕ × ℤ × ℤ)) → find (λ r. r.0 == axis) (map f ends) ≡ None
+    → find (λ e. e.0 == axis) ends ≡ None
+made_has_axes f same axis [] none = refl
+made_has_axes f same axis (e ∷ ends) none = by_test (e.0 == axis) (subst (λ (n : ℕ). cond (n == axis) (Some (f e)) (find (λ r. r.0 == axis) (map f ends)) ≡ None) (same e) none) (made_has_axes f same axis ends)
   where
-    by_test : (b : Bool) → cond b (Some (range_of_part parts part e)) (find (λ r. r.0 == axis) (map (range_of_part parts part) ends)) ≡ None
-        → (find (λ r. r.0 == axis) (map (range_of_part parts part) ends) ≡ None → find (λ f. f.0 == axis) ends ≡ None) → cond b (Some e) (find (λ f. f.0 == axis) ends) ≡ None
+    by_test : (b : Bool) → cond b (Some (f e)) (find (λ r. r.0 == axis) (map f ends)) ≡ None
+        → (find (λ r. r.0 == axis) (map f ends) ≡ None → find (λ r. r.0 == axis) ends ≡ None) → cond b (Some e) (find (λ r. r.0 == axis) ends) ≡ None
     by_test true none rest = absurd cc
     by_test false none rest = rest none
 
-pieces_have_axes : (motion : Motion) (depth : ℕ) → IsStraight motion → All (HasAxesOf motion) (pieces_at motion depth)
-pieces_have_axes (Rapid ends) depth straight = absurd straight
-pieces_have_axes (Kind.Arc arc) depth straight = absurd straight
-pieces_have_axes (Line ends) depth straight =
-    All-map (HasAxesOf (Line ends)) (part_of_line ends (2 ^ depth)) (range_with_len 0 (2 ^ depth))
-    (λ k d within axis none. part_has_axes (2 ^ depth) (get_or (range_with_len 0 (2 ^ depth)) k d) axis ends.axes none)
+same_axis : (arc : Arc) (box : BoxInPlane) (e : ℕ × ℤ × ℤ) → (range_over arc box e).0 ≡ e.0
+same_axis arc box e = by_tests (e.0 == arc.first) (e.0 == arc.second)
+  where
+    by_tests : (first second : Bool)
+        → (cond first (e.0, arc.centre.0 +ℤ box.u_low, arc.centre.0 +ℤ box.u_high) (cond second (e.0, arc.centre.1 +ℤ box.v_low, arc.centre.1 +ℤ box.v_high) (range_between e))).0 ≡ e.0
+    by_tests true second = refl
+    by_tests false true = refl
+    by_tests false false = refl
 
-straight_covered : (motion : Motion) (depth : ℕ) (point : Point) → IsStraight motion → IsOnPath motion point → Any (λ ranges. Hold ranges point) (pieces_at motion depth)
-straight_covered (Line ends) depth point straight on = line_covered ends depth point on
-straight_covered (Rapid ends) depth point straight on = absurd straight
-straight_covered (Kind.Arc arc) depth point straight on = absurd straight
+-- the cover has all axes of the motion, and each piece has those of the cover
+cover_has_axes : (motion : Motion) → HasAxesOf motion (cover_of motion)
+cover_has_axes (Line ends) axis none = made_has_axes range_between (λ e. refl) axis ends.axes none
+cover_has_axes (Rapid ends) axis none = made_has_axes range_between (λ e. refl) axis ends.axes none
+cover_has_axes (Kind.Arc arc) axis none = made_has_axes (range_over arc _) (same_axis arc _) axis arc.ends.axes none
+
+pieces_have_axes : (motion : Motion) (depth : ℕ) → IsSound motion → All (HasAxesOf motion) (pieces_at motion depth)
+pieces_have_axes motion depth sound =
+    All-weaker (λ piece. LieIn piece (cover_of motion)) (HasAxesOf motion) (λ piece lies axis none. cover_has_axes motion axis (absent piece.axes (cover_of motion).axes axis lies none))
+    (pieces_at motion depth) (in_cover motion depth sound)
 
 some_with_all : {X : Type 0} (P Q : X → Type 0) (xs : List X) → Any P xs → All Q xs → SomeOf (λ x. P x × Q x) xs
 some_with_all {X = X} P Q xs (k, x, within, is, holds) all = go xs k within is all
@@ -99,9 +112,9 @@ some_piece P margin zone depth place point box holds covers = by_motion box.moti
 
     by_motion : (o : Option Item) → IsCovered zone box.at o point → SomeOf P (piece_boxes margin zone depth (record box { motion = o }))
     by_motion None stands = inl (holds box.at box.at (λ axis has. in_itself (box.at axis) (point.top axis) point.under (stands axis has)))
-    by_motion (Some item) (straight, other, along, under, tops) =
+    by_motion (Some item) (sound, other, along, under, tops) =
         SomeOf-map P (λ ranges. zone_box margin zone (low_in ranges box.at) (high_in ranges box.at)) (pieces_at (motion_of item) depth)
         (SomeOf-weaker (λ ranges. Hold ranges other × HasAxesOf (motion_of item) ranges) (λ ranges. P (zone_box margin zone (low_in ranges box.at) (high_in ranges box.at)))
         (λ ranges piece. of_other item other ranges along under tops piece) (pieces_at (motion_of item) depth)
         (some_with_all (λ ranges. Hold ranges other) (HasAxesOf (motion_of item)) (pieces_at (motion_of item) depth)
-        (straight_covered (motion_of item) depth other straight along.path) (pieces_have_axes (motion_of item) depth straight)))
+        (covered (motion_of item) depth other sound along.path) (pieces_have_axes (motion_of item) depth sound)))

@@ -6,8 +6,8 @@ use Rattle.std.proofs.lemmas.List.Elements.{All-weaker}
 use Rattle.std.specs.Prelude.{⊤}
 use Rattle.std.specs.List.{last_or, cons_option}
 use Rattle.std.specs.Option.{option_map_or}
-use Rattle.axis_moves.specs.Motions.{end_in, left_at, IsStraight}
-use Rattle.path_geometry.specs.Motions.{axes_of}
+use Rattle.axis_moves.specs.Motions.{end_in, left_at}
+use Rattle.path_geometry.specs.Motions.{axes_of, IsSound}
 use Rattle.job_verdict.specs.ZoneBoxes.{after}
 use Rattle.sync_types.specs.declared.Item.{Item}
 use Rattle.sync_types.specs.Items.{motion_of}
@@ -68,9 +68,9 @@ left_at_done items k over before axis = ap (λ (xs : List Item). left_at xs befo
 
 -- ---- motions that join
 
--- a motion is straight, begins where its axes stand, and leaves them at its ends
+-- a motion is sound, begins where its axes stand, and leaves them at its ends
 abbrev pub Joins : (ℕ → ℤ) → Item → Type 0
-Joins at item = IsStraight (motion_of item) × All (λ e. (e.1 ≡ at e.0) × (e.2 ≡ after item at e.0)) (axes_of (motion_of item))
+Joins at item = IsSound (motion_of item) × All (λ e. (e.1 ≡ at e.0) × (e.2 ≡ after item at e.0)) (axes_of (motion_of item))
 
 -- so does each of them, one after the other
 abbrev pub AllJoin : (ℕ → ℤ) → List Item → Type 0

@@ -7,15 +7,11 @@ use Rattle.tape_job.specs.Read.{read_of}
 use Rattle.tape_job.specs.SoundJob.{IsSoundJob, BlocksFit}
 use Rattle.job_verdict.specs.Channels.{IsRunnable}
 
--- motions that are not cut are cut at most four times
-shallow : (job : JobView) → job.depth ≡ 0 → job.depth ≤ 4
-shallow job uncut = omega (arith, uncut)
-
 pub runnable : (job : JobView) → IsSoundJob job → BlocksFit job → IsRunnable job
 runnable job sound fit = record {
   axes = sound.few_axes;
   starts = sound.positions;
-  depth = shallow job sound.depth;
+  depth = omega (arith, sound.depth);
   programs = sound.few_programs;
   blocks = fit;
 }

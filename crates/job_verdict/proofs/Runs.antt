@@ -3,15 +3,15 @@ use Rattle.std.proofs.Common.{◌≡◌, ◌⊎◌, ◌∙◌, ℕ, suc, ℤ, �
 use mathlib.Core.Path.{fun_ext}
 use Rattle.std.proofs.lemmas.Bool.{eqb-true, false≢true}
 use Rattle.std.proofs.lemmas.List.{get_or_past}
-use Rattle.std.proofs.lemmas.List.Elements.{All-weaker}
+use Rattle.std.proofs.lemmas.List.Elements.{All-head, All-tail, All-weaker}
 use Rattle.std.proofs.lemmas.List.FromFn.{get_or-map-range_with_len, length-map-range_with_len}
-use Rattle.std.proofs.lemmas.Option.{slice_get-get_or}
+use Rattle.std.proofs.lemmas.Option.{slice_get-get_or, slice_get_within, get_or_from_slice_get}
 use Rattle.axis_sets.specs.Sets.{has}
 use Rattle.axis_moves.proofs.MotionLaws.{ends_found}
 use Rattle.axis_moves.specs.Motions.{left_at, IsMotionOf}
 use Rattle.channel_machine.proofs.RunLaws.{all_follow, few_items, items_sound, end_listed}
 use Rattle.channel_machine.specs.Run.{IsListedAction}
-use Rattle.path_geometry.specs.Motions.{axes_of}
+use Rattle.path_geometry.specs.Motions.{axes_of, IsInRange, IsSound}
 use Rattle.sync_types.specs.Items.{motion_of}
 use Rattle.sync_types.specs.declared.Action.{Action}
 use Rattle.sync_types.specs.declared.Action.TheVariants as action
@@ -32,9 +32,9 @@ use Rattle.job_verdict.specs.ZoneBoxes.{IsFit, after}
 abbrev Follow : List Bool → (ℕ → ℤ) → List Item → Type 0
 Follow axes start items = (place : ℕ) (item : Item) → slice_get items place ≡ Some item → IsMotionOf axes (left_at (take place items) start) (motion_of item)
 
-motion_joins : (axes : List Bool) (at : ℕ → ℤ) (item : Item) → IsMotionOf axes at (motion_of item) → Joins at item
-motion_joins axes at item is = (
-  is.straight,
+motion_joins : (axes : List Bool) (at : ℕ → ℤ) (item : Item) → IsMotionOf axes at (motion_of item) → IsSound (motion_of item) → Joins at item
+motion_joins axes at item is sound = (
+  sound,
   λ k d within. (
     is.begins k d within,
     let e : ℕ × ℤ × ℤ = get_or (axes_of (motion_of item)) k d in
@@ -42,17 +42,23 @@ motion_joins axes at item is = (
   ),
 )
 
-all_join : (axes : List Bool) (at : ℕ → ℤ) (items : List Item) → Follow axes at items → AllJoin at items
-all_join axes at [] follow = tt
-all_join axes at (item ∷ items) follow = (
-  motion_joins axes at item (subst (λ (p : ℕ → ℤ). IsMotionOf axes p (motion_of item)) (fun_ext (left_at-nil at)) (follow 0 item refl)),
+all_join : (axes : List Bool) (at : ℕ → ℤ) (items : List Item) → Follow axes at items → All (λ item. IsSound (motion_of item)) items → AllJoin at items
+all_join axes at [] follow sound = tt
+all_join axes at (item ∷ items) follow sound = (
+  motion_joins axes at item (subst (λ (p : ℕ → ℤ). IsMotionOf axes p (motion_of item)) (fun_ext (left_at-nil at)) (follow 0 item refl))
+      (All-head (λ i. IsSound (motion_of i)) item items sound),
   all_join axes (after item at) items
-      (λ place next is. subst (λ (p : ℕ → ℤ). IsMotionOf axes p (motion_of next)) (fun_ext (left_at-cons item (take place items) at)) (follow (suc place) next is)),
+      (λ place next is. subst (λ (p : ℕ → ℤ). IsMotionOf axes p (motion_of next)) (fun_ext (left_at-cons item (take place items) at)) (follow (suc place) next is))
+      (All-tail (λ i. IsSound (motion_of i)) item items sound),
 )
 
 -- what holds of the motion of each place holds of all
 at_places : (P : Item → Type 0) (items : List Item) → ((place : ℕ) (item : Item) → slice_get items place ≡ Some item → P item) → All P items
 at_places P items each = λ k d within. each k (get_or items k d) (slice_get-get_or items k d within)
+
+-- and the other way round
+All-place : (P : Item → Type 0) (items : List Item) → All P items → (place : ℕ) (item : Item) → slice_get items place ≡ Some item → P item
+All-place P items all place item is = subst P (get_or_from_slice_get items place item item is) (all place item (slice_get_within items place item is))
 
 -- ---- the run of a channel
 
@@ -61,9 +67,10 @@ motions_follow : (job : JobView) (line : ChannelLine) → Follow (setting_at job
 unfolding program_run
 motions_follow job line place item is = (all_follow (setting_at job line)).follows place item is
 
--- the motions of a channel are straight, and each begins where those before it left its axes, the first where they were granted
-pub granted_join : (job : JobView) (line : ChannelLine) → AllJoin (granted_position job line) (items_of job line)
-granted_join job line = all_join (setting_at job line).grant.axes (granted_position job line) (items_of job line) (motions_follow job line)
+-- they are sound, since the axes start in range
+motions_sound : (job : JobView) (line : ChannelLine) → All (λ l. IsInRange l.at) job.axes → All (λ item. IsSound (motion_of item)) (items_of job line)
+unfolding program_run
+motions_sound job line starts = items_sound (setting_at job line) (granted_in_range job line starts)
 
 -- ---- the axes of a channel
 
@@ -111,7 +118,6 @@ own_follow job sound line place item is =
     let motion = motions_follow job line place item is in
     let before = take place (items_of job line) in
     record {
-      straight = motion.straight;
       once = motion.once;
       owned = motion.owned;
       begins = λ k d within.
@@ -119,11 +125,12 @@ own_follow job sound line place item is =
           motion.begins k d within
           ∙ left_at_same before (granted_position job line) (start_position job) e.0 (granted_own job sound line e.0 (granted_owned job line e.0 (motion.owned k d within)));
       in_range = motion.in_range;
+      sound = λ in_range. All-place (λ i. IsSound (motion_of i)) (items_of job line) (motions_sound job line sound.positions) place item is;
     }
 
--- the motions of a channel are straight, and each begins where those before it left its axes, the first where the job puts them
+-- the motions of a channel are sound, and each begins where those before it left its axes, the first where the job puts them
 pub motions_join : (job : JobView) → IsSoundJob job → (line : ChannelLine) → AllJoin (start_position job) (items_of job line)
-motions_join job sound line = all_join (setting_at job line).grant.axes (start_position job) (items_of job line) (own_follow job sound line)
+motions_join job sound line = all_join (setting_at job line).grant.axes (start_position job) (items_of job line) (own_follow job sound line) (motions_sound job line sound.positions)
 
 -- ---- good runs
 
@@ -140,7 +147,7 @@ listed_end line (action.Alarm code) listed = listed
 pub good_run : (job : JobView) → IsRunnable job → (line : ChannelLine) → IsGoodRun job line
 unfolding program_run
 good_run job runnable line =
-    let sound = items_sound (setting_at job line) (granted_in_range job line runnable.starts) in
+    let sound = motions_sound job line runnable.starts in
     let within = at_places (λ item. All (λ e. e.0 < 16) (axes_of (motion_of item))) (items_of job line) (λ place item is.
     All-weaker (λ e. has (setting_at job line).grant.axes e.0 ≡ true) (λ e. e.0 < 16)
     (λ e granted. granted_within job line e.0 granted) (axes_of (motion_of item)) (motions_follow job line place item is).owned) in
