@@ -1,4 +1,3 @@
-pub mod BuiltLemmas
 pub mod FirstRefusalLemmas
 pub mod FitLemmas
 pub mod LibraryLemmas

@@ -48,7 +48,7 @@ pub record ZoneFacts (zones : List ZoneLine) : Type 0 where
 
 pub record OptionFacts (margin : Option ℤ) (depth budget : Option ℕ) : Type 0 where
   pub sound_margin : IfSome margin IsSoundMargin
-  pub no_depth : depth ≡ None
+  pub sound_depth : IfSome depth (λ n. n ≤ 4)
   pub sound_budget : IfSome budget (λ n. (1 ≤ n) × (n ≤ 100000000))
 
 -- what holds of lines that name channels and axes of the job
@@ -593,7 +593,7 @@ nothing_listed = record {
   slots = record { numbers = no_pairs HaveOtherSlots; axes = All-nil (λ (g : GeoLine). g.axis < 0) };
   places = no_pairs HaveOtherPlaces;
   zones = record { numbers = no_pairs (λ (z other : ZoneLine). z.zone ≢ other.zone); holders = no_pairs HaveOtherHolders };
-  options = record { sound_margin = tt; no_depth = refl; sound_budget = tt };
+  options = record { sound_margin = tt; sound_depth = tt; sound_budget = tt };
   linked = record {
     owners = All-nil (λ (l : AxisLine). IsSomeAnd l.owner (IsDeclared (job_of nothing_told)));
     offsets = All-nil (IsSoundOffset (job_of nothing_told));

@@ -1,6 +1,6 @@
 -- Every accepted job is sound.
 use Rattle.std.specs.Prelude.{IsSomeAnd}
-use Rattle.std.proofs.Common.{◌≡◌, ◌≢◌, ◌∙◌, ℕ, ◌≤◌, ◌<◌, ℤ, pos, Bool, true, false, ◌&&◌, ◌||◌, not, unwrap_or, ap, nat_le, if◌then◌else◌, List, [], ◌∷◌, ◌++◌, length, Result, Ok, Err, IfOk, Option, Some, None, IfSome, IsSome, find, get_or, subst, refl, sym, arith, length-append, rules}
+use Rattle.std.proofs.Common.{◌≡◌, ◌≢◌, ◌∙◌, ℕ, ◌≤◌, ◌<◌, ℤ, pos, Bool, true, false, ◌&&◌, ◌||◌, not, unwrap_or, nat_le, if◌then◌else◌, List, [], ◌∷◌, ◌++◌, length, Result, Ok, Err, IfOk, Option, Some, None, IfSome, IsSome, find, get_or, subst, refl, sym, arith, length-append, rules}
 use Rattle.std.specs.List.{All, Any, AllPairs, enumerate_from}
 use Rattle.std.specs.Map.{keys_of}
 use Rattle.std.specs.Option.{option_map, option_or}
@@ -78,11 +78,13 @@ declared_told job number (Zone zone) facts none built sound =
     (side_range job.axes zone.x) (side_range job.axes zone.y) (side_range job.axes zone.z)
 declared_told job number (Margin margin) facts none built sound =
     options_told job (Some margin) job.depth job.budget job.compensation job.skip facts
-    (record { sound_margin = sound; no_depth = facts.options.no_depth; sound_budget = facts.options.sound_budget })
-declared_told job number (Depth depth) facts none built sound = absurd cc
+    (record { sound_margin = sound; sound_depth = facts.options.sound_depth; sound_budget = facts.options.sound_budget })
+declared_told job number (Depth depth) facts none built sound =
+    options_told job job.margin (Some depth) job.budget job.compensation job.skip facts
+    (record { sound_margin = facts.options.sound_margin; sound_depth = sound; sound_budget = facts.options.sound_budget })
 declared_told job number (Budget budget) facts none built sound =
     options_told job job.margin job.depth (Some budget) job.compensation job.skip facts
-    (record { sound_margin = facts.options.sound_margin; no_depth = facts.options.no_depth; sound_budget = sound })
+    (record { sound_margin = facts.options.sound_margin; sound_depth = facts.options.sound_depth; sound_budget = sound })
 declared_told job number Compensation facts none built sound = options_told job job.margin job.depth job.budget true job.skip facts facts.options
 declared_told job number Skip facts none built sound = options_told job job.margin job.depth job.budget job.compensation true facts facts.options
 
@@ -223,6 +225,10 @@ margin_or : (margin : Option ℤ) → IfSome margin IsSoundMargin → IsSoundMar
 margin_or None sound = (omega arith, omega arith)
 margin_or (Some margin) sound = sound
 
+depth_or : (depth : Option ℕ) → IfSome depth (λ n. n ≤ 4) → unwrap_or depth 0 ≤ 4
+depth_or None sound = omega arith
+depth_or (Some depth) sound = sound
+
 budget_or : (budget : Option ℕ) → IfSome budget (λ n. (1 ≤ n) × (n ≤ 100000000)) → (1 ≤ unwrap_or budget 1000000) × (unwrap_or budget 1000000 ≤ 100000000)
 budget_or None sound = (omega arith, omega arith)
 budget_or (Some budget) sound = sound
@@ -253,7 +259,7 @@ told_sound now sound none =
       zone_holders = sound.list.zones.holders;
       zones = sound.list.linked.zones;
       margin = margin_or now.job.margin sound.list.options.sound_margin;
-      depth = ap (λ depth. unwrap_or depth 0) sound.list.options.no_depth;
+      depth = depth_or now.job.depth sound.list.options.sound_depth;
       budget = budget_or now.job.budget sound.list.options.sound_budget;
       few_programs = sound.few;
       program_names = program_names now.job.programs sound.names;

@@ -16,7 +16,7 @@ use Rattle.job_lines.specs.declared.code.Code.TheVariants.{OutOfRange, NotBuilt}
 use Rattle.job_lines.specs.declared.item.AxisName.{AxisName}
 use Rattle.job_lines.specs.declared.item.NamedSide.{NamedSide}
 use Rattle.job_lines.specs.declared.item.Item.{Item}
-use Rattle.job_lines.specs.declared.item.Item.TheVariants.{Channel, Axis, Offset, Zone, Margin, Budget}
+use Rattle.job_lines.specs.declared.item.Item.TheVariants.{Channel, Axis, Offset, Zone, Margin, Depth, Budget}
 use Rattle.job_lines.specs.Code.{◌>>=◌, or_code, shown}
 use Rattle.job_lines.specs.Header.{header_of}
 use Rattle.job_lines.specs.Item as item
@@ -166,6 +166,7 @@ IsSoundItem (Axis name owner at) = IsInReach at
 IsSoundItem (Offset channel g slot by) = IsSettable g × (slot < 3) × IsInReach by
 IsSoundItem (Zone zone) = IsWithin 1 32 zone.zone × IsWithin 1 32 zone.group × IsSoundSide zone.x × IsSoundSide zone.y × IsSoundSide zone.z
 IsSoundItem (Margin margin) = IsSoundMargin margin
+IsSoundItem (Depth depth) = depth ≤ 4
 IsSoundItem (Budget budget) = IsWithin 1 100000000 budget
 IsSoundItem item = ⊤
 
@@ -261,7 +262,9 @@ margin_line_sound args = tt
 
 depth_sound : (word : List ℕ) → IfOk (option.depth_of word) IsSoundItem
 unfolding option.depth_of
-depth_sound word = then_any IsSoundItem (or_code OutOfRange (number_within 0 4 word)) _ (λ depth. tt)
+depth_sound word =
+    then_ok (IsWithin 0 4) IsSoundItem (or_code OutOfRange (number_within 0 4 word)) _
+    (or_ok (IsWithin 0 4) OutOfRange (number_within 0 4 word) (number_sound 0 4 word)) (λ depth range. range.1)
 
 depth_line_sound : (args : List (List ℕ)) → IfOk (option.depth_line args) IsSoundItem
 unfolding option.depth_line

@@ -170,12 +170,11 @@ holds_another job (Some channel) = holds_zone job channel
 abbrev pub unless_built : Bool → Option Code
 unless_built built = if built then None else Some NotBuilt
 
--- the job lines that are not built yet: a channel that does not start, an axis that is free, a zone that is off, a channel's second zone, and a depth
+-- the job lines that are not built yet: a channel that does not start, an axis that is free, a zone that is off, and a channel's second zone
 unfoldable pub built_rule : DraftView → Item → Option Code
 built_rule job (Channel channel program starts) = unless_built starts
 built_rule job (Axis name owner at) = unless_built (is_some owner)
 built_rule job (Zone zone) = unless_built (zone.on && not (holds_another job zone.holder))
-built_rule job (Depth depth) = Some NotBuilt
 built_rule job item = None
 
 -- what a job line breaks

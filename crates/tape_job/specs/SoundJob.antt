@@ -105,7 +105,7 @@ pub record IsSoundJob (job : JobView) : Type 0 where
   pub zone_holders : AllPairs HaveOtherHolders job.zones
   pub zones : All (IsSoundZone job) job.zones
   pub margin : IsSoundMargin job.margin
-  pub depth : job.depth ≡ 0
+  pub depth : job.depth ≤ 4
   pub budget : (1 ≤ job.budget) × (job.budget ≤ 100000000)
   pub few_programs : length job.programs ≤ 256
   pub program_names : AllPairs (λ program other. program.0 ≢ other.0) job.programs

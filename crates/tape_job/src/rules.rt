@@ -368,10 +368,10 @@ impl Draft {
             Item::Channel { starts, .. } => unless_built(*starts),
             Item::Axis { owner, .. } => unless_built(owner.is_some()),
             Item::Zone(zone) => unless_built(zone.on && !self.holds_another(zone.holder)),
-            Item::Depth(_) => Some(Code::NotBuilt),
             Item::Geo { .. }
             | Item::Offset { .. }
             | Item::Margin(_)
+            | Item::Depth(_)
             | Item::Budget(_)
             | Item::Compensation
             | Item::Skip => None,
