@@ -7,7 +7,7 @@ use std::test::Fail;
 use tape_job::*;
 
 /// The job of a text, or none where it is refused or memory runs out.
-pub(crate) fn job_of(alloc: Global, text: &str) -> Option<Job> {
+fn job_of(alloc: Global, text: &str) -> Option<Job> {
     let bytes = text.as_bytes();
     if bytes.len() > 8_388_609 {
         return None;
@@ -19,7 +19,7 @@ pub(crate) fn job_of(alloc: Global, text: &str) -> Option<Job> {
 }
 
 /// The code and the line of the refusal of an input, or none where it is accepted or memory runs out.
-pub(crate) fn refusal_of(alloc: Global, bytes: &[u8]) -> Option<(u16, u32)> {
+fn refusal_of(alloc: Global, bytes: &[u8]) -> Option<(u16, u32)> {
     if bytes.len() > 8_388_609 {
         return None;
     }
@@ -115,50 +115,42 @@ fn reads_programs(rt: HostRuntime) -> Result<(), Fail> {
     Ok(())
 }
 
+/// Inputs with bytes that no text has, in the order of the rules; the folder rows has the refusals of texts.
 #[test]
-fn tries_each_rule_in_order(rt: HostRuntime) {
+fn refuses_bytes_in_their_order(rt: HostRuntime) {
     let cases = [
         (b"".as_slice(), Some((1, 1))),
-        (b"\n ;x\n", Some((1, 1))),
-        (b"\nJOB 01\n", Some((1, 2))),
-        (b"%_N_A_MPF\n", Some((1, 1))),
         (b"JOB 2 \x01\n", Some((3, 1))),
         (b"\n\x01\n", Some((3, 2))),
         (b"JOB 1 ;\x01\n", None),
-        (b"JOB 1\nJOB 1\n", Some((6, 2))),
-        (b"JOB 1\nFOO\n", Some((4, 2))),
-        (b"JOB 1\nCHANNEL 1 A START\n%_N_B_MPF\n", Some((12, 2))),
-        (b"JOB 1\nCHANNEL 1 A START\n%_N_B_MPF\nG2\n", Some((60, 4))),
-        (b"JOB 1\n%_N_A\n", Some((10, 2))),
-        (b"JOB 1\n%_N_A_MPF\n%_N_A_MPF x\n", Some((10, 3))),
-        (b"JOB 1\n%_N_A_MPF\n%_n_a_spf\n", Some((9, 3))),
+        (b"JOB 1\nFOO \x01\n", Some((3, 2))),
         (b"JOB 1\n%_N_A_MPF\n%_N_A_SPF\x01\n", Some((3, 3))),
         (b"JOB 1\n%_N_A_MPF\nX5 \x01 \"a\n", Some((3, 3))),
         (b"JOB 1\n%_N_A_MPF\nX5 \"a \x01\n", Some((20, 3))),
         (b"JOB 1\n%_N_A_MPF\nMSG(\"a;b\") ;\x01 \"\n", None),
-        (b"JOB 1\n%_N_A_MPF\nG2 $\n", Some((44, 3))),
-        (b"JOB 1\n%_N_A_MPF\nG2 X5 5\n", Some((22, 3))),
-        (b"JOB 1\n%_N_A_MPF\nG2 X5\n", Some((60, 3))),
-        (b"JOB 1\n%_N_A_MPF\n%_N_A_MPF\nG2\n", Some((9, 3))),
+        (b"JOB 1\n%_N_A_MPF\nLOOP\n%\x01\n", Some((25, 3))),
     ];
     for (bytes, refusal) in cases {
         assert_eq!(rt; refusal_of(rt.alloc(), bytes), refusal, "of {bytes:?}");
     }
 }
 
+/// A line has at most 512 bytes with its end. That comes before the bytes in it.
 #[test]
 fn counts_the_line_end(rt: HostRuntime) -> Result<(), Fail> {
     let cases = [
-        (511, "\n", None),
-        (512, "\n", Some((2, 2))),
-        (510, "\r\n", None),
-        (511, "\r\n", Some((2, 2))),
-        (512, "", None),
-        (513, "", Some((2, 2))),
+        ("", 511, "\n", None),
+        ("", 512, "\n", Some((2, 2))),
+        ("", 510, "\r\n", None),
+        ("", 511, "\r\n", Some((2, 2))),
+        ("", 512, "", None),
+        ("", 513, "", Some((2, 2))),
+        ("\x01", 511, "\n", Some((2, 2))),
     ];
-    for (bytes, end, refusal) in cases {
+    for (start, bytes, end, refusal) in cases {
         let mut text = String::new(rt.alloc());
         text.push_str("JOB 1\n")?;
+        text.push_str(start)?;
         for _ in 0..bytes {
             text.push(';')?;
         }
@@ -191,54 +183,26 @@ fn reads_each_form(rt: HostRuntime) -> Result<(), Fail> {
 }
 
 #[test]
-fn matches_structures(rt: HostRuntime) {
-    let cases = [
-        (b"JOB 1\n%_N_A_MPF\nG2 $\nENDIF\n".as_slice(), Some((44, 3))),
-        (b"JOB 1\n%_N_A_MPF\nENDIF\nG2 $\n", Some((25, 3))),
-        (b"JOB 1\n%_N_A_MPF\nENDIF X5\n", Some((24, 3))),
-        (b"JOB 1\n%_N_A_MPF\nIF R1\nELSE\nELSE\n", Some((25, 5))),
-        (b"JOB 1\n%_N_A_MPF\nLOOP\nIF R1\n%_N_A\n", Some((25, 4))),
-        (b"JOB 1\n%_N_A_MPF\nLOOP\n%\x01\n", Some((25, 3))),
-        (
-            b"JOB 1\nCHANNEL 1 B START\n%_N_A_MPF\nLOOP\nM30\n",
-            Some((25, 4)),
-        ),
-        (
-            b"JOB 1\n%_N_A_MPF\nLOOP\nENDLOOP\n%_N_B_MPF\nENDLOOP\n",
-            Some((25, 6)),
-        ),
-        (
-            b"JOB 1\n%_N_A_MPF\nLOOP\nENDLOOP\n%_N_A_MPF\n",
-            Some((9, 5)),
-        ),
-    ];
-    for (bytes, refusal) in cases {
-        assert_eq!(rt; refusal_of(rt.alloc(), bytes), refusal, "of {bytes:?}");
-    }
-}
-
-#[test]
-fn counts_open_structures(rt: HostRuntime) -> Result<(), Fail> {
-    let cases = [
-        ("", 16, "ENDLOOP\n", 16, None),
-        ("", 17, "G2 $\n", 1, Some((26, 19))),
-        ("G2 $\n", 17, "", 0, Some((44, 3))),
-    ];
-    for (before, loops, behind, times, refusal) in cases {
-        let mut text = String::new(rt.alloc());
-        text.push_str("JOB 1\n%_N_A_MPF\n")?;
-        text.push_str(before)?;
-        for _ in 0..loops {
-            text.push_str("LOOP\n")?;
-        }
-        for _ in 0..times {
-            text.push_str(behind)?;
-        }
-        assert_eq!(rt;
-            refusal_of(rt.alloc(), text.as_bytes()),
-            refusal,
-            "of {loops} structures"
-        );
-    }
+fn reads_options(rt: HostRuntime) -> Result<(), Fail> {
+    let job = job_of(rt.alloc(), "JOB 1\n").ok_or("no job")?;
+    assert!(rt; job.offsets.is_empty() && job.margin == Um { micrometres: 0 });
+    assert!(rt; job.depth == 0 && job.budget == 1_000_000);
+    assert!(rt; !job.compensation && !job.skip);
+    let text = "JOB 1\nskip on\nmargin +2.5\nBUDGET 100000000\nCompensation Contour\nDepth 4\n\
+         CHANNEL 2 A START\noffset 2 g599 y -0.001 ; little\n%_N_A_MPF\nM30\n";
+    let job = job_of(rt.alloc(), text).ok_or("no job")?;
+    let by = Um { micrometres: -1 };
+    assert_eq!(rt;
+        job.offsets.first(),
+        Some(&OffsetLine {
+            line: 8,
+            channel: ChannelId { number: 2 },
+            g: 599,
+            slot: 1,
+            by
+        })
+    );
+    assert!(rt; job.margin == Um { micrometres: 2_500 } && job.depth == 4);
+    assert!(rt; job.budget == 100_000_000 && job.compensation && job.skip);
     Ok(())
 }

@@ -9,8 +9,6 @@ mod jobs;
 #[cfg(test)]
 mod lines;
 #[cfg(test)]
-mod refusals;
-#[cfg(test)]
 mod reports;
 #[cfg(test)]
 mod streams;

@@ -3,7 +3,7 @@
 
 use axis_moves::*;
 use axis_sets::{AxisId, AxisSet, Positions};
-use frames::{Frame, Plane};
+use frames::Frame;
 use g_groups::{GWord, Modal, apply};
 use micro_units::{Num, Um};
 use nc_blocks::Measure;
@@ -46,7 +46,7 @@ fn lathe_with(frame: Frame, offsets: [Um; 3]) -> Lathe {
 }
 
 /// A lathe with offsets of X and Z.
-pub(crate) fn lathe_with_offsets(frame: Frame) -> Lathe {
+fn lathe_with_offsets(frame: Frame) -> Lathe {
     lathe_with(frame, [um(1_000), um(0), um(50_000)])
 }
 
@@ -59,13 +59,6 @@ fn um(micrometres: u16) -> Um {
     Um {
         micrometres: i32::from(micrometres),
     }
-}
-
-/// The number of so many thousandths.
-pub(crate) fn num(thousandths: i32) -> Option<Num> {
-    Some(Num {
-        millionths: i64::from(thousandths) * 1000,
-    })
 }
 
 /// The axes of the channel.
@@ -207,64 +200,6 @@ static ENDS: [Row; 9] = [
     ("", ["8", "", "", "", ""], "0:9000:9000 "),
 ];
 
-/// Under G54, with a shift of X by 10 and of Z by -20, then X halved, then Z mirrored.
-static IN_A_FRAME: [Row; 6] = [
-    ("", ["4", "", "3", "", ""], "0:10000:13000 2:0:27000 "),
-    (
-        "G91",
-        ["1", "", "1", "", ""],
-        "0:13000:13500 2:27000:26000 ",
-    ),
-    (
-        "G90 G53",
-        ["2", "", "3", "", ""],
-        "0:13500:2000 2:26000:3000 ",
-    ),
-    (
-        "G91 G153",
-        ["2", "", "3", "", ""],
-        "0:2000:4000 2:3000:6000 ",
-    ),
-    (
-        "G90 SUPA",
-        ["I1", "", "A0.5", "", ""],
-        "0:4000:5000 2:6000:500 ",
-    ),
-    ("", ["4", "", "", "7", ""], "0:5000:13000 3:0:7000 "),
-];
-
-/// Under G54, with a turn of 90 degrees from Z towards X.
-static IN_A_TURN: [Row; 4] = [
-    ("", ["4", "", "3", "", ""], "0:10000:4000 2:0:46000 "),
-    ("G91", ["1", "", "2", "", ""], "0:4000:6000 2:46000:45000 "),
-    ("G90", ["7", "", "", "", ""], "2:45000:43000 "),
-    ("", ["", "", "7", "", ""], "0:6000:8000 "),
-];
-
-/// With no offset.
-static DIAMETERS: [Row; 16] = [
-    ("DIAMON", ["20.001", "", "", "", ""], "0:10000:10001 "),
-    (
-        "",
-        ["I5", "7", "7", "", ""],
-        "0:10001:12501 1:5000:7000 2:0:7000 ",
-    ),
-    ("DIAM90", ["20.001", "", "", "", ""], "0:12501:10001 "),
-    ("", ["I5", "", "", "", ""], "0:10001:15001 "),
-    ("G91", ["5", "", "", "", ""], "0:15001:20001 "),
-    ("", ["A5", "", "", "", ""], "0:20001:2500 "),
-    ("DIAMOF", ["7", "", "", "", ""], "0:2500:9500 "),
-    ("G90", ["7", "", "", "", ""], "0:9500:7000 "),
-    ("DIAMON", ["0.000999", "", "", "", ""], "0:7000:0 "),
-    ("", ["0.001", "", "", "", ""], "0:0:1 "),
-    ("", ["0.002999", "", "", "", ""], "0:1:1 "),
-    ("", ["0.003", "", "", "", ""], "0:1:2 "),
-    ("", ["0.001001", "", "", "", ""], "0:2:1 "),
-    ("", ["I0.000999", "", "", "", ""], "0:1:1 "),
-    ("", ["I0.001001", "", "", "", ""], "0:1:2 "),
-    ("", ["I-0.001", "", "", "", ""], "0:2:1 "),
-];
-
 /// With no offset and no frame.
 static ALARMS: [Row; 15] = [
     ("", ["10000", "", "", "", ""], "0:10000:10000000 "),
@@ -284,24 +219,6 @@ static ALARMS: [Row; 15] = [
     ("", ["1", "2", "", "", ""], "0:10000000:1000 1:5000:2000 "),
 ];
 
-/// With no axis in the slots Y and Z, and a turn of 90 degrees from Z towards X.
-static NO_AXIS: [Row; 7] = [
-    ("", ["4", "", "", "", ""], "ALARM 14"),
-    ("", ["", "", "4", "", ""], "0:10000:5000 "),
-    ("", ["", "4", "", "", ""], "ALARM 14"),
-    ("", ["99999", "", "", "", ""], "ALARM 14"),
-    ("", ["4", "", "", "", "7"], "ALARM 14"),
-    ("G53", ["4", "", "", "", ""], "0:5000:4000 "),
-    ("G53", ["", "", "4", "", ""], "ALARM 14"),
-];
-
-/// With the axis W1 of another channel in the slot Y.
-static FOREIGN_SLOT: [Row; 3] = [
-    ("", ["", "I20000", "", "", ""], "ALARM 15"),
-    ("", ["", "I20000.001", "", "", ""], "ALARM 13"),
-    ("", ["", "10000.001", "", "", ""], "ALARM 13"),
-];
-
 #[test]
 fn axes_go_to_their_ends(rt: HostRuntime) -> Result<(), Fail> {
     motions_begin_where_axes_stand();
@@ -311,38 +228,6 @@ fn axes_go_to_their_ends(rt: HostRuntime) -> Result<(), Fail> {
 }
 
 #[test]
-fn ends_go_through_the_frame(rt: HostRuntime) -> Result<(), Fail> {
-    let mut frame = Frame::empty();
-    frame.trans([num(10_000), None, num(-20_000)])?;
-    frame.ascale([num(500), None, None])?;
-    frame.amirror([None, None, num(0)])?;
-    let mut lathe = lathe_with_offsets(frame);
-    do_all(&rt, rt.alloc(), &mut lathe, &IN_A_FRAME)
-}
-
-#[test]
-fn a_turn_sends_axes_to_other_slots(rt: HostRuntime) -> Result<(), Fail> {
-    let mut frame = Frame::empty();
-    frame.arot(Plane::G18, num(90_000))?;
-    let mut turned = lathe_with_offsets(frame);
-    do_all(&rt, rt.alloc(), &mut turned, &IN_A_TURN)?;
-    let mut without = lathe_with_offsets(frame);
-    without.slots[1] = None;
-    without.slots[2] = None;
-    do_all(&rt, rt.alloc(), &mut without, &NO_AXIS)
-}
-
-#[test]
-fn diameters_are_halved(rt: HostRuntime) -> Result<(), Fail> {
-    let mut lathe = bare_lathe(Frame::empty());
-    do_all(&rt, rt.alloc(), &mut lathe, &DIAMETERS)
-}
-
-#[test]
 fn alarms_come_in_their_order(rt: HostRuntime) -> Result<(), Fail> {
-    let mut bare = bare_lathe(Frame::empty());
-    do_all(&rt, rt.alloc(), &mut bare, &ALARMS)?;
-    let mut foreign = bare_lathe(Frame::empty());
-    foreign.slots[1] = Some(AxisId { index: 4 });
-    do_all(&rt, rt.alloc(), &mut foreign, &FOREIGN_SLOT)
+    do_all(&rt, rt.alloc(), &mut bare_lathe(Frame::empty()), &ALARMS)
 }

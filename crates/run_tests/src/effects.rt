@@ -144,161 +144,20 @@ fn situation(rt: &impl Abort, alloc: Global, set: &str) -> Result<Situation, Fai
     Ok(situation)
 }
 
-/// Blocks of words where R1 is 5 and R2 is 3, with what they do.
-static WORDS: [(&str, &str); 34] = [
-    ("X=7/2", "0:0:3500 Goes(Plain)"),
-    ("R1=2/3 X=R1*1000", "0:0:666667 Goes(Plain)"),
-    ("R1=1 X=R1 R1=2 Z=R1", "0:0:1000 2:7:2000 Goes(Plain)"),
+/// Blocks of words where R1 is 5 and R2 is 3, with what they do. The folder rows has many more.
+static WORDS: [(&str, &str); 9] = [
     ("R1=R1+1 R[R1]=7 X=R6", "0:0:7000 Goes(Plain)"),
-    ("R[999]=4 X=R999", "0:0:4000 Goes(Plain)"),
-    ("Z1 X2", "0:0:2000 2:7:1000 Goes(Plain)"),
-    ("X=R500", "0:0:0 Goes(Plain)"),
-    ("X=10000.0004", "0:0:10000000 Goes(Plain)"),
-    ("X=10000.0005", "ALARM 13"),
-    ("X=-10000.0005", "ALARM 13"),
-    ("Z=99999999", "ALARM 13"),
-    ("R1=1/0", "ALARM 2"),
-    ("R1=99999999+1", "ALARM 1"),
-    ("R1=SQRT(-1)", "ALARM 3"),
-    ("X=R[1.5]", "ALARM 4"),
-    ("R[1000]=1", "ALARM 4"),
-    ("R[0.5]=1/0", "ALARM 4"),
-    ("R[1/0]=SQRT(-1)", "ALARM 2"),
-    ("Y1", "ALARM 14"),
-    ("X1 X2", "ALARM 17"),
-    ("X1 X2 Y1", "ALARM 17"),
-    ("X1 Y1 X2", "ALARM 14"),
-    ("Y=1/0", "ALARM 2"),
-    ("X1 X=1/0", "ALARM 2"),
-    ("X20000 X1", "ALARM 17"),
-    ("X20000 Y1", "ALARM 14"),
-    ("X20000 F=SQRT(-1)", "ALARM 3"),
-    ("M30 X=1/0", "ALARM 2"),
+    (
+        "G54 Z1 X2 C1=IC(3)",
+        "0:0:12000 2:7:21000 3:0:3000 Goes(Plain)",
+    ),
+    ("G3 X1 I5", "ALARM 20"),
+    ("G3 X2 I1 K=AC(0.007)", "0:0:2000 2:7:7 Goes(Plain)"),
     ("M30 X1 R1=2", "0:0:1000 Ends"),
-    ("M17", "Ends"),
-    ("F=1/0", "ALARM 2"),
-    ("SPOS[1/0]=SQRT(-1)", "ALARM 2"),
-    ("SPOS[1]=SQRT(-1)", "ALARM 3"),
-    ("F100 S=2 T=\"A\" M3=5 LIMS=3 SF=4", "Goes(Plain)"),
-];
-
-/// Blocks of words where an alarm meets others, or does not come.
-static ALARMS: [(&str, &str); 37] = [
-    ("G0 G1 X5", "ALARM 10"),
-    ("G1 G01", "ALARM 10"),
-    ("DIAMON X5 DIAM90", "ALARM 10"),
-    ("SUPA G53", "ALARM 10"),
-    ("NORM KONT", "ALARM 10"),
-    ("G90 X=1/0 Y1 X1=5 G91", "ALARM 10"),
-    ("G0 G90 G54 X1", "0:0:11000 Goes(Plain)"),
-    ("X1=5", "ALARM 16"),
-    ("Z1=AC(5)", "ALARM 16"),
-    ("X1=SQRT(-1)", "ALARM 3"),
-    ("A5=1", "ALARM 14"),
-    ("X100=5", "ALARM 14"),
-    ("X01=5", "ALARM 14"),
-    ("A5=1/0", "ALARM 2"),
-    ("X1=5 A5=1", "ALARM 16"),
-    ("A5=1 X1=5", "ALARM 14"),
-    ("Y1 X1=5", "ALARM 14"),
-    ("C1=1 C1=IC(2)", "ALARM 17"),
-    ("X1 X2 X1=5", "ALARM 17"),
-    ("X1=5 X1 X2", "ALARM 16"),
-    ("C1=1 C1=2 A5=1", "ALARM 17"),
-    ("X1 X2 R1=1/0", "ALARM 17"),
-    ("C1=1.5 X1", "0:0:1000 3:0:1500 Goes(Plain)"),
-    ("B1=5", "ALARM 15"),
-    ("B1=20000", "ALARM 13"),
-    ("X20000 B1=5", "ALARM 13"),
-    ("B1=5 X1 X2", "ALARM 17"),
-    ("B1=IC(20000)", "ALARM 15"),
-    ("B1=IC(20000.001)", "ALARM 13"),
     ("G4 F1 X5", "Goes(Plain)"),
-    ("X20000 B1=5 G25", "Goes(Plain)"),
-    ("G26 X1 X2", "ALARM 17"),
-    ("G4 Y1", "ALARM 14"),
-    ("G4 X=1/0", "ALARM 2"),
-    ("G4 X1=5", "ALARM 16"),
-    ("G4 G4", "ALARM 10"),
-    ("G4 R1=7 M30", "Ends"),
-];
-
-/// Blocks one after another, with what the last does.
-static RUNS: [(&[&str], &str); 46] = [
-    (&["X10 DIAMON"], "0:0:5000 Goes(Plain)"),
-    (&["DIAMON", "X10 Z10"], "0:0:5000 2:7:10000 Goes(Plain)"),
-    (&["DIAM90", "G91 X10"], "0:0:10000 Goes(Plain)"),
-    (&["DIAMON", "DIAMOF X10"], "0:0:10000 Goes(Plain)"),
-    (&["X5", "X2 G91"], "0:5000:7000 Goes(Plain)"),
-    (&["X5 G91", "X2"], "0:5000:7000 Goes(Plain)"),
-    (&["X5 G91", "X=AC(2)"], "0:5000:2000 Goes(Plain)"),
-    (
-        &["X5", "X=IC(2) C1=IC(3)"],
-        "0:5000:7000 3:0:3000 Goes(Plain)",
-    ),
-    (&["X5 G54"], "0:0:15000 Goes(Plain)"),
-    (&["G54", "X5 Z5"], "0:0:15000 2:7:25000 Goes(Plain)"),
-    (&["G54 X5", "G55 X5"], "0:15000:105000 Goes(Plain)"),
-    (&["G54", "G500", "X5"], "0:0:5000 Goes(Plain)"),
-    (&["G54", "G91 X5"], "0:0:5000 Goes(Plain)"),
-    (&["G54", "G53 X5"], "0:0:5000 Goes(Plain)"),
-    (&["G54 SUPA", "X5"], "0:0:15000 Goes(Plain)"),
-    (&["G54", "G53", "TRANS X1", "X5"], "0:0:16000 Goes(Plain)"),
-    (&["G54", "C1=5"], "3:0:5000 Goes(Plain)"),
-    (
-        &["TRANS X=R1 Z=R2*2", "X1 Z1"],
-        "0:0:6000 2:7:7000 Goes(Plain)",
-    ),
-    (
-        &["TRANS X1", "TRANS X2 Z3", "X0 Z0"],
-        "0:0:2000 2:7:3000 Goes(Plain)",
-    ),
-    (&["TRANS X1", "TRANS Z3", "X0"], "0:0:0 Goes(Plain)"),
-    (&["TRANS X1", "ATRANS X2", "X0"], "0:0:3000 Goes(Plain)"),
-    (&["ATRANS X2", "X0"], "0:0:2000 Goes(Plain)"),
-    (&["TRANS X1", "SUPA X0"], "0:0:0 Goes(Plain)"),
-    (&["TRANS X1", "G91 X5"], "0:0:5000 Goes(Plain)"),
-    (&["G91", "TRANS X1", "X5", "X5"], "0:5000:10000 Goes(Plain)"),
-    (&["TRANS Y1", "X1"], "0:0:1000 Goes(Plain)"),
-    (&["SCALE X2", "TRANS X1", "X5"], "0:0:6000 Goes(Plain)"),
-    (&["SCALE X2", "ATRANS X1", "X5"], "0:0:12000 Goes(Plain)"),
-    (&["TRANS X1", "ASCALE X2", "X5"], "0:0:11000 Goes(Plain)"),
-    (&["MIRROR X0", "X5"], "0:0:-5000 Goes(Plain)"),
-    (&["TRANS X1", "AMIRROR X0", "X5"], "0:0:-4000 Goes(Plain)"),
-    (&["ROT RPL=90", "X1 Z2"], "0:0:2000 2:7:-1000 Goes(Plain)"),
-    (
-        &["ROT RPL=90", "AROT RPL=-90", "X1"],
-        "0:0:1000 Goes(Plain)",
-    ),
-    (&["TRANS X1", "ROT", "X1"], "0:0:1000 Goes(Plain)"),
-    (&["TRANS X1", "AROT", "X1"], "0:0:2000 Goes(Plain)"),
-    (&["G19", "ROT RPL=90", "X1"], "0:0:1000 Goes(Plain)"),
-    (&["G17", "ROT RPL=90", "X1"], "ALARM 14"),
-    (&["G17", "ROT RPL=90", "Z1"], "2:7:1000 Goes(Plain)"),
-    (&["G17", "ROT RPL=90", "X1 X2"], "ALARM 17"),
-    (&["G17", "ROT RPL=90", "X1 Z20000 B1=1"], "ALARM 14"),
-    (&["G17", "ROT RPL=90", "G53 X1"], "0:0:1000 Goes(Plain)"),
-    (&["G17", "ROT RPL=90", "G4 X1"], "Goes(Plain)"),
-    (&["TRANS X6000", "ATRANS X6000"], "ALARM 13"),
-    (&["TRANS X6000", "TRANS X6000"], "Goes(Plain)"),
-    (&["SCALE X1000", "ASCALE X2"], "ALARM 11"),
-    (&["X5", "X20000", "X6"], "0:5000:6000 Goes(Plain)"),
-];
-
-/// Blocks of frames that alarm.
-static FRAMES: [(&str, &str); 12] = [
-    ("TRANS X10000.000001", "ALARM 13"),
-    ("ATRANS X20000 Z=1/0", "ALARM 2"),
-    ("TRANS X=1/0 Z=SQRT(-1)", "ALARM 2"),
-    ("SCALE X0.0005", "ALARM 11"),
-    ("SCALE X0", "ALARM 11"),
-    ("SCALE X0 Z=R[0.5]", "ALARM 4"),
-    ("MIRROR X=SQRT(-1)", "ALARM 3"),
-    ("AMIRROR X=99999999+1", "ALARM 1"),
+    ("TRANS X1", "Goes(Plain)"),
     ("ROT RPL=45", "ALARM 12"),
-    ("AROT RPL=1/0", "ALARM 2"),
-    ("ROT RPL=-450", "Goes(Plain)"),
-    ("TRANS", "Goes(Plain)"),
+    ("X20000 B1=5", "ALARM 13"),
 ];
 
 /// Other blocks where R1 is 5 and R2 is 3, with what becomes of control. Their structure is begun by FOR R1=1 TO the
@@ -356,45 +215,6 @@ static CONTROL: [(&str, &str, &str); 34] = [
 fn words_act(rt: HostRuntime) -> Result<(), Fail> {
     let alloc = rt.alloc();
     for (text, expected) in &WORDS {
-        let mut situation = situation(&rt, alloc, "R1=5 R2=3")?;
-        let stmt = block(&rt, alloc, text)?;
-        let said = said(alloc, &mut situation, &Stmt::Empty, &stmt)?;
-        assert_eq!(rt; said.as_str(), *expected, "in {text}");
-    }
-    Ok(())
-}
-
-#[test]
-fn alarms_come_in_their_order(rt: HostRuntime) -> Result<(), Fail> {
-    let alloc = rt.alloc();
-    for (text, expected) in &ALARMS {
-        let mut situation = situation(&rt, alloc, "R1=5 R2=3")?;
-        let stmt = block(&rt, alloc, text)?;
-        let said = said(alloc, &mut situation, &Stmt::Empty, &stmt)?;
-        assert_eq!(rt; said.as_str(), *expected, "in {text}");
-    }
-    Ok(())
-}
-
-#[test]
-fn blocks_leave_what_later_blocks_find(rt: HostRuntime) -> Result<(), Fail> {
-    let alloc = rt.alloc();
-    for (texts, expected) in &RUNS {
-        let mut situation = situation(&rt, alloc, "R1=5 R2=3")?;
-        let mut last = String::new(alloc);
-        for text in texts.iter() {
-            let stmt = block(&rt, alloc, text)?;
-            last = said(alloc, &mut situation, &Stmt::Empty, &stmt)?;
-        }
-        assert_eq!(rt; last.as_str(), *expected);
-    }
-    Ok(())
-}
-
-#[test]
-fn frames_alarm(rt: HostRuntime) -> Result<(), Fail> {
-    let alloc = rt.alloc();
-    for (text, expected) in &FRAMES {
         let mut situation = situation(&rt, alloc, "R1=5 R2=3")?;
         let stmt = block(&rt, alloc, text)?;
         let said = said(alloc, &mut situation, &Stmt::Empty, &stmt)?;

@@ -6,8 +6,6 @@ mod check;
 mod state_search;
 #[cfg(test)]
 mod tests;
-#[cfg(test)]
-mod zone_tests;
 
 use check::{Status, check_words};
 use edge_io::{StdSink, StdSource};
