@@ -5,6 +5,7 @@ pub mod Runs
 pub mod PathEnds
 pub mod CoverLemmas
 pub mod PieceBoxes
+pub mod CollectedBoxes
 pub mod PieceLemmas
 pub mod ZoneLemmas
 pub mod PairLemmas

@@ -272,11 +272,11 @@ first_passes : (a b : Bool) → (a && b) ≡ true → a ≡ true
 first_passes true b e = refl
 first_passes false b e = absurd cc
 
-list_any-map : {X Y : Type 0} (test : Y → Bool) (f : X → Y) (xs : List X) → list_any test (map f xs) ≡ list_any (λ x. test (f x)) xs
+pub list_any-map : {X Y : Type 0} (test : Y → Bool) (f : X → Y) (xs : List X) → list_any test (map f xs) ≡ list_any (λ x. test (f x)) xs
 list_any-map test f [] = refl
 list_any-map test f (x ∷ xs) = ap (λ (b : Bool). test (f x) || b) (list_any-map test f xs)
 
-list_any-same : {X : Type 0} (test other : X → Bool) (xs : List X) → All (λ x. test x ≡ other x) xs → list_any test xs ≡ list_any other xs
+pub list_any-same : {X : Type 0} (test other : X → Bool) (xs : List X) → All (λ x. test x ≡ other x) xs → list_any test xs ≡ list_any other xs
 list_any-same test other [] all = refl
 list_any-same test other (x ∷ xs) all =
     rw (All-head (λ x. test x ≡ other x) x xs all, list_any-same test other xs (All-tail (λ x. test x ≡ other x) x xs all)) refl

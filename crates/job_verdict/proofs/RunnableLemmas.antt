@@ -1,5 +1,5 @@
 -- An accepted job can be run.
-use Rattle.std.proofs.Common.{◌≡◌, ◌≤◌, ℕ, List, IfOk, Result, Ok, Err, refl, arith}
+use Rattle.std.proofs.Common.{◌≡◌, ℕ, List, IfOk, Result, Ok, Err, refl}
 use Rattle.nc_faults.specs.declared.Refusal.{Refusal}
 use Rattle.tape_job.proofs.SoundJobs.{accepted_sound}
 use Rattle.tape_job.specs.Job.{JobView}
@@ -11,7 +11,7 @@ pub runnable : (job : JobView) → IsSoundJob job → BlocksFit job → IsRunnab
 runnable job sound fit = record {
   axes = sound.few_axes;
   starts = sound.positions;
-  depth = omega (arith, sound.depth);
+  depth = sound.depth;
   programs = sound.few_programs;
   blocks = fit;
 }

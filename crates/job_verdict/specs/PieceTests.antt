@@ -1,5 +1,5 @@
 -- When two boxes meet as they are compared: their covers first, and then their pieces.
-use Rattle.std.specs.Prelude.{ℕ, ℤ, ◌+◌, ◌==◌, ◌&&◌, Bool, true, List, [], ◌∷◌, Option, None, Some, find}
+use Rattle.std.specs.Prelude.{ℕ, ℤ, ◌+◌, ◌==◌, ◌&&◌, Bool, true, List, [], ◌∷◌, map, Option, None, Some, find}
 use Rattle.std.specs.List.{list_any}
 use Rattle.std.specs.Option.{option_map_or}
 use Rattle.swept_boxes.specs.Boxes.{low_of, high_of}
@@ -54,3 +54,11 @@ do_meet measure zone own other later = boxes_meet own.cover later.cover && do_me
     do_meet_by : Option Item → Bool
     do_meet_by None = touches measure other later own.cover
     do_meet_by (Some item) = list_any (λ piece. touches measure other later (piece_box measure.margin zone.sides piece own.cover)) (pieces_at (motion_of item) measure.depth)
+
+-- the boxes by which a box of a zone is compared: those of the pieces of its motion, or where it stands the box itself
+unfoldable pub boxes_in : Measure → ZoneLine → BoxView → List Box3
+boxes_in measure zone own = boxes_in_by own.motion
+  where
+    boxes_in_by : Option Item → List Box3
+    boxes_in_by None = own.cover ∷ []
+    boxes_in_by (Some item) = map (λ piece. piece_box measure.margin zone.sides piece own.cover) (pieces_at (motion_of item) measure.depth)

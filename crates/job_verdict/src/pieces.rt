@@ -1,5 +1,5 @@
 //! The boxes of the pieces of two motions, held against one another.
-ghost use Rattle.std.specs.Prelude.{◌≡◌, ◌<◌, ◌≤◌};
+ghost use Rattle.std.specs.Prelude.{◌≡◌, ◌<◌, ◌≤◌, ◌&&◌, [], ◌∷◌, map};
 ghost use Rattle.std.specs.List.{list_any};
 ghost use Rattle.job_verdict.specs.Clash.{boxes_meet};
 ghost use Rattle.job_verdict.specs.PieceTests as model;
@@ -9,6 +9,7 @@ ghost use Rattle.swept_boxes.specs.Pieces.{pieces_at};
 ghost use Rattle.sync_types.specs.Items.{motion_of};
 
 use crate::zone_boxes::{ZoneBox, bounds_between, range_of};
+use arrayvec::ArrayVec;
 use micro_units::Um;
 use swept_boxes::{Box3, Ranges, pieces_of};
 use sync_types::Item;
@@ -66,52 +67,64 @@ fn piece_box(margin: Um, sides: &[Side; 3], ranges: &Ranges, cover: &Box3) -> Bo
     }
 }
 
-/// Whether a box meets that of a piece of the motion.
-fn meets_a_piece(measure: &Measure, zone: &ZoneLine, item: &Item, cover: &Box3, met: &Box3) -> bool
-    requires sound { IsSound (motion_of item.now) }
-    requires deep { measure.now.depth ≤ 4 }
-    ensures { result ≡ list_any (λ piece. boxes_meet met.now (model.piece_box measure.now.margin zone.now.sides piece cover.now)) (pieces_at (motion_of item.now) measure.now.depth) }
-{
-    pieces_of(item.motion(), measure.depth).any(|piece| do_meet(
-        met,
-        &piece_box(measure.margin, &zone.sides, &piece, cover),
-    ))
-}
-
-/// Whether a box meets this one: its cover, and then the box of one of its pieces.
-#[tactic(auto, unfolding(crate::specs::PieceTests::touches))]
-fn touches(measure: &Measure, zone: &ZoneLine, own: &ZoneBox, met: &Box3) -> bool
-    requires { measure.now.depth ≤ 4 }
-    ensures { result ≡ model.touches measure.now zone.now own.now met.now }
-{
-    if !do_meet(met, &own.cover) {
-        return false;
-    }
-    match own.motion {
-        Some(item) => meets_a_piece(measure, zone, item, &own.cover, met),
-        None => true,
-    }
-}
-
-/// Whether the box of a piece of the motion meets a box of another zone.
-fn touches_a_piece(
+/// The boxes of a zone in the pieces of a motion with this cover.
+fn boxes_of_pieces(
     measure: &Measure,
     zone: &ZoneLine,
     item: &Item,
     cover: &Box3,
-    other: &ZoneLine,
-    later: &ZoneBox,
-) -> bool
+) -> ArrayVec<Box3, 80>
     requires sound { IsSound (motion_of item.now) }
     requires deep { measure.now.depth ≤ 4 }
-    ensures { result ≡ list_any (λ piece. model.touches measure.now other.now later.now (model.piece_box measure.now.margin zone.now.sides piece cover.now)) (pieces_at (motion_of item.now) measure.now.depth) }
+    ensures { result.items ≡ map (λ piece. model.piece_box measure.now.margin zone.now.sides piece cover.now) (pieces_at (motion_of item.now) measure.now.depth) }
 {
-    pieces_of(item.motion(), measure.depth).any(|piece| touches(
-        measure,
-        other,
-        later,
-        &piece_box(measure.margin, &zone.sides, &piece, cover),
-    ))
+    let mut boxes = ArrayVec::new();
+    for piece in pieces_of(item.motion(), measure.depth) {
+        boxes.push(piece_box(measure.margin, &zone.sides, &piece, cover));
+    }
+    boxes
+}
+
+/// One box.
+fn one_box(only: Box3) -> ArrayVec<Box3, 80>
+    ensures { result.items ≡ only ∷ [] }
+{
+    let mut boxes = ArrayVec::new();
+    boxes.push(only);
+    boxes
+}
+
+/// The boxes by which a box of a zone is compared: those of the pieces of its motion, or where it stands the box itself.
+#[tactic(auto, unfolding(crate::specs::PieceTests::boxes_in))]
+fn boxes_in(measure: &Measure, zone: &ZoneLine, own: &ZoneBox) -> ArrayVec<Box3, 80>
+    requires { measure.now.depth ≤ 4 }
+    ensures { result.items ≡ model.boxes_in measure.now zone.now own.now }
+{
+    match own.motion {
+        Some(item) => boxes_of_pieces(measure, zone, item, &own.cover),
+        None => one_box(own.cover),
+    }
+}
+
+/// Whether a box meets one of these.
+fn meets_any(met: &Box3, boxes: &[Box3]) -> bool
+    ensures { result ≡ list_any (boxes_meet met.now) boxes.now }
+{
+    boxes.iter().any(|piece| do_meet(met, piece))
+}
+
+/// Whether a box meets this cover, and then one of the boxes in it.
+fn touches(met: &Box3, cover: &Box3, boxes: &[Box3]) -> bool
+    ensures { result ≡ (boxes_meet met.now cover.now && list_any (boxes_meet met.now) boxes.now) }
+{
+    do_meet(met, cover) && meets_any(met, boxes)
+}
+
+/// Whether one of some boxes meets this cover, and then one of the boxes in it.
+fn any_touches(own: &[Box3], cover: &Box3, boxes: &[Box3]) -> bool
+    ensures { result ≡ list_any (λ met. boxes_meet met cover.now && list_any (boxes_meet met) boxes.now) own.now }
+{
+    own.iter().any(|met| touches(met, cover, boxes))
 }
 
 /// Whether two boxes meet: their covers, and then a piece of the one and a piece of the other.
@@ -129,8 +142,7 @@ pub fn do_pieces_meet(
     if !do_meet(&own.cover, &later.cover) {
         return false;
     }
-    match own.motion {
-        Some(item) => touches_a_piece(measure, zone, item, &own.cover, other, later),
-        None => touches(measure, other, later, &own.cover),
-    }
+    let first = boxes_in(measure, zone, own);
+    let second = boxes_in(measure, other, later);
+    any_touches(first.as_slice(), &later.cover, second.as_slice())
 }
