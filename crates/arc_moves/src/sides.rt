@@ -82,7 +82,7 @@ fn is_mirrored(conditions: &Conditions, plane: Plane) -> bool
 }
 
 /// Whether an arc turns from the second axis of the plane to the first.
-#[tactic(auto, using(crate::proofs::Groups::has_motion_word))]
+#[tactic(auto, using(axis_moves::proofs::Words::has_motion_word))]
 pub(crate) fn is_backward(conditions: &Conditions, plane: Plane) -> bool
     ensures { (h : InForce) → AreInForce h conditions.now → result ≡ model.is_backward h plane }
 {

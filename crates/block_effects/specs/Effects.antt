@@ -179,7 +179,7 @@ in_force equipment found words = held_behind equipment.offset (found.words ++ wo
 abbrev pub is_arc : InForce → Bool
 is_arc h = h.word 1 == 2 || h.word 1 == 3
 
--- words of an arc that may not stand where there is none: a radius, and a centre but under G33, the word 33 of group 1, where I, J and K are pitches
+-- words of an arc that may not stand where no arc is made: a radius, and a centre but under G33, the word 33 of group 1, where I, J and K are pitches
 abbrev pub has_stray_words : InForce → ArcWords → Bool
 has_stray_words h words = is_some words.radius || (not (h.word 1 == 33) && is_any words.centre)
 
@@ -187,7 +187,7 @@ has_stray_words h words = is_some words.radius || (not (h.word 1 == 33) && is_an
 abbrev pub motion_made : List (Option ℕ) → List Bool → InForce → (ℕ → ℤ) → ℕ → Targets → ArcWords → Result (Option Item) ℕ
 motion_made slots owned h at line targets arc = if is_arc h then arc_moved slots owned h at line targets arc else moved slots owned h at line targets
 
--- the motion of a block with these words of groups that programs these values and these words of an arc; none where it stands still. Alarm 18, before the others of the motion and also where it stands still, where it makes no arc and has words of one that may not stand there
+-- the motion of a block with these words of groups that programs these values and these words of an arc; none where it stands still. Alarm 18, before the others of a motion and also where it stands still, where it makes no arc and has words of one that may not stand there
 unfoldable pub moved_or_still : List (Option ℕ) → List Bool → InForce → (ℕ → ℤ) → ℕ → List GWord → Targets → ArcWords → Result (Option Item) ℕ
 moved_or_still slots owned h at line words targets arc =
     if not (is_arc h) && has_stray_words h arc then Err 18

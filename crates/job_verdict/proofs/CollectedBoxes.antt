@@ -1,5 +1,5 @@
 -- Two boxes meet as the boxes of their pieces do, which are made once and held against one another.
-use Rattle.std.proofs.Common.{◌≡◌, ◌∙◌, ◌&&◌, ◌||◌, Bool, true, false, List, [], ◌∷◌, map, get_or, Option, None, Some, All, refl, sym, ap, arith}
+use Rattle.std.proofs.Common.{◌≡◌, ◌∙◌, ◌&&◌, ◌||◌, Bool, true, false, List, get_or, Option, None, Some, refl, sym, ap}
 use Rattle.std.specs.List.{list_any}
 use Rattle.swept_boxes.specs.Pieces.{pieces_at}
 use Rattle.swept_boxes.specs.Ranges.{RangesView}
@@ -22,14 +22,14 @@ twice true = refl
 twice false = refl
 
 -- a box meets this cover, and then one of the boxes in it
-abbrev Reaches : List Box3 → Box3 → Box3 → Bool
-Reaches boxes cover met = boxes_meet met cover && list_any (boxes_meet met) boxes
+abbrev reaches : List Box3 → Box3 → Box3 → Bool
+reaches boxes cover met = boxes_meet met cover && list_any (boxes_meet met) boxes
 
-touches_one : (measure : Measure) (zone : ZoneLine) (own : BoxView) (met : Box3) → touches measure zone own met ≡ Reaches (boxes_in measure zone own) own.cover met
+touches_one : (measure : Measure) (zone : ZoneLine) (own : BoxView) (met : Box3) → touches measure zone own met ≡ reaches (boxes_in measure zone own) own.cover met
 unfolding touches boxes_in
 touches_one measure zone own met = by_motion own.motion refl
   where
-    by_motion : (o : Option Item) → own.motion ≡ o → touches measure zone own met ≡ Reaches (boxes_in measure zone own) own.cover met
+    by_motion : (o : Option Item) → own.motion ≡ o → touches measure zone own met ≡ reaches (boxes_in measure zone own) own.cover met
     by_motion None is = rw is (twice (boxes_meet met own.cover))
     by_motion (Some item) is =
         rw is (ap (λ (b : Bool). boxes_meet met own.cover && b)
@@ -52,7 +52,7 @@ pub collected_meet : (measure : Measure) (zone : ZoneLine) (own : BoxView) (othe
     ≡ do_meet measure zone own other later
 collected_meet measure zone own other later =
     ap (λ (b : Bool). boxes_meet own.cover later.cover && b)
-    (list_any-same (Reaches (boxes_in measure other later) later.cover) (touches measure other later) (boxes_in measure zone own)
+    (list_any-same (reaches (boxes_in measure other later) later.cover) (touches measure other later) (boxes_in measure zone own)
     (λ k d within. sym (touches_one measure other later (get_or (boxes_in measure zone own) k d))))
     ∙ sym (one_touches measure zone own other later)
 
@@ -62,6 +62,6 @@ pub answered : (measure : Measure) (zone : ZoneLine) (own : BoxView) (other : Zo
     → result ≡ list_any (λ met. boxes_meet met cover && list_any (boxes_meet met) second) first → result ≡ do_meet measure zone own other later
 answered measure zone own other later cover first second covers result test meet same left right answer =
     let passes : boxes_meet own.cover later.cover ≡ true = sym test ∙ meet in
-    let all : (boxes_meet own.cover later.cover && list_any (Reaches (boxes_in measure other later) later.cover) (boxes_in measure zone own))
-    ≡ list_any (Reaches (boxes_in measure other later) later.cover) (boxes_in measure zone own) = rw passes refl in
+    let all : (boxes_meet own.cover later.cover && list_any (reaches (boxes_in measure other later) later.cover) (boxes_in measure zone own))
+    ≡ list_any (reaches (boxes_in measure other later) later.cover) (boxes_in measure zone own) = rw passes refl in
     answer ∙ rw (same, left, right) (sym all) ∙ collected_meet measure zone own other later
