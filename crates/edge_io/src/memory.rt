@@ -224,21 +224,3 @@ fn is_listed(fails: &[u32], call: u64) -> bool
 {
     fails.iter().any(|&listed| u64::from(listed) == call)
 }
-
-#[cfg(test)]
-mod tests {
-    use super::*;
-
-    #[test]
-    fn counts_no_further_than_64_bits(rt: HostRuntime) {
-        let mut sink = CountSink {
-            count: Some(u64::MAX - 4),
-        };
-        assert_eq!(rt; sink.write(b"abcd"), Ok(4));
-        assert_eq!(rt; sink.count(), Some(u64::MAX));
-        assert_eq!(rt; sink.write(b"e"), Ok(1));
-        assert_eq!(rt; sink.count(), None);
-        assert_eq!(rt; sink.write(b"f"), Ok(1));
-        assert_eq!(rt; sink.count(), None);
-    }
-}

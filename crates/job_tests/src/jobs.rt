@@ -1,208 +1,190 @@
 //! Whole jobs, and each refusal, read from texts.
-use axis_sets::{AxisId, ChannelId, ZoneId};
-use micro_units::Um;
-use nc_blocks::{Stmt, Word};
-use std::alloc::Global;
+use std::alloc::{AllocError, Global};
 use std::test::Fail;
 use tape_job::*;
 
-/// The job of a text, or none where it is refused or memory runs out.
-fn job_of(alloc: Global, text: &str) -> Option<Job> {
-    let bytes = text.as_bytes();
-    if bytes.len() > 8_388_609 {
-        return None;
+/// Reads the job of a text.
+fn read_text(alloc: Global, text: &str) -> Result<Job, JobFault> {
+    if text.len() > 8_388_609 {
+        return Err(JobFault::NoMemory);
     }
-    match read_job(alloc, bytes) {
-        Ok(job) => Some(job),
-        Err(_) => None,
-    }
+    read_job(alloc, text.as_bytes())
 }
 
-/// The code and the line of the refusal of an input, or none where it is accepted or memory runs out.
-fn refusal_of(alloc: Global, bytes: &[u8]) -> Option<(u16, u32)> {
-    if bytes.len() > 8_388_609 {
-        return None;
+/// The text of marks: `~` is a line feed, `&` a carriage return, `^` a byte that no text has, and `*` stands for 510 semicolons.
+fn text_of(alloc: Global, marks: &str) -> Result<String, AllocError> {
+    let run = ";".repeat(alloc, 510)?;
+    let lines = marks.replace(alloc, "~", "\n")?;
+    let lines = lines.replace(alloc, "&", "\r")?;
+    let lines = lines.replace(alloc, "^", "\x01")?;
+    lines.replace(alloc, "*", &run)
+}
+
+/// The texts of jobs in marks, each with its lines of each kind and its options.
+const JOBS: &str = "\
+~Job 1 ; any case&~Channel 2 left_1 start~AXIS x2 2 -100.25~GEO 2 Z X2~%_N_LEFT_1_MPF~M30 => \
+[ChannelLine { line: 3, channel: ChannelId { number: 2 }, program: Some(LEFT_1), starts: true }] \
+[AxisLine { line: 4, letter: 88, number: 2, owner: Some(ChannelId { number: 2 }), at: Um { micrometres: -100250 } }] \
+[GeoLine { line: 5, channel: ChannelId { number: 2 }, slot: 2, axis: AxisId { index: 0 } }] \
+[] [] margin 0 depth 0 budget 1000000 compensation false skip false
+JOB 1~CHANNEL 1 A START~AXIS Z9 1 0~ZONE 32 5 1 ON -Z9 -10 10.125 - 0 0 - 1 1~%_N_A_MPF~M30 => \
+[ChannelLine { line: 2, channel: ChannelId { number: 1 }, program: Some(A), starts: true }] \
+[AxisLine { line: 3, letter: 90, number: 9, owner: Some(ChannelId { number: 1 }), at: Um { micrometres: 0 } }] \
+[] [] \
+[ZoneLine { line: 4, zone: ZoneId { number: 32 }, group: 5, holder: Some(ChannelId { number: 1 }), on: true, sides: [\
+Side { carrier: Some((AxisId { index: 0 }, true)), lo: Um { micrometres: -10000 }, hi: Um { micrometres: 10125 } }, \
+Side { carrier: None, lo: Um { micrometres: 0 }, hi: Um { micrometres: 0 } }, \
+Side { carrier: None, lo: Um { micrometres: 1000 }, hi: Um { micrometres: 1000 } }] }] \
+margin 0 depth 0 budget 1000000 compensation false skip false
+JOB 1~ => [] [] [] [] [] margin 0 depth 0 budget 1000000 compensation false skip false
+JOB 1~skip on~margin +2.5~BUDGET 100000000~Compensation Contour~Depth 4~CHANNEL 2 A START~\
+offset 2 g599 y -0.001 ; little~%_N_A_MPF~M30~ => \
+[ChannelLine { line: 7, channel: ChannelId { number: 2 }, program: Some(A), starts: true }] [] [] \
+[OffsetLine { line: 8, channel: ChannelId { number: 2 }, g: 599, slot: 1, by: Um { micrometres: -1 } }] \
+[] margin 2500 depth 4 budget 100000000 compensation true skip true
+";
+
+/// The lines and the options of a job.
+fn lines_and_options(alloc: Global, job: &Job) -> Result<String, AllocError> {
+    let lines = format!(in alloc;
+        "{:?} {:?} {:?} {:?} {:?}",
+        job.channels, job.axes, job.geo, job.offsets, job.zones
+    )?;
+    format!(in alloc;
+        "{lines} margin {} depth {} budget {} compensation {} skip {}",
+        job.margin.micrometres, job.depth, job.budget, job.compensation, job.skip
+    )
+}
+
+#[test]
+fn reads_lines_and_options(rt: HostRuntime) -> Result<(), Fail> {
+    let alloc = rt.alloc();
+    for row in JOBS.lines() {
+        let (marks, want) = row.split_once(" => ").ok_or("no row")?;
+        let job = read_text(alloc, &text_of(alloc, marks)?)?;
+        let got = lines_and_options(alloc, &job)?;
+        assert!(rt; got.as_str() == want, "of {row}");
     }
-    match read_job(alloc, bytes) {
-        Err(JobFault::Refused(refused)) => Some((refused.code, refused.line)),
-        _ => None,
+    Ok(())
+}
+
+/// Texts in marks, the first of them empty, each with the code and the line of its refusal.
+/// Bytes that no text has are refused in the order of the rules, and the folder rows has the refusals of other texts.
+/// A line has at most 512 bytes with its end, and that comes before the bytes in it.
+const REFUSALS: &str = " => 1 1
+JOB 2 ^~ => 3 1
+~^~ => 3 2
+JOB 1 ;^~ => read
+JOB 1~FOO ^~ => 3 2
+JOB 1~%_N_A_MPF~%_N_A_SPF^~ => 3 3
+JOB 1~%_N_A_MPF~X5 ^ \"a~ => 3 3
+JOB 1~%_N_A_MPF~X5 \"a ^~ => 20 3
+JOB 1~%_N_A_MPF~MSG(\"a;b\") ;^ \"~ => read
+JOB 1~%_N_A_MPF~LOOP~%^~ => 25 3
+JOB 1~*;~ => read
+JOB 1~*;;~ => 2 2
+JOB 1~*&~ => read
+JOB 1~*;&~ => 2 2
+JOB 1~*;; => read
+JOB 1~*;;; => 2 2
+JOB 1~^*;~ => 2 2
+";
+
+/// The code and the line of the refusal of a text, or that it is read.
+fn outcome(alloc: Global, text: &str) -> Result<String, Fail> {
+    match read_text(alloc, text) {
+        Ok(_) => Ok(format!(in alloc; "read")?),
+        Err(JobFault::Refused(refused)) => {
+            Ok(format!(in alloc; "{} {}", refused.code, refused.line)?)
+        }
+        Err(JobFault::NoMemory) => Err(Fail::from("no memory")),
     }
 }
 
 #[test]
-fn reads_channels_and_axes(rt: HostRuntime) -> Result<(), Fail> {
-    let text =
-        "\nJob 1 ; any case\r\nChannel 2 left_1 start\nAXIS x2 2 -100.25\nGEO 2 Z X2\n%_N_LEFT_1_MPF\nM30";
-    let job = job_of(rt.alloc(), text).ok_or("no job")?;
-    let line = job.channels.first().ok_or("no channel")?;
-    let channel = ChannelId { number: 2 };
-    assert!(rt; line.line == 3 && line.channel == channel && line.starts);
-    let program = line.program.as_ref().ok_or("no program")?;
-    assert_eq!(rt; program.as_bytes(), b"LEFT_1".as_slice());
-    let owner = Some(channel);
-    let at = Um {
-        micrometres: -100_250,
-    };
-    assert_eq!(rt;
-        job.axes.first(),
-        Some(&AxisLine {
-            line: 4,
-            letter: b'X',
-            number: 2,
-            owner,
-            at
-        })
-    );
-    let axis = AxisId { index: 0 };
-    assert_eq!(rt;
-        job.geo.first(),
-        Some(&GeoLine {
-            line: 5,
-            channel,
-            slot: 2,
-            axis
-        })
-    );
+fn refuses_in_the_order_of_the_rules(rt: HostRuntime) -> Result<(), Fail> {
+    let alloc = rt.alloc();
+    for row in REFUSALS.lines() {
+        let (marks, want) = row.split_once(" => ").ok_or("no row")?;
+        let got = outcome(alloc, &text_of(alloc, marks)?)?;
+        assert!(rt; got.as_str() == want, "of {row}");
+    }
     Ok(())
 }
 
-#[test]
-fn reads_a_zone(rt: HostRuntime) -> Result<(), Fail> {
-    let text =
-        "JOB 1\nCHANNEL 1 A START\nAXIS Z9 1 0\nZONE 32 5 1 ON -Z9 -10 10.125 - 0 0 - 1 1\n%_N_A_MPF\nM30";
-    let job = job_of(rt.alloc(), text).ok_or("no job")?;
-    let zone = job.zones.first().ok_or("no zone")?;
-    assert!(rt; zone.line == 4 && zone.zone == ZoneId { number: 32 } && zone.group == 5 && zone.on);
-    assert_eq!(rt; zone.holder, Some(ChannelId { number: 1 }));
-    let carrier = Some((AxisId { index: 0 }, true));
-    let lo = Um {
-        micrometres: -10_000,
-    };
-    let hi = Um {
-        micrometres: 10_125,
-    };
-    assert_eq!(rt; zone.sides.first(), Some(&Side { carrier, lo, hi }));
-    Ok(())
+/// A job with two programs, of which the last has no block.
+const TWO_PROGRAMS: &str = "JOB 1
+%_n_a_1_spf ; a subprogram
+n10 g1 x5 r1=2 ; a block
+
+; no block
+M30
+%_N_B_MPF";
+
+/// A job with a block of each form.
+const EACH_FORM: &str = "JOB 1
+%_N_A_MPF
+PROC MAIN
+N10 BEG: GOTOF NEXT
+NEXT: IF R1>2 GOTOB BEG
+IF R1==1
+MSG(\"a\")
+ELSE
+GOTOC NONE
+ENDIF
+WHILE R1<3
+R1=R1+1
+ENDWHILE
+REPEAT
+X5
+UNTIL R1>0
+LOOP
+GOTO OUT
+ENDLOOP
+OUT: FOR R2=1 TO 3
+L7 P2
+ENDFOR
+CASE (R1) OF 1 GOTOF FIN 2 GOTOB OUT DEFAULT GOTOF FIN
+REPEAT BEG P=2
+FIN: REPEATB OUT
+SUB
+RET
+%_N_SUB_SPF
+M17
+";
+
+/// How many programs the job of a text has, the name and the line of the one at an index, and its block at a place.
+fn block_text(alloc: Global, text: &str, index: usize, place: u32) -> Result<String, Fail> {
+    let job = read_text(alloc, text)?;
+    let (name, program) = job.programs.get_index(index).ok_or("no program")?;
+    let block = program.flow.block(place);
+    Ok(format!(in alloc;
+        "{} {name:?} {} {block:?}",
+        job.programs.len(),
+        program.line
+    )?)
 }
+
+/// The first block of the first of the two programs.
+const FIRST_BLOCK: &str =
+    "2 A_1 2 Some((3, Block { skip: false, number: Some(10), label: None, stmt: Words([\
+G(1, 1), Axis([88], Modal, Number(Num { millionths: 5000000 })), Assign(1, Number(Num { millionths: 2000000 }))]) }))";
+
+/// The second and last block of the first of the two programs.
+const SECOND_BLOCK: &str =
+    "2 A_1 2 Some((6, Block { skip: false, number: None, label: None, stmt: Words([End]) }))";
+
+/// The last block of the first program that has each form.
+const LAST_FORM: &str =
+    "2 A 2 Some((27, Block { skip: false, number: None, label: None, stmt: Return }))";
 
 #[test]
 fn reads_programs(rt: HostRuntime) -> Result<(), Fail> {
-    let text =
-        "JOB 1\n%_n_a_1_spf ; a subprogram\nn10 g1 x5 r1=2 ; a block\n\n; no block\nM30\n%_N_B_MPF";
-    let job = job_of(rt.alloc(), text).ok_or("no job")?;
-    assert_eq!(rt; job.programs.len(), 2);
-    let (name, program) = job.programs.first().ok_or("no program")?;
-    assert_eq!(rt; name.as_bytes(), b"A_1".as_slice());
-    assert_eq!(rt; program.line, 2);
-    let (line, block) = program.flow.block(0).ok_or("no block")?;
-    assert!(rt; *line == 3 && block.number == Some(10));
-    match &block.stmt {
-        Stmt::Words(words) => assert_eq!(rt; words.len(), 3),
-        _ => return Err(Fail::from("no words")),
-    }
-    let (line, block) = program.flow.block(1).ok_or("no block")?;
-    assert_eq!(rt; *line, 6);
-    match &block.stmt {
-        Stmt::Words(words) => match words.first() {
-            Some(Word::End) => {}
-            _ => return Err(Fail::from("no end")),
-        },
-        _ => return Err(Fail::from("no words")),
-    }
-    let (name, program) = job.programs.last().ok_or("no program")?;
-    assert_eq!(rt; name.as_bytes(), b"B".as_slice());
-    assert!(rt; program.line == 7 && program.flow.block(0).is_none());
-    Ok(())
-}
-
-/// Inputs with bytes that no text has, in the order of the rules; the folder rows has the refusals of texts.
-#[test]
-fn refuses_bytes_in_their_order(rt: HostRuntime) {
-    let cases = [
-        (b"".as_slice(), Some((1, 1))),
-        (b"JOB 2 \x01\n", Some((3, 1))),
-        (b"\n\x01\n", Some((3, 2))),
-        (b"JOB 1 ;\x01\n", None),
-        (b"JOB 1\nFOO \x01\n", Some((3, 2))),
-        (b"JOB 1\n%_N_A_MPF\n%_N_A_SPF\x01\n", Some((3, 3))),
-        (b"JOB 1\n%_N_A_MPF\nX5 \x01 \"a\n", Some((3, 3))),
-        (b"JOB 1\n%_N_A_MPF\nX5 \"a \x01\n", Some((20, 3))),
-        (b"JOB 1\n%_N_A_MPF\nMSG(\"a;b\") ;\x01 \"\n", None),
-        (b"JOB 1\n%_N_A_MPF\nLOOP\n%\x01\n", Some((25, 3))),
-    ];
-    for (bytes, refusal) in cases {
-        assert_eq!(rt; refusal_of(rt.alloc(), bytes), refusal, "of {bytes:?}");
-    }
-}
-
-/// A line has at most 512 bytes with its end. That comes before the bytes in it.
-#[test]
-fn counts_the_line_end(rt: HostRuntime) -> Result<(), Fail> {
-    let cases = [
-        ("", 511, "\n", None),
-        ("", 512, "\n", Some((2, 2))),
-        ("", 510, "\r\n", None),
-        ("", 511, "\r\n", Some((2, 2))),
-        ("", 512, "", None),
-        ("", 513, "", Some((2, 2))),
-        ("\x01", 511, "\n", Some((2, 2))),
-    ];
-    for (start, bytes, end, refusal) in cases {
-        let mut text = String::new(rt.alloc());
-        text.push_str("JOB 1\n")?;
-        text.push_str(start)?;
-        for _ in 0..bytes {
-            text.push(';')?;
-        }
-        text.push_str(end)?;
-        assert_eq!(rt;
-            refusal_of(rt.alloc(), text.as_bytes()),
-            refusal,
-            "of {bytes} bytes"
-        );
-    }
-    Ok(())
-}
-
-#[test]
-fn reads_each_form(rt: HostRuntime) -> Result<(), Fail> {
-    let text = "JOB 1\n%_N_A_MPF\nPROC MAIN\nN10 BEG: GOTOF NEXT\nNEXT: IF R1>2 GOTOB BEG\n\
-         IF R1==1\nMSG(\"a\")\nELSE\nGOTOC NONE\nENDIF\nWHILE R1<3\nR1=R1+1\nENDWHILE\n\
-         REPEAT\nX5\nUNTIL R1>0\nLOOP\nGOTO OUT\nENDLOOP\nOUT: FOR R2=1 TO 3\nL7 P2\n\
-         ENDFOR\nCASE (R1) OF 1 GOTOF FIN 2 GOTOB OUT DEFAULT GOTOF FIN\nREPEAT BEG P=2\n\
-         FIN: REPEATB OUT\nSUB\nRET\n%_N_SUB_SPF\nM17\n";
-    let job = job_of(rt.alloc(), text).ok_or("no job")?;
-    let (_, program) = job.programs.first().ok_or("no program")?;
-    let (line, block) = program.flow.block(24).ok_or("no block")?;
-    assert!(rt; *line == 27 && program.flow.block(25).is_none());
-    match &block.stmt {
-        Stmt::Return => {}
-        _ => return Err(Fail::from("no return")),
-    }
-    Ok(())
-}
-
-#[test]
-fn reads_options(rt: HostRuntime) -> Result<(), Fail> {
-    let job = job_of(rt.alloc(), "JOB 1\n").ok_or("no job")?;
-    assert!(rt; job.offsets.is_empty() && job.margin == Um { micrometres: 0 });
-    assert!(rt; job.depth == 0 && job.budget == 1_000_000);
-    assert!(rt; !job.compensation && !job.skip);
-    let text = "JOB 1\nskip on\nmargin +2.5\nBUDGET 100000000\nCompensation Contour\nDepth 4\n\
-         CHANNEL 2 A START\noffset 2 g599 y -0.001 ; little\n%_N_A_MPF\nM30\n";
-    let job = job_of(rt.alloc(), text).ok_or("no job")?;
-    let by = Um { micrometres: -1 };
-    assert_eq!(rt;
-        job.offsets.first(),
-        Some(&OffsetLine {
-            line: 8,
-            channel: ChannelId { number: 2 },
-            g: 599,
-            slot: 1,
-            by
-        })
-    );
-    assert!(rt; job.margin == Um { micrometres: 2_500 } && job.depth == 4);
-    assert!(rt; job.budget == 100_000_000 && job.compensation && job.skip);
+    let alloc = rt.alloc();
+    assert!(rt; block_text(alloc, TWO_PROGRAMS, 0, 0)?.as_str() == FIRST_BLOCK);
+    assert!(rt; block_text(alloc, TWO_PROGRAMS, 0, 1)?.as_str() == SECOND_BLOCK);
+    assert!(rt; block_text(alloc, TWO_PROGRAMS, 1, 0)?.as_str() == "2 B 7 None");
+    assert!(rt; block_text(alloc, EACH_FORM, 0, 24)?.as_str() == LAST_FORM);
+    assert!(rt; block_text(alloc, EACH_FORM, 0, 25)?.as_str() == "2 A 2 None");
     Ok(())
 }

@@ -1,201 +1,75 @@
 //! Job lines and headers, read from their words.
 use job_lines::*;
+use std::alloc::Global;
 use std::test::Fail;
 
-const X2: AxisName = AxisName {
-    letter: b'X',
-    number: 2,
-};
+/// Lines, each with what it is read as: a header where it begins with `%`, and a job line otherwise.
+const LINES: &str = "\
+CHANNEL 2 LEFT_1 START => Ok(Channel { channel: ChannelId { number: 2 }, program: Some(LEFT_1), starts: true })
+CHANNEL 8 => Ok(Channel { channel: ChannelId { number: 8 }, program: None, starts: false })
+AXIS X2 1 -100.25 => Ok(Axis { name: AxisName { letter: 88, number: 2 }, owner: Some(ChannelId { number: 1 }), at: Um { micrometres: -100250 } })
+GEO 1 Z X2 => Ok(Geo { channel: ChannelId { number: 1 }, slot: 2, axis: AxisName { letter: 88, number: 2 } })
+OFFSET 3 G505 Y -0.5 => Ok(Offset { channel: ChannelId { number: 3 }, g: 505, slot: 1, by: Um { micrometres: -500 } })
+ZONE 32 5 FREE OFF -X2 -10 10.125 - 0 0 - 1 1 => Ok(Zone(NamedZone { zone: ZoneId { number: 32 }, group: 5, holder: None, on: false, \
+x: NamedSide { carrier: Some((AxisName { letter: 88, number: 2 }, true)), lo: Um { micrometres: -10000 }, hi: Um { micrometres: 10125 } }, \
+y: NamedSide { carrier: None, lo: Um { micrometres: 0 }, hi: Um { micrometres: 0 } }, \
+z: NamedSide { carrier: None, lo: Um { micrometres: 1000 }, hi: Um { micrometres: 1000 } } }))
+FOO => Err(UnknownJobLine)
+AXIS X2 1 => Err(UnknownJobLine)
+CHANNEL x A STRAT => Err(UnknownJobLine)
+AXIS X02 1 0 => Err(OutOfRange)
+AXIS X2 9 0 => Err(OutOfRange)
+AXIS X2 1 10000.001 => Err(OutOfRange)
+JOB 1 => Err(DeclaredTwice)
+OFFSET 1 G500 X 0 => Err(OutOfRange)
+MARGIN 1000.001 => Err(OutOfRange)
+BUDGET 0 => Err(OutOfRange)
+%_N_A_MPF => Ok(A)
+%_N_LEFT_1_SPF => Ok(LEFT_1)
+%_N_A_MPF_MPF => Ok(A_MPF)
+%_N_ABCDEFGHIJKLMNOPQRSTUVWX_MPF => Ok(ABCDEFGHIJKLMNOPQRSTUVWX)
+%_N__MPF => Err(BadHeader)
+%_N_ABCDEFGHIJKLMNOPQRSTUVWXY_MPF => Err(BadHeader)
+%_N_A-_MPF => Err(BadHeader)
+%_N_A => Err(BadHeader)
+%_N_A_MPF X => Err(BadHeader)
+";
 
-/// Whether a line is that of channel 2, which starts with the program LEFT_1.
-fn is_channel(item: &Result<Item, Code>) -> bool {
-    match item {
-        Ok(
-            Item::Channel {
-                channel,
-                program: Some(program),
-                starts,
-            },
-        ) => channel.number == 2 && program.as_bytes() == b"LEFT_1".as_slice() && *starts,
-        _ => false,
-    }
-}
-
-/// Whether a line is that of channel 8, idle and without a program.
-fn is_idle(item: &Result<Item, Code>) -> bool {
-    match item {
-        Ok(
-            Item::Channel {
-                channel,
-                program: None,
-                starts,
-            },
-        ) => channel.number == 8 && !*starts,
-        _ => false,
-    }
-}
-
-/// Whether a line is that of the axis X2 of channel 1 at -100.25.
-fn is_axis(item: &Result<Item, Code>) -> bool {
-    match item {
-        Ok(
-            Item::Axis {
-                name,
-                owner: Some(owner),
-                at,
-            },
-        ) => *name == X2 && owner.number == 1 && at.micrometres == -100_250,
-        _ => false,
-    }
-}
-
-/// Whether a line puts the axis X2 into slot Z of channel 1.
-fn is_slot(item: &Result<Item, Code>) -> bool {
-    match item {
-        Ok(
-            Item::Geo {
-                channel,
-                slot,
-                axis,
-            },
-        ) => channel.number == 1 && *slot == 2 && *axis == X2,
-        _ => false,
-    }
-}
-
-/// Whether a line gives G505 of slot Y of channel 3 the offset -0.5.
-fn is_offset(item: &Result<Item, Code>) -> bool {
-    match item {
-        Ok(
-            Item::Offset {
-                channel,
-                g,
-                slot,
-                by,
-            },
-        ) => channel.number == 3 && *g == 505 && *slot == 1 && by.micrometres == -500,
-        _ => false,
-    }
-}
-
-/// Whether a line is that of zone 32 of group 5, held free and off, whose first direction goes against X2 up to 10.125.
-fn is_zone(item: &Result<Item, Code>) -> bool {
-    match item {
-        Ok(Item::Zone(zone)) => {
-            zone.zone.number == 32
-                && zone.group == 5
-                && zone.holder.is_none()
-                && !zone.on
-                && zone.x.carrier == Some((X2, true))
-                && zone.x.hi.micrometres == 10_125
-        }
-        _ => false,
+/// What a line is read as.
+fn said(alloc: Global, line: &str) -> Result<String, Fail> {
+    let words = line
+        .split_whitespace()
+        .map(|word| word.as_bytes())
+        .collect::<Vec<&[u8]>>(alloc)?;
+    let (kind, args) = words.split_first().ok_or("no word")?;
+    if line.starts_with('%') {
+        Ok(format!(in alloc; "{:?}", header_in(&words))?)
+    } else {
+        Ok(format!(in alloc; "{:?}", item_in(kind, args))?)
     }
 }
 
 #[test]
-fn reads_job_lines(rt: HostRuntime) {
-    assert!(rt; is_channel(&item_in(b"CHANNEL", &[b"2", b"LEFT_1", b"START"])));
-    assert!(rt; is_idle(&item_in(b"CHANNEL", &[b"8"])));
-    assert!(rt; is_axis(&item_in(b"AXIS", &[b"X2", b"1", b"-100.25"])));
-    assert!(rt; is_slot(&item_in(b"GEO", &[b"1", b"Z", b"X2"])));
-    assert!(rt; is_offset(&item_in(b"OFFSET", &[b"3", b"G505", b"Y", b"-0.5"])));
-    let words = [
-        b"32".as_slice(),
-        b"5",
-        b"FREE",
-        b"OFF",
-        b"-X2",
-        b"-10",
-        b"10.125",
-        b"-",
-        b"0",
-        b"0",
-        b"-",
-        b"1",
-        b"1",
-    ];
-    assert!(rt; is_zone(&item_in(b"ZONE", &words)));
-}
-
-#[test]
-fn refuses_job_lines(rt: HostRuntime) {
-    let cases = [
-        (item_in(b"FOO", &[]), Code::UnknownJobLine),
-        (item_in(b"AXIS", &[b"X2", b"1"]), Code::UnknownJobLine),
-        (
-            item_in(b"CHANNEL", &[b"x", b"A", b"STRAT"]),
-            Code::UnknownJobLine,
-        ),
-        (item_in(b"AXIS", &[b"X02", b"1", b"0"]), Code::OutOfRange),
-        (item_in(b"AXIS", &[b"X2", b"9", b"0"]), Code::OutOfRange),
-        (
-            item_in(b"AXIS", &[b"X2", b"1", b"10000.001"]),
-            Code::OutOfRange,
-        ),
-        (item_in(b"JOB", &[b"1"]), Code::DeclaredTwice),
-        (
-            item_in(b"OFFSET", &[b"1", b"G500", b"X", b"0"]),
-            Code::OutOfRange,
-        ),
-        (item_in(b"MARGIN", &[b"1000.001"]), Code::OutOfRange),
-        (item_in(b"BUDGET", &[b"0"]), Code::OutOfRange),
-    ];
-    for (item, code) in cases {
-        match item {
-            Err(refused) => assert_eq!(rt; refused, code),
-            Ok(_) => assert!(rt; false, "a line that breaks a rule is read"),
-        }
+fn reads_lines(rt: HostRuntime) -> Result<(), Fail> {
+    for row in LINES.lines() {
+        let (line, want) = row.split_once(" => ").ok_or("no row")?;
+        let got = said(rt.alloc(), line)?;
+        assert!(rt; got.as_str() == want, "of {row}");
     }
-}
-
-#[test]
-fn reads_headers(rt: HostRuntime) -> Result<(), Fail> {
-    let cases = [
-        (b"%_N_A_MPF".as_slice(), b"A".as_slice()),
-        (b"%_N_LEFT_1_SPF", b"LEFT_1"),
-        (b"%_N_A_MPF_MPF", b"A_MPF"),
-        (
-            b"%_N_ABCDEFGHIJKLMNOPQRSTUVWX_MPF",
-            b"ABCDEFGHIJKLMNOPQRSTUVWX",
-        ),
-    ];
-    for (word, name) in cases {
-        let header = header_in(&[word]).ok().ok_or("no header")?;
-        assert_eq!(rt; header.as_bytes(), name);
-    }
-    let broken = [
-        b"%_N__MPF".as_slice(),
-        b"%_N_ABCDEFGHIJKLMNOPQRSTUVWXY_MPF",
-        b"%_N_A-_MPF",
-        b"%_N_A",
-    ];
-    for word in broken {
-        assert_eq!(rt; header_in(&[word]).err(), Some(Code::BadHeader));
-    }
-    assert_eq!(rt;
-        header_in(&[b"%_N_A_MPF", b"X"]).err(),
-        Some(Code::BadHeader)
-    );
     Ok(())
 }
 
 #[test]
 fn shows_codes(rt: HostRuntime) {
-    let codes = [
-        (Code::NoJobLine, 1),
-        (Code::LineTooLong, 2),
-        (Code::BadByte, 3),
-        (Code::NameRepeated, 9),
-        (Code::BadHeader, 10),
-        (Code::OpenText, 20),
-        (Code::UnknownJobLine, 4),
-        (Code::OwnerDiffers, 8),
-        (Code::TooMany, 11),
-        (Code::NotInLibrary, 12),
-        (Code::NotBuilt, 60),
-    ];
-    for (code, shown) in codes {
-        assert_eq!(rt; code.shown(), shown);
-    }
+    assert!(rt; Code::NoJobLine.shown() == 1);
+    assert!(rt; Code::LineTooLong.shown() == 2);
+    assert!(rt; Code::BadByte.shown() == 3);
+    assert!(rt; Code::UnknownJobLine.shown() == 4);
+    assert!(rt; Code::OwnerDiffers.shown() == 8);
+    assert!(rt; Code::NameRepeated.shown() == 9);
+    assert!(rt; Code::BadHeader.shown() == 10);
+    assert!(rt; Code::TooMany.shown() == 11);
+    assert!(rt; Code::NotInLibrary.shown() == 12);
+    assert!(rt; Code::OpenText.shown() == 20);
+    assert!(rt; Code::NotBuilt.shown() == 60);
 }

@@ -1,5 +1,6 @@
 //! Each public call once, and each fault once.
 use edge_io::*;
+use std::alloc::Global;
 use std::io;
 use std::io::{Cursor, ErrorKind, Read};
 use std::test::Fail;
@@ -8,15 +9,17 @@ use std::test::Fail;
 fn reads_pieces_and_fails_the_listed_read(rt: HostRuntime) -> Result<(), Fail> {
     let alloc = rt.alloc();
     let mut source = MemSource::new(b"abcdefg".to_vec(alloc)?, 3, [1].to_vec(alloc)?);
-    let mut buffer = [0; 5];
-    assert_eq!(rt; source.read(&mut buffer), Ok(3));
-    assert_eq!(rt; &buffer[..3], b"abc".as_slice());
-    assert_eq!(rt; source.read(&mut buffer), Err(Failed));
-    assert_eq!(rt; source.read(&mut buffer[..2]), Ok(2));
-    assert_eq!(rt; &buffer[..2], b"de".as_slice());
-    assert_eq!(rt; source.read(&mut buffer), Ok(2));
-    assert_eq!(rt; &buffer[..2], b"fg".as_slice());
-    assert_eq!(rt; source.read(&mut buffer), Ok(0));
+    let mut wide = [0; 5];
+    assert!(rt; source.read(&mut wide) == Ok(3));
+    assert!(rt; &wide == b"abc\0\0");
+    assert!(rt; source.read(&mut wide) == Err(Failed));
+    let mut narrow = [0; 2];
+    assert!(rt; source.read(&mut narrow) == Ok(2));
+    assert!(rt; &narrow == b"de");
+    let mut wide = [0; 5];
+    assert!(rt; source.read(&mut wide) == Ok(2));
+    assert!(rt; &wide == b"fg\0\0\0");
+    assert!(rt; source.read(&mut wide) == Ok(0));
     Ok(())
 }
 
@@ -24,36 +27,37 @@ fn reads_pieces_and_fails_the_listed_read(rt: HostRuntime) -> Result<(), Fail> {
 fn keeps_pieces_and_fails_the_listed_write(rt: HostRuntime) -> Result<(), Fail> {
     let alloc = rt.alloc();
     let mut sink = MemSink::new(alloc, 3, [1].to_vec(alloc)?);
-    assert_eq!(rt; sink.write(b"abcde"), Ok(3));
-    assert_eq!(rt; sink.write(b"de"), Err(Failed));
-    assert_eq!(rt; sink.write(b"de"), Ok(2));
-    assert_eq!(rt; sink.bytes(), b"abcde".as_slice());
+    assert!(rt; sink.write(b"abcde") == Ok(3));
+    assert!(rt; sink.write(b"de") == Err(Failed));
+    assert!(rt; sink.write(b"de") == Ok(2));
+    assert!(rt; sink.bytes() == b"abcde".as_slice());
     Ok(())
 }
 
 #[test]
 fn counts_bytes(rt: HostRuntime) {
     let mut sink = CountSink::new();
-    assert_eq!(rt; sink.count(), Some(0));
-    assert_eq!(rt; sink.write(b"abc"), Ok(3));
-    assert_eq!(rt; put_all(&mut sink, b"de"), Ok(()));
-    assert_eq!(rt; sink.count(), Some(5));
+    assert!(rt; sink.count() == Some(0));
+    assert!(rt; sink.write(b"abc") == Ok(3));
+    assert!(rt; put_all(&mut sink, b"de") == Ok(()));
+    assert!(rt; sink.count() == Some(5));
+}
+
+/// The answer and the bytes of a put of eight bytes, in pieces of three, where the listed writes fail.
+fn put(alloc: Global, fails: &[u32]) -> Result<String, Fail> {
+    let mut sink = MemSink::new(alloc, 3, fails.to_vec(alloc)?);
+    let answer = put_all(&mut sink, b"abcdefgh");
+    let written = str::from_utf8(sink.bytes())?;
+    Ok(format!(in alloc; "{answer:?} {written}")?)
 }
 
 #[test]
 fn puts_all_or_a_front(rt: HostRuntime) -> Result<(), Fail> {
     let alloc = rt.alloc();
-    let rows: [(Option<u32>, Result<(), Failed>, &[u8]); 4] = [
-        (None, Ok(()), b"abcdefgh"),
-        (Some(0), Err(Failed), b""),
-        (Some(2), Err(Failed), b"abcdef"),
-        (Some(3), Ok(()), b"abcdefgh"),
-    ];
-    for (failing, answer, written) in rows {
-        let mut sink = MemSink::new(alloc, 3, failing.into_iter().collect(alloc)?);
-        assert_eq!(rt; put_all(&mut sink, b"abcdefgh"), answer);
-        assert_eq!(rt; sink.bytes(), written);
-    }
+    assert!(rt; put(alloc, &[])?.as_str() == "Ok(()) abcdefgh");
+    assert!(rt; put(alloc, &[0])?.as_str() == "Err(Failed) ");
+    assert!(rt; put(alloc, &[2])?.as_str() == "Err(Failed) abcdef");
+    assert!(rt; put(alloc, &[3])?.as_str() == "Ok(()) abcdefgh");
     Ok(())
 }
 
@@ -71,20 +75,20 @@ impl Read for Interrupted {
 fn reads_a_reader(rt: HostRuntime) {
     let mut buffer = [0; 4];
     let mut source = StdSource::new(b"abcdef".as_slice());
-    assert_eq!(rt; source.read(&mut buffer), Ok(4));
-    assert_eq!(rt; &buffer, b"abcd");
-    assert_eq!(rt; source.read(&mut buffer), Ok(2));
-    assert_eq!(rt; &buffer[..2], b"ef".as_slice());
-    assert_eq!(rt; source.read(&mut buffer), Ok(0));
-    assert_eq!(rt; StdSource::new(Interrupted).read(&mut buffer), Err(Failed));
+    assert!(rt; source.read(&mut buffer) == Ok(4));
+    assert!(rt; &buffer == b"abcd");
+    assert!(rt; source.read(&mut buffer) == Ok(2));
+    assert!(rt; &buffer[..2] == b"ef".as_slice());
+    assert!(rt; source.read(&mut buffer) == Ok(0));
+    assert!(rt; StdSource::new(Interrupted).read(&mut buffer) == Err(Failed));
 }
 
 #[test]
 fn writes_a_writer(rt: HostRuntime) {
     let mut page = [b'-'; 4];
     let mut sink = StdSink::new(Cursor::new(page.as_mut_slice()));
-    assert_eq!(rt; sink.write(b"abc"), Ok(3));
+    assert!(rt; sink.write(b"abc") == Ok(3));
     // The page takes one byte more, and then nothing.
-    assert_eq!(rt; put_all(&mut sink, b"de"), Err(Failed));
-    assert_eq!(rt; &page, b"abcd");
+    assert!(rt; put_all(&mut sink, b"de") == Err(Failed));
+    assert!(rt; &page == b"abcd");
 }

@@ -21,14 +21,14 @@ fn returned(stack: &mut CallStack) -> Option<(u16, u32, u16)> {
 #[test]
 fn sixteen_levels(rt: HostRuntime) -> Result<(), Fail> {
     let mut stack = CallStack::new();
-    assert_eq!(rt; returned(&mut stack), None);
+    assert!(rt; returned(&mut stack) == None);
     for program in 1..=15 {
         stack.call(place(program))?;
     }
-    assert_eq!(rt; stack.call(place(16)), Err(6));
+    assert!(rt; stack.call(place(16)) == Err(6));
     for program in (1..=15).rev() {
-        assert_eq!(rt; returned(&mut stack), Some((program, 70_000, 3)));
+        assert!(rt; returned(&mut stack) == Some((program, 70_000, 3)));
     }
-    assert_eq!(rt; returned(&mut stack), None);
+    assert!(rt; returned(&mut stack) == None);
     Ok(())
 }

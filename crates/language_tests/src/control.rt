@@ -64,172 +64,111 @@ fn program(rt: &impl Abort, alloc: Global, text: &str) -> Result<Flow, Fail> {
     Ok(resolve(alloc, blocks)?)
 }
 
+/// A number of a row.
+fn number_of(rt: &impl Abort, text: &str) -> u32 {
+    let number = text.parse::<u32>();
+    assert!(rt; number.is_ok(), "no number: {text}");
+    number.unwrap_or(0)
+}
+
+/// A label, or a block number behind `N`.
+fn target_of(name: &str) -> Target {
+    match name.strip_prefix("N") {
+        Some(number) => Target::Number(number.parse::<u32>().unwrap_or(0)),
+        None => Target::Label(NameText::of_word(name.as_bytes())),
+    }
+}
+
+/// What a step says comes of its block, with the number or the target behind the word.
+fn outcome_of<'a>(rt: &impl Abort, word: &str, number: u16, target: &'a Target) -> Outcome<'a> {
+    match word {
+        "plain" => Plain,
+        "skipped" => Skipped,
+        "true" => Truth(true),
+        "false" => Truth(false),
+        "again" => Again(number),
+        "forward" => Jump(Way::Forward, target),
+        "backward" => Jump(Way::Backward, target),
+        "optional" => Jump(Way::Optional, target),
+        _ => {
+            assert!(rt; word == "either", "no outcome: {word}");
+            Jump(Way::Either, target)
+        }
+    }
+}
+
+/// Where a step says that control goes on: a place, the end of the program, or an alarm.
+fn next_of(rt: &impl Abort, text: &str) -> Result<Next, u16> {
+    match text {
+        "past" => Ok(Past),
+        "alarm 5" => Err(5),
+        "alarm 32" => Err(32),
+        place => Ok(At(number_of(rt, place))),
+    }
+}
+
 /// Where the block at a place goes on.
-fn step(flow: &Flow, pc: u32, repeats: &mut Repeats, outcome: Outcome) -> Result<Next, u16> {
+fn step(
+    rt: &impl Abort,
+    flow: &Flow,
+    pc: u32,
+    repeats: &mut Repeats,
+    said: &str,
+) -> Result<Next, u16> {
+    let (word, value) = said.split_once(" ").unwrap_or((said, ""));
+    let target = target_of(value);
+    let outcome = outcome_of(rt, word, value.parse::<u16>().unwrap_or(0), &target);
     if flow.block(pc).is_none() {
         return Ok(Past);
     }
     flow.next(pc, repeats, outcome)
 }
 
-/// Runs a program from a place on, by what comes of each block, and compares where each goes on.
-fn run(
-    rt: &impl Abort,
-    alloc: Global,
-    text: &str,
-    start: u32,
-    steps: &[(Outcome, Result<Next, u16>)],
-) -> Result<(), Fail> {
-    let flow = program(rt, alloc, text)?;
+/// Goes through a program from the place before the steps, and compares where each goes on.
+fn run(rt: &impl Abort, flow: &Flow, way: &str) {
+    let (start, steps) = way.split_once(" ").unwrap_or(("", way));
     let mut repeats = Repeats::new();
-    let mut pc = start;
-    for (outcome, expected) in steps {
-        let next = step(&flow, pc, &mut repeats, *outcome);
-        assert_eq!(rt; next, *expected, "at {pc} of {text}");
+    let mut pc = number_of(rt, start);
+    for one in steps.split(", ") {
+        let (said, want) = one.split_once(" > ").unwrap_or((one, ""));
+        let next = step(rt, flow, pc, &mut repeats, said);
+        assert!(rt; next == next_of(rt, want), "{one} in {way}");
         if let Ok(At(place)) = next {
             pc = place;
         }
     }
-    Ok(())
 }
 
+/// Programs, each with ways through it: a place to begin at, and then steps. A step has what comes of
+/// its block and where control goes on. They are structures, then jumps, and then repetitions; in the
+/// last two a jump out of a repetition ends it, and one within does not.
+const WAYS: &str = "\
+IF IF . ELSE . ENDIF . ELSE . ENDIF . | 0 true > 1; 0 false > 8; 1 false > 4; 3 plain > 6; 7 plain > 10; 7 skipped > 8; 9 plain > 10; 10 plain > past
+WHILE . LOOP . ENDLOOP ENDWHILE . | 0 true > 1; 0 false > 6; 0 skipped > 1; 4 plain > 2; 5 plain > 0
+REPEAT REPEAT . UNTIL UNTIL FOR . ENDFOR . | 3 false > 2; 4 false > 1; 4 true > 5; 5 false > 8; 5 true > 6; 7 true > 6; 7 false > 8
+A: . B: . N10: . . A: . A: . | 3 forward A > 4; 3 backward A > 0; 3 either A > 4; 3 either B > 1; 3 optional B > 1; 3 optional C > 4; 3 forward B > alarm 5
+A: . B: . N10: . . A: . A: . | 3 either C > alarm 5; 3 backward N10 > 2; 3 forward N10 > alarm 5; 0 backward A > alarm 5; 4 forward A > 5; 5 backward A > 4
+A: . REPEAT-A . | 0 plain > 1, again 0 > 2; 1 again 1 > 0, plain > 2; 1 again 3 > 0, plain > 0, plain > 0, plain > 2
+REPEAT-A . | 0 again 0 > alarm 5, skipped > 1
+REPEATB-A . A: . . | 0 again 2 > 2, plain > 2, plain > 1
+A: . B: REPEATB-A REPEATB-B . | 2 again 2 > 1, again 1 > 0, plain > 1, again 1 > 0, plain > 3
+A: . . REPEAT-A C: . . | 2 again 5 > 0, forward C > 3, backward A > 0, plain > 1, plain > 2
+A: . . C: REPEAT-A . | 2 again 2 > 0, forward C > 0, plain > 1, plain > 3
+";
+
 #[test]
-fn structures(rt: HostRuntime) -> Result<(), Fail> {
-    let branches = "IF IF . ELSE . ENDIF . ELSE . ENDIF .";
-    let rounds = "WHILE . LOOP . ENDLOOP ENDWHILE .";
-    let others = "REPEAT REPEAT . UNTIL UNTIL FOR . ENDFOR .";
-    let cases = [
-        (branches, 0, Truth(true), At(1)),
-        (branches, 0, Truth(false), At(8)),
-        (branches, 1, Truth(false), At(4)),
-        (branches, 3, Plain, At(6)),
-        (branches, 7, Plain, At(10)),
-        (branches, 7, Skipped, At(8)),
-        (branches, 9, Plain, At(10)),
-        (branches, 10, Plain, Past),
-        (rounds, 0, Truth(true), At(1)),
-        (rounds, 0, Truth(false), At(6)),
-        (rounds, 0, Skipped, At(1)),
-        (rounds, 4, Plain, At(2)),
-        (rounds, 5, Plain, At(0)),
-        (others, 3, Truth(false), At(2)),
-        (others, 4, Truth(false), At(1)),
-        (others, 4, Truth(true), At(5)),
-        (others, 5, Truth(false), At(8)),
-        (others, 5, Truth(true), At(6)),
-        (others, 7, Truth(true), At(6)),
-        (others, 7, Truth(false), At(8)),
-    ];
-    for (text, pc, outcome, expected) in cases.iter() {
-        run(&rt, rt.alloc(), text, *pc, &[(*outcome, Ok(*expected))])?;
+fn goes_its_ways(rt: HostRuntime) -> Result<(), Fail> {
+    for row in WAYS.lines() {
+        let (text, ways) = row.split_once(" | ").unwrap_or((row, ""));
+        let flow = program(&rt, rt.alloc(), text)?;
+        for way in ways.split("; ") {
+            run(&rt, &flow, way);
+        }
     }
-    let flow = program(&rt, rt.alloc(), branches)?;
-    assert_eq!(rt; flow.block(10).map(|block| block.0), Some(7));
-    assert!(rt; flow.block(11).is_none());
+    let flow = program(&rt, rt.alloc(), ". .")?;
+    assert!(rt; flow.block(1).map(|block| block.0) == Some(7));
+    assert!(rt; flow.block(2).is_none());
     Ok(())
-}
-
-#[test]
-fn jumps(rt: HostRuntime) -> Result<(), Fail> {
-    let text = "A: . B: . N10: . . A: . A: .";
-    let a = Target::Label(NameText::of_word(b"A"));
-    let b = Target::Label(NameText::of_word(b"B"));
-    let c = Target::Label(NameText::of_word(b"C"));
-    let ten = Target::Number(10);
-    let cases = [
-        (3, Jump(Way::Forward, &a), Ok(At(4))),
-        (3, Jump(Way::Backward, &a), Ok(At(0))),
-        (3, Jump(Way::Either, &a), Ok(At(4))),
-        (3, Jump(Way::Either, &b), Ok(At(1))),
-        (3, Jump(Way::Optional, &b), Ok(At(1))),
-        (3, Jump(Way::Optional, &c), Ok(At(4))),
-        (3, Jump(Way::Forward, &b), Err(5)),
-        (3, Jump(Way::Either, &c), Err(5)),
-        (3, Jump(Way::Backward, &ten), Ok(At(2))),
-        (3, Jump(Way::Forward, &ten), Err(5)),
-        (0, Jump(Way::Backward, &a), Err(5)),
-        (4, Jump(Way::Forward, &a), Ok(At(5))),
-        (5, Jump(Way::Backward, &a), Ok(At(4))),
-    ];
-    for (pc, outcome, expected) in cases.iter() {
-        run(&rt, rt.alloc(), text, *pc, &[(*outcome, *expected)])?;
-    }
-    Ok(())
-}
-
-#[test]
-fn repetitions(rt: HostRuntime) -> Result<(), Fail> {
-    let alloc = rt.alloc();
-    let range = "A: . REPEAT-A .";
-    run(
-        &rt,
-        alloc,
-        range,
-        0,
-        &[(Plain, Ok(At(1))), (Again(0), Ok(At(2)))],
-    )?;
-    run(
-        &rt,
-        alloc,
-        range,
-        1,
-        &[(Again(1), Ok(At(0))), (Plain, Ok(At(2)))],
-    )?;
-    let thrice = [
-        (Again(3), Ok(At(0))),
-        (Plain, Ok(At(0))),
-        (Plain, Ok(At(0))),
-        (Plain, Ok(At(2))),
-    ];
-    run(&rt, alloc, range, 1, &thrice)?;
-    run(
-        &rt,
-        alloc,
-        "REPEAT-A .",
-        0,
-        &[(Again(0), Err(5)), (Skipped, Ok(At(1)))],
-    )?;
-
-    let ahead = [
-        (Again(2), Ok(At(2))),
-        (Plain, Ok(At(2))),
-        (Plain, Ok(At(1))),
-    ];
-    run(&rt, alloc, "REPEATB-A . A: . .", 0, &ahead)?;
-    let nested = [
-        (Again(2), Ok(At(1))),
-        (Again(1), Ok(At(0))),
-        (Plain, Ok(At(1))),
-        (Again(1), Ok(At(0))),
-        (Plain, Ok(At(3))),
-    ];
-    run(&rt, alloc, "A: . B: REPEATB-A REPEATB-B .", 2, &nested)
-}
-
-#[test]
-fn leaves_repetitions(rt: HostRuntime) -> Result<(), Fail> {
-    let a = Target::Label(NameText::of_word(b"A"));
-    let c = Target::Label(NameText::of_word(b"C"));
-    let out = [
-        (Again(5), Ok(At(0))),
-        (Jump(Way::Forward, &c), Ok(At(3))),
-        (Jump(Way::Backward, &a), Ok(At(0))),
-        (Plain, Ok(At(1))),
-        (Plain, Ok(At(2))),
-    ];
-    run(&rt, rt.alloc(), "A: . . REPEAT-A C: . .", 2, &out)
-}
-
-#[test]
-fn stays_in_repetitions(rt: HostRuntime) -> Result<(), Fail> {
-    let c = Target::Label(NameText::of_word(b"C"));
-    let within = [
-        (Again(2), Ok(At(0))),
-        (Jump(Way::Forward, &c), Ok(At(0))),
-        (Plain, Ok(At(1))),
-        (Plain, Ok(At(3))),
-    ];
-    run(&rt, rt.alloc(), "A: . . C: REPEAT-A .", 2, &within)
 }
 
 #[test]
@@ -238,84 +177,80 @@ fn sixteen_repetitions(rt: HostRuntime) -> Result<(), Fail> {
     let mut repeats = Repeats::new();
     for round in 0..16 {
         let place = round % 2;
-        assert_eq!(rt;
-            step(&flow, place, &mut repeats, Again(1)),
-            Ok(At(1 - place))
-        );
+        let next = step(&rt, &flow, place, &mut repeats, "again 1");
+        assert!(rt; next == Ok(At(1 - place)));
     }
-    assert_eq!(rt; step(&flow, 0, &mut repeats, Again(1)), Err(32));
+    assert!(rt; step(&rt, &flow, 0, &mut repeats, "again 1") == Err(32));
     // Each of the sixteen ends with the block that it repeats, and so does the one round it.
-    assert_eq!(rt; step(&flow, 0, &mut repeats, Plain), Ok(At(1)));
+    assert!(rt; step(&rt, &flow, 0, &mut repeats, "plain") == Ok(At(1)));
     Ok(())
 }
 
 /// Where the block at a place goes on, over blocks with `/`.
-fn step_over(flow: &Flow, pc: u32, repeats: &mut Repeats, outcome: Outcome) -> Result<Next, u16>
+fn step_over(
+    rt: &impl Abort,
+    flow: &Flow,
+    pc: u32,
+    repeats: &mut Repeats,
+    said: &str,
+) -> Result<Next, u16>
     requires { CountRepeats true (views flow.now) repeats.old }
     ensures { CountRepeats true (views flow.now) repeats.new }
 {
+    let (word, value) = said.split_once(" ").unwrap_or((said, ""));
+    let target = target_of(value);
+    let outcome = outcome_of(rt, word, value.parse::<u16>().unwrap_or(0), &target);
     match flow.block(pc) {
         Some((_, block)) if !block.skip => flow.next_counted(pc, repeats, outcome, true),
         _ => Ok(Past),
     }
 }
 
-/// Goes on from a place, over blocks with `/`, by what comes of each block that counts, and compares
-/// where each goes on.
-fn steps_over(
-    rt: &impl Abort,
-    flow: &Flow,
-    repeats: &mut Repeats,
-    start: u32,
-    steps: &[(Outcome, Result<Next, u16>)],
-)
+/// Goes on through a program from the place before the steps, over blocks with `/`, and compares where
+/// each goes on.
+fn run_over(rt: &impl Abort, flow: &Flow, repeats: &mut Repeats, way: &str)
     requires { CountRepeats true (views flow.now) repeats.old }
     ensures { CountRepeats true (views flow.now) repeats.new }
 {
-    let mut pc = start;
-    for (outcome, expected) in steps {
-        let next = step_over(flow, pc, repeats, *outcome);
-        assert_eq!(rt; next, *expected, "at {pc}");
+    let (start, steps) = way.split_once(" ").unwrap_or(("", way));
+    let mut pc = number_of(rt, start);
+    for one in steps.split(", ") {
+        let (said, want) = one.split_once(" > ").unwrap_or((one, ""));
+        let next = step_over(rt, flow, pc, repeats, said);
+        assert!(rt; next == next_of(rt, want), "{one} in {way}");
         if let Ok(At(place)) = next {
             pc = place;
         }
     }
 }
 
-/// Runs a program from a place on in the same way.
-fn run_over(
-    rt: &impl Abort,
-    alloc: Global,
-    text: &str,
-    start: u32,
-    steps: &[(Outcome, Result<Next, u16>)],
-) -> Result<(), Fail> {
-    let flow = program(rt, alloc, text)?;
-    let mut repeats = Repeats::new();
-    steps_over(rt, &flow, &mut repeats, start, steps);
-    Ok(())
-}
+/// Programs, each with a way through it over blocks with `/`. In the last two the repetition of B is not
+/// begun, and its block ends a pass of that round it.
+const WAYS_OVER: &str = "\
+. /. A: /. . N10: /. /. | 0 plain > 3
+. /. A: /. . N10: /. /. | 0 forward A > 3
+. /. A: /. . N10: /. /. | 3 backward A > 3
+. /. A: /. . N10: /. /. | 3 forward A > alarm 5
+. /. A: /. . N10: /. /. | 0 either N10 > past
+. /. A: /. . N10: /. /. | 3 plain > past
+IF /. /. /ELSE /. . ENDIF | 0 false > 5
+IF /. /. /ELSE /. . ENDIF | 0 true > 5
+. /REPEAT-A A: . | 0 plain > 2
+A: /. . /. REPEAT-A /. . | 3 again 2 > 1, plain > 1, plain > 5
+A: /. /. REPEAT-A REPEATB-A . | 2 again 9999 > 3
+A: /. /. REPEAT-A REPEATB-A . | 3 again 9999 > 4
+A: . /. REPEATB-A /. | 2 again 2 > 0, plain > 0, plain > past
+A: . B: /. REPEATB-B REPEAT-A /. . | 3 again 1 > 0, plain > 2, again 5 > 5
+A: . B: /. REPEATB-B REPEAT-A /. REPEAT-A | 3 again 1 > 0, plain > 2, again 5 > 5, again 1 > 0, plain > 2, again 0 > 3, again 0 > past
+";
 
 #[test]
 fn passes_over_blocks(rt: HostRuntime) -> Result<(), Fail> {
-    let alloc = rt.alloc();
-    let a = Target::Label(NameText::of_word(b"A"));
-    let ten = Target::Number(10);
-    let labels = ". /. A: /. . N10: /. /.";
-    let branches = "IF /. /. /ELSE /. . ENDIF";
-    let cases = [
-        (labels, 0, Plain, Ok(At(3))),
-        (labels, 0, Jump(Way::Forward, &a), Ok(At(3))),
-        (labels, 3, Jump(Way::Backward, &a), Ok(At(3))),
-        (labels, 3, Jump(Way::Forward, &a), Err(5)),
-        (labels, 0, Jump(Way::Either, &ten), Ok(Past)),
-        (labels, 3, Plain, Ok(Past)),
-        (branches, 0, Truth(false), Ok(At(5))),
-        (branches, 0, Truth(true), Ok(At(5))),
-        (". /REPEAT-A A: .", 0, Plain, Ok(At(2))),
-    ];
-    for (text, pc, outcome, expected) in cases.iter() {
-        run_over(&rt, alloc, text, *pc, &[(*outcome, *expected)])?;
+    for row in WAYS_OVER.lines() {
+        let (text, way) = row.split_once(" | ").unwrap_or((row, ""));
+        let flow = program(&rt, rt.alloc(), text)?;
+        let mut repeats = Repeats::new();
+        run_over(&rt, &flow, &mut repeats, way);
     }
     Ok(())
 }
@@ -331,53 +266,15 @@ fn first_blocks(rt: HostRuntime) -> Result<(), Fail> {
     ];
     for (text, as_it_is, over) in cases.iter() {
         let flow = program(&rt, rt.alloc(), text)?;
-        assert_eq!(rt; flow.first_counted(false), *as_it_is, "of {text}");
-        assert_eq!(rt; flow.first_counted(true), *over, "of {text}");
-        assert_eq!(rt; flow.has_counting(false), *as_it_is != Past, "of {text}");
-        assert_eq!(rt; flow.has_counting(true), *over != Past, "of {text}");
+        let first = flow.first_counted(false) == *as_it_is && flow.first_counted(true) == *over;
+        assert!(rt; first, "of {text}");
+        let as_it_is = flow.has_counting(false) == (*as_it_is != Past);
+        assert!(rt;
+            as_it_is && flow.has_counting(true) == (*over != Past),
+            "of {text}"
+        );
     }
     Ok(())
-}
-
-#[test]
-fn repeats_over_blocks(rt: HostRuntime) -> Result<(), Fail> {
-    let alloc = rt.alloc();
-    let range = "A: /. . /. REPEAT-A /. .";
-    let twice = [
-        (Again(2), Ok(At(1))),
-        (Plain, Ok(At(1))),
-        (Plain, Ok(At(5))),
-    ];
-    run_over(&rt, alloc, range, 3, &twice)?;
-    let idle = "A: /. /. REPEAT-A REPEATB-A .";
-    run_over(&rt, alloc, idle, 2, &[(Again(9999), Ok(At(3)))])?;
-    run_over(&rt, alloc, idle, 3, &[(Again(9999), Ok(At(4)))])?;
-    let single = [(Again(2), Ok(At(0))), (Plain, Ok(At(0))), (Plain, Ok(Past))];
-    run_over(&rt, alloc, "A: . /. REPEATB-A /.", 2, &single)?;
-    // The repetition of B is not begun, and its block ends a pass of that round it.
-    let nested = [
-        (Again(1), Ok(At(0))),
-        (Plain, Ok(At(2))),
-        (Again(5), Ok(At(5))),
-        (Again(1), Ok(At(0))),
-        (Plain, Ok(At(2))),
-        (Again(0), Ok(At(3))),
-        (Again(0), Ok(Past)),
-    ];
-    run_over(
-        &rt,
-        alloc,
-        "A: . B: /. REPEATB-B REPEAT-A /. .",
-        3,
-        &nested[..3],
-    )?;
-    run_over(
-        &rt,
-        alloc,
-        "A: . B: /. REPEATB-B REPEAT-A /. REPEAT-A",
-        3,
-        &nested,
-    )
 }
 
 #[test]
@@ -385,20 +282,14 @@ fn seventeenth_over_blocks(rt: HostRuntime) -> Result<(), Fail> {
     let text = "A: REPEATB-B B: REPEATB-A C: /. REPEATB-C .";
     let flow = program(&rt, rt.alloc(), text)?;
     let mut repeats = Repeats::new();
-    let idle = [(Again(9), Ok(At(4)))];
-    let four = [
-        (Again(1), Ok(At(1))),
-        (Again(1), Ok(At(0))),
-        (Again(1), Ok(At(1))),
-        (Again(1), Ok(At(0))),
-    ];
-    steps_over(&rt, &flow, &mut repeats, 3, &idle);
-    steps_over(&rt, &flow, &mut repeats, 0, &four);
-    steps_over(&rt, &flow, &mut repeats, 0, &four);
-    steps_over(&rt, &flow, &mut repeats, 0, &four);
-    steps_over(&rt, &flow, &mut repeats, 0, &four);
+    run_over(&rt, &flow, &mut repeats, "3 again 9 > 4");
+    let four = "0 again 1 > 1, again 1 > 0, again 1 > 1, again 1 > 0";
+    run_over(&rt, &flow, &mut repeats, four);
+    run_over(&rt, &flow, &mut repeats, four);
+    run_over(&rt, &flow, &mut repeats, four);
+    run_over(&rt, &flow, &mut repeats, four);
     // Sixteen run, so even one that repeats no block that counts is refused.
-    steps_over(&rt, &flow, &mut repeats, 3, &[(Again(9), Err(32))]);
+    run_over(&rt, &flow, &mut repeats, "3 again 9 > alarm 32");
     Ok(())
 }
 
@@ -416,33 +307,30 @@ fn nest(text: &str) -> (u16, u32) {
     (0, nest.open_line().unwrap_or(0))
 }
 
+/// Programs, with the code of the refusal, or 0, and the line of the structure that is open, or 0.
+const NESTS: &str = "\
+IF ELSE ENDIF WHILE ENDWHILE REPEAT UNTIL LOOP ENDLOOP FOR ENDFOR IF ENDIF => 0 0
+REPEAT-A . REPEATB-A => 0 0
+IF LOOP ENDLOOP WHILE => 0 4
+IF ELSE ELSE => 25 1
+ELSE => 25 0
+WHILE ELSE => 25 1
+IF WHILE ENDIF => 25 2
+UNTIL => 25 0
+LOOP ENDWHILE => 25 1
+REPEAT ENDFOR => 25 1
+IF IF IF IF IF IF IF IF IF IF IF IF IF IF IF IF ELSE => 0 16
+IF IF IF IF IF IF IF IF IF IF IF IF IF IF IF IF FOR => 26 16
+";
+
 #[test]
 fn nests(rt: HostRuntime) {
-    let cases = [
-        (
-            "IF ELSE ENDIF WHILE ENDWHILE REPEAT UNTIL LOOP ENDLOOP FOR ENDFOR IF ENDIF",
-            (0, 0),
-        ),
-        ("REPEAT-A . REPEATB-A", (0, 0)),
-        ("IF LOOP ENDLOOP WHILE", (0, 4)),
-        ("IF ELSE ELSE", (25, 1)),
-        ("ELSE", (25, 0)),
-        ("WHILE ELSE", (25, 1)),
-        ("IF WHILE ENDIF", (25, 2)),
-        ("UNTIL", (25, 0)),
-        ("LOOP ENDWHILE", (25, 1)),
-        ("REPEAT ENDFOR", (25, 1)),
-        (
-            "IF IF IF IF IF IF IF IF IF IF IF IF IF IF IF IF ELSE",
-            (0, 16),
-        ),
-        (
-            "IF IF IF IF IF IF IF IF IF IF IF IF IF IF IF IF FOR",
-            (26, 16),
-        ),
-    ];
-    for (text, expected) in cases.iter() {
-        assert_eq!(rt; nest(text), *expected, "of {text}");
+    for row in NESTS.lines() {
+        let (text, want) = row.split_once(" => ").unwrap_or((row, ""));
+        let (code, line) = want.split_once(" ").unwrap_or((want, ""));
+        let got = nest(text);
+        let is_code = u32::from(got.0) == number_of(&rt, code);
+        assert!(rt; is_code && got.1 == number_of(&rt, line), "of {row}");
     }
     structures_are_found();
 }

@@ -313,11 +313,8 @@ static ROWS: [(&str, Outcome); 211] = [
 #[test]
 fn reads_and_finds_values(rt: HostRuntime) -> Result<(), Fail> {
     for (line, want) in ROWS.iter() {
-        assert_eq!(rt;
-            outcome_of(&rt, rt.alloc(), line.as_bytes())?,
-            *want,
-            "{line}"
-        );
+        let got = outcome_of(&rt, rt.alloc(), line.as_bytes())?;
+        assert!(rt; got == *want, "{line}");
     }
     Ok(())
 }
@@ -326,22 +323,19 @@ fn reads_and_finds_values(rt: HostRuntime) -> Result<(), Fail> {
 fn reads_the_deepest_lines(rt: HostRuntime) -> Result<(), Fail> {
     let mut signs = [b'-'; 512];
     signs[511] = b'5';
-    assert_eq!(rt; outcome_of(&rt, rt.alloc(), &signs)?, Value(-5_000_000));
+    assert!(rt; outcome_of(&rt, rt.alloc(), &signs)? == Value(-5_000_000));
     let mut operators = [b'1'; 511];
     for i in 0..255 {
         operators[2 * i + 1] = b'-';
     }
-    assert_eq!(rt;
-        outcome_of(&rt, rt.alloc(), &operators)?,
-        Value(-254_000_000)
-    );
+    assert!(rt; outcome_of(&rt, rt.alloc(), &operators)? == Value(-254_000_000));
     let mut brackets = [b']'; 511];
     for i in 0..170 {
         brackets[2 * i] = b'R';
         brackets[2 * i + 1] = b'[';
     }
     brackets[340] = b'1';
-    assert_eq!(rt; outcome_of(&rt, rt.alloc(), &brackets)?, Value(0));
+    assert!(rt; outcome_of(&rt, rt.alloc(), &brackets)? == Value(0));
     Ok(())
 }
 
@@ -361,22 +355,23 @@ fn constant(rt: &impl Abort, alloc: Global, line: &str) -> Result<Result<(i64, u
     }
 }
 
+static CONSTANTS: [(&str, Result<(i64, usize), u16>); 10] = [
+    ("X5", Ok((5_000_000, 2))),
+    ("X-.5 Y", Ok((-500_000, 3))),
+    ("X +5", Ok((5_000_000, 3))),
+    ("X5 -3", Ok((5_000_000, 2))),
+    ("X--5", Err(22)),
+    ("X", Err(22)),
+    ("X(5)", Err(22)),
+    ("X TRUE", Err(22)),
+    ("X5E3", Err(22)),
+    ("X-5EX", Err(22)),
+];
+
 #[test]
 fn reads_constants(rt: HostRuntime) -> Result<(), Fail> {
-    let rows = [
-        ("X5", Ok((5_000_000, 2))),
-        ("X-.5 Y", Ok((-500_000, 3))),
-        ("X +5", Ok((5_000_000, 3))),
-        ("X5 -3", Ok((5_000_000, 2))),
-        ("X--5", Err(22)),
-        ("X", Err(22)),
-        ("X(5)", Err(22)),
-        ("X TRUE", Err(22)),
-        ("X5E3", Err(22)),
-        ("X-5EX", Err(22)),
-    ];
-    for (line, want) in rows {
-        assert_eq!(rt; constant(&rt, rt.alloc(), line)?, want, "{line}");
+    for (line, want) in CONSTANTS.iter() {
+        assert!(rt; constant(&rt, rt.alloc(), line)? == *want, "{line}");
     }
     one_tree_at_most();
     Ok(())

@@ -2,175 +2,119 @@
 use Kind::{Letter, Name, Number, Text};
 use block_scanner::*;
 use std::alloc::Global;
+use std::process::Abort;
 use std::test::Fail;
 
-/// A token as it is written here: its kind, and the places of its first byte and behind its last.
-type Expected = (Kind, u16, u16);
-
-fn is_expected(token: &Token, want: &Expected) -> bool {
-    token.kind == want.0 && token.start == want.1 && token.end == want.2
+/// Puts one token behind a text as it is written here: a letter by itself, a sign by its name, another by
+/// its kind, and then the places of its first byte and behind its last.
+fn put_token(text: &mut String, alloc: Global, token: &Token) -> Result<(), Fail> {
+    match token.kind {
+        Kind::Sign(sign) => text.push_str(format!(in alloc; "{sign:?}")?.as_str())?,
+        Letter(letter) => text.push(char::from(letter))?,
+        Number => text.push_str("number")?,
+        Name => text.push_str("name")?,
+        Text => text.push_str("text")?,
+    }
+    text.push_str(format!(in alloc; " {} {},", token.start, token.end)?.as_str())?;
+    Ok(())
 }
 
-/// Whether a line has these tokens.
-fn has_tokens(alloc: Global, line: &[u8], want: &[Expected]) -> bool {
-    if line.len() > 512 {
-        return false;
+/// The tokens of a line, each with a comma behind it, or its fault.
+fn tokens_of(rt: &impl Abort, alloc: Global, line: &str) -> Result<String, Fail> {
+    assert!(rt; line.len() <= 512);
+    let words = match scan(alloc, line.as_bytes()) {
+        Ok(words) => words,
+        Err(ScanFault::BadByte(place)) => return Ok(format!(in alloc; "bad byte {place}")?),
+        Err(ScanFault::OpenText(place)) => return Ok(format!(in alloc; "open text {place}")?),
+        Err(fault) => return Err(fault.into()),
+    };
+    let mut text = String::new(alloc);
+    for token in words.tokens.iter() {
+        put_token(&mut text, alloc, token)?;
     }
-    match scan(alloc, line) {
-        Ok(words) => {
-            words.tokens.len() == want.len()
-                && words
-                    .tokens
-                    .iter()
-                    .zip(want)
-                    .all(|(token, one)| is_expected(token, one))
+    Ok(text)
+}
+
+/// Lines, with their tokens or the leftmost fault.
+const LINES: &str = "\
++ => Plus 0 1,
+- => Minus 0 1,
+* => Times 0 1,
+/ => Slash 0 1,
+= => Assign 0 1,
+< => Less 0 1,
+> => Greater 0 1,
+( => OpenParenthesis 0 1,
+) => CloseParenthesis 0 1,
+[ => OpenBracket 0 1,
+] => CloseBracket 0 1,
+, => Comma 0 1,
+: => Colon 0 1,
+$ => Dollar 0 1,
+== => Equal 0 2,
+<> => NotEqual 0 2,
+<= => LessEqual 0 2,
+>= => GreaterEqual 0 2,
+N10 g1x5.5 => N 0 1,number 1 3,G 4 5,number 5 6,X 6 7,number 7 10,
+a b => A 0 1,B 2 3,
+ab => name 0 2,
+z_ => name 0 2,
+__ => name 0 2,
+_a1_2;x => name 0 5,
+1.2.3 => number 0 3,number 3 5,
+1..5 => number 0 2,number 2 4,
+5. => number 0 2,
+.5E3 => number 0 2,E 2 3,number 3 4,
+<== => LessEqual 0 2,Assign 2 3,
+=== == => Equal 0 2,Assign 2 3,Equal 4 6,
+><\t> => Greater 0 1,Less 1 2,Greater 3 4,
+\"\" => text 0 2,
+\"a;'b\"\"\" ;\" => text 0 6,text 6 8,
+# The leftmost fault.
+_ => bad byte 0
+X_ _5 => bad byte 3
+. => bad byte 0
+1. . => bad byte 3
+' => bad byte 0
+X\0 => bad byte 1
+X% => bad byte 1
+X'\" => bad byte 1
+X\r => bad byte 1
+X~ ' => bad byte 1
+\" => open text 0
+X \"a' => open text 2
+\"a\" \"; => open text 4
+";
+
+#[test]
+fn reads_lines(rt: HostRuntime) -> Result<(), Fail> {
+    for line in ["", " \t ", "; '_\0"] {
+        assert!(rt; tokens_of(&rt, rt.alloc(), line)?.is_empty());
+    }
+    for row in LINES.lines() {
+        if !row.starts_with('#') {
+            let (line, want) = row.split_once(" => ").ok_or("no row")?;
+            assert!(rt; tokens_of(&rt, rt.alloc(), line)?.as_str() == want, "{row}");
         }
-        Err(_) => false,
     }
-}
-
-/// The fault of a line, or none where it has tokens.
-fn fault_of(alloc: Global, line: &[u8]) -> Option<ScanFault> {
-    if line.len() > 512 {
-        return None;
-    }
-    match scan(alloc, line) {
-        Ok(_) => None,
-        Err(fault) => Some(fault),
-    }
-}
-
-#[test]
-fn reads_signs(rt: HostRuntime) {
-    let one_byte = [
-        ("+", Sign::Plus),
-        ("-", Sign::Minus),
-        ("*", Sign::Times),
-        ("/", Sign::Slash),
-        ("=", Sign::Assign),
-        ("<", Sign::Less),
-        (">", Sign::Greater),
-        ("(", Sign::OpenParenthesis),
-        (")", Sign::CloseParenthesis),
-        ("[", Sign::OpenBracket),
-        ("]", Sign::CloseBracket),
-        (",", Sign::Comma),
-        (":", Sign::Colon),
-        ("$", Sign::Dollar),
-    ];
-    for (line, sign) in one_byte {
-        let want = [(Kind::Sign(sign), 0, 1)];
-        assert!(rt; has_tokens(rt.alloc(), line.as_bytes(), &want), "{line}");
-    }
-    let two_bytes = [
-        ("==", Sign::Equal),
-        ("<>", Sign::NotEqual),
-        ("<=", Sign::LessEqual),
-        (">=", Sign::GreaterEqual),
-    ];
-    for (line, sign) in two_bytes {
-        let want = [(Kind::Sign(sign), 0, 2)];
-        assert!(rt; has_tokens(rt.alloc(), line.as_bytes(), &want), "{line}");
-    }
-}
-
-#[test]
-fn reads_lines(rt: HostRuntime) {
-    let cases: [(&str, &[Expected]); 18] = [
-        ("", &[]),
-        (" \t ", &[]),
-        ("; '_\0", &[]),
-        (
-            "N10 g1x5.5",
-            &[
-                (Letter(b'N'), 0, 1),
-                (Number, 1, 3),
-                (Letter(b'G'), 4, 5),
-                (Number, 5, 6),
-                (Letter(b'X'), 6, 7),
-                (Number, 7, 10),
-            ],
-        ),
-        ("a b", &[(Letter(b'A'), 0, 1), (Letter(b'B'), 2, 3)]),
-        ("ab", &[(Name, 0, 2)]),
-        ("z_", &[(Name, 0, 2)]),
-        ("__", &[(Name, 0, 2)]),
-        ("_a1_2;x", &[(Name, 0, 5)]),
-        ("1.2.3", &[(Number, 0, 3), (Number, 3, 5)]),
-        ("1..5", &[(Number, 0, 2), (Number, 2, 4)]),
-        ("5.", &[(Number, 0, 2)]),
-        (
-            ".5E3",
-            &[(Number, 0, 2), (Letter(b'E'), 2, 3), (Number, 3, 4)],
-        ),
-        (
-            "<==",
-            &[
-                (Kind::Sign(Sign::LessEqual), 0, 2),
-                (Kind::Sign(Sign::Assign), 2, 3),
-            ],
-        ),
-        (
-            "=== ==",
-            &[
-                (Kind::Sign(Sign::Equal), 0, 2),
-                (Kind::Sign(Sign::Assign), 2, 3),
-                (Kind::Sign(Sign::Equal), 4, 6),
-            ],
-        ),
-        (
-            "><\t>",
-            &[
-                (Kind::Sign(Sign::Greater), 0, 1),
-                (Kind::Sign(Sign::Less), 1, 2),
-                (Kind::Sign(Sign::Greater), 3, 4),
-            ],
-        ),
-        ("\"\"", &[(Text, 0, 2)]),
-        ("\"a;'b\"\"\" ;\"", &[(Text, 0, 6), (Text, 6, 8)]),
-    ];
-    for (line, want) in cases {
-        assert!(rt; has_tokens(rt.alloc(), line.as_bytes(), want), "{line}");
-    }
-}
-
-#[test]
-fn finds_leftmost_fault(rt: HostRuntime) {
-    let cases = [
-        ("_", ScanFault::BadByte(0)),
-        ("X_ _5", ScanFault::BadByte(3)),
-        (".", ScanFault::BadByte(0)),
-        ("1. .", ScanFault::BadByte(3)),
-        ("'", ScanFault::BadByte(0)),
-        ("X\0", ScanFault::BadByte(1)),
-        ("X%", ScanFault::BadByte(1)),
-        ("X'\"", ScanFault::BadByte(1)),
-        ("X\r", ScanFault::BadByte(1)),
-        ("X~ '", ScanFault::BadByte(1)),
-        ("\"", ScanFault::OpenText(0)),
-        ("X \"a'", ScanFault::OpenText(2)),
-        ("\"a\" \";", ScanFault::OpenText(4)),
-    ];
-    for (line, want) in cases {
-        assert_eq!(rt; fault_of(rt.alloc(), line.as_bytes()), Some(want), "{line}");
-    }
+    Ok(())
 }
 
 #[test]
 fn reads_longest_line(rt: HostRuntime) -> Result<(), Fail> {
     let line = [b'+'; 512];
     let words = scan(rt.alloc(), &line)?;
-    assert_eq!(rt; words.tokens.len(), 512);
+    assert!(rt; words.tokens.len() == 512);
     let last = words.tokens.last().ok_or("no token")?;
-    assert_eq!(rt; (last.start, last.end), (511, 512));
+    assert!(rt; last.start == 511 && last.end == 512);
     Ok(())
 }
 
 #[test]
 fn tells_text_of_token(rt: HostRuntime) -> Result<(), Fail> {
     let words = scan(rt.alloc(), b"X \"a\"")?;
-    assert_eq!(rt; words.tokens.len(), 2);
-    assert_eq!(rt; words.text(&words.token(1)), b"\"a\"".as_slice());
+    assert!(rt; words.tokens.len() == 2);
+    assert!(rt; words.text(&words.token(1)) == b"\"a\"".as_slice());
     assert!(rt; is_blank(b'\t') && !is_blank(b'\n'));
     assert!(rt; is_name_start(b'_') && !is_name_start(b'1'));
     assert!(rt; is_name_part(b'1') && !is_name_part(b'-'));

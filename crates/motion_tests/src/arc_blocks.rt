@@ -1,7 +1,8 @@
 //! Blocks with arcs, with the axes between which they turn, their ends and their centres in micrometres, on
 //! the lathe of the blocks of axis words. The folder rows has many more.
 
-use crate::block_moves::{Lathe, after, bare_lathe, owned, value};
+use crate::block_moves::{Lathe, after, bare_lathe, columns, no_targets, owned, take, value};
+use crate::tables::is_row;
 use arc_moves::*;
 use axis_moves::{Programmed, Targets, make_item};
 use axis_sets::Positions;
@@ -14,10 +15,6 @@ use std::process::Abort;
 use std::test::Fail;
 use sync_types::Item;
 
-/// A block: its G words and names, the values of its letters, and its motion or its alarm. The letters C and W
-/// are the axes C1 and W1, and R is the radius. A block under G1 is a line.
-type Row = (&'static str, &'static str, &'static str);
-
 /// What a block programs.
 #[derive(Drop)]
 struct Block {
@@ -26,19 +23,16 @@ struct Block {
 }
 
 impl Block {
-    /// Takes the value of a letter.
-    fn take(&mut self, letter: u8, value: Option<Programmed>) {
+    /// Takes the value of a letter: I, J and K are of the centre, R is the radius, and the others are targets.
+    fn take(&mut self, letter: u8, value: Option<Programmed>) -> bool {
         match letter {
-            b'X' => self.targets.slots[0] = value,
-            b'Y' => self.targets.slots[1] = value,
-            b'Z' => self.targets.slots[2] = value,
-            b'C' => self.targets.axes[3] = value,
-            b'W' => self.targets.axes[4] = value,
             b'I' => self.words.centre[0] = value,
             b'J' => self.words.centre[1] = value,
             b'K' => self.words.centre[2] = value,
-            _ => self.words.radius = number(value),
+            b'R' => self.words.radius = number(value),
+            _ => return take(&mut self.targets, letter, value),
         }
+        true
     }
 }
 
@@ -50,37 +44,20 @@ fn number(value: Option<Programmed>) -> Option<Num> {
 }
 
 /// A block as its text programs it.
-fn block_of(text: &str) -> Result<Block, Fail> {
+fn block_of(rt: &impl Abort, text: &str) -> Result<Block, Fail> {
     let mut block = Block {
-        targets: Targets {
-            slots: [None; 3],
-            axes: [None; 16],
-        },
+        targets: no_targets(),
         words: ArcWords {
             centre: [None; 3],
             radius: None,
         },
     };
-    for word in text.split(' ') {
+    for word in text.split_whitespace() {
         if let [letter, digits @ ..] = word.as_bytes() {
-            block.take(*letter, value(digits)?);
+            assert!(rt; block.take(*letter, value(digits)?), "in {word}");
         }
     }
     Ok(block)
-}
-
-/// The modal words after the words of a block.
-fn after_all(modal: &Modal, text: &str) -> Result<Modal, Fail> {
-    let mut modal = *modal;
-    for word in text.split(' ') {
-        modal = after(&modal, word)?;
-    }
-    Ok(modal)
-}
-
-/// Whether a block has the word G1.
-fn is_line(text: &str) -> bool {
-    text.split(' ').any(|word| word == "G1")
 }
 
 /// The axes between which a motion turns as text.
@@ -114,7 +91,7 @@ fn said(
 ) -> Result<String, Fail> {
     let mut text = String::new(alloc);
     if let Some(item) = item {
-        assert_eq!(rt; item.line, 7);
+        assert!(rt; item.line == 7);
         text.push_str(turn_of(alloc, item.motion())?.as_str())?;
         for (axis, _, end) in item.motion().ends().axes.as_slice() {
             assert!(rt; at.get(*axis) == Some(*end));
@@ -127,24 +104,30 @@ fn said(
     Ok(text)
 }
 
-/// The motion of a block, or its alarm.
-fn made(lathe: &mut Lathe, row: &Row) -> Result<Result<Option<Item>, u16>, Fail> {
-    let block = block_of(row.1)?;
+/// The motion of a block, or its alarm. A block whose last G word is G1 is a line.
+fn made(lathe: &mut Lathe, words: &str, block: &Block) -> Result<Option<Item>, u16> {
     let (slots, conditions, at) = (&lathe.slots, &lathe.conditions, &mut lathe.at);
-    Ok(if is_line(row.0) {
+    if words.trim_end().ends_with("G1") {
         make_item(7, slots, owned(), conditions, &block.targets, at)
     } else {
         let (targets, words) = (&block.targets, &block.words);
         make_arc(7, slots, owned(), conditions, targets, words, at)
-    })
+    }
 }
 
 /// Does a block, and says its motion or its alarm, after which nothing of the block stands.
-fn done(rt: &impl Abort, alloc: Global, lathe: &mut Lathe, row: &Row) -> Result<String, Fail> {
+fn done(
+    rt: &impl Abort,
+    alloc: Global,
+    lathe: &mut Lathe,
+    words: &str,
+    letters: &str,
+) -> Result<String, Fail> {
     let modal = lathe.conditions.modal;
-    lathe.conditions.modal = after_all(&modal, row.0)?;
+    lathe.conditions.modal = after(&modal, words)?;
     let before = lathe.at;
-    match made(lathe, row)? {
+    let block = block_of(rt, letters)?;
+    match made(lathe, words, &block) {
         Ok(item) => said(rt, alloc, &item, &lathe.at),
         Err(code) => {
             assert!(rt; lathe.at == before);
@@ -155,53 +138,57 @@ fn done(rt: &impl Abort, alloc: Global, lathe: &mut Lathe, row: &Row) -> Result<
 }
 
 /// Does blocks one after another.
-fn do_all(rt: &impl Abort, alloc: Global, lathe: &mut Lathe, rows: &[Row]) -> Result<(), Fail> {
-    for row in rows {
-        let text = done(rt, alloc, lathe, row)?;
-        assert_eq!(rt; text.as_str(), row.2);
+fn do_all(rt: &impl Abort, alloc: Global, lathe: &mut Lathe, rows: &str) -> Result<(), Fail> {
+    for row in rows.lines() {
+        if is_row(row) {
+            let (words, letters, want) = columns(row).ok_or("no columns")?;
+            let text = done(rt, alloc, lathe, words, letters)?;
+            assert!(rt; text.as_str().trim_end() == want, "of {row}");
+        }
     }
     Ok(())
 }
 
-/// With no frame and no offset.
-static PLANES: [Row; 12] = [
-    ("G1", "X0 Z10", "0:0 2:10000 "),
-    ("G3", "X10 Z0 I0 K-10", "2>0 0:10000 2:0 at 0 0"),
-    ("G2", "X0 Z10 R10", "0>2 0:0 2:10000 at 0 0"),
-    ("", "X10 Z0 R-10", "0>2 0:10000 2:0 at 0 0"),
-    ("", "X-10 Z0 C7 I-10", "0>2 0:-10000 2:0 3:7000 at 0 0"),
-    ("G17 G1", "X10 Y0 Z0", "0:10000 1:0 2:0 "),
-    ("G2", "X0 Y-10 I-10", "1>0 0:0 1:-10000 at 0 0"),
-    ("G19 G1", "X1 Y10 Z0", "0:1000 1:10000 2:0 "),
-    ("G2", "Y0 Z-10 J-10", "2>1 1:0 2:-10000 at 0 0"),
-    ("", "", ""),
-    ("G18 G1", "X10 Z0", "0:10000 2:0 "),
-    ("G91 G3", "XA0 Z-10 IA0 KA0", "2>0 0:0 2:-10000 at 0 0"),
-];
+/// Blocks with no frame and no offset: their G words, the values of their letters, and their turn, the ends of
+/// their axes and their centre. A value has A before it for AC.
+const PLANES: &str = "
+G1     | X0 Z10           | 0:0 2:10000
+G3     | X10 Z0 I0 K-10   | 2>0 0:10000 2:0 at 0 0
+G2     | X0 Z10 R10       | 0>2 0:0 2:10000 at 0 0
+       | X10 Z0 R-10      | 0>2 0:10000 2:0 at 0 0
+       | X-10 Z0 C7 I-10  | 0>2 0:-10000 2:0 3:7000 at 0 0
+G17 G1 | X10 Y0 Z0        | 0:10000 1:0 2:0
+G2     | X0 Y-10 I-10     | 1>0 0:0 1:-10000 at 0 0
+G19 G1 | X1 Y10 Z0        | 0:1000 1:10000 2:0
+G2     | Y0 Z-10 J-10     | 2>1 1:0 2:-10000 at 0 0
+       |                  |
+G18 G1 | X10 Z0           | 0:10000 2:0
+G91 G3 | XA0 Z-10 IA0 KA0 | 2>0 0:0 2:-10000 at 0 0
+";
 
-/// With no frame and no offset.
-static ALARMS: [Row; 11] = [
-    ("G3", "", ""),
-    ("", "X5 Z5", "ALARM 18"),
-    ("", "X5 J1", "ALARM 19"),
-    ("", "X10000.001 I1", "ALARM 13"),
-    ("", "W5 I1", "ALARM 15"),
-    ("", "X20 I10001", "ALARM 13"),
-    ("", "X20 I0", "ALARM 22"),
-    ("", "X5 I-9", "ALARM 20"),
-    ("", "X10.010 I-20", "ALARM 21"),
-    ("", "X30 R0.0004", "ALARM 22"),
-    ("G1", "X5", "0:5000 "),
-];
+/// Blocks with no frame and no offset, of which most have an alarm.
+const ALARMS: &str = "
+G3 |               |
+   | X5 Z5         | ALARM 18
+   | X5 J1         | ALARM 19
+   | X10000.001 I1 | ALARM 13
+   | W5 I1         | ALARM 15
+   | X20 I10001    | ALARM 13
+   | X20 I0        | ALARM 22
+   | X5 I-9        | ALARM 20
+   | X10.010 I-20  | ALARM 21
+   | X30 R0.0004   | ALARM 22
+G1 | X5            | 0:5000
+";
 
 #[test]
 fn arcs_turn_in_their_planes(rt: HostRuntime) -> Result<(), Fail> {
     arcs_begin_where_axes_stand();
     alarms_are_listed();
-    do_all(&rt, rt.alloc(), &mut bare_lathe(Frame::empty()), &PLANES)
+    do_all(&rt, rt.alloc(), &mut bare_lathe(Frame::empty()), PLANES)
 }
 
 #[test]
 fn alarms_of_arcs_come_in_their_order(rt: HostRuntime) -> Result<(), Fail> {
-    do_all(&rt, rt.alloc(), &mut bare_lathe(Frame::empty()), &ALARMS)
+    do_all(&rt, rt.alloc(), &mut bare_lathe(Frame::empty()), ALARMS)
 }

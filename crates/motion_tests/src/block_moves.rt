@@ -1,6 +1,7 @@
 //! Blocks of axis words, with the ends of their motions in micrometres. The axes are X1, Y1, Z1 and C1 of
 //! the channel, and W1 of another one; their numbers are 0 to 4.
 
+use crate::tables::is_row;
 use axis_moves::*;
 use axis_sets::{AxisId, AxisSet, Positions};
 use frames::Frame;
@@ -11,9 +12,6 @@ use std::alloc::Global;
 use std::process::Abort;
 use std::test::Fail;
 use sync_types::Item;
-
-/// The words of a block: its G words and names, the values of X, Y, Z, C1 and W1, and its motion or its alarm.
-type Row = (&'static str, [&'static str; 5], &'static str);
 
 /// What stays from block to block.
 #[derive(Drop)]
@@ -70,32 +68,28 @@ pub(crate) fn owned() -> AxisSet {
         .with(AxisId { index: 3 })
 }
 
+fn modal_word(text: &str) -> Option<GWord> {
+    let (group, code) = match text {
+        "G1" => (1, 1),
+        "G2" => (1, 2),
+        "G3" => (1, 3),
+        "G17" => (6, 17),
+        "G18" => (6, 18),
+        "G19" => (6, 19),
+        "G90" => (14, 90),
+        "G91" => (14, 91),
+        _ => return None,
+    };
+    Some(GWord { group, code })
+}
+
 /// The modal words after the words of a block.
-pub(crate) fn after(modal: &Modal, words: &str) -> Result<Modal, u16> {
-    let measure = |code| GWord { group: 14, code };
-    let of_block = |code| GWord { group: 9, code };
-    let diameter = |code| GWord { group: 29, code };
-    let plane = |code| GWord { group: 6, code };
-    let motion = |code| GWord { group: 1, code };
-    match words {
-        "G90" => apply(modal, &[measure(90)]),
-        "G91" => apply(modal, &[measure(91)]),
-        "G53" => apply(modal, &[of_block(53)]),
-        "G90 G53" => apply(modal, &[measure(90), of_block(53)]),
-        "G91 G153" => apply(modal, &[measure(91), of_block(153)]),
-        "G90 SUPA" => apply(modal, &[measure(90), of_block(3)]),
-        "SUPA" => apply(modal, &[of_block(3)]),
-        "G1" => apply(modal, &[motion(1)]),
-        "G2" => apply(modal, &[motion(2)]),
-        "G3" => apply(modal, &[motion(3)]),
-        "G17" => apply(modal, &[plane(17)]),
-        "G18" => apply(modal, &[plane(18)]),
-        "G19" => apply(modal, &[plane(19)]),
-        "DIAMON" => apply(modal, &[diameter(1)]),
-        "DIAMOF" => apply(modal, &[diameter(2)]),
-        "DIAM90" => apply(modal, &[diameter(3)]),
-        _ => apply(modal, &[]),
+pub(crate) fn after(modal: &Modal, text: &str) -> Result<Modal, Fail> {
+    let mut modal = apply(modal, &[])?;
+    for word in text.split_whitespace() {
+        modal = apply(&modal, &[modal_word(word).ok_or("no G word")?])?;
     }
+    Ok(modal)
 }
 
 /// A value, as it stands behind the letter of its axis, with A for AC and I for IC; none of an empty text.
@@ -118,18 +112,43 @@ fn programmed(measure: Measure, text: &[u8]) -> Result<Programmed, Fail> {
     Ok(Programmed { measure, value })
 }
 
+/// What a block without words programs.
+pub(crate) fn no_targets() -> Targets {
+    Targets {
+        slots: [None; 3],
+        axes: [None; 16],
+    }
+}
+
+/// Takes the value of a letter: X, Y and Z are slots, C and W are the axes C1 and W1. Any other letter is left.
+pub(crate) fn take(targets: &mut Targets, letter: u8, value: Option<Programmed>) -> bool {
+    match letter {
+        b'X' => targets.slots[0] = value,
+        b'Y' => targets.slots[1] = value,
+        b'Z' => targets.slots[2] = value,
+        b'C' => targets.axes[3] = value,
+        b'W' => targets.axes[4] = value,
+        _ => return false,
+    }
+    true
+}
+
 /// What a block programs.
-fn targets(texts: &[&str; 5]) -> Result<Targets, Fail> {
-    let mut axes = [None; 16];
-    axes[3] = value(texts[3].as_bytes())?;
-    axes[4] = value(texts[4].as_bytes())?;
-    let [x, y, z] = [texts[0], texts[1], texts[2]];
-    let slots = [
-        value(x.as_bytes())?,
-        value(y.as_bytes())?,
-        value(z.as_bytes())?,
-    ];
-    Ok(Targets { slots, axes })
+fn targets(rt: &impl Abort, text: &str) -> Result<Targets, Fail> {
+    let mut targets = no_targets();
+    for word in text.split_whitespace() {
+        if let [letter, digits @ ..] = word.as_bytes() {
+            assert!(rt; take(&mut targets, *letter, value(digits)?), "in {word}");
+        }
+    }
+    Ok(targets)
+}
+
+/// The words of a row, the values of its letters, and its motion or its alarm, between bars.
+pub(crate) fn columns(row: &str) -> Option<(&str, &str, &str)> {
+    let (words, rest) = row.split_once('|')?;
+    let (letters, answer) = rest.split_once('|')?;
+    Some((words, letters, answer.trim()))
 }
 
 /// The motion of a block on line 7 as text: each of its axes with its start and its end, where it stands now.
@@ -141,7 +160,7 @@ fn said(
 ) -> Result<String, Fail> {
     let mut text = String::new(alloc);
     if let Some(item) = item {
-        assert_eq!(rt; item.line, 7);
+        assert!(rt; item.line == 7);
         for (axis, start, end) in item.motion().ends().axes.as_slice() {
             assert!(rt; at.get(*axis) == Some(*end));
             let axis = axis.index;
@@ -154,10 +173,16 @@ fn said(
 }
 
 /// Does a block, and says its motion or its alarm, after which no axis has moved.
-fn done(rt: &impl Abort, alloc: Global, lathe: &mut Lathe, row: &Row) -> Result<String, Fail> {
-    lathe.conditions.modal = after(&lathe.conditions.modal, row.0)?;
+fn done(
+    rt: &impl Abort,
+    alloc: Global,
+    lathe: &mut Lathe,
+    words: &str,
+    letters: &str,
+) -> Result<String, Fail> {
+    lathe.conditions.modal = after(&lathe.conditions.modal, words)?;
     let before = lathe.at;
-    let targets = targets(&row.1)?;
+    let targets = targets(rt, letters)?;
     match make_item(
         7,
         &lathe.slots,
@@ -175,59 +200,59 @@ fn done(rt: &impl Abort, alloc: Global, lathe: &mut Lathe, row: &Row) -> Result<
 }
 
 /// Does blocks one after another.
-fn do_all(rt: &impl Abort, alloc: Global, lathe: &mut Lathe, rows: &[Row]) -> Result<(), Fail> {
-    for row in rows {
-        let text = done(rt, alloc, lathe, row)?;
-        assert_eq!(rt; text.as_str(), row.2);
+fn do_all(rt: &impl Abort, alloc: Global, lathe: &mut Lathe, rows: &str) -> Result<(), Fail> {
+    for row in rows.lines() {
+        if is_row(row) {
+            let (words, letters, want) = columns(row).ok_or("no columns")?;
+            let text = done(rt, alloc, lathe, words, letters)?;
+            assert!(rt; text.as_str().trim_end() == want, "of {row}");
+        }
     }
     Ok(())
 }
 
-/// Under G54, with no frame.
-static ENDS: [Row; 9] = [
-    ("", ["5", "", "2", "", ""], "0:10000:6000 2:0:52000 "),
-    (
-        "G91",
-        ["5", "", "-2", "", ""],
-        "0:6000:11000 2:52000:50000 ",
-    ),
-    ("", ["A7", "", "I3", "", ""], "0:11000:8000 2:50000:53000 "),
-    ("", ["", "", "", "20", ""], "3:0:20000 "),
-    ("G90", ["", "", "", "A3", ""], "3:20000:3000 "),
-    ("", ["", "", "", "I2.0005", ""], "3:3000:5001 "),
-    ("", ["I1", "3", "", "", ""], "0:8000:9000 1:5000:3000 "),
-    ("", ["", "", "", "", ""], ""),
-    ("", ["8", "", "", "", ""], "0:9000:9000 "),
-];
+/// Blocks under G54, with no frame: their G words, the values of their letters, and the axes of their motion with
+/// start and end. A value has A before it for AC and I for IC.
+const ENDS: &str = "
+    | X5 Z2    | 0:10000:6000 2:0:52000
+G91 | X5 Z-2   | 0:6000:11000 2:52000:50000
+    | XA7 ZI3  | 0:11000:8000 2:50000:53000
+    | C20      | 3:0:20000
+G90 | CA3      | 3:20000:3000
+    | CI2.0005 | 3:3000:5001
+    | XI1 Y3   | 0:8000:9000 1:5000:3000
+    |          |
+    | X8       | 0:9000:9000
+";
 
-/// With no offset and no frame.
-static ALARMS: [Row; 15] = [
-    ("", ["10000", "", "", "", ""], "0:10000:10000000 "),
-    ("", ["10000.001", "", "", "", ""], "ALARM 13"),
-    ("", ["I0.001", "", "", "", ""], "ALARM 13"),
-    ("", ["I-20000", "", "", "", ""], "0:10000000:-10000000 "),
-    ("", ["I20000.001", "", "", "", ""], "ALARM 13"),
-    ("", ["10000.0004", "", "", "", ""], "0:-10000000:10000000 "),
-    ("", ["10000.0005", "", "", "", ""], "ALARM 13"),
-    ("", ["", "", "", "-10000.001", ""], "ALARM 13"),
-    ("", ["", "", "", "", "I20000"], "ALARM 15"),
-    ("", ["", "", "", "", "I20000.001"], "ALARM 13"),
-    ("", ["", "", "", "", "I-20000.0005"], "ALARM 13"),
-    ("", ["", "", "", "", "10000.001"], "ALARM 13"),
-    ("", ["10001", "", "", "", "5"], "ALARM 13"),
-    ("", ["1", "", "", "", "5"], "ALARM 15"),
-    ("", ["1", "2", "", "", ""], "0:10000000:1000 1:5000:2000 "),
-];
+/// Blocks with no offset and no frame.
+const ALARMS: &str = "
+ | X10000        | 0:10000:10000000
+ | X10000.001    | ALARM 13
+ | XI0.001       | ALARM 13
+ | XI-20000      | 0:10000000:-10000000
+ | XI20000.001   | ALARM 13
+ | X10000.0004   | 0:-10000000:10000000
+ | X10000.0005   | ALARM 13
+ | C-10000.001   | ALARM 13
+ | WI20000       | ALARM 15
+ | WI20000.001   | ALARM 13
+ | WI-20000.0005 | ALARM 13
+ | W10000.001    | ALARM 13
+ | X10001 W5     | ALARM 13
+ | X1 W5         | ALARM 15
+ | X1 Y2         | 0:10000000:1000 1:5000:2000
+";
 
 #[test]
 fn axes_go_to_their_ends(rt: HostRuntime) -> Result<(), Fail> {
     motions_begin_where_axes_stand();
     alarms_are_listed();
     let mut lathe = lathe_with_offsets(Frame::empty());
-    do_all(&rt, rt.alloc(), &mut lathe, &ENDS)
+    do_all(&rt, rt.alloc(), &mut lathe, ENDS)
 }
 
 #[test]
 fn alarms_come_in_their_order(rt: HostRuntime) -> Result<(), Fail> {
-    do_all(&rt, rt.alloc(), &mut bare_lathe(Frame::empty()), &ALARMS)
+    do_all(&rt, rt.alloc(), &mut bare_lathe(Frame::empty()), ALARMS)
 }

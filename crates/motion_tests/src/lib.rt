@@ -22,3 +22,5 @@ mod paths;
 mod quarters;
 #[cfg(test)]
 mod sets;
+#[cfg(test)]
+mod tables;

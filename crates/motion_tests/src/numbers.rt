@@ -1,5 +1,5 @@
-use Call::*;
-use NumFault::{DivideByZero, NegativeRoot, TooLarge};
+use crate::tables::is_row;
+use NumFault::{DivideByZero, NegativeRoot, NotANumber, TooLarge};
 use micro_units::*;
 use std::test::Fail;
 
@@ -12,200 +12,195 @@ fn num(millionths: i64) -> Result<Num, NumFault> {
 }
 
 fn count(answer: Result<Num, NumFault>) -> Result<i64, NumFault> {
-    answer.map(|n| n.millionths)
+    Ok(answer?.millionths)
 }
 
 fn length(answer: Result<Um, NumFault>) -> Result<i64, NumFault> {
-    answer.map(|u| i64::from(u.micrometres))
+    Ok(i64::from(answer?.micrometres))
+}
+
+/// An answer of a row: a number or the name of a fault.
+fn wanted(text: &str) -> Option<Result<i64, NumFault>> {
+    match text {
+        "NotANumber" => Some(Err(NotANumber)),
+        "TooLarge" => Some(Err(TooLarge)),
+        "DivideByZero" => Some(Err(DivideByZero)),
+        "NegativeRoot" => Some(Err(NegativeRoot)),
+        number => Some(Ok(number.parse::<i64>().ok()?)),
+    }
+}
+
+/// Texts between quotes, with their millionths or a fault.
+const READ: &str = "
+'' => NotANumber
+'.' => NotANumber
+'1.2.3' => NotANumber
+'-5' => NotANumber
+'5 ' => NotANumber
+'5' => 5000000
+'5.' => 5000000
+'.5' => 500000
+'007.50' => 7500000
+'.0000015' => 2
+'.0000014999' => 1
+'0.44444449999999999999999999999999999999' => 444444
+'00000000000000000000000000000000000000001' => 1000000
+'99999999.9999994' => 99999999999999
+'99999999.9999995' => TooLarge
+'99999999.9999996' => TooLarge
+'9999999999999999999999999999999999999999' => TooLarge
+";
+
+/// What a text between quotes reads as.
+fn read(text: &str) -> Option<Result<i64, NumFault>> {
+    let text = text.strip_prefix('\'')?.strip_suffix('\'')?;
+    Some(count(Num::parse(text.as_bytes())))
+}
+
+/// Calls with two numbers of millionths, calculated with exact fractions outside this program. They answer millionths, or
+/// the last two micrometres, or a fault. A call on one number leaves the second.
+const CALCULATED: &str = "
+Add 99999999999998 2 => TooLarge
+Add -99999999999999 -99999999999999 => TooLarge
+Add 0 -99999999999999 => -99999999999999
+Add 99999999999998 1 => 99999999999999
+Add -99999999999994 6 => -99999999999988
+Add -99999999999992 -7 => -99999999999999
+Sub 99999999999995 -6 => TooLarge
+Sub -99999999999999 7 => TooLarge
+Sub 0 99999999999999 => -99999999999999
+Sub 0 -99999999999999 => 99999999999999
+Sub 99999999999993 3 => 99999999999990
+Sub -227587344727 65429938988298 => -65657526333025
+Mul 1000001 99999999999999 => TooLarge
+Mul -99999999999999 -15000000 => TooLarge
+Mul -1000000 99999999999999 => -99999999999999
+Mul 1000000 99999999999999 => 99999999999999
+Mul 149538362214 -668724724 => -99999999998969
+Mul 1000000 -99999999999999 => -99999999999999
+Mul -3 500000 => -2
+Mul -1305933 500000 => -652967
+Mul -938171537 -634635 => 595396493
+Div 100000000 1 => TooLarge
+Div 99999999999999 999999 => TooLarge
+Div 0 0 => DivideByZero
+Div -938171537 0 => DivideByZero
+Div 99999999999999 -1000000 => -99999999999999
+Div 6000000 4638028 => 1293653
+Div 2000000 3000000 => 666667
+Div 216250266 -700000 => -308928951
+Div 867767490 -22264939000000 => -39
+Div -99999999999997 61000000 => -1639344262295
+Div -185357 -1999999 => 92679
+Div -613309 -1999999 => 306655
+WholeDiv 100000000 1 => TooLarge
+WholeDiv -99999999999999 -2 => TooLarge
+WholeDiv 0 0 => DivideByZero
+WholeDiv -337142424119 0 => DivideByZero
+WholeDiv 99999999 -1 => -99999999000000
+WholeDiv 99999999999999 1000000 => 99999999000000
+WholeDiv 914893481 2500000 => 365000000
+WholeDiv 6000000 700000 => 8000000
+WholeDiv 99999999999996 -20703046000000 => -4000000
+WholeDiv -6000000 700000 => -8000000
+WholeDiv -99999999999999 99999999999999 => -1000000
+WholeDiv -6000000 -700000 => 8000000
+Modulo 0 0 => DivideByZero
+Modulo -42019315988613 -71780854876784 => -42019315988613
+Modulo 99999999999998 99999999999999 => 99999999999998
+Modulo 7500000 4577609 => 2922391
+Modulo 373 -535 => 373
+Modulo 7500000 -4577609 => 2922391
+Modulo -1 700000 => -1
+Modulo -7000000 2063389 => -809833
+Modulo -7000000 -2063389 => -809833
+Sqrt -1 0 => NegativeRoot
+Sqrt -99999999999999 0 => NegativeRoot
+Sqrt 99999999999998 0 => 9999999999
+Sqrt 0 0 => 0
+Sqrt 2 0 => 1414
+Sqrt 999999 0 => 999999
+Sqrt 1000000 0 => 1000000
+Sqrt 1000001 0 => 1000000
+Round 99999999500000 0 => TooLarge
+Round -99999999999999 0 => TooLarge
+Round -99999999499999 0 => -99999999000000
+Round 99999999000000 0 => 99999999000000
+Round 2500000 0 => 3000000
+Round 500000 0 => 1000000
+Round -500000 0 => -1000000
+Round -499999 0 => 0
+Trunc -99999999999999 0 => -99999999000000
+Trunc 99999999000000 0 => 99999999000000
+Trunc -827499999 0 => -827000000
+Trunc -99999999499999 0 => -99999999000000
+ToUm 20000000500 0 => TooLarge
+ToUm -99999999999999 0 => TooLarge
+ToUm -20000000499 0 => -20000000
+ToUm 19999999999 0 => 20000000
+ToUm 499 0 => 0
+ToUm 500 0 => 1
+ToUm -500 0 => -1
+ToUm 20000000499 0 => 20000000
+HalfToUm 40000001000 0 => TooLarge
+HalfToUm -99999999999999 0 => TooLarge
+HalfToUm -40000000999 0 => -20000000
+HalfToUm 39999999999 0 => 20000000
+HalfToUm -35482185001 0 => -17741093
+HalfToUm -1000 0 => -1
+";
+
+/// What a call answers.
+fn answer(call: &str, a: Num, b: Num) -> Option<Result<i64, NumFault>> {
+    match call {
+        "Add" => Some(count(a.add(b))),
+        "Sub" => Some(count(a.sub(b))),
+        "Mul" => Some(count(a.mul(b))),
+        "Div" => Some(count(a.div(b))),
+        "WholeDiv" => Some(count(a.whole_div(b))),
+        "Modulo" => Some(count(a.modulo(b))),
+        "Sqrt" => Some(count(a.sqrt())),
+        "Round" => Some(count(a.round())),
+        "Trunc" => Some(Ok(a.trunc().millionths)),
+        "ToUm" => Some(length(a.to_um())),
+        "HalfToUm" => Some(length(a.half_to_um())),
+        _ => None,
+    }
+}
+
+/// What the call of a row answers.
+fn calculated(text: &str) -> Option<Result<i64, NumFault>> {
+    let (call, numbers) = text.split_once(' ')?;
+    let (a, b) = numbers.split_once(' ')?;
+    let a = num(a.parse::<i64>().ok()?).ok()?;
+    let b = num(b.parse::<i64>().ok()?).ok()?;
+    answer(call, a, b)
 }
 
 #[test]
-fn reads_numbers(rt: HostRuntime) {
-    let cases = [
-        ("", Err(NumFault::NotANumber)),
-        (".", Err(NumFault::NotANumber)),
-        ("1.2.3", Err(NumFault::NotANumber)),
-        ("-5", Err(NumFault::NotANumber)),
-        ("5 ", Err(NumFault::NotANumber)),
-        ("5", Ok(5_000_000)),
-        ("5.", Ok(5_000_000)),
-        (".5", Ok(500_000)),
-        ("007.50", Ok(7_500_000)),
-        (".0000015", Ok(2)),
-        (".0000014999", Ok(1)),
-        ("0.44444449999999999999999999999999999999", Ok(444_444)),
-        ("00000000000000000000000000000000000000001", Ok(1_000_000)),
-        ("99999999.9999994", Ok(99_999_999_999_999)),
-        ("99999999.9999995", Err(NumFault::TooLarge)),
-        ("99999999.9999996", Err(NumFault::TooLarge)),
-        (
-            "9999999999999999999999999999999999999999",
-            Err(NumFault::TooLarge),
-        ),
-    ];
-    for (text, want) in cases {
-        assert_eq!(rt; count(Num::parse(text.as_bytes())), want, "{text}");
+fn reads_numbers(rt: HostRuntime) -> Result<(), Fail> {
+    for row in READ.lines() {
+        if is_row(row) {
+            let (text, want) = row.split_once(" => ").ok_or("no answer")?;
+            assert!(rt;
+                read(text).ok_or("no text")? == wanted(want).ok_or("no fault")?,
+                "of {row}"
+            );
+        }
     }
+    Ok(())
 }
-
-#[derive(Clone, Copy, Debug)]
-enum Call {
-    Add,
-    Sub,
-    Mul,
-    Div,
-    WholeDiv,
-    Modulo,
-    Sqrt,
-    Round,
-    Trunc,
-    ToUm,
-    HalfToUm,
-}
-
-// What a call answers for these millionths: millionths too, or for the last two micrometres. A call on one number leaves the second.
-fn answer(call: Call, a: Num, b: Num) -> Result<i64, NumFault> {
-    match call {
-        Add => count(a.add(b)),
-        Sub => count(a.sub(b)),
-        Mul => count(a.mul(b)),
-        Div => count(a.div(b)),
-        WholeDiv => count(a.whole_div(b)),
-        Modulo => count(a.modulo(b)),
-        Sqrt => count(a.sqrt()),
-        Round => count(a.round()),
-        Trunc => Ok(a.trunc().millionths),
-        ToUm => length(a.to_um()),
-        HalfToUm => length(a.half_to_um()),
-    }
-}
-
-// Calculated with exact fractions outside this program.
-const CALCULATED: [(Call, i64, i64, Result<i64, NumFault>); 88] = [
-    (Add, 99_999_999_999_998, 2, Err(TooLarge)),
-    (Add, -99_999_999_999_999, -99_999_999_999_999, Err(TooLarge)),
-    (Add, 0, -99_999_999_999_999, Ok(-99_999_999_999_999)),
-    (Add, 99_999_999_999_998, 1, Ok(99_999_999_999_999)),
-    (Add, -99_999_999_999_994, 6, Ok(-99_999_999_999_988)),
-    (Add, -99_999_999_999_992, -7, Ok(-99_999_999_999_999)),
-    (Sub, 99_999_999_999_995, -6, Err(TooLarge)),
-    (Sub, -99_999_999_999_999, 7, Err(TooLarge)),
-    (Sub, 0, 99_999_999_999_999, Ok(-99_999_999_999_999)),
-    (Sub, 0, -99_999_999_999_999, Ok(99_999_999_999_999)),
-    (Sub, 99_999_999_999_993, 3, Ok(99_999_999_999_990)),
-    (
-        Sub,
-        -227_587_344_727,
-        65_429_938_988_298,
-        Ok(-65_657_526_333_025),
-    ),
-    (Mul, 1_000_001, 99_999_999_999_999, Err(TooLarge)),
-    (Mul, -99_999_999_999_999, -15_000_000, Err(TooLarge)),
-    (Mul, -1_000_000, 99_999_999_999_999, Ok(-99_999_999_999_999)),
-    (Mul, 1_000_000, 99_999_999_999_999, Ok(99_999_999_999_999)),
-    (Mul, 149_538_362_214, -668_724_724, Ok(-99_999_999_998_969)),
-    (Mul, 1_000_000, -99_999_999_999_999, Ok(-99_999_999_999_999)),
-    (Mul, -3, 500_000, Ok(-2)),
-    (Mul, -1_305_933, 500_000, Ok(-652_967)),
-    (Mul, -938_171_537, -634_635, Ok(595_396_493)),
-    (Div, 100_000_000, 1, Err(TooLarge)),
-    (Div, 99_999_999_999_999, 999_999, Err(TooLarge)),
-    (Div, 0, 0, Err(DivideByZero)),
-    (Div, -938_171_537, 0, Err(DivideByZero)),
-    (Div, 99_999_999_999_999, -1_000_000, Ok(-99_999_999_999_999)),
-    (Div, 6_000_000, 4_638_028, Ok(1_293_653)),
-    (Div, 2_000_000, 3_000_000, Ok(666_667)),
-    (Div, 216_250_266, -700_000, Ok(-308_928_951)),
-    (Div, 867_767_490, -22_264_939_000_000, Ok(-39)),
-    (Div, -99_999_999_999_997, 61_000_000, Ok(-1_639_344_262_295)),
-    (Div, -185_357, -1_999_999, Ok(92679)),
-    (Div, -613_309, -1_999_999, Ok(306_655)),
-    (WholeDiv, 100_000_000, 1, Err(TooLarge)),
-    (WholeDiv, -99_999_999_999_999, -2, Err(TooLarge)),
-    (WholeDiv, 0, 0, Err(DivideByZero)),
-    (WholeDiv, -337_142_424_119, 0, Err(DivideByZero)),
-    (WholeDiv, 99_999_999, -1, Ok(-99_999_999_000_000)),
-    (
-        WholeDiv,
-        99_999_999_999_999,
-        1_000_000,
-        Ok(99_999_999_000_000),
-    ),
-    (WholeDiv, 914_893_481, 2_500_000, Ok(365_000_000)),
-    (WholeDiv, 6_000_000, 700_000, Ok(8_000_000)),
-    (
-        WholeDiv,
-        99_999_999_999_996,
-        -20_703_046_000_000,
-        Ok(-4_000_000),
-    ),
-    (WholeDiv, -6_000_000, 700_000, Ok(-8_000_000)),
-    (
-        WholeDiv,
-        -99_999_999_999_999,
-        99_999_999_999_999,
-        Ok(-1_000_000),
-    ),
-    (WholeDiv, -6_000_000, -700_000, Ok(8_000_000)),
-    (Modulo, 0, 0, Err(DivideByZero)),
-    (
-        Modulo,
-        -42_019_315_988_613,
-        -71_780_854_876_784,
-        Ok(-42_019_315_988_613),
-    ),
-    (
-        Modulo,
-        99_999_999_999_998,
-        99_999_999_999_999,
-        Ok(99_999_999_999_998),
-    ),
-    (Modulo, 7_500_000, 4_577_609, Ok(2_922_391)),
-    (Modulo, 373, -535, Ok(373)),
-    (Modulo, 7_500_000, -4_577_609, Ok(2_922_391)),
-    (Modulo, -1, 700_000, Ok(-1)),
-    (Modulo, -7_000_000, 2_063_389, Ok(-809_833)),
-    (Modulo, -7_000_000, -2_063_389, Ok(-809_833)),
-    (Sqrt, -1, 0, Err(NegativeRoot)),
-    (Sqrt, -99_999_999_999_999, 0, Err(NegativeRoot)),
-    (Sqrt, 99_999_999_999_998, 0, Ok(9_999_999_999)),
-    (Sqrt, 0, 0, Ok(0)),
-    (Sqrt, 2, 0, Ok(1_414)),
-    (Sqrt, 999_999, 0, Ok(999_999)),
-    (Sqrt, 1_000_000, 0, Ok(1_000_000)),
-    (Sqrt, 1_000_001, 0, Ok(1_000_000)),
-    (Round, 99_999_999_500_000, 0, Err(TooLarge)),
-    (Round, -99_999_999_999_999, 0, Err(TooLarge)),
-    (Round, -99_999_999_499_999, 0, Ok(-99_999_999_000_000)),
-    (Round, 99_999_999_000_000, 0, Ok(99_999_999_000_000)),
-    (Round, 2_500_000, 0, Ok(3_000_000)),
-    (Round, 500_000, 0, Ok(1_000_000)),
-    (Round, -500_000, 0, Ok(-1_000_000)),
-    (Round, -499_999, 0, Ok(0)),
-    (Trunc, -99_999_999_999_999, 0, Ok(-99_999_999_000_000)),
-    (Trunc, 99_999_999_000_000, 0, Ok(99_999_999_000_000)),
-    (Trunc, -827_499_999, 0, Ok(-827_000_000)),
-    (Trunc, -99_999_999_499_999, 0, Ok(-99_999_999_000_000)),
-    (ToUm, 20_000_000_500, 0, Err(TooLarge)),
-    (ToUm, -99_999_999_999_999, 0, Err(TooLarge)),
-    (ToUm, -20_000_000_499, 0, Ok(-20_000_000)),
-    (ToUm, 19_999_999_999, 0, Ok(20_000_000)),
-    (ToUm, 499, 0, Ok(0)),
-    (ToUm, 500, 0, Ok(1)),
-    (ToUm, -500, 0, Ok(-1)),
-    (ToUm, 20_000_000_499, 0, Ok(20_000_000)),
-    (HalfToUm, 40_000_001_000, 0, Err(TooLarge)),
-    (HalfToUm, -99_999_999_999_999, 0, Err(TooLarge)),
-    (HalfToUm, -40_000_000_999, 0, Ok(-20_000_000)),
-    (HalfToUm, 39_999_999_999, 0, Ok(20_000_000)),
-    (HalfToUm, -35_482_185_001, 0, Ok(-17_741_093)),
-    (HalfToUm, -1000, 0, Ok(-1)),
-];
 
 #[test]
 fn answers_as_calculated(rt: HostRuntime) -> Result<(), Fail> {
-    for (call, a, b, want) in CALCULATED {
-        assert_eq!(rt; answer(call, num(a)?, num(b)?), want, "{call:?} {a} {b}");
+    for row in CALCULATED.lines() {
+        if is_row(row) {
+            let (text, want) = row.split_once(" => ").ok_or("no answer")?;
+            assert!(rt;
+                calculated(text).ok_or("no call")? == wanted(want).ok_or("no fault")?,
+                "of {row}"
+            );
+        }
     }
     Ok(())
 }
@@ -225,8 +220,10 @@ fn takes_whole_roots(rt: HostRuntime) {
         ),
     ];
     for (value, floor, ceil) in cases {
-        assert_eq!(rt; isqrt_floor(value), floor, "{value}");
-        assert_eq!(rt; isqrt_ceil(value), ceil, "{value}");
+        assert!(rt;
+            isqrt_floor(value) == floor && isqrt_ceil(value) == ceil,
+            "of {value}"
+        );
     }
 }
 

@@ -2,24 +2,12 @@
 ghost use Rattle.std.specs.Prelude.{◌≡◌, ◌≢◌, pos, ◌≤ℤ◌};
 ghost use Rattle.path_geometry.specs.Motions.{AreSound, HavePlane, IsInRange};
 
+use crate::tables::{is_row, pair};
 use arrayvec::ArrayVec;
 use axis_sets::AxisId;
 use micro_units::Um;
 use path_geometry::*;
-use std::process::Abort;
-
-/// What gives an arc: its centre, or its radius and whether it is the longer one.
-#[derive(Clone, Copy, Debug)]
-enum By {
-    Centre(i32, i32),
-    Radius(i32, bool),
-}
-
-/// The centre of an arc, its inner and its outer radius, and whether it is a whole turn; or its alarm.
-type Answer = Result<(i32, i32, u32, u32, bool), u16>;
-
-/// The start and the end of the first and of the second axis, what gives the arc, and the answer.
-type Case = ((i32, i32), (i32, i32), By, Answer);
+use std::test::Fail;
 
 // The first axis of the plane is the second of the job.
 fn first() -> AxisId
@@ -65,238 +53,122 @@ fn ends_of(u: (i32, i32), v: (i32, i32)) -> Ends
     Ends { axes }
 }
 
-fn given(ends: &Ends, by: By) -> Result<Motion, u16>
+/// The arc that is given by its centre, as `about 0,0`, by its radius, or by the radius of the longer arc.
+fn given(ends: &Ends, text: &str) -> Option<Result<Motion, u16>>
     requires sound { AreSound ends.now }
     requires plane { HavePlane ends.now 1 0 }
 {
-    match by {
-        By::Centre(u, v) => arc_by_centre(ends, first(), second(), (um(u), um(v))),
-        By::Radius(radius, long) => arc_by_radius(ends, first(), second(), length(radius), long),
+    let (how, numbers) = text.split_once(' ')?;
+    if how == "about" {
+        let (u, v) = pair(numbers)?;
+        return Some(arc_by_centre(ends, first(), second(), (um(u), um(v))));
+    }
+    let radius = length(numbers.parse::<i32>().ok()?);
+    match how {
+        "radius" => Some(arc_by_radius(ends, first(), second(), radius, false)),
+        "longer" => Some(arc_by_radius(ends, first(), second(), radius, true)),
+        _ => None,
     }
 }
 
-fn agree(rt: &impl Abort, cases: &[Case]) {
-    for (along_first, along_second, by, want) in cases {
-        let ends = ends_of(*along_first, *along_second);
-        let wanted = want.map(|(u, v, inner, outer, full)| {
-            Motion::Arc(Arc {
-                ends: ends_of(*along_first, *along_second),
-                first: first(),
-                second: second(),
-                centre: (um(u), um(v)),
-                inner,
-                outer,
-                full,
-            })
-        });
-        assert_eq!(rt;
-            given(&ends, *by),
-            wanted,
-            "at {along_first:?} {along_second:?} {by:?}"
-        );
+/// The arc of an answer.
+fn arc_of(ends: Ends, text: &str) -> Option<Arc> {
+    let (rest, full) = match text.strip_suffix(" whole") {
+        Some(rest) => (rest, true),
+        None => (text, false),
+    };
+    let (centre, radii) = rest.split_once(' ')?;
+    let (u, v) = pair(centre)?;
+    let (inner, outer) = radii.split_once(',')?;
+    let inner = inner.parse::<u32>().ok()?;
+    let outer = outer.parse::<u32>().ok()?;
+    Some(Arc {
+        ends,
+        first: first(),
+        second: second(),
+        centre: (um(u), um(v)),
+        inner,
+        outer,
+        full,
+    })
+}
+
+fn answer(ends: Ends, text: &str) -> Option<Result<Motion, u16>> {
+    match text.strip_prefix("ALARM ") {
+        Some(code) => Some(Err(code.parse::<u16>().ok()?)),
+        None => Some(Ok(Motion::Arc(arc_of(ends, text)?))),
     }
 }
 
-// The trace lines of worked jobs; the third is a whole turn.
-#[test]
-fn quarters_and_turns(rt: HostRuntime) {
-    let cases = [
-        (
-            (10000, 0),
-            (0, 10000),
-            By::Centre(0, 0),
-            Ok((0, 0, 10000, 10000, false)),
-        ),
-        (
-            (10000, 0),
-            (0, 10000),
-            By::Radius(10000, false),
-            Ok((0, 0, 9998, 10002, false)),
-        ),
-        (
-            (10000, 10000),
-            (0, 0),
-            By::Centre(0, 0),
-            Ok((0, 0, 10000, 10000, true)),
-        ),
-        (
-            (10000, 0),
-            (0, -10000),
-            By::Centre(0, 0),
-            Ok((0, 0, 10000, 10000, false)),
-        ),
-        (
-            (10000, 0),
-            (100000, 110000),
-            By::Centre(0, 100000),
-            Ok((0, 100000, 10000, 10000, false)),
-        ),
-    ];
-    agree(&rt, &cases);
+/// What a row gives and what it answers.
+fn both(row: &str) -> Option<(Result<Motion, u16>, Result<Motion, u16>)> {
+    let (text, want) = row.split_once(" => ")?;
+    let (u, rest) = text.split_once(' ')?;
+    let (v, by) = rest.split_once(' ')?;
+    let (u, v) = (pair(u)?, pair(v)?);
+    Some((given(&ends_of(u, v), by)?, answer(ends_of(u, v), want)?))
 }
 
-// A centre on the other side, roundings of negative halves, and two arcs of a positive radius that are longer
-// than half a turn, since their centre is rounded.
-#[test]
-fn centres_are_rounded_down(rt: HostRuntime) {
-    let cases = [
-        (
-            (0, -13),
-            (0, -14),
-            By::Radius(5, false),
-            Ok((-7, -7, 7, 12, false)),
-        ),
-        (
-            (0, 2),
-            (0, -3),
-            By::Radius(2, false),
-            Ok((1, -2, 0, 5, false)),
-        ),
-        (
-            (0, 30),
-            (0, 0),
-            By::Radius(10, false),
-            Ok((15, 0, 13, 17, false)),
-        ),
-        (
-            (0, -6),
-            (-1, 2),
-            By::Radius(11, false),
-            Ok((-8, -9, 9, 14, false)),
-        ),
-        (
-            (8, -12),
-            (-1, -5),
-            By::Radius(36, true),
-            Ok((-9, 30, 33, 38, false)),
-        ),
-        (
-            (87, -478),
-            (398, -312),
-            By::Radius(451, false),
-            Ok((-196, 43, 451, 456, false)),
-        ),
-        (
-            (290, -196),
-            (-471, 115),
-            By::Radius(384, false),
-            Ok((8, -210, 381, 387, false)),
-        ),
-        (
-            (18696, 54352),
-            (50541, 21183),
-            By::Radius(23100, false),
-            Ok((36871, 36284, 23097, 23103, false)),
-        ),
-        (
-            (47431, 55066),
-            (14166, 99847),
-            By::Radius(43056, false),
-            Ok((49272, 57182, 43053, 43059, false)),
-        ),
-        (
-            (9380, 66716),
-            (66743, 47842),
-            By::Radius(30220, true),
-            Ok((37596, 55922, 30217, 30223, false)),
-        ),
-        (
-            (-4221170, 3180093),
-            (-1009734, 778489),
-            By::Radius(3807114, false),
-            Ok((-521208, -112850, 3807111, 3807117, false)),
-        ),
-    ];
-    agree(&rt, &cases);
-}
+/// Arcs. A row has the start and the end of the first and of the second axis, and what gives the arc, as `given`
+/// reads it. The answer is the centre, the inner and the outer radius, and whether it is a whole turn; or an alarm.
+const ARCS: &str = "
+# The trace lines of worked jobs; the third is a whole turn.
+10000,0 0,10000 about 0,0 => 0,0 10000,10000
+10000,0 0,10000 radius 10000 => 0,0 9998,10002
+10000,10000 0,0 about 0,0 => 0,0 10000,10000 whole
+10000,0 0,-10000 about 0,0 => 0,0 10000,10000
+10000,0 100000,110000 about 0,100000 => 0,100000 10000,10000
+# Centres are rounded down: a centre on the other side, roundings of negative halves, and two arcs of a positive
+# radius that are longer than half a turn, since their centre is rounded.
+0,-13 0,-14 radius 5 => -7,-7 7,12
+0,2 0,-3 radius 2 => 1,-2 0,5
+0,30 0,0 radius 10 => 15,0 13,17
+0,-6 -1,2 radius 11 => -8,-9 9,14
+8,-12 -1,-5 longer 36 => -9,30 33,38
+87,-478 398,-312 radius 451 => -196,43 451,456
+290,-196 -471,115 radius 384 => 8,-210 381,387
+18696,54352 50541,21183 radius 23100 => 36871,36284 23097,23103
+47431,55066 14166,99847 radius 43056 => 49272,57182 43053,43059
+9380,66716 66743,47842 longer 30220 => 37596,55922 30217,30223
+-4221170,3180093 -1009734,778489 radius 3807114 => -521208,-112850 3807111,3807117
+# Radii are rounded outwards.
+10000,0 0,10010 about 0,0 => 0,0 10000,10010
+-1,-7 3,-2 about -8,-2 => -8,-2 1,9
+985,938 -868,-915 about 945,-873 => 945,-873 40,43
+58791,60885 20766,-11407 about 541,837 => 541,837 61564,61574
+51719,-13887 30954,-57767 about 35,555 => 35,555 59960,59962
+-838159,-228879 -64930,808822 about 592,-497 => 592,-497 841221,841223
+-3130,-32039 76035,-68856 about -166,114 => -166,114 75978,75979
+-449783,2849411 2816628,-155511 about 305,-945 => 305,-945 2853295,2853296
+10000000,10000000 10000000,10000000 about -10000000,-10000000 => -10000000,-10000000 28284271,28284272 whole
+# The first alarm counts: the radii of the second row differ by 10.001; the fourth and the fifth could have a later
+# alarm too.
+-3064,-3787 -950,1555 about 296,2184 => ALARM 20
+10000,5 0,10010 about 0,0 => ALARM 20
+5,10 0,0 about 0,0 => ALARM 21
+0,100 0,0 about 0,0 => ALARM 22
+10,100 0,0 about 0,0 => ALARM 20
+5,0 0,0 about 0,0 => ALARM 22
+7,7 9,9 radius 0 => ALARM 21
+0,5 0,5 radius 0 => ALARM 22
+494,214 80,-352 longer 246 => ALARM 22
+10000000,10000000 0,10 longer 10000000 => ALARM 13
+0,1 0,0 radius 1 => ALARM 22
+";
 
 #[test]
-fn radii_are_rounded_outwards(rt: HostRuntime) {
-    let cases = [
-        (
-            (10000, 0),
-            (0, 10010),
-            By::Centre(0, 0),
-            Ok((0, 0, 10000, 10010, false)),
-        ),
-        (
-            (-1, -7),
-            (3, -2),
-            By::Centre(-8, -2),
-            Ok((-8, -2, 1, 9, false)),
-        ),
-        (
-            (985, 938),
-            (-868, -915),
-            By::Centre(945, -873),
-            Ok((945, -873, 40, 43, false)),
-        ),
-        (
-            (58791, 60885),
-            (20766, -11407),
-            By::Centre(541, 837),
-            Ok((541, 837, 61564, 61574, false)),
-        ),
-        (
-            (51719, -13887),
-            (30954, -57767),
-            By::Centre(35, 555),
-            Ok((35, 555, 59960, 59962, false)),
-        ),
-        (
-            (-838159, -228879),
-            (-64930, 808822),
-            By::Centre(592, -497),
-            Ok((592, -497, 841221, 841223, false)),
-        ),
-        (
-            (-3130, -32039),
-            (76035, -68856),
-            By::Centre(-166, 114),
-            Ok((-166, 114, 75978, 75979, false)),
-        ),
-        (
-            (-449783, 2849411),
-            (2816628, -155511),
-            By::Centre(305, -945),
-            Ok((305, -945, 2853295, 2853296, false)),
-        ),
-        (
-            (10000000, 10000000),
-            (10000000, 10000000),
-            By::Centre(-10000000, -10000000),
-            Ok((-10000000, -10000000, 28284271, 28284272, true)),
-        ),
-    ];
-    agree(&rt, &cases);
-}
-
-// The radii of the second case differ by 10.001; the fourth and the fifth could have a later alarm too.
-#[test]
-fn the_first_alarm_counts(rt: HostRuntime) {
-    let cases = [
-        ((-3064, -3787), (-950, 1555), By::Centre(296, 2184), Err(20)),
-        ((10000, 5), (0, 10010), By::Centre(0, 0), Err(20)),
-        ((5, 10), (0, 0), By::Centre(0, 0), Err(21)),
-        ((0, 100), (0, 0), By::Centre(0, 0), Err(22)),
-        ((10, 100), (0, 0), By::Centre(0, 0), Err(20)),
-        ((5, 0), (0, 0), By::Centre(0, 0), Err(22)),
-        ((7, 7), (9, 9), By::Radius(0, false), Err(21)),
-        ((0, 5), (0, 5), By::Radius(0, false), Err(22)),
-        ((494, 214), (80, -352), By::Radius(246, true), Err(22)),
-        (
-            (10000000, 10000000),
-            (0, 10),
-            By::Radius(10000000, true),
-            Err(13),
-        ),
-        ((0, 1), (0, 0), By::Radius(1, false), Err(22)),
-    ];
-    agree(&rt, &cases);
+fn arcs_are_rounded_or_refused(rt: HostRuntime) -> Result<(), Fail> {
+    for row in ARCS.lines() {
+        if is_row(row) {
+            let (got, want) = both(row).ok_or(row)?;
+            assert!(rt; got == want, "of {row}");
+        }
+    }
+    Ok(())
 }
 
 #[test]
 fn ends_begin_empty(rt: HostRuntime) {
     sound_arcs_run_in_a_ring();
-    assert_eq!(rt; Ends::default().axes.len(), 0);
+    assert!(rt; Ends::default().axes.is_empty());
 }

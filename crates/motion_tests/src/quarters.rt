@@ -44,9 +44,8 @@ fn agree(rt: &impl Abort, start: (i32, i32), end: (i32, i32), want: &[Quarter]) 
     let ends = ends_of(start, end);
     match arc_by_centre(&ends, first(), second(), (um(0), um(0))) {
         Ok(Motion::Arc(arc)) => {
-            assert_eq!(rt;
-                quarters(&arc).as_slice(),
-                want,
+            assert!(rt;
+                quarters(&arc).as_slice() == want,
                 "from {start:?} to {end:?}"
             );
         }
@@ -101,10 +100,9 @@ fn bounds_are_rounded_outwards(rt: HostRuntime) {
         ((0, 25), (3, 4), (0, 1), [0, 15, 0, 25]),
     ];
     for ((inner, outer), from, to, want) in cases {
-        assert_eq!(rt;
-            quarter_box(inner, outer, from, to),
-            want,
-            "from {from:?} to {to:?}"
+        assert!(rt;
+            quarter_box(inner, outer, from, to) == want,
+            "from {from:?}"
         );
     }
 }
@@ -118,11 +116,10 @@ fn parts_of_a_quarter_are_in_order(rt: HostRuntime) {
         ((10, 10), (10, 20)),
         ((10, 20), (0, 10)),
     ];
-    assert_eq!(rt; part_of_quarter(right, up, 0, 0), (right, up));
+    assert!(rt; part_of_quarter(right, up, 0, 0) == (right, up));
     for place in 0u8..4 {
-        assert_eq!(rt;
-            part_of_quarter(right, up, 2, place),
-            want[place as usize],
+        assert!(rt;
+            part_of_quarter(right, up, 2, place) == want[place as usize],
             "at {place}"
         );
     }

@@ -5,9 +5,9 @@ use micro_units::Um;
 
 #[test]
 fn ids_begin_at_their_lowest(rt: HostRuntime) {
-    assert_eq!(rt; AxisId::default().index, 0);
-    assert_eq!(rt; ChannelId::default().number, 1);
-    assert_eq!(rt; ZoneId::default().number, 1);
+    assert!(rt; AxisId::default().index == 0);
+    assert!(rt; ChannelId::default().number == 1);
+    assert!(rt; ZoneId::default().number == 1);
 }
 
 #[test]
@@ -17,12 +17,12 @@ fn axes_are_gathered(rt: HostRuntime) {
     let both = one.with(first);
     assert!(rt; both.contains(first) && both.contains(last));
     assert!(rt; !both.contains(AxisId { index: 7 }));
-    assert_eq!(rt; both.lowest(), Some(first));
-    assert_eq!(rt; both.without(first), one);
-    assert_eq!(rt; one.union(both), both);
-    assert_eq!(rt; both.minus(one).lowest(), Some(first));
+    assert!(rt; both.lowest() == Some(first));
+    assert!(rt; both.without(first) == one);
+    assert!(rt; one.union(both) == both);
+    assert!(rt; both.minus(one).lowest() == Some(first));
     assert!(rt; AxisSet::default().is_empty() && !one.is_empty());
-    assert_eq!(rt; both.minus(both).lowest(), None);
+    assert!(rt; both.minus(both).lowest() == None);
 }
 
 #[test]
@@ -32,12 +32,12 @@ fn channels_are_gathered(rt: HostRuntime) {
     let both = one.with(first);
     assert!(rt; both.contains(first) && both.contains(last));
     assert!(rt; !both.contains(ChannelId { number: 4 }));
-    assert_eq!(rt; both.lowest(), Some(first));
-    assert_eq!(rt; both.without(first), one);
-    assert_eq!(rt; one.union(both), both);
-    assert_eq!(rt; both.minus(one).lowest(), Some(first));
+    assert!(rt; both.lowest() == Some(first));
+    assert!(rt; both.without(first) == one);
+    assert!(rt; one.union(both) == both);
+    assert!(rt; both.minus(one).lowest() == Some(first));
     assert!(rt; ChannelSet::default().is_empty() && !one.is_empty());
-    assert_eq!(rt; both.minus(both).lowest(), None);
+    assert!(rt; both.minus(both).lowest() == None);
 }
 
 #[test]
@@ -46,12 +46,12 @@ fn marks_are_gathered(rt: HostRuntime) {
     let both = one.with(0);
     assert!(rt; both.contains(0) && both.contains(9));
     assert!(rt; !both.contains(5) && !both.contains(200));
-    assert_eq!(rt; both.lowest(), Some(0));
-    assert_eq!(rt; both.without(0).without(200), one);
-    assert_eq!(rt; one.union(both), both);
-    assert_eq!(rt; both.minus(one).lowest(), Some(0));
+    assert!(rt; both.lowest() == Some(0));
+    assert!(rt; both.without(0).without(200) == one);
+    assert!(rt; one.union(both) == both);
+    assert!(rt; both.minus(one).lowest() == Some(0));
     assert!(rt; MarkSet::default().is_empty() && !one.is_empty());
-    assert_eq!(rt; both.minus(both).lowest(), None);
+    assert!(rt; both.minus(both).lowest() == None);
 }
 
 #[test]
@@ -61,12 +61,12 @@ fn zones_are_gathered(rt: HostRuntime) {
     let both = one.with(first);
     assert!(rt; both.contains(first) && both.contains(last));
     assert!(rt; !both.contains(ZoneId { number: 16 }));
-    assert_eq!(rt; both.lowest(), Some(first));
-    assert_eq!(rt; both.without(first), one);
-    assert_eq!(rt; one.union(both), both);
-    assert_eq!(rt; both.minus(one).lowest(), Some(first));
+    assert!(rt; both.lowest() == Some(first));
+    assert!(rt; both.without(first) == one);
+    assert!(rt; one.union(both) == both);
+    assert!(rt; both.minus(one).lowest() == Some(first));
     assert!(rt; ZoneSet::default().is_empty() && !one.is_empty());
-    assert_eq!(rt; both.minus(both).lowest(), None);
+    assert!(rt; both.minus(both).lowest() == None);
     sets_are_known_by_their_members();
 }
 
@@ -77,11 +77,11 @@ fn positions_are_kept(rt: HostRuntime) {
     positions.set(first, Um { micrometres: -5 });
     positions.set(last, Um { micrometres: 7 });
     positions.set(first, Um { micrometres: 3 });
-    assert_eq!(rt; positions.get(first), Some(Um { micrometres: 3 }));
-    assert_eq!(rt; positions.get(last), Some(Um { micrometres: 7 }));
-    assert_eq!(rt; positions.get(AxisId { index: 1 }), None);
+    assert!(rt; positions.get(first) == Some(Um { micrometres: 3 }));
+    assert!(rt; positions.get(last) == Some(Um { micrometres: 7 }));
+    assert!(rt; positions.get(AxisId { index: 1 }) == None);
     positions.remove(first);
     positions.remove(last);
-    assert_eq!(rt; positions.get(first), None);
-    assert_eq!(rt; positions, Positions::empty());
+    assert!(rt; positions.get(first) == None);
+    assert!(rt; positions == Positions::empty());
 }

@@ -144,103 +144,90 @@ fn situation(rt: &impl Abort, alloc: Global, set: &str) -> Result<Situation, Fai
     Ok(situation)
 }
 
-/// Blocks of words where R1 is 5 and R2 is 3, with what they do. The folder rows has many more.
-static WORDS: [(&str, &str); 9] = [
-    ("R1=R1+1 R[R1]=7 X=R6", "0:0:7000 Goes(Plain)"),
-    (
-        "G54 Z1 X2 C1=IC(3)",
-        "0:0:12000 2:7:21000 3:0:3000 Goes(Plain)",
-    ),
-    ("G3 X1 I5", "ALARM 20"),
-    ("G3 X2 I1 K=AC(0.007)", "0:0:2000 2:7:7 Goes(Plain)"),
-    ("M30 X1 R1=2", "0:0:1000 Ends"),
-    ("G4 F1 X5", "Goes(Plain)"),
-    ("TRANS X1", "Goes(Plain)"),
-    ("ROT RPL=45", "ALARM 12"),
-    ("X20000 B1=5", "ALARM 13"),
-];
+/// Blocks of words where R1 is 5 and R2 is 3, with what they do: the axes with their starts and ends, and what becomes
+/// of control; or their alarm. The folder rows has many more.
+const WORDS: &str = "
+R1=R1+1 R[R1]=7 X=R6 => 0:0:7000 Goes(Plain)
+G54 Z1 X2 C1=IC(3) => 0:0:12000 2:7:21000 3:0:3000 Goes(Plain)
+G3 X1 I5 => ALARM 20
+G3 X2 I1 K=AC(0.007) => 0:0:2000 2:7:7 Goes(Plain)
+M30 X1 R1=2 => 0:0:1000 Ends
+G4 F1 X5 => Goes(Plain)
+TRANS X1 => Goes(Plain)
+ROT RPL=45 => ALARM 12
+X20000 B1=5 => ALARM 13
+";
 
-/// Other blocks where R1 is 5 and R2 is 3, with what becomes of control. Their structure is begun by FOR R1=1 TO the
-/// first text, if it is one.
-static CONTROL: [(&str, &str, &str); 34] = [
-    ("", "GOTOF AA", "Goes(Jump(Forward, Label(AA)))"),
-    ("", "IF R1==5 GOTOF AA", "Goes(Jump(Forward, Label(AA)))"),
-    ("", "IF R1==6 GOTOF AA", "Goes(Plain)"),
-    ("", "IF 1/0 GOTOF AA", "ALARM 2"),
-    ("", "IF -0.5", "Goes(Truth(true))"),
-    ("", "IF R1-5", "Goes(Truth(false))"),
-    ("", "WHILE R1>R2", "Goes(Truth(true))"),
-    ("", "UNTIL SQRT(-1)", "ALARM 3"),
-    ("", "FOR R1=1 TO 1", "Goes(Truth(true))"),
-    ("", "FOR R1=1.000001 TO 1", "Goes(Truth(false))"),
-    ("", "FOR R1=9 TO R1", "Goes(Truth(true))"),
-    ("", "FOR R1=1/0 TO SQRT(-1)", "ALARM 2"),
-    ("", "FOR R1=1 TO SQRT(-1)", "ALARM 3"),
-    ("6", "ENDFOR", "Goes(Truth(true))"),
-    ("5", "ENDFOR", "Goes(Truth(false))"),
-    ("R1", "ENDFOR", "Goes(Truth(true))"),
-    ("1/0", "ENDFOR", "ALARM 2"),
-    (
-        "",
-        "CASE(R1) OF 5 GOTOF FIRST 5 GOTOF SECOND 3 GOTOF THIRD",
-        "Goes(Jump(Forward, Label(FIRST)))",
-    ),
-    (
-        "",
-        "CASE(3) OF 5 GOTOF FIRST 3 GOTOF THIRD DEFAULT GOTOF OTHER",
-        "Goes(Jump(Forward, Label(THIRD)))",
-    ),
-    (
-        "",
-        "CASE(3.000001) OF 5 GOTOF FIRST 3 GOTOF THIRD DEFAULT GOTOF OTHER",
-        "Goes(Jump(Forward, Label(OTHER)))",
-    ),
-    ("", "CASE(4) OF 5 GOTOF FIRST", "Goes(Plain)"),
-    ("", "CASE(R[-1]) OF 5 GOTOF FIRST", "ALARM 4"),
-    ("", "REPEAT AA", "Goes(Again(1))"),
-    ("", "REPEAT AA P=0", "Goes(Again(0))"),
-    ("", "REPEATB AA P=9999", "Goes(Again(9999))"),
-    ("", "REPEATB AA P=10000", "ALARM 33"),
-    ("", "REPEAT AA P=1.5", "ALARM 33"),
-    ("", "REPEAT AA P=-1", "ALARM 33"),
-    ("", "REPEAT AA P=1/0", "ALARM 2"),
-    ("", "L1 P3", "ALARM 7"),
-    ("", "RET", "Ends"),
-    ("", "ELSE", "Goes(Plain)"),
-    ("", "MSG(\"A\")", "Goes(Plain)"),
-    ("", "M30", "Ends"),
-];
+/// Other blocks where R1 is 5 and R2 is 3, with what becomes of control. Before three dots stands the block that
+/// begins their structure, which is FOR R1=1 TO 1 in any other row.
+const CONTROL: &str = "
+GOTOF AA => Goes(Jump(Forward, Label(AA)))
+IF R1==5 GOTOF AA => Goes(Jump(Forward, Label(AA)))
+IF R1==6 GOTOF AA => Goes(Plain)
+IF 1/0 GOTOF AA => ALARM 2
+IF -0.5 => Goes(Truth(true))
+IF R1-5 => Goes(Truth(false))
+WHILE R1>R2 => Goes(Truth(true))
+UNTIL SQRT(-1) => ALARM 3
+FOR R1=1 TO 1 => Goes(Truth(true))
+FOR R1=1.000001 TO 1 => Goes(Truth(false))
+FOR R1=9 TO R1 => Goes(Truth(true))
+FOR R1=1/0 TO SQRT(-1) => ALARM 2
+FOR R1=1 TO SQRT(-1) => ALARM 3
+FOR R1=1 TO 6 ... ENDFOR => Goes(Truth(true))
+FOR R1=1 TO 5 ... ENDFOR => Goes(Truth(false))
+FOR R1=1 TO R1 ... ENDFOR => Goes(Truth(true))
+FOR R1=1 TO 1/0 ... ENDFOR => ALARM 2
+CASE(R1) OF 5 GOTOF FIRST 5 GOTOF SECOND 3 GOTOF THIRD => Goes(Jump(Forward, Label(FIRST)))
+CASE(3) OF 5 GOTOF FIRST 3 GOTOF THIRD DEFAULT GOTOF OTHER => Goes(Jump(Forward, Label(THIRD)))
+CASE(3.000001) OF 5 GOTOF FIRST 3 GOTOF THIRD DEFAULT GOTOF OTHER => Goes(Jump(Forward, Label(OTHER)))
+CASE(4) OF 5 GOTOF FIRST => Goes(Plain)
+CASE(R[-1]) OF 5 GOTOF FIRST => ALARM 4
+REPEAT AA => Goes(Again(1))
+REPEAT AA P=0 => Goes(Again(0))
+REPEATB AA P=9999 => Goes(Again(9999))
+REPEATB AA P=10000 => ALARM 33
+REPEAT AA P=1.5 => ALARM 33
+REPEAT AA P=-1 => ALARM 33
+REPEAT AA P=1/0 => ALARM 2
+L1 P3 => ALARM 7
+RET => Ends
+ELSE => Goes(Plain)
+MSG(\"A\") => Goes(Plain)
+M30 => Ends
+";
+
+/// What a block does where R1 is 5 and R2 is 3, in a structure that another block begins.
+fn done(rt: &impl Abort, alloc: Global, opener: &Stmt, text: &str) -> Result<String, Fail>
+    requires { StatementFits (statement_view opener.now) }
+{
+    let mut situation = situation(rt, alloc, "R1=5 R2=3")?;
+    let stmt = block(rt, alloc, text)?;
+    said(alloc, &mut situation, opener, &stmt)
+}
 
 #[test]
 fn words_act(rt: HostRuntime) -> Result<(), Fail> {
-    let alloc = rt.alloc();
-    for (text, expected) in &WORDS {
-        let mut situation = situation(&rt, alloc, "R1=5 R2=3")?;
-        let stmt = block(&rt, alloc, text)?;
-        let said = said(alloc, &mut situation, &Stmt::Empty, &stmt)?;
-        assert_eq!(rt; said.as_str(), *expected, "in {text}");
+    for row in WORDS.trim().lines() {
+        let (text, want) = row.split_once(" => ").ok_or("no answer")?;
+        let said = done(&rt, rt.alloc(), &Stmt::Empty, text)?;
+        assert!(rt; said.as_str() == want, "of {row}");
     }
     Ok(())
-}
-
-/// FOR R1=1 TO this bound, or to 1 of an empty text.
-fn opener(rt: &impl Abort, alloc: Global, bound: &str) -> Result<Stmt, Fail>
-    ensures { IfOk result (λ s. StatementFits (statement_view s)) }
-{
-    let bound = if bound.is_empty() { "1" } else { bound };
-    let text = format!(in alloc; "FOR R1=1 TO {bound}")?;
-    block(rt, alloc, text.as_str())
 }
 
 #[test]
 fn control_goes_on(rt: HostRuntime) -> Result<(), Fail> {
     let alloc = rt.alloc();
-    for (bound, text, expected) in &CONTROL {
-        let mut situation = situation(&rt, alloc, "R1=5 R2=3")?;
-        let opener = opener(&rt, alloc, bound)?;
-        let stmt = block(&rt, alloc, text)?;
-        let said = said(alloc, &mut situation, &opener, &stmt)?;
-        assert_eq!(rt; said.as_str(), *expected, "in {text}");
+    for row in CONTROL.trim().lines() {
+        let (texts, want) = row.split_once(" => ").ok_or("no answer")?;
+        let (begin, text) = match texts.split_once(" ... ") {
+            Some(both) => both,
+            None => ("FOR R1=1 TO 1", texts),
+        };
+        let opener = block(&rt, alloc, begin)?;
+        let said = done(&rt, alloc, &opener, text)?;
+        assert!(rt; said.as_str() == want, "of {row}");
     }
     Ok(())
 }
@@ -251,7 +238,7 @@ fn calls_find_their_program(rt: HostRuntime) -> Result<(), Fail> {
     let mut situation = situation(&rt, alloc, "R1=5")?;
     let stmt = Stmt::Call(NameText::of_word(b"B"), 3);
     let said = said(alloc, &mut situation, &Stmt::Empty, &stmt)?;
-    assert_eq!(rt; said.as_str(), "Calls(1, 3)");
+    assert!(rt; said.as_str() == "Calls(1, 3)");
     Ok(())
 }
 
@@ -259,17 +246,17 @@ fn calls_find_their_program(rt: HostRuntime) -> Result<(), Fail> {
 fn endfor_counts_to_the_end_of_the_range(rt: HostRuntime) -> Result<(), Fail> {
     let alloc = rt.alloc();
     let mut situation = situation(&rt, alloc, "R1=99999998.5")?;
-    let first = opener(&rt, alloc, "1")?;
+    let first = block(&rt, alloc, "FOR R1=1 TO 1")?;
     let said_first = said(alloc, &mut situation, &first, &Stmt::EndFor)?;
-    assert_eq!(rt; said_first.as_str(), "Goes(Truth(false))");
+    assert!(rt; said_first.as_str() == "Goes(Truth(false))");
     let mut copied = Situation {
         parameters: situation.parameters.copied()?,
         modal: situation.modal,
         frame: situation.frame,
         at: situation.at,
     };
-    let second = opener(&rt, alloc, "1/0")?;
+    let second = block(&rt, alloc, "FOR R1=1 TO 1/0")?;
     let said_second = said(alloc, &mut copied, &second, &Stmt::EndFor)?;
-    assert_eq!(rt; said_second.as_str(), "ALARM 1");
+    assert!(rt; said_second.as_str() == "ALARM 1");
     Ok(())
 }

@@ -102,11 +102,11 @@ fn runs_to_a_step(rt: HostRuntime) -> Result<(), Fail> {
     for (blocks, motions, ends, line, action) in &ROWS {
         let segment = segment_of(rt.alloc(), 1, &AXES, blocks).ok_or("no segment")?;
         let step = &segment.step;
-        assert_eq!(rt; segment.items.len(), *motions);
-        assert_eq!(rt; (step.line, step.action), (*line, *action));
+        assert!(rt; segment.items.len() == *motions, "of {blocks}");
+        assert!(rt; step.line == *line && step.action == *action);
         for place in 0..3 {
             let at = step.at.get(AXES[place]).ok_or("no position")?;
-            assert_eq!(rt; at.micrometres, ends[place]);
+            assert!(rt; at.micrometres == ends[place]);
         }
         assert!(rt; step.on.contains(ZoneId { number: 1 }));
     }
