@@ -21,7 +21,7 @@ use Rattle.nc_blocks.specs.declared.pieces.Piece.{Piece}
 use Rattle.nc_blocks.specs.declared.pieces.Piece.TheVariants as piece
 use Rattle.nc_blocks.specs.Pieces.{piece_at, text_at}
 use Rattle.nc_blocks.specs.Marks.{code_of, code_at, word_code_of, word_code, ended, end_at, assign_of, assign_at, open_of, open_at, close_of, close_at, close_bracket_of, close_bracket_at, comma_of, comma_at, keyword_at}
-use Rattle.nc_blocks.specs.Reading.{Gives, expression_at, in_words, value_at, constant_of, constant_at, block_number, block_number_of, block_number_at, index_or, index_of_piece, index_at, label_of, label_at}
+use Rattle.nc_blocks.specs.Reading.{Gives, expression_at, in_words, value_at, constant_of, constant_at, block_number, block_number_of, block_number_at, index_or, parameter_number, index_of_piece, index_at, label_of, label_at}
 use Rattle.nc_blocks.specs.Lists.{Item, go_on, listed, list_at}
 use Rattle.nc_blocks.specs.Refusals.{block_refusals, IsBlockRefusal, IsListed}
 
@@ -218,13 +218,14 @@ index_or_listed : (o : Option ℕ) (code : ℕ) → IsBlockRefusal code → List
 index_or_listed (Some i) code h = found _
 index_or_listed None code h = refuses h
 
-piece_index : (p : Piece) (code : ℕ) → IsBlockRefusal code → Listed (index_of_piece p code)
-piece_index (piece.Number z) code h = index_or_listed _ 22 unreadable
-piece_index one code h = refuses h
+piece_index : (p : Piece) (text : List ℕ) (code : ℕ) → IsBlockRefusal code → Listed (index_of_piece p text code)
+unfolding parameter_number
+piece_index (piece.Number z) text code h = chosen _ _ _ (index_or_listed _ 22 unreadable) (refuses unreadable)
+piece_index one text code h = refuses h
 
 pub index_listed : (words : WordsView) (at code : ℕ) → IsBlockRefusal code → Listed (index_at words at code)
 unfolding index_at
-index_listed words at code h = piece_index (piece_at words at) code h
+index_listed words at code h = piece_index (piece_at words at) (text_at words at) code h
 
 piece_label : (p : Piece) (text : List ℕ) → Listed (label_of p text)
 piece_label piece.Name text = found _

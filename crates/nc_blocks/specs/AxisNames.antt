@@ -1,10 +1,10 @@
 -- Axis names: the letter of an axis, and digits.
 use Rattle.std.specs.Prelude.{ℕ, ◌+◌, ◌==◌, ◌&&◌, ◌||◌, Bool, false, List}
 use Rattle.block_scanner.specs.WordsView.{WordsView}
+use Rattle.nc_expressions.specs.Symbols.{is_digits}
 use Rattle.nc_blocks.specs.declared.pieces.Piece.{Piece}
 use Rattle.nc_blocks.specs.declared.pieces.Piece.TheVariants as piece
 use Rattle.nc_blocks.specs.Pieces.{piece_at, text_at, is_assign}
-use Rattle.nc_blocks.specs.Reading.{is_digits}
 
 -- the letters of axes: A, B, C, U, V, W, X, Y, Z
 abbrev pub is_axis_letter : ℕ → Bool

@@ -43,7 +43,7 @@ abbrev pub open_of : Piece → ℕ → ℕ → Result ℕ ℕ
 open_of piece.Open next code = Ok next
 open_of one next code = Err code
 
--- the same of `(`, `)`, `[`, `]` and `,`
+-- the same of `(`, `)`, `]` and `,`
 unfoldable pub open_at : WordsView → ℕ → ℕ → Result ℕ ℕ
 open_at words at code = open_of (piece_at words at) (at + 1) code
 
@@ -53,10 +53,6 @@ close_of one next code = Err code
 
 unfoldable pub close_at : WordsView → ℕ → ℕ → Result ℕ ℕ
 close_at words at code = close_of (piece_at words at) (at + 1) code
-
-abbrev pub open_bracket_of : Piece → ℕ → ℕ → Result ℕ ℕ
-open_bracket_of piece.OpenBracket next code = Ok next
-open_bracket_of one next code = Err code
 
 abbrev pub close_bracket_of : Piece → ℕ → ℕ → Result ℕ ℕ
 close_bracket_of piece.CloseBracket next code = Ok next

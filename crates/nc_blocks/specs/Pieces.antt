@@ -35,7 +35,7 @@ sign_piece sign.Dollar = piece.Other
 
 -- a number that is out of range fits no form
 unfoldable pub number_piece : Symbol → Piece
-number_piece (symbol.Number z) = piece.Number z
+number_piece (symbol.Number z digits) = piece.Number z
 number_piece one = piece.Broken
 
 -- a name has at most 32 bytes

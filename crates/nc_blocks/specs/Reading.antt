@@ -1,7 +1,5 @@
 -- What a step of reading gives, and the expressions of a block.
 use Rattle.std.specs.Prelude.{◌≡◌, ℕ, ℤ, ◌+◌, ◌/◌, ◌&&◌, nat_le, length, neg_ℤ, Bool, ◌==◌, if◌then◌else◌, List, Option, Some, None, Result, Ok, Err}
-use Rattle.std.specs.List.{list_all}
-use Rattle.std.specs.Char.{is_ascii_digit}
 use Rattle.std.specs.Int.RustNames.{unsigned_abs}
 use Rattle.block_scanner.specs.WordsView.{WordsView}
 use Rattle.nc_expressions.specs.declared.trees.Expr.{Expr}
@@ -9,7 +7,7 @@ use Rattle.nc_expressions.specs.declared.faults.SyntaxFault.{SyntaxFault}
 use Rattle.nc_expressions.specs.declared.faults.SyntaxFault.TheVariants.{Refused, NoMemory}
 use Rattle.nc_expressions.specs.Parsing.{expr_at}
 use Rattle.nc_expressions.specs.Stops.{stop_at}
-use Rattle.nc_expressions.specs.Symbols.{symbols_of, index_of}
+use Rattle.nc_expressions.specs.Symbols.{symbols_of, is_digits, index_of}
 use Rattle.nc_expressions.specs.Tree.{Tree, tree_of}
 use Rattle.nc_blocks.specs.declared.pieces.Piece.{Piece}
 use Rattle.nc_blocks.specs.declared.pieces.Piece.TheVariants as piece
@@ -60,10 +58,6 @@ constant_of first one next code = Err code
 unfoldable pub constant_at : WordsView → ℕ → ℕ → Result (ℤ × ℕ) ℕ
 constant_at words at code = constant_of (piece_at words at) (piece_at words (after_sign words at)) (after_sign words at + 1) code
 
--- the texts of N, P and parameters
-abbrev pub is_digits : List ℕ → Bool
-is_digits text = list_all is_ascii_digit text
-
 -- the whole part of a number that is not negative
 abbrev pub whole : ℤ → ℕ
 whole z = unsigned_abs z / 1000000
@@ -83,13 +77,17 @@ abbrev pub index_or : Option ℕ → ℕ → Result ℕ ℕ
 index_or (Some i) code = Ok i
 index_or None code = Err code
 
-abbrev pub index_of_piece : Piece → ℕ → Result ℕ ℕ
-index_of_piece (piece.Number z) code = index_or (index_of z) 22
-index_of_piece one code = Err code
+-- the number of a parameter: digits, 0 to 999 by their value
+unfoldable pub parameter_number : List ℕ → ℤ → Result ℕ ℕ
+parameter_number text z = if is_digits text then index_or (index_of z) 22 else Err 22
+
+abbrev pub index_of_piece : Piece → List ℕ → ℕ → Result ℕ ℕ
+index_of_piece (piece.Number z) text code = parameter_number text z
+index_of_piece one text code = Err code
 
 -- the parameter that a number names, or this refusal where none stands there
 unfoldable pub index_at : WordsView → ℕ → ℕ → Result ℕ ℕ
-index_at words at code = index_of_piece (piece_at words at) code
+index_at words at code = index_of_piece (piece_at words at) (text_at words at) code
 
 abbrev pub label_of : Piece → List ℕ → Result (List ℕ) ℕ
 label_of piece.Name text = Ok (name_of text)

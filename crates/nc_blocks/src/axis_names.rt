@@ -6,8 +6,8 @@ ghost use Rattle.block_scanner.specs.Scanned.{IsScanned};
 ghost use Rattle.nc_blocks.specs.AxisNames.{is_axis_letter, has_digits, has_axis_name, has_axis_word};
 
 use crate::pieces::{Piece, piece_at, text_at};
-use crate::reading::is_digits;
 use block_scanner::Words;
+use nc_expressions::is_digits;
 
 /// Whether a letter is that of axes.
 fn is_axis_letter(letter: u8) -> bool

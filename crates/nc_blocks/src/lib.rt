@@ -18,6 +18,6 @@ pub use marks::{
 };
 pub use names::NameText;
 pub use pieces::{Piece, piece_at, text_at};
-pub use reading::{block_number_at, constant_at, expression_at, index_at, is_digits, label_at};
+pub use reading::{block_number_at, constant_at, expression_at, index_at, label_at};
 pub use texts::{address, same_text, unquoted};
 pub use wording::words_form;

@@ -78,7 +78,7 @@ fn number_piece(symbol: Symbol) -> Piece
     ensures { result ≡ number_piece symbol }
 {
     match symbol {
-        Symbol::Number(number) => Piece::Number(number),
+        Symbol::Number(number, _) => Piece::Number(number),
         _ => Piece::Broken,
     }
 }

@@ -5,14 +5,14 @@ ghost use Rattle.std.specs.Int.RustNames.{unsigned_abs};
 ghost use Rattle.block_scanner.specs.Scanned.{IsScanned};
 ghost use Rattle.nc_expressions.specs.Tree.{tree_of, IndicesFit};
 ghost use Rattle.nc_blocks.specs.declared.pieces.Piece.{Piece};
-ghost use Rattle.nc_blocks.specs.Reading.{Gives, placed_tree, expression_at, value_at, after_sign, signed, constant_at, is_digits, block_number, block_number_at, index_at, label_at};
+ghost use Rattle.nc_blocks.specs.Reading.{Gives, placed_tree, expression_at, value_at, after_sign, signed, constant_at, block_number, block_number_at, parameter_number, index_at, label_at};
 
 use crate::marks::word_code;
 use crate::names::NameText;
 use crate::pieces::{Piece, piece_at, text_at};
 use block_scanner::Words;
 use micro_units::Num;
-use nc_expressions::{Expr, SyntaxFault, expr_stop, index_of, parse_expr};
+use nc_expressions::{Expr, SyntaxFault, expr_stop, index_of, is_digits, parse_expr};
 use std::alloc::Global;
 
 /// The expression at a place, and the place behind it; or the refusal of the leftmost place at which
@@ -100,13 +100,6 @@ pub fn constant_at(words: &Words<'_>, at: usize, code: u16) -> Result<(Num, usiz
     }
 }
 
-/// Whether a text is nothing but digits.
-pub fn is_digits(text: &[u8]) -> bool
-    ensures { result ≡ is_digits text.now }
-{
-    text.iter().all(|byte| byte.is_ascii_digit())
-}
-
 /// The number of a block, from the text and the value of a number.
 #[tactic(auto, unfolding(crate::specs::Reading::block_number))]
 fn block_number(text: &[u8], number: Num) -> Result<u32, u16>
@@ -133,8 +126,20 @@ pub fn block_number_at(words: &Words<'_>, at: usize) -> Result<u32, u16>
     }
 }
 
-/// The parameter number at a place, 0 to 999. Another number is refused by 22, and what is no number
-/// by the given code.
+/// The number of a parameter, from the text and the value of a number.
+#[tactic(auto, unfolding(crate::specs::Reading::parameter_number))]
+fn parameter_number(text: &[u8], number: Num) -> Result<u16, u16>
+    ensures value { result ≡ parameter_number text.now number }
+    ensures within { IfOk result (λ i. i ≤ 999) }
+{
+    match index_of(number) {
+        Some(index) if is_digits(text) => Ok(index),
+        _ => Err(22),
+    }
+}
+
+/// The parameter number at a place: digits, 0 to 999 by their value. Another number is refused by
+/// 22, and what is no number by the given code.
 #[tactic(auto, unfolding(crate::specs::Reading::index_at))]
 pub fn index_at(words: &Words<'_>, at: usize, code: u16) -> Result<u16, u16>
     requires { IsScanned words.now }
@@ -142,10 +147,7 @@ pub fn index_at(words: &Words<'_>, at: usize, code: u16) -> Result<u16, u16>
     ensures within { IfOk result (λ i. (i ≤ 999) × (at < length words.now.tokens)) }
 {
     match piece_at(words, at) {
-        Piece::Number(number) => match index_of(number) {
-            Some(index) => Ok(index),
-            None => Err(22),
-        },
+        Piece::Number(number) => parameter_number(text_at(words, at), number),
         _ => Err(code),
     }
 }

@@ -33,7 +33,7 @@ looser q r (Opened b lv ∷ st) h l = tt
 
 -- what an expression leaves of itself, before what comes joins it
 abbrev pub fed : Syntax → Stack → Tree × Stack
-fed (Constant z) st = attach (tree (Constant z)) st
+fed (Constant z d) st = attach (tree (Constant z d)) st
 fed (Truth b) st = attach (tree (Truth b)) st
 fed (Positive x) st = attach (tree (Positive x)) st
 fed (Negative x) st = attach (tree (Negative x)) st
@@ -74,7 +74,7 @@ joined_at q r t st l = ap (λ (p : Tree × Stack). join r p.0 p.1) (attach_loose
 
 -- what comes and binds no more tightly joins all of an expression
 pub joins : (lim : Limits) → (x : Syntax) (n r q : ℕ) (st : Stack) → Fits lim n x → r ≤ tightness x → Loose q st → join r (fed x st).0 (fed x st).1 ≡ join r (tree x) st
-joins lim (Constant z) n r q st f h l = joined_at q r (tree (Constant z)) st l
+joins lim (Constant z d) n r q st f h l = joined_at q r (tree (Constant z d)) st l
 joins lim (Truth b) n r q st f h l = joined_at q r (tree (Truth b)) st l
 joins lim (Positive x) n r q st f h l = joined_at q r (tree (Positive x)) st l
 joins lim (Negative x) n r q st f h l = joined_at q r (tree (Negative x)) st l
@@ -88,7 +88,7 @@ joins lim (Chained op a b) n r q st f h l =
 
 -- the stack on which an expression can be read
 abbrev pub Ready : Syntax → Stack → Type 0
-Ready (Constant z) st = Unit {0}
+Ready (Constant z d) st = Unit {0}
 Ready (Truth b) st = Unit {0}
 Ready (Positive x) st = Unit {0}
 Ready (Negative x) st = Unit {0}
@@ -101,7 +101,7 @@ Ready (Chained op a b) st = Loose (rank op) st
 
 -- a stack on which nothing binds as tightly as r is ready for what binds as tightly
 ready_above : (x : Syntax) (r : ℕ) (st : Stack) → r ≤ tightness x → Loose r st → Ready x st
-ready_above (Constant z) r st h l = tt
+ready_above (Constant z d) r st h l = tt
 ready_above (Truth b) r st h l = tt
 ready_above (Positive x) r st h l = tt
 ready_above (Negative x) r st h l = tt
@@ -114,7 +114,7 @@ ready_above (Chained op a b) r st h l = looser r (rank op) st h l
 
 -- behind a sign stands no operator
 ready_tight : (x : Syntax) (st : Stack) → tightness x ≡ 6 → Ready x st
-ready_tight (Constant z) st h = tt
+ready_tight (Constant z d) st h = tt
 ready_tight (Truth b) st h = tt
 ready_tight (Positive x) st h = tt
 ready_tight (Negative x) st h = tt
@@ -126,7 +126,7 @@ ready_tight (Grouped x) st h = tt
 ready_tight (Chained op a b) st h = absurd (omega (arith, h, rank_small op))
 
 pub fed_tight : (x : Syntax) (st : Stack) → tightness x ≡ 6 → fed x st ≡ attach (tree x) st
-fed_tight (Constant z) st h = refl
+fed_tight (Constant z d) st h = refl
 fed_tight (Truth b) st h = refl
 fed_tight (Positive x) st h = refl
 fed_tight (Negative x) st h = refl
@@ -181,7 +181,7 @@ inside o l h = ap (λ (k : Option Level). and_then k (together Plain)) h ∙ pla
 pub reads : (lim : Limits) → (x : Syntax) (st : Stack) (lv out : Level) (rest : List Symbol) → Fits lim (depth st) x → and_then (level lim x) (together lv) ≡ Some out → Ready x st →
     run lim (spelling x ++ rest) (Wants st lv) ≡ run lim rest (ended out (fed x st))
 unfolding run step on_operand on_sign on_index on_argument
-reads lim (Constant z) st lv out rest f h r = ap (λ (l : Level). run lim rest (ended l (attach (Number z) st))) (same_level lv out h)
+reads lim (Constant z d) st lv out rest f h r = ap (λ (l : Level). run lim rest (ended l (attach (Number z) st))) (same_level lv out h)
 reads lim (Truth b) st lv out rest f h r = ap (λ (l : Level). run lim rest (ended l (attach (Number (truth b)) st))) (same_level lv out h)
 reads lim (Positive x) st lv out rest f h r =
     reads lim x st lv out rest f.1 h (ready_tight x st f.0) ∙ ap (λ (p : Tree × Stack). run lim rest (ended out p)) (fed_tight x st f.0)
@@ -198,7 +198,7 @@ reads lim (Denied x) st lv out rest f h r =
     ∙ reads lim x (Prefix unary.Not ∷ st) k.0 out rest f.1 inner (ready_tight x (Prefix unary.Not ∷ st) f.0)
     ∙ ap (λ (p : Tree × Stack). run lim rest (ended out p)) (fed_tight x (Prefix unary.Not ∷ st) f.0)
 reads lim (Named z) st lv out rest f h r =
-    ap (λ (n : Next). go_on n (symbol.Number z ∷ rest) (run lim rest)) (named (index_of z) st lv f)
+    ap (λ (n : Next). go_on n (symbol.Number z true ∷ rest) (run lim rest)) (named (index_of z) st lv f)
     ∙ ap (λ (l : Level). run lim rest (ended l (attach (parameter_of (index_of z)) st))) (same_level lv out h)
 reads lim (Indexing x) st lv out rest f h r =
     let l = level_is (level lim x) f.0 in
@@ -242,7 +242,7 @@ reads lim (Chained op a b) st lv out rest f h r =
 ends_here : (lim : Limits) → (p : Tree × Stack) (t : Tree) (lv : Level) (rest : List Symbol) → join 0 p.0 p.1 ≡ (t, []) → Follows rest → run lim rest (ended lv p) ≡ Ok (t, rest)
 unfolding run step on_ended finish on_other on_close on_close_bracket
 ends_here lim p t lv [] e f = ap (λ (q : Tree × Stack). at_last (stop q.0 q.1)) e
-ends_here lim p t lv (symbol.Number z ∷ ss) e f = ap (λ (q : Tree × Stack). go_on (stop q.0 q.1) (symbol.Number z ∷ ss) (run lim ss)) e
+ends_here lim p t lv (symbol.Number z d ∷ ss) e f = ap (λ (q : Tree × Stack). go_on (stop q.0 q.1) (symbol.Number z d ∷ ss) (run lim ss)) e
 ends_here lim p t lv (symbol.Truth b ∷ ss) e f = ap (λ (q : Tree × Stack). go_on (stop q.0 q.1) (symbol.Truth b ∷ ss) (run lim ss)) e
 ends_here lim p t lv (symbol.Not ∷ ss) e f = ap (λ (q : Tree × Stack). go_on (stop q.0 q.1) (symbol.Not ∷ ss) (run lim ss)) e
 ends_here lim p t lv (symbol.Function g ∷ ss) e f = ap (λ (q : Tree × Stack). go_on (stop q.0 q.1) (symbol.Function g ∷ ss) (run lim ss)) e

@@ -96,8 +96,8 @@ completes lim (Within Index outer ∷ g) x lv o h =
 -- what waits for an operand begins an expression: 0 may stand there, and R0
 begins : (lim : Limits) → (g : Parts) (lv : Level) → Good lim g lv → BeginsExpressionUnder lim (written g)
 begins lim g lv good =
-    let c = completes lim g (Constant (pos 0)) lv (plain_operand lim g (Constant (pos 0)) lv good refl tt) (takes_tight g (Constant (pos 0)) refl) in
-    (c.0, spelling (Constant (pos 0)) ++ c.1, c.2, c.3)
+    let c = completes lim g (Constant (pos 0) true) lv (plain_operand lim g (Constant (pos 0) true) lv good refl tt) (takes_tight g (Constant (pos 0) true) refl) in
+    (c.0, spelling (Constant (pos 0) true) ++ c.1, c.2, c.3)
 
 zero_is_index : IsSome (index_of (pos 0))
 unfolding index_of
@@ -107,13 +107,13 @@ begins_index : (lim : Limits) → (g : Parts) (lv : Level) → Good lim g lv →
 begins_index lim g lv good =
     let x : Syntax = Named (pos 0) in
     let c = completes lim g x lv (plain_operand lim g x lv good refl zero_is_index) (takes_tight g x refl) in
-    (c.0, (symbol.Number (pos 0) ∷ []) ++ c.1, c.2, append_assoc (written g) (symbol.Letter ∷ []) ((symbol.Number (pos 0) ∷ []) ++ c.1) ∙ c.3)
+    (c.0, (symbol.Number (pos 0) true ∷ []) ++ c.1, c.2, append_assoc (written g) (symbol.Letter ∷ []) ((symbol.Number (pos 0) true ∷ []) ++ c.1) ∙ c.3)
 
 -- behind the name of a function, where any number of parentheses may be open
 begins_argument : (f : UnaryOp) (g : Parts) (lv : Level) → Good any_nesting g lv → BeginsExpressionUnder any_nesting (written g ++ (symbol.Function f ∷ []))
 begins_argument f g lv good =
     let inner : Parts = Within (Argument f) lv ∷ g in
-    let x : Syntax = Constant (pos 0) in
+    let x : Syntax = Constant (pos 0) true in
     let c = completes any_nesting inner x Plain (plain_operand any_nesting inner x Plain (refl, refl, good) refl tt) tt in
     let rest : List Symbol = spelling x ++ c.1 in (
       c.0,

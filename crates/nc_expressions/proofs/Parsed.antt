@@ -24,7 +24,7 @@ use Rattle.nc_expressions.proofs.Runs.{gives_read}
 
 -- an expression has a symbol
 spelled : (x : Syntax) → 0 < length (spelling x)
-spelled (Constant z) = omega arith
+spelled (Constant z d) = omega arith
 spelled (Truth b) = omega arith
 spelled (Positive x) = omega arith
 spelled (Negative x) = omega arith
@@ -53,7 +53,7 @@ index_small (pos n) i h = index_cases (n % 1000000 == 0) (nat_lt n 1000000000) n
 index_small (negsuc n) i h = cc
 
 fits_indices : (x : Syntax) (n : ℕ) → Fits all_limits n x → IndicesFit (tree x)
-fits_indices (Constant z) n f = tt
+fits_indices (Constant z d) n f = tt
 fits_indices (Truth b) n f = tt
 fits_indices (Positive x) n f = fits_indices x n f.1
 fits_indices (Negative x) n f = fits_indices x n f.1

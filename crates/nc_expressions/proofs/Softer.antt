@@ -177,7 +177,7 @@ soft_attached lim t st lv = ap (λ (p : Tree × Stack). On (ended (soft lim lv) 
 soft_operand : (n a : Bool) (s : Symbol) (st : Stack) (lv : Level) →
     Softened (limits_of n a) (on_operand all_limits st lv s) (on_operand (limits_of n a) (soft_stack (limits_of n a) st) (soft (limits_of n a) lv) s)
 unfolding on_operand
-soft_operand n a (symbol.Number z) st lv = soft_attached (limits_of n a) (Number z) st lv
+soft_operand n a (symbol.Number z d) st lv = soft_attached (limits_of n a) (Number z) st lv
 soft_operand n a (symbol.Truth b) st lv = soft_attached (limits_of n a) (Number (truth b)) st lv
 soft_operand n a (symbol.Operator op) st lv = soft_sign (limits_of n a) op st lv
 soft_operand n a symbol.Not st lv = soft_prefix (limits_of n a) (together lv Connects) lv Connects unary.Not st (soft_levels n a lv Connects)
@@ -196,7 +196,8 @@ soft_parameter lim (Some i) st lv = soft_attached lim (Parameter i) st lv
 
 soft_index : (lim : Limits) (s : Symbol) (st : Stack) (lv : Level) → Softened lim (on_index st lv s) (on_index (soft_stack lim st) (soft lim lv) s)
 unfolding on_index
-soft_index lim (symbol.Number z) st lv = soft_parameter lim (index_of z) st lv
+soft_index lim (symbol.Number z true) st lv = soft_parameter lim (index_of z) st lv
+soft_index lim (symbol.Number z false) st lv = inl (refl, inl refl)
 soft_index lim symbol.OpenBracket st lv = refl
 soft_index lim (symbol.Truth b) st lv = inl (refl, inl refl)
 soft_index lim (symbol.Operator op) st lv = inl (refl, inl refl)
@@ -213,7 +214,7 @@ soft_argument : (n a : Bool) (s : Symbol) (f : UnaryOp) (st : Stack) (lv : Level
     Softened (limits_of n a) (on_argument all_limits f st lv s) (on_argument (limits_of n a) f (soft_stack (limits_of n a) st) (soft (limits_of n a) lv) s)
 unfolding on_argument
 soft_argument n a symbol.Open f st lv = soft_open n a (Argument f) st lv
-soft_argument n a (symbol.Number z) f st lv = inl (refl, inl refl)
+soft_argument n a (symbol.Number z d) f st lv = inl (refl, inl refl)
 soft_argument n a (symbol.Truth b) f st lv = inl (refl, inl refl)
 soft_argument n a (symbol.Operator op) f st lv = inl (refl, inl refl)
 soft_argument n a symbol.Not f st lv = inl (refl, inl refl)
@@ -275,7 +276,7 @@ soft_ended n a (symbol.Operator op) t st lv = soft_operator n a op t st lv
 soft_ended n a symbol.Close t st lv = soft_joined (limits_of n a) close_parenthesis 0 t st (soft_close (limits_of n a))
 soft_ended n a symbol.CloseBracket t st lv = soft_joined (limits_of n a) close_bracket 0 t st (soft_close_bracket (limits_of n a))
 soft_ended n a symbol.Exponent t st lv = inl (refl, inl refl)
-soft_ended n a (symbol.Number z) t st lv = soft_joined (limits_of n a) stop 0 t st (soft_stop (limits_of n a))
+soft_ended n a (symbol.Number z d) t st lv = soft_joined (limits_of n a) stop 0 t st (soft_stop (limits_of n a))
 soft_ended n a (symbol.Truth b) t st lv = soft_joined (limits_of n a) stop 0 t st (soft_stop (limits_of n a))
 soft_ended n a symbol.Not t st lv = soft_joined (limits_of n a) stop 0 t st (soft_stop (limits_of n a))
 soft_ended n a (symbol.Function f) t st lv = soft_joined (limits_of n a) stop 0 t st (soft_stop (limits_of n a))

@@ -249,8 +249,8 @@ after_argument_open lim f g lv ss good w =
 
 after_operand : (lim : Limits) → (s : Symbol) (g : Parts) (lv : Level) (ss : List Symbol) → Good lim g lv → written g ≡ ss → After lim ss s (on_operand lim (image g) lv s)
 unfolding on_operand
-after_operand lim (symbol.Number z) g lv ss good w =
-    attached lim g (Constant z) lv (ss ++ (symbol.Number z ∷ [])) (plain_operand lim g (Constant z) lv good refl tt) refl (more (written g) ss (symbol.Number z ∷ []) w)
+after_operand lim (symbol.Number z d) g lv ss good w =
+    attached lim g (Constant z d) lv (ss ++ (symbol.Number z d ∷ [])) (plain_operand lim g (Constant z d) lv good refl tt) refl (more (written g) ss (symbol.Number z d ∷ []) w)
 after_operand lim (symbol.Truth b) g lv ss good w =
     attached lim g (Truth b) lv (ss ++ (symbol.Truth b ∷ [])) (plain_operand lim g (Truth b) lv good refl tt) refl (more (written g) ss (symbol.Truth b ∷ []) w)
 after_operand lim (symbol.Operator op) g lv ss good w = after_sign lim op g lv ss good w
@@ -265,18 +265,19 @@ after_operand lim symbol.Exponent g lv ss good w = tt
 after_operand lim symbol.Other g lv ss good w = tt
 
 after_number : (lim : Limits) → (o : Option ℕ) (z : ℤ) (g : Parts) (lv : Level) (ss : List Symbol) → index_of z ≡ o → Good lim g lv → written g ++ (symbol.Letter ∷ []) ≡ ss →
-    After lim ss (symbol.Number z) (with_parameter o (image g) lv)
+    After lim ss (symbol.Number z true) (with_parameter o (image g) lv)
 after_number lim None z g lv ss h good w = tt
 after_number lim (Some i) z g lv ss h good w =
     let fits : IsSome (index_of z) = rw h (search rules) in
-    let w' : written g ++ spelling (Named z) ≡ ss ++ (symbol.Number z ∷ []) =
-    sym (append_assoc (written g) (symbol.Letter ∷ []) (symbol.Number z ∷ [])) ∙ more (written g ++ (symbol.Letter ∷ [])) ss (symbol.Number z ∷ []) w in
-    let P : Option ℕ → Type 0 = λ k. Stands lim (ss ++ (symbol.Number z ∷ [])) (ended lv (attach (parameter_of k) (image g))) in
-    subst P h (attached lim g (Named z) lv (ss ++ (symbol.Number z ∷ [])) (plain_operand lim g (Named z) lv good refl fits) refl w')
+    let w' : written g ++ spelling (Named z) ≡ ss ++ (symbol.Number z true ∷ []) =
+    sym (append_assoc (written g) (symbol.Letter ∷ []) (symbol.Number z true ∷ [])) ∙ more (written g ++ (symbol.Letter ∷ [])) ss (symbol.Number z true ∷ []) w in
+    let P : Option ℕ → Type 0 = λ k. Stands lim (ss ++ (symbol.Number z true ∷ [])) (ended lv (attach (parameter_of k) (image g))) in
+    subst P h (attached lim g (Named z) lv (ss ++ (symbol.Number z true ∷ [])) (plain_operand lim g (Named z) lv good refl fits) refl w')
 
 after_index : (lim : Limits) → (s : Symbol) (g : Parts) (lv : Level) (ss : List Symbol) → Good lim g lv → written g ++ (symbol.Letter ∷ []) ≡ ss → After lim ss s (on_index (image g) lv s)
 unfolding on_index
-after_index lim (symbol.Number z) g lv ss good w = after_number lim (index_of z) z g lv ss refl good w
+after_index lim (symbol.Number z true) g lv ss good w = after_number lim (index_of z) z g lv ss refl good w
+after_index lim (symbol.Number z false) g lv ss good w = tt
 after_index lim symbol.OpenBracket g lv ss good w = (
   Within Index lv ∷ g,
   refl,
@@ -298,7 +299,7 @@ after_argument : (lim : Limits) → (s : Symbol) (f : UnaryOp) (g : Parts) (lv :
     After lim ss s (on_argument lim f (image g) lv s)
 unfolding on_argument
 after_argument lim symbol.Open f g lv ss good w = after_argument_open lim f g lv ss good w
-after_argument lim (symbol.Number z) f g lv ss good w = tt
+after_argument lim (symbol.Number z d) f g lv ss good w = tt
 after_argument lim (symbol.Truth b) f g lv ss good w = tt
 after_argument lim (symbol.Operator op) f g lv ss good w = tt
 after_argument lim symbol.Not f g lv ss good w = tt
@@ -407,8 +408,8 @@ after_ended lim symbol.CloseBracket g x lv ss o l h w =
     let j : Joins lim 0 lv ss p = joins_to lim 0 g x lv ss o l (omega arith) w in
     moved (λ t st. After lim ss symbol.CloseBracket (close_bracket t st)) j.1 j.0 p j.2 j.3 (after_close_bracket lim j.0 j.1 lv ss j.4 j.6 j.7)
 after_ended lim symbol.Exponent g x lv ss o l h w = tt
-after_ended lim (symbol.Number z) g x lv ss o l h w =
-    after_stop lim (symbol.Number z) ss (stop (join 0 (tree x) (image g)).0 (join 0 (tree x) (image g)).1) (join_stops lim lv ss (join 0 (tree x) (image g)) (joins_to lim 0 g x lv ss o l (omega arith) w)) tt
+after_ended lim (symbol.Number z d) g x lv ss o l h w =
+    after_stop lim (symbol.Number z d) ss (stop (join 0 (tree x) (image g)).0 (join 0 (tree x) (image g)).1) (join_stops lim lv ss (join 0 (tree x) (image g)) (joins_to lim 0 g x lv ss o l (omega arith) w)) tt
 after_ended lim (symbol.Truth b) g x lv ss o l h w =
     after_stop lim (symbol.Truth b) ss (stop (join 0 (tree x) (image g)).0 (join 0 (tree x) (image g)).1) (join_stops lim lv ss (join 0 (tree x) (image g)) (joins_to lim 0 g x lv ss o l (omega arith) w)) tt
 after_ended lim symbol.Not g x lv ss o l h w =
@@ -449,7 +450,7 @@ abbrev pub Reached : (lim : Limits) → List Symbol → Tree → List Symbol →
 Reached lim all t left = (ss : List Symbol) × IsSpelled lim ss t × Follows left × (all ≡ ss ++ left)
 
 follows_more : (s : Symbol) (ss : List Symbol) → Follows (s ∷ []) → Follows (s ∷ ss)
-follows_more (symbol.Number z) ss h = h
+follows_more (symbol.Number z d) ss h = h
 follows_more (symbol.Truth b) ss h = h
 follows_more (symbol.Operator op) ss h = h
 follows_more symbol.Not ss h = h

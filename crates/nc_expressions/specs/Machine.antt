@@ -100,7 +100,7 @@ on_sign GreaterEqual st lv = Refuse 22
 on_sign LessEqual st lv = Refuse 22
 
 unfoldable pub on_operand : Limits → Stack → Level → Symbol → Next
-on_operand limits st lv (symbol.Number z) = On (ended lv (attach (Number z) st))
+on_operand limits st lv (symbol.Number z digits) = On (ended lv (attach (Number z) st))
 on_operand limits st lv (symbol.Truth b) = On (ended lv (attach (Number (truth b)) st))
 on_operand limits st lv (symbol.Operator op) = on_sign op st lv
 on_operand limits st lv symbol.Not = with_prefix (together lv (connecting limits)) (clash lv (connecting limits)) unary.Not st
@@ -113,9 +113,10 @@ on_operand limits st lv symbol.CloseBracket = Refuse 22
 on_operand limits st lv symbol.Exponent = Refuse 22
 on_operand limits st lv symbol.Other = Refuse 22
 
--- behind R
+-- behind R; a number with a point is none of a parameter
 unfoldable pub on_index : Stack → Level → Symbol → Next
-on_index st lv (symbol.Number z) = with_parameter (index_of z) st lv
+on_index st lv (symbol.Number z true) = with_parameter (index_of z) st lv
+on_index st lv (symbol.Number z false) = Refuse 22
 on_index st lv (symbol.Truth b) = Refuse 22
 on_index st lv (symbol.Operator op) = Refuse 22
 on_index st lv symbol.Not = Refuse 22
@@ -130,7 +131,7 @@ on_index st lv symbol.Other = Refuse 22
 
 -- behind a function's name
 unfoldable pub on_argument : Limits → UnaryOp → Stack → Level → Symbol → Next
-on_argument limits f st lv (symbol.Number z) = Refuse 22
+on_argument limits f st lv (symbol.Number z digits) = Refuse 22
 on_argument limits f st lv (symbol.Truth b) = Refuse 22
 on_argument limits f st lv (symbol.Operator op) = Refuse 22
 on_argument limits f st lv symbol.Not = Refuse 22
@@ -178,7 +179,7 @@ unfoldable pub on_other : Tree × Stack → Next
 on_other p = stop p.0 p.1
 
 unfoldable pub on_ended : Limits → Tree → Stack → Level → Symbol → Next
-on_ended limits t st lv (symbol.Number z) = on_other (join 0 t st)
+on_ended limits t st lv (symbol.Number z digits) = on_other (join 0 t st)
 on_ended limits t st lv (symbol.Truth b) = on_other (join 0 t st)
 on_ended limits t st lv (symbol.Operator op) = on_operator limits op (join (rank op) t st) lv
 on_ended limits t st lv symbol.Not = on_other (join 0 t st)

@@ -44,7 +44,7 @@ is_exponent one = false
 
 -- a number with no exponent behind it
 abbrev pub plain_number : Option Symbol → Option Symbol → Result ℤ ℕ
-plain_number (Some (symbol.Number z)) behind = if is_exponent behind then Err 22 else Ok z
+plain_number (Some (symbol.Number z digits)) behind = if is_exponent behind then Err 22 else Ok z
 plain_number one behind = Err 22
 
 unfoldable pub number_at : List Symbol → ℕ → Result ℤ ℕ

@@ -73,23 +73,27 @@ name_symbol text =
     else if is_word text (codes "NOT") then Not
     else value_symbol text
 
--- a number; one that is out of range stands in no expression
-unfoldable pub number_symbol : Option ℤ → Symbol
-number_symbol (Some z) = if nat_lt (unsigned_abs z) (10 ^ 14) then Number z else Other
-number_symbol None = Other
+-- digits alone, without a point
+abbrev pub is_digits : List ℕ → Bool
+is_digits text = list_all is_ascii_digit text
+
+-- a number, and whether it is digits alone; one that is out of range stands in no expression
+unfoldable pub number_symbol : Option ℤ → Bool → Symbol
+number_symbol (Some z) digits = if nat_lt (unsigned_abs z) (10 ^ 14) then Number z digits else Other
+number_symbol None digits = Other
 
 -- 82 is 'R'
 unfoldable pub kind_symbol : Kind → List ℕ → Symbol
 kind_symbol (kind.Letter b) text = if b == 82 then Letter else Other
 kind_symbol kind.Name text = name_symbol text
-kind_symbol kind.Number text = number_symbol (number_of text)
+kind_symbol kind.Number text = number_symbol (number_of text) (is_digits text)
 kind_symbol kind.Text text = Other
 kind_symbol (kind.Sign s) text = sign_symbol s
 
 -- an E, or EX alone or with digits behind it; 69 is 'E'
 unfoldable pub is_exponent : Kind → List ℕ → Bool
 is_exponent (kind.Letter b) text = b == 69
-is_exponent kind.Name text = is_word (take 2 text) (codes "EX") && list_all is_ascii_digit (drop 2 text)
+is_exponent kind.Name text = is_word (take 2 text) (codes "EX") && is_digits (drop 2 text)
 is_exponent kind.Number text = false
 is_exponent kind.Text text = false
 is_exponent (kind.Sign s) text = false

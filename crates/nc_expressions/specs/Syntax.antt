@@ -1,5 +1,5 @@
 -- The grammar of expressions.
-use Rattle.std.specs.Prelude.{◌≡◌, ◌+◌, ◌<◌, ◌≤◌, ℕ, ℤ, Bool, List, [], ◌∷◌, ◌++◌, Option, Some, None, IsSome, IsTrue}
+use Rattle.std.specs.Prelude.{◌≡◌, ◌+◌, ◌<◌, ◌≤◌, ℕ, ℤ, Bool, true, List, [], ◌∷◌, ◌++◌, Option, Some, None, IsSome, IsTrue}
 use Rattle.nc_expressions.specs.declared.trees.UnaryOp.{UnaryOp}
 use Rattle.nc_expressions.specs.declared.trees.UnaryOp.TheVariants as unary
 use Rattle.nc_expressions.specs.declared.trees.BinaryOp.{BinaryOp}
@@ -13,9 +13,9 @@ use Rattle.nc_expressions.specs.Levels.{connecting, rank, kind, together}
 use Rattle.nc_expressions.specs.Limits.{Limits, all_limits, has_room}
 use Rattle.nc_expressions.specs.Symbols.{truth, index_of}
 
--- an expression as it is written
+-- an expression as it is written; of a constant also whether it is digits alone
 pub data Syntax : Type 0 where
-  Constant : ℤ → Syntax
+  Constant : ℤ → (digits : Bool) → Syntax
   Truth : Bool → Syntax
   Positive : Syntax → Syntax
   Negative : Syntax → Syntax
@@ -26,14 +26,14 @@ pub data Syntax : Type 0 where
   Grouped : Syntax → Syntax
   Chained : BinaryOp → Syntax → Syntax → Syntax
 
--- its symbols
+-- its symbols; the number of a parameter is digits alone
 abbrev pub spelling : Syntax → List Symbol
-spelling (Constant z) = symbol.Number z ∷ []
+spelling (Constant z digits) = symbol.Number z digits ∷ []
 spelling (Truth b) = symbol.Truth b ∷ []
 spelling (Positive x) = symbol.Operator Add ∷ spelling x
 spelling (Negative x) = symbol.Operator Sub ∷ spelling x
 spelling (Denied x) = symbol.Not ∷ spelling x
-spelling (Named z) = symbol.Letter ∷ (symbol.Number z ∷ [])
+spelling (Named z) = symbol.Letter ∷ (symbol.Number z true ∷ [])
 spelling (Indexing x) = symbol.Letter ∷ (symbol.OpenBracket ∷ (spelling x ++ (symbol.CloseBracket ∷ [])))
 spelling (Called f x) = symbol.Function f ∷ (symbol.Open ∷ (spelling x ++ (symbol.Close ∷ [])))
 spelling (Grouped x) = symbol.Open ∷ (spelling x ++ (symbol.Close ∷ []))
@@ -45,7 +45,7 @@ parameter_of None = Parameter 0
 
 -- its tree: parentheses and a plus sign leave nothing
 abbrev pub tree : Syntax → Tree
-tree (Constant z) = Number z
+tree (Constant z digits) = Number z
 tree (Truth b) = Number (truth b)
 tree (Positive x) = tree x
 tree (Negative x) = Unary unary.Minus (tree x)
@@ -58,7 +58,7 @@ tree (Chained op a b) = Binary op (tree a) (tree b)
 
 -- how tightly it holds together: as its operator, or more than any where none stands outside brackets and behind signs
 abbrev pub tightness : Syntax → ℕ
-tightness (Constant z) = 6
+tightness (Constant z digits) = 6
 tightness (Truth b) = 6
 tightness (Positive x) = 6
 tightness (Negative x) = 6
@@ -75,7 +75,7 @@ and_then None f = None
 
 -- what stands in it outside brackets; None where a rule of the level is broken
 abbrev pub level : Limits → Syntax → Option Level
-level limits (Constant z) = Some Plain
+level limits (Constant z digits) = Some Plain
 level limits (Truth b) = Some Plain
 level limits (Positive x) = level limits x
 level limits (Negative x) = level limits x
@@ -88,7 +88,7 @@ level limits (Chained op a b) = and_then (level limits a) (λ l. and_then (level
 
 -- it is of the grammar, with so many parentheses open around it
 abbrev pub Fits : Limits → ℕ → Syntax → Type 0
-Fits limits n (Constant z) = Unit {0}
+Fits limits n (Constant z digits) = Unit {0}
 Fits limits n (Truth b) = Unit {0}
 Fits limits n (Positive x) = (tightness x ≡ 6) × Fits limits n x
 Fits limits n (Negative x) = (tightness x ≡ 6) × Fits limits n x
@@ -109,7 +109,7 @@ IsExpression x = IsExpressionUnder all_limits x
 -- what can stand behind an expression that has ended
 abbrev pub Follows : List Symbol → Type 0
 Follows [] = Unit {0}
-Follows (symbol.Number z ∷ ss) = Unit {0}
+Follows (symbol.Number z digits ∷ ss) = Unit {0}
 Follows (symbol.Truth b ∷ ss) = Unit {0}
 Follows (symbol.Operator op ∷ ss) = ⊥
 Follows (symbol.Not ∷ ss) = Unit {0}

@@ -16,6 +16,6 @@ pub use faults::SyntaxFault;
 pub use laws::one_tree_at_most;
 pub use parsing::{parse_constant, parse_expr};
 pub use stops::expr_stop;
-pub use symbols::{Symbol, index_of, symbol_at};
+pub use symbols::{Symbol, index_of, is_digits, symbol_at};
 pub use trees::{BinaryOp, Expr, UnaryOp};
 pub use values::{Names, eval};

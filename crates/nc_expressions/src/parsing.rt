@@ -121,7 +121,7 @@ fn plain_number(symbol: Symbol, behind: Option<Symbol>) -> Result<Num, u16>
     ensures { result ≡ plain_number (Some symbol) behind }
 {
     match symbol {
-        Symbol::Number(number) => {
+        Symbol::Number(number, _) => {
             if is_exponent(behind) {
                 Err(22)
             } else {

@@ -85,7 +85,7 @@ fn on_operand(
     ensures { Steps (on_operand all_limits (stack_of pending.old.items) level symbol) result (stack_of pending.new.items) }
 {
     match symbol {
-        Symbol::Number(number) => ended(alloc, pending, level, Expr::Number(number)),
+        Symbol::Number(number, _) => ended(alloc, pending, level, Expr::Number(number)),
         Symbol::Truth(holds) => ended(alloc, pending, level, Expr::Number(truth(holds))),
         Symbol::Operator(op) => on_sign(pending, level, op),
         Symbol::Not => on_not(pending, level),
@@ -160,9 +160,9 @@ fn on_index(
     ensures { Steps (on_index (stack_of pending.old.items) level symbol) result (stack_of pending.new.items) }
 {
     match symbol {
-        Symbol::Number(number) => match index_of(number) {
-            Some(index) => ended(alloc, pending, level, Expr::Parameter(index)),
-            None => Err(SyntaxFault::Refused(22)),
+        Symbol::Number(number, digits) => match index_of(number) {
+            Some(index) if digits => ended(alloc, pending, level, Expr::Parameter(index)),
+            _ => Err(SyntaxFault::Refused(22)),
         },
         Symbol::OpenBracket => {
             push(pending, Held::Opened(Bracket::Index, level))?;

@@ -1,12 +1,10 @@
 //! The symbols of expressions: what a token means to an expression.
 
 ghost use Rattle.std.specs.Prelude.{◌≡◌, ◌≤◌, ◌<◌, IfSome, None, length, slice_index_or};
-ghost use Rattle.std.specs.List.{list_all};
-ghost use Rattle.std.specs.Char.{is_ascii_digit};
 ghost use Rattle.block_scanner.specs.Scanned.{IsScanned, IsTokenOf};
 ghost use Rattle.block_scanner.specs.Texts.{text_of};
 ghost use Rattle.micro_units.specs.NumberText.{number_of};
-ghost use Rattle.nc_expressions.specs.Symbols.{truth, index_of, sign_symbol, is_word, value_symbol, name_symbol, number_symbol, kind_symbol, is_exponent, is_number_kind, touches_number, symbol_of, symbols_of, token_before};
+ghost use Rattle.nc_expressions.specs.Symbols.{truth, index_of, sign_symbol, is_word, value_symbol, name_symbol, is_digits, number_symbol, kind_symbol, is_exponent, is_number_kind, touches_number, symbol_of, symbols_of, token_before};
 
 use crate::trees::{BinaryOp, UnaryOp};
 use block_scanner::{Kind, Sign, Token, Words};
@@ -15,8 +13,8 @@ use micro_units::Num;
 /// What a token means to an expression.
 #[derive(Clone, Copy)]
 pub enum Symbol {
-    /// A number.
-    Number(Num),
+    /// A number, and whether it is digits alone, without a point.
+    Number(Num, bool),
     /// TRUE or FALSE.
     Truth(bool),
     /// An operator between two operands; `+` and `-` may also be signs.
@@ -141,13 +139,20 @@ fn name_symbol(text: &[u8]) -> Symbol
     }
 }
 
+/// Whether a text is nothing but digits.
+pub fn is_digits(text: &[u8]) -> bool
+    ensures { result ≡ is_digits text.now }
+{
+    text.iter().all(|byte| byte.is_ascii_digit())
+}
+
 /// What the text of a number means to an expression.
 #[tactic(auto, unfolding(crate::specs::Symbols::number_symbol))]
 fn number_symbol(text: &[u8]) -> Symbol
-    ensures { result ≡ number_symbol (number_of text.now) }
+    ensures { result ≡ number_symbol (number_of text.now) (is_digits text.now) }
 {
     match Num::parse(text) {
-        Ok(number) => Symbol::Number(number),
+        Ok(number) => Symbol::Number(number, is_digits(text)),
         Err(_) => Symbol::Other,
     }
 }
@@ -166,20 +171,13 @@ fn kind_symbol(kind: Kind, text: &[u8]) -> Symbol
     }
 }
 
-/// Whether each byte is a digit.
-fn are_digits(bytes: &[u8]) -> bool
-    ensures { result ≡ list_all is_ascii_digit bytes.now }
-{
-    bytes.iter().all(|byte| byte.is_ascii_digit())
-}
-
 /// Whether a name is EX alone or with digits behind it.
 #[tactic(auto, using(crate::proofs::Beginnings::split_short), unfolding(crate::specs::Symbols::is_exponent))]
 fn is_exponent_name(text: &[u8]) -> bool
     ensures { result ≡ is_exponent Kind.Name text.now }
 {
     let (letters, digits) = text.split_at(text.len().min(2));
-    is_word(letters, b"EX") && are_digits(digits)
+    is_word(letters, b"EX") && is_digits(digits)
 }
 
 /// Whether a token of this kind and text begins an exponent.

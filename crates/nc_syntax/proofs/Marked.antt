@@ -4,13 +4,13 @@ use Rattle.std.specs.Prelude.{ℤ, ◌&&◌, neg_ℤ, nat_le}
 use Rattle.std.proofs.lemmas.Bool.{leb-true, le-leb}
 use Rattle.std.specs.Cmp.Derive.{both_true}
 use Rattle.block_scanner.specs.WordsView.{WordsView}
-use Rattle.nc_expressions.specs.Symbols.{index_of}
+use Rattle.nc_expressions.specs.Symbols.{is_digits, index_of}
 use Rattle.nc_blocks.specs.declared.pieces.Piece.{Piece}
 use Rattle.nc_blocks.specs.declared.pieces.Piece.TheVariants as piece
 use Rattle.nc_blocks.specs.Pieces.{piece_at, text_at}
 use Rattle.nc_blocks.specs.Marks.{ended, end_at, assign_of, assign_at, open_of, open_at, close_of, close_at, close_bracket_of, close_bracket_at, comma_of, comma_at, is_keyword, keyword_at}
 use Rattle.nc_expressions.specs.Value.{◌>>=◌}
-use Rattle.nc_blocks.specs.Reading.{after_sign_of, after_sign, signed, constant_of, constant_at, is_digits, whole, block_number, block_number_of, block_number_at, index_or, index_of_piece, index_at, label_of, label_at}
+use Rattle.nc_blocks.specs.Reading.{after_sign_of, after_sign, signed, constant_of, constant_at, whole, block_number, block_number_of, block_number_at, index_or, parameter_number, index_of_piece, index_at, label_of, label_at}
 use Rattle.nc_blocks.specs.AxisNames.{is_digits_piece, has_digits}
 use Rattle.nc_syntax.specs.Standing.{IsKeyword, IsSignedNumber, IsDigits, IsBlockNumber, IsIndex}
 use Rattle.nc_syntax.specs.Spelled.{IsNameOf}
@@ -201,8 +201,11 @@ index_or_found : (o : Option ℕ) (code i : ℕ) → index_or o code ≡ Ok i �
 index_or_found (Some j) code i h = cc
 index_or_found None code i h = cc
 
-index_cases : (words : WordsView) (at code i : ℕ) (p : Piece) → piece_at words at ≡ p → index_of_piece p code ≡ Ok i → IsIndex words at i
-index_cases words at code i (piece.Number z) e h = (z, e, index_or_found (index_of z) 22 i h)
+index_cases : (words : WordsView) (at code i : ℕ) (p : Piece) → piece_at words at ≡ p → index_of_piece p (text_at words at) code ≡ Ok i → IsIndex words at i
+unfolding parameter_number
+index_cases words at code i (piece.Number z) e h =
+    let t = taken (is_digits (text_at words at)) (index_or (index_of z) 22) 22 i h in
+    (z, e, t.0, index_or_found (index_of z) 22 i t.1)
 index_cases words at code i p e h = cc
 
 pub index_found : (words : WordsView) (at code i : ℕ) → index_at words at code ≡ Ok i → IsIndex words at i
@@ -210,8 +213,11 @@ unfolding index_at
 index_found words at code i h = index_cases words at code i (piece_at words at) refl h
 
 pub index_only : (words : WordsView) (at code i : ℕ) → IsIndex words at i → index_at words at code ≡ Ok i
-unfolding index_at
-index_only words at code i h = ap (λ p. index_of_piece p code) h.1 ∙ ap (λ o. index_or o 22) h.2
+unfolding index_at parameter_number
+index_only words at code i h =
+    ap (λ p. index_of_piece p (text_at words at) code) h.1
+    ∙ yes_of (is_digits (text_at words at)) (index_or (index_of h.0) 22) (Err 22) h.2
+    ∙ ap (λ o. index_or o 22) h.3
 
 -- names
 label_cases : (words : WordsView) (at : ℕ) (name : List ℕ) (p : Piece) → piece_at words at ≡ p → label_of p (text_at words at) ≡ Ok name → IsNameOf words at name

@@ -173,7 +173,7 @@ name_no_close false h = cc
 
 number_no_close : {C : Type 0} (s : Symbol) → number_piece s ≡ piece.Close → C
 unfolding number_piece
-number_no_close (symbol.Number z) h = cc
+number_no_close (symbol.Number z d) h = cc
 number_no_close s h = cc
 
 kind_closes : (k : Kind) (from to : ℕ) (s : Symbol) → plain_piece k from to s ≡ piece.Close → is_close_kind k ≡ true

@@ -22,7 +22,7 @@ use Rattle.nc_expressions.specs.declared.symbols.Symbol.TheVariants as symbol
 use Rattle.nc_expressions.specs.Limits.{all_limits}
 use Rattle.nc_expressions.specs.Machine.{Reading, read}
 use Rattle.nc_expressions.specs.Parsing.{placed, expr_at}
-use Rattle.nc_expressions.specs.Symbols.{symbol_of, symbols_of, symbols_behind, kind_symbol, sign_symbol, name_symbol, value_symbol, number_symbol, is_word, touches_number, is_exponent}
+use Rattle.nc_expressions.specs.Symbols.{symbol_of, symbols_of, symbols_behind, kind_symbol, sign_symbol, name_symbol, value_symbol, is_digits, number_symbol, is_word, touches_number, is_exponent}
 use Rattle.nc_expressions.specs.Syntax.{Syntax, Constant, Truth, Positive, Negative, Denied, Named, Indexing, Called, Grouped, Chained, spelling, tree, Follows}
 use Rattle.nc_expressions.specs.Tree.{Tree}
 use Rattle.nc_expressions.proofs.Beginnings.{length-symbols_of}
@@ -46,7 +46,7 @@ abbrev pub symbol_for : Piece → List ℕ → Symbol
 symbol_for piece.End text = symbol.Other
 symbol_for (piece.Letter b) text = cond (b == 82) symbol.Letter symbol.Other
 symbol_for piece.Name text = name_symbol text
-symbol_for (piece.Number z) text = symbol.Number z
+symbol_for (piece.Number z) text = symbol.Number z (is_digits text)
 symbol_for piece.Text text = symbol.Other
 symbol_for piece.Plus text = symbol.Operator Add
 symbol_for piece.Minus text = symbol.Operator Sub
@@ -107,10 +107,10 @@ name_exponent text = grind (arith, value_no_exponent)
 name_no_exponent : (text : List ℕ) → NoExponent (name_symbol text)
 name_no_exponent text = exponent_no (name_symbol text) (name_exponent text)
 
-number_no_exponent : (o : Option ℤ) → NoExponent (number_symbol o)
+number_no_exponent : (o : Option ℤ) (digits : Bool) → NoExponent (number_symbol o digits)
 unfolding number_symbol
-number_no_exponent (Some z) = neither (λ (s : Symbol). NoExponent s) (nat_lt (unsigned_abs z) (10 ^ 14)) (symbol.Number z) symbol.Other tt tt
-number_no_exponent None = tt
+number_no_exponent (Some z) digits = neither (λ (s : Symbol). NoExponent s) (nat_lt (unsigned_abs z) (10 ^ 14)) (symbol.Number z digits) symbol.Other tt tt
+number_no_exponent None digits = tt
 
 sign_no_exponent : (s : Sign) → NoExponent (sign_symbol s)
 unfolding sign_symbol
@@ -137,7 +137,7 @@ no_exponent : (k : Kind) (text : List ℕ) → NoExponent (kind_symbol k text)
 unfolding kind_symbol
 no_exponent (kind.Letter b) text = neither (λ (s : Symbol). NoExponent s) (b == 82) symbol.Letter symbol.Other tt tt
 no_exponent kind.Name text = name_no_exponent text
-no_exponent kind.Number text = number_no_exponent (number_of text)
+no_exponent kind.Number text = number_no_exponent (number_of text) (is_digits text)
 no_exponent kind.Text text = tt
 no_exponent (kind.Sign s) text = sign_no_exponent s
 
@@ -150,15 +150,17 @@ name_tells : (b : Bool) (text : List ℕ) → Tells (cond b piece.Broken piece.N
 name_tells true text h = absurd h
 name_tells false text h = refl
 
-abbrev chosen_number : Bool → ℤ → Symbol
-chosen_number b z = cond b (symbol.Number z) symbol.Other
+abbrev chosen_number : Bool → ℤ → List ℕ → Symbol
+chosen_number b z text = cond b (symbol.Number z (is_digits text)) symbol.Other
 
-number_tells' : (b : Bool) (z : ℤ) (text : List ℕ) → Tells (number_piece (chosen_number b z)) → chosen_number b z ≡ symbol_for (number_piece (chosen_number b z)) text
+number_tells' : (b : Bool) (z : ℤ) (text : List ℕ) → Tells (number_piece (chosen_number b z text)) →
+    chosen_number b z text ≡ symbol_for (number_piece (chosen_number b z text)) text
 unfolding number_piece
 number_tells' true z text h = refl
 number_tells' false z text h = absurd h
 
-number_tells : (o : Option ℤ) (text : List ℕ) → Tells (number_piece (number_symbol o)) → number_symbol o ≡ symbol_for (number_piece (number_symbol o)) text
+number_tells : (o : Option ℤ) (text : List ℕ) → Tells (number_piece (number_symbol o (is_digits text))) →
+    number_symbol o (is_digits text) ≡ symbol_for (number_piece (number_symbol o (is_digits text))) text
 unfolding number_symbol number_piece
 number_tells (Some z) text h = number_tells' (nat_lt (unsigned_abs z) (10 ^ 14)) z text h
 number_tells None text h = absurd h
@@ -278,7 +280,7 @@ name_stands false h = cc
 
 number_stands : (s : Symbol) → number_piece s ≡ piece.End → ⊥
 unfolding number_piece
-number_stands (symbol.Number z) h = cc
+number_stands (symbol.Number z d) h = cc
 number_stands s h = cc
 
 kind_stands : (k : Kind) (from to : ℕ) (s : Symbol) → plain_piece k from to s ≡ piece.End → ⊥
@@ -361,7 +363,7 @@ follows_keyword words at word h f =
 
 -- what an expression begins with
 abbrev pub Begins : Symbol → Type 0
-Begins (symbol.Number z) = Unit {0}
+Begins (symbol.Number z d) = Unit {0}
 Begins (symbol.Truth b) = Unit {0}
 Begins (symbol.Operator op) = Unit {0}
 Begins symbol.Not = Unit {0}
@@ -378,7 +380,7 @@ first_is : (s u : Symbol) (ss us : List Symbol) → s ∷ ss ≡ u ∷ us → Be
 first_is s u ss us e h = let same : s ≡ u = cc in let P : Symbol → Type 0 = λ x. Begins x in subst P same h
 
 pub begins : (x : Syntax) (rest : List Symbol) (s : Symbol) (ss : List Symbol) → spelling x ++ rest ≡ s ∷ ss → Begins s
-begins (Constant z) rest s ss e = first_is _ s _ ss e tt
+begins (Constant z d) rest s ss e = first_is _ s _ ss e tt
 begins (Truth b) rest s ss e = first_is _ s _ ss e tt
 begins (Positive x) rest s ss e = first_is _ s _ ss e tt
 begins (Negative x) rest s ss e = first_is _ s _ ss e tt
@@ -390,7 +392,7 @@ begins (Grouped x) rest s ss e = first_is _ s _ ss e tt
 begins (Chained op a b) rest s ss e = begins a ((symbol.Operator op ∷ spelling b) ++ rest) s ss (sym (append_assoc (spelling a) (symbol.Operator op ∷ spelling b) rest) ∙ e)
 
 spelled : (x : Syntax) → 0 < length (spelling x)
-spelled (Constant z) = omega arith
+spelled (Constant z d) = omega arith
 spelled (Truth b) = omega arith
 spelled (Positive x) = omega arith
 spelled (Negative x) = omega arith

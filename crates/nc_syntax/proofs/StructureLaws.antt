@@ -4,14 +4,13 @@ use Rattle.std.specs.Prelude.{ℤ, pos, negsuc, ◌*◌, ◌/◌, ◌%◌, ◌�
 use Rattle.std.proofs.lemmas.Bool.{eqb-true, eq-eqb, leb-true, le-leb}
 use Rattle.block_scanner.specs.WordsView.{WordsView}
 use Rattle.word_tables.specs.Tables.{is_table_word}
-use Rattle.nc_expressions.specs.Symbols.{name_symbol, value_symbol}
+use Rattle.nc_expressions.specs.Symbols.{is_digits, name_symbol, value_symbol}
 use Rattle.nc_expressions.specs.Tree.{Tree}
 use Rattle.nc_blocks.specs.declared.pieces.Piece.{Piece}
 use Rattle.nc_blocks.specs.declared.pieces.Piece.TheVariants as piece
 use Rattle.nc_blocks.specs.Names.{name_of}
 use Rattle.nc_blocks.specs.Pieces.{piece_at, text_at}
 use Rattle.nc_blocks.specs.Marks.{end_at, is_keyword, code_at}
-use Rattle.nc_blocks.specs.Reading.{is_digits}
 use Rattle.nc_blocks.specs.Statement.{Statement, For, RepeatFrom, RepeatBlock, Repeat, Call, Proc}
 use Rattle.nc_syntax.specs.Structures.{alone, is_letter, counter_at, first_value, for_form, times_at, repeat_form, repeat_block_form, has_close, is_close, is_open, parentheses_at, pass_count, count_of_piece, passes_at, call_passes, call_form, number_name, number_call_form, proc_form}
 use Rattle.nc_syntax.specs.Standing.{IsKeyword, IsExpressionText, IsIndex}

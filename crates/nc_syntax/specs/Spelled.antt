@@ -5,6 +5,7 @@ use Rattle.block_scanner.specs.WordsView.{WordsView}
 use Rattle.word_tables.specs.LargeNumbers.{has_large_number}
 use Rattle.word_tables.specs.Refused.{refused_word}
 use Rattle.word_tables.specs.Tables.{is_table_word}
+use Rattle.nc_expressions.specs.Symbols.{is_digits}
 use Rattle.nc_expressions.specs.Tree.{Tree, Number}
 use Rattle.nc_blocks.specs.declared.blocks.CoordWord.{CoordWord}
 use Rattle.nc_blocks.specs.declared.blocks.CoordWord.TheVariants as coord
@@ -18,7 +19,6 @@ use Rattle.nc_blocks.specs.declared.blocks.Way.TheVariants.{Forward, Backward, E
 use Rattle.nc_blocks.specs.declared.pieces.Piece.TheVariants as piece
 use Rattle.nc_blocks.specs.Names.{name_of}
 use Rattle.nc_blocks.specs.Pieces.{piece_at, text_at}
-use Rattle.nc_blocks.specs.Reading.{is_digits}
 use Rattle.nc_syntax.specs.Frames.{axis_of}
 use Rattle.nc_blocks.specs.Texts.{unquoted}
 use Rattle.nc_syntax.specs.Coordination.{is_wait}

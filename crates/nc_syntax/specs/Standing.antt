@@ -1,13 +1,13 @@
 -- What stands in a line, from one place up to another: expressions, numbers, names and lists.
 use Rattle.std.specs.Prelude.{◌≡◌, ℕ, ℤ, neg_ℤ, ◌+◌, ◌≤◌, ◌⊎◌, IsTrue, List, [], ◌∷◌, length, slice_range, Some}
 use Rattle.block_scanner.specs.WordsView.{WordsView}
-use Rattle.nc_expressions.specs.Symbols.{symbols_of, index_of}
+use Rattle.nc_expressions.specs.Symbols.{symbols_of, is_digits, index_of}
 use Rattle.nc_expressions.specs.Syntax.{Syntax, spelling, tree, IsExpression}
 use Rattle.nc_expressions.specs.Tree.{Tree}
 use Rattle.nc_blocks.specs.declared.pieces.Piece.TheVariants as piece
 use Rattle.nc_blocks.specs.Pieces.{piece_at, text_at}
 use Rattle.nc_blocks.specs.Marks.{is_keyword}
-use Rattle.nc_blocks.specs.Reading.{is_digits, whole}
+use Rattle.nc_blocks.specs.Reading.{whole}
 use Rattle.nc_blocks.specs.AxisNames.{is_axis_letter}
 
 -- this name stands there
@@ -35,9 +35,9 @@ abbrev pub IsBlockNumber : WordsView → ℕ → ℕ → Type 0
 IsBlockNumber words at n =
     (z : ℤ) × (piece_at words at ≡ piece.Number z) × IsTrue (is_digits (text_at words at)) × (length (text_at words at) ≤ 8) × (n ≡ whole z)
 
--- the number of a parameter
+-- the number of a parameter: digits alone, 0 to 999 by their value
 abbrev pub IsIndex : WordsView → ℕ → ℕ → Type 0
-IsIndex words at i = (z : ℤ) × (piece_at words at ≡ piece.Number z) × (index_of z ≡ Some i)
+IsIndex words at i = (z : ℤ) × (piece_at words at ≡ piece.Number z) × IsTrue (is_digits (text_at words at)) × (index_of z ≡ Some i)
 
 -- ( expr )
 abbrev pub IsEnclosed : WordsView → ℕ → ℕ → Tree → Type 0

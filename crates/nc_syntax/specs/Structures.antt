@@ -5,6 +5,7 @@ use Rattle.block_scanner.specs.declared.Kind.{Kind}
 use Rattle.block_scanner.specs.declared.Kind.TheVariants as kind
 use Rattle.block_scanner.specs.declared.Sign.TheVariants as sign
 use Rattle.block_scanner.specs.WordsView.{WordsView}
+use Rattle.nc_expressions.specs.Symbols.{is_digits}
 use Rattle.nc_expressions.specs.Tree.{Tree}
 use Rattle.nc_blocks.specs.declared.pieces.Piece.{Piece}
 use Rattle.nc_blocks.specs.declared.pieces.Piece.TheVariants as piece
@@ -12,7 +13,7 @@ use Rattle.nc_blocks.specs.Names.{name_of}
 use Rattle.nc_blocks.specs.Pieces.{piece_at, text_at, is_name}
 use Rattle.nc_blocks.specs.Marks.{code_at, end_at, assign_at, is_keyword, keyword_at}
 use Rattle.nc_expressions.specs.Value.{◌>>=◌}
-use Rattle.nc_blocks.specs.Reading.{is_digits, expression_at, index_at, label_at}
+use Rattle.nc_blocks.specs.Reading.{expression_at, index_at, label_at}
 use Rattle.nc_blocks.specs.Statement.{Statement, For, RepeatFrom, RepeatBlock, Repeat, Call, Proc}
 
 -- this statement, where nothing stands behind it

@@ -11,10 +11,10 @@ ghost use Rattle.nc_syntax.specs.Structures.{alone, last_expression, counter_at,
 use block_scanner::{Kind, Sign, Words};
 use micro_units::Num;
 use nc_blocks::{
-    NameText, Piece, Stmt, assign_at, code_at, end_at, expression_at, index_at, is_digits,
-    is_keyword, keyword_at, label_at, piece_at, text_at,
+    NameText, Piece, Stmt, assign_at, code_at, end_at, expression_at, index_at, is_keyword,
+    keyword_at, label_at, piece_at, text_at,
 };
-use nc_expressions::{Expr, SyntaxFault};
+use nc_expressions::{Expr, SyntaxFault, is_digits};
 use std::alloc::Global;
 
 /// This statement, where nothing stands behind it.
