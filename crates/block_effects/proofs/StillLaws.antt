@@ -1,5 +1,5 @@
 -- A block that jumps, repeats or calls leaves all else as it is.
-use Rattle.std.proofs.Common.{◌≡◌, ℕ, ℤ, Bool, true, false, cond, List, [], Option, None, Some, Result, Ok, Err, refl, subst}
+use Rattle.std.proofs.Common.{◌≡◌, ℕ, ℤ, Bool, true, false, cond, List, [], Result, Ok, Err, refl, subst}
 use Rattle.frames.specs.Maps.{Map}
 use Rattle.g_groups.specs.Modal.{has_group_twice}
 use Rattle.g_groups.specs.declared.GWord.{GWord}
@@ -8,7 +8,7 @@ use Rattle.nc_expressions.specs.Value.{◌>>=◌}
 use Rattle.nc_blocks.specs.Statement.{WordView, Statement, WordBlock, Shape, Turn, Jump, IfJump, If, While, Until, For, EndFor, Case, RepeatFrom, RepeatBlock, Call}
 use Rattle.block_effects.specs.Words.{Equipment, begun, counted, given, value_in, words_done}
 use Rattle.block_effects.specs.Shapes.{plane_of, shaped_by, turned_by}
-use Rattle.block_effects.specs.Effects.{Course, Effect, Turning, Found, IsStill, searches, word_in, words_moved, words_run, words_effect, course_of, group_words, framed, turned_only, bounded, for_continued, times_of, called, number_of, control_effect, effect_of}
+use Rattle.block_effects.specs.Effects.{Effect, Turning, Found, IsStill, searches, word_in, words_moved, words_run, words_effect, course_of, group_words, framed, turned_only, bounded, for_continued, times_of, called, number_of, control_effect, effect_of}
 use Rattle.block_effects.proofs.EffectSteps.{left}
 
 module _ (parameters : List ℤ) where

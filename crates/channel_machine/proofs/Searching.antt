@@ -3,7 +3,7 @@ use Rattle.std.proofs.Common.{◌≡◌, ℕ, ◌+◌, Bool, true, false, List, 
 use Rattle.block_effects.specs.Effects.{Course, Goes, Ends, Calls, searches}
 use Rattle.nc_blocks.specs.Statement.{BlockView, Statement, If, Else, While, EndWhile, Until, EndLoop, For, EndFor}
 use Rattle.nc_control_flow.specs.declared.repeats.Running.{Running}
-use Rattle.nc_control_flow.specs.Counted.{next_going, up_to_counting}
+use Rattle.nc_control_flow.specs.Counted.{up_to_counting}
 use Rattle.nc_control_flow.specs.Flow.{going, next_block}
 use Rattle.nc_control_flow.specs.Moves.{OutcomeView, Plain, Truth, Jump, Again, Skipped, onward_if, leap_if, plain_move, choice, move_of}
 use Rattle.nc_control_flow.specs.Parts.{statement_at}

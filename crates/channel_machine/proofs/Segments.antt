@@ -1,5 +1,5 @@
 -- From one block of a segment to the next.
-use Rattle.std.proofs.Common.{◌≡◌, ◌∙◌, ℕ, List, [], Option, None, Some, IfNone, Result, Ok, Err, IfOk, ap, subst, sym}
+use Rattle.std.proofs.Common.{◌≡◌, ◌∙◌, ℕ, List, [], Option, None, Some, Result, Ok, Err, IfOk, ap, subst, sym}
 use Rattle.sync_types.specs.declared.Item.{Item}
 use Rattle.sync_types.specs.declared.Step.{Step}
 use Rattle.tape_job.specs.Job.{JobView}
@@ -9,10 +9,6 @@ use Rattle.channel_machine.specs.Run.{Setting, Channel, SegmentView, offset_of, 
 pub if_ok : {A E : Type 0} {P Q : A → Type 0} (r : Result A E) → ((x : A) → P x → Q x) → IfOk r P → IfOk r Q
 if_ok (Ok x) each p = each x p
 if_ok (Err e) each p = tt
-
-pub none_holds : {A : Type 0} {P : Type 0} (o : Option A) → o ≡ None → IfNone o P → P
-none_holds None is p = p
-none_holds (Some x) is p = absurd cc
 
 module _ (s : Setting) (c : Channel) (mid after : List Item) (kept later : Kept) (was : GoesOn s c [] mid kept) where
   -- the segment ends

@@ -1,6 +1,6 @@
 use Rattle.std.proofs.Common.{◌∙◌}
 use Rattle.channel_machine.specs.Kept.{kept_by}
-use Rattle.channel_machine.proofs.Segments.{none_holds, ends_so, goes_so, setting_kept}
+use Rattle.channel_machine.proofs.Segments.{ends_so, goes_so, setting_kept}
 use Rattle.channel_machine.proofs.run.run_segment.Goals as goal
 
 pub returns-in-Some-clause-told : goal.returns-in-Some-clause-told
