@@ -1,6 +1,7 @@
 -- What comes of the steps of a block.
-use Rattle.std.proofs.Common.{◌≡◌, ◌∙◌, ℕ, Bool, true, false, cond, List, Option, Result, Ok, Err, sym, ap, subst, refl}
-use Rattle.std.specs.Prelude.{IsTrue, IsErrAnd}
+use Rattle.std.proofs.Common.{◌≡◌, ◌∙◌, ℕ, ℤ, Bool, true, false, cond, List, ◌∷◌, Option, Result, Ok, Err, sym, ap, subst, refl}
+use Rattle.std.specs.Prelude.{IsTrue, IsErrAnd, ⊤}
+use Rattle.axis_moves.specs.Goals.{InForce}
 use Rattle.g_groups.specs.declared.GWord.{GWord}
 use Rattle.g_groups.specs.Modal.{has_group_twice}
 use Rattle.nc_expressions.specs.Value.{◌>>=◌}
@@ -8,22 +9,55 @@ use Rattle.nc_blocks.specs.Statement.{WordView, Statement, WordBlock}
 use Rattle.sync_types.specs.declared.Item.{Item}
 use Rattle.block_effects.specs.declared.course.Done.{Done}
 use Rattle.block_effects.specs.declared.situation.Situation.{Situation}
-use Rattle.block_effects.specs.Courses.{Does, IsLeft, Runs}
-use Rattle.block_effects.specs.Effects.{Effect, Found, course_of, words_moved, words_run, group_words, effect_of}
-use Rattle.block_effects.specs.Words.{Equipment, Progress, begun, words_done}
+use Rattle.block_effects.specs.Courses.{ActsAll, Does, IsLeft, Runs}
+use Rattle.block_effects.specs.Effects.{Effect, Found, acted, course_of, in_force, moved_or_still, words_moved, words_run, group_words, effect_of}
+use Rattle.block_effects.specs.Words.{Equipment, Progress, begun, no_arc, nothing_programmed, progress_of, word_done, words_done}
+use Rattle.block_effects.specs.declared.progress.WordsDone.{WordsDone}
 
 -- what a block of words leaves
 abbrev pub left : Found → Progress → Option Item → Effect
 left found p item = record { parameters = p.parameters; chain = found.chain; item = item; course = course_of p.ends }
 
-module _ (equipment : Equipment) (found : Found) (line : ℕ) (groups : List GWord) (words : List WordView) (p : Progress) where
-  abbrev moves : Progress → Result Effect ℕ
-  moves p = words_moved equipment found line groups p.targets p.arc >>= λ item. Ok (left found p item)
+-- before its first word a block has done nothing
+pub begun_is : (parameters : List ℤ) (done : WordsDone) → done.targets ≡ nothing_programmed → done.arc ≡ no_arc → done.ends ≡ false → progress_of parameters done ≡ begun parameters
+begun_is parameters done targets arc ends = rw (targets, arc, ends) refl
 
-  -- the words have acted, and the axes do what this says
-  pub words_end : (r : Result (Option Item) ℕ) → words_done equipment (begun found.parameters) words ≡ Ok p → r ≡ words_moved equipment found line groups p.targets p.arc
-      → words_run equipment found line groups words ≡ (r >>= λ item. Ok (left found p item))
-  words_end r done moved = ap (λ (q : Result Progress ℕ). q >>= moves) done ∙ ap (λ (q : Result (Option Item) ℕ). q >>= λ item. Ok (left found p item)) (sym moved)
+-- a value with what comes of it
+abbrev paired : {X Y : Type 0} → X → Y → Result (X × Y) ℕ
+paired x y = Ok (x, y)
+
+bind_pair : {X Y Z : Type 0} (r : Result X ℕ) (g : X → Result Y ℕ) (f : X → Y → Z)
+    → (r >>= λ x. g x >>= λ y. Ok (f x y)) ≡ ((r >>= λ x. g x >>= λ y. paired x y) >>= λ both. Ok (f both.0 both.1))
+bind_pair {X} {Y} {Z} (Ok x) g f = by_next (g x)
+  where
+    by_next : (o : Result Y ℕ) → (o >>= λ y. Ok (f x y)) ≡ ((o >>= λ y. paired x y) >>= λ both. Ok (f both.0 both.1))
+    by_next (Ok y) = refl
+    by_next (Err code) = refl
+bind_pair (Err code) g f = refl
+
+module _ (equipment : Equipment) (found : Found) (line : ℕ) (groups : List GWord) (words : List WordView) where
+  -- the words have acted and the axes have moved, or alarm
+  pub words_end : (r : Result (Progress × Option Item) ℕ) → acted equipment (in_force equipment found groups) found.at line groups (begun found.parameters) words ≡ r
+      → words_run equipment found line groups words ≡ (r >>= λ both. Ok (left found both.0 both.1))
+  words_end r is =
+      bind_pair (words_done equipment (begun found.parameters) words) (λ p. words_moved equipment found line groups p.targets p.arc) (left found)
+      ∙ ap (λ (q : Result (Progress × Option Item) ℕ). q >>= λ both. Ok (left found both.0 both.1)) is
+
+module _ (equipment : Equipment) (h : InForce) (at : ℕ → ℤ) (line : ℕ) (groups : List GWord) (p : Progress) (word : WordView) (words : List WordView) where
+  -- a word has acted
+  pub acts_more : (q : Progress) (result : Result ⊤ ℕ) (new : Progress) (item : Option Item) → word_done equipment p word ≡ Ok q
+      → ActsAll (acted equipment h at line groups q words) result new item → ActsAll (acted equipment h at line groups p (word ∷ words)) result new item
+  acts_more q result new item is all =
+      subst (λ (r : Result (Progress × Option Item) ℕ). ActsAll r result new item)
+      (sym (ap (λ (r : Result Progress ℕ). (r >>= λ o. words_done equipment o words) >>= λ o. moved_or_still equipment.slots equipment.owned h at line groups o.targets o.arc >>= λ item. Ok (o, item)) is)) all
+
+  -- or alarms
+  pub acts_not : (code : ℕ) (result : Result ⊤ ℕ) (new : Progress) (item : Option Item) → word_done equipment p word ≡ Err code → IsErrAnd result (λ e. e ≡ code)
+      → ActsAll (acted equipment h at line groups p (word ∷ words)) result new item
+  acts_not code (Ok done) new item is same = absurd same
+  acts_not code (Err e) new item is same =
+      ap (λ (r : Result Progress ℕ). (r >>= λ o. words_done equipment o words) >>= λ o. moved_or_still equipment.slots equipment.owned h at line groups o.targets o.arc >>= λ item. Ok (o, item)) is
+      ∙ ap (λ (k : ℕ). Err k) (sym same)
 
 -- what a block has done is what it does
 pub does_left : (made : Result Effect ℕ) (effect : Effect) (done : Done) (new : Situation) → made ≡ Ok effect → IsLeft effect done new → Does made done new

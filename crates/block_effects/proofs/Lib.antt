@@ -4,3 +4,5 @@ pub mod EffectLaws
 pub mod EffectSteps
 pub mod FrameSteps
 pub mod Steps
+pub mod Changes
+pub mod StillLaws

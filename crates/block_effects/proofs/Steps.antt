@@ -1,6 +1,14 @@
 -- Views at places.
-use Rattle.std.proofs.Common.{◌≡◌, ℕ, zero, suc, ◌<◌, List, [], ◌∷◌, map, length, get_or, All, sym, subst, arith}
+use Rattle.std.proofs.Common.{◌≡◌, ℕ, zero, suc, ◌-◌, ◌<◌, ◌≤◌, List, [], ◌∷◌, map, length, get_or, drop, take, All, sym, subst, arith}
+use Rattle.std.proofs.lemmas.List.{take_all}
 use Rattle.std.proofs.lemmas.List.Elements.{All-head, All-tail}
+
+-- what holds of all views holds of those behind the first
+pub rest_fits : {X Y : Type 0} (P : Y → Type 0) (view : X → Y) (xs : List X) → All P (map view xs) → All P (map view (take (length xs - 1) (drop 1 xs)))
+rest_fits P view [] all = all
+rest_fits {X} P view (y ∷ ys) all =
+    let enough : length ys ≤ length (y ∷ ys) - 1 = omega arith in
+    subst (λ (zs : List X). All P (map view zs)) (sym (take_all (length (y ∷ ys) - 1) ys enough)) (All-tail P (view y) (map view ys) all)
 
 -- what holds of all views holds of the view at a place
 pub holds_at : {X Y : Type 0} (P : Y → Type 0) (view : X → Y) (xs : List X) (i : ℕ) (x : X) → All P (map view xs) → i < length xs → x ≡ get_or xs i x → P (view x)

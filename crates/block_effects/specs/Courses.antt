@@ -6,6 +6,7 @@ use Rattle.frames.specs.Maps.{Map}
 use Rattle.frames.specs.declared.Frame.{Frame}
 use Rattle.g_groups.specs.declared.GWord.{GWord}
 use Rattle.nc_control_flow.specs.Moves.{outcome_view}
+use Rattle.sync_types.specs.declared.Item.{Item}
 use Rattle.block_effects.specs.declared.course.BlockFault.{BlockFault}
 use Rattle.block_effects.specs.declared.course.BlockFault.TheVariants.{Alarm, NoMemory}
 use Rattle.block_effects.specs.declared.course.Course as answer
@@ -14,7 +15,7 @@ use Rattle.block_effects.specs.declared.course.Done.{Done}
 use Rattle.block_effects.specs.declared.situation.ChannelAxes.{ChannelAxes}
 use Rattle.block_effects.specs.declared.situation.Situation.{Situation}
 use Rattle.block_effects.specs.Effects.{Course, Goes, Ends, Calls, Effect, Turning, Found}
-use Rattle.block_effects.specs.Words.{Equipment}
+use Rattle.block_effects.specs.Words.{Equipment, Progress}
 
 abbrev pub course_view : answer.Course → Course
 course_view (course.Goes outcome) = Goes (outcome_view outcome)
@@ -51,6 +52,10 @@ Leaves effect result new = MatchResult result (λ done. Does effect done new) (�
 -- the block did what it does, or has this alarm
 abbrev pub Runs : Result Effect ℕ → Result Done ℕ → Situation → Type 0
 Runs effect result new = MatchResult result (λ done. Does effect done new) (λ code. effect ≡ Err code)
+
+-- the words of a block have done this, and then it has this motion, or alarms
+abbrev pub ActsAll : Result (Progress × Option Item) ℕ → Result ⊤ ℕ → Progress → Option Item → Type 0
+ActsAll acted result new item = MatchResult result (λ _. acted ≡ Ok (new, item)) (λ code. acted ≡ Err code)
 
 -- the frame is that of the chain that was made
 abbrev pub IsMade : Result (List Map) ℕ → Frame → Type 0

@@ -1,5 +1,5 @@
 -- What a block does, by what it says.
-use Rattle.std.specs.Prelude.{ℕ, ◌%◌, ◌/◌, ℤ, pos, negsuc, Bool, true, false, not, ◌&&◌, ◌||◌, ◌==◌, nat_lt, int_lt, if◌then◌else◌, List, [], ◌∷◌, ◌++◌, find, filter_map, is_some, position, Option, Some, None, option_map, Result, Ok, Err}
+use Rattle.std.specs.Prelude.{◌≡◌, ℕ, ◌%◌, ◌/◌, ℤ, pos, negsuc, Bool, true, false, not, ◌&&◌, ◌||◌, ◌==◌, nat_lt, int_lt, if◌then◌else◌, List, [], ◌∷◌, ◌++◌, find, filter_map, is_some, position, Option, Some, None, option_map, Result, Ok, Err}
 use Rattle.std.specs.List.{list_any}
 use Rattle.std.specs.Option.{option_or}
 use Rattle.std.specs.Ordering.{int_eq}
@@ -20,7 +20,7 @@ use Rattle.nc_expressions.specs.Tree.{Tree}
 use Rattle.nc_expressions.specs.Value.{◌>>=◌, is_true}
 use Rattle.sync_types.specs.declared.Item.{Item}
 use Rattle.block_effects.specs.Shapes.{shaped_by, turned_by, plane_of}
-use Rattle.block_effects.specs.Words.{Equipment, parameter_in, value_in, given, counted, begun, words_done}
+use Rattle.block_effects.specs.Words.{Equipment, Progress, parameter_in, value_in, given, counted, begun, words_done}
 
 -- what becomes of control behind a block: it goes on in its program by this outcome; or the program ends, which is a return on a lower level; or the program of this number runs, so many times
 pub data Course : Type 0 where
@@ -201,6 +201,13 @@ words_moved equipment found line words targets arc =
 abbrev pub course_of : Bool → Course
 course_of ends = if ends then Ends else Goes outcome.Plain
 
+-- what words do behind others that have come so far, and the motion of the block behind its last word, or the first alarm
+abbrev pub acted : Equipment → InForce → (ℕ → ℤ) → ℕ → List GWord → Progress → List WordView → Result (Progress × Option Item) ℕ
+acted equipment h at line groups p words =
+    words_done equipment p words >>= λ q.
+    moved_or_still equipment.slots equipment.owned h at line groups q.targets q.arc >>= λ item.
+    Ok (q, item)
+
 -- the words act from left to right, and then the axes move
 abbrev pub words_run : Equipment → Found → ℕ → List GWord → List WordView → Result Effect ℕ
 words_run equipment found line groups words =
@@ -228,3 +235,17 @@ effect_of equipment found line opener (Shape word values) =
 effect_of equipment found line opener (Turn additive angle) =
     framed found (turned_by found.parameters found.chain (plane_of (word_in found [] 6)) additive angle)
 effect_of equipment found line opener other = turned_only found (control_effect equipment.names found.parameters opener other)
+
+-- whether a block with this course looks for where it leads, and may find nothing: it jumps, repeats or calls
+abbrev pub searches : Course → Bool
+searches (Goes (outcome.Jump way target)) = true
+searches (Goes (outcome.Again times)) = true
+searches (Goes other) = false
+searches Ends = false
+searches (Calls number passes) = true
+
+-- a block leaves the parameters and the frame as it finds them, and has no motion
+pub record IsStill (found : Found) (effect : Effect) : Type 0 where
+  pub parameters : effect.parameters ≡ found.parameters
+  pub chain : effect.chain ≡ found.chain
+  pub item : effect.item ≡ None

@@ -1,5 +1,5 @@
 -- What the words of a block do, one after another from left to right.
-use Rattle.std.specs.Prelude.{◌≡◌, ⊤, MatchResult, IsOk, ℕ, ◌==◌, ℤ, pos, ◌+ℤ◌, Bool, true, false, if◌then◌else◌, is_some, List, [], ◌∷◌, codes, replicate, slice_index_or, slice_set, Option, None, Some, Result, Ok, Err}
+use Rattle.std.specs.Prelude.{◌≡◌, ◌≤◌, ⊤, MatchOption, MatchResult, IsOk, ℕ, ◌==◌, ℤ, pos, ◌+ℤ◌, Bool, true, false, if◌then◌else◌, is_some, List, [], ◌∷◌, codes, replicate, slice_index_or, slice_set, Option, None, Some, Result, Ok, Err}
 use Rattle.std.specs.List.{list_any}
 use Rattle.std.specs.Str.{bytes_eq}
 use Rattle.arc_moves.specs.declared.words.ArcWords.{ArcWords}
@@ -10,6 +10,7 @@ use Rattle.nc_expressions.specs.Symbols.{index_of}
 use Rattle.nc_expressions.specs.Tree.{Tree}
 use Rattle.nc_expressions.specs.Value.{◌>>=◌, checked, value_of}
 use Rattle.nc_blocks.specs.Statement.{OperandView, Value, Text, AxisName, WordView, Assign, AssignAt, G, Axis, Radius, Aux, End}
+use Rattle.block_effects.specs.declared.parameters.Change.{Change}
 use Rattle.block_effects.specs.declared.progress.WordsDone.{WordsDone}
 
 -- ---- parameters
@@ -183,6 +184,10 @@ words_done equipment p (word ∷ words) = word_done equipment p word >>= λ q. w
 abbrev pub progress_of : List ℤ → WordsDone → Progress
 progress_of parameters done = record { parameters = parameters; targets = done.targets; arc = done.arc; ends = done.ends }
 
+-- a word has done this, or alarms
+abbrev pub ActsOn : Result Progress ℕ → Result (Option Change) ℕ → Progress → Type 0
+ActsOn done result new = MatchResult result (λ _. done ≡ Ok new) (λ code. done ≡ Err code)
+
 -- the words have done this, or alarm
 abbrev pub Acts : Result Progress ℕ → Result ⊤ ℕ → Progress → Type 0
 Acts done result new = MatchResult result (λ _. done ≡ Ok new) (λ code. done ≡ Err code)
@@ -199,12 +204,20 @@ Aims aimed result new = MatchResult result (λ _. aimed ≡ Ok new) (λ code. ai
 abbrev pub IsPut : Result (List (Option Programmed)) ℕ → Result ⊤ ℕ → List (Option Programmed) → Type 0
 IsPut put result new = MatchResult result (λ _. put ≡ Ok new) (λ code. put ≡ Err code)
 
--- the words of a block have done this, or alarm
-abbrev pub WordsAct : Result Progress ℕ → Result WordsDone ℕ → List ℤ → Type 0
-WordsAct done result parameters = MatchResult result (λ all. done ≡ Ok (progress_of parameters all)) (λ code. done ≡ Err code)
-
-abbrev pub IsGiven : Result (List ℤ) ℕ → Result ⊤ ℕ → List ℤ → Type 0
+abbrev pub IsGiven : Result (List ℤ) ℕ → Result Change ℕ → List ℤ → Type 0
 IsGiven given result new = MatchResult result (λ _. given ≡ Ok new) (λ code. given ≡ Err code)
+
+-- the parameters as they were before a change of one of them
+abbrev pub undone : List ℤ → Change → List ℤ
+undone parameters change = slice_set parameters change.index change.before
+
+-- a change of a parameter that there is leads back to the parameters before it; after an alarm there is none
+abbrev pub IsUndone : Result Change ℕ → List ℤ → List ℤ → Type 0
+IsUndone result old new = MatchResult result (λ change. (change.index ≤ 999) × (undone new change ≡ old)) (λ _. new ≡ old)
+
+-- the same, where a word may change none
+abbrev pub IsUndoneSome : Result (Option Change) ℕ → List ℤ → List ℤ → Type 0
+IsUndoneSome result old new = MatchResult result (λ o. MatchOption o (new ≡ old) (λ change. (change.index ≤ 999) × (undone new change ≡ old))) (λ _. new ≡ old)
 
 abbrev pub IsRead : Result (Option ℤ) ℕ → Result ⊤ ℕ → Type 0
 IsRead read result = MatchResult result (λ _. IsOk read) (λ code. read ≡ Err code)

@@ -1,6 +1,6 @@
 //! Jumps, conditions, counted loops, repetitions and calls.
 
-ghost use Rattle.std.specs.Prelude.{◌≡◌, ◌≤◌, List, ℤ, option_copied};
+ghost use Rattle.std.specs.Prelude.{◌≡◌, ◌≤◌, List, ℤ, OnErr, option_copied};
 ghost use Rattle.nc_blocks.specs.Indices.{StatementFits, OptionFits};
 ghost use Rattle.nc_blocks.specs.Statement.{statement_view, tree_option};
 ghost use Rattle.nc_control_flow.specs.Moves.{outcome_view};
@@ -12,7 +12,7 @@ ghost use Rattle.block_effects.specs.Effects as model;
 ghost use Rattle.block_effects.specs.Courses.{Turns};
 
 use crate::course::{Course, Setup};
-use crate::parameters::Parameters;
+use crate::parameters::{Change, Parameters};
 use micro_units::Num;
 use nc_blocks::{JumpTo, NameText, Stmt};
 use nc_control_flow::Outcome;
@@ -122,6 +122,28 @@ fn bounded<'a>(parameters: &Parameters, index: u16, bound: &Expr) -> Result<Cour
     Ok(Course::Goes(Outcome::Truth(value.millionths <= bound.millionths)))
 }
 
+/// The same behind a change of a parameter, which an alarm takes back.
+fn bounded_behind<'a>(
+    parameters: &mut Parameters,
+    change: Change,
+    index: u16,
+    bound: &Expr,
+) -> Result<Course<'a>, u16>
+    requires index { index ≤ 999 }
+    requires change { change.index ≤ 999 }
+    requires fits { IndicesFit (tree_of bound.now) }
+    ensures turns { Turns (model.bounded parameters.old index (tree_of bound.now)) result parameters.new }
+    ensures undone { OnErr result (parameters.new ≡ words.undone parameters.old change) }
+{
+    match bounded(parameters, index, bound) {
+        Ok(course) => Ok(course),
+        Err(code) => {
+            parameters.undo(change);
+            Err(code)
+        }
+    }
+}
+
 /// FOR.
 pub(crate) fn begin_for<'a>(
     parameters: &mut Parameters,
@@ -132,20 +154,22 @@ pub(crate) fn begin_for<'a>(
     requires index { index ≤ 999 }
     requires first { IndicesFit (tree_of first.now) }
     requires bound { IndicesFit (tree_of bound.now) }
-    ensures { Turns (model.for_begun parameters.old index (tree_of first.now) (tree_of bound.now)) result parameters.new }
+    ensures turns { Turns (model.for_begun parameters.old index (tree_of first.now) (tree_of bound.now)) result parameters.new }
+    ensures unchanged { OnErr result (parameters.new ≡ parameters.old) }
 {
-    parameters.give(index, first)?;
-    bounded(parameters, index, bound)
+    let change = parameters.give(index, first)?;
+    bounded_behind(parameters, change, index, bound)
 }
 
 /// ENDFOR of a FOR with this parameter and bound.
 fn once_more<'a>(parameters: &mut Parameters, index: u16, bound: &Expr) -> Result<Course<'a>, u16>
     requires index { index ≤ 999 }
     requires bound { IndicesFit (tree_of bound.now) }
-    ensures { Turns (model.once_more parameters.old index (tree_of bound.now)) result parameters.new }
+    ensures turns { Turns (model.once_more parameters.old index (tree_of bound.now)) result parameters.new }
+    ensures unchanged { OnErr result (parameters.new ≡ parameters.old) }
 {
-    parameters.count(index)?;
-    bounded(parameters, index, bound)
+    let change = parameters.count(index)?;
+    bounded_behind(parameters, change, index, bound)
 }
 
 /// ENDFOR, where this block begins the structure round it.
@@ -154,7 +178,8 @@ pub(crate) fn continue_for<'a>(
     opener: &Stmt,
 ) -> Result<Course<'a>, u16>
     requires { StatementFits (statement_view opener.now) }
-    ensures { Turns (model.for_continued parameters.old (statement_view opener.now)) result parameters.new }
+    ensures turns { Turns (model.for_continued parameters.old (statement_view opener.now)) result parameters.new }
+    ensures unchanged { OnErr result (parameters.new ≡ parameters.old) }
 {
     match opener {
         Stmt::For(index, _, bound) => once_more(parameters, *index, bound),

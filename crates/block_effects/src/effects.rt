@@ -11,19 +11,20 @@ ghost use Rattle.nc_control_flow.specs.Moves as outcome;
 ghost use Rattle.nc_blocks.specs.Indices.{StatementFits, WordFits};
 ghost use Rattle.nc_blocks.specs.Statement.{statement_view, word_view};
 ghost use Rattle.block_effects.specs.Effects as model;
-ghost use Rattle.block_effects.specs.Courses.{equipment_of, found_in, Leaves, Runs, Turns, course_view};
+ghost use Rattle.block_effects.specs.Courses.{equipment_of, found_in, ActsAll, Leaves, Runs, Turns, course_view};
+ghost use Rattle.block_effects.specs.Words.{progress_of};
 
 use crate::control::{begin_for, called, choice, conditional, continue_for, jumped, leap, repeat};
 use crate::course::{BlockFault, Course, Done, Setup};
 use crate::groups::{conditions, group_words, plane_in, stands_still};
 use crate::parameters::Parameters;
-use crate::progress::{WordsDone, act_all};
+use crate::progress::WordsDone;
 use crate::shapes::{shape, turn};
 use crate::situation::{ChannelAxes, Situation};
 use arc_moves::{ArcWords, is_any, make_arc};
 use axis_moves::{Conditions, Targets, make_item, word};
 use axis_sets::Positions;
-use g_groups::{GWord, apply};
+use g_groups::{GWord, Modal, apply};
 use nc_blocks::{Stmt, Word};
 use nc_control_flow::Outcome;
 use std::alloc::Global;
@@ -116,30 +117,79 @@ fn move_axes(
     make_motion(axes, conditions, line, &done.targets, &done.arc, at)
 }
 
-/// The words of a block act, and then the axes move. The modal words are those with the words of this block.
+/// Does what these words of a block say, from left to right, and then moves the axes as all its words say. After an alarm
+/// nothing of it stands: on the way back each change of a parameter is taken back.
+fn run_from<S: Setup>(
+    setup: &S,
+    axes: &ChannelAxes,
+    conditions: &Conditions,
+    line: u32,
+    groups: &[GWord],
+    words: &[Word],
+    parameters: &mut Parameters,
+    at: &mut Positions,
+    done: &mut WordsDone,
+) -> Result<(), u16>
+    requires { All WordFits (map word_view words.now) }
+    ensures acts { (h : InForce) → AreInForce h conditions.now
+        → ActsAll (model.acted (equipment_of (S.names setup.now) (S.axis_named setup.now) (S.offset setup.now) axes.now)
+        h (stands at.old) line groups.now (progress_of parameters.old done.old) (map word_view words.now)) result (progress_of parameters.new done.new) done.new.item }
+    ensures stand { IfOk result (λ _. StandsAtEnd done.new.item at.old at.new) }
+    ensures parameters { OnErr result (parameters.new ≡ parameters.old) }
+    ensures at { OnErr result (at.new ≡ at.old) }
+{
+    let [word, others @ ..] = words else {
+        done.item = move_axes(axes, conditions, line, groups, done, at)?;
+        return Ok(());
+    };
+    let change = done.act(setup, axes, parameters, word)?;
+    match run_from(
+        setup, axes, conditions, line, groups, others, parameters, at, done,
+    ) {
+        Ok(()) => Ok(()),
+        Err(code) => {
+            parameters.undo_some(change);
+            Err(code)
+        }
+    }
+}
+
+/// The words of a block act, and then the axes move. `modal` are the modal words with those of this block.
 fn run_words<'a, S: Setup>(
     setup: &S,
     axes: &ChannelAxes,
+    modal: &Modal,
     situation: &mut Situation,
     line: u32,
     groups: &[GWord],
     words: &[Word],
 ) -> Result<Done<'a>, u16>
     requires { All WordFits (map word_view words.now) }
-    ensures runs { (blocks : List (List GWord)) (chain : List Map) → IsAfter (blocks ++ groups.now ∷ []) situation.old.modal
+    ensures runs { (blocks : List (List GWord)) (chain : List Map) → IsAfter (blocks ++ groups.now ∷ []) modal.now
         → IsComposed chain situation.old.frame
         → Runs (model.words_run (equipment_of (S.names setup.now) (S.axis_named setup.now) (S.offset setup.now) axes.now)
         (found_in blocks chain situation.old) line groups.now (map word_view words.now)) result situation.new }
     ensures modal { situation.new.modal ≡ situation.old.modal }
     ensures stand { IfOk result (λ done. StandsAtEnd done.item situation.old.at situation.new.at) }
-    ensures unmoved { OnErr result (situation.new.at ≡ situation.old.at) }
+    ensures unchanged { OnErr result (situation.new ≡ situation.old) }
 {
-    let done = act_all(setup, axes, &mut situation.parameters, words)?;
-    let conditions = conditions(setup, &situation.modal, &situation.frame);
-    let item = move_axes(axes, &conditions, line, groups, &done, &mut situation.at)?;
+    let conditions = conditions(setup, modal, &situation.frame);
+    let mut done = WordsDone::nothing();
+    run_from(
+        setup,
+        axes,
+        &conditions,
+        line,
+        groups,
+        words,
+        &mut situation.parameters,
+        &mut situation.at,
+        &mut done,
+    )?;
+    let WordsDone { item, ends, .. } = done;
     Ok(Done {
         item,
-        course: course_of(done.ends),
+        course: course_of(ends),
     })
 }
 
@@ -153,7 +203,8 @@ fn run_control<'a, S: Setup>(
 ) -> Result<Course<'a>, u16>
     requires opener { StatementFits (statement_view opener.now) }
     requires fits { StatementFits (statement_view stmt.now) }
-    ensures { Turns (model.control_effect (S.names setup.now) parameters.old (statement_view opener.now) (statement_view stmt.now)) result parameters.new }
+    ensures turns { Turns (model.control_effect (S.names setup.now) parameters.old (statement_view opener.now) (statement_view stmt.now)) result parameters.new }
+    ensures unchanged { OnErr result (parameters.new ≡ parameters.old) }
 {
     match stmt {
         Stmt::Jump(target) => Ok(Course::Goes(jumped(target))),
@@ -171,11 +222,12 @@ fn run_control<'a, S: Setup>(
     }
 }
 
-/// Does what a block says whose words of groups hold already.
+/// Does what a block says under these modal words, which are those with the words of this block.
 #[tactic(auto, unfolding(crate::specs::Effects::effect_of, crate::specs::Effects::group_words))]
 fn run_stmt<'a, S: Setup>(
     setup: &S,
     axes: &ChannelAxes,
+    modal: &Modal,
     situation: &mut Situation,
     line: u32,
     groups: &[GWord],
@@ -186,23 +238,33 @@ fn run_stmt<'a, S: Setup>(
     requires once { IsTrue (not (has_group_twice groups.now)) }
     requires opener { StatementFits (statement_view opener.now) }
     requires fits { StatementFits (statement_view stmt.now) }
-    ensures runs { (blocks : List (List GWord)) (chain : List Map) → IsAfter (blocks ++ groups.now ∷ []) situation.old.modal
+    ensures runs { (blocks : List (List GWord)) (chain : List Map) → IsAfter (blocks ++ groups.now ∷ []) modal.now
         → IsComposed chain situation.old.frame
         → Runs (model.effect_of (equipment_of (S.names setup.now) (S.axis_named setup.now) (S.offset setup.now) axes.now)
         (found_in blocks chain situation.old) line (statement_view opener.now) (statement_view stmt.now)) result situation.new }
     ensures modal { situation.new.modal ≡ situation.old.modal }
     ensures stand { IfOk result (λ done. StandsAtEnd done.item situation.old.at situation.new.at) }
-    ensures unmoved { OnErr result (situation.new.at ≡ situation.old.at) }
+    ensures unchanged { OnErr result (situation.new ≡ situation.old) }
 {
     match stmt {
-        Stmt::Words(words) => run_words(setup, axes, situation, line, groups, words.as_slice()),
+        Stmt::Words(words) => {
+            run_words(
+                setup,
+                axes,
+                modal,
+                situation,
+                line,
+                groups,
+                words.as_slice(),
+            )
+        }
         Stmt::Shape(word, values) => {
             let parameters = &situation.parameters;
             shape(parameters, &mut situation.frame, *word, values.as_slice())?;
             Ok(framed())
         }
         Stmt::Turn(additive, angle) => {
-            let plane = plane_in(&situation.modal);
+            let plane = plane_in(modal);
             let parameters = &situation.parameters;
             turn(parameters, &mut situation.frame, plane, *additive, angle)?;
             Ok(framed())
@@ -234,10 +296,12 @@ fn run<'a, S: Setup>(
     ensures modal { IfOk result (λ _. (blocks : List (List GWord)) → IsAfter blocks situation.old.modal
         → IsAfter (blocks ++ groups.now ∷ []) situation.new.modal) }
     ensures stand { IfOk result (λ done. StandsAtEnd done.item situation.old.at situation.new.at) }
-    ensures unmoved { OnErr result (situation.new.at ≡ situation.old.at) }
+    ensures unchanged { OnErr result (situation.new ≡ situation.old) }
 {
-    situation.modal = apply(&situation.modal, groups)?;
-    run_stmt(setup, axes, situation, line, groups, opener, stmt)
+    let modal = apply(&situation.modal, groups)?;
+    let done = run_stmt(setup, axes, &modal, situation, line, groups, opener, stmt)?;
+    situation.modal = modal;
+    Ok(done)
 }
 
 /// Does what a block on this line says, or answers its first alarm.
@@ -254,8 +318,8 @@ fn run<'a, S: Setup>(
 /// where the library has no program of the name that is called.
 ///
 /// `opener` is the block that begins the structure round the block; only ENDFOR asks for it. A block of coordination
-/// does nothing. After an alarm no axis has moved, and nothing is said of the rest of the situation. `NoMemory` says
-/// nothing of the block.
+/// does nothing. After an alarm nothing of the block stands, and neither where memory runs out: the parameters, the modal
+/// words, the frame and the positions are as before it. `NoMemory` says nothing of the block.
 pub fn execute<'a, S: Setup>(
     alloc: Global,
     setup: &S,
@@ -274,7 +338,7 @@ pub fn execute<'a, S: Setup>(
     ensures modal { IfOk result (λ _. (blocks : List (List GWord)) → IsAfter blocks situation.old.modal
         → IsAfter (blocks ++ model.group_words (statement_view stmt.now) ∷ []) situation.new.modal) }
     ensures stand { IfOk result (λ done. StandsAtEnd done.item situation.old.at situation.new.at) }
-    ensures unmoved { OnErr result (situation.new.at ≡ situation.old.at) }
+    ensures unchanged { OnErr result (situation.new ≡ situation.old) }
 {
     let groups = match group_words(alloc, stmt) {
         Ok(groups) => groups,

@@ -1,10 +1,10 @@
 //! The parameters of a channel.
 
-ghost use Rattle.std.specs.Prelude.{◌≡◌, ◌≤◌, pos, ◌+ℤ◌, slice_set, IfOk};
+ghost use Rattle.std.specs.Prelude.{◌≡◌, ◌≤◌, pos, ◌+ℤ◌, slice_set, IfOk, IfSome, MatchOption};
 ghost use Rattle.nc_expressions.specs.Tree.{tree_of, IndicesFit};
 ghost use Rattle.nc_expressions.specs.Value.{checked};
 ghost use Rattle.block_effects.specs.Words as model;
-ghost use Rattle.block_effects.specs.Words.{zeros, IsGiven};
+ghost use Rattle.block_effects.specs.Words.{undone, zeros, IsGiven, IsUndone};
 
 use micro_units::Num;
 use nc_expressions::{Expr, Names, eval, index_of};
@@ -15,6 +15,15 @@ use std::marker::Model;
 #[derive(Debug, Drop)]
 pub struct Parameters {
     values: Vec<Num>,
+}
+
+/// How a parameter was before it got a value.
+#[derive(Clone, Copy)]
+pub(crate) struct Change {
+    /// Its number.
+    pub index: u16,
+    /// The value that it had.
+    pub before: Num,
 }
 
 impl Model for Parameters {
@@ -63,22 +72,54 @@ impl Parameters {
         self.values[usize::from(index)] = value;
     }
 
-    /// Gives the parameter of this number the value of an expression.
-    pub(crate) fn give(&mut self, index: u16, value: &Expr) -> Result<(), u16>
-        requires index { index ≤ 999 }
-        requires fits { IndicesFit (tree_of value.now) }
-        ensures { IsGiven (model.given self.old index (tree_of value.now)) result self.new }
+    /// Gives the parameter of this number a value, and answers how it was before.
+    #[tactic(auto, using(crate::proofs::Changes::set_back))]
+    fn replace(&mut self, index: u16, value: Num) -> Change
+        requires { index ≤ 999 }
+        ensures set { self.new ≡ slice_set self.old index value }
+        ensures index { result.index ≡ index }
+        ensures undone { undone self.new result ≡ self.old }
     {
-        let value = eval(value, self)?;
+        let before = self.parameter(index);
         self.set(index, value);
-        Ok(())
+        Change { index, before }
     }
 
-    /// Gives the parameter whose number is the value of an expression the value of another.
-    pub(crate) fn give_at(&mut self, index: &Expr, value: &Expr) -> Result<(), u16>
+    /// Takes a change back.
+    pub(crate) fn undo(&mut self, change: Change)
+        requires { change.index ≤ 999 }
+        ensures { self.new ≡ undone self.old change }
+    {
+        self.set(change.index, change.before);
+    }
+
+    /// Takes a change back, if there is one.
+    pub(crate) fn undo_some(&mut self, change: Option<Change>)
+        requires { IfSome change (λ made. made.index ≤ 999) }
+        ensures { MatchOption change (self.new ≡ self.old) (λ made. self.new ≡ undone self.old made) }
+    {
+        if let Some(change) = change {
+            self.undo(change);
+        }
+    }
+
+    /// Gives the parameter of this number the value of an expression, and answers how it was before.
+    pub(crate) fn give(&mut self, index: u16, value: &Expr) -> Result<Change, u16>
+        requires index { index ≤ 999 }
+        requires fits { IndicesFit (tree_of value.now) }
+        ensures given { IsGiven (model.given self.old index (tree_of value.now)) result self.new }
+        ensures undone { IsUndone result self.old self.new }
+    {
+        let value = eval(value, self)?;
+        Ok(self.replace(index, value))
+    }
+
+    /// Gives the parameter whose number is the value of an expression the value of another, and answers how it was before.
+    pub(crate) fn give_at(&mut self, index: &Expr, value: &Expr) -> Result<Change, u16>
         requires index { IndicesFit (tree_of index.now) }
         requires fits { IndicesFit (tree_of value.now) }
-        ensures { IsGiven (model.given_at self.old (tree_of index.now) (tree_of value.now)) result self.new }
+        ensures given { IsGiven (model.given_at self.old (tree_of index.now) (tree_of value.now)) result self.new }
+        ensures undone { IsUndone result self.old self.new }
     {
         let index = eval(index, self)?;
         match index_of(index) {
@@ -87,14 +128,14 @@ impl Parameters {
         }
     }
 
-    /// Adds 1 to the parameter of this number, or answers alarm 1 where it leaves the range.
-    pub(crate) fn count(&mut self, index: u16) -> Result<(), u16>
+    /// Adds 1 to the parameter of this number and answers how it was before, or alarm 1 where it leaves the range.
+    pub(crate) fn count(&mut self, index: u16) -> Result<Change, u16>
         requires { index ≤ 999 }
-        ensures { IsGiven (model.counted self.old index) result self.new }
+        ensures given { IsGiven (model.counted self.old index) result self.new }
+        ensures undone { IsUndone result self.old self.new }
     {
         let value = one_more(self.parameter(index))?;
-        self.set(index, value);
-        Ok(())
+        Ok(self.replace(index, value))
     }
 }
 

@@ -1,14 +1,14 @@
-//! The words of a block, which act from left to right.
+//! The words of a block, one by one.
 
-ghost use Rattle.std.specs.Prelude.{◌≡◌, ◌≤◌, ◌<◌, ℕ, ℤ, List, All, IfSome, MatchResult, map, false, length, Ok, Err};
+ghost use Rattle.std.specs.Prelude.{◌≡◌, ◌≤◌, ◌<◌, ℕ, ℤ, List, IfSome, MatchResult, false, length, Ok, Err};
 ghost use Rattle.nc_blocks.specs.Indices.{WordFits, OptionFits, OperandFits};
 ghost use Rattle.nc_blocks.specs.Statement.{word_view, operand_view, tree_option};
 ghost use Rattle.block_effects.specs.Words as model;
-ghost use Rattle.block_effects.specs.Words.{progress_of, Acts, Aims, Curves, IsPut, IsRead, WordsAct};
+ghost use Rattle.block_effects.specs.Words.{progress_of, Acts, ActsOn, Aims, Curves, IsPut, IsRead, IsUndoneSome};
 ghost use Rattle.block_effects.specs.Courses.{equipment_of};
 
 use crate::course::Setup;
-use crate::parameters::Parameters;
+use crate::parameters::{Change, Parameters};
 use crate::situation::ChannelAxes;
 use arc_moves::ArcWords;
 use axis_moves::{Programmed, Targets};
@@ -16,6 +16,7 @@ use axis_sets::AxisId;
 use micro_units::Num;
 use nc_blocks::{Operand, Word};
 use nc_expressions::{Expr, eval};
+use sync_types::Item;
 
 /// What the words of a block have done so far, besides what they gave parameters.
 #[derive(Drop)]
@@ -26,6 +27,8 @@ pub(crate) struct WordsDone {
     pub(crate) arc: ArcWords,
     /// Whether the program ends behind the block.
     pub(crate) ends: bool,
+    /// The motion of the block, once its last word has acted.
+    pub(crate) item: Option<Item>,
 }
 
 /// The slot with this letter, 0, 1 and 2 for X, Y and Z.
@@ -200,7 +203,7 @@ fn read(parameters: &Parameters, index: &Option<Expr>, operand: &Operand) -> Res
 impl WordsDone {
     /// Before the first word of a block.
     #[tactic(auto, unfolding(crate::specs::Words::nothing_programmed, crate::specs::Words::no_arc))]
-    fn nothing() -> WordsDone
+    pub(crate) fn nothing() -> WordsDone
         ensures targets { result.targets ≡ model.nothing_programmed }
         ensures arc { result.arc ≡ model.no_arc }
         ensures ends { result.ends ≡ false }
@@ -215,6 +218,7 @@ impl WordsDone {
                 radius: None,
             },
             ends: false,
+            item: None,
         }
     }
 
@@ -236,57 +240,45 @@ impl WordsDone {
         }
     }
 
-    /// Does what a word says, or answers its alarm.
+    /// Does what a word says and answers how a parameter was before, if it gave one a value; or answers its alarm.
     #[tactic(auto, unfolding(crate::specs::Words::word_done))]
-    fn act<S: Setup>(
+    pub(crate) fn act<S: Setup>(
         &mut self,
         setup: &S,
         axes: &ChannelAxes,
         parameters: &mut Parameters,
         word: &Word,
-    ) -> Result<(), u16>
+    ) -> Result<Option<Change>, u16>
         requires { WordFits (word_view word.now) }
-        ensures { Acts (model.word_done (equipment_of (S.names setup.now) (S.axis_named setup.now) (S.offset setup.now) axes.now)
+        ensures acts { ActsOn (model.word_done (equipment_of (S.names setup.now) (S.axis_named setup.now) (S.offset setup.now) axes.now)
             (progress_of parameters.old self.old) (word_view word.now)) result (progress_of parameters.new self.new) }
+        ensures undone { IsUndoneSome result parameters.old parameters.new }
     {
         match word {
-            Word::Assign(index, value) => parameters.give(*index, value),
-            Word::AssignAt(index, value) => parameters.give_at(index, value),
+            Word::Assign(index, value) => Ok(Some(parameters.give(*index, value)?)),
+            Word::AssignAt(index, value) => Ok(Some(parameters.give_at(index, value)?)),
             Word::Axis(name, measure, value) => {
                 let value = Programmed {
                     measure: *measure,
                     value: eval(value, parameters)?,
                 };
-                self.program(setup, axes, name.as_slice(), value)
+                self.program(setup, axes, name.as_slice(), value)?;
+                Ok(None)
             }
-            Word::Aux(_, index, operand) => read(parameters, index, operand),
+            Word::Aux(_, index, operand) => {
+                read(parameters, index, operand)?;
+                Ok(None)
+            }
             Word::End => {
                 self.ends = true;
-                Ok(())
+                Ok(None)
             }
             Word::Radius(value) => {
                 let value = eval(value, parameters)?;
-                program_radius(&mut self.arc, value)
+                program_radius(&mut self.arc, value)?;
+                Ok(None)
             }
-            Word::G(_, _) => Ok(()),
+            Word::G(_, _) => Ok(None),
         }
     }
-}
-
-/// Does what the words of a block say, and answers what they program, or the first alarm.
-pub(crate) fn act_all<S: Setup>(
-    setup: &S,
-    axes: &ChannelAxes,
-    parameters: &mut Parameters,
-    words: &[Word],
-) -> Result<WordsDone, u16>
-    requires { All WordFits (map word_view words.now) }
-    ensures { WordsAct (model.words_done (equipment_of (S.names setup.now) (S.axis_named setup.now) (S.offset setup.now) axes.now)
-        (model.begun parameters.old) (map word_view words.now)) result parameters.new }
-{
-    let mut done = WordsDone::nothing();
-    for word in words {
-        done.act(setup, axes, parameters, word)?;
-    }
-    Ok(done)
 }

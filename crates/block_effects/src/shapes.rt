@@ -1,6 +1,6 @@
 //! Blocks of frames.
 
-ghost use Rattle.std.specs.Prelude.{◌≡◌, All, List, map, Some, slice_set};
+ghost use Rattle.std.specs.Prelude.{◌≡◌, All, List, OnErr, map, Some, slice_set};
 ghost use Rattle.frames.specs.Composition.{IsComposed};
 ghost use Rattle.frames.specs.Maps.{Map};
 ghost use Rattle.nc_blocks.specs.Indices.{EntryFits, OptionFits};
@@ -42,7 +42,8 @@ fn values_of(parameters: &Parameters, words: &[(u8, Expr)]) -> Result<[Option<Nu
 /// Shapes the frame by a word with these values, or answers its alarm.
 #[tactic(auto, using(crate::proofs::FrameSteps::adds_shapes), unfolding(crate::specs::Shapes::shaped))]
 fn shape_by(frame: &mut Frame, word: FrameWord, values: [Option<Num>; 3]) -> Result<(), u16>
-    ensures { (chain : List Map) → IsComposed chain frame.old → Shapes (model.shaped chain word values) result frame.new }
+    ensures shapes { (chain : List Map) → IsComposed chain frame.old → Shapes (model.shaped chain word values) result frame.new }
+    ensures unchanged { OnErr result (frame.new ≡ frame.old) }
 {
     match word {
         FrameWord::Trans => frame.trans(values),
@@ -62,8 +63,9 @@ pub(crate) fn shape(
     words: &[(u8, Expr)],
 ) -> Result<(), u16>
     requires { All EntryFits (map frame_entry words.now) }
-    ensures { (chain : List Map) → IsComposed chain frame.old
+    ensures shapes { (chain : List Map) → IsComposed chain frame.old
         → Shapes (model.shaped_by parameters.now chain word (map frame_entry words.now)) result frame.new }
+    ensures unchanged { OnErr result (frame.new ≡ frame.old) }
 {
     let values = values_of(parameters, words)?;
     shape_by(frame, word, values)
@@ -72,7 +74,8 @@ pub(crate) fn shape(
 /// Turns the frame, or answers the alarm.
 #[tactic(auto, using(crate::proofs::FrameSteps::adds_shapes), unfolding(crate::specs::Shapes::turned))]
 fn turn_by(frame: &mut Frame, plane: Plane, additive: bool, angle: Option<Num>) -> Result<(), u16>
-    ensures { (chain : List Map) → IsComposed chain frame.old → Shapes (model.turned chain plane additive angle) result frame.new }
+    ensures shapes { (chain : List Map) → IsComposed chain frame.old → Shapes (model.turned chain plane additive angle) result frame.new }
+    ensures unchanged { OnErr result (frame.new ≡ frame.old) }
 {
     if additive {
         frame.arot(plane, angle)
@@ -90,8 +93,9 @@ pub(crate) fn turn(
     angle: &Option<Expr>,
 ) -> Result<(), u16>
     requires { OptionFits (tree_option angle.now) }
-    ensures { (chain : List Map) → IsComposed chain frame.old
+    ensures shapes { (chain : List Map) → IsComposed chain frame.old
         → Shapes (model.turned_by parameters.now chain plane additive (tree_option angle.now)) result frame.new }
+    ensures unchanged { OnErr result (frame.new ≡ frame.old) }
 {
     let angle = option_read(parameters, angle)?;
     turn_by(frame, plane, additive, angle)

@@ -5,4 +5,5 @@ pub mod Steps
 pub mod RunLaws
 pub mod Fitting
 pub mod Placed
+pub mod Searching
 pub mod Segments

@@ -1,24 +1,25 @@
 -- From one block of a segment to the next.
-use Rattle.std.proofs.Common.{◌≡◌, ◌∙◌, ℕ, List, [], Option, None, Some, IfNone, Result, Ok, Err, IfOk, ap, sym}
+use Rattle.std.proofs.Common.{◌≡◌, ◌∙◌, ℕ, List, [], Option, None, Some, Result, Ok, Err, IfOk, ap, subst, sym}
 use Rattle.sync_types.specs.declared.Item.{Item}
 use Rattle.sync_types.specs.declared.Step.{Step}
 use Rattle.tape_job.specs.Job.{JobView}
-use Rattle.channel_machine.specs.Kept.{Kept, GoesOn, Advances, IsSegment, IsSettingIn}
-use Rattle.channel_machine.specs.Run.{Setting, Channel, offset_of, segment_of}
+use Rattle.channel_machine.specs.Kept.{Kept, Keeps, GoesOn, Advances, IsSegment, IsSettingIn}
+use Rattle.channel_machine.specs.Run.{Setting, Channel, SegmentView, offset_of, segment_of}
 
 pub if_ok : {A E : Type 0} {P Q : A → Type 0} (r : Result A E) → ((x : A) → P x → Q x) → IfOk r P → IfOk r Q
 if_ok (Ok x) each p = each x p
 if_ok (Err e) each p = tt
 
-pub none_holds : {A : Type 0} {P : Type 0} (o : Option A) → o ≡ None → IfNone o P → P
-none_holds None is p = p
-none_holds (Some x) is p = absurd cc
-
 module _ (s : Setting) (c : Channel) (mid after : List Item) (kept later : Kept) (was : GoesOn s c [] mid kept) where
   -- the segment ends
-  pub ends_so : (halt : Option Step) (step : Step) → halt ≡ Some step → Advances s was.next mid halt after later → IsSegment (segment_of s c) after step
+  pub ends_so : (halt : Option Step) (step : Step) → halt ≡ Some step → Advances s was.next mid halt after later
+      → IsSegment s (segment_of s c) (record { items = after; step = step; after = later })
   ends_so None step is told = absurd cc
-  ends_so (Some other) step is told = let same : other ≡ step = cc in was.rest ∙ (rw same at told)
+  ends_so (Some other) step is told = record {
+    items = ap (λ (g : SegmentView). g.items) was.rest ∙ told.items;
+    step = let same : other ≡ step = cc in ap (λ (g : SegmentView). g.step) was.rest ∙ told.step ∙ same;
+    after = subst (λ (g : SegmentView). Keeps s g.after later) (sym was.rest) told.after;
+  }
 
   -- or it goes on
   pub goes_so : (halt : Option Step) → halt ≡ None → Advances s was.next mid halt after later → GoesOn s c [] after later

@@ -6,7 +6,8 @@ use Rattle.std.specs.Option.{option_to_list}
 use Rattle.axis_moves.specs.Motions.{stands, left_at, StandsAtEnd}
 use Rattle.axis_moves.proofs.Positions.{stands_more}
 use Rattle.block_effects.specs.Courses.{IsLeft, Does, course_view}
-use Rattle.block_effects.specs.Effects.{Course, Effect, group_words, effect_of}
+use Rattle.block_effects.specs.Effects.{Course, Effect, IsStill, group_words, effect_of}
+use Rattle.block_effects.proofs.StillLaws.{searching_stays}
 use Rattle.block_effects.specs.Words.{zeros}
 use Rattle.block_effects.specs.declared.course.Done.{Done}
 use Rattle.block_effects.specs.declared.situation.Situation.{Situation}
@@ -21,16 +22,27 @@ use Rattle.sync_types.specs.declared.Item.{Item}
 use Rattle.sync_types.specs.declared.Step.{Step}
 use Rattle.channel_machine.specs.declared.levels.Levels.{Levels}
 use Rattle.channel_machine.specs.Levels.{followed}
-use Rattle.channel_machine.specs.Run.{Setting, Executed, Channel, SegmentView, equipment, items_of, header_of, words_after, found_after, stands_after, line_after, opener_at, block_at, executed, step_at, step_after, alarmed, onto, ends_main, behind, run_after, segment_of}
-use Rattle.channel_machine.specs.Kept.{Kept, Keeps, GoesOn, Advances, IsBehind}
+use Rattle.channel_machine.specs.Run.{Setting, Executed, Channel, SegmentView, equipment, items_of, header_of, words_after, found_after, stands_after, line_after, opener_at, block_at, executed, step_at, step_after, alarmed, onto, over, ends_main, behind, run_after, segment_of}
+use Rattle.channel_machine.specs.Kept.{Kept, Keeps, GoesOn, Advances, IsBehind, IsSegment}
 use Rattle.channel_machine.proofs.Pasts.{fold-push, map-push, items_of-push}
+use Rattle.channel_machine.proofs.Searching.{alarms_by_search}
 
--- the segment ends with this step
-abbrev pub ended : List Item → Kept → ℕ → Action → SegmentView
-ended items k line action = record { items = items; step = step_at k.axes k.on (stands k.at) line action }
+-- the segment ends with this step, behind these blocks
+abbrev pub ended : List Item → Kept → ℕ → Action → List Executed → SegmentView
+ended items k line action past = record { items = items; step = step_at k.axes k.on (stands k.at) line action; after = over past }
 
-abbrev pub segment_view : List Item → Step → SegmentView
-segment_view items step = record { items = items; step = step }
+abbrev segment_view : List Item → Step → Channel → SegmentView
+segment_view items step after = record { items = items; step = step; after = after }
+
+-- a segment that ends so, where this is kept of the channel behind it
+pub ends_at : (s : Setting) (segment : SegmentView) (items : List Item) (k later : Kept) (line : ℕ) (action : Action) (past : List Executed) (step : Step)
+    → segment ≡ ended items k line action past → step ≡ step_at k.axes k.on (stands k.at) line action → Keeps s (over past) later
+    → IsSegment s segment (record { items = items; step = step; after = later })
+ends_at s segment items k later line action past step is at keeps = record {
+  items = ap (λ (g : SegmentView). g.items) is;
+  step = ap (λ (g : SegmentView). g.step) is ∙ sym at;
+  after = subst (λ (g : SegmentView). Keeps s g.after later) (sym is) keeps;
+}
 
 -- what was done is the effect of the block
 pub effect_done : (r : Result Effect ℕ) (done : Done) (new : Situation) → Does r done new → (effect : Effect) × (r ≡ Ok effect) × IsLeft effect done new
@@ -50,17 +62,33 @@ module _ (s : Setting) (c : Channel) (k : Kept) (keeps : Keeps s c k) (before : 
       ap (λ (axes : List Bool). step_at axes k.on (stands k.at) line action) keeps.axes ∙ ap (λ (on : List Bool). step_at s.grant.axes on (stands k.at) line action) keeps.on
       ∙ ap (λ (at : ℕ → ℤ). step_at s.grant.axes s.grant.on at line action) same_at ∙ ap (λ (n : ℕ). step_after s c.past n action) is
 
+  -- where control is nowhere the rest is kept of a channel that is over
+  pub over_keeps : (later : Kept) → later ≡ record k { levels = None } → Keeps s (over c.past) later
+  over_keeps later is = subst (λ (l : Kept). Keeps s (over c.past) l) (sym is) (record {
+    levels = refl;
+    count = keeps.count;
+    last = keeps.last;
+    parameters = keeps.parameters;
+    modal = keeps.modal;
+    frame = keeps.frame;
+    at = keeps.at;
+    slots = keeps.slots;
+    axes = keeps.axes;
+    on = keeps.on;
+  })
+
   -- an alarm ends it
-  alarm_is : (line here code : ℕ) → line ≡ here → onto before (alarmed s c.past here code) ≡ ended before k line (Alarm code)
+  alarm_is : (line here code : ℕ) → line ≡ here → onto before (alarmed s c.past here code) ≡ ended before k line (Alarm code) c.past
   alarm_is line here code is =
-      ap (λ (items : List Item). segment_view items (step_after s c.past here (Alarm code))) (append-nil before) ∙ ap (segment_view before) (sym (step_is line here (Alarm code) is))
+      ap (λ (items : List Item). segment_view items (step_after s c.past here (Alarm code)) (over c.past)) (append-nil before)
+      ∙ ap (λ (t : Step). segment_view before t (over c.past)) (sym (step_is line here (Alarm code) is))
 
   segment_is : (n : ℕ) → 100000 - length c.past ≡ n → segment_of s c ≡ run_after s n c
   unfolding segment_of
   segment_is n left = ap (λ (m : ℕ). run_after s m c) left
 
   -- control is nowhere
-  pub nowhere : k.levels ≡ None → onto before (segment_of s c) ≡ ended before k k.last (Alarm 9)
+  pub nowhere : k.levels ≡ None → onto before (segment_of s c) ≡ ended before k k.last (Alarm 9) c.past
   unfolding run_after
   nowhere none = by_left (100000 - length c.past) refl
     where
@@ -71,7 +99,7 @@ module _ (s : Setting) (c : Channel) (k : Kept) (keeps : Keeps s c k) (before : 
       run_is zero = rw gone refl
       run_is (suc more) = rw gone refl
 
-      by_left : (n : ℕ) → 100000 - length c.past ≡ n → onto before (segment_of s c) ≡ ended before k k.last (Alarm 9)
+      by_left : (n : ℕ) → 100000 - length c.past ≡ n → onto before (segment_of s c) ≡ ended before k k.last (Alarm 9) c.past
       by_left n left = ap (onto before) (segment_is n left ∙ run_is n) ∙ alarm_is k.last (line_after s c.past) 9 keeps.last
 
   module _ (levels : Levels) (is : k.levels ≡ Some levels) where
@@ -79,7 +107,7 @@ module _ (s : Setting) (c : Channel) (k : Kept) (keeps : Keeps s c k) (before : 
     there = sym keeps.levels ∙ is
 
     -- no block stands there
-    pub no_block : block_at s levels.here ≡ None → onto before (segment_of s c) ≡ ended before k k.last (Alarm 9)
+    pub no_block : block_at s levels.here ≡ None → onto before (segment_of s c) ≡ ended before k k.last (Alarm 9) c.past
     unfolding run_after
     no_block none = by_left (100000 - length c.past) refl
       where
@@ -87,12 +115,12 @@ module _ (s : Setting) (c : Channel) (k : Kept) (keeps : Keeps s c k) (before : 
         run_is zero = rw (there, none) refl
         run_is (suc more) = rw (there, none) refl
 
-        by_left : (n : ℕ) → 100000 - length c.past ≡ n → onto before (segment_of s c) ≡ ended before k k.last (Alarm 9)
+        by_left : (n : ℕ) → 100000 - length c.past ≡ n → onto before (segment_of s c) ≡ ended before k k.last (Alarm 9) c.past
         by_left n left = ap (onto before) (segment_is n left ∙ run_is n) ∙ alarm_is k.last (line_after s c.past) 9 keeps.last
 
     module _ (line : ℕ) (block : BlockView) (here : block_at s levels.here ≡ Some (line, block)) where
       -- no block may be executed
-      pub spent : k.count ≡ 100000 → onto before (segment_of s c) ≡ ended before k line (Alarm 8)
+      pub spent : k.count ≡ 100000 → onto before (segment_of s c) ≡ ended before k line (Alarm 8) c.past
       unfolding run_after
       spent full =
           let none : 100000 - length c.past ≡ 0 = omega (arith, full, keeps.count) in
@@ -109,7 +137,7 @@ module _ (s : Setting) (c : Channel) (k : Kept) (keeps : Keeps s c k) (before : 
       effect_here = effect_of (equipment s) (found_after s c.past) line (opener_at s levels.here) block.statement
 
       -- the block alarms
-      pub stops : (more code : ℕ) → k.count + suc more ≡ 100000 → effect_here ≡ Err code → onto before (segment_of s c) ≡ ended before k line (Alarm code)
+      pub stops : (more code : ℕ) → k.count + suc more ≡ 100000 → effect_here ≡ Err code → onto before (segment_of s c) ≡ ended before k line (Alarm code) c.past
       stops more code room e =
           let left : 100000 - length c.past ≡ suc more = omega (arith, room, keeps.count) in
           ap (onto before) (segment_is (suc more) left ∙ goes more ∙ rw e refl) ∙ alarm_is line line code refl
@@ -120,7 +148,7 @@ module _ (s : Setting) (c : Channel) (k : Kept) (keeps : Keeps s c k) (before : 
 
         -- where it leads alarms
         leads_not : (code : ℕ) → ends_main levels effect.course ≡ false → followed s.skip s.programs levels effect.course ≡ Err code
-            → onto before (segment_of s c) ≡ ended before k line (Alarm code)
+            → onto before (segment_of s c) ≡ ended before k line (Alarm code) c.past
         leads_not code on e = ap (onto before) (executed_as ∙ rw (on, e) refl) ∙ alarm_is line line code refl
 
         abbrev this : Executed
@@ -132,7 +160,7 @@ module _ (s : Setting) (c : Channel) (k : Kept) (keeps : Keeps s c k) (before : 
         items_more : items_of past_more ≡ items_of c.past ++ option_to_list effect.item
         items_more = items_of-push c.past this
 
-        module _ (mid : Kept) (counted : mid.count ≡ k.count) (channel : mid.channel ≡ k.channel) (slots : mid.slots ≡ k.slots) (axes : mid.axes ≡ k.axes) (on : mid.on ≡ k.on)
+        module _ (mid : Kept) (gone : mid.levels ≡ None) (counted : mid.count ≡ k.count) (last : mid.last ≡ k.last) (slots : mid.slots ≡ k.slots) (axes : mid.axes ≡ k.axes) (on : mid.on ≡ k.on)
             (stand : StandsAtEnd effect.item k.at mid.at) where
           at_more : (axis : ℕ) → stands mid.at axis ≡ stands_after s past_more axis
           at_more axis =
@@ -140,11 +168,10 @@ module _ (s : Setting) (c : Channel) (k : Kept) (keeps : Keeps s c k) (before : 
               ∙ ap (λ (items : List Item). left_at items (stands s.grant.at) axis) (sym items_more)
 
           -- the main program ends
-          finishes : ends_main levels effect.course ≡ true
-              → onto before (segment_of s c) ≡ segment_view (before ++ option_to_list effect.item) (step_at mid.axes mid.on (stands mid.at) line End)
+          finishes : ends_main levels effect.course ≡ true → onto before (segment_of s c) ≡ ended (before ++ option_to_list effect.item) mid line End past_more
           finishes ends =
               ap (onto before) (executed_as ∙ rw ends refl)
-              ∙ ap (segment_view (before ++ option_to_list effect.item))
+              ∙ ap (λ (t : Step). segment_view (before ++ option_to_list effect.item) t (over past_more))
               (sym (ap (λ (axes : List Bool). step_at axes mid.on (stands mid.at) line End) (axes ∙ keeps.axes)
               ∙ ap (λ (on : List Bool). step_at s.grant.axes on (stands mid.at) line End) (on ∙ keeps.on)
               ∙ ap (λ (f : ℕ → ℤ). step_at s.grant.axes s.grant.on f line End) (fun_ext at_more)))
@@ -160,7 +187,7 @@ module _ (s : Setting) (c : Channel) (k : Kept) (keeps : Keeps s c k) (before : 
           there_after next = let left : 100000 - length past_more ≡ more = omega (arith, room, keeps.count, longer) in ap (λ (m : ℕ). run_after s m (after next)) left
 
           both : (segment : SegmentView) → onto before (onto (option_to_list effect.item) segment) ≡ onto (before ++ option_to_list effect.item) segment
-          both segment = ap (λ (items : List Item). segment_view items segment.step) (sym (append_assoc before (option_to_list effect.item) segment.items))
+          both segment = ap (λ (items : List Item). segment_view items segment.step segment.after) (sym (append_assoc before (option_to_list effect.item) segment.items))
 
           module _ (parameters : effect.parameters ≡ mid.parameters) (modal : IsAfter (words_after c.past ++ group_words block.statement ∷ []) mid.modal) (frame : IsComposed effect.chain mid.frame) where
             abbrev kept_after : Option Levels → Kept
@@ -180,6 +207,39 @@ module _ (s : Setting) (c : Channel) (k : Kept) (keeps : Keeps s c k) (before : 
               on = on ∙ keeps.on;
             }
 
+            -- the channel is over behind the block
+            over_after : (new : Kept) → new ≡ record mid { count = mid.count + 1; last = line } → Keeps s (over past_more) new
+            over_after new is =
+                subst (λ (l : Kept). Keeps s (over past_more) l) (sym (is ∙ ap (λ (o : Option Levels). record mid { levels = o; count = mid.count + 1; last = line }) gone)) (keeps_after None)
+
+            -- a block that leads nowhere leaves what was kept before it, but for the words of groups
+            module _ (code : ℕ) (alarms : followed s.skip s.programs levels effect.course ≡ Err code) where
+              still : IsStill (found_after s c.past) effect
+              still =
+                  searching_stays (equipment s) (found_after s c.past) line (opener_at s levels.here) block.statement effect done (alarms_by_search s.skip s.programs levels effect.course code alarms)
+
+              same_stand : (axis : ℕ) → stands mid.at axis ≡ stands k.at axis
+              same_stand = subst (λ (o : Option Item). StandsAtEnd o k.at mid.at) still.item stand
+
+              same_step : step_at mid.axes mid.on (stands mid.at) line (Alarm code) ≡ step_at k.axes k.on (stands k.at) line (Alarm code)
+              same_step =
+                  ap (λ (row : List Bool). step_at row mid.on (stands mid.at) line (Alarm code)) axes ∙ ap (λ (row : List Bool). step_at k.axes row (stands mid.at) line (Alarm code)) on
+                  ∙ ap (λ (f : ℕ → ℤ). step_at k.axes k.on f line (Alarm code)) (fun_ext same_stand)
+
+              over_before : (new : Kept) → new ≡ record mid { modal = k.modal } → Keeps s (over c.past) new
+              over_before new is = subst (λ (l : Kept). Keeps s (over c.past) l) (sym is) (record {
+                levels = gone;
+                count = counted ∙ keeps.count;
+                last = last ∙ keeps.last;
+                parameters = sym parameters ∙ still.parameters;
+                modal = keeps.modal;
+                frame = subst (λ (chain : List Map). IsComposed chain mid.frame) still.chain frame;
+                at = λ axis. same_stand axis ∙ keeps.at axis;
+                slots = slots ∙ keeps.slots;
+                axes = axes ∙ keeps.axes;
+                on = on ∙ keeps.on;
+              })
+
             -- control goes on
             leads : (next : Option Levels) → ends_main levels effect.course ≡ false → followed s.skip s.programs levels effect.course ≡ Ok next
                 → GoesOn s c before (before ++ option_to_list effect.item) (kept_after next)
@@ -190,29 +250,31 @@ module _ (s : Setting) (c : Channel) (k : Kept) (keeps : Keeps s c k) (before : 
             }
 
             led_so : (r : Result (Option Levels) ℕ) → ends_main levels effect.course ≡ false → followed s.skip s.programs levels effect.course ≡ r
-                → (halt : Option Step) (items : List Item) (new : Kept) → IsBehind mid k.at before effect.item line false r halt items new → Advances s c before halt items new
+                → (halt : Option Step) (items : List Item) (new : Kept) → IsBehind mid k.modal before effect.item line false r halt items new → Advances s c before halt items new
             led_so (Err code) goes e halt items new is =
-                rw (is.0, is.1) (leads_not code goes e ∙ ap (segment_view before) (sym (ap (λ (row : List Bool). step_at row mid.on (stands k.at) line (Alarm code)) axes
-                ∙ ap (λ (row : List Bool). step_at k.axes row (stands k.at) line (Alarm code)) on)))
+                rw (is.0, is.1) (ends_at s (onto before (segment_of s c)) before k new line (Alarm code) c.past (step_at mid.axes mid.on (stands mid.at) line (Alarm code))
+                (leads_not code goes e) (same_step code e) (over_before code e new is.2))
             led_so (Ok next) goes e halt items new is = rw (is.0, is.1, is.2) (leads next goes e)
 
             -- what comes behind the block
             behind_so : (flag : Bool) → ends_main levels effect.course ≡ flag
-                → (halt : Option Step) (items : List Item) (new : Kept) → IsBehind mid k.at before effect.item line flag (followed s.skip s.programs levels effect.course) halt items new
+                → (halt : Option Step) (items : List Item) (new : Kept) → IsBehind mid k.modal before effect.item line flag (followed s.skip s.programs levels effect.course) halt items new
                 → Advances s c before halt items new
-            behind_so true ends halt items new is = rw (is.0, is.1) (finishes ends)
+            behind_so true ends halt items new is =
+                rw (is.0, is.1) (ends_at s (onto before (segment_of s c)) (before ++ option_to_list effect.item) mid new line End past_more (step_at mid.axes mid.on (stands mid.at) line End)
+                (finishes ends) refl (over_after new is.2))
             behind_so false goes halt items new is = led_so (followed s.skip s.programs levels effect.course) goes refl halt items new is
 
       -- what comes behind a block that has done this
       pub performed : (more : ℕ) → k.count + suc more ≡ 100000 → (done : Done) (new : Situation) → Does effect_here done new
           → IsAfter (words_after c.past ++ group_words block.statement ∷ []) new.modal → StandsAtEnd done.item k.at new.at
-          → (next : Option Levels) (halt : Option Step) (items : List Item) (kept : Kept)
-          → IsBehind (in_situation k next new) k.at before done.item line (ends_main levels (course_view done.course)) (followed s.skip s.programs levels (course_view done.course)) halt items kept
+          → (next : Option Levels) → next ≡ None → (halt : Option Step) (items : List Item) (kept : Kept)
+          → IsBehind (in_situation k next new) k.modal before done.item line (ends_main levels (course_view done.course)) (followed s.skip s.programs levels (course_view done.course)) halt items kept
           → Advances s c before halt items kept
-      performed more room done new does modal stand next halt items kept is =
+      performed more room done new does modal stand next gone halt items kept is =
           let (effect, made, left) = effect_done effect_here done new does in
           let mid = in_situation k next new in
-          behind_so more room effect made mid refl refl refl refl refl (subst (λ (o : Option Item). StandsAtEnd o k.at new.at) (sym left.item) stand)
+          behind_so more room effect made mid gone refl refl refl refl refl (subst (λ (o : Option Item). StandsAtEnd o k.at new.at) (sym left.item) stand)
           left.parameters modal left.frame (ends_main levels effect.course) refl halt items kept
-          (subst (λ (o : Option Item). IsBehind mid k.at before o line (ends_main levels effect.course) (followed s.skip s.programs levels effect.course) halt items kept) (sym left.item)
-          (subst (λ (course : Course). IsBehind mid k.at before done.item line (ends_main levels course) (followed s.skip s.programs levels course) halt items kept) (sym left.course) is))
+          (subst (λ (o : Option Item). IsBehind mid k.modal before o line (ends_main levels effect.course) (followed s.skip s.programs levels effect.course) halt items kept) (sym left.item)
+          (subst (λ (course : Course). IsBehind mid k.modal before done.item line (ends_main levels course) (followed s.skip s.programs levels course) halt items kept) (sym left.course) is))

@@ -60,14 +60,23 @@ pub record GoesOn (setting : Setting) (channel : Channel) (before after : List I
   pub keeps : Keeps setting next kept
   pub rest : onto before (segment_of setting channel) ≡ onto after (segment_of setting next)
 
+-- a segment with what is kept of the channel behind it
+pub record KeptSegment : Type 0 where
+  pub items : List Item
+  pub step : Step
+  pub after : Kept
+
+-- a segment has these items and this step, and this is kept of the very channel behind it
+pub record IsSegment (setting : Setting) (segment : SegmentView) (kept : KeptSegment) : Type 0 where
+  pub items : segment.items ≡ kept.items
+  pub step : segment.step ≡ kept.step
+  pub after : Keeps setting segment.after kept.after
+
 -- a block on, the segment ends with this step, or the channel goes on
 abbrev pub Advances : Setting → Channel → List Item → Option Step → List Item → Kept → Type 0
-Advances setting channel before (Some step) after kept = onto before (segment_of setting channel) ≡ record { items = after; step = step }
+Advances setting channel before (Some step) after kept =
+    IsSegment setting (onto before (segment_of setting channel)) (record { items = after; step = step; after = kept })
 Advances setting channel before None after kept = GoesOn setting channel before after kept
-
--- the items and the step of a segment
-abbrev pub IsSegment : SegmentView → List Item → Step → Type 0
-IsSegment segment items step = segment ≡ record { items = items; step = step }
 
 -- what a state keeps
 abbrev pub kept_by : State → Kept
@@ -94,17 +103,18 @@ pub record IsThere (programs : List (List ℕ × ProgramView)) (here : Place) (l
   pub fits : StatementFits block.statement
   pub opener_fits : StatementFits opener
 
--- the segment ends on this line, where the axes stand so
-abbrev pub Stops : Kept → List (Option ℤ) → ℕ → Action → Option Step → Type 0
-Stops kept at line action halt = halt ≡ Some (step_at kept.axes kept.on (stands at) line action)
+-- the segment ends on this line, where the axes stand
+abbrev pub Stops : Kept → ℕ → Action → Option Step → Type 0
+Stops kept line action halt = halt ≡ Some (step_at kept.axes kept.on (stands kept.at) line action)
 
--- where a block on this line with this motion leads: an alarm of that stops the channel where it stood before the block
-abbrev pub IsLed : Kept → List (Option ℤ) → List Item → Option Item → ℕ → Result (Option Levels) ℕ → Option Step → List Item → Kept → Type 0
-IsLed old before items item line (Err code) halt after new = Stops old before line (Alarm code) halt × (after ≡ items)
-IsLed old before items item line (Ok levels) halt after new =
+-- where a block on this line with this motion leads: behind an alarm of that the words of groups are those before the block
+abbrev pub IsLed : Kept → List ℕ → List Item → Option Item → ℕ → Result (Option Levels) ℕ → Option Step → List Item → Kept → Type 0
+IsLed old modal items item line (Err code) halt after new = Stops old line (Alarm code) halt × (after ≡ items) × (new ≡ record old { modal = modal })
+IsLed old modal items item line (Ok levels) halt after new =
     (halt ≡ None) × (after ≡ items ++ option_to_list item) × (new ≡ record old { levels = levels; count = old.count + 1; last = line })
 
 -- behind a block: it ends the main program, or leads on
-abbrev pub IsBehind : Kept → List (Option ℤ) → List Item → Option Item → ℕ → Bool → Result (Option Levels) ℕ → Option Step → List Item → Kept → Type 0
-IsBehind old before items item line true led halt after new = Stops old old.at line End halt × (after ≡ items ++ option_to_list item)
-IsBehind old before items item line false led halt after new = IsLed old before items item line led halt after new
+abbrev pub IsBehind : Kept → List ℕ → List Item → Option Item → ℕ → Bool → Result (Option Levels) ℕ → Option Step → List Item → Kept → Type 0
+IsBehind old modal items item line true led halt after new =
+    Stops old line End halt × (after ≡ items ++ option_to_list item) × (new ≡ record old { count = old.count + 1; last = line })
+IsBehind old modal items item line false led halt after new = IsLed old modal items item line led halt after new

@@ -162,10 +162,15 @@ executed setting past place (line, block) =
 
 -- ---- the segment
 
--- the motions of a segment, and the step that ends it
+-- the motions of a segment, the step that ends it, and the channel behind it
 pub record SegmentView : Type 0 where
   pub items : List Item
   pub step : Step
+  pub after : Channel
+
+-- a channel that has executed these blocks and goes on no more: control is nowhere
+abbrev pub over : List Executed → Channel
+over past = record { past = past; levels = None }
 
 -- where the axes of a set stand
 abbrev pub owned_at : List Bool → (ℕ → ℤ) → List (Option ℤ)
@@ -179,9 +184,9 @@ step_at axes on at line action = record { line = line; action = action; at = own
 abbrev pub step_after : Setting → List Executed → ℕ → Action → Step
 step_after setting past line action = step_at setting.grant.axes setting.grant.on (stands_after setting past) line action
 
--- the segment ends with an alarm; nothing of the block on this line stands
+-- the segment ends with an alarm, and with it the channel; nothing of the block on this line stands
 abbrev pub alarmed : Setting → List Executed → ℕ → ℕ → SegmentView
-alarmed setting past line code = record { items = []; step = step_after setting past line (Alarm code) }
+alarmed setting past line code = record { items = []; step = step_after setting past line (Alarm code); after = over past }
 
 -- a segment with a block in front of it
 abbrev pub onto : List Item → SegmentView → SegmentView
@@ -207,9 +212,13 @@ abbrev pub led : Setting → List Executed → Executed → Result (Option Level
 led setting past done (Err code) go = alarmed setting past done.line code
 led setting past done (Ok levels) go = onto (option_to_list done.effect.item) (go (record { past = past ++ done ∷ []; levels = levels }))
 
--- the end of the main program ends the segment
+-- the end of the main program ends the segment, and the channel
 abbrev pub finished : Setting → List Executed → Executed → SegmentView
-finished setting past done = record { items = option_to_list done.effect.item; step = step_after setting (past ++ done ∷ []) done.line End }
+finished setting past done = record {
+  items = option_to_list done.effect.item;
+  step = step_after setting (past ++ done ∷ []) done.line End;
+  after = over (past ++ done ∷ []);
+}
 
 -- behind a block: its alarm, the end of the main program, or where control goes on
 abbrev pub behind : Setting → List Executed → Levels → ℕ → Result Executed ℕ → (Channel → SegmentView) → SegmentView

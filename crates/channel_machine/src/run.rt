@@ -18,24 +18,35 @@ use crate::local::{Local, State};
 use crate::surroundings::Surroundings;
 use axis_sets::{AxisId, AxisSet, Positions};
 use block_effects::{BlockFault, Course, Done, execute};
+use g_groups::Modal;
 use micro_units::Um;
 use nc_blocks::{Block, Stmt};
 use nc_control_flow::Flow;
 use nc_faults::NoMemory;
 use nc_subprograms::Place;
 use std::alloc::{AllocError, Global};
+use std::marker::Model;
 use sync_types::{Action, Item, Step};
 use tape_job::Job;
 
-/// What a channel does up to the next step.
+/// What a channel does up to the next step. A contract sees the items as a list, and of the channel what it keeps.
 #[derive(Drop)]
 pub struct Segment {
     /// What its blocks do, in the order in which it executes them.
     pub items: Vec<Item>,
     /// The step that ends it.
     pub step: Step,
-    /// The channel behind it. Nothing is said of it behind an alarm or the end of the program.
+    /// The channel behind it. Behind an alarm or the end of the program it goes on no more, and nothing of an alarmed
+    /// block stands in it.
     pub after: Local,
+}
+
+impl Model for Segment {
+    ghost use Rattle.channel_machine.specs.Kept.{KeptSegment};
+
+    ghost Value = { KeptSegment };
+
+    ghost view = { λ g. record { items = g.items.items; step = g.step; after = g.after } };
 }
 
 /// How many blocks a channel may execute.
@@ -65,23 +76,16 @@ fn owned_at(axes: AxisSet, at: &Positions) -> Positions
     owned
 }
 
-/// The step of a channel on this line, with its axes where these positions have them.
-fn step_at(state: &State, at: &Positions, line: u32, action: Action) -> Step
-    ensures { result ≡ model.step_at state.now.own.owned state.now.on (stands at.now) line action }
-{
-    Step {
-        line,
-        action,
-        at: owned_at(state.own.owned, at),
-        on: state.on,
-    }
-}
-
 /// The step of a channel on this line, with its axes where they stand.
 fn step(state: &State, line: u32, action: Action) -> Step
     ensures { result ≡ model.step_at state.now.own.owned state.now.on (stands state.now.situation.at) line action }
 {
-    step_at(state, &state.situation.at, line, action)
+    Step {
+        line,
+        action,
+        at: owned_at(state.own.owned, &state.situation.at),
+        on: state.on,
+    }
 }
 
 /// The statement that begins the structure round a place.
@@ -146,29 +150,34 @@ fn ends_main(levels: &Levels, course: &Course) -> bool
 }
 
 /// Goes on behind a block on this line that has done this, and answers the step where the segment ends with it.
-/// `before` is where the axes stood before the block.
+/// `modal` are the words of groups that held before the block.
 ///
-/// The alarms are those of where it leads; nothing of the block stands behind one.
+/// The alarms are those of where it leads. Behind one nothing of the block stands: it is a block that jumps, repeats or
+/// calls, so it has changed no more than the words of groups, and those are put back.
 fn leave(
     job: &Job,
     state: &mut State,
     items: &mut Vec<Item>,
     levels: Levels,
     line: u32,
-    before: &Positions,
+    modal: Modal,
     done: Done,
 ) -> Result<Option<Step>, NoMemory>
     requires fit { LevelsFit job.now.skip job.now.programs levels }
     requires few { state.old.count < 100000 }
-    ensures told { IfOk result (λ halt. IsBehind (kept_by state.old) before.now items.old.items done.entry.item line (model.ends_main levels (course_view done.entry.course))
+    requires nowhere { state.old.levels ≡ None }
+    ensures told { IfOk result (λ halt. IsBehind (kept_by state.old) modal items.old.items done.entry.item line (model.ends_main levels (course_view done.entry.course))
         (followed job.now.skip job.now.programs levels (course_view done.entry.course)) halt items.new.items (kept_by state.new)) }
-    ensures fit { IfOk result (λ halt. IfNone halt (IfSome state.new.levels (LevelsFit job.now.skip job.now.programs))) }
-    ensures count { IfOk result (λ halt. IfNone halt ((state.new.count ≤ 100000) × (state.new.count ≡ state.old.count + 1))) }
-    ensures channel { IfOk result (λ halt. IfNone halt (state.new.channel ≡ state.old.channel)) }
+    ensures fit { IfOk result (λ _. IfSome state.new.levels (LevelsFit job.now.skip job.now.programs)) }
+    ensures few { IfOk result (λ _. state.new.count ≤ 100000) }
+    ensures count { IfOk result (λ halt. IfNone halt (state.new.count ≡ state.old.count + 1)) }
+    ensures channel { IfOk result (λ _. state.new.channel ≡ state.old.channel) }
 {
     let Done { item, course } = done;
     if ends_main(&levels, &course) {
         push_some(items, item)?;
+        state.count += 1;
+        state.last = line;
         return Ok(Some(step(state, line, Action::End)));
     }
     match follow(job, levels, course, job.skip) {
@@ -179,7 +188,10 @@ fn leave(
             state.last = line;
             Ok(None)
         }
-        Err(code) => Ok(Some(step_at(state, before, line, Action::Alarm(code)))),
+        Err(code) => {
+            state.situation.modal = modal;
+            Ok(Some(step(state, line, Action::Alarm(code))))
+        }
     }
 }
 
@@ -199,9 +211,10 @@ fn advance(
     requires few { state.old.count ≤ 100000 }
     ensures told { IfOk result (λ halt. (s : Setting) (c : Channel) → IsSettingIn job.now s (kept_by state.old) → Keeps s c (kept_by state.old)
         → Advances s c items.old.items halt items.new.items (kept_by state.new)) }
-    ensures fit { IfOk result (λ halt. IfNone halt (IfSome state.new.levels (LevelsFit job.now.skip job.now.programs))) }
-    ensures count { IfOk result (λ halt. IfNone halt ((state.new.count ≤ 100000) × (state.new.count ≡ state.old.count + 1))) }
-    ensures channel { IfOk result (λ halt. IfNone halt (state.new.channel ≡ state.old.channel)) }
+    ensures fit { IfOk result (λ _. IfSome state.new.levels (LevelsFit job.now.skip job.now.programs)) }
+    ensures few { IfOk result (λ _. state.new.count ≤ 100000) }
+    ensures count { IfOk result (λ halt. IfNone halt (state.new.count ≡ state.old.count + 1)) }
+    ensures channel { IfOk result (λ _. state.new.channel ≡ state.old.channel) }
 {
     let Some(levels) = state.levels.take() else {
         return Ok(Some(step(state, state.last, Action::Alarm(9))));
@@ -215,7 +228,7 @@ fn advance(
     }
     let channel = state.channel;
     let surroundings = Surroundings { job, channel };
-    let before = state.situation.at;
+    let modal = state.situation.modal;
     match execute(
         alloc,
         &surroundings,
@@ -225,7 +238,7 @@ fn advance(
         next.opener,
         &next.block.stmt,
     ) {
-        Ok(done) => leave(job, state, items, levels, line, &before, done),
+        Ok(done) => leave(job, state, items, levels, line, modal, done),
         Err(fault) => match fault {
             BlockFault::Alarm(code) => Ok(Some(step(state, line, Action::Alarm(code)))),
             BlockFault::NoMemory => Err(NoMemory),
@@ -240,13 +253,19 @@ fn advance(
 /// the header. Alarm 8: one more block than 100,000 comes, at its line. Then the alarms of the block
 /// that comes, 6 where it calls a program on a seventeenth level, 5 where its label or block number is
 /// missing, and 32 where a seventeenth repetition would run; nothing of that block stands.
+///
+/// The channel behind the segment may be handed to `run_segment` again. Behind an alarm or the end of the main program it
+/// is over: control is nowhere, and one more segment is alarm 9.
 pub fn run_segment(alloc: Global, job: &Job, local: &Local) -> Result<Segment, NoMemory>
     requires blocks { BlocksFit job.now }
     requires programs { length job.now.programs ≤ 65536 }
     requires fit { IfSome local.now.levels (LevelsFit job.now.skip job.now.programs) }
     requires few { local.now.count ≤ 100000 }
-    ensures { IfOk result (λ g. (s : Setting) (c : Channel) → IsSettingIn job.now s local.now → Keeps s c local.now
-        → IsSegment (segment_of s c) g.items.items g.step) }
+    ensures told { IfOk result (λ g. (s : Setting) (c : Channel) → IsSettingIn job.now s local.now → Keeps s c local.now
+        → IsSegment s (segment_of s c) g) }
+    ensures fit { IfOk result (λ g. IfSome g.after.levels (LevelsFit job.now.skip job.now.programs)) }
+    ensures few { IfOk result (λ g. g.after.count ≤ 100000) }
+    ensures channel { IfOk result (λ g. g.after.channel ≡ local.now.channel) }
 {
     let mut state = local.state.copied()?;
     let mut items = Vec::new(alloc);

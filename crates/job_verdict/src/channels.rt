@@ -221,7 +221,8 @@ fn end_of_step(step: &Step) -> ChannelEnd
 /// Runs the program that a CHANNEL line selects, from its first block to its end.
 fn run_selected(alloc: Global, job: &Job, line: &ChannelLine) -> Result<Segment, NoMemory>
     requires { model.IsRunnable job.now }
-    ensures { IfOk result (λ segment. model.program_run job.now line.now ≡ record { items = segment.items.items; step = segment.step }) }
+    ensures items { IfOk result (λ segment. (model.program_run job.now line.now).items ≡ segment.items) }
+    ensures step { IfOk result (λ segment. (model.program_run job.now line.now).step ≡ segment.step) }
 {
     let grant = first_grant(job, line);
     let local = Local::start(alloc, job, line.channel, &grant)?;

@@ -9,7 +9,8 @@ use crate::parts::{Sought, parts};
 use crate::repeats::{Control, Repeats, Running};
 use crate::structures::{found_ahead, found_behind};
 use nc_blocks::{Block, Target, Way};
-use std::alloc::{AllocError, Global};
+use nc_faults::NoMemory;
+use std::alloc::Global;
 use std::marker::Model;
 
 /// What came of a block.
@@ -80,7 +81,7 @@ impl Model for Flow {
 /// Finds the structures, the labels and the block numbers of a program, whose blocks come with their
 /// lines.
 #[tactic(auto, unfolding(crate::specs::Structures::closing, crate::specs::Structures::branching, crate::specs::Structures::opening))]
-pub fn resolve(alloc: Global, blocks: Vec<(u32, Block)>) -> Result<Flow, AllocError>
+pub fn resolve(alloc: Global, blocks: Vec<(u32, Block)>) -> Result<Flow, NoMemory>
     requires { vec_len blocks < 2 ^ 32 }
     ensures { IfOk result (λ flow. flow ≡ blocks.items) }
 {

@@ -51,6 +51,10 @@ pub(crate) struct Opened {
 }
 
 impl Default for Opened {
+    ghost use Rattle.nc_control_flow.specs.declared.nest.Structure.TheVariants as structure;
+
+    ghost is_default = { λ opened. opened ≡ record { structure = structure.If; line = 0 } };
+
     fn default() -> Opened {
         Opened {
             structure: Structure::If,
@@ -76,6 +80,10 @@ impl Model for Nest {
 }
 
 impl Default for Nest {
+    ghost use Rattle.std.specs.Prelude.{[]};
+
+    ghost is_default = { λ nest. nest ≡ [] };
+
     fn default() -> Nest {
         Nest::new()
     }

@@ -50,6 +50,8 @@ impl Model for Repeats {
 }
 
 impl Default for Repeats {
+    ghost is_default = { λ repeats. repeats ≡ [] };
+
     fn default() -> Repeats {
         Repeats::new()
     }

@@ -115,6 +115,10 @@ fn copies(places: &[Place]) -> ArrayVec<Place, 15>
 }
 
 impl Default for CallStack {
+    ghost use Rattle.std.specs.Prelude.{[]};
+
+    ghost is_default = { λ stack. stack ≡ [] };
+
     fn default() -> CallStack {
         CallStack::new()
     }

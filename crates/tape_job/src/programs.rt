@@ -11,6 +11,7 @@ use crate::reading::LineFault;
 use indexmap::IndexMap;
 use nc_blocks::{Block, NameText};
 use nc_control_flow::{Nest, resolve};
+use nc_faults::NoMemory;
 use std::alloc::{AllocError, Global};
 use std::marker::Model;
 
@@ -108,8 +109,10 @@ impl Unresolved {
             blocks,
             nest: _,
         } = self;
-        let flow = resolve(alloc, blocks)?;
-        Ok((name, Program { line, flow }))
+        match resolve(alloc, blocks) {
+            Ok(flow) => Ok((name, Program { line, flow })),
+            Err(NoMemory) => Err(AllocError),
+        }
     }
 }
 

@@ -8,13 +8,13 @@ use Rattle.block_effects.specs.Effects.{effect_of}
 use Rattle.block_effects.proofs.EffectSteps.{twice_alarms, fails_with}
 use Rattle.block_effects.proofs.effects.run.Goals as goal
 
-pub returns-in_err-situation-clause-runs : goal.returns-in_err-situation-clause-runs
-returns-in_err-situation-clause-runs g c = λ blocks chain after composed.
+pub returns-in_err-modal-clause-runs : goal.returns-in_err-modal-clause-runs
+returns-in_err-modal-clause-runs g c = λ blocks chain after composed.
     let equipment = equipment_of (g.S.Setup.names c.args.setup.now) (g.S.Setup.axis_named c.args.setup.now) (g.S.Setup.offset c.args.setup.now) c.args.axes.now in
     let found = found_in blocks chain c.args.situation.now in
     let opener = statement_view c.args.opener.now in
     let statement = statement_view c.args.stmt.now in
-    let twice = c.in_err-situation.ensures.twice in
+    let twice = c.in_err-modal.ensures.twice in
     let says = c.from_residual.ensures in
     let here = subst (λ (words : List GWord). IsTrue (has_group_twice words)) c.requires.groups twice.1 in
     let is = twice_alarms equipment found c.args.line opener statement here in

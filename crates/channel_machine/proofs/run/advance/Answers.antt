@@ -2,6 +2,7 @@ use Rattle.std.proofs.Common.{◌∙◌, ◌-◌, ℕ, ℤ, List, Option, None, 
 use Rattle.axis_moves.specs.Motions.{stands}
 use Rattle.block_effects.specs.Courses.{Does, course_view}
 use Rattle.block_effects.specs.Effects.{Effect}
+use Rattle.block_effects.specs.declared.situation.Situation.{Situation}
 use Rattle.nc_blocks.specs.Statement.{statement_view, view_of}
 use Rattle.sync_types.specs.declared.Action.TheVariants.{Alarm}
 use Rattle.sync_types.specs.declared.Step.{Step}
@@ -10,24 +11,32 @@ use Rattle.channel_machine.specs.declared.levels.Levels.{Levels}
 use Rattle.channel_machine.specs.Run.{chain_after, ends_main, step_at, words_after}
 use Rattle.channel_machine.proofs.Placed.{block_there, opener_there, effect_there, followed_there, room}
 use Rattle.channel_machine.proofs.Segments.{if_ok}
-use Rattle.channel_machine.proofs.Steps.{in_situation, nowhere, no_block, performed, spent, stops, segment_view}
+use Rattle.channel_machine.proofs.Steps.{ends_at, in_situation, nowhere, no_block, over_keeps, performed, spent, stops}
 use Rattle.channel_machine.proofs.run.advance.Goals as goal
 
 pub returns-in_default-clause-told : goal.returns-in_default-clause-told
 returns-in_default-clause-told c s c' set keeps =
-    nowhere s c' (kept_by c.args.state.now) keeps c.args.items.now.items (sym c.take.ensures.value ∙ c.in_default.is) ∙ ap (segment_view c.args.items.now.items) (sym c.step.ensures)
+    let k = kept_by c.args.state.now in
+    let items = c.args.items.now.items in
+    ends_at s _ items k _ k.last (Alarm 9) c'.past _ (nowhere s c' k keeps items (sym c.take.ensures.value ∙ c.in_default.is)) c.step.ensures (over_keeps s c' k keeps items _ (ap (λ (o : Option Levels). record k { levels = o }) c.take.ensures.after))
 
 pub returns-in_default-find_block-clause-told : goal.returns-in_default-find_block-clause-told
 returns-in_default-find_block-clause-told c s c' set keeps =
-    no_block s c' (kept_by c.args.state.now) keeps c.args.items.now.items c.in-Some.levels (sym c.take.ensures.value ∙ c.in-Some.is)
-    (block_there s c.args.job.now.programs set.programs c.in-Some.levels.here None c.in_default-find_block.ensures) ∙ ap (segment_view c.args.items.now.items) (sym c.step-in_default-find_block.ensures)
+    let k = kept_by c.args.state.now in
+    let items = c.args.items.now.items in
+    ends_at s _ items k _ k.last (Alarm 9) c'.past _
+    (no_block s c' k keeps items c.in-Some.levels (sym c.take.ensures.value ∙ c.in-Some.is)
+    (block_there s c.args.job.now.programs set.programs c.in-Some.levels.here None c.in_default-find_block.ensures)) c.step-in_default-find_block.ensures (over_keeps s c' k keeps items _ (ap (λ (o : Option Levels). record k { levels = o }) c.take.ensures.after))
 
 pub returns-then-state-eq-MOST_BLOCKS-clause-told : goal.returns-then-state-eq-MOST_BLOCKS-clause-told
 returns-then-state-eq-MOST_BLOCKS-clause-told c s c' set keeps =
+    let k = kept_by c.args.state.now in
+    let items = c.args.items.now.items in
     let next = c.in-Some-find_block.next in
-    spent s c' (kept_by c.args.state.now) keeps c.args.items.now.items c.in-Some.levels (sym c.take.ensures.value ∙ c.in-Some.is) next.line (view_of next.block.now)
-    (block_there s c.args.job.now.programs set.programs c.in-Some.levels.here (Some (next.line, view_of next.block.now)) c.in-Some-find_block.ensures.found) c.if-state-eq-MOST_BLOCKS.true
-    ∙ ap (segment_view c.args.items.now.items) (sym c.step-then-state-eq-MOST_BLOCKS.ensures)
+    ends_at s _ items k _ next.line (Alarm 8) c'.past _
+    (spent s c' k keeps items c.in-Some.levels (sym c.take.ensures.value ∙ c.in-Some.is) next.line (view_of next.block.now)
+    (block_there s c.args.job.now.programs set.programs c.in-Some.levels.here (Some (next.line, view_of next.block.now)) c.in-Some-find_block.ensures.found) c.if-state-eq-MOST_BLOCKS.true)
+    c.step-then-state-eq-MOST_BLOCKS.ensures (over_keeps s c' k keeps items _ (ap (λ (o : Option Levels). record k { levels = o }) c.take.ensures.after))
 
 pub returns-in-Ok-clause-told : goal.returns-in-Ok-clause-told
 returns-in-Ok-clause-told c =
@@ -44,8 +53,8 @@ returns-in-Ok-clause-told c =
     (effect_there job s c' k set keeps here next.line (statement_view next.opener.now) (statement_view next.block.now.stmt) (opener_there s job.programs set.programs here (statement_view next.opener.now) there.opens))
     (c.in-Ok.ensures.leaves (words_after c'.past) (chain_after c'.past) keeps.modal keeps.frame))
     (c.in-Ok.ensures.modal (words_after c'.past) keeps.modal) c.in-Ok.ensures.stand
-    None halt c.leave.new.items.items (kept_by c.leave.new.state)
-    (subst (λ (r : Result (Option Levels) ℕ). IsBehind (in_situation k None c.execute.new.situation) k.at c.args.items.now.items c.in-Ok.done.item next.line
+    c.take.new.self c.take.ensures.after halt c.leave.new.items.items (kept_by c.leave.new.state)
+    (subst (λ (r : Result (Option Levels) ℕ). IsBehind (in_situation k c.take.new.self c.execute.new.situation) k.modal c.args.items.now.items c.in-Ok.done.item next.line
     (ends_main c.in-Some.levels (course_view c.in-Ok.done.course)) r halt c.leave.new.items.items (kept_by c.leave.new.state))
     (followed_there s job.skip job.programs set.skip set.programs c.in-Some.levels (course_view c.in-Ok.done.course)) behind)) c.leave.ensures.told
 
@@ -57,10 +66,12 @@ returns-in-Alarm-clause-told c s c' set keeps =
     let here = c.in-Some.levels.here in
     let there = c.in-Some-find_block.ensures in
     let job = c.args.job.now in
-    stops s c' k keeps items c.in-Some.levels (sym c.take.ensures.value ∙ c.in-Some.is) next.line (view_of next.block.now)
+    ends_at s _ items k _ next.line (Alarm c.in-Alarm.code) c'.past _
+    (stops s c' k keeps items c.in-Some.levels (sym c.take.ensures.value ∙ c.in-Some.is) next.line (view_of next.block.now)
     (block_there s job.programs set.programs here (Some (next.line, view_of next.block.now)) there.found)
     (99999 - k.count) c.in-Alarm.code (room k.count c.requires.few c.if-state-eq-MOST_BLOCKS.false)
     (sym (effect_there job s c' k set keeps here next.line (statement_view next.opener.now) (statement_view next.block.now.stmt) (opener_there s job.programs set.programs here (statement_view next.opener.now) there.opens))
-    ∙ (rw c.in-Alarm.is at (c.in-Err.ensures.leaves (words_after c'.past) (chain_after c'.past) keeps.modal keeps.frame)))
-    ∙ ap (segment_view items)
-    (ap (λ (at : List (Option ℤ)). step_at k.axes k.on (stands at) next.line (Alarm c.in-Alarm.code)) (sym c.in-Err.ensures.unmoved) ∙ sym c.step-in-Alarm.ensures)
+    ∙ (rw c.in-Alarm.is at (c.in-Err.ensures.leaves (words_after c'.past) (chain_after c'.past) keeps.modal keeps.frame))))
+    (c.step-in-Alarm.ensures ∙ ap (λ (at : List (Option ℤ)). step_at k.axes k.on (stands at) next.line (Alarm c.in-Alarm.code)) (ap (λ (old : Situation). old.at) c.in-Err.ensures.unchanged))
+    (over_keeps s c' k keeps items _
+    (ap (λ (o : Option Levels). in_situation k o c.execute.new.situation) c.take.ensures.after ∙ ap (in_situation k None) c.in-Err.ensures.unchanged))

@@ -1,14 +1,22 @@
 -- The run by the grant that is made is the run by the grant of the definition.
-use Rattle.std.proofs.Common.{subst}
-use Rattle.channel_machine.specs.Kept.{IsSegment}
+use Rattle.std.proofs.Common.{◌≡◌, subst}
 use Rattle.channel_machine.specs.Run.{Setting, setting_of, begun, segment_of}
 use Rattle.sync_types.specs.declared.Grant.{Grant}
 use Rattle.job_verdict.specs.Channels.{program_run}
 use Rattle.job_verdict.proofs.channels.run_selected.Goals as goal
 
-pub returns : goal.returns
+pub returns-clause-items : goal.returns-clause-items
 unfolding program_run
-returns c =
+returns-clause-items c =
     let setting : Setting = setting_of c.args.job.now c.args.line.now.channel c.first_grant-grant.result in
-    subst (λ (g : Grant). IsSegment (segment_of (setting_of c.args.job.now c.args.line.now.channel g) (begun (setting_of c.args.job.now c.args.line.now.channel g))) c.in_ok-segment.segment.items.items c.in_ok-segment.segment.step)
-    c.first_grant-grant.ensures (c.in_ok-segment.ensures setting (begun setting) c.in_ok-local.ensures.setting c.in_ok-local.ensures.kept)
+    let told = c.in_ok-segment.ensures.told setting (begun setting) c.in_ok-local.ensures.setting c.in_ok-local.ensures.kept in
+    subst (λ (g : Grant). (segment_of (setting_of c.args.job.now c.args.line.now.channel g) (begun (setting_of c.args.job.now c.args.line.now.channel g))).items ≡ c.in_ok-segment.segment.items)
+    c.first_grant-grant.ensures told.items
+
+pub returns-clause-step : goal.returns-clause-step
+unfolding program_run
+returns-clause-step c =
+    let setting : Setting = setting_of c.args.job.now c.args.line.now.channel c.first_grant-grant.result in
+    let told = c.in_ok-segment.ensures.told setting (begun setting) c.in_ok-local.ensures.setting c.in_ok-local.ensures.kept in
+    subst (λ (g : Grant). (segment_of (setting_of c.args.job.now c.args.line.now.channel g) (begun (setting_of c.args.job.now c.args.line.now.channel g))).step ≡ c.in_ok-segment.segment.step)
+    c.first_grant-grant.ensures told.step

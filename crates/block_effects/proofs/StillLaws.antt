@@ -1,0 +1,89 @@
+-- A block that jumps, repeats or calls leaves all else as it is.
+use Rattle.std.proofs.Common.{◌≡◌, ℕ, ℤ, Bool, true, false, cond, List, [], Result, Ok, Err, refl, subst}
+use Rattle.frames.specs.Maps.{Map}
+use Rattle.g_groups.specs.Modal.{has_group_twice}
+use Rattle.g_groups.specs.declared.GWord.{GWord}
+use Rattle.nc_expressions.specs.Tree.{Tree}
+use Rattle.nc_expressions.specs.Value.{◌>>=◌}
+use Rattle.nc_blocks.specs.Statement.{WordView, Statement, WordBlock, Shape, Turn, Jump, IfJump, If, While, Until, For, EndFor, Case, RepeatFrom, RepeatBlock, Call}
+use Rattle.block_effects.specs.Words.{Equipment, begun, counted, given, value_in, words_done}
+use Rattle.block_effects.specs.Shapes.{plane_of, shaped_by, turned_by}
+use Rattle.block_effects.specs.Effects.{Effect, Turning, Found, IsStill, searches, word_in, words_moved, words_run, words_effect, course_of, group_words, framed, turned_only, bounded, for_continued, times_of, called, number_of, control_effect, effect_of}
+use Rattle.block_effects.proofs.EffectSteps.{left}
+
+module _ (parameters : List ℤ) where
+  -- what moves no axis and searches leaves the parameters
+  abbrev Keeps : Result Turning ℕ → Type 0
+  Keeps (Ok t) = searches t.course ≡ true → t.parameters ≡ parameters
+  Keeps (Err code) = Unit {0}
+
+  keeps_bind : {A : Type 0} (r : Result A ℕ) (f : A → Result Turning ℕ) → ((x : A) → Keeps (f x)) → Keeps (r >>= f)
+  keeps_bind (Ok x) f each = each x
+  keeps_bind (Err code) f each = tt
+
+  bounded_keeps : (ps : List ℤ) (index : ℕ) (bound : Tree) → Keeps (bounded ps index bound)
+  bounded_keeps ps index bound = keeps_bind (value_in ps bound) _ (λ value is. absurd cc)
+
+  continued_keeps : (opener : Statement) → Keeps (for_continued parameters opener)
+  continued_keeps (For index first bound) = keeps_bind (counted parameters index) _ (λ ps. bounded_keeps ps index bound)
+  continued_keeps other = λ is. refl
+
+  control_keeps : (names : List (List ℕ)) (opener statement : Statement) → Keeps (control_effect names parameters opener statement)
+  unfolding control_effect
+  control_keeps names opener (Jump j) = λ is. refl
+  control_keeps names opener (IfJump tree j) = keeps_bind (value_in parameters tree) _ (λ value is. refl)
+  control_keeps names opener (If tree) = keeps_bind (value_in parameters tree) _ (λ value is. refl)
+  control_keeps names opener (While tree) = keeps_bind (value_in parameters tree) _ (λ value is. refl)
+  control_keeps names opener (Until tree) = keeps_bind (value_in parameters tree) _ (λ value is. refl)
+  control_keeps names opener (For index first bound) = keeps_bind (given parameters index first) _ (λ ps. bounded_keeps ps index bound)
+  control_keeps names opener EndFor = continued_keeps opener
+  control_keeps names opener (Case tree pairs default) = keeps_bind (value_in parameters tree) _ (λ value is. refl)
+  control_keeps names opener (RepeatFrom name times) = keeps_bind (times_of parameters times) _ (λ n is. refl)
+  control_keeps names opener (RepeatBlock name times) = keeps_bind (times_of parameters times) _ (λ n is. refl)
+  control_keeps names opener (Call name passes) = keeps_bind (called (number_of names name)) _ (λ number is. refl)
+  control_keeps names opener other = λ is. refl
+
+module _ (equipment : Equipment) (found : Found) (line : ℕ) where
+  abbrev Stays : Result Effect ℕ → Type 0
+  Stays (Ok effect) = searches effect.course ≡ true → IsStill found effect
+  Stays (Err code) = Unit {0}
+
+  stays_bind : {A : Type 0} (r : Result A ℕ) (f : A → Result Effect ℕ) → ((x : A) → Stays (f x)) → Stays (r >>= f)
+  stays_bind (Ok x) f each = each x
+  stays_bind (Err code) f each = tt
+
+  run_stays : (groups : List GWord) (words : List WordView) → Stays (words_run equipment found line groups words)
+  run_stays groups words =
+      stays_bind (words_done equipment (begun found.parameters) words) (λ p. words_moved equipment found line groups p.targets p.arc >>= λ item. Ok (left found p item))
+      (λ p. stays_bind (words_moved equipment found line groups p.targets p.arc) (λ item. Ok (left found p item)) (λ o. by_end p.ends))
+    where
+      by_end : {Q : Type 0} (ends : Bool) → searches (course_of ends) ≡ true → Q
+      by_end true is = absurd cc
+      by_end false is = absurd cc
+
+  words_stay : (groups : List GWord) (words : List WordView) → Stays (words_effect equipment found line groups words)
+  words_stay groups words = by_test (has_group_twice groups)
+    where
+      by_test : (b : Bool) → Stays (cond b (Err 10) (words_run equipment found line groups words))
+      by_test true = tt
+      by_test false = run_stays groups words
+
+  framed_stays : (made : Result (List Map) ℕ) → Stays (framed found made)
+  framed_stays (Ok chain) = λ is. absurd cc
+  framed_stays (Err code) = tt
+
+  turned_stays : (turning : Result Turning ℕ) → Keeps found.parameters turning → Stays (turned_only found turning)
+  turned_stays (Ok t) keeps = λ is. record { parameters = keeps is; chain = refl; item = refl }
+  turned_stays (Err code) keeps = tt
+
+  effect_stays : (opener statement : Statement) → Stays (effect_of equipment found line opener statement)
+  unfolding effect_of
+  effect_stays opener (WordBlock words) = words_stay (group_words (WordBlock words)) words
+  effect_stays opener (Shape word values) = framed_stays (shaped_by found.parameters found.chain word values)
+  effect_stays opener (Turn additive angle) = framed_stays (turned_by found.parameters found.chain (plane_of (word_in found [] 6)) additive angle)
+  effect_stays opener statement =
+      turned_stays (control_effect equipment.names found.parameters opener statement) (control_keeps found.parameters equipment.names opener statement)
+
+  -- a block whose course searches leaves the parameters and the frame, and moves no axis
+  pub searching_stays : (opener statement : Statement) (effect : Effect) → effect_of equipment found line opener statement ≡ Ok effect → searches effect.course ≡ true → IsStill found effect
+  searching_stays opener statement effect is = subst Stays is (effect_stays opener statement)
