@@ -11,7 +11,7 @@ use Rattle.nc_control_flow.proofs.Matched.{length-placed, placed_entry}
 use Rattle.std.proofs.lemmas.List.{reverse-append, take_more, take_all, map-append, get_or-map}
 use Rattle.std.proofs.lemmas.List.Folds.{find-append}
 use Rattle.std.proofs.lemmas.List.Elements.{All-cons, All-nil, filter-append}
-use Rattle.nc_control_flow.specs.Places.{placed, ahead, behind}
+use Rattle.nc_control_flow.specs.Places.{placed, ahead, those_before}
 use Rattle.nc_blocks.specs.declared.blocks.Block.{Block}
 use Rattle.nc_blocks.specs.Statement.{view_of}
 use Rattle.nc_control_flow.specs.Parts.{views}
@@ -105,23 +105,23 @@ before_block {B} test at b es =
     ∙ option_map_or_both (λ (e : ℕ × B). e.0) (find (λ e. test e.1) (reverse es)) (find (λ e. test e.1) ((at, b) ∷ []))
     ∙ ap (λ o. option_or (option_map (λ (e : ℕ × B). e.0) (find (λ e. test e.1) (reverse es))) o) (first_of test at b (test b) refl)
 
-among_behind : {B : Type 0} (test : B → Bool) (pc at front : ℕ) (bs : List B) → front ≡ pc - at
+among_before : {B : Type 0} (test : B → Bool) (pc at front : ℕ) (bs : List B) → front ≡ pc - at
     → find (λ p. nat_lt p pc) (reverse (places_by test (enumerate_from at bs))) ≡ option_map (λ e. e.0) (find (λ e. test e.1) (reverse (take front (enumerate_from at bs))))
-among_behind {B} test pc at front [] s = ap (λ es. option_map (λ (e : ℕ × B). e.0) (find (λ e. test e.1) (reverse es))) (sym (none_taken front [] refl))
-among_behind test pc at zero (b ∷ bs) s =
+among_before {B} test pc at front [] s = ap (λ es. option_map (λ (e : ℕ × B). e.0) (find (λ e. test e.1) (reverse es))) (sym (none_taken front [] refl))
+among_before test pc at zero (b ∷ bs) s =
     last_of test pc at b (test b) (enumerate_from (at + 1) bs) refl
-    ∙ ap (λ o. option_or o (cond (test b) (cond (nat_lt at pc) (Some at) None) None)) (among_behind test pc (at + 1) zero bs (omega arith))
+    ∙ ap (λ o. option_or o (cond (test b) (cond (nat_lt at pc) (Some at) None) None)) (among_before test pc (at + 1) zero bs (omega arith))
     ∙ ap (λ r. cond (test b) (cond r (Some at) None) None) (le-ltb at pc (omega arith))
     ∙ cond_same (test b) None
-among_behind test pc at (suc n) (b ∷ bs) s =
+among_before test pc at (suc n) (b ∷ bs) s =
     last_of test pc at b (test b) (enumerate_from (at + 1) bs) refl
-    ∙ ap (λ o. option_or o (cond (test b) (cond (nat_lt at pc) (Some at) None) None)) (among_behind test pc (at + 1) n bs (omega arith))
+    ∙ ap (λ o. option_or o (cond (test b) (cond (nat_lt at pc) (Some at) None) None)) (among_before test pc (at + 1) n bs (omega arith))
     ∙ ap (λ r. option_or (option_map (λ e. e.0) (find (λ e. test e.1) (reverse (take n (enumerate_from (at + 1) bs))))) (cond (test b) (cond r (Some at) None) None)) (lt-ltb at pc (omega arith))
     ∙ sym (before_block test at b (take n (enumerate_from (at + 1) bs)))
 
-pub nearest_behind_is : {B : Type 0} (test : B → Bool) (pc : ℕ) (bs : List B)
-    → find (λ p. nat_lt p pc) (reverse (places_by test (placed bs))) ≡ option_map (λ e. e.0) (find (λ e. test e.1) (behind pc bs))
-nearest_behind_is test pc bs = among_behind test pc 0 pc bs (omega arith)
+pub nearest_before_is : {B : Type 0} (test : B → Bool) (pc : ℕ) (bs : List B)
+    → find (λ p. nat_lt p pc) (reverse (places_by test (placed bs))) ≡ option_map (λ e. e.0) (find (λ e. test e.1) (those_before pc bs))
+nearest_before_is test pc bs = among_before test pc 0 pc bs (omega arith)
 
 -- ---- places ascend
 later_from : {B : Type 0} (test : B → Bool) (at low : ℕ) (b : B) (r : Bool) (es : List (ℕ × B)) → low ≤ at → All (λ p. low ≤ p) (places_by test es)

@@ -9,7 +9,7 @@ use Rattle.std.proofs.lemmas.List.{reverse-append, drop_more, drop_all, take_mor
 use Rattle.nc_control_flow.specs.declared.parts.Part.{Part}
 use Rattle.nc_control_flow.specs.declared.parts.Part.TheVariants.{Opens, Branches, Closes, Neither}
 use Rattle.nc_control_flow.specs.declared.parts.Sought.{Sought}
-use Rattle.nc_control_flow.specs.Places.{placed, ahead, behind}
+use Rattle.nc_control_flow.specs.Places.{placed, ahead, those_before}
 use Rattle.nc_control_flow.specs.Matching.{seen, count, matching}
 use Rattle.nc_control_flow.specs.Pending.{stacked, pending}
 
@@ -50,8 +50,8 @@ ahead_at n bs b h =
     drop_more (placed bs) n (0, b) (omega arith)
     ∙ ap (λ e. e ∷ drop (n + 1) (placed bs)) (placed_entry 0 n bs b h ∙ ap (λ k. (k, get_or bs n b)) start)
 
-pub behind_at : {B : Type 0} (n : ℕ) (bs : List B) (b : B) → n < length bs → behind (n + 1) bs ≡ (n, get_or bs n b) ∷ behind n bs
-behind_at n bs b h =
+pub before_at : {B : Type 0} (n : ℕ) (bs : List B) (b : B) → n < length bs → those_before (n + 1) bs ≡ (n, get_or bs n b) ∷ those_before n bs
+before_at n bs b h =
     let long : length (placed bs) ≡ length bs = length-placed 0 bs in
     let start : 0 + n ≡ n = omega arith in
     let entry = placed_entry 0 n bs b h ∙ ap (λ k. (k, get_or bs n b)) start in
@@ -70,10 +70,10 @@ pending_ahead sought parts n p d stack new h next s e =
     e ∙ ap (λ ps. stacked (seen sought (get_or parts n d)) n ps) (s ∙ ap (λ k. pending sought (drop k (placed parts))) (sym next))
     ∙ sym (ap (λ es. pending sought es) (ahead_at n parts d h))
 
-pub pending_behind : (sought : Sought) (parts : List Part) (n : ℕ) (d : Part) (stack new : List ℕ) → n < length parts
-    → stack ≡ pending sought (behind n parts) → new ≡ stacked (seen sought (get_or parts n d)) n stack → new ≡ pending sought (behind (n + 1) parts)
-pending_behind sought parts n d stack new h s e =
-    e ∙ ap (λ ps. stacked (seen sought (get_or parts n d)) n ps) s ∙ sym (ap (λ es. pending sought es) (behind_at n parts d h))
+pub pending_before : (sought : Sought) (parts : List Part) (n : ℕ) (d : Part) (stack new : List ℕ) → n < length parts
+    → stack ≡ pending sought (those_before n parts) → new ≡ stacked (seen sought (get_or parts n d)) n stack → new ≡ pending sought (those_before (n + 1) parts)
+pending_before sought parts n d stack new h s e =
+    e ∙ ap (λ ps. stacked (seen sought (get_or parts n d)) n ps) s ∙ sym (ap (λ es. pending sought es) (before_at n parts d h))
 
 -- ---- what the table has of one block
 top_is : (sought : Sought) (es : List (ℕ × Part)) (stack : List ℕ) (top : ℕ) → stack ≡ pending sought es → top ≡ unwrap_or (slice_get stack 0) 0
@@ -92,14 +92,14 @@ found_ahead_more sought parts table n p stack top h next s t each k low high =
     (λ (ne : k ≡ n → ⊥). get_or-set_other table n k top 0 ne ∙ each k (omega arith) high)
     (cases_eq k n)
 
-pub found_behind_more : (sought : Sought) (parts : List Part) (table new : List ℕ) (n : ℕ) (stack : List ℕ) (top : ℕ) → length table ≡ n
-    → new ≡ table ++ top ∷ [] → stack ≡ pending sought (behind n parts) → top ≡ unwrap_or (slice_get stack 0) 0
-    → ((k : ℕ) → k < n → get_or table k 0 ≡ unwrap_or (matching sought 0 (behind k parts)) 0)
-    → (k : ℕ) → k < n + 1 → get_or new k 0 ≡ unwrap_or (matching sought 0 (behind k parts)) 0
-found_behind_more sought parts table new n stack top long more s t each k high =
+pub found_before_more : (sought : Sought) (parts : List Part) (table new : List ℕ) (n : ℕ) (stack : List ℕ) (top : ℕ) → length table ≡ n
+    → new ≡ table ++ top ∷ [] → stack ≡ pending sought (those_before n parts) → top ≡ unwrap_or (slice_get stack 0) 0
+    → ((k : ℕ) → k < n → get_or table k 0 ≡ unwrap_or (matching sought 0 (those_before k parts)) 0)
+    → (k : ℕ) → k < n + 1 → get_or new k 0 ≡ unwrap_or (matching sought 0 (those_before k parts)) 0
+found_before_more sought parts table new n stack top long more s t each k high =
     ⊎_elim
     (λ (e : k ≡ n). ap (λ xs. get_or xs k 0) more ∙ get_or_push table top 0 k (long ∙ sym e)
-    ∙ top_is sought (behind n parts) stack top s t ∙ ap (λ j. unwrap_or (matching sought 0 (behind j parts)) 0) (sym e))
+    ∙ top_is sought (those_before n parts) stack top s t ∙ ap (λ j. unwrap_or (matching sought 0 (those_before j parts)) 0) (sym e))
     (λ (ne : k ≡ n → ⊥). ap (λ xs. get_or xs k 0) more ∙ get_or_append_left table (top ∷ []) 0 k (omega arith) ∙ each k (omega arith))
     (cases_eq k n)
 
@@ -134,8 +134,8 @@ found_ahead_below sought k parts h =
     matching_below sought 0 (length parts) (ahead k parts) (omega arith)
     (All-drop (λ (x : ℕ × Part). x.0 < length parts) (k + 1) (placed parts) (placed_below 0 (length parts) parts (omega arith)))
 
-pub found_behind_below : (sought : Sought) (k : ℕ) (parts : List Part) → k < length parts → unwrap_or (matching sought 0 (behind k parts)) 0 < length parts
-found_behind_below sought k parts h =
-    matching_below sought 0 (length parts) (behind k parts) (omega arith)
+pub found_before_below : (sought : Sought) (k : ℕ) (parts : List Part) → k < length parts → unwrap_or (matching sought 0 (those_before k parts)) 0 < length parts
+found_before_below sought k parts h =
+    matching_below sought 0 (length parts) (those_before k parts) (omega arith)
     (All-reverse (λ (x : ℕ × Part). x.0 < length parts) (take k (placed parts))
     (All-take (λ (x : ℕ × Part). x.0 < length parts) k (placed parts) (placed_below 0 (length parts) parts (omega arith))))

@@ -15,11 +15,11 @@ use Rattle.nc_control_flow.specs.declared.parts.Part.{Part}
 use Rattle.nc_control_flow.specs.declared.parts.Part.TheVariants.{Opens, Branches, Closes, Neither}
 use Rattle.nc_control_flow.specs.declared.parts.Sought.TheVariants.{End, Branch, Opener}
 use Rattle.nc_control_flow.specs.Parts.{part_of, parts, said, statement_at}
-use Rattle.nc_control_flow.specs.Places.{ahead, behind}
+use Rattle.nc_control_flow.specs.Places.{ahead, those_before}
 use Rattle.nc_control_flow.specs.Matching.{seen, count, matching}
 use Rattle.nc_control_flow.specs.Nest.{ends, opened, closed, with_else, branched, nested}
 use Rattle.nc_control_flow.specs.Nested.{nested_on, nest_of, IsNested, blocks_of}
-use Rattle.nc_control_flow.proofs.Matched.{behind_at}
+use Rattle.nc_control_flow.proofs.Matched.{before_at}
 
 -- ---- how many structures are open before and behind a part
 abbrev pub Steps : Part → ℕ → ℕ → Type 0
@@ -147,25 +147,25 @@ part_at lines n d part h =
 
 opener_from : (lines : List (ℕ × BlockView)) (n more : ℕ) (d : ℕ × BlockView) (r : Result (List Opened) ℕ) (all : List Opened) → n < length lines
     → nest_of (take n lines) ≡ r → nested_on r (get_or lines n d) ≡ Ok all → more < length all
-    → ((old : List Opened) (k : ℕ) → nest_of (take n lines) ≡ Ok old → k < length old → IsSome (matching Opener k (behind n (parts (blocks_of lines)))))
-    → IsSome (matching Opener more (behind (n + 1) (parts (blocks_of lines))))
+    → ((old : List Opened) (k : ℕ) → nest_of (take n lines) ≡ Ok old → k < length old → IsSome (matching Opener k (those_before n (parts (blocks_of lines)))))
+    → IsSome (matching Opener more (those_before (n + 1) (parts (blocks_of lines))))
 opener_from lines n more d (Err code) all h before e below rest = absurd (cc)
 opener_from lines n more d (Ok old) all h before e below rest =
     let long : length (parts (blocks_of lines)) ≡ length lines =
     length-map (blocks_of lines) (λ b. part_of b.statement) ∙ length-map lines (λ line. line.1) in
-    let front : behind (n + 1) (parts (blocks_of lines)) ≡ (n, part_of (get_or lines n d).1.statement) ∷ behind n (parts (blocks_of lines)) =
-    behind_at n (parts (blocks_of lines)) Neither (omega arith)
-    ∙ ap (λ part. (n, part) ∷ behind n (parts (blocks_of lines))) (part_at lines n d Neither h) in
+    let front : those_before (n + 1) (parts (blocks_of lines)) ≡ (n, part_of (get_or lines n d).1.statement) ∷ those_before n (parts (blocks_of lines)) =
+    before_at n (parts (blocks_of lines)) Neither (omega arith)
+    ∙ ap (λ part. (n, part) ∷ those_before n (parts (blocks_of lines))) (part_at lines n d Neither h) in
     rw front (opener_step (part_of (get_or lines n d).1.statement) n more (length old) (length all)
-    (λ k. matching Opener k (behind n (parts (blocks_of lines)))) (nest_step old all (get_or lines n d).0 (get_or lines n d).1.statement e) below
+    (λ k. matching Opener k (those_before n (parts (blocks_of lines)))) (nest_step old all (get_or lines n d).0 (get_or lines n d).1.statement e) below
     (λ k less. rest old k before less))
 
 opener_found : (lines : List (ℕ × BlockView)) (d : ℕ × BlockView) (n more : ℕ) (all : List Opened) → n ≤ length lines → nest_of (take n lines) ≡ Ok all
-    → more < length all → IsSome (matching Opener more (behind n (parts (blocks_of lines))))
+    → more < length all → IsSome (matching Opener more (those_before n (parts (blocks_of lines))))
 opener_found lines d zero more all h e below = absurd (let same = same_list [] all e in omega arith)
 opener_found lines d (suc n) more all h e below =
     let next : n + 1 ≡ suc n = omega arith in
-    let P : ℕ → Type 0 = λ k. IsSome (matching Opener more (behind k (parts (blocks_of lines)))) in
+    let P : ℕ → Type 0 = λ k. IsSome (matching Opener more (those_before k (parts (blocks_of lines)))) in
     subst P next (opener_from lines n more d (nest_of (take n lines)) all (omega arith) refl
     (sym (nest_front lines n d (omega arith)) ∙ ap (λ k. nest_of (take k lines)) next ∙ e) below
     (λ old k o less. opener_found lines d n k old (omega arith) o less))
@@ -276,7 +276,7 @@ end_of_else lines pc n e =
     end_behind lines pc w (branches_within (part_of (statement_at pc (blocks_of lines))) (length w.old) (length w.new) e w.steps)
 
 pub opener_of_end : (lines : List (ℕ × BlockView)) (pc : ℕ) → IsNested lines → part_of (statement_at pc (blocks_of lines)) ≡ Closes
-    → IsSome (matching Opener 0 (behind pc (parts (blocks_of lines))))
+    → IsSome (matching Opener 0 (those_before pc (parts (blocks_of lines))))
 opener_of_end lines pc n e =
     let h = inside lines pc Closes (λ x. cc) e in
     let w = within lines pc no_line n h in

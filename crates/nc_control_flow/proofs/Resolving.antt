@@ -10,16 +10,16 @@ use Rattle.nc_control_flow.specs.declared.parts.Sought.{Sought}
 use Rattle.nc_control_flow.specs.declared.parts.Sought.TheVariants.{End, Branch, Opener}
 use Rattle.nc_control_flow.specs.declared.repeats.Running.{Running}
 use Rattle.nc_control_flow.specs.declared.flow.Move.{Move}
-use Rattle.nc_control_flow.specs.Places.{placed, ahead, behind}
+use Rattle.nc_control_flow.specs.Places.{placed, ahead, those_before}
 use Rattle.nc_control_flow.specs.Matching.{matching}
 use Rattle.nc_control_flow.specs.Moves.{OutcomeView, move_of}
 use Rattle.nc_control_flow.specs.Flow.{gone, next_block}
 use Rattle.nc_control_flow.specs.Parts.{views, part_of, parts, said, statement_at}
 use Rattle.nc_control_flow.specs.Structures.{closing, branching, opening}
-use Rattle.nc_control_flow.specs.Targets.{nearest_ahead, nearest_behind}
+use Rattle.nc_control_flow.specs.Targets.{nearest_ahead, nearest_before}
 use Rattle.nc_control_flow.specs.Index.{places_by}
-use Rattle.nc_control_flow.proofs.Indexed.{nearest_ahead_is, nearest_behind_is}
-use Rattle.nc_control_flow.proofs.Matched.{found_ahead_below, found_behind_below}
+use Rattle.nc_control_flow.proofs.Indexed.{nearest_ahead_is, nearest_before_is}
+use Rattle.nc_control_flow.proofs.Matched.{found_ahead_below, found_before_below}
 
 -- ---- lengths
 pub length-views : (blocks : List (ℕ × Block)) → length (views blocks) ≡ length blocks
@@ -47,7 +47,7 @@ pub opening_below : (k : ℕ) (blocks : List BlockView) → k < length blocks �
 unfolding opening
 opening_below k blocks h =
     let long = length-parts blocks in
-    let below = found_behind_below Opener k (parts blocks) (omega arith) in
+    let below = found_before_below Opener k (parts blocks) (omega arith) in
     omega arith
 
 -- ---- the nearest of the places
@@ -55,9 +55,9 @@ pub nearest_in_ahead : (test : BlockView → Bool) (pc : ℕ) (blocks : List Blo
     → o ≡ find (λ p. nat_lt pc p) places → o ≡ nearest_ahead test pc blocks
 nearest_in_ahead test pc blocks places o p f = f ∙ ap (λ ps. find (λ p. nat_lt pc p) ps) p ∙ nearest_ahead_is test pc blocks
 
-pub nearest_in_behind : (test : BlockView → Bool) (pc : ℕ) (blocks : List BlockView) (places : List ℕ) (o : Option ℕ) → places ≡ places_by test (placed blocks)
-    → o ≡ find (λ p. nat_lt p pc) (reverse places) → o ≡ nearest_behind test pc blocks
-nearest_in_behind test pc blocks places o p f = f ∙ ap (λ ps. find (λ p. nat_lt p pc) (reverse ps)) p ∙ nearest_behind_is test pc blocks
+pub nearest_in_before : (test : BlockView → Bool) (pc : ℕ) (blocks : List BlockView) (places : List ℕ) (o : Option ℕ) → places ≡ places_by test (placed blocks)
+    → o ≡ find (λ p. nat_lt p pc) (reverse places) → o ≡ nearest_before test pc blocks
+nearest_in_before test pc blocks places o p f = f ∙ ap (λ ps. find (λ p. nat_lt p pc) (reverse ps)) p ∙ nearest_before_is test pc blocks
 
 -- ---- what a block says
 pub said_at : (blocks : List (ℕ × Block)) (pc : ℕ) (e : ℕ × Block) → pc < length blocks → e ≡ get_or blocks pc e → statement_view e.1.stmt ≡ statement_at pc (views blocks)
@@ -77,11 +77,11 @@ found_in_ahead sought blocks found table e each k h =
     let P : List Part → Type 0 = λ ps. (i : ℕ) → i < length ps → get_or table i 0 ≡ unwrap_or (matching sought 0 (ahead i ps)) 0 in
     subst P e each k (omega (arith, length-parts blocks))
 
-found_in_behind : (sought : Sought) (blocks : List BlockView) (found : List Part) (table : List ℕ) → found ≡ parts blocks
-    → ((k : ℕ) → k < length found → get_or table k 0 ≡ unwrap_or (matching sought 0 (behind k found)) 0)
-    → (k : ℕ) → k < length blocks → get_or table k 0 ≡ unwrap_or (matching sought 0 (behind k (parts blocks))) 0
-found_in_behind sought blocks found table e each k h =
-    let P : List Part → Type 0 = λ ps. (i : ℕ) → i < length ps → get_or table i 0 ≡ unwrap_or (matching sought 0 (behind i ps)) 0 in
+found_in_before : (sought : Sought) (blocks : List BlockView) (found : List Part) (table : List ℕ) → found ≡ parts blocks
+    → ((k : ℕ) → k < length found → get_or table k 0 ≡ unwrap_or (matching sought 0 (those_before k found)) 0)
+    → (k : ℕ) → k < length blocks → get_or table k 0 ≡ unwrap_or (matching sought 0 (those_before k (parts blocks))) 0
+found_in_before sought blocks found table e each k h =
+    let P : List Part → Type 0 = λ ps. (i : ℕ) → i < length ps → get_or table i 0 ≡ unwrap_or (matching sought 0 (those_before i ps)) 0 in
     subst P e each k (omega (arith, length-parts blocks))
 
 pub ends_found : (blocks : List BlockView) (found : List Part) (table : List ℕ) → found ≡ parts blocks
@@ -95,9 +95,9 @@ unfolding branching
 branches_found blocks found table e each = found_in_ahead Branch blocks found table e each
 
 pub openers_found : (blocks : List BlockView) (found : List Part) (table : List ℕ) → found ≡ parts blocks
-    → ((k : ℕ) → k < length found → get_or table k 0 ≡ unwrap_or (matching Opener 0 (behind k found)) 0) → (k : ℕ) → k < length blocks → get_or table k 0 ≡ opening k blocks
+    → ((k : ℕ) → k < length found → get_or table k 0 ≡ unwrap_or (matching Opener 0 (those_before k found)) 0) → (k : ℕ) → k < length blocks → get_or table k 0 ≡ opening k blocks
 unfolding opening
-openers_found blocks found table e each = found_in_behind Opener blocks found table e each
+openers_found blocks found table e each = found_in_before Opener blocks found table e each
 
 -- ---- the next block
 pub led : (pc : ℕ) (blocks : List BlockView) (running : List Running) (outcome : OutcomeView) (statement : Statement) (asked same : Result Move ℕ)

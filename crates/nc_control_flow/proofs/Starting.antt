@@ -23,7 +23,7 @@ use Rattle.nc_control_flow.specs.Repetitions.{Going, is_within, settled, behind_
 use Rattle.nc_control_flow.specs.Structures.{closing, branching, opening}
 use Rattle.nc_control_flow.specs.Targets.{has_label, target_of, first_of_range, single_block}
 use Rattle.nc_control_flow.proofs.Counting.{settled_counts, counted_counts, counted_ends, idle_passes}
-use Rattle.nc_control_flow.proofs.Indexed.{nearest_behind_is}
+use Rattle.nc_control_flow.proofs.Indexed.{nearest_before_is}
 
 -- ---- what is found passes
 
@@ -40,7 +40,7 @@ first_before : (name : List ℕ) (pc : ℕ) (blocks : List BlockView) (first : �
 unfolding first_of_range
 first_before name pc blocks first e =
     let test : nat_lt first pc ≡ true =
-    found_passes (λ p. nat_lt p pc) (reverse (places_by (has_label name) (placed blocks))) first (nearest_behind_is (has_label name) pc blocks ∙ e) in
+    found_passes (λ p. nat_lt p pc) (reverse (places_by (has_label name) (placed blocks))) first (nearest_before_is (has_label name) pc blocks ∙ e) in
     grind (arith, nat_tests)
 
 -- ---- what a block asks for

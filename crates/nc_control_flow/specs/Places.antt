@@ -6,10 +6,10 @@ use Rattle.std.specs.List.{enumerate_from}
 abbrev pub placed : {B : Type 0} → List B → List (ℕ × B)
 placed blocks = enumerate_from 0 blocks
 
--- those behind a place, the nearest first
+-- those after a place, the nearest first
 abbrev pub ahead : {B : Type 0} → ℕ → List B → List (ℕ × B)
 ahead pc blocks = drop (pc + 1) (placed blocks)
 
 -- those before a place, the nearest first
-abbrev pub behind : {B : Type 0} → ℕ → List B → List (ℕ × B)
-behind pc blocks = reverse (take pc (placed blocks))
+abbrev pub those_before : {B : Type 0} → ℕ → List B → List (ℕ × B)
+those_before pc blocks = reverse (take pc (placed blocks))

@@ -7,7 +7,7 @@ use Rattle.nc_blocks.specs.declared.blocks.Way.TheVariants.{Forward, Backward, E
 use Rattle.nc_blocks.specs.declared.blocks.Target.{Target}
 use Rattle.nc_blocks.specs.declared.blocks.Target.TheVariants.{Label, Number}
 use Rattle.nc_blocks.specs.Statement.{BlockView}
-use Rattle.nc_control_flow.specs.Places.{ahead, behind}
+use Rattle.nc_control_flow.specs.Places.{ahead, those_before}
 
 abbrev pub is_label : List ℕ → Option (List ℕ) → Bool
 is_label name label = option_map_or (λ own. bytes_eq own name) label false
@@ -33,20 +33,20 @@ nearest test es = option_map (λ e. e.0) (find (λ e. test e.1) es)
 abbrev pub nearest_ahead : (BlockView → Bool) → ℕ → List BlockView → Option ℕ
 nearest_ahead test pc blocks = nearest test (ahead pc blocks)
 
-abbrev pub nearest_behind : (BlockView → Bool) → ℕ → List BlockView → Option ℕ
-nearest_behind test pc blocks = nearest test (behind pc blocks)
+abbrev pub nearest_before : (BlockView → Bool) → ℕ → List BlockView → Option ℕ
+nearest_before test pc blocks = nearest test (those_before pc blocks)
 
 -- the place to which a jump goes
 unfoldable pub target_of : Way → Target → ℕ → List BlockView → Option ℕ
 target_of Forward target pc blocks = nearest_ahead (is_target target) pc blocks
-target_of Backward target pc blocks = nearest_behind (is_target target) pc blocks
-target_of Either target pc blocks = option_or (nearest_ahead (is_target target) pc blocks) (nearest_behind (is_target target) pc blocks)
-target_of Optional target pc blocks = option_or (nearest_ahead (is_target target) pc blocks) (nearest_behind (is_target target) pc blocks)
+target_of Backward target pc blocks = nearest_before (is_target target) pc blocks
+target_of Either target pc blocks = option_or (nearest_ahead (is_target target) pc blocks) (nearest_before (is_target target) pc blocks)
+target_of Optional target pc blocks = option_or (nearest_ahead (is_target target) pc blocks) (nearest_before (is_target target) pc blocks)
 
 -- the first block of a REPEAT with a label
 unfoldable pub first_of_range : List ℕ → ℕ → List BlockView → Option ℕ
-first_of_range name pc blocks = nearest_behind (has_label name) pc blocks
+first_of_range name pc blocks = nearest_before (has_label name) pc blocks
 
 -- the block of a REPEATB
 unfoldable pub single_block : List ℕ → ℕ → List BlockView → Option ℕ
-single_block name pc blocks = option_or (nearest_behind (has_label name) pc blocks) (nearest_ahead (has_label name) pc blocks)
+single_block name pc blocks = option_or (nearest_before (has_label name) pc blocks) (nearest_ahead (has_label name) pc blocks)

@@ -7,7 +7,7 @@ use crate::counted::plain_places;
 use crate::index::Index;
 use crate::parts::{Sought, parts};
 use crate::repeats::{Control, Repeats, Running};
-use crate::structures::{found_ahead, found_behind};
+use crate::structures::{found_ahead, found_before};
 use nc_blocks::{Block, Target, Way};
 use nc_faults::NoMemory;
 use std::alloc::Global;
@@ -88,7 +88,7 @@ pub fn resolve(alloc: Global, blocks: Vec<(u32, Block)>) -> Result<Flow, NoMemor
     let parts = parts(alloc, &blocks)?;
     let ends = found_ahead(alloc, &parts, Sought::End)?;
     let branches = found_ahead(alloc, &parts, Sought::Branch)?;
-    let openers = found_behind(alloc, &parts, Sought::Opener)?;
+    let openers = found_before(alloc, &parts, Sought::Opener)?;
     let plain = plain_places(alloc, &blocks)?;
     let index = Index::of(alloc, &blocks)?;
     Ok(Flow {

@@ -15,7 +15,7 @@ impl Flow {
     ghost use Rattle.nc_control_flow.specs.Structures.{closing, branching, opening};
     ghost use Rattle.nc_control_flow.specs.Places.{placed};
     ghost use Rattle.nc_control_flow.specs.Index.{places_by};
-    ghost use Rattle.nc_control_flow.specs.Targets.{has_label, is_target, nearest_ahead, nearest_behind, target_of, first_of_range, single_block};
+    ghost use Rattle.nc_control_flow.specs.Targets.{has_label, is_target, nearest_ahead, nearest_before, target_of, first_of_range, single_block};
 
     /// What a block asks for by what came of it.
     #[tactic(auto, unfolding(crate::specs::Moves::move_of))]
@@ -112,15 +112,15 @@ impl Flow {
     {
         match way {
             Way::Forward => self.ahead(target, pc),
-            Way::Backward => self.behind(target, pc),
+            Way::Backward => self.before(target, pc),
             Way::Either | Way::Optional => match self.ahead(target, pc) {
                 Some(place) => Some(place),
-                None => self.behind(target, pc),
+                None => self.before(target, pc),
             },
         }
     }
 
-    /// The nearest target behind a place in the text.
+    /// The nearest target after a place in the text.
     fn ahead(&self, target: &Target, pc: u32) -> Option<u32>
         ensures { result ≡ nearest_ahead (is_target target.now) pc (views self.now) }
     {
@@ -128,8 +128,8 @@ impl Flow {
     }
 
     /// The nearest target before a place in the text.
-    fn behind(&self, target: &Target, pc: u32) -> Option<u32>
-        ensures { result ≡ nearest_behind (is_target target.now) pc (views self.now) }
+    fn before(&self, target: &Target, pc: u32) -> Option<u32>
+        ensures { result ≡ nearest_before (is_target target.now) pc (views self.now) }
     {
         last_before(self.targets(target), pc)
     }

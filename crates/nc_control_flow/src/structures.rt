@@ -4,14 +4,14 @@
 //! place of the structure round there, below it stand those of the structures round that one.
 
 ghost use Rattle.std.specs.Prelude.{◌≡◌, ℕ, ◌^◌, ◌<◌, length, vec_len, reverse, slice_get, slice_index, unwrap_or, OnOk, IfOk};
-ghost use Rattle.nc_control_flow.specs.Places.{ahead, behind};
+ghost use Rattle.nc_control_flow.specs.Places.{ahead, those_before};
 ghost use Rattle.nc_control_flow.specs.Matching.{matching};
 ghost use Rattle.nc_control_flow.specs.Pending.{stacked};
 
 use crate::parts::{Part, Sought};
 use std::alloc::{AllocError, Global};
 
-/// What a search in the blocks behind each block finds, or 0.
+/// What a search in the blocks after each block finds, or 0.
 pub(crate) fn found_ahead(
     alloc: Global,
     parts: &[Part],
@@ -34,7 +34,7 @@ pub(crate) fn found_ahead(
 }
 
 /// What a search in the blocks before each block finds, or 0.
-pub(crate) fn found_behind(
+pub(crate) fn found_before(
     alloc: Global,
     parts: &[Part],
     sought: Sought,
@@ -42,7 +42,7 @@ pub(crate) fn found_behind(
     requires { length parts.now < 2 ^ 32 }
     ensures len { IfOk result (λ v. vec_len v ≡ length parts.now) }
     ensures each { IfOk result (λ v. (k : ℕ) → k < length parts.now
-        → slice_index v.items k ≡ unwrap_or (matching sought 0 (behind k parts.now)) 0) }
+        → slice_index v.items k ≡ unwrap_or (matching sought 0 (those_before k parts.now)) 0) }
 {
     let mut table = Vec::new(alloc);
     let mut pending = Vec::new(alloc);
