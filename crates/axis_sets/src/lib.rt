@@ -6,6 +6,7 @@ mod laws;
 mod places;
 mod positions;
 mod sets;
+mod threads;
 
 pub use ids::{AxisId, ChannelId, ZoneId};
 pub use laws::sets_are_known_by_their_members;

@@ -7,6 +7,7 @@ mod levels;
 mod local;
 mod run;
 mod surroundings;
+mod threads;
 
 pub use laws::{alarms_are_listed, motions_are_few, motions_are_sound, motions_follow_one_another};
 pub use local::Local;

@@ -7,6 +7,7 @@ ghost use Rattle.std.specs.Int.RustNames.{unsigned_abs};
 mod digits;
 mod roots;
 mod rounding;
+mod threads;
 
 use digits::{Digits, digits_in};
 use roots::root_of_millionths;

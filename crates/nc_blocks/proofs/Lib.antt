@@ -3,3 +3,4 @@ pub mod Passing
 pub mod Listing
 pub mod Refusals
 pub mod WordRefusals
+pub mod Crosses

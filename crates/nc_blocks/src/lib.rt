@@ -9,6 +9,7 @@ mod names;
 mod pieces;
 mod reading;
 mod texts;
+mod threads;
 mod wording;
 
 pub use axis_names::{has_axis_name, has_axis_word};

@@ -9,3 +9,4 @@ pub mod Turning
 pub mod Counting
 pub mod Leading
 pub mod Starting
+pub mod Crosses

@@ -15,6 +15,7 @@ mod parts;
 mod places;
 mod repeats;
 mod structures;
+mod threads;
 
 pub use flow::{Flow, Next, Outcome, resolve};
 pub use laws::structures_are_found;

@@ -9,6 +9,7 @@ mod stack;
 mod steps;
 mod stops;
 mod symbols;
+mod threads;
 mod trees;
 mod values;
 

@@ -5,6 +5,8 @@ ghost use Rattle.std.specs.Prelude.{◌≡◌};
 ghost use Rattle.nc_faults.specs.NoMemory.{no_memory};
 ghost use Rattle.nc_faults.specs.Texts.{IsRefusalCode, refusal_text_of, IsAlarmCode, alarm_text_of};
 
+mod threads;
+
 use std::alloc::{AllocError, AllocFailed};
 use thiserror::Error;
 

@@ -4,6 +4,8 @@
 ghost use Rattle.std.specs.Prelude.{◌≡◌, ◌≤◌, length};
 ghost use Rattle.nc_subprograms.specs.Stack.{called, Calls, Returns};
 
+mod threads;
+
 use arrayvec::ArrayVec;
 use nc_control_flow::Repeats;
 use std::marker::Model;

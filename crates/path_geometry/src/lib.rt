@@ -4,6 +4,7 @@
 mod arcs;
 mod laws;
 mod motion;
+mod threads;
 mod vector;
 
 pub use arcs::{arc_by_centre, arc_by_radius};

@@ -1,6 +1,8 @@
 //! Plain types of a run: what a channel did, how it stopped, and what it may go on with.
 #![tactic(auto)]
 
+mod threads;
+
 use axis_sets::{AxisSet, Positions, ZoneSet};
 use nc_faults::Alarm;
 use path_geometry::Motion;

@@ -14,6 +14,7 @@ mod read;
 mod reader;
 mod reading;
 mod rules;
+mod threads;
 
 pub use fault::JobFault;
 pub use job::{AxisLine, ChannelLine, GeoLine, Job, OffsetLine, Program, Side, ZoneLine};

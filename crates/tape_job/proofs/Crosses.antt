@@ -1,0 +1,19 @@
+-- A job and its programs may go to another thread (send) and be shared by threads (sync), since resolved programs may.
+use denote.Param.Send.{IsSend, IsSync, sendable}
+use Rattle.std.proofs.Crossing.{crosses}
+use Rattle.std.proofs.MapsCrossing as maps
+use Rattle.nc_control_flow.proofs.Crosses.{flow_send, flow_sync}
+use Rattle.tape_job.specs.contracts.job.Job as Job
+use Rattle.tape_job.specs.contracts.job.Program as Program
+
+pub program_send : IsSend Program.the_field.row
+program_send = search (sendable, flow_send) depth 40
+
+pub program_sync : IsSync Program.the_field.row
+program_sync = search (sendable, flow_sync) depth 40
+
+pub job_send : IsSend Job.the_field.row
+job_send = search (sendable, crosses, maps.crosses, program_send) depth 40 fits 20000
+
+pub job_sync : IsSync Job.the_field.row
+job_sync = search (sendable, crosses, maps.crosses, program_sync) depth 40 fits 20000
