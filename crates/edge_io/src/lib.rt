@@ -27,6 +27,10 @@ pub trait Source {
     /// How many reads failed. It never falls.
     ghost faults: { Self → ℕ };
 
+    /// The source may be read. It may be again after a read that gave a byte, and nothing is promised after one that gave
+    /// none or failed: who knows no more of a source stops there.
+    ghost can_read: { Self → Type 0 };
+
     /// Moves the first bytes left to the start of the buffer and answers how many, 0 only where no
     /// byte is left. The buffer has room for at least one byte.
     ///
@@ -35,9 +39,11 @@ pub trait Source {
     fn read(&mut self, buffer: &mut [u8]) -> Result<usize, Failed>
         requires room { 0 < length buffer.old }
         requires few { faults self.old < 2 ^ 64 - 1 }
+        requires readable { can_read self.old }
         ensures within { IfOk result (λ n. n ≤ length buffer.new) }
         ensures bytes { Reads (left self.old) (left self.new) result buffer.new }
-        ensures cause { HasCause (faults self.old) (faults self.new) result };
+        ensures cause { HasCause (faults self.old) (faults self.new) result }
+        ensures stays_readable { IfOk result (λ n. 0 < n → can_read self.new) };
 }
 
 /// Something that bytes are written to.

@@ -1,5 +1,5 @@
 //! Sources and sinks over memory.
-ghost use Rattle.std.specs.Prelude.{◌≡◌, ℕ, ◌+◌, ◌-◌, ◌^◌, ◌<◌, ◌≤◌, length, IfOk, Option, None, Some, [], min, take, drop, ◌++◌};
+ghost use Rattle.std.specs.Prelude.{◌≡◌, ℕ, ◌+◌, ◌-◌, ◌^◌, ◌<◌, ◌≤◌, ⊤, length, IfOk, Option, None, Some, [], min, take, drop, ◌++◌};
 ghost use Rattle.edge_io.specs.Moves.{Counts, HasCause, Reads, Writes, WritesCount};
 ghost use Rattle.edge_io.specs.Memory.{ReadsAsListed, WritesAsListed, CountsOn, is_listed};
 
@@ -51,6 +51,8 @@ impl Source for MemSource {
     ghost left = { λ s. Some s.left };
 
     ghost faults = { λ s. s.faults };
+
+    ghost can_read = { λ _. ⊤ };
 
     fn read(&mut self, buffer: &mut [u8]) -> Result<usize, Failed>
         requires room { 0 < length buffer.old }

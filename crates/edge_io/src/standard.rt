@@ -1,6 +1,6 @@
 //! A source and a sink over the readers and writers of `std`. What a file, a pipe or a terminal
 //! gives and takes is beyond every proof, so both tell nothing but their faults.
-ghost use Rattle.std.specs.Prelude.{◌≡◌, ◌-◌, ◌^◌, ◌<◌, ◌≤◌, length, None, IfOk};
+ghost use Rattle.std.specs.Prelude.{◌≡◌, ◌-◌, ◌^◌, ◌<◌, ◌≤◌, ⊤, length, None, IfOk};
 ghost use Rattle.edge_io.specs.Moves.{HasCause, Reads, Writes, WritesCount};
 ghost use Rattle.edge_io.specs.Standard.{reader_of, read_faults, writer_of, write_faults};
 
@@ -30,6 +30,8 @@ impl<R: Read> Source for StdSource<R> {
     ghost left = { λ _. None };
 
     ghost faults = { read_faults };
+
+    ghost can_read = { λ _. ⊤ };
 
     fn read(&mut self, buffer: &mut [u8]) -> Result<usize, Failed>
         requires room { 0 < length buffer.old }

@@ -2,7 +2,7 @@
 use edge_io::*;
 use std::alloc::Global;
 use std::io;
-use std::io::{Cursor, ErrorKind, Read};
+use std::io::{Cursor, ErrorKind, Read, Write};
 use std::test::Fail;
 
 #[test]
@@ -61,13 +61,39 @@ fn puts_all_or_a_front(rt: HostRuntime) -> Result<(), Fail> {
     Ok(())
 }
 
-// A reader whose only read was interrupted.
+// A stream whose first call is interrupted, and whose next ones move a byte each.
 #[derive(Drop)]
-struct Interrupted;
+struct InterruptedOnce {
+    is_over: bool,
+}
 
-impl Read for Interrupted {
-    fn read(&mut self, _buffer: &mut [u8]) -> io::Result<usize> {
+impl InterruptedOnce {
+    fn call(&mut self) -> io::Result<()> {
+        if self.is_over {
+            return Ok(());
+        }
+        self.is_over = true;
         Err(io::Error::from(ErrorKind::Interrupted))
+    }
+}
+
+impl Read for InterruptedOnce {
+    fn read(&mut self, buffer: &mut [u8]) -> io::Result<usize> {
+        self.call()?;
+        let taken = buffer.len().min(1);
+        buffer[..taken].fill(b'a');
+        Ok(taken)
+    }
+}
+
+impl Write for InterruptedOnce {
+    fn write(&mut self, piece: &[u8]) -> io::Result<usize> {
+        self.call()?;
+        Ok(piece.len().min(1))
+    }
+
+    fn flush(&mut self) -> io::Result<()> {
+        Ok(())
     }
 }
 
@@ -80,7 +106,6 @@ fn reads_a_reader(rt: HostRuntime) {
     assert!(rt; source.read(&mut buffer) == Ok(2));
     assert!(rt; &buffer[..2] == b"ef".as_slice());
     assert!(rt; source.read(&mut buffer) == Ok(0));
-    assert!(rt; StdSource::new(Interrupted).read(&mut buffer) == Err(Failed));
 }
 
 #[test]
@@ -91,4 +116,16 @@ fn writes_a_writer(rt: HostRuntime) {
     // The page takes one byte more, and then nothing.
     assert!(rt; put_all(&mut sink, b"de") == Err(Failed));
     assert!(rt; &page == b"abcd");
+}
+
+// An error is a fault at once, also where another try would do.
+#[test]
+fn tries_nothing_again(rt: HostRuntime) {
+    let mut buffer = [0; 4];
+    let mut source = StdSource::new(InterruptedOnce { is_over: false });
+    assert!(rt; source.read(&mut buffer) == Err(Failed));
+    assert!(rt; source.read(&mut buffer) == Ok(1));
+    let mut sink = StdSink::new(InterruptedOnce { is_over: false });
+    assert!(rt; sink.write(b"ab") == Err(Failed));
+    assert!(rt; sink.write(b"ab") == Ok(1));
 }

@@ -5,6 +5,7 @@ ghost use Rattle.job_verdict.specs.Channels.{IsRunnable};
 ghost use Rattle.job_verdict.specs.Clash as model;
 ghost use Rattle.job_verdict.specs.ShownStretches as shown;
 ghost use Rattle.job_verdict.specs.Stretches.{stretches_of};
+ghost use Rattle.tape_job.specs.SoundJob.{BlocksFit, IsSoundJob};
 
 use crate::channels::{ChannelRun, alarm_in, run_channel, run_in};
 use crate::clash::{HeldZone, verdict_on};
@@ -179,9 +180,11 @@ fn judge(alloc: Global, job: &Job, runs: &[ChannelRun]) -> Result<Verdict, Alloc
     }
 }
 
-/// Runs every channel of a job, and judges the job.
+/// Runs every channel of an accepted job, and judges the job.
+#[tactic(auto, using(crate::proofs::RunnableLemmas::runnable))]
 pub fn check_job(alloc: Global, job: &Job) -> Result<(Vec<ChannelRun>, Verdict), AllocError>
-    requires { IsRunnable job.now }
+    requires accepted { IsSoundJob job.now }
+    requires indices { BlocksFit job.now }
     ensures runs { IfOk result (λ answer. answer.0.items ≡ runs_of job.now) }
     ensures verdict { IfOk result (λ answer. answer.1 ≡ model.verdict_of job.now) }
 {

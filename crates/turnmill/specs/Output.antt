@@ -17,6 +17,21 @@ pub record Output : Type 0 where
   pub status : Status
   pub bytes : List ℕ
 
+-- the number that the program ends with
+abbrev pub exit_number : Status → ℕ
+exit_number ends.Yes = 0
+exit_number ends.No = 1
+exit_number ends.Race = 2
+exit_number ends.Stuck = 3
+exit_number ends.Alarm = 4
+exit_number ends.Undecided = 5
+exit_number ends.Refused = 6
+exit_number ends.Usage = 7
+exit_number ends.ReadFault = 8
+exit_number ends.WriteFault = 9
+exit_number ends.TooLong = 10
+exit_number ends.NoMemory = 11
+
 -- the status of a verdict
 abbrev pub status_of : Verdict → Status
 status_of Yes = ends.Yes

@@ -2,9 +2,9 @@
 ghost use Rattle.std.specs.Prelude.{◌≡◌, ◌↔◌, ◌⊎◌, ℕ, ◌-◌, ◌^◌, ◌<◌, ◌≤◌, Bool, true, false, [], length, map, IfSome, IfOk, IsOkAnd, IsErr, IsErrAnd, Some, Ok, Err, string_bytes};
 ghost use Rattle.edge_io.specs.Moves.{Grows, GrowsByFront};
 ghost use Rattle.tape_job.specs.Read.{read_of};
+ghost use Rattle.tape_job.specs.SoundJob.{BlocksFit, IsSoundJob};
 ghost use Rattle.turnmill.specs.Input.{is_check, ReadsInput, TakesTooMany};
 ghost use Rattle.turnmill.specs.Output.{output_of, output_by, status_of, Answers, IsVerdict, Makes};
-ghost use Rattle.job_verdict.specs.Channels.{IsRunnable};
 ghost use Rattle.nc_faults.specs.Texts.{IsRefusalCode};
 ghost use Rattle.job_verdict.specs.Report.{refusal_bytes};
 ghost use Rattle.job_verdict.specs.Safety.{SafeAlways};
@@ -13,9 +13,10 @@ use edge_io::{Failed, Sink, Source, put_all};
 use job_verdict::{Verdict, check_job, refusal_line, report_text};
 use nc_faults::Refusal;
 use std::alloc::{AllocError, Global};
+use std::process::ExitCode;
 use tape_job::{Job, JobFault, read_job};
 
-/// How a call ends. `status as u8` is the number that the program ends with.
+/// How a call ends.
 #[derive(Clone, Copy, Debug, PartialEq, Eq)]
 pub enum Status {
     /// No two zones of different groups can meet.
@@ -42,6 +43,18 @@ pub enum Status {
     TooLong,
     /// Memory was wanted and not found.
     NoMemory,
+}
+
+impl From<Status> for ExitCode {
+    ghost use Rattle.std.specs.Prelude.{◌≡◌};
+    ghost use Rattle.std.specs.Process.{exit_status};
+    ghost use Rattle.turnmill.specs.Output.{exit_number};
+
+    ghost from_gives = { λ status code. exit_status code ≡ exit_number status };
+
+    fn from(status: Status) -> ExitCode {
+        ExitCode::from(status as u8)
+    }
 }
 
 /// The number of bytes at which an input is too long.
@@ -93,9 +106,11 @@ fn is_check(words: &[&str]) -> bool
     }
 }
 
-/// Reads an input to its end, or to its 8,388,609th byte. The first read that fails ends it.
+/// Reads an input to its end, or to its 8,388,609th byte. The first read that gives no byte or fails is the last one: what
+/// may be done with a source allows no read behind it.
 fn read_input<S: Source>(alloc: Global, source: &mut S) -> Result<Vec<u8>, InputFault>
-    requires { S.faults source.old < 2 ^ 64 - 1 }
+    requires few { S.faults source.old < 2 ^ 64 - 1 }
+    requires readable { S.can_read source.old }
     ensures { ReadsInput result (S.left source.old) (S.left source.new) (S.faults source.old) (S.faults source.new) }
 {
     let mut bytes = Vec::new(alloc);
@@ -133,7 +148,8 @@ fn status_of(verdict: &Verdict) -> Status
 /// Makes the output of a job.
 #[tactic(auto, unfolding(crate::specs::Output::output_by))]
 fn job_output(alloc: Global, job: &Job) -> Result<MadeOutput, AllocError>
-    requires { IsRunnable job.now }
+    requires accepted { IsSoundJob job.now }
+    requires indices { BlocksFit job.now }
     ensures { IfOk result (λ made. Makes made.status (string_bytes made.text) (output_by (Ok job.now))) }
 {
     let (runs, verdict) = check_job(alloc, job)?;
@@ -179,6 +195,7 @@ pub fn check_words<S: Source, K: Sink>(
 ) -> Status
     requires few_reads { S.faults source.old < 2 ^ 64 - 1 }
     requires few_writes { K.faults sink.old < 2 ^ 64 - 1 }
+    requires readable { S.can_read source.old }
 
     // Where the words are accepted and no read and no write fails, the call ends as its input calls
     // for and writes these very bytes, unless memory is wanted and not found.
@@ -208,6 +225,8 @@ pub fn check_words<S: Source, K: Sink>(
     ensures usage_reads_nothing { result ≡ Status.Usage → source.new ≡ source.old }
     ensures read_fault { (result ≡ Status.ReadFault) ↔ (S.faults source.old < S.faults source.new) }
     ensures write_fault { (result ≡ Status.WriteFault) ↔ (K.faults sink.old < K.faults sink.new) }
+    ensures read_faults_never_fall { S.faults source.old ≤ S.faults source.new }
+    ensures write_faults_never_fall { K.faults sink.old ≤ K.faults sink.new }
 
     // Where a write fails, a front of the output is written.
     ensures written_front { result ≡ Status.WriteFault → IfSome (S.left source.old) (λ input.

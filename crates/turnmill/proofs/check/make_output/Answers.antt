@@ -1,11 +1,10 @@
 -- An input that is not too long calls for what it is read as.
 use Rattle.tape_job.proofs.SoundJobs.{accepted_sound}
 use Rattle.turnmill.proofs.CheckLemmas.{output_of-short}
-use Rattle.job_verdict.proofs.RunnableLemmas.{runnable}
 use Rattle.turnmill.proofs.check.make_output.Goals as goal
 
-pub job_output-requires : goal.job_output-requires
-job_output-requires c = runnable c.in-Ok.job (accepted_sound c.args.bytes.now c.in-Ok.job c.in-Ok.ensures.exact) c.in-Ok.ensures.indices
+pub job_output-requires-clause-accepted : goal.job_output-requires-clause-accepted
+job_output-requires-clause-accepted c = accepted_sound c.args.bytes.now c.in-Ok.job c.in-Ok.ensures.exact
 
 pub refusal_output-requires : goal.refusal_output-requires
 refusal_output-requires c = rw c.in-Err-Refused.field-0-is at c.in-Err-Refused.ensures.listed

@@ -1,0 +1,75 @@
+//! The check by the arguments of the command line.
+ghost use Rattle.std.specs.Prelude.{◌≡◌, ◌↔◌, ◌⊎◌, ◌-◌, ◌^◌, ◌<◌, ◌≤◌, true, false, map, IfSome, IfOk, IsOkAnd, string_bytes, [], Some};
+ghost use Rattle.tape_job.specs.Read.{read_of};
+ghost use Rattle.job_verdict.specs.Safety.{SafeAlways};
+ghost use Rattle.turnmill.specs.Arguments.{GivesWords, HasNoText, asks_for_check};
+ghost use Rattle.turnmill.specs.Output.{Answers, IsVerdict};
+
+use crate::check::{Status, check_words};
+use edge_io::{Sink, Source};
+use std::alloc::{AllocError, Global};
+use std::env::Args;
+use std::io;
+use std::io::ErrorKind;
+
+/// The words of a call: its arguments without the program's own name, which is the first.
+fn words_of(alloc: Global, arguments: io::Result<Args>) -> Result<Vec<String>, Status>
+    ensures { GivesWords arguments result }
+{
+    match arguments {
+        Ok(arguments) => match arguments.skip(1).collect(alloc) {
+            Ok(words) => Ok(words),
+            Err(_) => Err(Status::NoMemory),
+        },
+        Err(fault) if fault.kind() == ErrorKind::OutOfMemory => Err(Status::NoMemory),
+        Err(_) => Err(Status::Usage),
+    }
+}
+
+/// The words as texts.
+fn texts_of<'a>(alloc: Global, words: &'a [String]) -> Result<Vec<&'a str>, AllocError>
+    ensures { IfOk result (λ texts. map (λ text. text.now) texts.items ≡ map string_bytes words.now) }
+{
+    words.iter().map(|word| word.as_str()).collect(alloc)
+}
+
+/// Checks the input of the source as the arguments of the command line ask for, and writes what it calls for to the sink. The
+/// first argument is the program's own name, and no word. Where an argument is no text, the words are not accepted.
+pub fn check_arguments<S: Source, K: Sink>(
+    alloc: Global,
+    arguments: io::Result<Args>,
+    source: &mut S,
+    sink: &mut K,
+) -> Status
+    requires few_reads { S.faults source.old < 2 ^ 64 - 1 }
+    requires few_writes { K.faults sink.old < 2 ^ 64 - 1 }
+    requires readable { S.can_read source.old }
+
+    // Where the words are `check` alone, the call ends and writes as `check_words` says.
+    ensures exact { IfSome (S.left source.old) (λ input.
+        asks_for_check arguments ≡ true
+        → S.faults source.new ≡ S.faults source.old → K.faults sink.new ≡ K.faults sink.old
+        → (result ≡ Status.NoMemory) ⊎ Answers input result (K.written sink.old) (K.written sink.new)) }
+    ensures verdict { IsVerdict result → IfSome (S.left source.old) (λ input.
+        Answers input result (K.written sink.old) (K.written sink.new) × (S.left source.new ≡ Some [])) }
+    ensures speeds { result ≡ Status.Yes → IfSome (S.left source.old) (λ input. IsOkAnd (read_of input) SafeAlways) }
+    ensures read_fault { (result ≡ Status.ReadFault) ↔ (S.faults source.old < S.faults source.new) }
+    ensures write_fault { (result ≡ Status.WriteFault) ↔ (K.faults sink.old < K.faults sink.new) }
+    ensures read_faults_never_fall { S.faults source.old ≤ S.faults source.new }
+    ensures write_faults_never_fall { K.faults sink.old ≤ K.faults sink.new }
+
+    // Where they are not, nothing is read or written. An argument that is no text is a faulty command line.
+    ensures usage { result ≡ Status.Usage → asks_for_check arguments ≡ false }
+    ensures usage_comes { asks_for_check arguments ≡ false → (result ≡ Status.Usage) ⊎ (result ≡ Status.NoMemory) }
+    ensures no_text { HasNoText arguments → result ≡ Status.Usage }
+    ensures usage_reads_nothing { asks_for_check arguments ≡ false → (source.new ≡ source.old) × (sink.new ≡ sink.old) }
+{
+    let words = match words_of(alloc, arguments) {
+        Ok(words) => words,
+        Err(status) => return status,
+    };
+    let Ok(texts) = texts_of(alloc, &words) else {
+        return Status::NoMemory;
+    };
+    check_words(alloc, &texts, source, sink)
+}
