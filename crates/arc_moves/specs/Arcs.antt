@@ -1,4 +1,4 @@
--- The motion of a block with an arc: about a centre or by a radius, in the plane of two of the axes X, Y and Z.
+-- Meaning. The motion of a block with an arc: about a centre or by a radius, in the plane of two of the axes X, Y and Z.
 use Rattle.std.specs.Prelude.{◌≡◌, ◌≢◌, All, AllPairs, ℕ, ℤ, pos, ◌+ℤ◌, ◌*ℤ◌, ◌==◌, ◌&&◌, ◌||◌, not, int_lt, Bool, true, false, if◌then◌else◌, List, slice_index_or, slice_set, Option, None, Some, is_some, is_none, Result, Ok, Err}
 use Rattle.std.specs.Int.RustNames.{unsigned_abs}
 use Rattle.std.specs.List.{list_all, list_any}

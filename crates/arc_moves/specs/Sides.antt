@@ -1,4 +1,4 @@
--- What a contract sees of a side of a plane.
+-- Meaning. What a contract sees of a side of a plane.
 use Rattle.std.specs.Prelude.{ℕ}
 
 -- an axis of the plane, X, Y and Z being 0, 1 and 2, and the axis that it moves

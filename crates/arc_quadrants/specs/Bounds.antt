@@ -1,4 +1,4 @@
--- The bounds of the part of a ring between two directions of quadrant 0.
+-- Meaning. The bounds of the part of a ring between two directions of quadrant 0.
 use Rattle.std.specs.Prelude.{ℕ, List, [], ◌∷◌, pos, ◌+◌, ◌-◌, ◌*◌, ◌/◌, ◌<◌, ◌≤◌}
 use Rattle.micro_units.specs.Root.{floor_root, ceil_root}
 use Rattle.number_laws.specs.Fractions.{IsIn}

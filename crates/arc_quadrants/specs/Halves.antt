@@ -1,4 +1,4 @@
--- A quarter cut in two again and again.
+-- Meaning. A quarter cut in two again and again.
 use Rattle.std.specs.Prelude.{ℕ, zero, suc, ◌+◌, ◌*◌, ◌^◌, ◌<◌, List, [], ◌∷◌, ◌++◌}
 
 -- the direction between two directions that is their sum

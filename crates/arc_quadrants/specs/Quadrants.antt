@@ -1,4 +1,4 @@
--- The quadrants of a plane: where an arc begins and where it ends, and vectors turned back into quadrant 0.
+-- Meaning. The quadrants of a plane: where an arc begins and where it ends, and vectors turned back into quadrant 0.
 use Rattle.std.specs.Prelude.{ℕ, zero, suc, pos, neg_ℤ, ◌&&◌, if◌then◌else◌}
 use Rattle.std.specs.Int.RustNames.{int_lt, int_le}
 use Rattle.path_geometry.specs.Vectors.{Vector}

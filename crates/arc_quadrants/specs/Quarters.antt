@@ -1,4 +1,4 @@
--- The quarters into which the axis crossings cut an arc.
+-- Meaning. The quarters into which the axis crossings cut an arc.
 use Rattle.std.specs.Prelude.{ℕ, zero, suc, ◌<◌, ◌≤◌, ◌+◌, ◌-◌, ◌%◌, ◌==◌, pos, Bool, if◌then◌else◌, List, map}
 use Rattle.std.specs.Int.RustNames.{int_lt, unsigned_abs}
 use Rattle.std.specs.List.{range_with_len}

@@ -1,4 +1,4 @@
--- Where the programmed axes of a block go: X, Y and Z through the frame to the slots of the channel, other axes by their own names.
+-- Meaning. Where the programmed axes of a block go: X, Y and Z through the frame to the slots of the channel, other axes by their own names.
 use Rattle.std.specs.Prelude.{◌≡◌, ℕ, ◌<◌, ℤ, pos, ◌*ℤ◌, ◌==◌, ◌&&◌, ◌||◌, not, nat_le, Bool, true, false, if◌then◌else◌, List, [], map, slice_index, slice_index_or, slice_set, Option, None, Some, is_some, option_map}
 use Rattle.std.specs.Int.RustNames.{unsigned_abs}
 use Rattle.frames.specs.Composition.{IsComposed}

@@ -1,4 +1,4 @@
--- Where the axes of a channel stand, and the motions that take them on.
+-- Meaning. Where the axes of a channel stand, and the motions that take them on.
 use Rattle.std.specs.Prelude.{◌≡◌, ◌≢◌, ◌<◌, All, AllPairs, ℕ, ℤ, pos, ◌+ℤ◌, ◌==◌, ◌&&◌, ◌||◌, not, Bool, true, false, if◌then◌else◌, List, [], ◌∷◌, find, filter_map, slice_index_or, Option, None, Some, option_map, option_and_then, unwrap_or, Result, Ok, Err}
 use Rattle.std.specs.List.{last_or, list_all, range_with_len}
 use Rattle.axis_sets.specs.Positions.{position_of}

@@ -1,4 +1,4 @@
--- Sets of small numbers: for each number from 0 on, whether it is a member.
+-- Meaning. Sets of small numbers: for each number from 0 on, whether it is a member.
 use Rattle.std.specs.Prelude.{◌≡◌, ℕ, ◌<◌, Bool, true, false, List, length, filter, slice_index_or, Option, MatchOption}
 use Rattle.std.specs.List.{range_with_len}
 

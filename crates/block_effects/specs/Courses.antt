@@ -1,4 +1,4 @@
--- What the code answers of a block, as a contract sees it.
+-- Steps. What the code answers of a block, as a contract sees it.
 use Rattle.std.specs.Prelude.{◌≡◌, ⊤, MatchResult, ℕ, ℤ, List, Option, Result, Ok, Err}
 use Rattle.axis_moves.specs.Motions.{stands}
 use Rattle.frames.specs.Composition.{IsComposed}

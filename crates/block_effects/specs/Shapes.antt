@@ -1,4 +1,4 @@
--- Blocks of frames: what they make of the chain of maps.
+-- Meaning. Blocks of frames: what they make of the chain of maps.
 use Rattle.std.specs.Prelude.{ℕ, ◌==◌, ℤ, Bool, true, false, if◌then◌else◌, List, [], ◌∷◌, ◌++◌, replicate, slice_set, Option, None, Some, Result, Ok, Err}
 use Rattle.frames.specs.Composition.{shifts, scales, mirrors, turns}
 use Rattle.frames.specs.Faults.{adding_fault}

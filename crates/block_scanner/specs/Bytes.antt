@@ -1,4 +1,4 @@
--- Classes of bytes.
+-- Meaning. Classes of bytes.
 use Rattle.std.specs.Prelude.{ℕ, Bool, false, ◌||◌, ◌==◌, List, [], ◌∷◌}
 use Rattle.std.specs.Char.{is_ascii_alphabetic, is_ascii_alphanumeric}
 

@@ -1,4 +1,4 @@
--- The signs by their bytes.
+-- Meaning. The signs by their bytes.
 use Rattle.std.specs.Prelude.{ℕ, ◌&&◌, ◌==◌, if◌then◌else◌, List, Option, Some, None, codes}
 use Rattle.block_scanner.specs.declared.Sign.{Sign}
 use Rattle.block_scanner.specs.declared.Sign.TheVariants.{Plus, Minus, Times, Slash, Assign, Equal, NotEqual, Less, Greater, LessEqual, GreaterEqual, OpenParenthesis, CloseParenthesis, OpenBracket, CloseBracket, Comma, Colon, Dollar}

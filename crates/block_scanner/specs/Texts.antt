@@ -1,4 +1,4 @@
--- The text of a token.
+-- Meaning. The text of a token.
 use Rattle.std.specs.Prelude.{ℕ, List, slice_range}
 use Rattle.block_scanner.specs.declared.Token.{Token}
 

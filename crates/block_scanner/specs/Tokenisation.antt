@@ -1,4 +1,4 @@
--- What a line says, apart from any scanner: its tokens, or the leftmost place at which nothing can begin.
+-- Law. What a line says, apart from any scanner: its tokens, or the leftmost place at which nothing can begin.
 use Rattle.std.specs.Prelude.{◌≡◌, ◌≢◌, ℕ, ◌+◌, ◌<◌, ◌≤◌, not, IsTrue, ◌⊎◌, List, [], ◌∷◌, ◌++◌, length, All, Result, Ok, Err}
 use Rattle.std.specs.List.{list_all}
 use Rattle.std.specs.Char.{is_ascii_alphabetic, is_ascii_digit, to_ascii_uppercase}

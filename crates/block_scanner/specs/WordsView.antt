@@ -1,4 +1,4 @@
--- What a contract sees of a line and its tokens.
+-- Meaning. What a contract sees of a line and its tokens.
 use Rattle.std.specs.Prelude.{ℕ, List}
 use Rattle.block_scanner.specs.declared.Token.{Token}
 

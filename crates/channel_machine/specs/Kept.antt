@@ -1,4 +1,4 @@
--- What is kept of a channel between two blocks.
+-- Steps. What is kept of a channel between two blocks.
 use Rattle.std.specs.Prelude.{◌≡◌, ℕ, ◌+◌, ℤ, Bool, true, false, List, ◌++◌, length, slice_get, Option, Some, None, Result, Ok, Err}
 use Rattle.std.specs.Option.{option_to_list}
 use Rattle.axis_moves.specs.Motions.{stands}

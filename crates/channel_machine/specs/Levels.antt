@@ -1,4 +1,4 @@
--- Where control stands on the levels of calls.
+-- Meaning. Where control stands on the levels of calls.
 use Rattle.std.specs.Prelude.{◌≡◌, ℕ, zero, suc, nat_lt, true, false, Bool, if◌then◌else◌, List, [], ◌∷◌, length, map, slice_get, All, Option, Some, None, Result, Ok, Err}
 use Rattle.std.specs.Option.{option_map_or}
 use Rattle.block_effects.specs.Effects.{Course, Goes, Ends, Calls}

@@ -1,4 +1,4 @@
--- A segment of a channel's run, told over the list of the blocks that the channel has executed.
+-- Meaning. A segment of a channel's run, told over the list of the blocks that the channel has executed.
 use Rattle.std.specs.Prelude.{⊤, ℕ, zero, suc, ◌+◌, ◌-◌, ◌/◌, ◌%◌, ◌==◌, ◌&&◌, nat_lt, ℤ, pos, Bool, false, position, if◌then◌else◌, List, [], ◌∷◌, ◌++◌, length, map, fold, filter_map, find, slice_get, Option, None, Some, option_map, option_and_then, Result, Ok, Err}
 use Rattle.std.specs.List.{range_with_len}
 use Rattle.std.specs.Option.{option_map_or, option_to_list}

@@ -1,4 +1,4 @@
--- What is seen of the sources and sinks in memory.
+-- Meaning. What is seen of the sources and sinks in memory.
 use Rattle.std.specs.Prelude.{◌≡◌, ℕ, ◌+◌, ◌-◌, ◌^◌, ◌==◌, min, Bool, true, false, List, ◌++◌, length, take, drop, Option, None, Some, Result, Ok, Err, nat_lt, if◌then◌else◌}
 use Rattle.std.specs.List.{list_any}
 

@@ -1,4 +1,4 @@
--- What a read and a write do to the bytes that a source or a sink tells of, and to its count of faults.
+-- Meaning. What a read and a write do to the bytes that a source or a sink tells of, and to its count of faults.
 use Rattle.std.specs.Prelude.{◌≡◌, ℕ, ◌+◌, ◌^◌, ◌<◌, ◌≤◌, List, [], ◌++◌, length, take, ⊤, Option, None, Some, Result, Ok, Err}
 
 -- a failed call raises the count of faults, and no other call changes it

@@ -1,4 +1,4 @@
--- What is seen of the source and the sink over std's readers and writers.
+-- Meaning. What is seen of the source and the sink over std's readers and writers.
 use Rattle.std.specs.Prelude.{ℕ}
 use Rattle.edge_io.specs.declared.standard.StdSource.{StdSource}
 use Rattle.edge_io.specs.declared.standard.StdSink.{StdSink}

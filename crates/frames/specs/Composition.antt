@@ -1,4 +1,4 @@
--- A frame, and the chain of maps that it stands for.
+-- Meaning. A frame, and the chain of maps that it stands for.
 use Rattle.std.specs.Prelude.{◌≡◌, ℕ, ◌+◌, ◌^◌, ℤ, pos, ◌*ℤ◌, List, [], ◌∷◌, ◌++◌, Option, Some, None, Result, Ok, Err, MatchResult, ◌==◌, if◌then◌else◌}
 use Rattle.frames.specs.declared.axis_map.AxisMap.{AxisMap}
 use Rattle.frames.specs.declared.Frame.{Frame}

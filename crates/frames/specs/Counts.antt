@@ -1,4 +1,4 @@
--- The whole counts of an axis: what a map at the end of the chain makes of them, and where a value goes.
+-- Steps. The whole counts of an axis: what a map at the end of the chain makes of them, and where a value goes.
 use Rattle.std.specs.Prelude.{◌≡◌, ℕ, ◌*◌, ◌%◌, ◌<◌, ◌^◌, ◌==◌, nat_le, ℤ, pos, ◌+ℤ◌, ◌*ℤ◌, Bool, true, false, ◌&&◌, Result, MatchResult}
 use Rattle.std.specs.Int.RustNames.{unsigned_abs}
 use Rattle.frames.specs.declared.axis_map.AxisMap.{AxisMap}

@@ -1,4 +1,4 @@
--- Alarms of frames: 11 and 12 of a map by itself, then 11 and 13 of the chain.
+-- Meaning. Alarms of frames: 11 and 12 of a map by itself, then 11 and 13 of the chain.
 use Rattle.std.specs.Prelude.{ℕ, ◌*◌, ◌%◌, ◌==◌, nat_lt, nat_le, if◌then◌else◌, ℤ, pos, negsuc, Bool, false, ◌&&◌, List, [], ◌∷◌, ◌++◌, Option, Some, None}
 use Rattle.std.specs.Int.RustNames.{unsigned_abs}
 use Rattle.frames.specs.Maps.{Map, shifting, scaling, mirroring, turning}

@@ -1,4 +1,4 @@
--- What a chain of maps makes of one axis: a slot, a sign, a factor and a shift.
+-- Meaning. What a chain of maps makes of one axis: a slot, a sign, a factor and a shift.
 use Rattle.std.specs.Prelude.{◌≡◌, ℕ, zero, suc, ◌*◌, ◌==◌, if◌then◌else◌, ℤ, pos, negsuc, ◌+ℤ◌, ◌*ℤ◌, Bool, true, false, not, List, [], ◌∷◌}
 use Rattle.frames.specs.declared.Plane.{Plane}
 use Rattle.frames.specs.Maps.{Map, Point, shifting, scaling, mirroring, turning, first_axis, second_axis, quarters_in}

@@ -1,4 +1,4 @@
--- The elementary maps of a frame, and where a chain of them sends a point.
+-- Meaning. The elementary maps of a frame, and where a chain of them sends a point.
 use Rattle.std.specs.Prelude.{◌≡◌, ℕ, zero, suc, ◌*◌, ◌/◌, ◌==◌, if◌then◌else◌, ℤ, pos, neg_ℤ, ◌+ℤ◌, ◌*ℤ◌, List, [], ◌∷◌}
 use Rattle.std.specs.Int.{int_rem_euclid}
 use Rattle.std.specs.Int.RustNames.{unsigned_abs}

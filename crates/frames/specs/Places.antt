@@ -1,4 +1,4 @@
--- Ends and changes of positions, in whole micrometres.
+-- Meaning. Ends and changes of positions, in whole micrometres.
 use Rattle.std.specs.Prelude.{◌≡◌, ◌≤◌, ℕ, ◌*◌, ℤ, pos, ◌+ℤ◌, ◌*ℤ◌, Result, MatchResult}
 use Rattle.std.specs.Int.RustNames.{unsigned_abs}
 use Rattle.micro_units.specs.Rounding.{half_away}

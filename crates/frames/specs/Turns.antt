@@ -1,4 +1,4 @@
--- A frame with turns of 90 degrees at the end of its chain.
+-- Steps. A frame with turns of 90 degrees at the end of its chain.
 use Rattle.std.specs.Prelude.{ℕ, zero, suc, ◌<◌, true, false}
 use Rattle.frames.specs.declared.axis_map.AxisMap.{AxisMap}
 use Rattle.frames.specs.declared.Frame.{Frame}

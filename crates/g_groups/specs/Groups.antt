@@ -1,4 +1,4 @@
--- The groups of words: which words a group has, and how long a word holds.
+-- Meaning. The groups of words: which words a group has, and how long a word holds.
 use Rattle.std.specs.Prelude.{ℕ, zero, suc, ◌+◌, ◌==◌, Bool, true, false, not, ◌&&◌, IsTrue, if◌then◌else◌, List, [], ◌∷◌, ◌++◌, codes}
 use Rattle.std.specs.List.{list_any}
 

@@ -1,4 +1,4 @@
--- The modal words: what holds after some blocks.
+-- Meaning. The modal words: what holds after some blocks.
 use Rattle.std.specs.Prelude.{◌≡◌, ℕ, ◌==◌, List, [], ◌∷◌, fold, filter, slice_index, Bool, false, ◌||◌}
 use Rattle.std.specs.List.{flat_map, list_any}
 use Rattle.g_groups.specs.declared.GWord.{GWord}

@@ -1,4 +1,4 @@
--- The codes of refusals.
+-- Meaning. The codes of refusals.
 use Rattle.std.specs.Prelude.{ℕ, Result, Ok, Err, Option, Some, None}
 use Rattle.job_lines.specs.declared.code.Code.{Code}
 use Rattle.job_lines.specs.declared.code.Code.TheVariants.{NoJobLine, LineTooLong, BadByte, UnknownJobLine, OutOfRange, DeclaredTwice, NotDeclared, OwnerDiffers, NameRepeated, BadHeader, TooMany, NotInLibrary, OpenText, NotBuilt}

@@ -1,4 +1,4 @@
--- Headers of programs.
+-- Meaning. Headers of programs.
 use Rattle.std.specs.Prelude.{ℕ, ◌-◌, Bool, ◌&&◌, ◌||◌, if◌then◌else◌, ◌==◌, nat_eq, nat_le, codes, List, [], ◌∷◌, length, slice_range, Result, Ok, Err}
 use Rattle.std.specs.List.{list_all, starts_with, ends_with}
 use Rattle.std.specs.Char.{is_ascii_uppercase, is_ascii_digit}

@@ -1,4 +1,4 @@
--- What a job line says by itself, from its words in upper case. The number of words and the options come before the forms.
+-- Meaning. What a job line says by itself, from its words in upper case. The number of words and the options come before the forms.
 use Rattle.std.specs.Prelude.{ℕ, Bool, true, false, ◌||◌, if◌then◌else◌, ◌==◌, nat_le, int_le, codes, List, [], ◌∷◌, Result, Ok, Err, Option, Some, None}
 use Rattle.std.specs.List.{list_any}
 use Rattle.std.specs.Option.{option_and_then}

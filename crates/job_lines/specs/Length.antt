@@ -1,4 +1,4 @@
--- Lengths, in millimetres as a line writes them, in micrometres as a job holds them.
+-- Meaning. Lengths, in millimetres as a line writes them, in micrometres as a job holds them.
 use Rattle.std.specs.Prelude.{ℕ, ◌+◌, ℤ, neg_ℤ, unsigned_abs, Bool, ◌&&◌, if◌then◌else◌, ◌==◌, nat_le, List, [], ◌∷◌, take, drop, position, Result, Option, Some, None}
 use Rattle.std.specs.Option.{option_and_then, option_map}
 use Rattle.micro_units.specs.Rounding.{half_away}

@@ -1,4 +1,4 @@
--- Whole numbers of job lines.
+-- Meaning. Whole numbers of job lines.
 use Rattle.std.specs.Prelude.{ℕ, ◌+◌, ◌-◌, ◌*◌, Bool, ◌&&◌, not, if◌then◌else◌, ◌==◌, nat_lt, nat_le, List, length, fold, slice_index, Option, Some, None}
 use Rattle.std.specs.List.{list_all}
 use Rattle.std.specs.Option.{option_and_then}

@@ -1,4 +1,4 @@
--- What a job line says of an option of the whole job, from its words in upper case.
+-- Meaning. What a job line says of an option of the whole job, from its words in upper case.
 use Rattle.std.specs.Prelude.{ℕ, pos, ◌&&◌, if◌then◌else◌, int_le, codes, List, [], ◌∷◌, Result, Ok, Err}
 use Rattle.std.specs.Str.{bytes_eq}
 use Rattle.job_lines.specs.declared.code.Code.{Code}

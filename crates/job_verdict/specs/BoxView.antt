@@ -1,4 +1,4 @@
--- What a contract sees of a box as it is compared.
+-- Steps. What a contract sees of a box as it is compared.
 use Rattle.std.specs.Prelude.{⊤, ℕ, Option, None, Some}
 use Rattle.path_geometry.specs.Motions.{IsSound}
 use Rattle.swept_boxes.specs.declared.Box3.{Box3}

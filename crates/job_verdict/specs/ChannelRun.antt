@@ -1,4 +1,4 @@
--- What a contract sees of the run of a channel.
+-- Meaning. What a contract sees of the run of a channel.
 use Rattle.std.specs.Prelude.{⊤, ℕ, ◌==◌, List, map, find, Option, None, Some}
 use Rattle.sync_types.specs.declared.Item.{Item}
 use Rattle.sync_types.specs.declared.ChannelEnd.{ChannelEnd}

@@ -1,4 +1,4 @@
--- What a channel does: the program that it runs, what it is granted at its start, and what comes of both.
+-- Meaning. What a channel does: the program that it runs, what it is granted at its start, and what comes of both.
 use Rattle.std.specs.Prelude.{◌≤◌, All, ℕ, ℤ, pos, ◌-◌, ◌==◌, ◌&&◌, Bool, false, if◌then◌else◌, List, ◌++◌, map, length, replicate, Option, None, Some, slice_get, slice_index_or, position}
 use Rattle.std.specs.List.{list_any, range_with_len}
 use Rattle.std.specs.Map.{keys_of}

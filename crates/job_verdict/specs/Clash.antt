@@ -1,4 +1,4 @@
--- Which boxes are compared, and the verdict.
+-- Meaning. Which boxes are compared, and the verdict.
 use Rattle.std.specs.Prelude.{ℕ, ◌==◌, ◌&&◌, not, nat_lt, Bool, true, if◌then◌else◌, List, [], ◌∷◌, ◌++◌, map, length, Option, None, Some, find, filter}
 use Rattle.std.specs.Int.{int_max, int_min}
 use Rattle.std.specs.Int.RustNames.{int_le}

@@ -1,4 +1,4 @@
--- The first answer that a list gives.
+-- Meaning. The first answer that a list gives.
 use Rattle.std.specs.Prelude.{List, [], ◌∷◌, Option, None}
 use Rattle.std.specs.Option.{option_or}
 

@@ -1,4 +1,4 @@
--- How many pairs of boxes are compared, by the numbers of boxes alone.
+-- Steps. How many pairs of boxes are compared, by the numbers of boxes alone.
 use Rattle.std.specs.Prelude.{ℕ, ◌+◌, ◌*◌, ◌==◌, if◌then◌else◌, List, [], ◌∷◌, length, sum_by}
 use Rattle.job_verdict.specs.ShownStretches.{HeldView, do_overlap}
 use Rattle.job_verdict.specs.StretchView.{StretchView}

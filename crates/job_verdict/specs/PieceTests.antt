@@ -1,4 +1,4 @@
--- When two boxes meet as they are compared: their covers first, and then their pieces.
+-- Steps. When two boxes meet as they are compared: their covers first, and then their pieces.
 use Rattle.std.specs.Prelude.{ℕ, ℤ, ◌+◌, ◌==◌, ◌&&◌, Bool, true, List, [], ◌∷◌, map, Option, None, Some, find}
 use Rattle.std.specs.List.{list_any}
 use Rattle.std.specs.Option.{option_map_or}

@@ -1,4 +1,4 @@
--- The report of a job, and the line of a refused input. Each line ends with a line feed, and its words are separated by one blank.
+-- Meaning. The report of a job, and the line of a refused input. Each line ends with a line feed, and its words are separated by one blank.
 use Rattle.std.specs.Prelude.{ℕ, ℤ, pos, negsuc, suc, nat_lt, Bool, if◌then◌else◌, ◌/◌, ◌%◌, List, [], ◌++◌, unwrap_or, slice_get, codes, encode_utf8}
 use Rattle.std.specs.Fmt.{decimal}
 use Rattle.std.specs.List.{flat_map, range_with_len}

@@ -1,4 +1,4 @@
--- The stretches of a zone as the comparison takes them, and the first two boxes that meet.
+-- Steps. The stretches of a zone as the comparison takes them, and the first two boxes that meet.
 use Rattle.std.specs.Prelude.{ℕ, ◌==◌, ◌&&◌, not, Bool, true, false, if◌then◌else◌, List, [], ◌∷◌, map, Option, None, Some}
 use Rattle.std.specs.Option.{option_map, option_or}
 use Rattle.tape_job.specs.Job.{JobView}

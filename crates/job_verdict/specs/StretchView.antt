@@ -1,4 +1,4 @@
--- What a contract sees of a stretch as its boxes are compared.
+-- Steps. What a contract sees of a stretch as its boxes are compared.
 use Rattle.std.specs.Prelude.{ℕ, List, Option}
 use Rattle.job_verdict.specs.BoxView.{BoxView}
 use Rattle.job_verdict.specs.declared.stretches.StretchKind.{StretchKind}

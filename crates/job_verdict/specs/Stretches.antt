@@ -1,4 +1,4 @@
--- The stretches into which the time of a zone falls, each between two events of its channel.
+-- Meaning. The stretches into which the time of a zone falls, each between two events of its channel.
 use Rattle.std.specs.Prelude.{ℕ, zero, suc, ℤ, ◌==◌, List, [], ◌∷◌, Option, None, Some, find}
 use Rattle.std.specs.Option.{option_map_or}
 use Rattle.tape_job.specs.Job.{JobView}

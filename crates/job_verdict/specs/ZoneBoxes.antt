@@ -1,4 +1,4 @@
--- The boxes of a zone: where its sides stand, and the boxes that a channel's motions give it.
+-- Meaning. The boxes of a zone: where its sides stand, and the boxes that a channel's motions give it.
 use Rattle.std.specs.Prelude.{◌<◌, All, ℕ, ℤ, ◌+ℤ◌, ◌-ℤ◌, ◌+◌, ◌==◌, Bool, true, false, if◌then◌else◌, List, [], ◌∷◌, ◌++◌, map, Option, None, Some, find}
 use Rattle.std.specs.List.{list_any}
 use Rattle.std.specs.Option.{option_map_or}

@@ -1,4 +1,4 @@
--- The values of the operations on numbers, all of them counts of millionths.
+-- Meaning. The values of the operations on numbers, all of them counts of millionths.
 use Rattle.std.specs.Prelude.{suc, ◌*◌, ℤ, pos, negsuc, neg_ℤ, ◌-ℤ◌, ◌*ℤ◌, ◌≤ℤ◌}
 use Rattle.std.specs.Int.RustNames.{int_div, unsigned_abs}
 use Rattle.micro_units.specs.Root.{floor_root}

@@ -1,4 +1,4 @@
--- Numbers and lengths, and where they are in range.
+-- Meaning. Numbers and lengths, and where they are in range.
 use Rattle.std.specs.Prelude.{◌≡◌, ◌≢◌, ◌<◌, ◌≤◌, ◌^◌, ℤ, pos, ◌<ℤ◌, ◌≤ℤ◌, Result, Ok, Err, MatchResult}
 use Rattle.std.specs.Int.RustNames.{unsigned_abs}
 use Rattle.micro_units.specs.declared.Num.{Num}

@@ -1,4 +1,4 @@
--- A number as text.
+-- Meaning. A number as text.
 use Rattle.std.specs.Prelude.{ℕ, ◌+◌, ◌-◌, ◌*◌, ◌^◌, ℤ, pos, Bool, ◌&&◌, if◌then◌else◌, ◌==◌, nat_lt, List, ◌++◌, length, fold, take, Option, Some, None}
 use Rattle.std.specs.List.{list_all, before_first, after_first}
 use Rattle.std.specs.Char.{is_ascii_digit}

@@ -1,4 +1,4 @@
--- Square roots in whole numbers.
+-- Meaning. Square roots in whole numbers.
 use Rattle.std.specs.Prelude.{ℕ, zero, suc, ◌+◌, ◌*◌, ◌==◌, nat_le, if◌then◌else◌}
 
 -- the greatest number up to k whose square is not above n

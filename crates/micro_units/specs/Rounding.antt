@@ -1,4 +1,4 @@
--- Rounding to whole numbers.
+-- Meaning. Rounding to whole numbers.
 use Rattle.std.specs.Prelude.{◌≡◌, ℕ, suc, ◌+◌, ◌*◌, ◌/◌, ◌≤◌, ℤ, pos, negsuc, neg_ℤ, ◌-ℤ◌, ◌*ℤ◌}
 use Rattle.std.specs.Int.RustNames.{unsigned_abs}
 

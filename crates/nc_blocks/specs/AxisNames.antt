@@ -1,4 +1,4 @@
--- Axis names: the letter of an axis, and digits.
+-- Meaning. Axis names: the letter of an axis, and digits.
 use Rattle.std.specs.Prelude.{ℕ, ◌+◌, ◌==◌, ◌&&◌, ◌||◌, Bool, false, List}
 use Rattle.block_scanner.specs.WordsView.{WordsView}
 use Rattle.nc_expressions.specs.Symbols.{is_digits}

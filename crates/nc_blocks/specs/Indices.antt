@@ -1,4 +1,4 @@
--- Each parameter that a block names by its number is one of the 1,000.
+-- Law. Each parameter that a block names by its number is one of the 1,000.
 use Rattle.std.specs.Prelude.{ℕ, ◌≤◌, All, Option, Some, None}
 use Rattle.nc_expressions.specs.Tree.{Tree, IndicesFit}
 use Rattle.nc_blocks.specs.Statement.{OperandView, Value, Text, AxisName, WordView, Assign, AssignAt, G, Axis, Radius, Aux, End, Statement, Empty, WordBlock, Jump, IfJump, If, Else, EndIf, While, EndWhile, Repeat, Until, Loop, EndLoop, For, EndFor, Case, RepeatFrom, RepeatBlock, Call, Return, Proc, Shape, Turn, Coord, Message}

@@ -1,4 +1,4 @@
--- Lists of things that stand one behind the other in a line.
+-- Meaning. Lists of things that stand one behind the other in a line.
 use Rattle.std.specs.Prelude.{ℕ, zero, suc, ◌+◌, ◌-◌, Bool, true, false, List, [], ◌∷◌, ◌++◌, drop, Result, Ok, Err}
 use Rattle.block_scanner.specs.declared.Token.{Token}
 use Rattle.block_scanner.specs.WordsView.{WordsView}

@@ -1,4 +1,4 @@
--- Signs and names that a form wants at a place, and what comes at its end.
+-- Meaning. Signs and names that a form wants at a place, and what comes at its end.
 use Rattle.std.specs.Prelude.{ℕ, ◌+◌, Bool, ◌&&◌, List, Result, Ok, Err, if◌then◌else◌}
 use Rattle.block_scanner.specs.WordsView.{WordsView}
 use Rattle.word_tables.specs.Tables.{is_first_name}

@@ -1,4 +1,4 @@
--- Names in upper case.
+-- Meaning. Names in upper case.
 use Rattle.std.specs.Prelude.{ℕ, List, map, take}
 use Rattle.std.specs.Char.{to_ascii_uppercase}
 

@@ -1,4 +1,4 @@
--- What each token of a line is to a block.
+-- Meaning. What each token of a line is to a block.
 use Rattle.std.specs.Prelude.{ℕ, ◌+◌, Bool, true, false, List, [], Option, Some, None, slice_get, nat_lt, if◌then◌else◌}
 use Rattle.block_scanner.specs.declared.Kind.{Kind}
 use Rattle.block_scanner.specs.declared.Kind.TheVariants as kind

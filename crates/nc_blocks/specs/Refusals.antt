@@ -1,4 +1,4 @@
--- The codes by which a block is refused.
+-- Law. The codes by which a block is refused.
 use Rattle.std.specs.Prelude.{ℕ, ◌==◌, IsTrue, List, [], ◌∷◌}
 use Rattle.std.specs.List.{list_any}
 use Rattle.nc_expressions.specs.declared.faults.SyntaxFault.{SyntaxFault}

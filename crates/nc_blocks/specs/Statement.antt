@@ -1,4 +1,4 @@
--- What a block says, with expressions as plain trees and collections as lists.
+-- Meaning. What a block says, with expressions as plain trees and collections as lists.
 use Rattle.std.specs.Prelude.{ℕ, ℤ, Bool, List, map, Option, Some, None}
 use Rattle.std.specs.Global.{Vec}
 use Rattle.nc_expressions.specs.Tree.{Tree, tree_of}

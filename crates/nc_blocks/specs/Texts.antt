@@ -1,4 +1,4 @@
--- Texts without their quotes.
+-- Meaning. Texts without their quotes.
 use Rattle.std.specs.Prelude.{ℕ, ◌-◌, nat_lt, List, [], length, slice_range, if◌then◌else◌}
 
 -- a text without its quotes

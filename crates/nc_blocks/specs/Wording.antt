@@ -1,4 +1,4 @@
--- The words of a word block.
+-- Meaning. The words of a word block.
 use Rattle.std.specs.Prelude.{ℕ, ℤ, pos, ◌+◌, ◌==◌, ◌&&◌, ◌||◌, not, Bool, true, false, List, [], ◌∷◌, Option, Some, None, Result, Ok, Err, if◌then◌else◌, codes}
 use Rattle.std.specs.Ordering.{int_eq}
 use Rattle.block_scanner.specs.WordsView.{WordsView}

@@ -1,4 +1,4 @@
--- Blocks that count: where those with `/` are passed over, the others.
+-- Meaning. Blocks that count: where those with `/` are passed over, the others.
 use Rattle.std.specs.Prelude.{◌≡◌, ℕ, zero, suc, ◌+◌, ◌-◌, ◌*◌, ◌<◌, ◌&&◌, not, Bool, true, false, if◌then◌else◌, List, [], length, drop, slice_get, All, Option, Some, None, Result, Ok, Err}
 use Rattle.std.specs.List.{list_any, prefix_len}
 use Rattle.std.specs.Option.{option_map_or}

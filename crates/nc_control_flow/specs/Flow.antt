@@ -1,4 +1,4 @@
--- The next block.
+-- Meaning. The next block.
 use Rattle.std.specs.Prelude.{◌≡◌, ℕ, ◌==◌, nat_lt, List, ◌∷◌, length, filter, Result, Ok, Err, if◌then◌else◌}
 use Rattle.nc_blocks.specs.Statement.{BlockView}
 use Rattle.nc_control_flow.specs.declared.flow.Move.{Move}

@@ -1,4 +1,4 @@
--- Places by label and by block number.
+-- Steps. Places by label and by block number.
 use Rattle.std.specs.Prelude.{◌≡◌, ℕ, Bool, List, [], map, filter, nat_eq}
 use Rattle.std.specs.Global.{Vec}
 use Rattle.std.specs.Option.{option_map_or}

@@ -1,4 +1,4 @@
--- Searches for an end, an ELSE or a beginning, by counting what opens and closes on the way.
+-- Meaning. Searches for an end, an ELSE or a beginning, by counting what opens and closes on the way.
 use Rattle.std.specs.Prelude.{ℕ, zero, suc, List, [], ◌∷◌, Option, Some, None}
 use Rattle.nc_control_flow.specs.declared.parts.Part.{Part}
 use Rattle.nc_control_flow.specs.declared.parts.Part.TheVariants.{Opens, Branches, Closes, Neither}

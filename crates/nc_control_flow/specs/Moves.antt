@@ -1,4 +1,4 @@
--- What a block asks for, by what it says and its outcome.
+-- Meaning. What a block asks for, by what it says and its outcome.
 use Rattle.std.specs.Prelude.{ℕ, ◌+◌, ◌-◌, ◌==◌, Bool, true, false, List, Option, Some, None, Result, Ok, Err, if◌then◌else◌}
 use Rattle.nc_blocks.specs.declared.blocks.Way.{Way}
 use Rattle.nc_blocks.specs.declared.blocks.Way.TheVariants.{Optional}

@@ -1,4 +1,4 @@
--- The structures that are open, the innermost first.
+-- Meaning. The structures that are open, the innermost first.
 use Rattle.std.specs.Prelude.{◌≡◌, ℕ, ◌==◌, Bool, true, false, List, [], ◌∷◌, length, Result, Ok, Err, if◌then◌else◌}
 use Rattle.nc_blocks.specs.Statement.{Statement, If, Else, EndIf, While, EndWhile, Repeat, Until, Loop, EndLoop, For, EndFor}
 use Rattle.nc_control_flow.specs.declared.nest.Opened.{Opened}

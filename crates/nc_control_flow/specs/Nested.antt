@@ -1,4 +1,4 @@
--- Programs whose structures match.
+-- Meaning. Programs whose structures match.
 use Rattle.std.specs.Prelude.{◌≡◌, ℕ, List, [], fold, map, Result, Ok, Err}
 use Rattle.nc_blocks.specs.Statement.{BlockView}
 use Rattle.nc_control_flow.specs.declared.nest.Opened.{Opened}

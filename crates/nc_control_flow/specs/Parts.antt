@@ -1,4 +1,4 @@
--- What a statement does to the structure round it.
+-- Meaning. What a statement does to the structure round it.
 use Rattle.std.specs.Prelude.{ℕ, List, map, Option, Some, None, slice_get}
 use Rattle.nc_blocks.specs.declared.blocks.Block.{Block}
 use Rattle.nc_blocks.specs.Statement.{BlockView, view_of, Statement, Empty, If, Else, EndIf, While, EndWhile, Repeat, Until, Loop, EndLoop, For, EndFor}

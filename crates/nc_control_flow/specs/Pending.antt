@@ -1,4 +1,4 @@
--- What a search finds, for each number of structures that have to end first: the k-th entry for k.
+-- Steps. What a search finds, for each number of structures that have to end first: the k-th entry for k.
 use Rattle.std.specs.Prelude.{ℕ, List, [], ◌∷◌, drop}
 use Rattle.nc_control_flow.specs.declared.parts.Part.{Part}
 use Rattle.nc_control_flow.specs.declared.parts.Part.TheVariants.{Opens, Branches, Closes, Neither}

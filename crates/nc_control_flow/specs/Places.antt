@@ -1,4 +1,4 @@
--- The places of a list, counted from 0.
+-- Meaning. The places of a list, counted from 0.
 use Rattle.std.specs.Prelude.{ℕ, ◌+◌, List, take, drop, reverse}
 use Rattle.std.specs.List.{enumerate_from}
 

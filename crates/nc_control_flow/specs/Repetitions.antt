@@ -1,4 +1,4 @@
--- The repetitions that run, the innermost first.
+-- Meaning. The repetitions that run, the innermost first.
 use Rattle.std.specs.Prelude.{◌≡◌, ℕ, zero, suc, ◌+◌, ◌-◌, ◌^◌, ◌<◌, ◌==◌, ◌&&◌, not, nat_le, Bool, List, sum_by, position, slice_get, slice_set, remove, Option, Some, None, option_map, option_and_then, if◌then◌else◌}
 use Rattle.std.specs.Option.{option_or}
 use Rattle.nc_control_flow.specs.declared.repeats.Running.{Running}

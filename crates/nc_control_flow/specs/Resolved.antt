@@ -1,4 +1,4 @@
--- What is found once in the text of a program.
+-- Steps. What is found once in the text of a program.
 use Rattle.std.specs.Prelude.{◌≡◌, ℕ, ◌^◌, ◌<◌, List, length, slice_index}
 use Rattle.nc_blocks.specs.Statement.{BlockView}
 use Rattle.nc_control_flow.specs.Structures.{closing, branching, opening}

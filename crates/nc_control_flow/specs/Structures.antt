@@ -1,4 +1,4 @@
--- Where structures branch, begin and end.
+-- Meaning. Where structures branch, begin and end.
 use Rattle.std.specs.Prelude.{ℕ, List, unwrap_or}
 use Rattle.nc_blocks.specs.Statement.{BlockView}
 use Rattle.nc_control_flow.specs.declared.parts.Sought.TheVariants.{End, Branch, Opener}

@@ -1,4 +1,4 @@
--- Where jumps and repetitions find their blocks.
+-- Meaning. Where jumps and repetitions find their blocks.
 use Rattle.std.specs.Prelude.{ℕ, ◌==◌, Bool, false, List, Option, option_map, find}
 use Rattle.std.specs.Option.{option_or, option_map_or}
 use Rattle.std.specs.Str.{bytes_eq}

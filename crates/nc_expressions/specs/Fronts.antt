@@ -1,4 +1,4 @@
--- How far a line can be read as an expression.
+-- Law. How far a line can be read as an expression.
 use Rattle.std.specs.Prelude.{◌≡◌, ℕ, ◌⊎◌, List, [], ◌∷◌, ◌++◌}
 use Rattle.nc_expressions.specs.declared.trees.UnaryOp.{UnaryOp}
 use Rattle.nc_expressions.specs.declared.symbols.Symbol.{Symbol}

@@ -1,4 +1,4 @@
--- The two limits of the grammar, which every expression keeps. Which of them an input breaks is told by whether it could go
+-- Meaning. The two limits of the grammar, which every expression keeps. Which of them an input breaks is told by whether it could go
 -- on without that one.
 use Rattle.std.specs.Prelude.{ℕ, Bool, true, false, not, ◌||◌, nat_lt}
 

@@ -1,4 +1,4 @@
--- Reading an expression symbol by symbol, with a stack of what waits.
+-- Meaning. Reading an expression symbol by symbol, with a stack of what waits.
 use Rattle.std.specs.Prelude.{◌+◌, ℕ, Bool, true, false, List, [], ◌∷◌, Option, Some, None, Result, Ok, Err, nat_le, if◌then◌else◌}
 use Rattle.nc_expressions.specs.declared.trees.UnaryOp.{UnaryOp}
 use Rattle.nc_expressions.specs.declared.trees.UnaryOp.TheVariants as unary

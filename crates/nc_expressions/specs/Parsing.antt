@@ -1,4 +1,4 @@
--- What is read at a place of a line, with the place behind it.
+-- Meaning. What is read at a place of a line, with the place behind it.
 use Rattle.std.specs.Prelude.{◌≡◌, ◌+◌, ◌-◌, ◌≤◌, ℕ, ℤ, neg_ℤ, Bool, true, false, List, length, drop, Option, Some, None, Result, Ok, Err, slice_get, if◌then◌else◌}
 use Rattle.nc_expressions.specs.declared.trees.BinaryOp.TheVariants.{Add, Sub}
 use Rattle.nc_expressions.specs.declared.trees.Expr.{Expr}

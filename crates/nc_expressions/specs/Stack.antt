@@ -1,4 +1,4 @@
--- The stack of the machine, as the code holds it.
+-- Steps. The stack of the machine, as the code holds it.
 use Rattle.std.specs.Prelude.{◌≡◌, List, [], ◌∷◌, map, reverse, Option, Some, None, Result, Ok, Err}
 use Rattle.nc_expressions.specs.declared.levels.Level.{Level}
 use Rattle.nc_expressions.specs.declared.faults.SyntaxFault.{SyntaxFault}

@@ -1,4 +1,4 @@
--- Where the reading of an expression stops.
+-- Meaning. Where the reading of an expression stops.
 use Rattle.std.specs.Prelude.{ℕ, ◌-◌, List, [], ◌∷◌, length, drop}
 use Rattle.nc_expressions.specs.declared.symbols.Symbol.{Symbol}
 use Rattle.nc_expressions.specs.declared.levels.Level.TheVariants.{Plain}

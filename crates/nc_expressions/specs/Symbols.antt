@@ -1,4 +1,4 @@
--- The symbols of expressions: what each token of a line means to an expression.
+-- Meaning. The symbols of expressions: what each token of a line means to an expression.
 use Rattle.std.specs.Prelude.{zero, suc, ◌^◌, ◌==◌, ◌&&◌, ◌%◌, ◌/◌, ℕ, ℤ, pos, negsuc, Bool, true, false, List, [], ◌∷◌, take, drop, Option, Some, None, nat_lt, if◌then◌else◌, codes}
 use Rattle.std.specs.List.{list_all}
 use Rattle.std.specs.Char.{is_ascii_digit}

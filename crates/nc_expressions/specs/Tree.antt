@@ -1,4 +1,4 @@
--- The tree of an expression, as a contract sees it.
+-- Meaning. The tree of an expression, as a contract sees it.
 use Rattle.std.specs.Prelude.{◌≤◌, ℕ, ℤ}
 use Rattle.nc_expressions.specs.declared.trees.UnaryOp.{UnaryOp}
 use Rattle.nc_expressions.specs.declared.trees.BinaryOp.{BinaryOp}

@@ -1,4 +1,4 @@
--- The value of an expression, or its first alarm from left to right.
+-- Meaning. The value of an expression, or its first alarm from left to right.
 use Rattle.std.specs.Prelude.{◌^◌, ℕ, ℤ, pos, Bool, true, false, not, ◌&&◌, ◌||◌, Option, Some, None, Result, Ok, Err, nat_lt, int_lt, if◌then◌else◌, ◌+ℤ◌, ◌-ℤ◌, neg_ℤ}
 use Rattle.std.specs.Ordering.{int_eq}
 use Rattle.std.specs.Int.RustNames.{unsigned_abs}

@@ -1,4 +1,4 @@
--- The want of memory.
+-- Meaning. The want of memory.
 use Rattle.nc_faults.specs.declared.NoMemory.{NoMemory}
 
 -- the one value of its type

@@ -1,4 +1,4 @@
--- The printed texts of refusals and alarms, by their codes.
+-- Meaning. The printed texts of refusals and alarms, by their codes.
 use Rattle.std.specs.Prelude.{ℕ, ◌==◌, Bool, IsTrue, List, [], ◌∷◌, codes, if◌then◌else◌}
 use Rattle.std.specs.List.{list_any}
 

@@ -1,4 +1,4 @@
--- The places to which subprograms return, the latest first.
+-- Meaning. The places to which subprograms return, the latest first.
 use Rattle.std.specs.Prelude.{◌≡◌, ℕ, ◌==◌, List, [], ◌∷◌, length, Option, Some, None, Result, Ok, Err, if◌then◌else◌}
 use Rattle.nc_subprograms.specs.declared.Place.{Place}
 

@@ -1,4 +1,4 @@
--- The block that a line says, or its refusal.
+-- Meaning. The block that a line says, or its refusal.
 use Rattle.std.specs.Prelude.{ℕ, ◌+◌, ◌&&◌, Bool, true, false, List, Option, Some, None, Result, Ok, Err, if◌then◌else◌}
 use Rattle.block_scanner.specs.WordsView.{WordsView}
 use Rattle.word_tables.specs.Refused.{refused_word}

@@ -1,4 +1,4 @@
--- What the body of a block says: its first token chooses the form.
+-- Meaning. What the body of a block says: its first token chooses the form.
 use Rattle.std.specs.Prelude.{ℕ, ◌+◌, ◌==◌, ◌&&◌, Bool, true, false, List, Option, Some, None, Result, Ok, if◌then◌else◌, codes}
 use Rattle.std.specs.Option.{option_or}
 use Rattle.block_scanner.specs.WordsView.{WordsView}

@@ -1,4 +1,4 @@
--- Coordination and messages.
+-- Meaning. Coordination and messages.
 use Rattle.std.specs.Prelude.{ℕ, zero, suc, ◌+◌, ◌-◌, ◌==◌, ◌||◌, Bool, true, false, List, [], ◌∷◌, length, Option, Some, None, Result, Ok, Err, reverse, position, if◌then◌else◌, codes}
 use Rattle.std.specs.Str.{bytes_eq}
 use Rattle.block_scanner.specs.declared.Token.{Token}

@@ -1,4 +1,4 @@
--- Frames.
+-- Meaning. Frames.
 use Rattle.std.specs.Prelude.{ℕ, ◌+◌, ◌==◌, ◌||◌, not, Bool, false, List, [], Option, Some, None, Result, Ok, Err, if◌then◌else◌, codes}
 use Rattle.std.specs.List.{list_any}
 use Rattle.block_scanner.specs.WordsView.{WordsView}

@@ -1,4 +1,4 @@
--- Jumps, IF and CASE.
+-- Meaning. Jumps, IF and CASE.
 use Rattle.std.specs.Prelude.{ℕ, ℤ, ◌+◌, ◌==◌, Bool, true, false, List, Option, Some, None, Result, Ok, Err, if◌then◌else◌, codes}
 use Rattle.block_scanner.specs.WordsView.{WordsView}
 use Rattle.nc_expressions.specs.Symbols.{is_word}

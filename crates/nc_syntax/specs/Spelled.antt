@@ -1,4 +1,4 @@
--- Which block a line spells: what stands in it, form by form.
+-- Law. Which block a line spells: what stands in it, form by form.
 use Rattle.std.specs.Prelude.{◌≡◌, ℕ, ℤ, pos, ◌+◌, ◌*◌, ◌<◌, ◌≤◌, ◌==◌, ◌⊎◌, Bool, true, false, IsTrue, IsFalse, List, [], ◌∷◌, map, length, Option, Some, None, codes}
 use Rattle.std.specs.List.{IsDistinct}
 use Rattle.block_scanner.specs.WordsView.{WordsView}

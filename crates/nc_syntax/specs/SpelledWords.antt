@@ -1,4 +1,4 @@
--- How the words of a word block are spelled.
+-- Law. How the words of a word block are spelled.
 use Rattle.std.specs.Prelude.{◌≡◌, ℕ, ℤ, ◌+◌, ◌||◌, ◌⊎◌, IsTrue, IsFalse, List, [], ◌∷◌, Option, Some, None, codes}
 use Rattle.block_scanner.specs.WordsView.{WordsView}
 use Rattle.word_tables.specs.GroupWords.{word_by_number, word_by_name}

@@ -1,4 +1,4 @@
--- What stands in a line, from one place up to another: expressions, numbers, names and lists.
+-- Law. What stands in a line, from one place up to another: expressions, numbers, names and lists.
 use Rattle.std.specs.Prelude.{◌≡◌, ℕ, ℤ, neg_ℤ, ◌+◌, ◌≤◌, ◌⊎◌, IsTrue, List, [], ◌∷◌, length, slice_range, Some}
 use Rattle.block_scanner.specs.WordsView.{WordsView}
 use Rattle.nc_expressions.specs.Symbols.{symbols_of, is_digits, index_of}

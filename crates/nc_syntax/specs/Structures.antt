@@ -1,4 +1,4 @@
--- Loops, repetitions, calls and what stands alone.
+-- Meaning. Loops, repetitions, calls and what stands alone.
 use Rattle.std.specs.Prelude.{ℕ, ℤ, pos, negsuc, ◌+◌, ◌/◌, ◌%◌, ◌==◌, ◌&&◌, nat_le, Bool, true, false, List, ◌∷◌, length, Option, Some, None, Result, Ok, Err, if◌then◌else◌, codes}
 use Rattle.std.specs.List.{list_any}
 use Rattle.block_scanner.specs.declared.Kind.{Kind}

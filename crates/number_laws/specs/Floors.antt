@@ -1,4 +1,4 @@
--- Fractions rounded down and up to whole numbers. The number under a fraction is a natural number above 0.
+-- Meaning. Fractions rounded down and up to whole numbers. The number under a fraction is a natural number above 0.
 use Rattle.std.specs.Prelude.{ℕ, ℤ, pos, negsuc, neg_ℤ, ◌/◌}
 
 -- the greatest whole number that is at most num / under

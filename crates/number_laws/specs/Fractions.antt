@@ -1,4 +1,4 @@
--- Fractions compared by cross-multiplication. The number under a fraction is above 0.
+-- Meaning. Fractions compared by cross-multiplication. The number under a fraction is above 0.
 use Rattle.std.specs.Prelude.{◌≡◌, ℕ, ℤ, pos, ◌*ℤ◌, ◌≤ℤ◌}
 
 -- top / under

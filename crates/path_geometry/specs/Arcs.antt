@@ -1,4 +1,4 @@
--- Arcs by their centre and by their radius: the motion that each gives, or its alarm.
+-- Meaning. Arcs by their centre and by their radius: the motion that each gives, or its alarm.
 use Rattle.std.specs.Prelude.{ℕ, ℤ, pos, negsuc, neg_ℤ, ◌+◌, ◌-◌, ◌*◌, ◌/◌, ◌==◌, nat_lt, nat_le, min, max, ◌+ℤ◌, ◌-ℤ◌, Bool, true, false, not, ◌&&◌, ◌||◌, if◌then◌else◌, unsigned_abs, Option, Some, None, Result, Ok, Err}
 use Rattle.micro_units.specs.Root.{floor_root, ceil_root}
 use Rattle.number_laws.specs.Floors.{floor_div}

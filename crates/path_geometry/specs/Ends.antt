@@ -1,4 +1,4 @@
--- What a contract sees of the ends of a motion.
+-- Meaning. What a contract sees of the ends of a motion.
 use Rattle.std.specs.Prelude.{ℕ, ℤ, pos, ◌==◌, List, find}
 use Rattle.std.specs.Option.{option_map_or}
 use Rattle.micro_units.specs.declared.Um.{Um}

@@ -1,4 +1,4 @@
--- The axes of a motion, and when a motion is sound.
+-- Meaning. The axes of a motion, and when a motion is sound.
 use Rattle.std.specs.Prelude.{◌≡◌, ◌≢◌, ℕ, ℤ, ◌≤◌, Bool, IsTrue, ◌==◌, ◌⊎◌, List, Ok}
 use Rattle.std.specs.Int.RustNames.{unsigned_abs}
 use Rattle.std.specs.List.{All, AllPairs, list_any}

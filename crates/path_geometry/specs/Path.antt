@@ -1,4 +1,4 @@
--- The path of a motion, as a set of points with fractional coordinates.
+-- Meaning. The path of a motion, as a set of points with fractional coordinates.
 use Rattle.std.specs.Prelude.{◌≡◌, ◌≢◌, ℕ, ℤ, pos, ◌<◌, ◌≤◌, ◌*◌, ◌+ℤ◌, ◌-ℤ◌, ◌*ℤ◌, ◌<ℤ◌, ◌≤ℤ◌, ◌⊎◌, false}
 use Rattle.std.specs.Int.{int_max, int_min}
 use Rattle.std.specs.List.{All}

@@ -1,4 +1,4 @@
--- What is true of every sound arc: it runs in a ring.
+-- Law. What is true of every sound arc: it runs in a ring.
 use Rattle.std.specs.Prelude.{◌≡◌, ◌<◌, ◌≤◌, ◌*◌, true, unsigned_abs}
 use Rattle.path_geometry.specs.Arcs.{start_seen, end_seen}
 use Rattle.path_geometry.specs.Vectors.{Vector, square}

@@ -1,4 +1,4 @@
--- Vectors of the plane with whole parts.
+-- Meaning. Vectors of the plane with whole parts.
 use Rattle.std.specs.Prelude.{ℕ, ℤ, ◌+◌, ◌*◌, ◌+ℤ◌, ◌-ℤ◌, ◌*ℤ◌, pos, Bool, ◌&&◌, int_lt, unsigned_abs}
 use Rattle.std.specs.Ordering.{int_eq}
 

@@ -1,4 +1,4 @@
--- When two boxes meet.
+-- Meaning. When two boxes meet.
 use Rattle.std.specs.Prelude.{ℕ, ℤ, pos, ◌<◌, ◌*ℤ◌, ◌≤ℤ◌}
 use Rattle.std.specs.Int.{int_max, int_min}
 use Rattle.std.specs.List.{slice_index_or}

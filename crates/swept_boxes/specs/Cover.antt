@@ -1,4 +1,4 @@
--- The cover of a motion: the smallest ranges that hold its pieces at depth 0.
+-- Meaning. The cover of a motion: the smallest ranges that hold its pieces at depth 0.
 use Rattle.std.specs.Prelude.{List, map}
 use Rattle.std.specs.List.{All}
 use Rattle.arc_quadrants.specs.Quarters.{quarters_of}

@@ -1,4 +1,4 @@
--- The pieces of a motion at a depth.
+-- Meaning. The pieces of a motion at a depth.
 use Rattle.std.specs.Prelude.{ℕ, ℤ, ◌+◌, ◌^◌, ◌+ℤ◌, ◌==◌, if◌then◌else◌, List, [], ◌∷◌, map}
 use Rattle.std.specs.Int.{int_max, int_min}
 use Rattle.std.specs.List.{range_with_len, flat_map}

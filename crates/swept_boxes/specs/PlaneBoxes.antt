@@ -1,4 +1,4 @@
--- Boxes in the plane of an arc, seen from its centre.
+-- Meaning. Boxes in the plane of an arc, seen from its centre.
 use Rattle.std.specs.Prelude.{ℕ, zero, suc, ℤ, pos, neg_ℤ, List, [], ◌∷◌, fold}
 use Rattle.std.specs.Int.{int_max, int_min}
 use Rattle.arc_quadrants.specs.Bounds.{Bounds}

@@ -1,4 +1,4 @@
--- What a contract sees of ranges, and what they hold.
+-- Meaning. What a contract sees of ranges, and what they hold.
 use Rattle.std.specs.Prelude.{◌≡◌, List, ◌≤ℤ◌}
 use Rattle.std.specs.List.{All, AllZip}
 use Rattle.micro_units.specs.declared.Um.{Um}

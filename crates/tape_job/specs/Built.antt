@@ -1,4 +1,4 @@
--- The blocks that are built.
+-- Meaning. The blocks that are built.
 use Rattle.std.specs.Prelude.{Bool, true, false}
 use Rattle.nc_blocks.specs.Statement.{Statement, Coord}
 

@@ -1,4 +1,4 @@
--- What lines of a job list tell together, and the job that this is.
+-- Meaning. What lines of a job list tell together, and the job that this is.
 use Rattle.std.specs.Prelude.{ℕ, ℤ, pos, Bool, false, List, [], Option, None, unwrap_or}
 use Rattle.tape_job.specs.declared.job.ChannelLine.{ChannelLine}
 use Rattle.tape_job.specs.declared.job.AxisLine.{AxisLine}

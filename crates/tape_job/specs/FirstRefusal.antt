@@ -1,4 +1,4 @@
--- What it means that lines are accepted, or refused at the first line that breaks a rule.
+-- Law. What it means that lines are accepted, or refused at the first line that breaks a rule.
 use Rattle.std.specs.Prelude.{◌≡◌, ◌⊎◌, List, ◌∷◌, ◌++◌, Result, Ok, Err, None, Some}
 use Rattle.nc_faults.specs.declared.Refusal.{Refusal}
 use Rattle.tape_job.specs.Draft.{job_of}

@@ -1,4 +1,4 @@
--- What a contract sees of a job and of a program.
+-- Meaning. What a contract sees of a job and of a program.
 use Rattle.std.specs.Prelude.{ℕ, ℤ, Bool, List}
 use Rattle.nc_blocks.specs.declared.blocks.Block.{Block}
 use Rattle.nc_blocks.specs.Statement.{BlockView, view_of}

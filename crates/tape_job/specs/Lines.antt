@@ -1,4 +1,4 @@
--- The lines of an input, and what stands in a line.
+-- Meaning. The lines of an input, and what stands in a line.
 use Rattle.std.specs.Prelude.{ℕ, ◌-◌, Bool, not, List, [], ◌∷◌, if◌then◌else◌, ◌==◌, slice_index, take, length, filter, position, Option, Some, None}
 use Rattle.std.specs.List.{list_any, slice_split, onto_first, enumerate_from}
 use Rattle.std.specs.Str.Lines.{strip_carriage_return}

@@ -1,4 +1,4 @@
--- The job that an input is, or its first refusal: lines are tried one after the other, and each rule as soon as what was read shows that it is broken.
+-- Meaning. The job that an input is, or its first refusal: lines are tried one after the other, and each rule as soon as what was read shows that it is broken.
 use Rattle.std.specs.Prelude.{◌≡◌, if◌then◌else◌, ℕ, List, [], ◌∷◌, ◌++◌, Result, Ok, Err, Option, Some, None}
 use Rattle.std.specs.Option.{option_map, option_or}
 use Rattle.job_lines.specs.Code.{shown}

@@ -1,4 +1,4 @@
--- What holds of every accepted job.
+-- Law. What holds of every accepted job.
 use Rattle.std.specs.Prelude.{◌≡◌, ◌≢◌, ◌⊎◌, ℕ, ◌<◌, ◌≤◌, ℤ, pos, ◌≤ℤ◌, unsigned_abs, true, length, slice_get, Option, Some, None, IfSome, IsSomeAnd}
 use Rattle.std.specs.List.{All, Any, AllPairs}
 use Rattle.std.specs.Option.{option_and_then}

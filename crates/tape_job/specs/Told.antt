@@ -1,4 +1,4 @@
--- What lines tell together.
+-- Meaning. What lines tell together.
 use Rattle.std.specs.Prelude.{ℕ, ℤ, Bool, true, false, ◌||◌, List, [], ◌∷◌, ◌++◌, Result, Ok, Option, Some, None}
 use Rattle.std.specs.List.{list_any, cons_option}
 use Rattle.std.specs.Option.{option_map}

@@ -1,4 +1,4 @@
--- How the logic stores the tree of an expression, by which it tells two jobs apart: its marks in postfix order. No contract says more by this.
+-- Steps. How the logic stores the tree of an expression, by which it tells two jobs apart: its marks in postfix order. No contract says more by this.
 use Rattle.std.specs.Prelude.{◌≡◌, ◌⊎◌, ℕ, ℤ, pos, List, [], ◌∷◌, Option, Some, None}
 use Rattle.std.specs.Coded.{Coded, code_by, coded_ℕ, coded_ℤ, coded_list, coded_option, coded⊎}
 use Rattle.std.proofs.Common.{inl, inr, refl, ◌∙◌}

@@ -1,4 +1,4 @@
--- The words that the program is called with.
+-- Meaning. The words that the program is called with.
 use Rattle.std.specs.Prelude.{◌≡◌, ◌≢◌, ℕ, Bool, false, List, map, drop, string_bytes, Result, Ok, Err, IsErrAnd}
 use Rattle.std.specs.Global.{Global, Vec}
 use Rattle.std.specs.IoError.{error_kind}

@@ -1,4 +1,4 @@
--- The words of a call, and the input that is read from its source.
+-- Meaning. The words of a call, and the input that is read from its source.
 use Rattle.std.specs.Prelude.{◌≡◌, ℕ, ◌<◌, ◌≤◌, Bool, false, List, [], ◌∷◌, length, drop, codes, Option, None, Some, Result, Ok, Err, ⊤}
 use Rattle.std.specs.Global.{Vec}
 use Rattle.std.specs.Str.{bytes_eq}

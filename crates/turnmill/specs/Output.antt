@@ -1,4 +1,4 @@
--- What an input calls for: how the call ends, and the bytes that it writes.
+-- Meaning. What an input calls for: how the call ends, and the bytes that it writes.
 use Rattle.std.specs.Prelude.{◌≡◌, ℕ, nat_le, if◌then◌else◌, List, [], length, Option, Result, Ok, Err, ⊤}
 use Rattle.edge_io.specs.Moves.{Grows}
 use Rattle.nc_faults.specs.declared.Refusal.{Refusal}

@@ -1,4 +1,4 @@
--- The words of the table of groups, by how they are written.
+-- Meaning. The words of the table of groups, by how they are written.
 use Rattle.std.specs.Prelude.{ℕ, ◌+◌, ◌/◌, ◌%◌, ◌==◌, ◌&&◌, nat_lt, ℤ, pos, negsuc, Bool, false, if◌then◌else◌, List, [], ◌∷◌, Option, Some, None}
 use Rattle.std.specs.Option.{option_or}
 use Rattle.g_groups.specs.declared.GWord.{GWord}

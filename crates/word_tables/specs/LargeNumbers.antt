@@ -1,4 +1,4 @@
--- Numbers of a line that are out of range.
+-- Meaning. Numbers of a line that are out of range.
 use Rattle.std.specs.Prelude.{ℕ, ◌^◌, ℤ, Bool, false, not, nat_lt, List, Option, Some, None}
 use Rattle.std.specs.List.{list_any}
 use Rattle.std.specs.Int.RustNames.{unsigned_abs}

@@ -1,4 +1,4 @@
--- The refused words of a line: names, the sign $ and numbers behind G, each with its code.
+-- Meaning. The refused words of a line: names, the sign $ and numbers behind G, each with its code.
 use Rattle.std.specs.Prelude.{◌≡◌, ℕ, ◌<◌, ◌==◌, ◌||◌, ◌&&◌, not, ℤ, Bool, if◌then◌else◌, List, [], ◌∷◌, length, drop, Option, Some, None, is_some}
 use Rattle.std.specs.Option.{option_or}
 use Rattle.block_scanner.specs.declared.Kind.{Kind}

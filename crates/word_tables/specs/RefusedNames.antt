@@ -1,4 +1,4 @@
--- The names that are refused, each with its code.
+-- Meaning. The names that are refused, each with its code.
 use Rattle.std.specs.Prelude.{ℕ, ◌||◌, if◌then◌else◌, List, [], ◌∷◌, Option, Some, None, codes}
 use Rattle.word_tables.specs.Spelling.{is_word, is_one_of, is_cycle}
 

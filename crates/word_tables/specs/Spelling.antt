@@ -1,4 +1,4 @@
--- Words as they are written.
+-- Meaning. Words as they are written.
 use Rattle.std.specs.Prelude.{ℕ, Bool, List, take, codes}
 use Rattle.std.specs.List.{list_any}
 use Rattle.std.specs.Str.{str_eq_ignore_ascii_case}

@@ -1,4 +1,4 @@
--- The names that stand in some table.
+-- Meaning. The names that stand in some table.
 use Rattle.std.specs.Prelude.{ℕ, Bool, ◌||◌, List, [], ◌∷◌, is_some, codes}
 use Rattle.word_tables.specs.Spelling.{is_one_of}
 use Rattle.word_tables.specs.GroupWords.{word_by_name}
