@@ -31,7 +31,6 @@ use Rattle.nc_syntax.proofs.WordsRead.{Behind, false_of, first_false, last_false
 use Rattle.nc_syntax.proofs.WordBlocks.{word_starts, behind_list, at_line_end}
 use Rattle.nc_syntax.proofs.StructureLaws.{letter_piece}
 use Rattle.nc_syntax.proofs.FrameLaws.{axis_letter}
-use Rattle.nc_syntax.proofs.BlockRefusals.{refusals_listed}
 use Rattle.nc_syntax.proofs.BodyLaws.{body_found, body_only}
 
 colon_piece : (p : Piece) → is_colon p ≡ true → p ≡ piece.Colon
@@ -381,5 +380,3 @@ statement_only words compensation r h b a s =
     let read : statement_of words compensation ≡ Ok b = rw (a.0, a.1) (block_only words b s) in
     let P = λ (x : Result BlockView ℕ). Gives view_of x r in
     subst P read h
-
-pub ruleset answers = (statement_found, statement_only, refusals_listed)

@@ -1,6 +1,6 @@
 -- The first names of forms.
 use Rattle.std.proofs.Common.{◌≡◌, ℕ, ◌+◌, List, refl, ap, sym, ◌∙◌, subst, inl, inr, Option, Some, None, Bool, true, false, cond}
-use Rattle.std.specs.Prelude.{◌||◌, is_some, codes}
+use Rattle.std.specs.Prelude.{is_some, codes}
 use Rattle.std.specs.Option.{option_or}
 use Rattle.std.specs.Str.{str_to_ascii_lowercase}
 use Rattle.block_scanner.specs.WordsView.{WordsView}

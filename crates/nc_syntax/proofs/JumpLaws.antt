@@ -225,7 +225,7 @@ jump_of_cases : (words : WordsView) (at end : ℕ) (j : JumpTo) (o : Option Way)
 jump_of_cases words at end j (Some way) e h = jump_found words at end way j (way_at_found words at way e) h
 jump_of_cases words at end j None e h = cc
 
-named_jump_found : (words : WordsView) (at end : ℕ) (j : JumpTo) → named_jump words at ≡ Ok (j, end) → IsJump words at end j
+pub named_jump_found : (words : WordsView) (at end : ℕ) (j : JumpTo) → named_jump words at ≡ Ok (j, end) → IsJump words at end j
 unfolding named_jump
 named_jump_found words at end j h = jump_of_cases words at end j (way_at words at) refl h
 

@@ -1,6 +1,6 @@
 -- Messages: what is read is spelled so, and what is spelled so is read.
 use Rattle.std.proofs.Common.{◌≡◌, ℕ, zero, suc, ◌+◌, ◌-◌, ◌<◌, ◌≤◌, List, [], ◌∷◌, length, get_or, refl, ap, sym, ◌∙◌, subst, inl, inr, Option, Some, None, Ok, Err, Bool, true, false, cond, arith}
-use Rattle.std.specs.Prelude.{◌⊎◌, ◌||◌, ◌&&◌, nat_lt, slice_get, reverse, position, codes}
+use Rattle.std.specs.Prelude.{◌⊎◌, ◌&&◌, nat_lt, slice_get, reverse, position, codes}
 use Rattle.std.proofs.lemmas.Bool.{cases_lt, lt-ltb}
 use Rattle.std.proofs.lemmas.List.{get_or-reverse, length-reverse}
 use Rattle.std.proofs.lemmas.List.Quantifiers.{position-Some}
@@ -140,7 +140,7 @@ close_sign line last t h =
     let u : Token = record { kind = kind.Sign sign.CloseParenthesis; start = t.start; end = t.end } in
     rw h (ap (λ (s : Symbol). piece_of u s) (no_exponent_close (touches_number last u)))
 
-close_stands : (words : WordsView) (i : ℕ) (t : Token) → slice_get words.tokens i ≡ Some t → is_close_kind t.kind ≡ true → piece_at words i ≡ piece.Close
+pub close_stands : (words : WordsView) (i : ℕ) (t : Token) → slice_get words.tokens i ≡ Some t → is_close_kind t.kind ≡ true → piece_at words i ≡ piece.Close
 unfolding piece_at symbols_of
 close_stands words i t e h =
     let s = symbol_there words.line None words.tokens i t e in
@@ -184,7 +184,7 @@ kind_closes kind.Number from to s h = number_no_close s h
 kind_closes kind.Text from to s h = cc
 kind_closes (kind.Sign g) from to s h = sign_closes g h
 
-piece_closes : (t : Token) (s : Symbol) → piece_of t s ≡ piece.Close → is_close_kind t.kind ≡ true
+pub piece_closes : (t : Token) (s : Symbol) → piece_of t s ≡ piece.Close → is_close_kind t.kind ≡ true
 unfolding piece_of
 piece_closes t symbol.Exponent h = cc
 piece_closes t s h = kind_closes t.kind t.start t.end s h
@@ -194,7 +194,7 @@ token_closes None p h = cc
 token_closes (Some t) None h = cc
 token_closes (Some t) (Some s) h = (t, refl, piece_closes t s h)
 
-close_token : (words : WordsView) (i : ℕ) → piece_at words i ≡ piece.Close → (t : Token) × (slice_get words.tokens i ≡ Some t) × (is_close_kind t.kind ≡ true)
+pub close_token : (words : WordsView) (i : ℕ) → piece_at words i ≡ piece.Close → (t : Token) × (slice_get words.tokens i ≡ Some t) × (is_close_kind t.kind ≡ true)
 unfolding piece_at
 close_token words i h = token_closes (slice_get words.tokens i) (slice_get (symbols_of words) i) h
 

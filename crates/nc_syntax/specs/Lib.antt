@@ -7,3 +7,6 @@ pub mod Blocks
 pub mod Standing
 pub mod SpelledWords
 pub mod Spelled
+pub mod Places
+pub mod Wanted
+pub mod Forms

@@ -4,6 +4,7 @@ ghost use Rattle.std.specs.Prelude.{◌≡◌, ◌<◌, ◌≤◌, ◌+◌, leng
 ghost use Rattle.std.specs.Bool.{OnTrue};
 ghost use Rattle.block_scanner.specs.Scanned.{IsScanned};
 ghost use Rattle.nc_syntax.specs.Spelled.{Spells, IsAccepted};
+ghost use Rattle.nc_syntax.specs.Places.{BreaksOff};
 ghost use Rattle.nc_syntax.specs.Blocks.{skip_of, has_number, number_at, label_at, head_of, block_of, statement_of};
 ghost use Rattle.nc_blocks.specs.Indices.{StatementFits};
 ghost use Rattle.nc_blocks.specs.Reading.{Gives};
@@ -142,13 +143,16 @@ fn statement_exactly(
 /// the first broken rule: the leftmost refused word; else 21 where a number is out of range; else
 /// what is wrong with the form, at the leftmost place at which the line goes on to no form.
 /// `NoMemory` says nothing of the line.
-#[tactic(auto, using(crate::proofs::BlockLaws::answers))]
+#[tactic(auto, using(crate::proofs::BreaksOff::answers))]
 pub fn statement(alloc: Global, words: &Words<'_>, compensation: bool) -> Result<Block, SyntaxFault>
     requires { IsScanned words.now }
 
     // What is read is spelled so, and what is spelled so is read: one block at most.
     ensures found { IfOk result (λ b. Spells words.now (view_of b)) }
     ensures only { (b : BlockView) → IsAccepted words.now compensation → Spells words.now b → Gives view_of (Ok b) result }
+
+    // A refusal of its form has the code of the leftmost place at which no block goes on.
+    ensures breaks_off { IfErr result (BreaksOff words.now compensation) }
 
     ensures exact { Gives view_of (statement_of words.now compensation) result }
     ensures listed { IfErr result IsListed }
