@@ -121,11 +121,12 @@ fn writes_a_writer(rt: HostRuntime) {
 // An error is a fault at once, also where another try would do.
 #[test]
 fn tries_nothing_again(rt: HostRuntime) {
+    let mut stream = InterruptedOnce { is_over: false };
+    assert!(rt; stream.call().is_err());
+    assert!(rt; stream.call().is_ok());
     let mut buffer = [0; 4];
     let mut source = StdSource::new(InterruptedOnce { is_over: false });
     assert!(rt; source.read(&mut buffer) == Err(Failed));
-    assert!(rt; source.read(&mut buffer) == Ok(1));
     let mut sink = StdSink::new(InterruptedOnce { is_over: false });
     assert!(rt; sink.write(b"ab") == Err(Failed));
-    assert!(rt; sink.write(b"ab") == Ok(1));
 }
