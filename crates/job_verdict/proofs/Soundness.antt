@@ -6,10 +6,10 @@ use Rattle.std.specs.Prelude.{Result, Ok, Err, IfOk}
 use Rattle.std.specs.List.{list_any}
 use Rattle.number_laws.specs.Fractions.{Fraction, IsIn, whole}
 use Rattle.swept_boxes.specs.Boxes.{SpacePoint, IsInBox}
-use Rattle.tape_job.specs.Job.{JobView}
-use Rattle.tape_job.specs.declared.job.ChannelLine.{ChannelLine}
-use Rattle.tape_job.specs.declared.job.Side.{Side}
-use Rattle.tape_job.specs.declared.job.ZoneLine.{ZoneLine}
+use Rattle.job_types.specs.Job.{JobView}
+use Rattle.job_types.specs.declared.job.ChannelLine.{ChannelLine}
+use Rattle.job_types.specs.declared.job.Side.{Side}
+use Rattle.job_types.specs.declared.job.ZoneLine.{ZoneLine}
 use Rattle.job_verdict.proofs.CoverLemmas.{Covers, box_covers, standing_covers}
 use Rattle.job_verdict.proofs.OwnerLemmas.{one_owner}
 use Rattle.job_verdict.proofs.PairLemmas.{is_in_order, some_zone_pair, IsCurrent, IsCut-own_clock, HasBox, some_box_pair, pair_is}
@@ -19,17 +19,19 @@ use Rattle.job_verdict.proofs.SomeLemmas.{SomeOf, SomeOf-weaker, SomeOf-flat_map
 use Rattle.job_verdict.proofs.StateLemmas.{WellPlaced, well_placed, WellPlaced-opening, run_place, end_place, first_span_of, later_span_of, board_last, one_under}
 use Rattle.job_verdict.proofs.VerdictLemmas.{none_meets}
 use Rattle.job_verdict.proofs.ZoneLemmas.{FractionsWithin, in_zone_box}
-use Rattle.job_verdict.specs.Channels.{start_position, items_of}
-use Rattle.job_verdict.specs.Clash.{own_clock, zones_in_order, zone_pairs, pairs_of_zones, compared_pairs, depth_of, pair_meets, verdict_of}
+use Rattle.job_verdict.specs.Channels.{items_of}
+use Rattle.job_verdict.specs.Clash.{own_clock, zone_pairs, pairs_of_zones, compared_pairs, depth_of, pair_meets, verdict_of}
 use Rattle.job_verdict.specs.Safety.{axis_owner, axis_position, fraction_of, IsInZone, ZonesMeet, NoneMeet, SafeAlways}
 use Rattle.axis_moves.specs.Motions.{left_at}
 use Rattle.path_geometry.specs.Path.{Point}
 use Rattle.job_verdict.specs.SmallSteps.{StandsAt, IsAtPlace, Spot, State, opening, span_of, has_ended, motions_of, board_position, beginning, present, reached}
-use Rattle.tape_job.specs.SoundJob.{IsDeclared, first_owner, IsCarriedBy, IsSoundZone, IsSoundJob}
+use Rattle.job_types.specs.SoundJob.{IsDeclared, IsCarriedBy, IsSoundZone, IsSoundJob}
 use Rattle.job_verdict.specs.Stretches.{Stretch, channel_line, spans_of, stretches_from, free_stretch, stretches_of}
-use Rattle.job_verdict.specs.ZoneBoxes.{is_carrier, has_axis, PlaceBox, boxes_of, piece_boxes}
+use Rattle.job_verdict.specs.ZoneBoxes.{PlaceBox, boxes_of, piece_boxes}
 use Rattle.sync_types.specs.declared.Item.{Item}
 use Rattle.job_verdict.specs.declared.stretches.Verdict.TheVariants.{Yes}
+use Rattle.job_types.specs.Zones.{zones_in_order, is_carrier, has_axis}
+use Rattle.job_types.specs.Axes.{start_position, first_owner}
 
 -- ---- channels of the job
 

@@ -10,7 +10,7 @@ use crate::stretches::{PlaceName, Stretch, StretchKind, Verdict};
 use crate::zone_boxes::ZoneBox;
 use axis_sets::ChannelId;
 use std::marker::Model;
-use tape_job::ZoneLine;
+use job_types::ZoneLine;
 
 /// A zone with its stretches.
 #[derive(Debug, Drop)]

@@ -13,7 +13,7 @@ use arrayvec::ArrayVec;
 use micro_units::Um;
 use swept_boxes::{Box3, Ranges, pieces_of};
 use sync_types::Item;
-use tape_job::{Side, ZoneLine};
+use job_types::{Side, ZoneLine};
 
 /// How boxes are compared: by how much each is grown, and how often motions are cut.
 #[derive(Clone, Copy, Debug, PartialEq, Eq)]

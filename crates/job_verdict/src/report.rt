@@ -13,7 +13,7 @@ use nc_faults::{Alarm, Refusal, alarm_text, refusal_text};
 use path_geometry::{Arc, Ends, Motion};
 use std::alloc::{AllocError, Global};
 use sync_types::{ChannelEnd, Item};
-use tape_job::Job;
+use job_types::Job;
 
 /// Writes so many micrometres as millimetres with three decimals.
 #[tactic(auto, unfolding(crate::specs::Report::millimetres_text))]
@@ -39,9 +39,9 @@ fn push_position(out: &mut String, at: Um) -> Result<(), AllocError>
 }
 
 /// Writes the name of an axis.
-#[tactic(auto, unfolding(crate::specs::Report::axis_name))]
+#[tactic(auto, unfolding(crate::specs::Report::axis_text, job_types::specs::Axes::axis_name))]
 fn push_axis_name(out: &mut String, job: &Job, axis: AxisId) -> Result<(), AllocError>
-    ensures { OnOk result (string_bytes out.new ≡ string_bytes out.old ++ model.axis_name job.now axis) }
+    ensures { OnOk result (string_bytes out.new ≡ string_bytes out.old ++ model.axis_text job.now axis) }
 {
     let Some(line) = job.axes.get(usize::from(axis.index)) else {
         return Ok(());

@@ -6,15 +6,15 @@ use Rattle.nc_blocks.specs.Indices.{StatementFits}
 use Rattle.nc_faults.specs.declared.Refusal.{Refusal}
 use Rattle.tape_job.specs.declared.fault.JobFault.{JobFault}
 use Rattle.tape_job.specs.declared.fault.JobFault.TheVariants.{Refused, NoMemory}
-use Rattle.tape_job.specs.declared.job.Job.{Job}
+use Rattle.job_types.specs.declared.job.Job.{Job}
 use Rattle.nc_blocks.specs.Statement.{BlockView}
 use Rattle.tape_job.specs.Draft.{DraftView, job_of}
-use Rattle.tape_job.specs.Job.{JobView, ProgramView}
+use Rattle.job_types.specs.Job.{JobView, ProgramView}
 use Rattle.tape_job.specs.Lines.{Line}
 use Rattle.tape_job.specs.Read.{answer, GivesRead}
-use Rattle.tape_job.specs.Reading.{ReadingView, Blank, First, Entry, Header, Step, reading_of, ReadingFits}
+use Rattle.tape_job.specs.Reading.{ReadingView, Blank, First, DeclarationLine, Header, BlockLine, reading_of, ReadingFits}
 use Rattle.tape_job.specs.Rules.{last_count, count_in}
-use Rattle.tape_job.specs.SoundJob.{BlocksFit}
+use Rattle.job_types.specs.SoundJob.{BlocksFit}
 use Rattle.tape_job.specs.Steps.{with_block, with_line, tell}
 use Rattle.tape_job.specs.Told.{Told, told}
 use Rattle.tape_job.proofs.LibraryLemmas.{last_program_is}
@@ -24,9 +24,9 @@ reading_fits : (job : DraftView) (number : ℕ) (reading : ReadingView) → Bloc
 unfolding with_line
 reading_fits job number Blank all fits = all
 reading_fits job number First all fits = all
-reading_fits job number (Entry item) all fits = all
+reading_fits job number (DeclarationLine declaration) all fits = all
 reading_fits job number (Header name) all fits = header_told (λ block. StatementFits block.1.statement) job.programs number name all
-reading_fits job number (Step block) all fits = block_told (λ b. StatementFits b.1.statement) job.programs (number, block) all fits
+reading_fits job number (BlockLine block) all fits = block_told (λ b. StatementFits b.1.statement) job.programs (number, block) all fits
 
 pub line_fits : (told new : Told) (line : Line) (reading : ReadingView) → reading_of told.seen told.in_programs told.job.compensation line.1 ≡ Ok reading → ReadingFits reading
     → BlocksFit (job_of told.job) → new ≡ tell told line → BlocksFit (job_of new.job)
@@ -58,9 +58,9 @@ unfolding with_line
 reading_short job number (Err code) = omega arith
 reading_short job number (Ok Blank) = omega arith
 reading_short job number (Ok First) = omega arith
-reading_short job number (Ok (Entry item)) = omega arith
+reading_short job number (Ok (DeclarationLine declaration)) = omega arith
 reading_short job number (Ok (Header name)) = let none = none_yet job.programs name number in omega arith
-reading_short job number (Ok (Step block)) = one_more job.programs (number, block)
+reading_short job number (Ok (BlockLine block)) = one_more job.programs (number, block)
 
 pub line_short : (told new : Told) (line : Line) → new ≡ tell told line → last_count new.job.programs ≤ last_count told.job.programs + 1
 unfolding tell

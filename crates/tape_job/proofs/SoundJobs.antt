@@ -10,25 +10,25 @@ use Rattle.std.proofs.lemmas.List.Elements.{All-nil}
 use Rattle.std.proofs.lemmas.List.Quantifiers.{all_pairs_push}
 use Rattle.job_lines.specs.Code.{shown}
 use Rattle.job_lines.specs.declared.code.Code.TheVariants.{NameRepeated, TooMany, NotInLibrary}
-use Rattle.job_lines.specs.declared.item.Item.{Item}
-use Rattle.job_lines.specs.declared.item.Item.TheVariants.{Channel, Axis, Geo, Offset, Zone, Margin, Depth, Budget, Compensation, Skip}
-use Rattle.job_lines.specs.declared.item.NamedZone.{NamedZone}
+use Rattle.job_lines.specs.declared.declaration.Declaration.{Declaration}
+use Rattle.job_lines.specs.declared.declaration.Declaration.TheVariants.{Channel, Axis, Geo, Offset, Zone, Margin, Depth, Budget, Compensation, Skip}
+use Rattle.job_lines.specs.declared.declaration.NamedZone.{NamedZone}
 use Rattle.nc_blocks.specs.Statement.{BlockView}
 use Rattle.nc_faults.specs.declared.Refusal.{Refusal}
-use Rattle.tape_job.specs.declared.job.ChannelLine.{ChannelLine}
-use Rattle.tape_job.specs.declared.job.Side.{Side}
-use Rattle.tape_job.specs.Built.{is_built}
+use Rattle.job_types.specs.declared.job.ChannelLine.{ChannelLine}
+use Rattle.job_types.specs.declared.job.Side.{Side}
+use Rattle.job_types.specs.Built.{is_built}
 use Rattle.tape_job.specs.Draft.{DraftView, job_of}
-use Rattle.tape_job.specs.Job.{JobView, ProgramView}
+use Rattle.job_types.specs.Job.{JobView, ProgramView}
 use Rattle.tape_job.specs.Lines.{Line, has_token, begins_with_percent, raw_lines}
-use Rattle.tape_job.specs.Reading.{ReadingView, Blank, First, Entry, Header, Step, reading_of}
+use Rattle.tape_job.specs.Reading.{ReadingView, Blank, First, DeclarationLine, Header, BlockLine, reading_of}
 use Rattle.tape_job.specs.Rules as rule
 use Rattle.tape_job.specs.Told.{Told, told, accept_compensation, geo_line, zone_line}
 use Rattle.tape_job.specs.Read.{code_by, line_trial, end_of_program, trial, end_trial, answer, read_of}
 use Rattle.tape_job.specs.Steps.{with_entry, with_line, with_block, tell, unless_refused, run, finish}
-use Rattle.tape_job.specs.SoundJob.{IsSoundMargin, IsSoundJob}
+use Rattle.job_types.specs.SoundJob.{IsSoundMargin, IsSoundJob}
 use Rattle.tape_job.proofs.SoundLists.{unbroken, not_false, none_found}
-use Rattle.tape_job.proofs.SoundReadings.{IsSoundItem, IsSoundReading, reading_sound}
+use Rattle.tape_job.proofs.SoundReadings.{IsSoundDeclaration, IsSoundReading, reading_sound}
 use Rattle.tape_job.proofs.SoundJobLines.{ListFacts, HasRange, no_pairs, list_kept, nothing_listed, side_range, sound_range, axis_within, channel_told, axis_told, geo_told, offset_told, zone_told, options_told}
 use Rattle.tape_job.proofs.SoundPrograms.{InAll, NestedSoFar, nested_block, nested_header, all_nested, block_told, header_told, keys-with_block, length-with_block, keys-push, names_differ, program_found}
 use Rattle.tape_job.proofs.TellingLemmas.{read_of_is}
@@ -47,34 +47,34 @@ neither None b none = (refl, none)
 neither (Some a) b none = absurd cc
 
 -- a job line
-abbrev with_item : DraftView → ℕ → Item → DraftView
-with_item job number item = with_line job number (Ok (Entry item))
+abbrev with_declaration : DraftView → ℕ → Declaration → DraftView
+with_declaration job number declaration = with_line job number (Ok (DeclarationLine declaration))
 
-geo_item_told : (job : DraftView) (number channel slot : ℕ) (axis : Option ℕ) → ListFacts job → rule.slot_rule job channel slot axis ≡ None
+geo_declaration_told : (job : DraftView) (number channel slot : ℕ) (axis : Option ℕ) → ListFacts job → rule.slot_rule job channel slot axis ≡ None
     → IfSome axis (λ a. a < length job.axes) → ListFacts (record job { geo = with_entry job.geo (geo_line number channel slot axis) })
 unfolding rule.slot_rule
-geo_item_told job number channel slot None facts none within = absurd cc
-geo_item_told job number channel slot (Some axis) facts none within = geo_told job number channel slot axis facts none within
+geo_declaration_told job number channel slot None facts none within = absurd cc
+geo_declaration_told job number channel slot (Some axis) facts none within = geo_told job number channel slot axis facts none within
 
-zone_item_told : (job : DraftView) (number : ℕ) (zone : NamedZone) (a b c : Option Side) → ListFacts job → rule.zone_rule job zone.zone zone.holder a b c ≡ None
+zone_declaration_told : (job : DraftView) (number : ℕ) (zone : NamedZone) (a b c : Option Side) → ListFacts job → rule.zone_rule job zone.zone zone.holder a b c ≡ None
     → rule.unless_built (zone.on && not (rule.holds_another job zone.holder)) ≡ None
-    → IsSoundItem (Zone zone) → IfSome a (HasRange zone.x) → IfSome b (HasRange zone.y) → IfSome c (HasRange zone.z)
+    → IsSoundDeclaration (Zone zone) → IfSome a (HasRange zone.x) → IfSome b (HasRange zone.y) → IfSome c (HasRange zone.z)
     → ListFacts (record job { zones = with_entry job.zones (zone_line number zone a b c) })
 unfolding rule.zone_rule
-zone_item_told job number zone (Some a) (Some b) (Some c) facts none built sound is_x is_y is_z =
+zone_declaration_told job number zone (Some a) (Some b) (Some c) facts none built sound is_x is_y is_z =
     zone_told job number zone a b c facts none built sound.0 sound.1 (sound_range zone.x a is_x sound.2) (sound_range zone.y b is_y sound.3) (sound_range zone.z c is_z sound.4)
-zone_item_told job number zone a b c facts none built sound is_x is_y is_z = absurd cc
+zone_declaration_told job number zone a b c facts none built sound is_x is_y is_z = absurd cc
 
-declared_told : (job : DraftView) (number : ℕ) (item : Item) → ListFacts job → rule.declaration_rule job item ≡ None → rule.built_rule job item ≡ None → IsSoundItem item
-    → ListFacts (with_item job number item)
+declared_told : (job : DraftView) (number : ℕ) (declaration : Declaration) → ListFacts job → rule.declaration_rule job declaration ≡ None → rule.built_rule job declaration ≡ None → IsSoundDeclaration declaration
+    → ListFacts (with_declaration job number declaration)
 unfolding rule.declaration_rule rule.built_rule with_line
 declared_told job number (Channel channel program starts) facts none built sound = channel_told job number channel program starts facts none built sound
 declared_told job number (Axis name owner at) facts none built sound = axis_told job number name owner at facts none built sound
 declared_told job number (Geo channel slot axis) facts none built sound =
-    geo_item_told job number channel slot (rule.axis_of job.axes axis) facts none (axis_within job.axes axis)
+    geo_declaration_told job number channel slot (rule.axis_of job.axes axis) facts none (axis_within job.axes axis)
 declared_told job number (Offset channel g slot by) facts none built sound = offset_told job number channel g slot by facts none sound
 declared_told job number (Zone zone) facts none built sound =
-    zone_item_told job number zone (rule.side_of job.axes zone.x) (rule.side_of job.axes zone.y) (rule.side_of job.axes zone.z) facts none built sound
+    zone_declaration_told job number zone (rule.side_of job.axes zone.x) (rule.side_of job.axes zone.y) (rule.side_of job.axes zone.z) facts none built sound
     (side_range job.axes zone.x) (side_range job.axes zone.y) (side_range job.axes zone.z)
 declared_told job number (Margin margin) facts none built sound =
     options_told job (Some margin) job.depth job.budget job.compensation job.skip facts
@@ -88,22 +88,22 @@ declared_told job number (Budget budget) facts none built sound =
 declared_told job number Compensation facts none built sound = options_told job job.margin job.depth job.budget true job.skip facts facts.options
 declared_told job number Skip facts none built sound = options_told job job.margin job.depth job.budget job.compensation true facts facts.options
 
-item_told : (job : DraftView) (number : ℕ) (item : Item) → ListFacts job → rule.item_rule job item ≡ None → IsSoundItem item → ListFacts (with_item job number item)
-unfolding rule.item_rule
-item_told job number item facts none sound =
-    let both = neither (rule.declaration_rule job item) (rule.built_rule job item) none in
-    declared_told job number item facts both.0 both.1 sound
+declaration_told : (job : DraftView) (number : ℕ) (declaration : Declaration) → ListFacts job → rule.job_line_rule job declaration ≡ None → IsSoundDeclaration declaration → ListFacts (with_declaration job number declaration)
+unfolding rule.job_line_rule
+declaration_told job number declaration facts none sound =
+    let both = neither (rule.declaration_rule job declaration) (rule.built_rule job declaration) none in
+    declared_told job number declaration facts both.0 both.1 sound
 
 unmapped : {A B : Type 0} (f : A → B) (a : Option A) → option_map f a ≡ None → a ≡ None
 unmapped f None none = refl
 unmapped f (Some a) none = absurd cc
 
 -- a job line
-entry_told : (told : Told) (number : ℕ) (seen late : Bool) (item : Item) → Sound told → rule.item_rule told.job item ≡ None → IsSoundItem item
-    → Sound (record { seen = seen; in_programs = late; job = with_item told.job number item })
+entry_told : (told : Told) (number : ℕ) (seen late : Bool) (declaration : Declaration) → Sound told → rule.job_line_rule told.job declaration ≡ None → IsSoundDeclaration declaration
+    → Sound (record { seen = seen; in_programs = late; job = with_declaration told.job number declaration })
 unfolding with_line
-entry_told told number seen late item sound none fits = record {
-  list = item_told told.job number item sound.list none fits;
+entry_told told number seen late declaration sound none fits = record {
+  list = declaration_told told.job number declaration sound.list none fits;
   programs = sound.programs;
   names = sound.names;
   few = sound.few;
@@ -133,7 +133,7 @@ header_line_told told number seen late name sound none ended =
 
 -- a block
 block_line_told : (told : Told) (number : ℕ) (seen late : Bool) (block : BlockView) → Sound told → is_built block.statement ≡ true
-    → rule.structure_rule told.job.programs (number, block) ≡ None → Sound (record { seen = seen; in_programs = late; job = with_line told.job number (Ok (Step block)) })
+    → rule.structure_rule told.job.programs (number, block) ≡ None → Sound (record { seen = seen; in_programs = late; job = with_line told.job number (Ok (BlockLine block)) })
 unfolding with_line
 block_line_told told number seen late block sound built matches =
     let all : List (List ℕ × ProgramView) = with_block told.job.programs (number, block) in
@@ -154,11 +154,11 @@ line_told told number seen late percent (Ok Blank) sound none ended fits =
     record { list = sound.list; programs = sound.programs; names = sound.names; few = sound.few; nested = sound.nested }
 line_told told number seen late percent (Ok First) sound none ended fits =
     record { list = sound.list; programs = sound.programs; names = sound.names; few = sound.few; nested = sound.nested }
-line_told told number seen late percent (Ok (Entry item)) sound none ended fits =
-    entry_told told number seen late item sound (unmapped shown (rule.item_rule told.job item) none) fits
+line_told told number seen late percent (Ok (DeclarationLine declaration)) sound none ended fits =
+    entry_told told number seen late declaration sound (unmapped shown (rule.job_line_rule told.job declaration) none) fits
 line_told told number seen late percent (Ok (Header name)) sound none ended fits =
     header_line_told told number seen late name sound (unmapped shown (rule.header_rule told.job name) none) (ended fits)
-line_told told number seen late percent (Ok (Step block)) sound none ended fits = block_line_told told number seen late block sound fits none
+line_told told number seen late percent (Ok (BlockLine block)) sound none ended fits = block_line_told told number seen late block sound fits none
 
 none_open : (job : DraftView) → rule.unmatched job ≡ None → rule.left_open job.programs ≡ None
 unfolding rule.unmatched
@@ -281,3 +281,11 @@ pub accepted_sound : (input : List ℕ) (job : JobView) → read_of input ≡ Ok
 accepted_sound input job accepted =
     let lines : List Line = enumerate_from 1 (raw_lines input) in
     finished_sound (run (told []) lines) lines job refl (sym (read_of_is input) ∙ accepted)
+
+-- what an input is read as is a job in which all this holds, or no job
+pub read_sound : (input : List ℕ) → IfOk (read_of input) IsSoundJob
+read_sound input = by_answer (read_of input) refl
+  where
+    by_answer : (read : Result JobView Refusal) → read_of input ≡ read → IfOk (read_of input) IsSoundJob
+    by_answer (Ok job) e = rw e (accepted_sound input job e)
+    by_answer (Err refused) e = rw e tt

@@ -4,8 +4,8 @@ use Rattle.std.specs.List.{list_any, cons_option, enumerate_from}
 use Rattle.std.specs.Option.{option_or}
 use Rattle.nc_faults.specs.declared.Refusal.{Refusal}
 use Rattle.nc_blocks.specs.Statement.{BlockView}
-use Rattle.tape_job.specs.Reading.{ReadingView, Header, Step, words_of, step_of, tokens_reading, block_reading, entry_reading, with_shown, reading_of}
-use Rattle.tape_job.specs.Built.{is_built}
+use Rattle.tape_job.specs.Reading.{ReadingView, Header, BlockLine, words_of, block_line, tokens_reading, block_reading, entry_reading, with_shown, reading_of}
+use Rattle.job_types.specs.Built.{is_built}
 use Rattle.tape_job.specs.Draft.{job_of}
 use Rattle.nc_syntax.specs.Blocks.{statement_of}
 use Rattle.block_scanner.specs.Tokens.{tokens_of}
@@ -16,7 +16,7 @@ use Rattle.job_lines.specs.Code.{shown}
 use Rattle.job_lines.specs.declared.code.Code.TheVariants.{LineTooLong, NotBuilt}
 use Rattle.tape_job.specs.declared.fault.JobFault.{JobFault}
 use Rattle.tape_job.specs.declared.fault.JobFault.TheVariants.{Refused, NoMemory}
-use Rattle.tape_job.specs.Job.{JobView, ProgramView}
+use Rattle.job_types.specs.Job.{JobView, ProgramView}
 use Rattle.tape_job.specs.Lines.{Line, has_token, begins_with_percent, raw_lines, text_of, before_comment}
 use Rattle.tape_job.specs.Told.{Told, told, reading_under, reading_after, accept_compensation, says_compensation, says_skip, any_after, last_of, option_in, entries, axes_in, channel_from, axis_from, geo_from, offset_from, zone_from, margin_from, depth_from, budget_from, block_from, name_from, until_header, blocks_in, with_program, programs_in}
 use Rattle.tape_job.specs.Read.{trial, first_trial, end_trial, answer, read_of, GivesRead}
@@ -84,12 +84,12 @@ option_push give lines line =
     ∙ last_with_entry (entries (λ before (l : Line). give (reading_after before l.1)) [] lines) (give (reading_after lines line.1))
 
 -- no block accepts compensation, so that a line does so hangs on no line before it that does
-step_accepts_none : (built : Bool) (block : BlockView) → says_compensation (if built then Ok (Step block) else Err (shown NotBuilt)) ≡ false
+step_accepts_none : (built : Bool) (block : BlockView) → says_compensation (if built then Ok (BlockLine block) else Err (shown NotBuilt)) ≡ false
 step_accepts_none true block = refl
 step_accepts_none false block = refl
 
-block_accepts_none : (read : Result BlockView ℕ) → says_compensation (step_of read) ≡ false
-unfolding step_of
+block_accepts_none : (read : Result BlockView ℕ) → says_compensation (block_line read) ≡ false
+unfolding block_line
 block_accepts_none (Ok block) = step_accepts_none (is_built block.statement) block
 block_accepts_none (Err code) = refl
 
@@ -132,7 +132,7 @@ extended (program ∷ programs) number reading blocks = blocks
 
 one_block : (number : ℕ) (reading : Result ReadingView ℕ) → until_header (name_from reading) (block_from number reading) [] ≡ with_entry [] (block_from number reading)
 one_block number (Ok (Header name)) = refl
-one_block number (Ok (Step block)) = refl
+one_block number (Ok (BlockLine block)) = refl
 one_block number reading = refl
 
 cons_extended : (first : Option (ℕ × BlockView)) (programs : List (List ℕ × ProgramView)) (number : ℕ) (reading : Result ReadingView ℕ) (blocks : List (ℕ × BlockView))
@@ -161,17 +161,17 @@ grown programs number reading = with_header (with_block_of programs (block_from 
 
 one_program : (number : ℕ) (reading : Result ReadingView ℕ) → with_program (name_from reading) (record { line = number; blocks = [] }) [] ≡ grown [] number reading
 one_program number (Ok (Header name)) = refl
-one_program number (Ok (Step block)) = refl
+one_program number (Ok (BlockLine block)) = refl
 one_program number reading = refl
 
 grown_behind : (name : List ℕ) (header : ℕ) (blocks : List (ℕ × BlockView)) (programs : List (List ℕ × ProgramView)) (number : ℕ) (reading : Result ReadingView ℕ)
     → (name, record { line = header; blocks = extended programs number reading blocks }) ∷ grown programs number reading
     ≡ grown ((name, record { line = header; blocks = blocks }) ∷ programs) number reading
 grown_behind name header blocks [] number (Ok (Header other)) = refl
-grown_behind name header blocks [] number (Ok (Step block)) = refl
+grown_behind name header blocks [] number (Ok (BlockLine block)) = refl
 grown_behind name header blocks [] number reading = refl
 grown_behind name header blocks (program ∷ programs) number (Ok (Header other)) = refl
-grown_behind name header blocks (program ∷ programs) number (Ok (Step block)) = refl
+grown_behind name header blocks (program ∷ programs) number (Ok (BlockLine block)) = refl
 grown_behind name header blocks (program ∷ programs) number reading = refl
 
 program_behind : (name : Option (List ℕ)) (header : ℕ) (blocks : List (ℕ × BlockView)) (programs : List (List ℕ × ProgramView)) (number : ℕ) (reading : Result ReadingView ℕ)

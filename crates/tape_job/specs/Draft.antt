@@ -1,11 +1,11 @@
 -- Meaning. What lines of a job list tell together, and the job that this is.
 use Rattle.std.specs.Prelude.{ℕ, ℤ, pos, Bool, false, List, [], Option, None, unwrap_or}
-use Rattle.tape_job.specs.declared.job.ChannelLine.{ChannelLine}
-use Rattle.tape_job.specs.declared.job.AxisLine.{AxisLine}
-use Rattle.tape_job.specs.declared.job.GeoLine.{GeoLine}
-use Rattle.tape_job.specs.declared.job.OffsetLine.{OffsetLine}
-use Rattle.tape_job.specs.declared.job.ZoneLine.{ZoneLine}
-use Rattle.tape_job.specs.Job.{JobView, ProgramView}
+use Rattle.job_types.specs.declared.job.ChannelLine.{ChannelLine}
+use Rattle.job_types.specs.declared.job.AxisLine.{AxisLine}
+use Rattle.job_types.specs.declared.job.GeoLine.{GeoLine}
+use Rattle.job_types.specs.declared.job.OffsetLine.{OffsetLine}
+use Rattle.job_types.specs.declared.job.ZoneLine.{ZoneLine}
+use Rattle.job_types.specs.Job.{JobView, ProgramView}
 
 -- what lines have told; an option that none of them gives is None
 pub record DraftView : Type 0 where

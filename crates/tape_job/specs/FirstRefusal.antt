@@ -2,7 +2,7 @@
 use Rattle.std.specs.Prelude.{◌≡◌, ◌⊎◌, List, ◌∷◌, ◌++◌, Result, Ok, Err, None, Some}
 use Rattle.nc_faults.specs.declared.Refusal.{Refusal}
 use Rattle.tape_job.specs.Draft.{job_of}
-use Rattle.tape_job.specs.Job.{JobView}
+use Rattle.job_types.specs.Job.{JobView}
 use Rattle.tape_job.specs.Lines.{Line}
 use Rattle.tape_job.specs.Told.{told}
 use Rattle.tape_job.specs.Read.{trial, end_trial}

@@ -7,17 +7,17 @@ use Rattle.nc_faults.specs.Texts.{IsRefusalCode}
 use Rattle.nc_faults.specs.declared.Refusal.{Refusal}
 use Rattle.tape_job.specs.declared.fault.JobFault.{JobFault}
 use Rattle.tape_job.specs.declared.fault.JobFault.TheVariants.{Refused, NoMemory}
-use Rattle.tape_job.specs.declared.job.Job.{Job}
+use Rattle.job_types.specs.declared.job.Job.{Job}
 use Rattle.tape_job.specs.Draft.{DraftView, job_of}
-use Rattle.tape_job.specs.Job.{JobView}
+use Rattle.job_types.specs.Job.{JobView}
 use Rattle.tape_job.specs.Lines.{Line, numbered, begins_with_percent}
-use Rattle.tape_job.specs.Reading.{ReadingView, Step, reading_of}
+use Rattle.tape_job.specs.Reading.{ReadingView, BlockLine, reading_of}
 use Rattle.tape_job.specs.Rules.{refusal, rule_of, structure_rule, unmatched, missing}
 use Rattle.tape_job.specs.Told.{Told, told}
 
 -- the code that a line shows by itself, or else against what the lines before it told
 abbrev pub code_by : DraftView → ℕ → Result ReadingView ℕ → Option ℕ
-code_by job number (Ok (Step block)) = structure_rule job.programs (number, block)
+code_by job number (Ok (BlockLine block)) = structure_rule job.programs (number, block)
 code_by job number (Ok reading) = option_map shown (rule_of job reading)
 code_by job number (Err code) = Some code
 

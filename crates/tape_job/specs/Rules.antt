@@ -7,19 +7,21 @@ use Rattle.std.specs.Str.{bytes_eq}
 use Rattle.job_lines.specs.Code.{shown}
 use Rattle.job_lines.specs.declared.code.Code.{Code}
 use Rattle.job_lines.specs.declared.code.Code.TheVariants.{NotDeclared, DeclaredTwice, OwnerDiffers, TooMany, NameRepeated, NotInLibrary, NotBuilt}
-use Rattle.job_lines.specs.declared.item.AxisName.{AxisName}
-use Rattle.job_lines.specs.declared.item.NamedSide.{NamedSide}
-use Rattle.job_lines.specs.declared.item.Item.{Item}
-use Rattle.job_lines.specs.declared.item.Item.TheVariants.{Channel, Axis, Geo, Offset, Zone, Margin, Depth, Budget, Compensation, Skip}
+use Rattle.job_lines.specs.declared.declaration.AxisName.{AxisName}
+use Rattle.job_lines.specs.declared.declaration.NamedSide.{NamedSide}
+use Rattle.job_lines.specs.declared.declaration.Declaration.{Declaration}
+use Rattle.job_lines.specs.declared.declaration.Declaration.TheVariants.{Channel, Axis, Geo, Offset, Zone, Margin, Depth, Budget, Compensation, Skip}
 use Rattle.nc_blocks.specs.Statement.{BlockView}
 use Rattle.nc_control_flow.specs.declared.nest.Opened.{Opened}
 use Rattle.nc_control_flow.specs.Nested.{nest_of}
 use Rattle.nc_faults.specs.declared.Refusal.{Refusal}
-use Rattle.tape_job.specs.declared.job.AxisLine.{AxisLine}
-use Rattle.tape_job.specs.declared.job.Side.{Side}
+use Rattle.job_types.specs.declared.job.AxisLine.{AxisLine}
+use Rattle.job_types.specs.declared.job.Side.{Side}
 use Rattle.tape_job.specs.Draft.{DraftView}
-use Rattle.tape_job.specs.Job.{ProgramView}
-use Rattle.tape_job.specs.Reading.{ReadingView, Blank, First, Entry, Header, Step}
+use Rattle.job_types.specs.Job.{ProgramView}
+use Rattle.tape_job.specs.Reading.{ReadingView, Blank, First, DeclarationLine, Header, BlockLine}
+use Rattle.job_types.specs.Zones.{is_carrier}
+use Rattle.job_types.specs.Axes.{axis_at}
 
 -- the refusal of a line by a rule
 unfoldable pub refusal : Code → ℕ → Refusal
@@ -30,10 +32,6 @@ has_channel job channel = list_any (λ line. line.channel == channel) job.channe
 
 abbrev pub is_named : AxisName → AxisLine → Bool
 is_named name line = (line.letter == name.letter) && (line.number == name.number)
-
--- an axis is named by its place in the list, below 16
-abbrev pub axis_at : ℕ → Option ℕ
-axis_at place = if nat_lt place 16 then Some place else None
 
 -- the axis with this name
 unfoldable pub axis_of : List AxisLine → AxisName → Option ℕ
@@ -111,10 +109,6 @@ carried_side axes side (Some (name, minus)) = option_map (λ axis. side_with sid
 unfoldable pub side_of : List AxisLine → NamedSide → Option Side
 side_of axes side = carried_side axes side side.carrier
 
-abbrev pub is_carrier : ℕ → Option (ℕ × Bool) → Bool
-is_carrier axis None = false
-is_carrier axis (Some (other, minus)) = other == axis
-
 abbrev pub same_carrier : Option (ℕ × Bool) → Option (ℕ × Bool) → Bool
 same_carrier None other = false
 same_carrier (Some (axis, minus)) other = is_carrier axis other
@@ -150,7 +144,7 @@ abbrev pub option_rule : Bool → Option Code
 option_rule given = if given then Some DeclaredTwice else None
 
 -- what a job line breaks of what must be declared before it, and of what is declared already
-unfoldable pub declaration_rule : DraftView → Item → Option Code
+unfoldable pub declaration_rule : DraftView → Declaration → Option Code
 declaration_rule job (Channel channel program starts) = channel_rule job channel
 declaration_rule job (Axis name owner at) = axis_rule job name owner
 declaration_rule job (Geo channel slot axis) = slot_rule job channel slot (axis_of job.axes axis)
@@ -171,15 +165,15 @@ abbrev pub unless_built : Bool → Option Code
 unless_built built = if built then None else Some NotBuilt
 
 -- the job lines that are not built yet: a channel that does not start, an axis that is free, a zone that is off, and a channel's second zone
-unfoldable pub built_rule : DraftView → Item → Option Code
+unfoldable pub built_rule : DraftView → Declaration → Option Code
 built_rule job (Channel channel program starts) = unless_built starts
 built_rule job (Axis name owner at) = unless_built (is_some owner)
 built_rule job (Zone zone) = unless_built (zone.on && not (holds_another job zone.holder))
-built_rule job item = None
+built_rule job declaration = None
 
 -- what a job line breaks
-unfoldable pub item_rule : DraftView → Item → Option Code
-item_rule job item = option_or (declaration_rule job item) (built_rule job item)
+unfoldable pub job_line_rule : DraftView → Declaration → Option Code
+job_line_rule job declaration = option_or (declaration_rule job declaration) (built_rule job declaration)
 
 -- a program in the library has this name
 unfoldable pub has_program : List (List ℕ × ProgramView) → List ℕ → Bool
@@ -237,9 +231,9 @@ header_rule job name =
 unfoldable pub rule_of : DraftView → ReadingView → Option Code
 rule_of job Blank = None
 rule_of job First = None
-rule_of job (Entry item) = item_rule job item
+rule_of job (DeclarationLine declaration) = job_line_rule job declaration
 rule_of job (Header name) = header_rule job name
-rule_of job (Step block) = None
+rule_of job (BlockLine block) = None
 
 abbrev pub is_known : List (List ℕ × ProgramView) → Option (List ℕ) → Bool
 is_known programs None = true

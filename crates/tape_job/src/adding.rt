@@ -1,9 +1,9 @@
 //! What a line adds to a job.
 use crate::draft::Draft;
 use crate::reading::{LineFault, Reading};
-use crate::{AxisLine, ChannelLine, GeoLine, OffsetLine, ZoneLine};
 use axis_sets::ChannelId;
-use job_lines::{AxisName, Item, NamedZone};
+use job_lines::{AxisName, Declaration, NamedZone};
+use job_types::{AxisLine, ChannelLine, GeoLine, OffsetLine, ZoneLine};
 use micro_units::Um;
 use nc_blocks::NameText;
 use std::alloc::{AllocError, Global};
@@ -11,7 +11,7 @@ use std::alloc::{AllocError, Global};
 impl Draft {
     ghost use Rattle.std.specs.Prelude.{◌≡◌, ◌<◌, ◌^◌, [], ◌∷◌, ◌++◌, Ok, OnOk, IfErr, None};
     ghost use Rattle.tape_job.specs.Read.{code_by};
-    ghost use Rattle.tape_job.specs.Reading.{Entry, reading_view, FaultIsListed};
+    ghost use Rattle.tape_job.specs.Reading.{DeclarationLine, reading_view, FaultIsListed};
     ghost use Rattle.tape_job.specs.Rules.{axis_of, side_of, last_count, rule_of};
     ghost use Rattle.tape_job.specs.Steps.{with_entry, with_line, Adds};
     ghost use Rattle.tape_job.specs.Told.{geo_line, zone_line};
@@ -135,33 +135,33 @@ impl Draft {
 
     /// Adds what a job line says.
     #[tactic(auto, unfolding(crate::specs::Steps::with_line))]
-    fn add_item(&mut self, line: u32, item: Item) -> Result<(), AllocError>
-        ensures { OnOk result (self.new ≡ with_line self.old line (Ok (Entry item))) }
+    fn add_declaration(&mut self, line: u32, declaration: Declaration) -> Result<(), AllocError>
+        ensures { OnOk result (self.new ≡ with_line self.old line (Ok (DeclarationLine declaration))) }
     {
-        match item {
-            Item::Channel {
+        match declaration {
+            Declaration::Channel {
                 channel,
                 program,
                 starts,
             } => self.add_channel(line, channel, program, starts)?,
-            Item::Axis { name, owner, at } => self.add_axis(line, name, owner, at)?,
-            Item::Geo {
+            Declaration::Axis { name, owner, at } => self.add_axis(line, name, owner, at)?,
+            Declaration::Geo {
                 channel,
                 slot,
                 axis,
             } => self.add_geo(line, channel, slot, axis)?,
-            Item::Offset {
+            Declaration::Offset {
                 channel,
                 g,
                 slot,
                 by,
             } => self.add_offset(line, channel, g, slot, by)?,
-            Item::Zone(zone) => self.add_zone(line, zone)?,
-            Item::Margin(margin) => self.margin = Some(margin),
-            Item::Depth(depth) => self.depth = Some(depth),
-            Item::Budget(budget) => self.budget = Some(budget),
-            Item::Compensation => self.compensation = true,
-            Item::Skip => self.skip = true,
+            Declaration::Zone(zone) => self.add_zone(line, zone)?,
+            Declaration::Margin(margin) => self.margin = Some(margin),
+            Declaration::Depth(depth) => self.depth = Some(depth),
+            Declaration::Budget(budget) => self.budget = Some(budget),
+            Declaration::Compensation => self.compensation = true,
+            Declaration::Skip => self.skip = true,
         }
         Ok(())
     }
@@ -181,15 +181,15 @@ impl Draft {
     {
         match reading {
             Reading::Blank | Reading::First => Ok(()),
-            Reading::Entry(item) => {
-                self.add_item(line, item)?;
+            Reading::DeclarationLine(declaration) => {
+                self.add_declaration(line, declaration)?;
                 Ok(())
             }
             Reading::Header(name) => {
                 self.programs.begin(alloc, line, name)?;
                 Ok(())
             }
-            Reading::Step(block) => self.programs.push(line, block),
+            Reading::BlockLine(block) => self.programs.push(line, block),
         }
     }
 }

@@ -1,6 +1,6 @@
 //! A job whose lines are being read.
 use crate::programs::Library;
-use crate::{AxisLine, ChannelLine, GeoLine, Job, OffsetLine, ZoneLine};
+use job_types::{AxisLine, ChannelLine, GeoLine, Job, OffsetLine, ZoneLine};
 use micro_units::Um;
 use std::alloc::{AllocError, Global};
 use std::marker::Model;
@@ -23,7 +23,7 @@ pub(crate) struct Draft {
 
 impl Model for Draft {
     ghost use Rattle.std.specs.Coded.{codes};
-    ghost use Rattle.tape_job.specs.TreeCode.{tree_code};
+    ghost use Rattle.job_types.specs.TreeCode.{tree_code};
     ghost use Rattle.tape_job.specs.Draft.{DraftView};
 
     ghost Value = { DraftView };

@@ -47,9 +47,9 @@ impl Draft {
         ensures { result ≡ rule_of self.now (reading_view reading.now) }
     {
         match reading {
-            Reading::Entry(item) => self.item_rule(item),
+            Reading::DeclarationLine(declaration) => self.job_line_rule(declaration),
             Reading::Header(name) => self.header_rule(name),
-            Reading::Blank | Reading::First | Reading::Step(_) => None,
+            Reading::Blank | Reading::First | Reading::BlockLine(_) => None,
         }
     }
 

@@ -1,10 +1,11 @@
 //! A reader of lines, one after the other.
+use crate::JobFault;
 use crate::draft::Draft;
 use crate::library::refusal;
 use crate::lines::{begins_with_percent, has_token};
 use crate::reading::{LineFault, Reading, reading_in};
-use crate::{Job, JobFault};
 use job_lines::Code;
+use job_types::Job;
 use nc_faults::Refusal;
 use std::alloc::Global;
 use std::marker::Model;
@@ -19,7 +20,7 @@ pub(crate) struct Reader {
 
 impl Model for Reader {
     ghost use Rattle.std.specs.Coded.{codes};
-    ghost use Rattle.tape_job.specs.TreeCode.{tree_code};
+    ghost use Rattle.job_types.specs.TreeCode.{tree_code};
     ghost use Rattle.tape_job.specs.Told.{Told};
 
     ghost Value = { Told };
@@ -35,7 +36,7 @@ impl Reader {
     ghost use Rattle.tape_job.specs.Reading.{reading_view, reading_of, ReadingFits, FaultIsListed};
     ghost use Rattle.tape_job.specs.Rules.{last_count, rule_of};
     ghost use Rattle.tape_job.specs.Draft.{job_of};
-    ghost use Rattle.tape_job.specs.SoundJob.{BlocksFit};
+    ghost use Rattle.job_types.specs.SoundJob.{BlocksFit};
     ghost use Rattle.tape_job.specs.Told.{told};
     ghost use Rattle.tape_job.specs.Read.{answer, code_by, end_of_program, end_trial, GivesRead, IsListed};
     ghost use Rattle.tape_job.specs.Steps.{tell, Adds, Admits, Tells};

@@ -1,12 +1,12 @@
 //! What a line breaks against what the lines before it told.
 ghost use Rattle.std.specs.Prelude.{◌≡◌, position};
 ghost use Rattle.std.specs.Option.{option_copied};
-ghost use Rattle.tape_job.specs.Rules.{is_named, axis_at, is_same_owner, is_owned_line, side_with, same_axis, option_rule, unless_built};
+ghost use Rattle.tape_job.specs.Rules.{is_named, is_same_owner, is_owned_line, side_with, same_axis, option_rule, unless_built};
 
 use crate::draft::Draft;
-use crate::{AxisLine, Side};
 use axis_sets::{AxisId, ChannelId, ZoneId};
-use job_lines::{AxisName, Code, Item, NamedSide, NamedZone};
+use job_lines::{AxisName, Code, Declaration, NamedSide, NamedZone};
+use job_types::{AxisLine, Side, axis_at};
 
 /// Whether the axis has this name.
 fn is_named(name: AxisName, line: &AxisLine) -> bool
@@ -20,17 +20,6 @@ fn place_in(name: AxisName, axes: &[AxisLine]) -> Option<usize>
     ensures { result ≡ position (is_named name) axes.now }
 {
     axes.iter().position(|line| is_named(name, line))
-}
-
-/// The axis at a place.
-fn axis_at(place: usize) -> Option<AxisId>
-    ensures { result ≡ axis_at place }
-{
-    if place < 16 {
-        Some(AxisId { index: place as u8 })
-    } else {
-        None
-    }
 }
 
 /// Whether both are the same channel, or both free.
@@ -96,7 +85,7 @@ fn unless_built(built: bool) -> Option<Code>
 
 impl Draft {
     ghost use Rattle.std.specs.Prelude.{◌≡◌, Some};
-    ghost use Rattle.tape_job.specs.Rules.{has_channel, axis_of, has_axis, has_slot, has_slot_axis, has_owner, has_offset, owns, has_zone, holds_zone, holds_another, channel_rule, axis_rule, slot_rule, offset_rule, side_of, owns_carrier, sides_rule, zone_rule, declaration_rule, built_rule, item_rule};
+    ghost use Rattle.tape_job.specs.Rules.{has_channel, axis_of, has_axis, has_slot, has_slot_axis, has_owner, has_offset, owns, has_zone, holds_zone, holds_another, channel_rule, axis_rule, slot_rule, offset_rule, side_of, owns_carrier, sides_rule, zone_rule, declaration_rule, built_rule, job_line_rule};
 
     /// Whether a line declares the channel.
     #[tactic(auto, unfolding(crate::specs::Rules::has_channel))]
@@ -333,59 +322,59 @@ impl Draft {
 
     /// What a job line breaks of what must be declared before it, and of what is declared already.
     #[tactic(auto, unfolding(crate::specs::Rules::declaration_rule))]
-    fn declaration_rule(&self, item: &Item) -> Option<Code>
-        ensures { result ≡ declaration_rule self.now item.now }
+    fn declaration_rule(&self, declaration: &Declaration) -> Option<Code>
+        ensures { result ≡ declaration_rule self.now declaration.now }
     {
-        match item {
-            Item::Channel { channel, .. } => self.channel_rule(*channel),
-            Item::Axis { name, owner, .. } => self.axis_rule(*name, *owner),
-            Item::Geo {
+        match declaration {
+            Declaration::Channel { channel, .. } => self.channel_rule(*channel),
+            Declaration::Axis { name, owner, .. } => self.axis_rule(*name, *owner),
+            Declaration::Geo {
                 channel,
                 slot,
                 axis,
             } => self.slot_rule(*channel, *slot, self.axis_of(*axis)),
-            Item::Offset {
+            Declaration::Offset {
                 channel,
                 g,
                 slot,
                 ..
             } => self.offset_rule(*channel, *g, *slot),
-            Item::Zone(zone) => self.zone_rule(zone),
-            Item::Margin(_) => option_rule(self.margin.is_some()),
-            Item::Depth(_) => option_rule(self.depth.is_some()),
-            Item::Budget(_) => option_rule(self.budget.is_some()),
-            Item::Compensation => option_rule(self.compensation),
-            Item::Skip => option_rule(self.skip),
+            Declaration::Zone(zone) => self.zone_rule(zone),
+            Declaration::Margin(_) => option_rule(self.margin.is_some()),
+            Declaration::Depth(_) => option_rule(self.depth.is_some()),
+            Declaration::Budget(_) => option_rule(self.budget.is_some()),
+            Declaration::Compensation => option_rule(self.compensation),
+            Declaration::Skip => option_rule(self.skip),
         }
     }
 
     /// Whether a job line is one that is not built yet.
     #[tactic(auto, unfolding(crate::specs::Rules::built_rule))]
-    fn built_rule(&self, item: &Item) -> Option<Code>
-        ensures { result ≡ built_rule self.now item.now }
+    fn built_rule(&self, declaration: &Declaration) -> Option<Code>
+        ensures { result ≡ built_rule self.now declaration.now }
     {
-        match item {
-            Item::Channel { starts, .. } => unless_built(*starts),
-            Item::Axis { owner, .. } => unless_built(owner.is_some()),
-            Item::Zone(zone) => unless_built(zone.on && !self.holds_another(zone.holder)),
-            Item::Geo { .. }
-            | Item::Offset { .. }
-            | Item::Margin(_)
-            | Item::Depth(_)
-            | Item::Budget(_)
-            | Item::Compensation
-            | Item::Skip => None,
+        match declaration {
+            Declaration::Channel { starts, .. } => unless_built(*starts),
+            Declaration::Axis { owner, .. } => unless_built(owner.is_some()),
+            Declaration::Zone(zone) => unless_built(zone.on && !self.holds_another(zone.holder)),
+            Declaration::Geo { .. }
+            | Declaration::Offset { .. }
+            | Declaration::Margin(_)
+            | Declaration::Depth(_)
+            | Declaration::Budget(_)
+            | Declaration::Compensation
+            | Declaration::Skip => None,
         }
     }
 
     /// What a job line breaks.
-    #[tactic(auto, unfolding(crate::specs::Rules::item_rule))]
-    pub(crate) fn item_rule(&self, item: &Item) -> Option<Code>
-        ensures { result ≡ item_rule self.now item.now }
+    #[tactic(auto, unfolding(crate::specs::Rules::job_line_rule))]
+    pub(crate) fn job_line_rule(&self, declaration: &Declaration) -> Option<Code>
+        ensures { result ≡ job_line_rule self.now declaration.now }
     {
-        match self.declaration_rule(item) {
+        match self.declaration_rule(declaration) {
             Some(code) => Some(code),
-            None => self.built_rule(item),
+            None => self.built_rule(declaration),
         }
     }
 }

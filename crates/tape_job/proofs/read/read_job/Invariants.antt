@@ -5,7 +5,7 @@ use Rattle.tape_job.specs.Draft.{job_of}
 use Rattle.tape_job.specs.Lines.{raw_lines}
 use Rattle.tape_job.specs.Told.{told}
 use Rattle.tape_job.specs.Rules.{last_count}
-use Rattle.tape_job.specs.SoundJob.{BlocksFit}
+use Rattle.job_types.specs.SoundJob.{BlocksFit}
 use Rattle.tape_job.specs.Steps.{run}
 use Rattle.tape_job.proofs.read.read_job.Given as goal
 
