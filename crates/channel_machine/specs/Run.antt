@@ -1,8 +1,7 @@
 -- Meaning. A segment of a channel's run, told over the list of the blocks that the channel has executed.
-use Rattle.std.specs.Prelude.{⊤, ℕ, zero, suc, ◌+◌, ◌-◌, ◌/◌, ◌%◌, ◌==◌, ◌&&◌, nat_lt, ℤ, pos, Bool, false, position, if◌then◌else◌, List, [], ◌∷◌, ◌++◌, length, map, fold, filter_map, find, slice_get, Option, None, Some, option_map, option_and_then, Result, Ok, Err}
+use Rattle.std.specs.Prelude.{⊤, ℕ, zero, suc, ◌-◌, ◌==◌, ℤ, Bool, false, if◌then◌else◌, List, [], ◌∷◌, ◌++◌, length, map, fold, filter_map, slice_get, Option, None, Some, option_and_then, Result, Ok, Err}
 use Rattle.std.specs.List.{range_with_len}
 use Rattle.std.specs.Option.{option_map_or, option_to_list}
-use Rattle.std.specs.Str.{bytes_eq}
 use Rattle.axis_sets.specs.Sets.{has}
 use Rattle.axis_moves.specs.Motions.{left_at, stands}
 use Rattle.block_effects.specs.Effects.{Course, Goes, Ends, Calls, Effect, Found, group_words, effect_of}
@@ -22,12 +21,10 @@ use Rattle.sync_types.specs.declared.Item.{Item}
 use Rattle.sync_types.specs.declared.Step.{Step}
 use Rattle.job_types.specs.Job.{JobView, ProgramView}
 use Rattle.job_types.specs.declared.job.AxisLine.{AxisLine}
-use Rattle.job_types.specs.declared.job.GeoLine.{GeoLine}
-use Rattle.job_types.specs.declared.job.OffsetLine.{OffsetLine}
 use Rattle.channel_machine.specs.declared.levels.Levels.{Levels}
 use Rattle.channel_machine.specs.Levels.{lines_of, program_blocks, first_place, come, followed}
 use Rattle.job_types.specs.Slots.{slot_axis, offset_of}
-use Rattle.job_types.specs.Axes.{axis_at, axis_named}
+use Rattle.job_types.specs.Axes.{axis_named}
 
 -- ---- what a channel runs by
 

@@ -74,32 +74,18 @@ impl Draft {
         requires { last_count self.programs < 2 ^ 32 }
         ensures { IfOk result (λ job. job ≡ job_of self) }
     {
-        let Draft {
-            channels,
-            axes,
-            geo,
-            offsets,
-            zones,
-            margin,
-            depth,
-            budget,
-            compensation,
-            skip,
-            programs,
-        } = self;
-        let programs = programs.resolve(alloc)?;
         Ok(Job {
-            channels,
-            axes,
-            geo,
-            offsets,
-            zones,
-            margin: margin.unwrap_or(Um { micrometres: 0 }),
-            depth: depth.unwrap_or(0),
-            budget: budget.unwrap_or(1_000_000),
-            compensation,
-            skip,
-            programs,
+            channels: self.channels,
+            axes: self.axes,
+            geo: self.geo,
+            offsets: self.offsets,
+            zones: self.zones,
+            margin: self.margin.unwrap_or(Um { micrometres: 0 }),
+            depth: self.depth.unwrap_or(0),
+            budget: self.budget.unwrap_or(1_000_000),
+            compensation: self.compensation,
+            skip: self.skip,
+            programs: self.programs.resolve(alloc)?,
         })
     }
 }
