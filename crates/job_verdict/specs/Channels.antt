@@ -1,11 +1,10 @@
 -- Meaning. What a channel does: the program that it runs, what it is granted at its start, and what comes of both.
-use Rattle.std.specs.Prelude.{◌≤◌, All, ℕ, ℤ, pos, ◌-◌, ◌==◌, ◌&&◌, Bool, false, if◌then◌else◌, List, ◌++◌, map, length, replicate, Option, None, Some, slice_get, slice_index_or, position}
+use Rattle.std.specs.Prelude.{ℕ, ℤ, pos, ◌-◌, ◌==◌, ◌&&◌, Bool, if◌then◌else◌, List, ◌++◌, map, length, replicate, Option, None, Some, slice_index_or, position}
 use Rattle.std.specs.List.{list_any, range_with_len}
 use Rattle.std.specs.Map.{keys_of}
-use Rattle.std.specs.Option.{option_map_or, option_and_then}
+use Rattle.std.specs.Option.{option_and_then}
 use Rattle.std.specs.Str.{bytes_eq}
 use Rattle.channel_machine.specs.Run.{Setting, SegmentView, setting_of, begun, segment_of, stands_at_start}
-use Rattle.path_geometry.specs.Motions.{IsInRange}
 use Rattle.sync_types.specs.declared.Action.{Action}
 use Rattle.sync_types.specs.declared.Action.TheVariants as action
 use Rattle.sync_types.specs.declared.ChannelEnd.{ChannelEnd}
@@ -14,10 +13,9 @@ use Rattle.sync_types.specs.declared.Grant.{Grant}
 use Rattle.sync_types.specs.declared.Item.{Item}
 use Rattle.sync_types.specs.declared.Step.{Step}
 use Rattle.job_types.specs.Job.{JobView}
-use Rattle.job_types.specs.SoundJob.{BlocksFit}
 use Rattle.job_types.specs.declared.job.ChannelLine.{ChannelLine}
 use Rattle.job_types.specs.declared.job.ZoneLine.{ZoneLine}
-use Rattle.job_types.specs.Axes.{first_owner, start_position, is_of, owns}
+use Rattle.job_types.specs.Axes.{start_position, is_of, owns}
 
 -- ---- where the job puts axes
 

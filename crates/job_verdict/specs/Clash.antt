@@ -2,7 +2,7 @@
 use Rattle.std.specs.Prelude.{ℕ, ◌==◌, ◌&&◌, not, nat_lt, Bool, true, if◌then◌else◌, List, [], ◌∷◌, ◌++◌, map, length, Option, None, Some, find, filter}
 use Rattle.std.specs.Int.{int_max, int_min}
 use Rattle.std.specs.Int.RustNames.{int_le}
-use Rattle.std.specs.List.{flat_map, filter_map, range_with_len, list_any}
+use Rattle.std.specs.List.{flat_map, range_with_len, list_any}
 use Rattle.std.specs.Option.{option_map, option_map_or, option_and_then}
 use Rattle.nc_faults.specs.declared.Alarm.{Alarm}
 use Rattle.swept_boxes.specs.Boxes.{low_of, high_of}

@@ -7,13 +7,13 @@ ghost use Rattle.job_types.specs.Axes.{start_position, is_of, owns};
 
 use axis_sets::{AxisId, AxisSet, ChannelId, Positions, ZoneSet};
 use channel_machine::{Local, Segment, run_segment};
+use job_types::{ChannelLine, Job, ZoneLine, first_owner, start_position};
 use micro_units::Um;
 use nc_blocks::NameText;
 use nc_faults::{Alarm, NoMemory};
 use std::alloc::{AllocError, Global};
 use std::marker::Model;
 use sync_types::{Action, ChannelEnd, Grant, Item, Step};
-use job_types::{ChannelLine, Job, ZoneLine, first_owner, start_position};
 
 /// Where each axis of a job stands, in micrometres.
 pub type Row = [Um; 16];

@@ -13,9 +13,9 @@ use crate::pair_counts::count_pairs;
 use crate::pieces::Measure;
 use crate::stretches::{Stretch, Verdict, free_stretches, stretches_of_run};
 use axis_sets::ChannelId;
+use job_types::{Job, ZoneLine};
 use nc_faults::Alarm;
 use std::alloc::{AllocError, Global};
-use job_types::{Job, ZoneLine};
 
 /// The stretches of a zone that this channel holds, from its run.
 fn held_stretches<'a>(

@@ -8,12 +8,12 @@ ghost use Rattle.job_verdict.specs.Report as model;
 use crate::channels::{ChannelRun, run_in};
 use crate::stretches::{PlaceName, StretchKind, Verdict};
 use axis_sets::{AxisId, ChannelId};
+use job_types::Job;
 use micro_units::Um;
 use nc_faults::{Alarm, Refusal, alarm_text, refusal_text};
 use path_geometry::{Arc, Ends, Motion};
 use std::alloc::{AllocError, Global};
 use sync_types::{ChannelEnd, Item};
-use job_types::Job;
 
 /// Writes so many micrometres as millimetres with three decimals.
 #[tactic(auto, unfolding(crate::specs::Report::millimetres_text))]

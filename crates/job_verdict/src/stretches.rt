@@ -10,11 +10,11 @@ ghost use Rattle.job_types.specs.Axes.{start_position};
 use crate::channels::{ChannelRun, Row, line_of_end, start_positions};
 use crate::zone_boxes::{ZoneBox, boxes_of, settle};
 use axis_sets::{ChannelId, ZoneId};
+use job_types::{Job, ZoneLine};
 use nc_faults::Alarm;
 use std::alloc::{AllocError, Global};
 use std::marker::Model;
 use sync_types::Item;
-use job_types::{Job, ZoneLine};
 
 /// What happens in a stretch of a zone: what the channel does that holds it, or that none does.
 #[derive(Clone, Copy, Debug, PartialEq, Eq)]

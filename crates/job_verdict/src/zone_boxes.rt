@@ -10,12 +10,12 @@ ghost use Rattle.job_types.specs.Zones.{is_carrier, has_axis};
 use crate::channels::Row;
 use arrayvec::ArrayVec;
 use axis_sets::AxisId;
+use job_types::{Side, ZoneLine};
 use micro_units::Um;
 use std::alloc::{AllocError, Global};
 use std::marker::Model;
 use swept_boxes::{Box3, Ranges, cover};
 use sync_types::Item;
-use job_types::{Side, ZoneLine};
 
 /// Where an axis stands.
 fn standing(at: &Row, axis: AxisId) -> Um

@@ -1,5 +1,5 @@
 -- Meaning. What lines tell together.
-use Rattle.std.specs.Prelude.{ℕ, ℤ, Bool, true, false, ◌||◌, List, [], ◌∷◌, ◌++◌, Result, Ok, Option, Some, None}
+use Rattle.std.specs.Prelude.{ℕ, ℤ, Bool, true, false, ◌||◌, List, [], ◌∷◌, ◌++◌, Result, Ok, Option, Some, None, is_some, unwrap_or}
 use Rattle.std.specs.List.{list_any, cons_option}
 use Rattle.std.specs.Option.{option_map}
 use Rattle.job_lines.specs.declared.declaration.Declaration.TheVariants.{Channel, Axis, Geo, Offset, Zone, Margin, Depth, Budget, Compensation, Skip}
@@ -11,17 +11,19 @@ use Rattle.job_types.specs.declared.job.GeoLine.{GeoLine}
 use Rattle.job_types.specs.declared.job.OffsetLine.{OffsetLine}
 use Rattle.job_types.specs.declared.job.ZoneLine.{ZoneLine}
 use Rattle.job_types.specs.declared.job.Side.{Side}
-use Rattle.tape_job.specs.Draft.{DraftView}
-use Rattle.job_types.specs.Job.{ProgramView}
+use Rattle.tape_job.specs.Draft.{nothing_told}
+use Rattle.tape_job.specs.declared.draft.Given.{Given}
+use Rattle.job_types.specs.Job.{JobView, ProgramView}
 use Rattle.tape_job.specs.Lines.{Line, has_token, begins_with_percent}
 use Rattle.tape_job.specs.Reading.{ReadingView, DeclarationLine, Header, BlockLine, reading_of}
 use Rattle.tape_job.specs.Rules.{axis_of, side_of}
 
--- what lines have told: whether one has a token, whether one begins with '%', where the programs begin, and the job list and programs so far
+-- what lines have told: whether one has a token, whether one begins with '%', where the programs begin, which options lines gave, and the job so far
 pub record Told : Type 0 where
   pub seen : Bool
   pub in_programs : Bool
-  pub job : DraftView
+  pub given : Given
+  pub job : JobView
 
 -- what a line says that follows the given lines, where the job accepts tool radius compensation or not
 abbrev pub reading_under : Bool → List Line → List ℕ → Result ReadingView ℕ
@@ -141,15 +143,20 @@ unfoldable pub told : List Line → Told
 told lines = record {
   seen = list_any (λ line. has_token line.1) lines;
   in_programs = list_any (λ line. begins_with_percent line.1) lines;
+  given = record {
+    margin = is_some (option_in margin_from lines);
+    depth = is_some (option_in depth_from lines);
+    budget = is_some (option_in budget_from lines);
+  };
   job = record {
     channels = entries (λ before line. channel_from line.0 (reading_after before line.1)) [] lines;
     axes = axes_in lines;
     geo = entries (λ before line. geo_from (axes_in before) line.0 (reading_after before line.1)) [] lines;
     offsets = entries (λ before line. offset_from line.0 (reading_after before line.1)) [] lines;
     zones = entries (λ before line. zone_from (axes_in before) line.0 (reading_after before line.1)) [] lines;
-    margin = option_in margin_from lines;
-    depth = option_in depth_from lines;
-    budget = option_in budget_from lines;
+    margin = unwrap_or (option_in margin_from lines) nothing_told.margin;
+    depth = unwrap_or (option_in depth_from lines) nothing_told.depth;
+    budget = unwrap_or (option_in budget_from lines) nothing_told.budget;
     compensation = accept_compensation lines;
     skip = any_after (λ before line. says_skip (reading_after before line.1)) [] lines;
     programs = programs_in [] lines;
