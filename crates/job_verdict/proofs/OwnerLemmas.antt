@@ -24,7 +24,7 @@ All-at P xs i x all is = subst P (get_or_from_slice_get xs i x x is) (all i x (s
 -- ---- the owners in a state
 
 owned_by_one : (job : JobView) → IsSoundJob job → (state : State) (axis : ℕ) → IfSome (axis_owner job state axis) (IsDeclared job)
-unfolding axis_owner
+unfolding axis_owner first_owner
 owned_by_one job sound state axis = by_line (slice_get job.axes axis) refl
   where
     by_owner : (o : Option ℕ) → IsSomeAnd o (IsDeclared job) → IfSome o (IsDeclared job)

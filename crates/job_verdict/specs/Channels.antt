@@ -19,7 +19,7 @@ use Rattle.job_types.specs.Axes.{start_position, is_of, owns}
 
 -- ---- where the job puts axes
 
--- the row of these positions, filled up to 16
+-- the row of the positions where the job puts its axes, filled up to 16
 unfoldable pub start_row : JobView → List ℤ
 start_row job = map (λ line. line.at) job.axes ++ replicate (16 - length job.axes) (pos 0)
 

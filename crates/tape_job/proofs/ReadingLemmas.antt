@@ -14,7 +14,7 @@ use Rattle.nc_faults.specs.Texts.{refusal_texts, has_code, IsRefusalCode}
 use Rattle.nc_syntax.specs.Blocks.{statement_of}
 use Rattle.std.specs.Option.{option_map}
 use Rattle.job_lines.specs.declared.code.Code.{Code}
-use Rattle.tape_job.specs.declared.draft.Given.{Given}
+use Rattle.tape_job.specs.declared.draft.GivenOptions.{GivenOptions}
 use Rattle.tape_job.specs.Read.{code_by}
 use Rattle.tape_job.specs.Rules.{rule_of}
 use Rattle.tape_job.specs.Reading.{ReadingView, First, DeclarationLine, Header, BlockLine, Blank, words_of, block_line, tokens_reading, block_reading}
@@ -73,10 +73,10 @@ unfolding IsBlockRefusal IsRefusalCode block_refusals refusal_texts
 block_refusal_has_text code is = one_has_text code block_refusals refl is
 
 -- a rule that a line breaks gives its code
-pub rule_breaks : (given : Given) (job : JobView) (number : ℕ) (reading : ReadingView) (code : Code) → rule_of given job reading ≡ Some code → code_by given job number (Ok reading) ≡ Some (shown code)
+pub rule_breaks : (options : GivenOptions) (job : JobView) (number : ℕ) (reading : ReadingView) (code : Code) → rule_of options job reading ≡ Some code → code_by options job number (Ok reading) ≡ Some (shown code)
 unfolding rule_of
-rule_breaks given job number (DeclarationLine declaration) code breaks = ap (option_map shown) breaks
-rule_breaks given job number (Header name) code breaks = ap (option_map shown) breaks
-rule_breaks given job number Blank code breaks = absurd cc
-rule_breaks given job number First code breaks = absurd cc
-rule_breaks given job number (BlockLine block) code breaks = absurd cc
+rule_breaks options job number (DeclarationLine declaration) code breaks = ap (option_map shown) breaks
+rule_breaks options job number (Header name) code breaks = ap (option_map shown) breaks
+rule_breaks options job number Blank code breaks = absurd cc
+rule_breaks options job number First code breaks = absurd cc
+rule_breaks options job number (BlockLine block) code breaks = absurd cc

@@ -24,8 +24,8 @@ use Rattle.tape_job.specs.Reading.{ReadingView, Blank, First, DeclarationLine, H
 use Rattle.tape_job.specs.Rules as rule
 use Rattle.tape_job.specs.Told.{Told, told, accept_compensation, geo_line, zone_line}
 use Rattle.tape_job.specs.Read.{code_by, line_trial, end_of_program, trial, end_trial, answer, read_of}
-use Rattle.tape_job.specs.declared.draft.Given.{Given}
-use Rattle.tape_job.specs.Steps.{more_given, with_entry, with_line, with_block, tell, unless_refused, run, finish}
+use Rattle.tape_job.specs.declared.draft.GivenOptions.{GivenOptions}
+use Rattle.tape_job.specs.Steps.{options_with, with_entry, with_line, with_block, tell, unless_refused, run, finish}
 use Rattle.job_types.specs.SoundJob.{IsSoundJob}
 use Rattle.tape_job.proofs.SoundLists.{unbroken, not_false, none_found}
 use Rattle.tape_job.proofs.SoundReadings.{IsSoundDeclaration, IsSoundReading, reading_sound}
@@ -65,45 +65,45 @@ zone_declaration_told job number zone (Some a) (Some b) (Some c) facts none buil
     zone_told job number zone a b c facts none built sound.0 sound.1 (sound_range zone.x a is_x sound.2) (sound_range zone.y b is_y sound.3) (sound_range zone.z c is_z sound.4)
 zone_declaration_told job number zone a b c facts none built sound is_x is_y is_z = absurd cc
 
-declared_told : (given : Given) (job : JobView) (number : ℕ) (declaration : Declaration) → ListFacts job → rule.declaration_rule given job declaration ≡ None → rule.built_rule job declaration ≡ None → IsSoundDeclaration declaration
+declared_told : (options : GivenOptions) (job : JobView) (number : ℕ) (declaration : Declaration) → ListFacts job → rule.declaration_rule options job declaration ≡ None → rule.built_rule job declaration ≡ None → IsSoundDeclaration declaration
     → ListFacts (with_declaration job number declaration)
 unfolding rule.declaration_rule rule.built_rule with_line
-declared_told given job number (Channel channel program starts) facts none built sound = channel_told job number channel program starts facts none built sound
-declared_told given job number (Axis name owner at) facts none built sound = axis_told job number name owner at facts none built sound
-declared_told given job number (Geo channel slot axis) facts none built sound =
+declared_told options job number (Channel channel program starts) facts none built sound = channel_told job number channel program starts facts none built sound
+declared_told options job number (Axis name owner at) facts none built sound = axis_told job number name owner at facts none built sound
+declared_told options job number (Geo channel slot axis) facts none built sound =
     geo_declaration_told job number channel slot (rule.axis_of job.axes axis) facts none (axis_within job.axes axis)
-declared_told given job number (Offset channel g slot by) facts none built sound = offset_told job number channel g slot by facts none sound
-declared_told given job number (Zone zone) facts none built sound =
+declared_told options job number (Offset channel g slot by) facts none built sound = offset_told job number channel g slot by facts none sound
+declared_told options job number (Zone zone) facts none built sound =
     zone_declaration_told job number zone (rule.side_of job.axes zone.x) (rule.side_of job.axes zone.y) (rule.side_of job.axes zone.z) facts none built sound
     (side_range job.axes zone.x) (side_range job.axes zone.y) (side_range job.axes zone.z)
-declared_told given job number (Margin margin) facts none built sound =
+declared_told options job number (Margin margin) facts none built sound =
     options_told job margin job.depth job.budget job.compensation job.skip facts
     (record { sound_margin = sound; sound_depth = facts.options.sound_depth; sound_budget = facts.options.sound_budget })
-declared_told given job number (Depth depth) facts none built sound =
+declared_told options job number (Depth depth) facts none built sound =
     options_told job job.margin depth job.budget job.compensation job.skip facts
     (record { sound_margin = facts.options.sound_margin; sound_depth = sound; sound_budget = facts.options.sound_budget })
-declared_told given job number (Budget budget) facts none built sound =
+declared_told options job number (Budget budget) facts none built sound =
     options_told job job.margin job.depth budget job.compensation job.skip facts
     (record { sound_margin = facts.options.sound_margin; sound_depth = facts.options.sound_depth; sound_budget = sound })
-declared_told given job number Compensation facts none built sound = options_told job job.margin job.depth job.budget true job.skip facts facts.options
-declared_told given job number Skip facts none built sound = options_told job job.margin job.depth job.budget job.compensation true facts facts.options
+declared_told options job number Compensation facts none built sound = options_told job job.margin job.depth job.budget true job.skip facts facts.options
+declared_told options job number Skip facts none built sound = options_told job job.margin job.depth job.budget job.compensation true facts facts.options
 
-declaration_told : (given : Given) (job : JobView) (number : ℕ) (declaration : Declaration) → ListFacts job → rule.job_line_rule given job declaration ≡ None → IsSoundDeclaration declaration → ListFacts (with_declaration job number declaration)
+declaration_told : (options : GivenOptions) (job : JobView) (number : ℕ) (declaration : Declaration) → ListFacts job → rule.job_line_rule options job declaration ≡ None → IsSoundDeclaration declaration → ListFacts (with_declaration job number declaration)
 unfolding rule.job_line_rule
-declaration_told given job number declaration facts none sound =
-    let both = neither (rule.declaration_rule given job declaration) (rule.built_rule job declaration) none in
-    declared_told given job number declaration facts both.0 both.1 sound
+declaration_told options job number declaration facts none sound =
+    let both = neither (rule.declaration_rule options job declaration) (rule.built_rule job declaration) none in
+    declared_told options job number declaration facts both.0 both.1 sound
 
 unmapped : {A B : Type 0} (f : A → B) (a : Option A) → option_map f a ≡ None → a ≡ None
 unmapped f None none = refl
 unmapped f (Some a) none = absurd cc
 
 -- a job line
-entry_told : (told : Told) (number : ℕ) (seen late : Bool) (given : Given) (declaration : Declaration) → Sound told → rule.job_line_rule told.given told.job declaration ≡ None → IsSoundDeclaration declaration
-    → Sound (record { seen = seen; in_programs = late; given = given; job = with_declaration told.job number declaration })
+entry_told : (told : Told) (number : ℕ) (seen late : Bool) (options : GivenOptions) (declaration : Declaration) → Sound told → rule.job_line_rule told.options told.job declaration ≡ None → IsSoundDeclaration declaration
+    → Sound (record { seen = seen; in_programs = late; options = options; job = with_declaration told.job number declaration })
 unfolding with_line
-entry_told told number seen late given declaration sound none fits = record {
-  list = declaration_told told.given told.job number declaration sound.list none fits;
+entry_told told number seen late options declaration sound none fits = record {
+  list = declaration_told told.options told.job number declaration sound.list none fits;
   programs = sound.programs;
   names = sound.names;
   few = sound.few;
@@ -111,11 +111,11 @@ entry_told told number seen late given declaration sound none fits = record {
 }
 
 -- a header
-header_line_told : (told : Told) (number : ℕ) (seen late : Bool) (given : Given) (name : List ℕ) → Sound told
+header_line_told : (told : Told) (number : ℕ) (seen late : Bool) (options : GivenOptions) (name : List ℕ) → Sound told
     → rule.header_rule told.job name ≡ None → rule.left_open told.job.programs ≡ None
-    → Sound (record { seen = seen; in_programs = late; given = given; job = with_line told.job number (Ok (Header name)) })
+    → Sound (record { seen = seen; in_programs = late; options = options; job = with_line told.job number (Ok (Header name)) })
 unfolding rule.header_rule with_line
-header_line_told told number seen late given name sound none ended =
+header_line_told told number seen late options name sound none ended =
     let program : List ℕ × ProgramView = (name, record { line = number; blocks = [] }) in
     let first = unbroken (rule.has_program told.job.programs name) NameRepeated _ none in
     let second = unbroken (nat_le 256 (length told.job.programs)) TooMany None first.1 in
@@ -132,10 +132,10 @@ header_line_told told number seen late given name sound none ended =
     }
 
 -- a block
-block_line_told : (told : Told) (number : ℕ) (seen late : Bool) (given : Given) (block : BlockView) → Sound told → is_built block.statement ≡ true
-    → rule.structure_rule told.job.programs (number, block) ≡ None → Sound (record { seen = seen; in_programs = late; given = given; job = with_line told.job number (Ok (BlockLine block)) })
+block_line_told : (told : Told) (number : ℕ) (seen late : Bool) (options : GivenOptions) (block : BlockView) → Sound told → is_built block.statement ≡ true
+    → rule.structure_rule told.job.programs (number, block) ≡ None → Sound (record { seen = seen; in_programs = late; options = options; job = with_line told.job number (Ok (BlockLine block)) })
 unfolding with_line
-block_line_told told number seen late given block sound built matches =
+block_line_told told number seen late options block sound built matches =
     let all : List (List ℕ × ProgramView) = with_block told.job.programs (number, block) in
     record {
       list = list_kept told.job all sound.list;
@@ -145,20 +145,20 @@ block_line_told told number seen late given block sound built matches =
       nested = nested_block told.job.programs (number, block) sound.nested matches;
     }
 
-line_told : (told : Told) (number : ℕ) (seen late percent : Bool) (given : Given) (read : Result ReadingView ℕ) → Sound told → code_by told.given told.job number read ≡ None
+line_told : (told : Told) (number : ℕ) (seen late percent : Bool) (options : GivenOptions) (read : Result ReadingView ℕ) → Sound told → code_by told.options told.job number read ≡ None
     → (percent ≡ true → rule.left_open told.job.programs ≡ None) → IfOk read (IsSoundReading percent)
-    → Sound (record { seen = seen; in_programs = late; given = given; job = with_line told.job number read })
+    → Sound (record { seen = seen; in_programs = late; options = options; job = with_line told.job number read })
 unfolding with_line rule.rule_of
-line_told told number seen late percent given (Err code) sound none ended fits = absurd cc
-line_told told number seen late percent given (Ok Blank) sound none ended fits =
+line_told told number seen late percent options (Err code) sound none ended fits = absurd cc
+line_told told number seen late percent options (Ok Blank) sound none ended fits =
     record { list = sound.list; programs = sound.programs; names = sound.names; few = sound.few; nested = sound.nested }
-line_told told number seen late percent given (Ok First) sound none ended fits =
+line_told told number seen late percent options (Ok First) sound none ended fits =
     record { list = sound.list; programs = sound.programs; names = sound.names; few = sound.few; nested = sound.nested }
-line_told told number seen late percent given (Ok (DeclarationLine declaration)) sound none ended fits =
-    entry_told told number seen late given declaration sound (unmapped shown (rule.job_line_rule told.given told.job declaration) none) fits
-line_told told number seen late percent given (Ok (Header name)) sound none ended fits =
-    header_line_told told number seen late given name sound (unmapped shown (rule.header_rule told.job name) none) (ended fits)
-line_told told number seen late percent given (Ok (BlockLine block)) sound none ended fits = block_line_told told number seen late given block sound fits none
+line_told told number seen late percent options (Ok (DeclarationLine declaration)) sound none ended fits =
+    entry_told told number seen late options declaration sound (unmapped shown (rule.job_line_rule told.options told.job declaration) none) fits
+line_told told number seen late percent options (Ok (Header name)) sound none ended fits =
+    header_line_told told number seen late options name sound (unmapped shown (rule.header_rule told.job name) none) (ended fits)
+line_told told number seen late percent options (Ok (BlockLine block)) sound none ended fits = block_line_told told number seen late options block sound fits none
 
 none_open : (job : JobView) → rule.unmatched job ≡ None → rule.left_open job.programs ≡ None
 unfolding rule.unmatched
@@ -174,9 +174,9 @@ unfolding trial line_trial end_of_program tell
 tell_sound told line sound none =
     let both = neither (end_of_program told.job line.1) (line_trial told line) none in
     line_told told line.0 (told.seen || has_token line.1) (told.in_programs || begins_with_percent line.1) (begins_with_percent line.1)
-    (more_given told.given (reading_of told.seen told.in_programs told.job.compensation line.1))
+    (options_with told.options (reading_of told.seen told.in_programs told.job.compensation line.1))
     (reading_of told.seen told.in_programs told.job.compensation line.1) sound
-    (unmapped _ (code_by told.given told.job line.0 (reading_of told.seen told.in_programs told.job.compensation line.1)) both.1)
+    (unmapped _ (code_by told.options told.job line.0 (reading_of told.seen told.in_programs told.job.compensation line.1)) both.1)
     (program_ends (begins_with_percent line.1) told.job both.0)
     (reading_sound told.seen told.in_programs told.job.compensation line.1)
 

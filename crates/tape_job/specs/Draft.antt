@@ -1,15 +1,15 @@
 -- Meaning. A job whose lines are being read.
 use Rattle.std.specs.Prelude.{pos, false, []}
 use Rattle.job_types.specs.Job.{JobView}
-use Rattle.tape_job.specs.declared.draft.Given.{Given}
+use Rattle.tape_job.specs.declared.draft.GivenOptions.{GivenOptions}
 
 -- what lines have told: which options they gave, and the job; an option that none of them gives has its value from the start
 pub record DraftView : Type 0 where
-  pub given : Given
+  pub options : GivenOptions
   pub job : JobView
 
-abbrev pub none_given : Given
-none_given = record { margin = false; depth = false; budget = false }
+abbrev pub no_options : GivenOptions
+no_options = record { margin = false; depth = false; budget = false }
 
 abbrev pub nothing_told : JobView
 nothing_told = record {

@@ -8,7 +8,7 @@ use Rattle.nc_faults.specs.declared.Refusal.{Refusal}
 use Rattle.tape_job.specs.declared.fault.JobFault.{JobFault}
 use Rattle.tape_job.specs.declared.fault.JobFault.TheVariants.{Refused, NoMemory}
 use Rattle.job_types.specs.declared.job.Job.{Job}
-use Rattle.tape_job.specs.declared.draft.Given.{Given}
+use Rattle.tape_job.specs.declared.draft.GivenOptions.{GivenOptions}
 use Rattle.job_types.specs.Job.{JobView}
 use Rattle.tape_job.specs.Lines.{Line, numbered, begins_with_percent}
 use Rattle.tape_job.specs.Reading.{ReadingView, BlockLine, reading_of}
@@ -16,14 +16,14 @@ use Rattle.tape_job.specs.Rules.{refusal, rule_of, structure_rule, unmatched, mi
 use Rattle.tape_job.specs.Told.{Told, told}
 
 -- the code that a line shows by itself, or else against what the lines before it told
-abbrev pub code_by : Given → JobView → ℕ → Result ReadingView ℕ → Option ℕ
-code_by given job number (Ok (BlockLine block)) = structure_rule job.programs (number, block)
-code_by given job number (Ok reading) = option_map shown (rule_of given job reading)
-code_by given job number (Err code) = Some code
+abbrev pub code_by : GivenOptions → JobView → ℕ → Result ReadingView ℕ → Option ℕ
+code_by options job number (Ok (BlockLine block)) = structure_rule job.programs (number, block)
+code_by options job number (Ok reading) = option_map shown (rule_of options job reading)
+code_by options job number (Err code) = Some code
 
 unfoldable pub line_trial : Told → Line → Option Refusal
 line_trial told line =
-    option_map (λ code. record { code = code; line = line.0 }) (code_by told.given told.job line.0 (reading_of told.seen told.in_programs told.job.compensation line.1))
+    option_map (λ code. record { code = code; line = line.0 }) (code_by told.options told.job line.0 (reading_of told.seen told.in_programs told.job.compensation line.1))
 
 -- a line that begins with '%' ends the program before it, ahead of all else
 unfoldable pub end_of_program : JobView → List ℕ → Option Refusal

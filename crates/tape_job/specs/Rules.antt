@@ -17,7 +17,7 @@ use Rattle.nc_control_flow.specs.Nested.{nest_of}
 use Rattle.nc_faults.specs.declared.Refusal.{Refusal}
 use Rattle.job_types.specs.declared.job.AxisLine.{AxisLine}
 use Rattle.job_types.specs.declared.job.Side.{Side}
-use Rattle.tape_job.specs.declared.draft.Given.{Given}
+use Rattle.tape_job.specs.declared.draft.GivenOptions.{GivenOptions}
 use Rattle.job_types.specs.Job.{JobView, ProgramView}
 use Rattle.tape_job.specs.Reading.{ReadingView, Blank, First, DeclarationLine, Header, BlockLine}
 use Rattle.job_types.specs.Zones.{is_carrier}
@@ -144,17 +144,17 @@ abbrev pub option_rule : Bool → Option Code
 option_rule given = if given then Some DeclaredTwice else None
 
 -- what a job line breaks of what must be declared before it, and of what is declared already
-unfoldable pub declaration_rule : Given → JobView → Declaration → Option Code
-declaration_rule given job (Channel channel program starts) = channel_rule job channel
-declaration_rule given job (Axis name owner at) = axis_rule job name owner
-declaration_rule given job (Geo channel slot axis) = slot_rule job channel slot (axis_of job.axes axis)
-declaration_rule given job (Offset channel g slot by) = offset_rule job channel g slot
-declaration_rule given job (Zone zone) = zone_rule job zone.zone zone.holder (side_of job.axes zone.x) (side_of job.axes zone.y) (side_of job.axes zone.z)
-declaration_rule given job (Margin margin) = option_rule given.margin
-declaration_rule given job (Depth depth) = option_rule given.depth
-declaration_rule given job (Budget budget) = option_rule given.budget
-declaration_rule given job Compensation = option_rule job.compensation
-declaration_rule given job Skip = option_rule job.skip
+unfoldable pub declaration_rule : GivenOptions → JobView → Declaration → Option Code
+declaration_rule options job (Channel channel program starts) = channel_rule job channel
+declaration_rule options job (Axis name owner at) = axis_rule job name owner
+declaration_rule options job (Geo channel slot axis) = slot_rule job channel slot (axis_of job.axes axis)
+declaration_rule options job (Offset channel g slot by) = offset_rule job channel g slot
+declaration_rule options job (Zone zone) = zone_rule job zone.zone zone.holder (side_of job.axes zone.x) (side_of job.axes zone.y) (side_of job.axes zone.z)
+declaration_rule options job (Margin margin) = option_rule options.margin
+declaration_rule options job (Depth depth) = option_rule options.depth
+declaration_rule options job (Budget budget) = option_rule options.budget
+declaration_rule options job Compensation = option_rule job.compensation
+declaration_rule options job Skip = option_rule job.skip
 
 -- a channel holds a zone already; any number of zones may be held free
 abbrev pub holds_another : JobView → Option ℕ → Bool
@@ -172,8 +172,8 @@ built_rule job (Zone zone) = unless_built (zone.on && not (holds_another job zon
 built_rule job declaration = None
 
 -- what a job line breaks
-unfoldable pub job_line_rule : Given → JobView → Declaration → Option Code
-job_line_rule given job declaration = option_or (declaration_rule given job declaration) (built_rule job declaration)
+unfoldable pub job_line_rule : GivenOptions → JobView → Declaration → Option Code
+job_line_rule options job declaration = option_or (declaration_rule options job declaration) (built_rule job declaration)
 
 -- a program in the library has this name
 unfoldable pub has_program : List (List ℕ × ProgramView) → List ℕ → Bool
@@ -228,12 +228,12 @@ header_rule job name =
     else None
 
 -- what a line breaks
-unfoldable pub rule_of : Given → JobView → ReadingView → Option Code
-rule_of given job Blank = None
-rule_of given job First = None
-rule_of given job (DeclarationLine declaration) = job_line_rule given job declaration
-rule_of given job (Header name) = header_rule job name
-rule_of given job (BlockLine block) = None
+unfoldable pub rule_of : GivenOptions → JobView → ReadingView → Option Code
+rule_of options job Blank = None
+rule_of options job First = None
+rule_of options job (DeclarationLine declaration) = job_line_rule options job declaration
+rule_of options job (Header name) = header_rule job name
+rule_of options job (BlockLine block) = None
 
 abbrev pub is_known : List (List ℕ × ProgramView) → Option (List ℕ) → Bool
 is_known programs None = true

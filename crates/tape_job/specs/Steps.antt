@@ -9,7 +9,7 @@ use Rattle.tape_job.specs.declared.reading.LineFault.{LineFault}
 use Rattle.tape_job.specs.declared.reading.LineFault.TheVariants as fault
 use Rattle.tape_job.specs.declared.reading.Reading.{Reading}
 use Rattle.tape_job.specs.Draft.{DraftView}
-use Rattle.tape_job.specs.declared.draft.Given.{Given}
+use Rattle.tape_job.specs.declared.draft.GivenOptions.{GivenOptions}
 use Rattle.job_types.specs.Job.{JobView, ProgramView}
 use Rattle.tape_job.specs.Lines.{Line, has_token, begins_with_percent}
 use Rattle.tape_job.specs.Reading.{ReadingView, reading_view, reading_of}
@@ -53,22 +53,22 @@ with_line job number reading = record {
 }
 
 -- the options that lines gave, and those that one more line gives
-abbrev pub more_given : Given → Result ReadingView ℕ → Given
-more_given given reading = record {
-  margin = is_some (margin_from reading) || given.margin;
-  depth = is_some (depth_from reading) || given.depth;
-  budget = is_some (budget_from reading) || given.budget;
+abbrev pub options_with : GivenOptions → Result ReadingView ℕ → GivenOptions
+options_with options reading = record {
+  margin = is_some (margin_from reading) || options.margin;
+  depth = is_some (depth_from reading) || options.depth;
+  budget = is_some (budget_from reading) || options.budget;
 }
 
 -- both
 abbrev pub draft_with : DraftView → ℕ → Result ReadingView ℕ → DraftView
-draft_with draft number reading = record { given = more_given draft.given reading; job = with_line draft.job number reading }
+draft_with draft number reading = record { options = options_with draft.options reading; job = with_line draft.job number reading }
 
 unfoldable pub tell : Told → Line → Told
 tell told line = record {
   seen = told.seen || has_token line.1;
   in_programs = told.in_programs || begins_with_percent line.1;
-  given = more_given told.given (reading_of told.seen told.in_programs told.job.compensation line.1);
+  options = options_with told.options (reading_of told.seen told.in_programs told.job.compensation line.1);
   job = with_line told.job line.0 (reading_of told.seen told.in_programs told.job.compensation line.1);
 }
 
@@ -93,7 +93,7 @@ Adds code next (Err fault.NoMemory) new = Unit {0}
 -- the call gives what a line says that breaks no rule, or its refusal; it may want memory at any time
 abbrev pub Admits : Told → Line → Result Reading JobFault → Type 0
 Admits told line (Ok reading) =
-    (reading_of told.seen told.in_programs told.job.compensation line.1 ≡ Ok (reading_view reading)) × (rule_of told.given told.job (reading_view reading) ≡ None)
+    (reading_of told.seen told.in_programs told.job.compensation line.1 ≡ Ok (reading_view reading)) × (rule_of told.options told.job (reading_view reading) ≡ None)
 Admits told line (Err (Refused refused)) = line_trial told line ≡ Some refused
 Admits told line (Err NoMemory) = Unit {0}
 

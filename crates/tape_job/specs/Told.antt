@@ -12,7 +12,7 @@ use Rattle.job_types.specs.declared.job.OffsetLine.{OffsetLine}
 use Rattle.job_types.specs.declared.job.ZoneLine.{ZoneLine}
 use Rattle.job_types.specs.declared.job.Side.{Side}
 use Rattle.tape_job.specs.Draft.{nothing_told}
-use Rattle.tape_job.specs.declared.draft.Given.{Given}
+use Rattle.tape_job.specs.declared.draft.GivenOptions.{GivenOptions}
 use Rattle.job_types.specs.Job.{JobView, ProgramView}
 use Rattle.tape_job.specs.Lines.{Line, has_token, begins_with_percent}
 use Rattle.tape_job.specs.Reading.{ReadingView, DeclarationLine, Header, BlockLine, reading_of}
@@ -22,7 +22,7 @@ use Rattle.tape_job.specs.Rules.{axis_of, side_of}
 pub record Told : Type 0 where
   pub seen : Bool
   pub in_programs : Bool
-  pub given : Given
+  pub options : GivenOptions
   pub job : JobView
 
 -- what a line says that follows the given lines, where the job accepts tool radius compensation or not
@@ -143,7 +143,7 @@ unfoldable pub told : List Line → Told
 told lines = record {
   seen = list_any (λ line. has_token line.1) lines;
   in_programs = list_any (λ line. begins_with_percent line.1) lines;
-  given = record {
+  options = record {
     margin = is_some (option_in margin_from lines);
     depth = is_some (option_in depth_from lines);
     budget = is_some (option_in budget_from lines);

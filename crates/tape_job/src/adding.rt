@@ -153,15 +153,15 @@ impl Draft {
             } => self.add_offset(line, channel, g, slot, by)?,
             Declaration::Zone(zone) => self.add_zone(line, zone)?,
             Declaration::Margin(margin) => {
-                self.given.margin = true;
+                self.options.margin = true;
                 self.job.margin = margin;
             }
             Declaration::Depth(depth) => {
-                self.given.depth = true;
+                self.options.depth = true;
                 self.job.depth = depth;
             }
             Declaration::Budget(budget) => {
-                self.given.budget = true;
+                self.options.budget = true;
                 self.job.budget = budget;
             }
             Declaration::Compensation => self.job.compensation = true,
@@ -178,9 +178,9 @@ impl Draft {
         line: u32,
         reading: Reading,
     ) -> Result<(), LineFault>
-        requires admitted { rule_of self.old.given self.old.job (reading_view reading) ≡ None }
+        requires admitted { rule_of self.old.options self.old.job (reading_view reading) ≡ None }
         requires short { last_count self.old.job.programs < 2 ^ 32 }
-        ensures exact { Adds (code_by self.old.given self.old.job line (Ok (reading_view reading))) (draft_with self.old line (Ok (reading_view reading))) result self.new }
+        ensures exact { Adds (code_by self.old.options self.old.job line (Ok (reading_view reading))) (draft_with self.old line (Ok (reading_view reading))) result self.new }
         ensures listed { IfErr result FaultIsListed }
     {
         match reading {

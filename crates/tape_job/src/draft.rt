@@ -8,7 +8,7 @@ use std::marker::Model;
 
 /// Which options lines gave.
 #[derive(Clone, Copy, Debug, PartialEq, Eq)]
-pub(crate) struct Given {
+pub(crate) struct GivenOptions {
     /// Whether one gave the margin.
     pub margin: bool,
     /// Whether one gave the depth.
@@ -21,7 +21,7 @@ pub(crate) struct Given {
 #[derive(Drop)]
 pub(crate) struct Draft {
     /// Which options lines gave.
-    pub given: Given,
+    pub options: GivenOptions,
     /// What the job lines declare; an option that none of them gave has its value from the start.
     pub job: Job,
     /// The programs, which the job has once they are resolved.
@@ -37,20 +37,20 @@ impl Model for Draft {
 
     ghost coded = { Prim.hlevel (codes, tree_code) };
 
-    ghost view = { λ d. record { given = d.given; job = record d.job { programs = d.programs } } };
+    ghost view = { λ d. record { options = d.options; job = record d.job { programs = d.programs } } };
 }
 
 impl Draft {
     ghost use Rattle.std.specs.Prelude.{◌≡◌, ◌<◌, ◌^◌, IfOk};
     ghost use Rattle.tape_job.specs.Rules.{last_count};
-    ghost use Rattle.tape_job.specs.Draft.{none_given, nothing_told};
+    ghost use Rattle.tape_job.specs.Draft.{no_options, nothing_told};
 
     /// A job of which nothing is told.
     pub(crate) fn new(alloc: Global) -> Draft
-        ensures { result ≡ record { given = none_given; job = nothing_told } }
+        ensures { result ≡ record { options = no_options; job = nothing_told } }
     {
         Draft {
-            given: Given {
+            options: GivenOptions {
                 margin: false,
                 depth: false,
                 budget: false,
@@ -78,7 +78,7 @@ impl Draft {
         ensures { IfOk result (λ job. job ≡ self.job) }
     {
         let Draft {
-            given: _,
+            options: _,
             mut job,
             programs,
         } = self;

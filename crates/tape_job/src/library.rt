@@ -44,7 +44,7 @@ impl Draft {
     /// What a line breaks.
     #[tactic(auto, unfolding(crate::specs::Rules::rule_of))]
     pub(crate) fn rule(&self, reading: &Reading) -> Option<Code>
-        ensures { result ≡ rule_of self.now.given self.now.job (reading_view reading.now) }
+        ensures { result ≡ rule_of self.now.options self.now.job (reading_view reading.now) }
     {
         match reading {
             Reading::DeclarationLine(declaration) => self.job_line_rule(declaration),

@@ -328,7 +328,7 @@ impl Draft {
     /// What a job line breaks of what must be declared before it, and of what is declared already.
     #[tactic(auto, unfolding(crate::specs::Rules::declaration_rule))]
     fn declaration_rule(&self, declaration: &Declaration) -> Option<Code>
-        ensures { result ≡ declaration_rule self.now.given self.now.job declaration.now }
+        ensures { result ≡ declaration_rule self.now.options self.now.job declaration.now }
     {
         match declaration {
             Declaration::Channel { channel, .. } => self.channel_rule(*channel),
@@ -345,9 +345,9 @@ impl Draft {
                 ..
             } => self.offset_rule(*channel, *g, *slot),
             Declaration::Zone(zone) => self.zone_rule(zone),
-            Declaration::Margin(_) => option_rule(self.given.margin),
-            Declaration::Depth(_) => option_rule(self.given.depth),
-            Declaration::Budget(_) => option_rule(self.given.budget),
+            Declaration::Margin(_) => option_rule(self.options.margin),
+            Declaration::Depth(_) => option_rule(self.options.depth),
+            Declaration::Budget(_) => option_rule(self.options.budget),
             Declaration::Compensation => option_rule(self.job.compensation),
             Declaration::Skip => option_rule(self.job.skip),
         }
@@ -375,7 +375,7 @@ impl Draft {
     /// What a job line breaks.
     #[tactic(auto, unfolding(crate::specs::Rules::job_line_rule))]
     pub(crate) fn job_line_rule(&self, declaration: &Declaration) -> Option<Code>
-        ensures { result ≡ job_line_rule self.now.given self.now.job declaration.now }
+        ensures { result ≡ job_line_rule self.now.options self.now.job declaration.now }
     {
         match self.declaration_rule(declaration) {
             Some(code) => Some(code),
