@@ -16,8 +16,8 @@ use Rattle.nc_control_flow.proofs.Leading.{first_counts, first_runs}
 use Rattle.nc_control_flow.proofs.Starting.{rests_at, behind_counts, next_counts}
 use Rattle.nc_expressions.specs.Value.{◌>>=◌}
 use Rattle.nc_subprograms.specs.declared.Place.{Place}
-use Rattle.tape_job.specs.Job.{JobView, ProgramView, block_entry}
-use Rattle.tape_job.specs.SoundJob.{BlocksFit}
+use Rattle.job_types.specs.Job.{JobView, ProgramView, block_entry}
+use Rattle.job_types.specs.SoundJob.{BlocksFit}
 use Rattle.channel_machine.specs.declared.levels.Levels.{Levels}
 use Rattle.channel_machine.specs.Levels.{lines_of, program_blocks, first_place, gone_on, behind_call, has_block, arrived, next_pass, begun_or, past_end, come, followed, Stands, LevelsFit}
 

@@ -16,7 +16,7 @@ use Rattle.nc_control_flow.specs.Parts.{views}
 use Rattle.nc_control_flow.specs.Repetitions.{Going}
 use Rattle.nc_control_flow.proofs.Leading.{first_at, first_counts, first_runs, counts_first, counts_none}
 use Rattle.nc_subprograms.specs.declared.Place.{Place}
-use Rattle.tape_job.specs.Job.{ProgramView, block_entry}
+use Rattle.job_types.specs.Job.{ProgramView, block_entry}
 use Rattle.channel_machine.specs.declared.levels.Levels.{Levels}
 use Rattle.channel_machine.specs.Levels.{lines_of, program_blocks, first_place, gone_on, behind_call, has_block, arrived, next_pass, begun_or, past_end, come, Stands, IsFirstPlace, Lands, GoesBehind, GoesOn}
 

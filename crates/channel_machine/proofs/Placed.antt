@@ -14,11 +14,13 @@ use Rattle.nc_control_flow.proofs.Resolving.{opening_below}
 use Rattle.nc_control_flow.specs.Parts.{statement_at, views}
 use Rattle.nc_control_flow.specs.Structures.{opening}
 use Rattle.nc_subprograms.specs.declared.Place.{Place}
-use Rattle.tape_job.specs.Job.{JobView, ProgramView}
+use Rattle.job_types.specs.Job.{JobView, ProgramView}
 use Rattle.channel_machine.specs.Kept.{Kept, IsSettingIn, Keeps}
 use Rattle.channel_machine.specs.declared.levels.Levels.{Levels}
 use Rattle.channel_machine.specs.Levels.{lines_of, program_blocks, followed}
-use Rattle.channel_machine.specs.Run.{Setting, Channel, axis_named, offset_of, equipment, words_after, chain_after, stands_after, found_after, block_at, opener_at}
+use Rattle.channel_machine.specs.Run.{Setting, Channel, equipment, words_after, chain_after, stands_after, found_after, block_at, opener_at}
+use Rattle.job_types.specs.Slots.{offset_of}
+use Rattle.job_types.specs.Axes.{axis_named}
 
 -- what the blocks find in a job, by what is kept
 abbrev pub equipment_in : JobView → Kept → Equipment

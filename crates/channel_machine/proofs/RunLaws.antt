@@ -15,7 +15,7 @@ use Rattle.nc_subprograms.specs.Stack.{called}
 use Rattle.path_geometry.specs.Motions.{IsInRange, IsSound}
 use Rattle.sync_types.specs.Items.{motion_of}
 use Rattle.sync_types.specs.declared.Item.{Item}
-use Rattle.tape_job.specs.Job.{ProgramView}
+use Rattle.job_types.specs.Job.{ProgramView}
 use Rattle.channel_machine.specs.declared.levels.Levels.{Levels}
 use Rattle.channel_machine.specs.Levels.{program_blocks, gone_on, past_end, come, followed}
 use Rattle.channel_machine.specs.Run.{Setting, Executed, Channel, SegmentView, equipment, found_after, items_of, stands_at_start, opener_at, block_at, executed, line_after, alarmed, ends_main, with_block, with_levels, led, finished, behind, run_after, segment_of, begun, IsListedAction}

@@ -10,7 +10,7 @@ use Rattle.nc_control_flow.specs.Parts.{statement_at}
 use Rattle.nc_control_flow.specs.Repetitions.{Going}
 use Rattle.nc_control_flow.specs.Structures.{closing, branching, opening}
 use Rattle.nc_expressions.specs.Value.{◌>>=◌}
-use Rattle.tape_job.specs.Job.{ProgramView}
+use Rattle.job_types.specs.Job.{ProgramView}
 use Rattle.channel_machine.specs.declared.levels.Levels.{Levels}
 use Rattle.channel_machine.specs.Levels.{program_blocks, gone_on, come, followed}
 

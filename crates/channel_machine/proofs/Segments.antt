@@ -2,9 +2,10 @@
 use Rattle.std.proofs.Common.{◌≡◌, ◌∙◌, ℕ, List, [], Option, None, Some, Result, Ok, Err, IfOk, ap, subst, sym}
 use Rattle.sync_types.specs.declared.Item.{Item}
 use Rattle.sync_types.specs.declared.Step.{Step}
-use Rattle.tape_job.specs.Job.{JobView}
+use Rattle.job_types.specs.Job.{JobView}
 use Rattle.channel_machine.specs.Kept.{Kept, Keeps, GoesOn, Advances, IsSegment, IsSettingIn}
-use Rattle.channel_machine.specs.Run.{Setting, Channel, SegmentView, offset_of, segment_of}
+use Rattle.channel_machine.specs.Run.{Setting, Channel, SegmentView, segment_of}
+use Rattle.job_types.specs.Slots.{offset_of}
 
 pub if_ok : {A E : Type 0} {P Q : A → Type 0} (r : Result A E) → ((x : A) → P x → Q x) → IfOk r P → IfOk r Q
 if_ok (Ok x) each p = each x p

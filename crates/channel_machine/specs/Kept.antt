@@ -16,9 +16,10 @@ use Rattle.sync_types.specs.declared.Item.{Item}
 use Rattle.sync_types.specs.declared.Step.{Step}
 use Rattle.channel_machine.specs.declared.levels.Levels.{Levels}
 use Rattle.channel_machine.specs.declared.local.State.{State}
-use Rattle.tape_job.specs.Job.{JobView, ProgramView}
+use Rattle.job_types.specs.Job.{JobView, ProgramView}
 use Rattle.channel_machine.specs.Levels.{lines_of, program_blocks}
-use Rattle.channel_machine.specs.Run.{Setting, Channel, SegmentView, offset_of, parameters_after, chain_after, words_after, stands_after, line_after, onto, segment_of, step_at}
+use Rattle.channel_machine.specs.Run.{Setting, Channel, SegmentView, parameters_after, chain_after, words_after, stands_after, line_after, onto, segment_of, step_at}
+use Rattle.job_types.specs.Slots.{offset_of}
 
 -- where control is; how many blocks were executed, and the line of the last, or of the header; the parameters, the words of groups and the frame that hold; where the axes stand; and what does not change: the channel, the axes in its slots, the axes that it owns, and the zones that are on
 pub record Kept : Type 0 where

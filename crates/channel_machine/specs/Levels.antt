@@ -13,7 +13,7 @@ use Rattle.nc_control_flow.specs.Repetitions.{Going, behind_block}
 use Rattle.nc_expressions.specs.Value.{◌>>=◌}
 use Rattle.nc_subprograms.specs.declared.Place.{Place}
 use Rattle.nc_subprograms.specs.Stack.{called}
-use Rattle.tape_job.specs.Job.{ProgramView, block_entry}
+use Rattle.job_types.specs.Job.{ProgramView, block_entry}
 use Rattle.channel_machine.specs.declared.levels.Levels.{Levels}
 
 -- the lines of a program by its number, and its blocks

@@ -1,8 +1,7 @@
 -- Meaning. A segment of a channel's run, told over the list of the blocks that the channel has executed.
-use Rattle.std.specs.Prelude.{⊤, ℕ, zero, suc, ◌+◌, ◌-◌, ◌/◌, ◌%◌, ◌==◌, ◌&&◌, nat_lt, ℤ, pos, Bool, false, position, if◌then◌else◌, List, [], ◌∷◌, ◌++◌, length, map, fold, filter_map, find, slice_get, Option, None, Some, option_map, option_and_then, Result, Ok, Err}
+use Rattle.std.specs.Prelude.{⊤, ℕ, zero, suc, ◌-◌, ◌==◌, ℤ, Bool, false, if◌then◌else◌, List, [], ◌∷◌, ◌++◌, length, map, fold, filter_map, slice_get, Option, None, Some, option_and_then, Result, Ok, Err}
 use Rattle.std.specs.List.{range_with_len}
 use Rattle.std.specs.Option.{option_map_or, option_to_list}
-use Rattle.std.specs.Str.{bytes_eq}
 use Rattle.axis_sets.specs.Sets.{has}
 use Rattle.axis_moves.specs.Motions.{left_at, stands}
 use Rattle.block_effects.specs.Effects.{Course, Goes, Ends, Calls, Effect, Found, group_words, effect_of}
@@ -20,13 +19,12 @@ use Rattle.sync_types.specs.declared.Action.TheVariants.{End, Alarm}
 use Rattle.sync_types.specs.declared.Grant.{Grant}
 use Rattle.sync_types.specs.declared.Item.{Item}
 use Rattle.sync_types.specs.declared.Step.{Step}
-use Rattle.tape_job.specs.Job.{JobView, ProgramView}
-use Rattle.tape_job.specs.Rules.{axis_at}
-use Rattle.tape_job.specs.declared.job.AxisLine.{AxisLine}
-use Rattle.tape_job.specs.declared.job.GeoLine.{GeoLine}
-use Rattle.tape_job.specs.declared.job.OffsetLine.{OffsetLine}
+use Rattle.job_types.specs.Job.{JobView, ProgramView}
+use Rattle.job_types.specs.declared.job.AxisLine.{AxisLine}
 use Rattle.channel_machine.specs.declared.levels.Levels.{Levels}
 use Rattle.channel_machine.specs.Levels.{lines_of, program_blocks, first_place, come, followed}
+use Rattle.job_types.specs.Slots.{slot_axis, offset_of}
+use Rattle.job_types.specs.Axes.{axis_named}
 
 -- ---- what a channel runs by
 
@@ -38,22 +36,6 @@ pub record Setting : Type 0 where
   pub offset : ℕ → ℕ → ℤ
   pub skip : Bool
   pub grant : Grant
-
--- the GEO line of a slot of a channel: 0, 1, 2 are the slots X, Y, Z
-unfoldable pub slot_line : JobView → ℕ → ℕ → Option GeoLine
-slot_line job channel slot = find (λ g. g.channel == channel && g.slot == slot) job.geo
-
--- the axis in a slot of a channel
-abbrev pub slot_axis : JobView → ℕ → ℕ → Option ℕ
-slot_axis job channel slot = option_map (λ g. g.axis) (slot_line job channel slot)
-
--- the OFFSET line of a channel for a G word and a slot
-unfoldable pub offset_line : JobView → ℕ → ℕ → ℕ → Option OffsetLine
-offset_line job channel word slot = find (λ l. l.channel == channel && (l.g == word && l.slot == slot)) job.offsets
-
--- the settable offset; 0 where no line gives one
-abbrev pub offset_of : JobView → ℕ → ℕ → ℕ → ℤ
-offset_of job channel word slot = option_map_or (λ l. l.by) (offset_line job channel word slot) (pos 0)
 
 -- what a channel of a job runs by
 abbrev pub setting_of : JobView → ℕ → Grant → Setting
@@ -69,18 +51,6 @@ setting_of job channel grant = record {
 -- the names of the programs, in the order of their numbers
 abbrev pub names : Setting → List (List ℕ)
 names setting = map (λ p. p.0) setting.programs
-
--- a number from 1 to 99 in digits; 48 is '0'
-abbrev pub digits_of : ℕ → List ℕ
-digits_of number = if nat_lt number 10 then (48 + number) ∷ [] else (48 + number / 10) ∷ (48 + number % 10) ∷ []
-
--- the name of an axis: its letter and its number
-abbrev pub axis_name : AxisLine → List ℕ
-axis_name line = line.letter ∷ digits_of line.number
-
--- the axis with this name
-unfoldable pub axis_named : List AxisLine → List ℕ → Option ℕ
-axis_named axes name = option_and_then axis_at (position (λ line. bytes_eq name (axis_name line)) axes)
 
 -- what the blocks of the channel find in the job and in the channel
 abbrev pub equipment : Setting → Equipment

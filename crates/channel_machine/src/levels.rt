@@ -4,14 +4,14 @@ ghost use Rattle.std.specs.Prelude.{◌≡◌, [], ◌<◌, ◌-◌, ◌==◌, A
 ghost use Rattle.block_effects.specs.Courses.{course_view};
 ghost use Rattle.nc_control_flow.specs.Counted.{next_going};
 ghost use Rattle.nc_control_flow.specs.Moves.{outcome_view};
-ghost use Rattle.tape_job.specs.Job.{block_entry};
+ghost use Rattle.job_types.specs.Job.{block_entry};
 ghost use Rattle.channel_machine.specs.Levels as model;
 ghost use Rattle.channel_machine.specs.Levels.{behind_call, program_blocks, GoesOn, GoesBehind, Stands, LevelsFit};
 
 use block_effects::Course;
+use job_types::Job;
 use nc_control_flow::{Flow, Next, Outcome, Repeats};
 use nc_subprograms::{CallStack, Place};
-use tape_job::Job;
 
 /// Where control stands.
 #[derive(Drop)]

@@ -11,11 +11,11 @@ use axis_sets::{AxisId, ChannelId, ZoneSet};
 use block_effects::{ChannelAxes, Parameters, Situation};
 use frames::Frame;
 use g_groups::Modal;
+use job_types::{Job, slot_axis};
 use nc_faults::NoMemory;
 use std::alloc::{AllocError, Global};
 use std::marker::Model;
 use sync_types::Grant;
-use tape_job::{GeoLine, Job};
 
 /// What a channel keeps between two blocks.
 #[derive(Drop)]
@@ -89,27 +89,6 @@ impl Model for Local {
     ghost Value = { Kept };
 
     ghost view = { λ l. kept_by l.state };
-}
-
-/// The GEO line of a slot of a channel: 0, 1, 2 for X, Y, Z.
-#[tactic(auto, unfolding(crate::specs::Run::slot_line))]
-fn slot_line(job: &Job, channel: ChannelId, slot: u8) -> Option<GeoLine>
-    ensures { result ≡ model.slot_line job.now channel slot }
-{
-    job.geo
-        .iter()
-        .copied()
-        .find(|line| line.channel == channel && line.slot == slot)
-}
-
-/// The axis in a slot of a channel.
-fn slot_axis(job: &Job, channel: ChannelId, slot: u8) -> Option<AxisId>
-    ensures { result ≡ model.slot_axis job.now channel slot }
-{
-    match slot_line(job, channel, slot) {
-        Some(line) => Some(line.axis),
-        None => None,
-    }
 }
 
 /// The line of a program's header, or 0.

@@ -7,7 +7,7 @@ ghost use Rattle.block_effects.specs.Courses.{course_view};
 ghost use Rattle.nc_blocks.specs.Statement.{statement_view, view_of};
 ghost use Rattle.nc_control_flow.specs.Parts.{statement_at, views};
 ghost use Rattle.nc_control_flow.specs.Structures.{opening};
-ghost use Rattle.tape_job.specs.SoundJob.{BlocksFit};
+ghost use Rattle.job_types.specs.SoundJob.{BlocksFit};
 ghost use Rattle.channel_machine.specs.Kept.{Advances, IsBehind, IsSegment, IsSettingIn, IsThere, Keeps, kept_by};
 ghost use Rattle.channel_machine.specs.Levels.{LevelsFit, followed, lines_of};
 ghost use Rattle.channel_machine.specs.Run as model;
@@ -19,6 +19,7 @@ use crate::surroundings::Surroundings;
 use axis_sets::{AxisId, AxisSet, Positions};
 use block_effects::{BlockFault, Course, Done, execute};
 use g_groups::Modal;
+use job_types::Job;
 use micro_units::Um;
 use nc_blocks::{Block, Stmt};
 use nc_control_flow::Flow;
@@ -27,7 +28,6 @@ use nc_subprograms::Place;
 use std::alloc::{AllocError, Global};
 use std::marker::Model;
 use sync_types::{Action, Item, Step};
-use tape_job::Job;
 
 /// What a channel does up to the next step. A contract sees the items as a list, and of the channel what it keeps.
 #[derive(Drop)]

@@ -1,6 +1,6 @@
 pub mod Code
 pub mod Header
-pub mod Item
+pub mod Declaration
 pub mod Length
 pub mod Numbers
 pub mod OptionLines

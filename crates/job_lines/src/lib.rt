@@ -2,12 +2,12 @@
 #![tactic(auto)]
 
 mod code;
+mod declaration;
 mod header;
-mod item;
 mod length;
 mod numbers;
 mod option_lines;
 
 pub use code::Code;
+pub use declaration::{AxisName, Declaration, NamedSide, NamedZone, declaration_in};
 pub use header::header_in;
-pub use item::{AxisName, Item, NamedSide, NamedZone, item_in};

@@ -1,27 +1,27 @@
 //! Job lines of one option of the whole job, each read by itself.
 ghost use Rattle.std.specs.Prelude.{◌≡◌, map};
-ghost use Rattle.job_lines.specs.OptionLines.{margin_of, margin_line, depth_of, depth_line, budget_of, budget_line, compensation_of, compensation_line, skip_of, skip_line, option_item_of};
+ghost use Rattle.job_lines.specs.OptionLines.{margin_of, margin_line, depth_of, depth_line, budget_of, budget_line, compensation_of, compensation_line, skip_of, skip_line, option_declaration_of};
 
 use crate::code::Code;
-use crate::item::Item;
+use crate::declaration::Declaration;
 use crate::length::length_in;
 use crate::numbers::{number_within, small_within};
 
 /// The margin that the word writes.
 #[tactic(auto, unfolding(crate::specs::OptionLines::margin_of))]
-fn margin_in(word: &[u8]) -> Result<Item, Code>
+fn margin_in(word: &[u8]) -> Result<Declaration, Code>
     ensures { result ≡ margin_of word.now }
 {
     let margin = length_in(word)?;
     if margin.micrometres < 0 || margin.micrometres > 1_000_000 {
         return Err(Code::OutOfRange);
     }
-    Ok(Item::Margin(margin))
+    Ok(Declaration::Margin(margin))
 }
 
 /// What follows MARGIN.
 #[tactic(auto, unfolding(crate::specs::OptionLines::margin_line))]
-fn margin_line_in(args: &[&[u8]]) -> Result<Item, Code>
+fn margin_line_in(args: &[&[u8]]) -> Result<Declaration, Code>
     ensures { result ≡ margin_line (map (λ word. word.now) args.now) }
 {
     match args {
@@ -32,18 +32,18 @@ fn margin_line_in(args: &[&[u8]]) -> Result<Item, Code>
 
 /// The depth that the word writes.
 #[tactic(auto, unfolding(crate::specs::OptionLines::depth_of))]
-fn depth_in(word: &[u8]) -> Result<Item, Code>
+fn depth_in(word: &[u8]) -> Result<Declaration, Code>
     ensures { result ≡ depth_of word.now }
 {
     match small_within(0, 4, word) {
-        Some(depth) => Ok(Item::Depth(depth)),
+        Some(depth) => Ok(Declaration::Depth(depth)),
         None => Err(Code::OutOfRange),
     }
 }
 
 /// What follows DEPTH.
 #[tactic(auto, unfolding(crate::specs::OptionLines::depth_line))]
-fn depth_line_in(args: &[&[u8]]) -> Result<Item, Code>
+fn depth_line_in(args: &[&[u8]]) -> Result<Declaration, Code>
     ensures { result ≡ depth_line (map (λ word. word.now) args.now) }
 {
     match args {
@@ -54,18 +54,18 @@ fn depth_line_in(args: &[&[u8]]) -> Result<Item, Code>
 
 /// The budget that the word writes.
 #[tactic(auto, unfolding(crate::specs::OptionLines::budget_of))]
-fn budget_in(word: &[u8]) -> Result<Item, Code>
+fn budget_in(word: &[u8]) -> Result<Declaration, Code>
     ensures { result ≡ budget_of word.now }
 {
     match number_within(1, 100_000_000, word) {
-        Some(budget) => Ok(Item::Budget(budget)),
+        Some(budget) => Ok(Declaration::Budget(budget)),
         None => Err(Code::OutOfRange),
     }
 }
 
 /// What follows BUDGET.
 #[tactic(auto, unfolding(crate::specs::OptionLines::budget_line))]
-fn budget_line_in(args: &[&[u8]]) -> Result<Item, Code>
+fn budget_line_in(args: &[&[u8]]) -> Result<Declaration, Code>
     ensures { result ≡ budget_line (map (λ word. word.now) args.now) }
 {
     match args {
@@ -76,11 +76,11 @@ fn budget_line_in(args: &[&[u8]]) -> Result<Item, Code>
 
 /// What the word says of compensation.
 #[tactic(auto, unfolding(crate::specs::OptionLines::compensation_of))]
-fn compensation_in(word: &[u8]) -> Result<Item, Code>
+fn compensation_in(word: &[u8]) -> Result<Declaration, Code>
     ensures { result ≡ compensation_of word.now }
 {
     if word == b"CONTOUR".as_slice() {
-        Ok(Item::Compensation)
+        Ok(Declaration::Compensation)
     } else {
         Err(Code::UnknownJobLine)
     }
@@ -88,7 +88,7 @@ fn compensation_in(word: &[u8]) -> Result<Item, Code>
 
 /// What follows COMPENSATION.
 #[tactic(auto, unfolding(crate::specs::OptionLines::compensation_line))]
-fn compensation_line_in(args: &[&[u8]]) -> Result<Item, Code>
+fn compensation_line_in(args: &[&[u8]]) -> Result<Declaration, Code>
     ensures { result ≡ compensation_line (map (λ word. word.now) args.now) }
 {
     match args {
@@ -99,11 +99,11 @@ fn compensation_line_in(args: &[&[u8]]) -> Result<Item, Code>
 
 /// What the word says of blocks that begin with `/`.
 #[tactic(auto, unfolding(crate::specs::OptionLines::skip_of))]
-fn skip_in(word: &[u8]) -> Result<Item, Code>
+fn skip_in(word: &[u8]) -> Result<Declaration, Code>
     ensures { result ≡ skip_of word.now }
 {
     if word == b"ON".as_slice() {
-        Ok(Item::Skip)
+        Ok(Declaration::Skip)
     } else {
         Err(Code::UnknownJobLine)
     }
@@ -111,7 +111,7 @@ fn skip_in(word: &[u8]) -> Result<Item, Code>
 
 /// What follows SKIP.
 #[tactic(auto, unfolding(crate::specs::OptionLines::skip_line))]
-fn skip_line_in(args: &[&[u8]]) -> Result<Item, Code>
+fn skip_line_in(args: &[&[u8]]) -> Result<Declaration, Code>
     ensures { result ≡ skip_line (map (λ word. word.now) args.now) }
 {
     match args {
@@ -121,9 +121,9 @@ fn skip_line_in(args: &[&[u8]]) -> Result<Item, Code>
 }
 
 /// What a line of an option says, from its first word and the others.
-#[tactic(auto, unfolding(crate::specs::OptionLines::option_item_of))]
-pub(crate) fn option_item_in(kind: &[u8], args: &[&[u8]]) -> Result<Item, Code>
-    ensures { result ≡ option_item_of kind.now (map (λ word. word.now) args.now) }
+#[tactic(auto, unfolding(crate::specs::OptionLines::option_declaration_of))]
+pub(crate) fn option_declaration_in(kind: &[u8], args: &[&[u8]]) -> Result<Declaration, Code>
+    ensures { result ≡ option_declaration_of kind.now (map (λ word. word.now) args.now) }
 {
     if kind == b"MARGIN".as_slice() {
         margin_line_in(args)

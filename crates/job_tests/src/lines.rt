@@ -45,7 +45,7 @@ fn said(alloc: Global, line: &str) -> Result<String, Fail> {
     if line.starts_with('%') {
         Ok(format!(in alloc; "{:?}", header_in(&words))?)
     } else {
-        Ok(format!(in alloc; "{:?}", item_in(kind, args))?)
+        Ok(format!(in alloc; "{:?}", declaration_in(kind, args))?)
     }
 }
 

@@ -1,6 +1,6 @@
 //! Channels that run small programs to their step, by the rules.
 ghost use Rattle.std.specs.Prelude.{◌≤◌, length, IfSome};
-ghost use Rattle.tape_job.specs.SoundJob.{BlocksFit};
+ghost use Rattle.job_types.specs.SoundJob.{BlocksFit};
 
 use axis_sets::{AxisId, AxisSet, ChannelId, Positions, ZoneId, ZoneSet};
 use channel_machine::{Local, Segment, run_segment};

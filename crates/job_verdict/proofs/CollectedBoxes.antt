@@ -4,7 +4,7 @@ use Rattle.std.specs.List.{list_any}
 use Rattle.swept_boxes.specs.Pieces.{pieces_at}
 use Rattle.swept_boxes.specs.Ranges.{RangesView}
 use Rattle.swept_boxes.specs.declared.Box3.{Box3}
-use Rattle.tape_job.specs.declared.job.ZoneLine.{ZoneLine}
+use Rattle.job_types.specs.declared.job.ZoneLine.{ZoneLine}
 use Rattle.job_verdict.proofs.PieceBoxes.{list_any-map, list_any-same}
 use Rattle.job_verdict.specs.BoxView.{BoxView}
 use Rattle.job_verdict.specs.Clash.{boxes_meet}

@@ -7,20 +7,23 @@ use Rattle.std.proofs.lemmas.List.{length-map}
 use Rattle.std.proofs.lemmas.List.Concat.{length-flat_map}
 use Rattle.std.proofs.lemmas.List.Elements.{All-nil, All-cons, All-head, All-tail, All-map, All-weaker}
 use Rattle.std.proofs.lemmas.List.Sums.{sum_by-append, sum_by-cons, sum_by-le}
-use Rattle.tape_job.specs.Job.{JobView}
-use Rattle.tape_job.specs.declared.job.ChannelLine.{ChannelLine}
-use Rattle.tape_job.specs.declared.job.ZoneLine.{ZoneLine}
+use Rattle.job_types.specs.Job.{JobView}
+use Rattle.job_types.specs.declared.job.ChannelLine.{ChannelLine}
+use Rattle.job_types.specs.declared.job.ZoneLine.{ZoneLine}
 use Rattle.job_verdict.proofs.JudgeLemmas.{IsTimed, AllTimed, all_timed, overlap_is}
 use Rattle.job_verdict.proofs.Runs.{good_run}
-use Rattle.job_verdict.specs.Channels.{IsRunnable, start_position, items_of}
-use Rattle.job_verdict.specs.Clash.{own_clock, zones_in_order, pairs_by_group, zone_pairs, BoxPlace, box_pairs, stretch_pairs, pairs_of_zones, compared_pairs, pair_count}
+use Rattle.job_verdict.specs.Channels.{items_of}
+use Rattle.job_verdict.specs.Clash.{own_clock, pairs_by_group, zone_pairs, BoxPlace, box_pairs, stretch_pairs, pairs_of_zones, compared_pairs, pair_count}
 use Rattle.axis_moves.specs.Motions.{left_at}
 use Rattle.job_verdict.specs.PairCounts.{count_in_stretches, count_against, count_of_zones, count_of}
 use Rattle.job_verdict.specs.ShownStretches.{shown_stretch, held_zone, HeldView, do_overlap}
 use Rattle.job_verdict.specs.Stretches.{Stretch, spans_of, stretches_from, channel_line, free_stretch, stretches_of}
 use Rattle.job_verdict.specs.StretchView.{StretchView}
-use Rattle.job_verdict.specs.ZoneBoxes.{PlaceBox, Opened, Waiting, Moving, closed, next_open, walk, boxes_of, shown_box, after, moves_zone, has_axis}
+use Rattle.job_verdict.specs.ZoneBoxes.{PlaceBox, Opened, Waiting, Moving, closed, next_open, walk, boxes_of, shown_box, after, moves_zone}
 use Rattle.sync_types.specs.declared.Item.{Item}
+use Rattle.job_types.specs.Zones.{zones_in_order, has_axis}
+use Rattle.job_types.specs.SoundJob.{IsRunnable}
+use Rattle.job_types.specs.Axes.{start_position}
 
 -- ---- sums
 

@@ -6,7 +6,7 @@ use Rattle.std.specs.List.{list_any}
 use Rattle.path_geometry.specs.declared.motion.Motion.{Motion}
 use Rattle.path_geometry.specs.declared.motion.Motion.TheVariants.{Line, Rapid}
 use Rattle.path_geometry.specs.declared.motion.Motion.TheVariants as Kind
-use Rattle.tape_job.specs.declared.job.ZoneLine.{ZoneLine}
+use Rattle.job_types.specs.declared.job.ZoneLine.{ZoneLine}
 use Rattle.job_verdict.proofs.PathEnds.{start_on_path, end_on_path}
 use Rattle.job_verdict.proofs.PositionLemmas.{Joins, AllJoin, after_is, left_at-nil, left_at-cons}
 use Rattle.job_verdict.proofs.SomeLemmas.{SomeOf}
@@ -14,9 +14,10 @@ use Rattle.path_geometry.specs.Path.{Point, IsOnPath}
 use Rattle.axis_moves.specs.Motions.{end_in, left_at}
 use Rattle.job_verdict.specs.SmallSteps.{StandsAt, IsAlong, IsAtPlace}
 use Rattle.path_geometry.specs.Motions.{axes_of, IsSound}
-use Rattle.job_verdict.specs.ZoneBoxes.{after, has_axis, moves_zone, PlaceBox, Opened, Waiting, Moving, close, closed, next_open, walk, boxes_of}
+use Rattle.job_verdict.specs.ZoneBoxes.{after, moves_zone, PlaceBox, Opened, Waiting, Moving, close, closed, next_open, walk, boxes_of}
 use Rattle.sync_types.specs.declared.Item.{Item}
 use Rattle.sync_types.specs.Items.{motion_of}
+use Rattle.job_types.specs.Zones.{has_axis}
 
 -- ---- the ends of a path
 

@@ -4,16 +4,16 @@ use Rattle.std.proofs.lemmas.Bool.{eq-eqb}
 use Rattle.std.proofs.lemmas.List.Elements.{All-weaker}
 use Rattle.std.specs.Option.{option_map_or}
 use Rattle.path_geometry.specs.Path.{Point}
-use Rattle.tape_job.specs.Job.{JobView}
-use Rattle.tape_job.specs.SoundJob.{IsSoundJob}
-use Rattle.tape_job.specs.declared.job.ChannelLine.{ChannelLine}
+use Rattle.job_types.specs.Job.{JobView}
+use Rattle.job_types.specs.SoundJob.{IsSoundJob}
+use Rattle.job_types.specs.declared.job.ChannelLine.{ChannelLine}
 use Rattle.job_verdict.proofs.CoverLemmas.{standing, along_at_end}
 use Rattle.job_verdict.proofs.NoJumps.{has_acted}
 use Rattle.job_verdict.proofs.PositionLemmas.{AllJoin, joins_at}
 use Rattle.job_verdict.proofs.Runs.{motions_join}
 use Rattle.job_verdict.proofs.StateLemmas.{WellPlaced, well_placed, WellPlaced-opening, not_ended, run_place, board_first}
 use Rattle.job_verdict.proofs.ZoneLemmas.{some_at}
-use Rattle.job_verdict.specs.Channels.{start_position, items_of}
+use Rattle.job_verdict.specs.Channels.{items_of}
 use Rattle.job_verdict.specs.Safety.{CanEnd}
 use Rattle.axis_moves.specs.Motions.{left_at}
 use Rattle.job_verdict.specs.SmallSteps.{IsAlong, IsEndOf, IsAtPlace, IsAtEnd, Spot, State, opening, span_of, has_ended, is_running, motions_of, board_position, present, SmallStep, Advance, Act, after_step, IsLawful, AreLawful, reached}
@@ -22,6 +22,7 @@ use Rattle.path_geometry.specs.Motions.{axes_of}
 use Rattle.job_verdict.specs.ZoneBoxes.{after}
 use Rattle.sync_types.specs.declared.Item.{Item}
 use Rattle.sync_types.specs.Items.{motion_of}
+use Rattle.job_types.specs.Axes.{start_position}
 
 -- a place is at most the number of the motions
 place_within : (at : ℕ → ℤ) (items : List Item) (place : ℕ) (point : Point) → IsAtPlace at items place point → place ≤ length items

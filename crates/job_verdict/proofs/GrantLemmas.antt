@@ -6,22 +6,23 @@ use Rattle.std.proofs.lemmas.List.{get_or_past}
 use Rattle.std.proofs.lemmas.Option.{slice_get_within}
 use Rattle.std.proofs.lemmas.List.FromFn.{get_or-map-range_with_len, length-map-range_with_len}
 use Rattle.path_geometry.specs.Motions.{IsInRange}
-use Rattle.tape_job.specs.Job.{JobView}
-use Rattle.tape_job.specs.SoundJob.{first_owner, IsSoundJob}
-use Rattle.tape_job.specs.declared.job.AxisLine.{AxisLine}
-use Rattle.tape_job.specs.declared.job.ChannelLine.{ChannelLine}
+use Rattle.job_types.specs.Job.{JobView}
+use Rattle.job_types.specs.SoundJob.{IsSoundJob}
+use Rattle.job_types.specs.declared.job.AxisLine.{AxisLine}
+use Rattle.job_types.specs.declared.job.ChannelLine.{ChannelLine}
 use Rattle.job_verdict.proofs.Positions.{le_or_lt, starts_in_range}
-use Rattle.job_verdict.specs.Channels.{start_position, owns, owned_position, owned_positions, grant_of, granted_position}
+use Rattle.job_verdict.specs.Channels.{owned_position, owned_positions, start_grant, granted_position}
+use Rattle.job_types.specs.Axes.{first_owner, start_position, owns}
 
 -- what is granted for an axis of the row
 granted_is : (job : JobView) (line : ChannelLine) (axis : ℕ) → axis < 16 → granted_position job line axis ≡ unwrap_or (owned_position job line.channel axis) (pos 0)
-unfolding grant_of owned_positions
+unfolding start_grant owned_positions
 granted_is job line axis within =
     ap (λ (o : Option ℤ). unwrap_or o (pos 0)) (get_or-map-range_with_len (owned_position job line.channel) 0 16 axis axis None within (zero-add axis))
 
 -- and beyond it
 granted_past : (job : JobView) (line : ChannelLine) (axis : ℕ) → 16 ≤ axis → granted_position job line axis ≡ pos 0
-unfolding grant_of owned_positions
+unfolding start_grant owned_positions
 granted_past job line axis past =
     let long : length (map (owned_position job line.channel) (range_with_len 0 16)) ≡ 16 = length-map-range_with_len (owned_position job line.channel) 0 16 in
     ap (λ (o : Option ℤ). unwrap_or o (pos 0)) (get_or_past (map (owned_position job line.channel) (range_with_len 0 16)) axis None (omega arith))

@@ -23,4 +23,3 @@ pub mod JudgeLemmas
 pub mod CountLemmas
 pub mod VerdictLemmas
 pub mod ReportLemmas
-pub mod RunnableLemmas

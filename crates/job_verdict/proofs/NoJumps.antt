@@ -5,14 +5,14 @@ use Rattle.std.proofs.lemmas.List.Sums.{sum_by_push}
 use Rattle.std.specs.Option.{option_map_or}
 use Rattle.number_laws.specs.Fractions.{IsSame, whole}
 use Rattle.path_geometry.specs.Path.{Point}
-use Rattle.tape_job.specs.Job.{JobView}
-use Rattle.tape_job.specs.SoundJob.{IsSoundJob}
-use Rattle.tape_job.specs.declared.job.ChannelLine.{ChannelLine}
+use Rattle.job_types.specs.Job.{JobView}
+use Rattle.job_types.specs.SoundJob.{IsSoundJob}
+use Rattle.job_types.specs.declared.job.ChannelLine.{ChannelLine}
 use Rattle.job_verdict.proofs.PositionLemmas.{begins_at_left, after_is, left_at-nil, left_at-cons}
 use Rattle.job_verdict.proofs.SomeLemmas.{found_passes, All-found}
 use Rattle.job_verdict.proofs.Runs.{motions_join}
 use Rattle.job_verdict.proofs.StateLemmas.{WellPlaced, WellPlaced-step, well_placed, WellPlaced-opening, not_ended, run_place, board_last, end_place, one_under}
-use Rattle.job_verdict.specs.Channels.{start_position, items_of}
+use Rattle.job_verdict.specs.Channels.{items_of}
 use Rattle.job_verdict.specs.Safety.{axis_owner, axis_position, fraction_of, NoJump}
 use Rattle.axis_moves.specs.Motions.{end_in, left_at}
 use Rattle.job_verdict.specs.SmallSteps.{StandsAt, IsAlong, IsEndOf, IsAtPlace, IsAtEnd, Spot, State, opening, span_of, has_ended, motions_of, board_position, beginning, present, Act, after_step, IsLawful, reached}
@@ -21,6 +21,7 @@ use Rattle.path_geometry.specs.Motions.{axes_of}
 use Rattle.job_verdict.specs.ZoneBoxes.{after}
 use Rattle.sync_types.specs.declared.Item.{Item}
 use Rattle.sync_types.specs.Items.{motion_of}
+use Rattle.job_types.specs.Axes.{start_position}
 
 -- ---- between motions
 

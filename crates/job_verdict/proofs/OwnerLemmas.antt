@@ -4,18 +4,19 @@ use Rattle.std.proofs.lemmas.Bool.{eqb-true}
 use Rattle.std.proofs.lemmas.List.Elements.{All-nil}
 use Rattle.std.proofs.lemmas.Option.{slice_get_within, get_or_from_slice_get}
 use Rattle.std.specs.Option.{option_map_or}
-use Rattle.tape_job.specs.Job.{JobView}
-use Rattle.tape_job.specs.declared.job.AxisLine.{AxisLine}
-use Rattle.tape_job.specs.declared.job.ChannelLine.{ChannelLine}
+use Rattle.job_types.specs.Job.{JobView}
+use Rattle.job_types.specs.declared.job.AxisLine.{AxisLine}
+use Rattle.job_types.specs.declared.job.ChannelLine.{ChannelLine}
 use Rattle.job_verdict.proofs.Runs.{HasOwnAxes, motions_owned}
 use Rattle.job_verdict.proofs.SomeLemmas.{found_passes}
 use Rattle.job_verdict.specs.Channels.{items_of}
 use Rattle.job_verdict.specs.Safety.{axis_owner, OneOwner}
 use Rattle.job_verdict.specs.SmallSteps.{State, motions_of}
-use Rattle.tape_job.specs.SoundJob.{IsDeclared, first_owner, IsSoundJob}
+use Rattle.job_types.specs.SoundJob.{IsDeclared, IsSoundJob}
 use Rattle.job_verdict.specs.Stretches.{channel_line}
 use Rattle.path_geometry.specs.Motions.{axes_of}
 use Rattle.sync_types.specs.Items.{motion_of}
+use Rattle.job_types.specs.Axes.{first_owner}
 
 All-at : {X : Type 0} (P : X → Type 0) (xs : List X) (i : ℕ) (x : X) → All P xs → slice_get xs i ≡ Some x → P x
 All-at P xs i x all is = subst P (get_or_from_slice_get xs i x x is) (all i x (slice_get_within xs i x is))
@@ -23,7 +24,7 @@ All-at P xs i x all is = subst P (get_or_from_slice_get xs i x x is) (all i x (s
 -- ---- the owners in a state
 
 owned_by_one : (job : JobView) → IsSoundJob job → (state : State) (axis : ℕ) → IfSome (axis_owner job state axis) (IsDeclared job)
-unfolding axis_owner
+unfolding axis_owner first_owner
 owned_by_one job sound state axis = by_line (slice_get job.axes axis) refl
   where
     by_owner : (o : Option ℕ) → IsSomeAnd o (IsDeclared job) → IfSome o (IsDeclared job)

@@ -6,12 +6,13 @@ use Rattle.std.specs.List.{cons_option, range_with_len, list_any}
 use Rattle.swept_boxes.proofs.Meeting.{touch-from_meet}
 use Rattle.swept_boxes.specs.Boxes.{SpacePoint, IsInBox, DoMeet, TouchIn}
 use Rattle.swept_boxes.specs.declared.Box3.{Box3}
-use Rattle.tape_job.specs.Job.{JobView}
-use Rattle.tape_job.specs.declared.job.ZoneLine.{ZoneLine}
+use Rattle.job_types.specs.Job.{JobView}
+use Rattle.job_types.specs.declared.job.ZoneLine.{ZoneLine}
 use Rattle.job_verdict.proofs.SomeLemmas.{SomeOf, SomeOf-weaker, SomeOf-append_left, SomeOf-append_right, SomeOf-map, SomeOf-flat_map, SomeOf-filter, list_any-some}
-use Rattle.job_verdict.specs.Clash.{Clock, own_clock, is_open_at, may_overlap, zones_in_order, pairs_by_group, BoxPlace, box_pairs, stretch_pairs, pairs_of_zones, do_touch, boxes_meet, depth_of, pair_meets}
+use Rattle.job_verdict.specs.Clash.{Clock, own_clock, is_open_at, may_overlap, pairs_by_group, BoxPlace, box_pairs, stretch_pairs, pairs_of_zones, do_touch, boxes_meet, depth_of, pair_meets}
 use Rattle.job_verdict.specs.Stretches.{Event, Stretch, stretches_of}
 use Rattle.job_verdict.specs.ZoneBoxes.{PlaceBox, piece_boxes}
+use Rattle.job_types.specs.Zones.{zones_in_order}
 
 -- ---- zones
 

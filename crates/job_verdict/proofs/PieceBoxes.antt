@@ -12,8 +12,8 @@ use Rattle.swept_boxes.specs.Cover.{cover_of}
 use Rattle.swept_boxes.specs.Pieces.{pieces_at}
 use Rattle.swept_boxes.specs.Ranges.{RangesView, LieIn}
 use Rattle.swept_boxes.specs.declared.Box3.{Box3}
-use Rattle.tape_job.specs.declared.job.Side.{Side}
-use Rattle.tape_job.specs.declared.job.ZoneLine.{ZoneLine}
+use Rattle.job_types.specs.declared.job.Side.{Side}
+use Rattle.job_types.specs.declared.job.ZoneLine.{ZoneLine}
 use Rattle.job_verdict.proofs.MeetLemmas.{touch_of, touch_passes}
 use Rattle.job_verdict.specs.BoxView.{BoxView, MovesSoundly}
 use Rattle.job_verdict.specs.Clash.{do_touch, boxes_meet}

@@ -15,7 +15,7 @@ use Rattle.path_geometry.specs.declared.motion.Arc.{Arc}
 use Rattle.path_geometry.specs.declared.motion.Motion.{Motion}
 use Rattle.path_geometry.specs.declared.motion.Motion.TheVariants.{Line, Rapid}
 use Rattle.path_geometry.specs.declared.motion.Motion.TheVariants as Kind
-use Rattle.tape_job.specs.declared.job.ZoneLine.{ZoneLine}
+use Rattle.job_types.specs.declared.job.ZoneLine.{ZoneLine}
 use Rattle.job_verdict.proofs.CoverLemmas.{Covers, IsCovered}
 use Rattle.job_verdict.proofs.PieceBoxes.{absent}
 use Rattle.job_verdict.proofs.SomeLemmas.{SomeOf, SomeOf-weaker, SomeOf-map, found_passes, All-found}
@@ -23,9 +23,10 @@ use Rattle.path_geometry.specs.Path.{Point}
 use Rattle.axis_moves.specs.Motions.{end_in}
 use Rattle.job_verdict.specs.SmallSteps.{StandsAt, IsAlong}
 use Rattle.path_geometry.specs.Motions.{axes_of, IsSound}
-use Rattle.job_verdict.specs.ZoneBoxes.{has_axis, PlaceBox, zone_box, low_in, high_in, piece_boxes}
+use Rattle.job_verdict.specs.ZoneBoxes.{PlaceBox, zone_box, low_in, high_in, piece_boxes}
 use Rattle.sync_types.specs.declared.Item.{Item}
 use Rattle.sync_types.specs.Items.{motion_of}
+use Rattle.job_types.specs.Zones.{has_axis}
 
 -- ---- the pieces of a motion
 

@@ -5,9 +5,10 @@ use Rattle.std.proofs.lemmas.List.{length-map, ext_get_or}
 use Rattle.std.proofs.lemmas.List.Elements.{All-head, All-tail}
 use Rattle.job_verdict.specs.Channels.{positions_in}
 use Rattle.path_geometry.specs.Motions.{IsInRange}
-use Rattle.tape_job.specs.Job.{JobView}
-use Rattle.tape_job.specs.declared.job.AxisLine.{AxisLine}
-use Rattle.job_verdict.specs.Channels.{start_position, start_row}
+use Rattle.job_types.specs.Job.{JobView}
+use Rattle.job_types.specs.declared.job.AxisLine.{AxisLine}
+use Rattle.job_verdict.specs.Channels.{start_row}
+use Rattle.job_types.specs.Axes.{start_position}
 
 -- one number is not above another, or it is
 pub le_or_lt : (a b : ℕ) → (a ≤ b) ⊎ (b < a)

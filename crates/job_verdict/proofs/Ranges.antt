@@ -7,7 +7,7 @@ use mir.Val.{to_z, of_z, SFits}
 use Rattle.std.proofs.lemmas.List.Elements.{filter_map-append}
 use Rattle.std.proofs.lemmas.List.{map-append}
 use Rattle.std.specs.List.{filter_map, range_with_len}
-use Rattle.tape_job.specs.declared.job.Side.{Side}
+use Rattle.job_types.specs.declared.job.Side.{Side}
 use Rattle.job_verdict.specs.PieceTests.{by_direction}
 
 -- one number more at the end of a row

@@ -16,15 +16,16 @@ use Rattle.sync_types.specs.Items.{motion_of}
 use Rattle.sync_types.specs.declared.Action.{Action}
 use Rattle.sync_types.specs.declared.Action.TheVariants as action
 use Rattle.sync_types.specs.declared.Item.{Item}
-use Rattle.tape_job.specs.Job.{JobView}
-use Rattle.tape_job.specs.SoundJob.{first_owner, IsSoundJob}
-use Rattle.tape_job.specs.declared.job.ChannelLine.{ChannelLine}
+use Rattle.job_types.specs.Job.{JobView}
+use Rattle.job_types.specs.SoundJob.{IsSoundJob, IsRunnable}
+use Rattle.job_types.specs.declared.job.ChannelLine.{ChannelLine}
 use Rattle.job_verdict.proofs.GrantLemmas.{granted_in_range, granted_own}
 use Rattle.job_verdict.proofs.PositionLemmas.{Joins, AllJoin, after_is, left_at-nil, left_at-cons}
 use Rattle.job_verdict.proofs.Positions.{le_or_lt}
 use Rattle.job_verdict.specs.ChannelRun.{IsListedEnd}
-use Rattle.job_verdict.specs.Channels.{start_position, is_of, owns, owned_axes, grant_of, setting_at, granted_position, program_run, items_of, end_by, end_of, IsRunnable}
+use Rattle.job_verdict.specs.Channels.{owned_axes, start_grant, setting_at, granted_position, program_run, items_of, end_by, end_of}
 use Rattle.job_verdict.specs.ZoneBoxes.{IsFit, after}
+use Rattle.job_types.specs.Axes.{first_owner, start_position, is_of, owns}
 
 -- ---- motions, one after another
 
@@ -76,7 +77,7 @@ motions_sound job line starts = items_sound (setting_at job line) (granted_in_ra
 
 -- an axis that is granted is one of the row
 granted_within : (job : JobView) (line : ChannelLine) (axis : ℕ) → has (setting_at job line).grant.axes axis ≡ true → axis < 16
-unfolding grant_of owned_axes
+unfolding start_grant owned_axes
 granted_within job line axis granted = by_place (le_or_lt 16 axis)
   where
     by_place : (16 ≤ axis) ⊎ (axis < 16) → axis < 16
@@ -88,7 +89,7 @@ granted_within job line axis granted = by_place (le_or_lt 16 axis)
 
 -- and the channel's own
 granted_owned : (job : JobView) (line : ChannelLine) (axis : ℕ) → has (setting_at job line).grant.axes axis ≡ true → first_owner job axis ≡ Some line.channel
-unfolding grant_of owned_axes owns
+unfolding start_grant owned_axes owns
 granted_owned job line axis granted =
     of_owner (first_owner job axis) (sym (get_or-map-range_with_len (owns job line.channel) 0 16 axis axis false (granted_within job line axis granted) (zero-add axis)) ∙ granted)
   where

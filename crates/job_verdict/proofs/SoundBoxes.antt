@@ -3,7 +3,7 @@ use Rattle.std.proofs.Common.{ℕ, ℤ, ◌+◌, Bool, true, false, cond, List, 
 use Rattle.std.proofs.lemmas.List.Elements.{All-head, All-tail}
 use Rattle.std.specs.Prelude.{⊤}
 use Rattle.path_geometry.specs.Motions.{IsSound}
-use Rattle.tape_job.specs.declared.job.ZoneLine.{ZoneLine}
+use Rattle.job_types.specs.declared.job.ZoneLine.{ZoneLine}
 use Rattle.job_verdict.specs.BoxView.{MovesSoundly}
 use Rattle.job_verdict.specs.ZoneBoxes.{IsFit, PlaceBox, Opened, Waiting, Moving, closed, next_open, walk, boxes_of, after, moves_zone}
 use Rattle.sync_types.specs.declared.Item.{Item}

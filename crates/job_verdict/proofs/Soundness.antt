@@ -6,10 +6,11 @@ use Rattle.std.specs.Prelude.{Result, Ok, Err, IfOk}
 use Rattle.std.specs.List.{list_any}
 use Rattle.number_laws.specs.Fractions.{Fraction, IsIn, whole}
 use Rattle.swept_boxes.specs.Boxes.{SpacePoint, IsInBox}
-use Rattle.tape_job.specs.Job.{JobView}
-use Rattle.tape_job.specs.declared.job.ChannelLine.{ChannelLine}
-use Rattle.tape_job.specs.declared.job.Side.{Side}
-use Rattle.tape_job.specs.declared.job.ZoneLine.{ZoneLine}
+use Rattle.job_types.proofs.Owners.{carrier_owned}
+use Rattle.job_types.specs.Job.{JobView}
+use Rattle.job_types.specs.declared.job.ChannelLine.{ChannelLine}
+use Rattle.job_types.specs.declared.job.Side.{Side}
+use Rattle.job_types.specs.declared.job.ZoneLine.{ZoneLine}
 use Rattle.job_verdict.proofs.CoverLemmas.{Covers, box_covers, standing_covers}
 use Rattle.job_verdict.proofs.OwnerLemmas.{one_owner}
 use Rattle.job_verdict.proofs.PairLemmas.{is_in_order, some_zone_pair, IsCurrent, IsCut-own_clock, HasBox, some_box_pair, pair_is}
@@ -19,17 +20,19 @@ use Rattle.job_verdict.proofs.SomeLemmas.{SomeOf, SomeOf-weaker, SomeOf-flat_map
 use Rattle.job_verdict.proofs.StateLemmas.{WellPlaced, well_placed, WellPlaced-opening, run_place, end_place, first_span_of, later_span_of, board_last, one_under}
 use Rattle.job_verdict.proofs.VerdictLemmas.{none_meets}
 use Rattle.job_verdict.proofs.ZoneLemmas.{FractionsWithin, in_zone_box}
-use Rattle.job_verdict.specs.Channels.{start_position, items_of}
-use Rattle.job_verdict.specs.Clash.{own_clock, zones_in_order, zone_pairs, pairs_of_zones, compared_pairs, depth_of, pair_meets, verdict_of}
+use Rattle.job_verdict.specs.Channels.{items_of}
+use Rattle.job_verdict.specs.Clash.{own_clock, zone_pairs, pairs_of_zones, compared_pairs, depth_of, pair_meets, verdict_of}
 use Rattle.job_verdict.specs.Safety.{axis_owner, axis_position, fraction_of, IsInZone, ZonesMeet, NoneMeet, SafeAlways}
 use Rattle.axis_moves.specs.Motions.{left_at}
 use Rattle.path_geometry.specs.Path.{Point}
 use Rattle.job_verdict.specs.SmallSteps.{StandsAt, IsAtPlace, Spot, State, opening, span_of, has_ended, motions_of, board_position, beginning, present, reached}
-use Rattle.tape_job.specs.SoundJob.{IsDeclared, first_owner, IsCarriedBy, IsSoundZone, IsSoundJob}
+use Rattle.job_types.specs.SoundJob.{IsDeclared, IsCarriedBy, IsSoundZone, IsSoundJob}
 use Rattle.job_verdict.specs.Stretches.{Stretch, channel_line, spans_of, stretches_from, free_stretch, stretches_of}
-use Rattle.job_verdict.specs.ZoneBoxes.{is_carrier, has_axis, PlaceBox, boxes_of, piece_boxes}
+use Rattle.job_verdict.specs.ZoneBoxes.{PlaceBox, boxes_of, piece_boxes}
 use Rattle.sync_types.specs.declared.Item.{Item}
 use Rattle.job_verdict.specs.declared.stretches.Verdict.TheVariants.{Yes}
+use Rattle.job_types.specs.Zones.{zones_in_order, is_carrier, has_axis}
+use Rattle.job_types.specs.Axes.{start_position, first_owner}
 
 -- ---- channels of the job
 
@@ -48,28 +51,6 @@ declared_line job channel (k, line, within, is, same) = some_found (λ l. l.chan
 motions_are : (job : JobView) (channel : ℕ) (line : ChannelLine) → channel_line job channel ≡ Some line → motions_of job channel ≡ items_of job line
 unfolding motions_of
 motions_are job channel line is = rw is refl
-
--- ---- axes of a zone
-
-carried_side : {X : Type 0} (P : X → Type 0) (test : X → Bool) (xs : List X) → All P xs → list_any test xs ≡ true → (x : X) × P x × (test x ≡ true)
-carried_side P test [] all some = absurd (false≢true some)
-carried_side {X = X} P test (x ∷ xs) all some = by_test (test x) refl some (carried_side P test xs (All-tail P x xs all))
-  where
-    by_test : (b : Bool) → test x ≡ b → (b || list_any test xs) ≡ true → (list_any test xs ≡ true → (y : X) × P y × (test y ≡ true)) → (y : X) × P y × (test y ≡ true)
-    by_test true is some rest = (x, All-head P x xs all, is)
-    by_test false is some rest = rest some
-
--- an axis of a zone is its holder's
-carrier_owned : (job : JobView) (zone : ZoneLine) → IsSoundZone job zone → (axis : ℕ) → has_axis zone axis ≡ true → first_owner job axis ≡ zone.holder
-unfolding has_axis
-carrier_owned job zone sound axis has = by_side (carried_side (IsCarriedBy job zone.holder) (λ side. is_carrier axis side.carrier) zone.sides sound.carried has)
-  where
-    by_carrier : (o : Option (ℕ × Bool)) → IfSome o (λ carrier. first_owner job carrier.0 ≡ zone.holder) → is_carrier axis o ≡ true → first_owner job axis ≡ zone.holder
-    by_carrier None owned is = absurd (false≢true is)
-    by_carrier (Some carrier) owned is = subst (λ a. first_owner job a ≡ zone.holder) (eqb-true carrier.0 axis is) owned
-
-    by_side : (side : Side) × IsCarriedBy job zone.holder side × (is_carrier axis side.carrier ≡ true) → first_owner job axis ≡ zone.holder
-    by_side (side, owned, is) = by_carrier side.carrier owned is
 
 -- ---- where a zone is
 

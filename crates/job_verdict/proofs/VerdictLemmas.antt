@@ -5,17 +5,17 @@ use Rattle.std.proofs.lemmas.List.Elements.{All-map}
 use Rattle.std.specs.List.{range_with_len}
 use Rattle.std.specs.Option.{option_or}
 use Rattle.nc_faults.specs.declared.Alarm.{Alarm}
-use Rattle.tape_job.specs.Job.{JobView}
+use Rattle.job_types.specs.Job.{JobView}
 use Rattle.job_verdict.proofs.Runs.{good_run}
 use Rattle.job_verdict.proofs.SomeLemmas.{All-found}
 use Rattle.job_verdict.specs.ZoneBoxes.{IsFit}
 use Rattle.job_verdict.specs.ChannelRun.{IsListedEnd}
 use Rattle.job_verdict.specs.ChannelRun.{RunView, run_of, runs_of, run_in}
-use Rattle.job_verdict.specs.Channels.{IsRunnable}
 use Rattle.job_verdict.specs.FirstAnswer.{first_some}
 use Rattle.job_verdict.specs.Clash.{BoxPlace, alarm_of, stop_of, first_alarm, compared_pairs, pair_count, pair_meets, pairs_verdict, boxes_verdict, verdict_of}
 use Rattle.job_verdict.specs.declared.stretches.Verdict.TheVariants.{Yes, Undecided}
 use Rattle.job_verdict.specs.declared.stretches.Verdict.TheVariants as verdicts
+use Rattle.job_types.specs.SoundJob.{IsRunnable}
 
 -- the first answer from a number on that gives none
 pub first_some-next : {Y : Type 0} (f : ℕ → Option Y) (low over : ℕ) → low < over → f low ≡ None

@@ -8,9 +8,10 @@ use Rattle.number_laws.proofs.Orders.{some, given, both, by, all_of, refute}
 use Rattle.number_laws.proofs.Ring.{num, var, plus, minus, times}
 use Rattle.number_laws.specs.Fractions.{Fraction, IsAtMost, IsIn}
 use Rattle.swept_boxes.specs.Boxes.{SpacePoint, IsInBox}
-use Rattle.tape_job.specs.declared.job.ZoneLine.{ZoneLine}
+use Rattle.job_types.specs.declared.job.ZoneLine.{ZoneLine}
 use Rattle.job_verdict.specs.Safety.{IsInZone, bound_at}
-use Rattle.job_verdict.specs.ZoneBoxes.{carried_low, carried_high, side_low, side_high, box_of, zone_box, is_carrier, has_axis}
+use Rattle.job_verdict.specs.ZoneBoxes.{carried_low, carried_high, side_low, side_high, box_of, zone_box}
+use Rattle.job_types.specs.Zones.{is_carrier, has_axis}
 
 -- (bound * u + t) * m ≤ x * u and low * u ≤ t give (bound + low) * m ≤ x
 above_plus : (bound low t x : ℤ) (u m : ℕ) → 0 < u → (low *ℤ pos u) ≤ℤ t → (((bound *ℤ pos u) +ℤ t) *ℤ pos m) ≤ℤ (x *ℤ pos u) → ((bound +ℤ low) *ℤ pos m) ≤ℤ x

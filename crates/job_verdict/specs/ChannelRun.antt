@@ -5,8 +5,8 @@ use Rattle.sync_types.specs.declared.ChannelEnd.{ChannelEnd}
 use Rattle.sync_types.specs.declared.ChannelEnd.TheVariants.{Ended, Alarmed}
 use Rattle.nc_faults.specs.Texts.{IsAlarmCode}
 use Rattle.nc_faults.specs.declared.Alarm.{Alarm}
-use Rattle.tape_job.specs.Job.{JobView}
-use Rattle.tape_job.specs.declared.job.ChannelLine.{ChannelLine}
+use Rattle.job_types.specs.Job.{JobView}
+use Rattle.job_types.specs.declared.job.ChannelLine.{ChannelLine}
 use Rattle.job_verdict.specs.Channels.{items_of, end_of}
 
 -- the channel, its motions, and how its run ends

@@ -1,11 +1,10 @@
 -- Meaning. What a channel does: the program that it runs, what it is granted at its start, and what comes of both.
-use Rattle.std.specs.Prelude.{◌≤◌, All, ℕ, ℤ, pos, ◌-◌, ◌==◌, ◌&&◌, Bool, false, if◌then◌else◌, List, ◌++◌, map, length, replicate, Option, None, Some, slice_get, slice_index_or, position}
+use Rattle.std.specs.Prelude.{ℕ, ℤ, pos, ◌-◌, ◌==◌, ◌&&◌, Bool, if◌then◌else◌, List, ◌++◌, map, length, replicate, Option, None, Some, slice_index_or, position}
 use Rattle.std.specs.List.{list_any, range_with_len}
 use Rattle.std.specs.Map.{keys_of}
-use Rattle.std.specs.Option.{option_map_or, option_and_then}
+use Rattle.std.specs.Option.{option_and_then}
 use Rattle.std.specs.Str.{bytes_eq}
 use Rattle.channel_machine.specs.Run.{Setting, SegmentView, setting_of, begun, segment_of, stands_at_start}
-use Rattle.path_geometry.specs.Motions.{IsInRange}
 use Rattle.sync_types.specs.declared.Action.{Action}
 use Rattle.sync_types.specs.declared.Action.TheVariants as action
 use Rattle.sync_types.specs.declared.ChannelEnd.{ChannelEnd}
@@ -13,18 +12,14 @@ use Rattle.sync_types.specs.declared.ChannelEnd.TheVariants.{Ended, Alarmed}
 use Rattle.sync_types.specs.declared.Grant.{Grant}
 use Rattle.sync_types.specs.declared.Item.{Item}
 use Rattle.sync_types.specs.declared.Step.{Step}
-use Rattle.tape_job.specs.Job.{JobView}
-use Rattle.tape_job.specs.SoundJob.{BlocksFit, first_owner}
-use Rattle.tape_job.specs.declared.job.ChannelLine.{ChannelLine}
-use Rattle.tape_job.specs.declared.job.ZoneLine.{ZoneLine}
+use Rattle.job_types.specs.Job.{JobView}
+use Rattle.job_types.specs.declared.job.ChannelLine.{ChannelLine}
+use Rattle.job_types.specs.declared.job.ZoneLine.{ZoneLine}
+use Rattle.job_types.specs.Axes.{start_position, is_of, owns}
 
 -- ---- where the job puts axes
 
--- where the job puts an axis
-unfoldable pub start_position : JobView → ℕ → ℤ
-start_position job axis = option_map_or (λ line. line.at) (slice_get job.axes axis) (pos 0)
-
--- the row of these positions, filled up to 16
+-- the row of the positions where the job puts its axes, filled up to 16
 unfoldable pub start_row : JobView → List ℤ
 start_row job = map (λ line. line.at) job.axes ++ replicate (16 - length job.axes) (pos 0)
 
@@ -33,15 +28,6 @@ abbrev pub positions_in : List ℤ → ℕ → ℤ
 positions_in at axis = slice_index_or at axis (pos 0)
 
 -- ---- the grant
-
--- this is the channel
-abbrev pub is_of : ℕ → Option ℕ → Bool
-is_of channel None = false
-is_of channel (Some owner) = owner == channel
-
--- the job gives the axis to the channel
-unfoldable pub owns : JobView → ℕ → ℕ → Bool
-owns job channel axis = is_of channel (first_owner job axis)
 
 -- all axes of a channel
 unfoldable pub owned_axes : JobView → ℕ → List Bool
@@ -74,8 +60,8 @@ unfoldable pub program_place : JobView → ChannelLine → Option ℕ
 program_place job line = option_and_then (place_named job) line.program
 
 -- what a channel is granted at its start: its axes and where they stand, its zones, and its program
-unfoldable pub grant_of : JobView → ChannelLine → Grant
-grant_of job line = record {
+unfoldable pub start_grant : JobView → ChannelLine → Grant
+start_grant job line = record {
   axes = owned_axes job line.channel;
   at = owned_positions job line.channel;
   on = zones_on job line.channel;
@@ -86,11 +72,11 @@ grant_of job line = record {
 
 -- what the channel of a CHANNEL line runs by
 abbrev pub setting_at : JobView → ChannelLine → Setting
-setting_at job line = setting_of job line.channel (grant_of job line)
+setting_at job line = setting_of job line.channel (start_grant job line)
 
 -- where its axes stand at its start
 abbrev pub granted_position : JobView → ChannelLine → ℕ → ℤ
-granted_position job line = stands_at_start (grant_of job line)
+granted_position job line = stands_at_start (start_grant job line)
 
 -- the run of the program that a CHANNEL line selects, from its first block to its end
 unfoldable pub program_run : JobView → ChannelLine → SegmentView
@@ -111,14 +97,3 @@ items_of job line = (program_run job line).items
 -- how its run ends
 abbrev pub end_of : JobView → ChannelLine → ChannelEnd
 end_of job line = end_of_step (program_run job line).step
-
--- ---- jobs that can be run
-
--- the job can be run and judged: it has few axes, they start in range, its motions are cut at most four times, its programs can be numbered,
--- and its blocks name parameters that there are
-pub record IsRunnable (job : JobView) : Type 0 where
-  pub axes : length job.axes ≤ 16
-  pub starts : All (λ line. IsInRange line.at) job.axes
-  pub depth : job.depth ≤ 4
-  pub programs : length job.programs ≤ 256
-  pub blocks : BlocksFit job

@@ -2,13 +2,13 @@
 use Rattle.std.specs.Prelude.{ℕ, ◌==◌, ◌&&◌, not, nat_lt, Bool, true, if◌then◌else◌, List, [], ◌∷◌, ◌++◌, map, length, Option, None, Some, find, filter}
 use Rattle.std.specs.Int.{int_max, int_min}
 use Rattle.std.specs.Int.RustNames.{int_le}
-use Rattle.std.specs.List.{flat_map, filter_map, range_with_len, list_any}
+use Rattle.std.specs.List.{flat_map, range_with_len, list_any}
 use Rattle.std.specs.Option.{option_map, option_map_or, option_and_then}
 use Rattle.nc_faults.specs.declared.Alarm.{Alarm}
 use Rattle.swept_boxes.specs.Boxes.{low_of, high_of}
 use Rattle.swept_boxes.specs.declared.Box3.{Box3}
-use Rattle.tape_job.specs.Job.{JobView}
-use Rattle.tape_job.specs.declared.job.ZoneLine.{ZoneLine}
+use Rattle.job_types.specs.Job.{JobView}
+use Rattle.job_types.specs.declared.job.ZoneLine.{ZoneLine}
 use Rattle.job_verdict.specs.ZoneBoxes.{PlaceBox, piece_boxes}
 use Rattle.job_verdict.specs.ChannelRun.{RunView, runs_of, run_in, alarm_in}
 use Rattle.job_verdict.specs.FirstAnswer.{first_some}
@@ -17,6 +17,7 @@ use Rattle.job_verdict.specs.declared.stretches.PlaceName.{PlaceName}
 use Rattle.job_verdict.specs.declared.stretches.Verdict.{Verdict}
 use Rattle.job_verdict.specs.declared.stretches.Verdict.TheVariants.{Yes, No, Undecided}
 use Rattle.job_verdict.specs.declared.stretches.Verdict.TheVariants as verdicts
+use Rattle.job_types.specs.Zones.{zones_in_order}
 
 -- how many events of the other channel are this event or before it, by channel, place and other channel
 abbrev pub Clock : Type 0
@@ -35,10 +36,6 @@ is_open_at clock (Some last) (Some first) = nat_lt (clock first.channel first.pl
 -- two stretches may overlap where neither is over as the other begins
 unfoldable pub may_overlap : Clock → Stretch → Stretch → Bool
 may_overlap clock left right = is_open_at clock left.last right.first && is_open_at clock right.last left.first
-
--- the zones in ascending order of their numbers
-unfoldable pub zones_in_order : JobView → List ZoneLine
-zones_in_order job = filter_map (λ number. find (λ zone. zone.zone == number) job.zones) (range_with_len 1 32)
 
 -- each zone with each later one of another group
 abbrev pub pairs_by_group : List ZoneLine → List (ZoneLine × ZoneLine)

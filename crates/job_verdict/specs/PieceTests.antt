@@ -6,8 +6,8 @@ use Rattle.swept_boxes.specs.Boxes.{low_of, high_of}
 use Rattle.swept_boxes.specs.Pieces.{pieces_at}
 use Rattle.swept_boxes.specs.Ranges.{RangesView}
 use Rattle.swept_boxes.specs.declared.Box3.{Box3}
-use Rattle.tape_job.specs.declared.job.Side.{Side}
-use Rattle.tape_job.specs.declared.job.ZoneLine.{ZoneLine}
+use Rattle.job_types.specs.declared.job.Side.{Side}
+use Rattle.job_types.specs.declared.job.ZoneLine.{ZoneLine}
 use Rattle.job_verdict.specs.BoxView.{BoxView}
 use Rattle.job_verdict.specs.Clash.{boxes_meet}
 use Rattle.job_verdict.specs.ZoneBoxes.{side_low, side_high}

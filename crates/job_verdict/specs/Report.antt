@@ -1,5 +1,5 @@
 -- Meaning. The report of a job, and the line of a refused input. Each line ends with a line feed, and its words are separated by one blank.
-use Rattle.std.specs.Prelude.{ℕ, ℤ, pos, negsuc, suc, nat_lt, Bool, if◌then◌else◌, ◌/◌, ◌%◌, List, [], ◌++◌, unwrap_or, slice_get, codes, encode_utf8}
+use Rattle.std.specs.Prelude.{ℕ, ℤ, pos, negsuc, suc, nat_lt, Bool, if◌then◌else◌, ◌/◌, ◌%◌, List, [], ◌++◌, unwrap_or, slice_get, codes}
 use Rattle.std.specs.Fmt.{decimal}
 use Rattle.std.specs.List.{flat_map, range_with_len}
 use Rattle.std.specs.Option.{option_map_or}
@@ -10,7 +10,8 @@ use Rattle.path_geometry.specs.declared.motion.Arc.{Arc}
 use Rattle.path_geometry.specs.declared.motion.Motion.{Motion}
 use Rattle.path_geometry.specs.declared.motion.Motion.TheVariants.{Line, Rapid}
 use Rattle.path_geometry.specs.declared.motion.Motion.TheVariants as Kind
-use Rattle.tape_job.specs.Job.{JobView}
+use Rattle.job_types.specs.Axes.{axis_name}
+use Rattle.job_types.specs.Job.{JobView}
 use Rattle.job_verdict.specs.ChannelRun.{RunView, run_in}
 use Rattle.sync_types.specs.declared.ChannelEnd.{ChannelEnd}
 use Rattle.sync_types.specs.declared.ChannelEnd.TheVariants.{Ended, Alarmed}
@@ -32,13 +33,13 @@ unfoldable pub position_text : ℤ → List ℕ
 position_text (pos n) = millimetres_text n
 position_text (negsuc n) = codes "-" ++ millimetres_text (suc n)
 
--- the name of an axis: its letter and its number; the job names no axis beyond its AXIS lines
-unfoldable pub axis_name : JobView → ℕ → List ℕ
-axis_name job axis = option_map_or (λ line. encode_utf8 line.letter ++ decimal line.number) (slice_get job.axes axis) []
+-- the name of an axis; the job names no axis beyond its AXIS lines
+unfoldable pub axis_text : JobView → ℕ → List ℕ
+axis_text job axis = option_map_or axis_name (slice_get job.axes axis) []
 
 -- an axis of a motion with the position at the motion's end
 unfoldable pub end_text : JobView → ℕ × ℤ × ℤ → List ℕ
-end_text job end = codes " " ++ (axis_name job end.0 ++ (codes "=" ++ position_text end.2))
+end_text job end = codes " " ++ (axis_text job end.0 ++ (codes "=" ++ position_text end.2))
 
 -- the centre of an arc, its axes in the order of the AXIS lines
 unfoldable pub centre_text : JobView → Arc → List ℕ
@@ -50,7 +51,7 @@ centre_text job arc =
 -- an arc: the axes of its turn, where it ends, and its centre
 unfoldable pub arc_text : JobView → Arc → List ℕ
 arc_text job arc =
-    codes "ARC " ++ (axis_name job arc.first ++ (codes " " ++ (axis_name job arc.second
+    codes "ARC " ++ (axis_text job arc.first ++ (codes " " ++ (axis_text job arc.second
     ++ (flat_map (end_text job) arc.ends.axes ++ (codes " CENTRE" ++ centre_text job arc)))))
 
 -- what a motion is, and where it ends

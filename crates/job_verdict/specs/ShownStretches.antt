@@ -1,11 +1,10 @@
 -- Steps. The stretches of a zone as the comparison takes them, and the first two boxes that meet.
 use Rattle.std.specs.Prelude.{ℕ, ◌==◌, ◌&&◌, not, Bool, true, false, if◌then◌else◌, List, [], ◌∷◌, map, Option, None, Some}
 use Rattle.std.specs.Option.{option_map, option_or}
-use Rattle.tape_job.specs.Job.{JobView}
-use Rattle.tape_job.specs.declared.job.ZoneLine.{ZoneLine}
+use Rattle.job_types.specs.Job.{JobView}
+use Rattle.job_types.specs.declared.job.ZoneLine.{ZoneLine}
 use Rattle.job_verdict.specs.BoxView.{BoxView}
 use Rattle.job_verdict.specs.ChannelRun.{RunView, line_of_end}
-use Rattle.job_verdict.specs.Channels.{start_position, is_of}
 use Rattle.job_verdict.specs.FirstAnswer.{first_some}
 use Rattle.axis_moves.specs.Motions.{left_at}
 use Rattle.job_verdict.specs.PieceTests.{do_meet}
@@ -18,6 +17,7 @@ use Rattle.job_verdict.specs.declared.stretches.StretchKind.{StretchKind}
 use Rattle.job_verdict.specs.declared.stretches.StretchKind.TheVariants.{Run, End}
 use Rattle.job_verdict.specs.declared.stretches.Verdict.{Verdict}
 use Rattle.job_verdict.specs.declared.stretches.Verdict.TheVariants.{Yes, No}
+use Rattle.job_types.specs.Axes.{start_position, is_of}
 
 -- while the channel runs, and after its end
 unfoldable pub run_stretch : JobView → ZoneLine → RunView → StretchView

@@ -1,16 +1,17 @@
 -- Meaning. The stretches into which the time of a zone falls, each between two events of its channel.
 use Rattle.std.specs.Prelude.{ℕ, zero, suc, ℤ, ◌==◌, List, [], ◌∷◌, Option, None, Some, find}
 use Rattle.std.specs.Option.{option_map_or}
-use Rattle.tape_job.specs.Job.{JobView}
-use Rattle.tape_job.specs.declared.job.ChannelLine.{ChannelLine}
-use Rattle.tape_job.specs.declared.job.ZoneLine.{ZoneLine}
+use Rattle.job_types.specs.Job.{JobView}
+use Rattle.job_types.specs.declared.job.ChannelLine.{ChannelLine}
+use Rattle.job_types.specs.declared.job.ZoneLine.{ZoneLine}
 use Rattle.job_verdict.specs.ChannelRun.{line_of_end}
-use Rattle.job_verdict.specs.Channels.{start_position, items_of, end_of}
+use Rattle.job_verdict.specs.Channels.{items_of, end_of}
 use Rattle.axis_moves.specs.Motions.{left_at}
 use Rattle.job_verdict.specs.ZoneBoxes.{PlaceBox, boxes_of}
 use Rattle.sync_types.specs.declared.Item.{Item}
 use Rattle.job_verdict.specs.declared.stretches.StretchKind.{StretchKind}
 use Rattle.job_verdict.specs.declared.stretches.StretchKind.TheVariants.{Run, End, Free}
+use Rattle.job_types.specs.Axes.{start_position}
 
 -- an event of a channel: the first, the second and so on, counted from 1
 pub record Event : Type 0 where

@@ -7,11 +7,12 @@ use Rattle.path_geometry.specs.Motions.{axes_of, IsSound}
 use Rattle.swept_boxes.specs.Pieces.{pieces_at}
 use Rattle.swept_boxes.specs.Ranges.{RangesView}
 use Rattle.swept_boxes.specs.declared.Box3.{Box3}
-use Rattle.tape_job.specs.declared.job.Side.{Side}
-use Rattle.tape_job.specs.declared.job.ZoneLine.{ZoneLine}
+use Rattle.job_types.specs.declared.job.Side.{Side}
+use Rattle.job_types.specs.declared.job.ZoneLine.{ZoneLine}
 use Rattle.sync_types.specs.declared.Item.{Item}
 use Rattle.job_verdict.specs.BoxView.{BoxView}
 use Rattle.sync_types.specs.Items.{motion_of}
+use Rattle.job_types.specs.Zones.{has_axis}
 
 -- where the axes stand after a motion: at its ends, and elsewhere where they stood
 unfoldable pub after : Item → (ℕ → ℤ) → ℕ → ℤ
@@ -46,14 +47,6 @@ box_of margin sides low high = record { lo = map (side_low margin low high) side
 
 abbrev pub zone_box : ℤ → ZoneLine → (ℕ → ℤ) → (ℕ → ℤ) → Box3
 zone_box margin zone low high = box_of margin zone.sides low high
-
--- the zone has this axis: one of its directions is carried by it
-abbrev pub is_carrier : ℕ → Option (ℕ × Bool) → Bool
-is_carrier axis None = false
-is_carrier axis (Some carrier) = carrier.0 == axis
-
-unfoldable pub has_axis : ZoneLine → ℕ → Bool
-has_axis zone axis = list_any (λ side. is_carrier axis side.carrier) zone.sides
 
 -- an axis of the zone is among the axes of the motion, whether or not it moves there
 unfoldable pub moves_zone : ZoneLine → Item → Bool

@@ -1,38 +1,28 @@
 //! What each channel does: the run of the program that its CHANNEL line selects.
 ghost use Rattle.std.specs.Prelude.{◌≡◌, ◌==◌, ℕ, ◌≤◌, IfOk, find, length, option_copied};
-ghost use Rattle.tape_job.specs.SoundJob.{first_owner};
 ghost use Rattle.job_verdict.specs.Channels as model;
 ghost use Rattle.job_verdict.specs.ChannelRun.{run_of, run_in, alarm_in, line_of_end};
+ghost use Rattle.job_types.specs.SoundJob.{IsRunnable};
+ghost use Rattle.job_types.specs.Axes.{start_position, is_of, owns};
 
 use axis_sets::{AxisId, AxisSet, ChannelId, Positions, ZoneSet};
 use channel_machine::{Local, Segment, run_segment};
+use job_types::{ChannelLine, Job, ZoneLine, first_owner, start_position};
 use micro_units::Um;
 use nc_blocks::NameText;
 use nc_faults::{Alarm, NoMemory};
 use std::alloc::{AllocError, Global};
 use std::marker::Model;
 use sync_types::{Action, ChannelEnd, Grant, Item, Step};
-use tape_job::{ChannelLine, Job, ZoneLine};
 
 /// Where each axis of a job stands, in micrometres.
 pub type Row = [Um; 16];
-
-/// Where the job puts an axis.
-#[tactic(auto, unfolding(crate::specs::Channels::start_position))]
-fn start_position(job: &Job, index: usize) -> Um
-    ensures { result ≡ model.start_position job.now index }
-{
-    match job.axes.get(index) {
-        Some(line) => line.at,
-        None => Um { micrometres: 0 },
-    }
-}
 
 /// Where the job puts its axes.
 pub fn start_positions(job: &Job) -> Row
     requires { length job.now.axes ≤ 16 }
     ensures row { result ≡ model.start_row job.now }
-    ensures each { (axis : ℕ) → model.positions_in result axis ≡ model.start_position job.now axis }
+    ensures each { (axis : ℕ) → model.positions_in result axis ≡ start_position job.now axis }
 {
     let mut at = [Um { micrometres: 0 }; 16];
     for index in 0..16 {
@@ -43,7 +33,7 @@ pub fn start_positions(job: &Job) -> Row
 
 /// Whether this is the channel.
 pub fn is_of(channel: ChannelId, owner: Option<ChannelId>) -> bool
-    ensures { result ≡ model.is_of channel owner }
+    ensures { result ≡ is_of channel owner }
 {
     match owner {
         Some(owner) => owner == channel,
@@ -52,22 +42,11 @@ pub fn is_of(channel: ChannelId, owner: Option<ChannelId>) -> bool
 }
 
 /// Whether the job gives the axis to the channel.
-#[tactic(auto, unfolding(crate::specs::Channels::owns))]
+#[tactic(auto, unfolding(job_types::specs::Axes::owns))]
 fn owns(job: &Job, channel: ChannelId, axis: AxisId) -> bool
-    ensures { result ≡ model.owns job.now channel axis }
+    ensures { result ≡ owns job.now channel axis }
 {
     is_of(channel, first_owner(job, axis))
-}
-
-/// The channel that owns an axis at the start, or none.
-#[tactic(auto, unfolding(tape_job::specs::SoundJob::first_owner))]
-fn first_owner(job: &Job, axis: AxisId) -> Option<ChannelId>
-    ensures { result ≡ first_owner job.now axis }
-{
-    match job.axes.get(usize::from(axis.index)) {
-        Some(line) => line.owner,
-        None => None,
-    }
 }
 
 /// All axes of a channel.
@@ -142,10 +121,10 @@ fn program_place(job: &Job, line: &ChannelLine) -> Option<u16>
 }
 
 /// What a channel is granted at its start.
-#[tactic(auto, unfolding(crate::specs::Channels::grant_of))]
-fn first_grant(job: &Job, line: &ChannelLine) -> Grant
+#[tactic(auto, unfolding(crate::specs::Channels::start_grant))]
+fn start_grant(job: &Job, line: &ChannelLine) -> Grant
     requires { length job.now.programs ≤ 256 }
-    ensures { result ≡ model.grant_of job.now line.now }
+    ensures { result ≡ model.start_grant job.now line.now }
 {
     Grant {
         axes: owned_axes(job, line.channel),
@@ -220,11 +199,11 @@ fn end_of_step(step: &Step) -> ChannelEnd
 
 /// Runs the program that a CHANNEL line selects, from its first block to its end.
 fn run_selected(alloc: Global, job: &Job, line: &ChannelLine) -> Result<Segment, NoMemory>
-    requires { model.IsRunnable job.now }
+    requires { IsRunnable job.now }
     ensures items { IfOk result (λ segment. (model.program_run job.now line.now).items ≡ segment.items) }
     ensures step { IfOk result (λ segment. (model.program_run job.now line.now).step ≡ segment.step) }
 {
-    let grant = first_grant(job, line);
+    let grant = start_grant(job, line);
     let local = Local::start(alloc, job, line.channel, &grant)?;
     let segment = run_segment(alloc, job, &local)?;
     Ok(segment)
@@ -233,7 +212,7 @@ fn run_selected(alloc: Global, job: &Job, line: &ChannelLine) -> Result<Segment,
 /// Runs the channel of a CHANNEL line.
 #[tactic(auto, unfolding(crate::specs::ChannelRun::run_of))]
 pub fn run_channel(alloc: Global, job: &Job, line: &ChannelLine) -> Result<ChannelRun, AllocError>
-    requires { model.IsRunnable job.now }
+    requires { IsRunnable job.now }
     ensures { IfOk result (λ run. run ≡ run_of job.now line.now) }
 {
     match run_selected(alloc, job, line) {

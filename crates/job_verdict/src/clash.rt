@@ -9,8 +9,8 @@ use crate::pieces::{Measure, do_pieces_meet};
 use crate::stretches::{PlaceName, Stretch, StretchKind, Verdict};
 use crate::zone_boxes::ZoneBox;
 use axis_sets::ChannelId;
+use job_types::ZoneLine;
 use std::marker::Model;
-use tape_job::ZoneLine;
 
 /// A zone with its stretches.
 #[derive(Debug, Drop)]

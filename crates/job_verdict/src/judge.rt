@@ -1,11 +1,11 @@
 //! Runs a job and judges it.
 ghost use Rattle.std.specs.Prelude.{◌≡◌, ◌==◌, IfOk, Some, find, map};
 ghost use Rattle.job_verdict.specs.ChannelRun.{runs_of};
-ghost use Rattle.job_verdict.specs.Channels.{IsRunnable};
 ghost use Rattle.job_verdict.specs.Clash as model;
 ghost use Rattle.job_verdict.specs.ShownStretches as shown;
 ghost use Rattle.job_verdict.specs.Stretches.{stretches_of};
-ghost use Rattle.tape_job.specs.SoundJob.{BlocksFit, IsSoundJob};
+ghost use Rattle.job_types.specs.SoundJob.{BlocksFit, IsSoundJob, IsRunnable};
+ghost use Rattle.job_types.specs.Zones.{zones_in_order};
 
 use crate::channels::{ChannelRun, alarm_in, run_channel, run_in};
 use crate::clash::{HeldZone, verdict_on};
@@ -13,9 +13,9 @@ use crate::pair_counts::count_pairs;
 use crate::pieces::Measure;
 use crate::stretches::{Stretch, Verdict, free_stretches, stretches_of_run};
 use axis_sets::ChannelId;
+use job_types::{Job, ZoneLine};
 use nc_faults::Alarm;
 use std::alloc::{AllocError, Global};
-use tape_job::{Job, ZoneLine};
 
 /// The stretches of a zone that this channel holds, from its run.
 fn held_stretches<'a>(
@@ -83,7 +83,7 @@ fn zone_numbered(job: &Job, number: u8) -> Option<ZoneLine>
 }
 
 /// The zones with their stretches, in ascending order of their numbers.
-#[tactic(auto, unfolding(crate::specs::Clash::zones_in_order))]
+#[tactic(auto, unfolding(job_types::specs::Zones::zones_in_order))]
 fn held_zones<'a>(
     alloc: Global,
     job: &Job,
@@ -91,7 +91,7 @@ fn held_zones<'a>(
 ) -> Result<Vec<HeldZone<'a>>, AllocError>
     requires runnable { IsRunnable job.now }
     requires ran { runs.now ≡ runs_of job.now }
-    ensures { IfOk result (λ zones. zones.items ≡ map (shown.held_zone job.now) (model.zones_in_order job.now)) }
+    ensures { IfOk result (λ zones. zones.items ≡ map (shown.held_zone job.now) (zones_in_order job.now)) }
 {
     let mut zones = Vec::new(alloc);
     for index in 0..32 {
@@ -181,7 +181,7 @@ fn judge(alloc: Global, job: &Job, runs: &[ChannelRun]) -> Result<Verdict, Alloc
 }
 
 /// Runs every channel of an accepted job, and judges the job.
-#[tactic(auto, using(crate::proofs::RunnableLemmas::runnable))]
+#[tactic(auto, using(job_types::proofs::RunnableJobs::runnable))]
 pub fn check_job(alloc: Global, job: &Job) -> Result<(Vec<ChannelRun>, Verdict), AllocError>
     requires accepted { IsSoundJob job.now }
     requires indices { BlocksFit job.now }

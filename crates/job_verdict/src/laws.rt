@@ -1,6 +1,6 @@
 //! Laws of small steps, which no single call makes. Each stands on a function that does nothing.
-ghost use Rattle.tape_job.specs.Job.{JobView};
-ghost use Rattle.tape_job.specs.SoundJob.{IsSoundJob};
+ghost use Rattle.job_types.specs.Job.{JobView};
+ghost use Rattle.job_types.specs.SoundJob.{IsSoundJob};
 ghost use Rattle.job_verdict.specs.Safety.{NoJump, CanEnd};
 
 /// No axis of an accepted job jumps: each motion begins where the motions before it left its axes, and where a channel

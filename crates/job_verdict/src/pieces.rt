@@ -10,10 +10,10 @@ ghost use Rattle.sync_types.specs.Items.{motion_of};
 
 use crate::zone_boxes::{ZoneBox, bounds_between, range_of};
 use arrayvec::ArrayVec;
+use job_types::{Side, ZoneLine};
 use micro_units::Um;
 use swept_boxes::{Box3, Ranges, pieces_of};
 use sync_types::Item;
-use tape_job::{Side, ZoneLine};
 
 /// How boxes are compared: by how much each is grown, and how often motions are cut.
 #[derive(Clone, Copy, Debug, PartialEq, Eq)]

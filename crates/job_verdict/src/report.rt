@@ -8,12 +8,12 @@ ghost use Rattle.job_verdict.specs.Report as model;
 use crate::channels::{ChannelRun, run_in};
 use crate::stretches::{PlaceName, StretchKind, Verdict};
 use axis_sets::{AxisId, ChannelId};
+use job_types::Job;
 use micro_units::Um;
 use nc_faults::{Alarm, Refusal, alarm_text, refusal_text};
 use path_geometry::{Arc, Ends, Motion};
 use std::alloc::{AllocError, Global};
 use sync_types::{ChannelEnd, Item};
-use tape_job::Job;
 
 /// Writes so many micrometres as millimetres with three decimals.
 #[tactic(auto, unfolding(crate::specs::Report::millimetres_text))]
@@ -39,9 +39,9 @@ fn push_position(out: &mut String, at: Um) -> Result<(), AllocError>
 }
 
 /// Writes the name of an axis.
-#[tactic(auto, unfolding(crate::specs::Report::axis_name))]
+#[tactic(auto, unfolding(crate::specs::Report::axis_text, job_types::specs::Axes::axis_name))]
 fn push_axis_name(out: &mut String, job: &Job, axis: AxisId) -> Result<(), AllocError>
-    ensures { OnOk result (string_bytes out.new ≡ string_bytes out.old ++ model.axis_name job.now axis) }
+    ensures { OnOk result (string_bytes out.new ≡ string_bytes out.old ++ model.axis_text job.now axis) }
 {
     let Some(line) = job.axes.get(usize::from(axis.index)) else {
         return Ok(());

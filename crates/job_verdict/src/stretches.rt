@@ -2,19 +2,19 @@
 ghost use Rattle.std.specs.Prelude.{◌≡◌, ◌≤◌, ℕ, [], ◌∷◌, All, IfOk, length, map};
 ghost use Rattle.axis_moves.specs.Motions.{left_at};
 ghost use Rattle.job_verdict.specs.Channels.{positions_in};
-ghost use Rattle.job_verdict.specs.Channels.{start_position};
 ghost use Rattle.job_verdict.specs.ShownStretches as model;
 ghost use Rattle.job_verdict.specs.Stretches.{free_stretch};
 ghost use Rattle.job_verdict.specs.ZoneBoxes.{IsFit};
+ghost use Rattle.job_types.specs.Axes.{start_position};
 
 use crate::channels::{ChannelRun, Row, line_of_end, start_positions};
 use crate::zone_boxes::{ZoneBox, boxes_of, settle};
 use axis_sets::{ChannelId, ZoneId};
+use job_types::{Job, ZoneLine};
 use nc_faults::Alarm;
 use std::alloc::{AllocError, Global};
 use std::marker::Model;
 use sync_types::Item;
-use tape_job::{Job, ZoneLine};
 
 /// What happens in a stretch of a zone: what the channel does that holds it, or that none does.
 #[derive(Clone, Copy, Debug, PartialEq, Eq)]

@@ -5,16 +5,17 @@ ghost use Rattle.job_verdict.specs.Channels.{positions_in};
 ghost use Rattle.path_geometry.specs.Motions.{IsSound, axes_of};
 ghost use Rattle.job_verdict.specs.ZoneBoxes as model;
 ghost use Rattle.sync_types.specs.Items.{motion_of};
+ghost use Rattle.job_types.specs.Zones.{is_carrier, has_axis};
 
 use crate::channels::Row;
 use arrayvec::ArrayVec;
 use axis_sets::AxisId;
+use job_types::{Side, ZoneLine};
 use micro_units::Um;
 use std::alloc::{AllocError, Global};
 use std::marker::Model;
 use swept_boxes::{Box3, Ranges, cover};
 use sync_types::Item;
-use tape_job::{Side, ZoneLine};
 
 /// Where an axis stands.
 fn standing(at: &Row, axis: AxisId) -> Um
@@ -120,7 +121,7 @@ pub fn zone_box(margin: Um, zone: &ZoneLine, ranges: &Ranges, at: &Row) -> Box3
 
 /// Whether a direction is carried by this axis.
 fn is_carrier(axis: AxisId, carrier: Option<(AxisId, bool)>) -> bool
-    ensures { result ≡ model.is_carrier axis carrier }
+    ensures { result ≡ is_carrier axis carrier }
 {
     match carrier {
         Some((other, _)) => other == axis,
@@ -129,9 +130,9 @@ fn is_carrier(axis: AxisId, carrier: Option<(AxisId, bool)>) -> bool
 }
 
 /// Whether one of the zone's directions is carried by this axis.
-#[tactic(auto, unfolding(crate::specs::ZoneBoxes::has_axis))]
+#[tactic(auto, unfolding(job_types::specs::Zones::has_axis))]
 fn has_axis(zone: &ZoneLine, axis: AxisId) -> bool
-    ensures { result ≡ model.has_axis zone.now axis }
+    ensures { result ≡ has_axis zone.now axis }
 {
     zone.sides.iter().any(|side| is_carrier(axis, side.carrier))
 }

@@ -2,7 +2,6 @@
 use Rattle.std.proofs.Common.{◌≡◌, ◌∙◌, inl, inr, ℕ, List, [], ◌∷◌, ◌++◌, Option, Some, None, subst, refl, ap, append_assoc, append-nil}
 use Rattle.std.specs.Option.{option_or}
 use Rattle.nc_faults.specs.declared.Refusal.{Refusal}
-use Rattle.tape_job.specs.Draft.{job_of}
 use Rattle.tape_job.specs.Lines.{Line, numbered}
 use Rattle.tape_job.specs.Told.{told}
 use Rattle.tape_job.specs.Read.{trial, first_trial, end_trial, answer, read_of}
@@ -65,7 +64,7 @@ refused_after before (next ∷ lines) refused some = by (trial (told before) nex
     }
 
 read_by : (lines : List Line) (first end : Option Refusal) → first_trial [] lines ≡ first → end_trial (told lines) ≡ end
-    → IsReadAs lines (answer (option_or first end) (job_of (told lines).job))
+    → IsReadAs lines (answer (option_or first end) (told lines).job)
 read_by lines None None first end = record { before = none_after [] lines first; here = end; tells = refl }
 read_by lines None (Some refused) first end = inr (record { before = none_after [] lines first; here = end })
 read_by lines (Some refused) end first at_end =

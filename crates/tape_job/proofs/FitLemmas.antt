@@ -6,38 +6,37 @@ use Rattle.nc_blocks.specs.Indices.{StatementFits}
 use Rattle.nc_faults.specs.declared.Refusal.{Refusal}
 use Rattle.tape_job.specs.declared.fault.JobFault.{JobFault}
 use Rattle.tape_job.specs.declared.fault.JobFault.TheVariants.{Refused, NoMemory}
-use Rattle.tape_job.specs.declared.job.Job.{Job}
+use Rattle.job_types.specs.declared.job.Job.{Job}
 use Rattle.nc_blocks.specs.Statement.{BlockView}
-use Rattle.tape_job.specs.Draft.{DraftView, job_of}
-use Rattle.tape_job.specs.Job.{JobView, ProgramView}
+use Rattle.job_types.specs.Job.{JobView, ProgramView}
 use Rattle.tape_job.specs.Lines.{Line}
 use Rattle.tape_job.specs.Read.{answer, GivesRead}
-use Rattle.tape_job.specs.Reading.{ReadingView, Blank, First, Entry, Header, Step, reading_of, ReadingFits}
+use Rattle.tape_job.specs.Reading.{ReadingView, Blank, First, DeclarationLine, Header, BlockLine, reading_of, ReadingFits}
 use Rattle.tape_job.specs.Rules.{last_count, count_in}
-use Rattle.tape_job.specs.SoundJob.{BlocksFit}
+use Rattle.job_types.specs.SoundJob.{BlocksFit}
 use Rattle.tape_job.specs.Steps.{with_block, with_line, tell}
 use Rattle.tape_job.specs.Told.{Told, told}
 use Rattle.tape_job.proofs.LibraryLemmas.{last_program_is}
 use Rattle.tape_job.proofs.SoundPrograms.{block_told, header_told}
 
-reading_fits : (job : DraftView) (number : ℕ) (reading : ReadingView) → BlocksFit (job_of job) → ReadingFits reading → BlocksFit (job_of (with_line job number (Ok reading)))
+reading_fits : (job : JobView) (number : ℕ) (reading : ReadingView) → BlocksFit job → ReadingFits reading → BlocksFit (with_line job number (Ok reading))
 unfolding with_line
 reading_fits job number Blank all fits = all
 reading_fits job number First all fits = all
-reading_fits job number (Entry item) all fits = all
+reading_fits job number (DeclarationLine declaration) all fits = all
 reading_fits job number (Header name) all fits = header_told (λ block. StatementFits block.1.statement) job.programs number name all
-reading_fits job number (Step block) all fits = block_told (λ b. StatementFits b.1.statement) job.programs (number, block) all fits
+reading_fits job number (BlockLine block) all fits = block_told (λ b. StatementFits b.1.statement) job.programs (number, block) all fits
 
 pub line_fits : (told new : Told) (line : Line) (reading : ReadingView) → reading_of told.seen told.in_programs told.job.compensation line.1 ≡ Ok reading → ReadingFits reading
-    → BlocksFit (job_of told.job) → new ≡ tell told line → BlocksFit (job_of new.job)
+    → BlocksFit told.job → new ≡ tell told line → BlocksFit new.job
 unfolding tell
 line_fits told new line reading says fits all same =
-    subst (λ (t : Told). BlocksFit (job_of t.job)) (sym same)
-    (subst (λ read. BlocksFit (job_of (with_line told.job line.0 read))) (sym says) (reading_fits told.job line.0 reading all fits))
+    subst (λ (t : Told). BlocksFit t.job) (sym same)
+    (subst (λ read. BlocksFit (with_line told.job line.0 read)) (sym says) (reading_fits told.job line.0 reading all fits))
 
-pub nothing_fits : (now : Told) → now ≡ told [] → BlocksFit (job_of now.job)
+pub nothing_fits : (now : Told) → now ≡ told [] → BlocksFit now.job
 unfolding told
-nothing_fits now same = subst (λ (t : Told). BlocksFit (job_of t.job)) (sym same) (All-nil (λ program. All (λ block. StatementFits block.1.statement) program.1.blocks))
+nothing_fits now same = subst (λ (t : Told). BlocksFit t.job) (sym same) (All-nil (λ program. All (λ block. StatementFits block.1.statement) program.1.blocks))
 
 pub answered_fits : (refused : Option Refusal) (told job : JobView) → BlocksFit told → answer refused told ≡ Ok job → BlocksFit job
 answered_fits None told job all same = let is : told ≡ job = cc in subst BlocksFit is all
@@ -53,14 +52,14 @@ one_more (program ∷ next ∷ third ∷ programs) block = one_more (next ∷ th
 none_yet : (programs : List (List ℕ × ProgramView)) (name : List ℕ) (number : ℕ) → last_count (programs ++ (name, record { line = number; blocks = [] }) ∷ []) ≡ 0
 none_yet programs name number = ap count_in (last_program_is programs (name, record { line = number; blocks = [] }))
 
-reading_short : (job : DraftView) (number : ℕ) (read : Result ReadingView ℕ) → last_count (with_line job number read).programs ≤ last_count job.programs + 1
+reading_short : (job : JobView) (number : ℕ) (read : Result ReadingView ℕ) → last_count (with_line job number read).programs ≤ last_count job.programs + 1
 unfolding with_line
 reading_short job number (Err code) = omega arith
 reading_short job number (Ok Blank) = omega arith
 reading_short job number (Ok First) = omega arith
-reading_short job number (Ok (Entry item)) = omega arith
+reading_short job number (Ok (DeclarationLine declaration)) = omega arith
 reading_short job number (Ok (Header name)) = let none = none_yet job.programs name number in omega arith
-reading_short job number (Ok (Step block)) = one_more job.programs (number, block)
+reading_short job number (Ok (BlockLine block)) = one_more job.programs (number, block)
 
 pub line_short : (told new : Told) (line : Line) → new ≡ tell told line → last_count new.job.programs ≤ last_count told.job.programs + 1
 unfolding tell

@@ -10,4 +10,3 @@ pub mod SoundLists
 pub mod SoundPrograms
 pub mod SoundReadings
 pub mod TellingLemmas
-pub mod Crosses

@@ -9,7 +9,7 @@ use Rattle.indexmap.specs.IndexMap.{insert_entry}
 use Rattle.tape_job.specs.Rules.{has_program, last_program, last_count, count_in, structure_fault, structure_rule}
 use Rattle.tape_job.specs.declared.reading.LineFault.{LineFault}
 use Rattle.tape_job.specs.declared.reading.LineFault.TheVariants as fault
-use Rattle.tape_job.specs.Job.{ProgramView}
+use Rattle.job_types.specs.Job.{ProgramView}
 use Rattle.tape_job.proofs.SoundLists.{or_fails}
 use Rattle.tape_job.specs.Steps.{with_entry, with_block, is_last, last_fault, last_with, IsLibrary, Adds}
 use Rattle.nc_blocks.specs.Statement.{BlockView}

@@ -3,7 +3,7 @@ use Rattle.std.proofs.Common.{◌≡◌, ◌∙◌, ℕ, List, [], ◌∷◌, �
 use Rattle.std.proofs.lemmas.List.{map-append}
 use Rattle.std.proofs.lemmas.List.Sums.{fold_push}
 use Rattle.nc_blocks.specs.declared.blocks.Block.{Block}
-use Rattle.tape_job.specs.Job.{ProgramView, block_entry}
+use Rattle.job_types.specs.Job.{ProgramView, block_entry}
 use Rattle.nc_blocks.specs.Statement.{BlockView, Statement, If, Else, EndIf, While, EndWhile, Repeat, Until, Loop, EndLoop, For, EndFor}
 use Rattle.nc_control_flow.specs.declared.nest.Opened.{Opened}
 use Rattle.nc_control_flow.specs.declared.nest.Structure.{Structure}

@@ -1,4 +1,5 @@
 -- What a line of a program says, from its scanned tokens, and the codes by which it is refused.
+use Rattle.job_types.specs.Job.{JobView}
 use Rattle.std.proofs.Common.{◌≡◌, ◌∙◌, ℕ, Bool, true, false, ◌&&◌, ◌||◌, ◌==◌, List, [], ◌∷◌, Ok, Err, Some, length, ap, sym, subst, refl, true≢false, rules, arith}
 use Rattle.std.specs.List.{list_any, list_all}
 use Rattle.std.proofs.lemmas.Bool.{eqb-true}
@@ -13,13 +14,13 @@ use Rattle.nc_faults.specs.Texts.{refusal_texts, has_code, IsRefusalCode}
 use Rattle.nc_syntax.specs.Blocks.{statement_of}
 use Rattle.std.specs.Option.{option_map}
 use Rattle.job_lines.specs.declared.code.Code.{Code}
-use Rattle.tape_job.specs.Draft.{DraftView}
+use Rattle.tape_job.specs.declared.draft.GivenOptions.{GivenOptions}
 use Rattle.tape_job.specs.Read.{code_by}
 use Rattle.tape_job.specs.Rules.{rule_of}
-use Rattle.tape_job.specs.Reading.{ReadingView, First, Entry, Header, Step, Blank, words_of, step_of, tokens_reading, block_reading}
+use Rattle.tape_job.specs.Reading.{ReadingView, First, DeclarationLine, Header, BlockLine, Blank, words_of, block_line, tokens_reading, block_reading}
 
 some_tokens : (compensation : Bool) (text : List ℕ) (tokens : List Token) → (length tokens == 0) ≡ false
-    → tokens_reading compensation text (Ok tokens) ≡ step_of (statement_of (words_of text tokens) compensation)
+    → tokens_reading compensation text (Ok tokens) ≡ block_line (statement_of (words_of text tokens) compensation)
 some_tokens compensation text [] some = absurd (true≢false some)
 some_tokens compensation text (token ∷ tokens) some = refl
 
@@ -31,11 +32,11 @@ no_tokens compensation text (token ∷ tokens) none =
 
 -- a scanned line that has tokens says what they spell
 pub block_from_scan : (compensation : Bool) (text : List ℕ) (words : WordsView) → words.line ≡ text → tokens_of text ≡ Ok words.tokens → (length words.tokens == 0) ≡ false
-    → block_reading compensation text ≡ step_of (statement_of words compensation)
+    → block_reading compensation text ≡ block_line (statement_of words compensation)
 unfolding block_reading
 block_from_scan compensation text words line tokens some =
     ap (tokens_reading compensation text) tokens ∙ some_tokens compensation text words.tokens some
-    ∙ ap (λ line. step_of (statement_of (words_of line words.tokens) compensation)) (sym line)
+    ∙ ap (λ line. block_line (statement_of (words_of line words.tokens) compensation)) (sym line)
 
 pub block_without_tokens : (compensation : Bool) (text : List ℕ) (tokens : List Token) → tokens_of text ≡ Ok tokens → (length tokens == 0) ≡ true
     → block_reading compensation text ≡ Ok Blank
@@ -72,10 +73,10 @@ unfolding IsBlockRefusal IsRefusalCode block_refusals refusal_texts
 block_refusal_has_text code is = one_has_text code block_refusals refl is
 
 -- a rule that a line breaks gives its code
-pub rule_breaks : (job : DraftView) (number : ℕ) (reading : ReadingView) (code : Code) → rule_of job reading ≡ Some code → code_by job number (Ok reading) ≡ Some (shown code)
+pub rule_breaks : (options : GivenOptions) (job : JobView) (number : ℕ) (reading : ReadingView) (code : Code) → rule_of options job reading ≡ Some code → code_by options job number (Ok reading) ≡ Some (shown code)
 unfolding rule_of
-rule_breaks job number (Entry item) code breaks = ap (option_map shown) breaks
-rule_breaks job number (Header name) code breaks = ap (option_map shown) breaks
-rule_breaks job number Blank code breaks = absurd cc
-rule_breaks job number First code breaks = absurd cc
-rule_breaks job number (Step block) code breaks = absurd cc
+rule_breaks options job number (DeclarationLine declaration) code breaks = ap (option_map shown) breaks
+rule_breaks options job number (Header name) code breaks = ap (option_map shown) breaks
+rule_breaks options job number Blank code breaks = absurd cc
+rule_breaks options job number First code breaks = absurd cc
+rule_breaks options job number (BlockLine block) code breaks = absurd cc

@@ -9,21 +9,22 @@ use Rattle.std.proofs.lemmas.List.Elements.{All-nil, All-cons, All-push, All-wea
 use Rattle.std.proofs.lemmas.List.Kept.{AllPairs-cons}
 use Rattle.std.proofs.lemmas.List.Quantifiers.{all_pairs_push}
 use Rattle.job_lines.specs.declared.code.Code.TheVariants.{NotDeclared, DeclaredTwice, OwnerDiffers, TooMany}
-use Rattle.job_lines.specs.declared.item.AxisName.{AxisName}
-use Rattle.job_lines.specs.declared.item.NamedSide.{NamedSide}
-use Rattle.job_lines.specs.declared.item.NamedZone.{NamedZone}
-use Rattle.tape_job.specs.declared.job.AxisLine.{AxisLine}
-use Rattle.tape_job.specs.declared.job.ChannelLine.{ChannelLine}
-use Rattle.tape_job.specs.declared.job.GeoLine.{GeoLine}
-use Rattle.tape_job.specs.declared.job.OffsetLine.{OffsetLine}
-use Rattle.tape_job.specs.declared.job.Side.{Side}
-use Rattle.tape_job.specs.declared.job.ZoneLine.{ZoneLine}
-use Rattle.tape_job.specs.Draft.{DraftView, nothing_told, job_of}
-use Rattle.tape_job.specs.Job.{JobView, ProgramView}
+use Rattle.job_lines.specs.declared.declaration.AxisName.{AxisName}
+use Rattle.job_lines.specs.declared.declaration.NamedSide.{NamedSide}
+use Rattle.job_lines.specs.declared.declaration.NamedZone.{NamedZone}
+use Rattle.job_types.specs.declared.job.AxisLine.{AxisLine}
+use Rattle.job_types.specs.declared.job.ChannelLine.{ChannelLine}
+use Rattle.job_types.specs.declared.job.GeoLine.{GeoLine}
+use Rattle.job_types.specs.declared.job.OffsetLine.{OffsetLine}
+use Rattle.job_types.specs.declared.job.Side.{Side}
+use Rattle.job_types.specs.declared.job.ZoneLine.{ZoneLine}
+use Rattle.tape_job.specs.Draft.{nothing_told}
+use Rattle.job_types.specs.Job.{JobView, ProgramView}
 use Rattle.tape_job.specs.Rules as rule
-use Rattle.tape_job.specs.SoundJob.{IsInReach, IsDeclared, first_owner, HaveOtherNames, HaveOtherSlots, HaveOtherPlaces, IsSettable, IsSoundOffset, HaveOtherHolders, IsCarriedBy, HaveOtherCarriers, IsSoundRange, IsSoundZone, IsSoundMargin}
+use Rattle.job_types.specs.SoundJob.{IsInReach, IsDeclared, HaveOtherNames, HaveOtherSlots, HaveOtherPlaces, IsSettable, IsSoundOffset, HaveOtherHolders, IsCarriedBy, HaveOtherCarriers, IsSoundRange, IsSoundZone, IsSoundMargin}
 use Rattle.tape_job.proofs.LineLemmas.{place}
 use Rattle.tape_job.proofs.SoundLists.{unbroken, not_false, or_fails, and_holds, differs, none_pass, Any-more, found, slice_get-more}
+use Rattle.job_types.specs.Axes.{axis_at, first_owner}
 
 -- what holds of the job list so far
 pub record ChannelFacts (channels : List ChannelLine) : Type 0 where
@@ -46,10 +47,10 @@ pub record ZoneFacts (zones : List ZoneLine) : Type 0 where
   pub numbers : AllPairs (λ zone other. zone.zone ≢ other.zone) zones
   pub holders : AllPairs HaveOtherHolders zones
 
-pub record OptionFacts (margin : Option ℤ) (depth budget : Option ℕ) : Type 0 where
-  pub sound_margin : IfSome margin IsSoundMargin
-  pub sound_depth : IfSome depth (λ n. n ≤ 4)
-  pub sound_budget : IfSome budget (λ n. (1 ≤ n) × (n ≤ 100000000))
+pub record OptionFacts (margin : ℤ) (depth budget : ℕ) : Type 0 where
+  pub sound_margin : IsSoundMargin margin
+  pub sound_depth : depth ≤ 4
+  pub sound_budget : (1 ≤ budget) × (budget ≤ 100000000)
 
 -- what holds of lines that name channels and axes of the job
 pub record Linked (job : JobView) (axis_lines : List AxisLine) (offset_lines : List OffsetLine) (zone_lines : List ZoneLine) : Type 0 where
@@ -57,14 +58,14 @@ pub record Linked (job : JobView) (axis_lines : List AxisLine) (offset_lines : L
   pub offsets : All (IsSoundOffset job) offset_lines
   pub zones : All (IsSoundZone job) zone_lines
 
-pub record ListFacts (job : DraftView) : Type 0 where
+pub record ListFacts (job : JobView) : Type 0 where
   pub channels : ChannelFacts job.channels
   pub axes : AxisFacts job.axes
   pub slots : SlotFacts (length job.axes) job.geo
   pub places : AllPairs HaveOtherPlaces job.offsets
   pub zones : ZoneFacts job.zones
   pub options : OptionFacts job.margin job.depth job.budget
-  pub linked : Linked (job_of job) job.axes job.offsets job.zones
+  pub linked : Linked job job.axes job.offsets job.zones
 
 -- what is declared stays declared
 record Extends (old new : JobView) : Type 0 where
@@ -137,15 +138,15 @@ line_owner : (owner : Option ℕ) (line : Option AxisLine) → rule.is_owned_lin
 line_owner owner None owned = absurd cc
 line_owner owner (Some line) owned = same_owner line.owner owner owned
 
-owns_first : (job : DraftView) (owner : Option ℕ) (axis : ℕ) → rule.owns job owner axis ≡ true → first_owner (job_of job) axis ≡ owner
+owns_first : (job : JobView) (owner : Option ℕ) (axis : ℕ) → rule.owns job owner axis ≡ true → first_owner job axis ≡ owner
 unfolding rule.owns first_owner
 owns_first job owner axis owned = line_owner owner (slice_get job.axes axis) owned
 
-declared_from : (job : DraftView) (channel : ℕ) → rule.has_channel job channel ≡ true → IsDeclared (job_of job) channel
+declared_from : (job : JobView) (channel : ℕ) → rule.has_channel job channel ≡ true → IsDeclared job channel
 unfolding rule.has_channel
 declared_from job channel has = found (λ line. line.channel ≡ channel) (λ line. line.channel == channel) (λ line. eqb-true line.channel channel) job.channels has
 
-owner_declared : (job : DraftView) (owner : Option ℕ) → rule.has_owner job owner ≡ true → IfSome owner (IsDeclared (job_of job))
+owner_declared : (job : JobView) (owner : Option ℕ) → rule.has_owner job owner ≡ true → IfSome owner (IsDeclared job)
 unfolding rule.has_owner
 owner_declared job None has = tt
 owner_declared job (Some channel) has = declared_from job channel has
@@ -167,14 +168,14 @@ axis_not_free job axes axis (Some line) at owners =
     by None there = absurd there
     by (Some channel) there = refl
 
-no_free_carrier : (job : DraftView) (carrier : Option (ℕ × Bool)) → All (λ (l : AxisLine). IsSomeAnd l.owner (IsDeclared (job_of job))) job.axes
+no_free_carrier : (job : JobView) (carrier : Option (ℕ × Bool)) → All (λ (l : AxisLine). IsSomeAnd l.owner (IsDeclared job)) job.axes
     → rule.is_owned_carrier job None carrier ≡ true → carrier ≡ None
 unfolding rule.owns
 no_free_carrier job None owners owned = refl
 no_free_carrier job (Some c) owners owned =
-    absurd (true≢false (sym owned ∙ axis_not_free (job_of job) job.axes c.0 (slice_get job.axes c.0) refl owners))
+    absurd (true≢false (sym owned ∙ axis_not_free job job.axes c.0 (slice_get job.axes c.0) refl owners))
 
-side_still : (job : DraftView) (side : Side) → All (λ (l : AxisLine). IsSomeAnd l.owner (IsDeclared (job_of job))) job.axes
+side_still : (job : JobView) (side : Side) → All (λ (l : AxisLine). IsSomeAnd l.owner (IsDeclared job)) job.axes
     → rule.owns_carrier job None side ≡ true → side.carrier ≡ None
 unfolding rule.owns_carrier
 side_still job side owners owned = no_free_carrier job side.carrier owners owned
@@ -185,29 +186,29 @@ all_built true none = refl
 all_built false none = absurd cc
 
 -- a CHANNEL line
-abbrev pub with_channel : DraftView → ChannelLine → DraftView
+abbrev pub with_channel : JobView → ChannelLine → JobView
 with_channel job line = record job { channels = job.channels ++ line ∷ [] }
 
-channel_extends : (job : DraftView) (line : ChannelLine) → Extends (job_of job) (job_of (with_channel job line))
+channel_extends : (job : JobView) (line : ChannelLine) → Extends job (with_channel job line)
 unfolding first_owner
 channel_extends job line = record {
   declared = λ channel. Any-more (λ l. l.channel ≡ channel) job.channels line;
   owned = λ axis channel owned. owned;
 }
 
-channel_differs : (job : DraftView) (channel : ℕ) → rule.channel_rule job channel ≡ None → All (λ line. line.channel ≢ channel) job.channels
+channel_differs : (job : JobView) (channel : ℕ) → rule.channel_rule job channel ≡ None → All (λ line. line.channel ≢ channel) job.channels
 unfolding rule.channel_rule rule.has_channel
 channel_differs job channel none =
     let new = unbroken (rule.has_channel job channel) DeclaredTwice None none in
     All-weaker (λ line. (line.channel == channel) ≡ false) (λ line. line.channel ≢ channel) (λ line. eqb-false line.channel channel) job.channels
     (none_pass (λ line. line.channel == channel) job.channels new.0)
 
-pub channel_told : (job : DraftView) (number channel : ℕ) (program : Option (List ℕ)) (starts : Bool) → ListFacts job → rule.channel_rule job channel ≡ None
+pub channel_told : (job : JobView) (number channel : ℕ) (program : Option (List ℕ)) (starts : Bool) → ListFacts job → rule.channel_rule job channel ≡ None
     → rule.unless_built starts ≡ None → ((1 ≤ channel) × (channel ≤ 8)) × (starts ≡ true → IsSome program)
     → ListFacts (with_channel job (record { line = number; channel = channel; program = program; starts = starts }))
 channel_told job number channel program starts facts none built sound =
     let line : ChannelLine = record { line = number; channel = channel; program = program; starts = starts } in
-    let new : DraftView = with_channel job line in
+    let new : JobView = with_channel job line in
     let running : starts ≡ true = all_built starts built in
     record {
       channels = record {
@@ -222,11 +223,11 @@ channel_told job number channel program starts facts none built sound =
       places = facts.places;
       zones = facts.zones;
       options = facts.options;
-      linked = linked_extends (job_of job) (job_of new) (channel_extends job line) job.axes job.offsets job.zones facts.linked;
+      linked = linked_extends job new (channel_extends job line) job.axes job.offsets job.zones facts.linked;
     }
 
 -- an AXIS line
-abbrev pub with_axis : DraftView → AxisLine → DraftView
+abbrev pub with_axis : JobView → AxisLine → JobView
 with_axis job line = record job { axes = job.axes ++ line ∷ [] }
 
 owner_more : (axes : List AxisLine) (line : AxisLine) (axis channel : ℕ) (at : Option AxisLine) → slice_get axes axis ≡ at
@@ -234,14 +235,14 @@ owner_more : (axes : List AxisLine) (line : AxisLine) (axis channel : ℕ) (at :
 owner_more axes line axis channel None at owned = absurd cc
 owner_more axes line axis channel (Some there) at owned = rw (slice_get-more axes axis there line at) owned
 
-axis_extends : (job : DraftView) (line : AxisLine) → Extends (job_of job) (job_of (with_axis job line))
+axis_extends : (job : JobView) (line : AxisLine) → Extends job (with_axis job line)
 unfolding first_owner
 axis_extends job line = record {
   declared = λ channel declared. declared;
   owned = λ axis channel. owner_more job.axes line axis channel (slice_get job.axes axis) refl;
 }
 
-axis_differs : (job : DraftView) (name : AxisName) → rule.has_axis job name ≡ false → (line : AxisLine) → line.letter ≡ name.letter → line.number ≡ name.number
+axis_differs : (job : JobView) (name : AxisName) → rule.has_axis job name ≡ false → (line : AxisLine) → line.letter ≡ name.letter → line.number ≡ name.number
     → All (λ other. HaveOtherNames other line) job.axes
 unfolding rule.has_axis
 axis_differs job name none line letter number =
@@ -250,20 +251,20 @@ axis_differs job name none line letter number =
     (λ also. differs other.letter name.letter other.number name.number fails equal (also ∙ number)))
     job.axes (none_pass (rule.is_named name) job.axes none)
 
-pub axis_told : (job : DraftView) (number : ℕ) (name : AxisName) (owner : Option ℕ) (at : ℤ) → ListFacts job → rule.axis_rule job name owner ≡ None
+pub axis_told : (job : JobView) (number : ℕ) (name : AxisName) (owner : Option ℕ) (at : ℤ) → ListFacts job → rule.axis_rule job name owner ≡ None
     → rule.unless_built (is_some owner) ≡ None → IsInReach at
     → ListFacts (with_axis job (record { line = number; letter = name.letter; number = name.number; owner = owner; at = at }))
 unfolding rule.axis_rule
 axis_told job number name owner at facts none built near =
     let line : AxisLine = record { line = number; letter = name.letter; number = name.number; owner = owner; at = at } in
-    let new : DraftView = with_axis job line in
-    let extends : Extends (job_of job) (job_of new) = axis_extends job line in
+    let new : JobView = with_axis job line in
+    let extends : Extends job new = axis_extends job line in
     let first = unbroken (not (rule.has_owner job owner)) NotDeclared _ none in
     let second = unbroken (rule.has_axis job name) DeclaredTwice _ first.1 in
     let third = unbroken (nat_le 16 (length job.axes)) TooMany None second.1 in
     let few : length job.axes < 16 = search (rules, third.0) in
     let further : length (job.axes ++ line ∷ []) ≡ length job.axes + 1 = length-append job.axes (line ∷ []) in
-    let linked : Linked (job_of new) job.axes job.offsets job.zones = linked_extends (job_of job) (job_of new) extends job.axes job.offsets job.zones facts.linked in
+    let linked : Linked new job.axes job.offsets job.zones = linked_extends job new extends job.axes job.offsets job.zones facts.linked in
     record {
       channels = facts.channels;
       axes = record {
@@ -279,15 +280,15 @@ axis_told job number name owner at facts none built near =
       zones = facts.zones;
       options = facts.options;
       linked = record {
-        owners = All-push (λ (l : AxisLine). IsSomeAnd l.owner (IsDeclared (job_of new))) job.axes line linked.owners
-            (some_declared (job_of job) owner (owner_declared job owner (not_false (rule.has_owner job owner) first.0)) (all_built (is_some owner) built));
+        owners = All-push (λ (l : AxisLine). IsSomeAnd l.owner (IsDeclared new)) job.axes line linked.owners
+            (some_declared job owner (owner_declared job owner (not_false (rule.has_owner job owner) first.0)) (all_built (is_some owner) built));
         offsets = linked.offsets;
         zones = linked.zones;
       };
     }
 
 -- a GEO line
-abbrev pub with_geo : DraftView → GeoLine → DraftView
+abbrev pub with_geo : JobView → GeoLine → JobView
 with_geo job line = record job { geo = job.geo ++ line ∷ [] }
 
 -- a line that declares neither a channel nor an axis
@@ -304,7 +305,7 @@ axis_place place axes true within = within
 axis_place place axes false within = tt
 
 axis_found : (axes : List AxisLine) (name : AxisName) (place : Option ℕ) → position (rule.is_named name) axes ≡ place
-    → IfSome (option_and_then rule.axis_at place) (λ axis. axis < length axes)
+    → IfSome (option_and_then axis_at place) (λ axis. axis < length axes)
 axis_found axes name None at = tt
 axis_found axes name (Some i) at =
     let found = place (nat_lt (position_or_len (rule.is_named name) axes) (length axes)) (position_or_len (rule.is_named name) axes) (length axes) i refl at in
@@ -314,7 +315,7 @@ pub axis_within : (axes : List AxisLine) (name : AxisName) → IfSome (rule.axis
 unfolding rule.axis_of
 axis_within axes name = axis_found axes name (position (rule.is_named name) axes) refl
 
-slot_differs : (job : DraftView) (channel slot axis : ℕ) → rule.has_slot job channel slot ≡ false → rule.has_slot_axis job channel axis ≡ false
+slot_differs : (job : JobView) (channel slot axis : ℕ) → rule.has_slot job channel slot ≡ false → rule.has_slot_axis job channel axis ≡ false
     → (line : GeoLine) → line.channel ≡ channel → line.slot ≡ slot → line.axis ≡ axis → (k : ℕ) (d : GeoLine) → k < length job.geo → HaveOtherSlots (get_or job.geo k d) line
 unfolding rule.has_slot rule.has_slot_axis
 slot_differs job channel slot axis slots axes line is_channel is_slot is_axis k d within same =
@@ -326,7 +327,7 @@ slot_differs job channel slot axis slots axes line is_channel is_slot is_axis k 
       λ also. differs other.channel channel other.axis axis no_axis equal (also ∙ is_axis),
     )
 
-pub geo_told : (job : DraftView) (number channel slot axis : ℕ) → ListFacts job → rule.slot_rule job channel slot (Some axis) ≡ None → axis < length job.axes
+pub geo_told : (job : JobView) (number channel slot axis : ℕ) → ListFacts job → rule.slot_rule job channel slot (Some axis) ≡ None → axis < length job.axes
     → ListFacts (with_geo job (record { line = number; channel = channel; slot = slot; axis = axis }))
 unfolding rule.slot_rule
 geo_told job number channel slot axis facts none within =
@@ -344,18 +345,18 @@ geo_told job number channel slot axis facts none within =
       places = facts.places;
       zones = facts.zones;
       options = facts.options;
-      linked = linked_extends (job_of job) (job_of (with_geo job line)) (lines_extend (job_of job) (job_of (with_geo job line)) refl refl) job.axes job.offsets job.zones facts.linked;
+      linked = linked_extends job (with_geo job line) (lines_extend job (with_geo job line) refl refl) job.axes job.offsets job.zones facts.linked;
     }
 
 -- an OFFSET line
-abbrev pub with_offset : DraftView → OffsetLine → DraftView
+abbrev pub with_offset : JobView → OffsetLine → JobView
 with_offset job line = record job { offsets = job.offsets ++ line ∷ [] }
 
 -- a failed test of three equations
 differs_last : (a b c d e f : ℕ) → (a == b) && (c == d) && (e == f) ≡ false → a ≡ b → c ≡ d → e ≢ f
 differs_last a b c d e f fails same also last = true≢false (sym (rw (eq-eqb a b same, eq-eqb c d also, eq-eqb e f last) refl) ∙ fails)
 
-offset_differs : (job : DraftView) (channel g slot : ℕ) → rule.has_offset job channel g slot ≡ false
+offset_differs : (job : JobView) (channel g slot : ℕ) → rule.has_offset job channel g slot ≡ false
     → (line : OffsetLine) → line.channel ≡ channel → line.g ≡ g → line.slot ≡ slot → (k : ℕ) (d : OffsetLine) → k < length job.offsets → HaveOtherPlaces (get_or job.offsets k d) line
 unfolding rule.has_offset
 offset_differs job channel g slot none line is_channel is_g is_slot k d within same also last =
@@ -363,16 +364,16 @@ offset_differs job channel g slot none line is_channel is_g is_slot k d within s
     let fails = none_pass (λ (l : OffsetLine). (l.channel == channel) && (l.g == g) && (l.slot == slot)) job.offsets none k d within in
     differs_last other.channel channel other.g g other.slot slot fails (same ∙ is_channel) (also ∙ is_g) (last ∙ is_slot)
 
-pub offset_told : (job : DraftView) (number channel g slot : ℕ) (by : ℤ) → ListFacts job → rule.offset_rule job channel g slot ≡ None
+pub offset_told : (job : JobView) (number channel g slot : ℕ) (by : ℤ) → ListFacts job → rule.offset_rule job channel g slot ≡ None
     → IsSettable g × (slot < 3) × IsInReach by → ListFacts (with_offset job (record { line = number; channel = channel; g = g; slot = slot; by = by }))
 unfolding rule.offset_rule
 offset_told job number channel g slot by facts none sound =
     let line : OffsetLine = record { line = number; channel = channel; g = g; slot = slot; by = by } in
-    let new : DraftView = with_offset job line in
+    let new : JobView = with_offset job line in
     let first = unbroken (not (rule.has_channel job channel)) NotDeclared _ none in
     let second = unbroken (rule.has_offset job channel g slot) DeclaredTwice None first.1 in
-    let linked : Linked (job_of new) job.axes job.offsets job.zones =
-    linked_extends (job_of job) (job_of new) (lines_extend (job_of job) (job_of new) refl refl) job.axes job.offsets job.zones facts.linked in
+    let linked : Linked new job.axes job.offsets job.zones =
+    linked_extends job new (lines_extend job new refl refl) job.axes job.offsets job.zones facts.linked in
     record {
       channels = facts.channels;
       axes = facts.axes;
@@ -382,7 +383,7 @@ offset_told job number channel g slot by facts none sound =
       options = facts.options;
       linked = record {
         owners = linked.owners;
-        offsets = All-push (IsSoundOffset (job_of new)) job.offsets line linked.offsets (record {
+        offsets = All-push (IsSoundOffset new) job.offsets line linked.offsets (record {
           declared = declared_from job channel (not_false (rule.has_channel job channel) first.0);
           word = sound.0;
           slot = sound.1;
@@ -393,15 +394,15 @@ offset_told job number channel g slot by facts none sound =
     }
 
 -- a ZONE line
-abbrev pub with_zone : DraftView → ZoneLine → DraftView
+abbrev pub with_zone : JobView → ZoneLine → JobView
 with_zone job line = record job { zones = job.zones ++ line ∷ [] }
 
-carrier_owned : (job : DraftView) (holder : Option ℕ) (carrier : Option (ℕ × Bool)) → rule.is_owned_carrier job holder carrier ≡ true
-    → IfSome carrier (λ c. first_owner (job_of job) c.0 ≡ holder)
+carrier_owned : (job : JobView) (holder : Option ℕ) (carrier : Option (ℕ × Bool)) → rule.is_owned_carrier job holder carrier ≡ true
+    → IfSome carrier (λ c. first_owner job c.0 ≡ holder)
 carrier_owned job holder None owned = tt
 carrier_owned job holder (Some c) owned = owns_first job holder c.0 owned
 
-side_owned : (job : DraftView) (holder : Option ℕ) (side : Side) → rule.owns_carrier job holder side ≡ true → IsCarriedBy (job_of job) holder side
+side_owned : (job : JobView) (holder : Option ℕ) (side : Side) → rule.owns_carrier job holder side ≡ true → IsCarriedBy job holder side
 unfolding rule.owns_carrier
 side_owned job holder side owned = carrier_owned job holder side.carrier owned
 
@@ -446,7 +447,7 @@ side_range axes side = carried_range axes side side.carrier
 pub sound_range : (named : NamedSide) (side : Side) → HasRange named side → IsSoundRange named.lo named.hi → IsSoundRange side.lo side.hi
 sound_range named side same sound = subst (λ lo. IsSoundRange lo side.hi) same.0 (subst (λ hi. IsSoundRange named.lo hi) same.1 sound)
 
-zone_differs : (job : DraftView) (zone : ℕ) → rule.has_zone job zone ≡ false → (line : ZoneLine) → line.zone ≡ zone → (k : ℕ) (d : ZoneLine) → k < length job.zones
+zone_differs : (job : JobView) (zone : ℕ) → rule.has_zone job zone ≡ false → (line : ZoneLine) → line.zone ≡ zone → (k : ℕ) (d : ZoneLine) → k < length job.zones
     → (get_or job.zones k d).zone ≢ line.zone
 unfolding rule.has_zone
 zone_differs job zone none line is_zone k d within same =
@@ -460,7 +461,7 @@ not_held : (other : Option ℕ) → IfSome other (λ channel. None ≢ Some chan
 not_held None = tt
 not_held (Some other) = λ same. absurd cc
 
-holder_differs : (job : DraftView) (holder : Option ℕ) → rule.holds_another job holder ≡ false → (line : ZoneLine) → line.holder ≡ holder → (k : ℕ) (d : ZoneLine) → k < length job.zones
+holder_differs : (job : JobView) (holder : Option ℕ) → rule.holds_another job holder ≡ false → (line : ZoneLine) → line.holder ≡ holder → (k : ℕ) (d : ZoneLine) → k < length job.zones
     → HaveOtherHolders (get_or job.zones k d) line
 unfolding rule.holds_zone
 holder_differs job None none line is_holder k d within = rw is_holder (not_held (get_or job.zones k d).holder)
@@ -469,13 +470,13 @@ holder_differs job (Some holder) none line is_holder k d within =
     (none_pass (λ (l : ZoneLine). rule.is_same_owner l.holder (Some holder)) job.zones none k d within))
 
 -- what the rules say of the directions of a zone
-record SidesPass (job : DraftView) (holder : Option ℕ) (x y z : Side) : Type 0 where
-  declared : IfSome holder (IsDeclared (job_of job))
-  carried : All (IsCarriedBy (job_of job) holder) (x ∷ y ∷ z ∷ [])
+record SidesPass (job : JobView) (holder : Option ℕ) (x y z : Side) : Type 0 where
+  declared : IfSome holder (IsDeclared job)
+  carried : All (IsCarriedBy job holder) (x ∷ y ∷ z ∷ [])
   still : holder ≡ None → All (λ (side : Side). side.carrier ≡ None) (x ∷ y ∷ z ∷ [])
   carriers : AllPairs HaveOtherCarriers (x ∷ y ∷ z ∷ [])
 
-sides_pass : (job : DraftView) (zone : ℕ) (holder : Option ℕ) (x y z : Side) → ListFacts job → rule.zone_rule job zone holder (Some x) (Some y) (Some z) ≡ None
+sides_pass : (job : JobView) (zone : ℕ) (holder : Option ℕ) (x y z : Side) → ListFacts job → rule.zone_rule job zone holder (Some x) (Some y) (Some z) ≡ None
     → (rule.has_zone job zone ≡ false) × SidesPass job holder x y z
 unfolding rule.zone_rule rule.sides_rule
 sides_pass job zone holder x y z facts none =
@@ -493,7 +494,7 @@ sides_pass job zone holder x y z facts none =
       second.0,
       record {
         declared = owner_declared job holder (not_false (rule.has_owner job holder) first.0);
-        carried = All-three (IsCarriedBy (job_of job) holder) x y z (side_owned job holder x owned_xy.0) (side_owned job holder y owned_xy.1) (side_owned job holder z owned_z.1);
+        carried = All-three (IsCarriedBy job holder) x y z (side_owned job holder x owned_xy.0) (side_owned job holder y owned_xy.1) (side_owned job holder z owned_z.1);
         still = λ free. All-three (λ (side : Side). side.carrier ≡ None) x y z (stands x owned_xy.0 free) (stands y owned_xy.1 free) (stands z owned_z.1 free);
         carriers = AllPairs-three HaveOtherCarriers x y z (sides_differ x y apart_x.0) (sides_differ x z apart_x.1) (sides_differ y z apart.1);
       },
@@ -503,17 +504,17 @@ not_true : (b : Bool) → not b ≡ true → b ≡ false
 not_true true e = absurd cc
 not_true false e = refl
 
-pub zone_told : (job : DraftView) (number : ℕ) (zone : NamedZone) (x y z : Side) → ListFacts job → rule.zone_rule job zone.zone zone.holder (Some x) (Some y) (Some z) ≡ None
+pub zone_told : (job : JobView) (number : ℕ) (zone : NamedZone) (x y z : Side) → ListFacts job → rule.zone_rule job zone.zone zone.holder (Some x) (Some y) (Some z) ≡ None
     → rule.unless_built (zone.on && not (rule.holds_another job zone.holder)) ≡ None
     → (1 ≤ zone.zone) × (zone.zone ≤ 32) → (1 ≤ zone.group) × (zone.group ≤ 32) → IsSoundRange x.lo x.hi → IsSoundRange y.lo y.hi → IsSoundRange z.lo z.hi
     → ListFacts (with_zone job (record { line = number; zone = zone.zone; group = zone.group; holder = zone.holder; on = zone.on; sides = x ∷ y ∷ z ∷ [] }))
 zone_told job number zone x y z facts none built zone_range group_range x_range y_range z_range =
     let line : ZoneLine = record { line = number; zone = zone.zone; group = zone.group; holder = zone.holder; on = zone.on; sides = x ∷ y ∷ z ∷ [] } in
-    let new : DraftView = with_zone job line in
-    let extends : Extends (job_of job) (job_of new) = lines_extend (job_of job) (job_of new) refl refl in
+    let new : JobView = with_zone job line in
+    let extends : Extends job new = lines_extend job new refl refl in
     let passed = sides_pass job zone.zone zone.holder x y z facts none in
     let active = and_holds zone.on (not (rule.holds_another job zone.holder)) (all_built (zone.on && not (rule.holds_another job zone.holder)) built) in
-    let sound : IsSoundZone (job_of job) line = record {
+    let sound : IsSoundZone job line = record {
       low_number = zone_range.0;
       high_number = zone_range.1;
       low_group = group_range.0;
@@ -526,7 +527,7 @@ zone_told job number zone x y z facts none built zone_range group_range x_range 
       carriers = passed.1.carriers;
       ranges = All-three (λ (side : Side). IsSoundRange side.lo side.hi) x y z x_range y_range z_range;
     } in
-    let linked : Linked (job_of new) job.axes job.offsets job.zones = linked_extends (job_of job) (job_of new) extends job.axes job.offsets job.zones facts.linked in
+    let linked : Linked new job.axes job.offsets job.zones = linked_extends job new extends job.axes job.offsets job.zones facts.linked in
     record {
       channels = facts.channels;
       axes = facts.axes;
@@ -541,18 +542,18 @@ zone_told job number zone x y z facts none built zone_range group_range x_range 
       linked = record {
         owners = linked.owners;
         offsets = linked.offsets;
-        zones = All-push (IsSoundZone (job_of new)) job.zones line linked.zones (zone_extends (job_of job) (job_of new) extends line sound);
+        zones = All-push (IsSoundZone new) job.zones line linked.zones (zone_extends job new extends line sound);
       };
     }
 
 -- options and programs
-abbrev pub with_options : DraftView → Option ℤ → Option ℕ → Option ℕ → Bool → Bool → DraftView
+abbrev pub with_options : JobView → ℤ → ℕ → ℕ → Bool → Bool → JobView
 with_options job margin depth budget compensation skip = record job { margin = margin; depth = depth; budget = budget; compensation = compensation; skip = skip }
 
-pub options_told : (job : DraftView) (margin : Option ℤ) (depth budget : Option ℕ) (compensation skip : Bool) → ListFacts job → OptionFacts margin depth budget
+pub options_told : (job : JobView) (margin : ℤ) (depth budget : ℕ) (compensation skip : Bool) → ListFacts job → OptionFacts margin depth budget
     → ListFacts (with_options job margin depth budget compensation skip)
 options_told job margin depth budget compensation skip facts options =
-    let new : DraftView = with_options job margin depth budget compensation skip in
+    let new : JobView = with_options job margin depth budget compensation skip in
     record {
       channels = facts.channels;
       axes = facts.axes;
@@ -560,15 +561,15 @@ options_told job margin depth budget compensation skip facts options =
       places = facts.places;
       zones = facts.zones;
       options = options;
-      linked = linked_extends (job_of job) (job_of new) (lines_extend (job_of job) (job_of new) refl refl) job.axes job.offsets job.zones facts.linked;
+      linked = linked_extends job new (lines_extend job new refl refl) job.axes job.offsets job.zones facts.linked;
     }
 
-abbrev pub with_programs : DraftView → List (List ℕ × ProgramView) → DraftView
+abbrev pub with_programs : JobView → List (List ℕ × ProgramView) → JobView
 with_programs job programs = record job { programs = programs }
 
-pub list_kept : (job : DraftView) (programs : List (List ℕ × ProgramView)) → ListFacts job → ListFacts (with_programs job programs)
+pub list_kept : (job : JobView) (programs : List (List ℕ × ProgramView)) → ListFacts job → ListFacts (with_programs job programs)
 list_kept job programs facts =
-    let new : DraftView = with_programs job programs in
+    let new : JobView = with_programs job programs in
     record {
       channels = facts.channels;
       axes = facts.axes;
@@ -576,7 +577,7 @@ list_kept job programs facts =
       places = facts.places;
       zones = facts.zones;
       options = facts.options;
-      linked = linked_extends (job_of job) (job_of new) (lines_extend (job_of job) (job_of new) refl refl) job.axes job.offsets job.zones facts.linked;
+      linked = linked_extends job new (lines_extend job new refl refl) job.axes job.offsets job.zones facts.linked;
     }
 
 -- of nothing
@@ -593,10 +594,10 @@ nothing_listed = record {
   slots = record { numbers = no_pairs HaveOtherSlots; axes = All-nil (λ (g : GeoLine). g.axis < 0) };
   places = no_pairs HaveOtherPlaces;
   zones = record { numbers = no_pairs (λ (z other : ZoneLine). z.zone ≢ other.zone); holders = no_pairs HaveOtherHolders };
-  options = record { sound_margin = tt; sound_depth = tt; sound_budget = tt };
+  options = record { sound_margin = (omega arith, omega arith); sound_depth = omega arith; sound_budget = (omega arith, omega arith) };
   linked = record {
-    owners = All-nil (λ (l : AxisLine). IsSomeAnd l.owner (IsDeclared (job_of nothing_told)));
-    offsets = All-nil (IsSoundOffset (job_of nothing_told));
-    zones = All-nil (IsSoundZone (job_of nothing_told));
+    owners = All-nil (λ (l : AxisLine). IsSomeAnd l.owner (IsDeclared nothing_told));
+    offsets = All-nil (IsSoundOffset nothing_told);
+    zones = All-nil (IsSoundZone nothing_told);
   };
 }

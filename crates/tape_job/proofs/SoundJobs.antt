@@ -1,6 +1,6 @@
 -- Every accepted job is sound.
 use Rattle.std.specs.Prelude.{IsSomeAnd}
-use Rattle.std.proofs.Common.{◌≡◌, ◌≢◌, ◌∙◌, ℕ, ◌≤◌, ◌<◌, ℤ, pos, Bool, true, false, ◌&&◌, ◌||◌, not, unwrap_or, nat_le, if◌then◌else◌, List, [], ◌∷◌, ◌++◌, length, Result, Ok, Err, IfOk, Option, Some, None, IfSome, IsSome, find, get_or, subst, refl, sym, arith, length-append, rules}
+use Rattle.std.proofs.Common.{◌≡◌, ◌≢◌, ◌∙◌, ℕ, ◌≤◌, ◌<◌, Bool, true, false, ◌&&◌, ◌||◌, not, nat_le, if◌then◌else◌, List, [], ◌∷◌, ◌++◌, length, Result, Ok, Err, IfOk, Option, Some, None, IfSome, IsSome, find, get_or, subst, refl, sym, arith, length-append, rules}
 use Rattle.std.specs.List.{All, Any, AllPairs, enumerate_from}
 use Rattle.std.specs.Map.{keys_of}
 use Rattle.std.specs.Option.{option_map, option_or}
@@ -10,25 +10,25 @@ use Rattle.std.proofs.lemmas.List.Elements.{All-nil}
 use Rattle.std.proofs.lemmas.List.Quantifiers.{all_pairs_push}
 use Rattle.job_lines.specs.Code.{shown}
 use Rattle.job_lines.specs.declared.code.Code.TheVariants.{NameRepeated, TooMany, NotInLibrary}
-use Rattle.job_lines.specs.declared.item.Item.{Item}
-use Rattle.job_lines.specs.declared.item.Item.TheVariants.{Channel, Axis, Geo, Offset, Zone, Margin, Depth, Budget, Compensation, Skip}
-use Rattle.job_lines.specs.declared.item.NamedZone.{NamedZone}
+use Rattle.job_lines.specs.declared.declaration.Declaration.{Declaration}
+use Rattle.job_lines.specs.declared.declaration.Declaration.TheVariants.{Channel, Axis, Geo, Offset, Zone, Margin, Depth, Budget, Compensation, Skip}
+use Rattle.job_lines.specs.declared.declaration.NamedZone.{NamedZone}
 use Rattle.nc_blocks.specs.Statement.{BlockView}
 use Rattle.nc_faults.specs.declared.Refusal.{Refusal}
-use Rattle.tape_job.specs.declared.job.ChannelLine.{ChannelLine}
-use Rattle.tape_job.specs.declared.job.Side.{Side}
-use Rattle.tape_job.specs.Built.{is_built}
-use Rattle.tape_job.specs.Draft.{DraftView, job_of}
-use Rattle.tape_job.specs.Job.{JobView, ProgramView}
+use Rattle.job_types.specs.declared.job.ChannelLine.{ChannelLine}
+use Rattle.job_types.specs.declared.job.Side.{Side}
+use Rattle.job_types.specs.Built.{is_built}
+use Rattle.job_types.specs.Job.{JobView, ProgramView}
 use Rattle.tape_job.specs.Lines.{Line, has_token, begins_with_percent, raw_lines}
-use Rattle.tape_job.specs.Reading.{ReadingView, Blank, First, Entry, Header, Step, reading_of}
+use Rattle.tape_job.specs.Reading.{ReadingView, Blank, First, DeclarationLine, Header, BlockLine, reading_of}
 use Rattle.tape_job.specs.Rules as rule
 use Rattle.tape_job.specs.Told.{Told, told, accept_compensation, geo_line, zone_line}
 use Rattle.tape_job.specs.Read.{code_by, line_trial, end_of_program, trial, end_trial, answer, read_of}
-use Rattle.tape_job.specs.Steps.{with_entry, with_line, with_block, tell, unless_refused, run, finish}
-use Rattle.tape_job.specs.SoundJob.{IsSoundMargin, IsSoundJob}
+use Rattle.tape_job.specs.declared.draft.GivenOptions.{GivenOptions}
+use Rattle.tape_job.specs.Steps.{options_with, with_entry, with_line, with_block, tell, unless_refused, run, finish}
+use Rattle.job_types.specs.SoundJob.{IsSoundJob}
 use Rattle.tape_job.proofs.SoundLists.{unbroken, not_false, none_found}
-use Rattle.tape_job.proofs.SoundReadings.{IsSoundItem, IsSoundReading, reading_sound}
+use Rattle.tape_job.proofs.SoundReadings.{IsSoundDeclaration, IsSoundReading, reading_sound}
 use Rattle.tape_job.proofs.SoundJobLines.{ListFacts, HasRange, no_pairs, list_kept, nothing_listed, side_range, sound_range, axis_within, channel_told, axis_told, geo_told, offset_told, zone_told, options_told}
 use Rattle.tape_job.proofs.SoundPrograms.{InAll, NestedSoFar, nested_block, nested_header, all_nested, block_told, header_told, keys-with_block, length-with_block, keys-push, names_differ, program_found}
 use Rattle.tape_job.proofs.TellingLemmas.{read_of_is}
@@ -47,63 +47,63 @@ neither None b none = (refl, none)
 neither (Some a) b none = absurd cc
 
 -- a job line
-abbrev with_item : DraftView → ℕ → Item → DraftView
-with_item job number item = with_line job number (Ok (Entry item))
+abbrev with_declaration : JobView → ℕ → Declaration → JobView
+with_declaration job number declaration = with_line job number (Ok (DeclarationLine declaration))
 
-geo_item_told : (job : DraftView) (number channel slot : ℕ) (axis : Option ℕ) → ListFacts job → rule.slot_rule job channel slot axis ≡ None
+geo_declaration_told : (job : JobView) (number channel slot : ℕ) (axis : Option ℕ) → ListFacts job → rule.slot_rule job channel slot axis ≡ None
     → IfSome axis (λ a. a < length job.axes) → ListFacts (record job { geo = with_entry job.geo (geo_line number channel slot axis) })
 unfolding rule.slot_rule
-geo_item_told job number channel slot None facts none within = absurd cc
-geo_item_told job number channel slot (Some axis) facts none within = geo_told job number channel slot axis facts none within
+geo_declaration_told job number channel slot None facts none within = absurd cc
+geo_declaration_told job number channel slot (Some axis) facts none within = geo_told job number channel slot axis facts none within
 
-zone_item_told : (job : DraftView) (number : ℕ) (zone : NamedZone) (a b c : Option Side) → ListFacts job → rule.zone_rule job zone.zone zone.holder a b c ≡ None
+zone_declaration_told : (job : JobView) (number : ℕ) (zone : NamedZone) (a b c : Option Side) → ListFacts job → rule.zone_rule job zone.zone zone.holder a b c ≡ None
     → rule.unless_built (zone.on && not (rule.holds_another job zone.holder)) ≡ None
-    → IsSoundItem (Zone zone) → IfSome a (HasRange zone.x) → IfSome b (HasRange zone.y) → IfSome c (HasRange zone.z)
+    → IsSoundDeclaration (Zone zone) → IfSome a (HasRange zone.x) → IfSome b (HasRange zone.y) → IfSome c (HasRange zone.z)
     → ListFacts (record job { zones = with_entry job.zones (zone_line number zone a b c) })
 unfolding rule.zone_rule
-zone_item_told job number zone (Some a) (Some b) (Some c) facts none built sound is_x is_y is_z =
+zone_declaration_told job number zone (Some a) (Some b) (Some c) facts none built sound is_x is_y is_z =
     zone_told job number zone a b c facts none built sound.0 sound.1 (sound_range zone.x a is_x sound.2) (sound_range zone.y b is_y sound.3) (sound_range zone.z c is_z sound.4)
-zone_item_told job number zone a b c facts none built sound is_x is_y is_z = absurd cc
+zone_declaration_told job number zone a b c facts none built sound is_x is_y is_z = absurd cc
 
-declared_told : (job : DraftView) (number : ℕ) (item : Item) → ListFacts job → rule.declaration_rule job item ≡ None → rule.built_rule job item ≡ None → IsSoundItem item
-    → ListFacts (with_item job number item)
+declared_told : (options : GivenOptions) (job : JobView) (number : ℕ) (declaration : Declaration) → ListFacts job → rule.declaration_rule options job declaration ≡ None → rule.built_rule job declaration ≡ None → IsSoundDeclaration declaration
+    → ListFacts (with_declaration job number declaration)
 unfolding rule.declaration_rule rule.built_rule with_line
-declared_told job number (Channel channel program starts) facts none built sound = channel_told job number channel program starts facts none built sound
-declared_told job number (Axis name owner at) facts none built sound = axis_told job number name owner at facts none built sound
-declared_told job number (Geo channel slot axis) facts none built sound =
-    geo_item_told job number channel slot (rule.axis_of job.axes axis) facts none (axis_within job.axes axis)
-declared_told job number (Offset channel g slot by) facts none built sound = offset_told job number channel g slot by facts none sound
-declared_told job number (Zone zone) facts none built sound =
-    zone_item_told job number zone (rule.side_of job.axes zone.x) (rule.side_of job.axes zone.y) (rule.side_of job.axes zone.z) facts none built sound
+declared_told options job number (Channel channel program starts) facts none built sound = channel_told job number channel program starts facts none built sound
+declared_told options job number (Axis name owner at) facts none built sound = axis_told job number name owner at facts none built sound
+declared_told options job number (Geo channel slot axis) facts none built sound =
+    geo_declaration_told job number channel slot (rule.axis_of job.axes axis) facts none (axis_within job.axes axis)
+declared_told options job number (Offset channel g slot by) facts none built sound = offset_told job number channel g slot by facts none sound
+declared_told options job number (Zone zone) facts none built sound =
+    zone_declaration_told job number zone (rule.side_of job.axes zone.x) (rule.side_of job.axes zone.y) (rule.side_of job.axes zone.z) facts none built sound
     (side_range job.axes zone.x) (side_range job.axes zone.y) (side_range job.axes zone.z)
-declared_told job number (Margin margin) facts none built sound =
-    options_told job (Some margin) job.depth job.budget job.compensation job.skip facts
+declared_told options job number (Margin margin) facts none built sound =
+    options_told job margin job.depth job.budget job.compensation job.skip facts
     (record { sound_margin = sound; sound_depth = facts.options.sound_depth; sound_budget = facts.options.sound_budget })
-declared_told job number (Depth depth) facts none built sound =
-    options_told job job.margin (Some depth) job.budget job.compensation job.skip facts
+declared_told options job number (Depth depth) facts none built sound =
+    options_told job job.margin depth job.budget job.compensation job.skip facts
     (record { sound_margin = facts.options.sound_margin; sound_depth = sound; sound_budget = facts.options.sound_budget })
-declared_told job number (Budget budget) facts none built sound =
-    options_told job job.margin job.depth (Some budget) job.compensation job.skip facts
+declared_told options job number (Budget budget) facts none built sound =
+    options_told job job.margin job.depth budget job.compensation job.skip facts
     (record { sound_margin = facts.options.sound_margin; sound_depth = facts.options.sound_depth; sound_budget = sound })
-declared_told job number Compensation facts none built sound = options_told job job.margin job.depth job.budget true job.skip facts facts.options
-declared_told job number Skip facts none built sound = options_told job job.margin job.depth job.budget job.compensation true facts facts.options
+declared_told options job number Compensation facts none built sound = options_told job job.margin job.depth job.budget true job.skip facts facts.options
+declared_told options job number Skip facts none built sound = options_told job job.margin job.depth job.budget job.compensation true facts facts.options
 
-item_told : (job : DraftView) (number : ℕ) (item : Item) → ListFacts job → rule.item_rule job item ≡ None → IsSoundItem item → ListFacts (with_item job number item)
-unfolding rule.item_rule
-item_told job number item facts none sound =
-    let both = neither (rule.declaration_rule job item) (rule.built_rule job item) none in
-    declared_told job number item facts both.0 both.1 sound
+declaration_told : (options : GivenOptions) (job : JobView) (number : ℕ) (declaration : Declaration) → ListFacts job → rule.job_line_rule options job declaration ≡ None → IsSoundDeclaration declaration → ListFacts (with_declaration job number declaration)
+unfolding rule.job_line_rule
+declaration_told options job number declaration facts none sound =
+    let both = neither (rule.declaration_rule options job declaration) (rule.built_rule job declaration) none in
+    declared_told options job number declaration facts both.0 both.1 sound
 
 unmapped : {A B : Type 0} (f : A → B) (a : Option A) → option_map f a ≡ None → a ≡ None
 unmapped f None none = refl
 unmapped f (Some a) none = absurd cc
 
 -- a job line
-entry_told : (told : Told) (number : ℕ) (seen late : Bool) (item : Item) → Sound told → rule.item_rule told.job item ≡ None → IsSoundItem item
-    → Sound (record { seen = seen; in_programs = late; job = with_item told.job number item })
+entry_told : (told : Told) (number : ℕ) (seen late : Bool) (options : GivenOptions) (declaration : Declaration) → Sound told → rule.job_line_rule told.options told.job declaration ≡ None → IsSoundDeclaration declaration
+    → Sound (record { seen = seen; in_programs = late; options = options; job = with_declaration told.job number declaration })
 unfolding with_line
-entry_told told number seen late item sound none fits = record {
-  list = item_told told.job number item sound.list none fits;
+entry_told told number seen late options declaration sound none fits = record {
+  list = declaration_told told.options told.job number declaration sound.list none fits;
   programs = sound.programs;
   names = sound.names;
   few = sound.few;
@@ -111,11 +111,11 @@ entry_told told number seen late item sound none fits = record {
 }
 
 -- a header
-header_line_told : (told : Told) (number : ℕ) (seen late : Bool) (name : List ℕ) → Sound told
+header_line_told : (told : Told) (number : ℕ) (seen late : Bool) (options : GivenOptions) (name : List ℕ) → Sound told
     → rule.header_rule told.job name ≡ None → rule.left_open told.job.programs ≡ None
-    → Sound (record { seen = seen; in_programs = late; job = with_line told.job number (Ok (Header name)) })
+    → Sound (record { seen = seen; in_programs = late; options = options; job = with_line told.job number (Ok (Header name)) })
 unfolding rule.header_rule with_line
-header_line_told told number seen late name sound none ended =
+header_line_told told number seen late options name sound none ended =
     let program : List ℕ × ProgramView = (name, record { line = number; blocks = [] }) in
     let first = unbroken (rule.has_program told.job.programs name) NameRepeated _ none in
     let second = unbroken (nat_le 256 (length told.job.programs)) TooMany None first.1 in
@@ -132,10 +132,10 @@ header_line_told told number seen late name sound none ended =
     }
 
 -- a block
-block_line_told : (told : Told) (number : ℕ) (seen late : Bool) (block : BlockView) → Sound told → is_built block.statement ≡ true
-    → rule.structure_rule told.job.programs (number, block) ≡ None → Sound (record { seen = seen; in_programs = late; job = with_line told.job number (Ok (Step block)) })
+block_line_told : (told : Told) (number : ℕ) (seen late : Bool) (options : GivenOptions) (block : BlockView) → Sound told → is_built block.statement ≡ true
+    → rule.structure_rule told.job.programs (number, block) ≡ None → Sound (record { seen = seen; in_programs = late; options = options; job = with_line told.job number (Ok (BlockLine block)) })
 unfolding with_line
-block_line_told told number seen late block sound built matches =
+block_line_told told number seen late options block sound built matches =
     let all : List (List ℕ × ProgramView) = with_block told.job.programs (number, block) in
     record {
       list = list_kept told.job all sound.list;
@@ -145,27 +145,27 @@ block_line_told told number seen late block sound built matches =
       nested = nested_block told.job.programs (number, block) sound.nested matches;
     }
 
-line_told : (told : Told) (number : ℕ) (seen late percent : Bool) (read : Result ReadingView ℕ) → Sound told → code_by told.job number read ≡ None
+line_told : (told : Told) (number : ℕ) (seen late percent : Bool) (options : GivenOptions) (read : Result ReadingView ℕ) → Sound told → code_by told.options told.job number read ≡ None
     → (percent ≡ true → rule.left_open told.job.programs ≡ None) → IfOk read (IsSoundReading percent)
-    → Sound (record { seen = seen; in_programs = late; job = with_line told.job number read })
+    → Sound (record { seen = seen; in_programs = late; options = options; job = with_line told.job number read })
 unfolding with_line rule.rule_of
-line_told told number seen late percent (Err code) sound none ended fits = absurd cc
-line_told told number seen late percent (Ok Blank) sound none ended fits =
+line_told told number seen late percent options (Err code) sound none ended fits = absurd cc
+line_told told number seen late percent options (Ok Blank) sound none ended fits =
     record { list = sound.list; programs = sound.programs; names = sound.names; few = sound.few; nested = sound.nested }
-line_told told number seen late percent (Ok First) sound none ended fits =
+line_told told number seen late percent options (Ok First) sound none ended fits =
     record { list = sound.list; programs = sound.programs; names = sound.names; few = sound.few; nested = sound.nested }
-line_told told number seen late percent (Ok (Entry item)) sound none ended fits =
-    entry_told told number seen late item sound (unmapped shown (rule.item_rule told.job item) none) fits
-line_told told number seen late percent (Ok (Header name)) sound none ended fits =
-    header_line_told told number seen late name sound (unmapped shown (rule.header_rule told.job name) none) (ended fits)
-line_told told number seen late percent (Ok (Step block)) sound none ended fits = block_line_told told number seen late block sound fits none
+line_told told number seen late percent options (Ok (DeclarationLine declaration)) sound none ended fits =
+    entry_told told number seen late options declaration sound (unmapped shown (rule.job_line_rule told.options told.job declaration) none) fits
+line_told told number seen late percent options (Ok (Header name)) sound none ended fits =
+    header_line_told told number seen late options name sound (unmapped shown (rule.header_rule told.job name) none) (ended fits)
+line_told told number seen late percent options (Ok (BlockLine block)) sound none ended fits = block_line_told told number seen late options block sound fits none
 
-none_open : (job : DraftView) → rule.unmatched job ≡ None → rule.left_open job.programs ≡ None
+none_open : (job : JobView) → rule.unmatched job ≡ None → rule.left_open job.programs ≡ None
 unfolding rule.unmatched
 none_open job none = unmapped _ (rule.left_open job.programs) none
 
 -- a line that begins with '%' leaves no structure open
-program_ends : (percent : Bool) (job : DraftView) → (if percent then rule.unmatched job else None) ≡ None → percent ≡ true → rule.left_open job.programs ≡ None
+program_ends : (percent : Bool) (job : JobView) → (if percent then rule.unmatched job else None) ≡ None → percent ≡ true → rule.left_open job.programs ≡ None
 program_ends true job none is = none_open job none
 program_ends false job none is = absurd cc
 
@@ -174,8 +174,9 @@ unfolding trial line_trial end_of_program tell
 tell_sound told line sound none =
     let both = neither (end_of_program told.job line.1) (line_trial told line) none in
     line_told told line.0 (told.seen || has_token line.1) (told.in_programs || begins_with_percent line.1) (begins_with_percent line.1)
+    (options_with told.options (reading_of told.seen told.in_programs told.job.compensation line.1))
     (reading_of told.seen told.in_programs told.job.compensation line.1) sound
-    (unmapped _ (code_by told.job line.0 (reading_of told.seen told.in_programs told.job.compensation line.1)) both.1)
+    (unmapped _ (code_by told.options told.job line.0 (reading_of told.seen told.in_programs told.job.compensation line.1)) both.1)
     (program_ends (begins_with_percent line.1) told.job both.0)
     (reading_sound told.seen told.in_programs told.job.compensation line.1)
 
@@ -204,7 +205,7 @@ known_program : (programs : List (List ℕ × ProgramView)) (program : Option (L
 known_program programs None known there = absurd cc
 known_program programs (Some name) known there = program_found programs name known
 
-selected : (job : DraftView) (channels : List ChannelLine) → find (λ line. not (rule.is_known job.programs line.program)) channels ≡ None → All (λ (l : ChannelLine). IsSome l.program) channels
+selected : (job : JobView) (channels : List ChannelLine) → find (λ line. not (rule.is_known job.programs line.program)) channels ≡ None → All (λ (l : ChannelLine). IsSome l.program) channels
     → All (λ (l : ChannelLine). IsSomeAnd l.program (λ name. Any (λ (p : List ℕ × ProgramView). p.0 ≡ name) job.programs)) channels
 selected job channels none there k d within =
     let line : ChannelLine = get_or channels k d in
@@ -220,21 +221,8 @@ program_names programs names i j d before within same =
     let short : length (keys_of programs) ≡ length programs = length-map programs name in
     names i j d.0 before (omega arith) (get_or-map name programs i d ∙ same ∙ sym (get_or-map name programs j d))
 
--- options that no line gives
-margin_or : (margin : Option ℤ) → IfSome margin IsSoundMargin → IsSoundMargin (unwrap_or margin (pos 0))
-margin_or None sound = (omega arith, omega arith)
-margin_or (Some margin) sound = sound
-
-depth_or : (depth : Option ℕ) → IfSome depth (λ n. n ≤ 4) → unwrap_or depth 0 ≤ 4
-depth_or None sound = omega arith
-depth_or (Some depth) sound = sound
-
-budget_or : (budget : Option ℕ) → IfSome budget (λ n. (1 ≤ n) × (n ≤ 100000000)) → (1 ≤ unwrap_or budget 1000000) × (unwrap_or budget 1000000 ≤ 100000000)
-budget_or None sound = (omega arith, omega arith)
-budget_or (Some budget) sound = sound
-
 -- what is told is sound at the end
-told_sound : (now : Told) → Sound now → end_trial now ≡ None → IsSoundJob (job_of now.job)
+told_sound : (now : Told) → Sound now → end_trial now ≡ None → IsSoundJob now.job
 unfolding end_trial rule.missing
 told_sound now sound none =
     let matched = neither (rule.unmatched now.job) _ none in
@@ -258,9 +246,9 @@ told_sound now sound none =
       zone_numbers = sound.list.zones.numbers;
       zone_holders = sound.list.zones.holders;
       zones = sound.list.linked.zones;
-      margin = margin_or now.job.margin sound.list.options.sound_margin;
-      depth = depth_or now.job.depth sound.list.options.sound_depth;
-      budget = budget_or now.job.budget sound.list.options.sound_budget;
+      margin = sound.list.options.sound_margin;
+      depth = sound.list.options.sound_depth;
+      budget = sound.list.options.sound_budget;
       few_programs = sound.few;
       program_names = program_names now.job.programs sound.names;
       programs = λ k d within. record { built = sound.programs k d within; nested = nested k d within };
@@ -274,10 +262,18 @@ finished_sound : (ran : Result Told Refusal) (lines : List Line) (job : JobView)
 unfolding finish
 finished_sound (Err refused) lines job ran same = absurd cc
 finished_sound (Ok now) lines job ran same =
-    let end = answered (end_trial now) (job_of now.job) job same in
+    let end = answered (end_trial now) now.job job same in
     subst IsSoundJob end.1 (told_sound now (run_sound (told []) lines now nothing_told ran) end.0)
 
 pub accepted_sound : (input : List ℕ) (job : JobView) → read_of input ≡ Ok job → IsSoundJob job
 accepted_sound input job accepted =
     let lines : List Line = enumerate_from 1 (raw_lines input) in
     finished_sound (run (told []) lines) lines job refl (sym (read_of_is input) ∙ accepted)
+
+-- what an input is read as is a job in which all this holds, or no job
+pub read_sound : (input : List ℕ) → IfOk (read_of input) IsSoundJob
+read_sound input = by_answer (read_of input) refl
+  where
+    by_answer : (read : Result JobView Refusal) → read_of input ≡ read → IfOk (read_of input) IsSoundJob
+    by_answer (Ok job) e = rw e (accepted_sound input job e)
+    by_answer (Err refused) e = rw e tt

@@ -9,7 +9,7 @@ use Rattle.std.proofs.lemmas.List.Elements.{All-nil, All-cons, All-push, All-wea
 use Rattle.nc_blocks.specs.Statement.{BlockView}
 use Rattle.nc_control_flow.specs.declared.nest.Opened.{Opened}
 use Rattle.nc_control_flow.specs.Nested.{nest_of, IsNested}
-use Rattle.tape_job.specs.Job.{ProgramView}
+use Rattle.job_types.specs.Job.{ProgramView}
 use Rattle.tape_job.specs.Rules as rule
 use Rattle.tape_job.specs.Steps.{with_block}
 use Rattle.tape_job.proofs.SoundLists.{none_pass, found}

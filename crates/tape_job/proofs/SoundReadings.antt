@@ -13,24 +13,24 @@ use Rattle.block_scanner.specs.declared.ScanFault.TheVariants as fault
 use Rattle.block_scanner.specs.declared.Token.{Token}
 use Rattle.job_lines.specs.declared.code.Code.{Code}
 use Rattle.job_lines.specs.declared.code.Code.TheVariants.{OutOfRange, NotBuilt}
-use Rattle.job_lines.specs.declared.item.AxisName.{AxisName}
-use Rattle.job_lines.specs.declared.item.NamedSide.{NamedSide}
-use Rattle.job_lines.specs.declared.item.Item.{Item}
-use Rattle.job_lines.specs.declared.item.Item.TheVariants.{Channel, Axis, Offset, Zone, Margin, Depth, Budget}
+use Rattle.job_lines.specs.declared.declaration.AxisName.{AxisName}
+use Rattle.job_lines.specs.declared.declaration.NamedSide.{NamedSide}
+use Rattle.job_lines.specs.declared.declaration.Declaration.{Declaration}
+use Rattle.job_lines.specs.declared.declaration.Declaration.TheVariants.{Channel, Axis, Offset, Zone, Margin, Depth, Budget}
 use Rattle.job_lines.specs.Code.{◌>>=◌, or_code, shown}
 use Rattle.job_lines.specs.Header.{header_of}
-use Rattle.job_lines.specs.Item as item
+use Rattle.job_lines.specs.Declaration as declaration
 use Rattle.job_lines.specs.OptionLines as option
 use Rattle.job_lines.specs.Numbers.{whole_of, within, number_within}
 use Rattle.job_lines.specs.Length.{in_reach, size_of, is_size, signed_size_of, length_of}
 use Rattle.nc_blocks.specs.Names.{upper, name_of}
 use Rattle.nc_blocks.specs.Statement.{BlockView}
 use Rattle.nc_syntax.specs.Blocks.{statement_of}
-use Rattle.tape_job.specs.Built.{is_built}
+use Rattle.job_types.specs.Built.{is_built}
 use Rattle.tape_job.specs.Lines.{words, is_visible, begins_with_percent, text_of, before_comment}
 use Rattle.tape_job.specs.Reading as reading
-use Rattle.tape_job.specs.Reading.{ReadingView, Entry, Header, Step}
-use Rattle.tape_job.specs.SoundJob.{IsInReach, IsSettable, IsSoundRange, IsSoundMargin}
+use Rattle.tape_job.specs.Reading.{ReadingView, DeclarationLine, Header, BlockLine}
+use Rattle.job_types.specs.SoundJob.{IsInReach, IsSettable, IsSoundRange, IsSoundMargin}
 
 -- what holds of each result of a reading holds of the next reading's
 then_ok : {A B : Type 0} (P : A → Type 0) (Q : B → Type 0) (read : Result A Code) (next : A → Result B Code)
@@ -68,12 +68,12 @@ number_sound : (low high : ℕ) (word : List ℕ) → IfSome (number_within low 
 unfolding number_within
 number_sound low high word = found_within low high (whole_of word)
 
-channel_sound : (word : List ℕ) → IfOk (item.channel_of word) (IsWithin 1 8)
-unfolding item.channel_of
+channel_sound : (word : List ℕ) → IfOk (declaration.channel_of word) (IsWithin 1 8)
+unfolding declaration.channel_of
 channel_sound word = or_ok (IsWithin 1 8) OutOfRange (number_within 1 8 word) (number_sound 1 8 word)
 
-zone_sound : (word : List ℕ) → IfOk (item.zone_of word) (IsWithin 1 32)
-unfolding item.zone_of
+zone_sound : (word : List ℕ) → IfOk (declaration.zone_of word) (IsWithin 1 32)
+unfolding declaration.zone_of
 zone_sound word = or_ok (IsWithin 1 32) OutOfRange (number_within 1 32 word) (number_sound 1 32 word)
 
 -- lengths
@@ -125,19 +125,19 @@ settable_by true high number low high_is range = inl (range.0, leb-true number 5
 settable_by false true number low high range = inr (leb-true 505 number high, range.1)
 settable_by false false number low high range = tt
 
-settable_sound : (found : Option ℕ) → IfSome found (IsWithin 54 599) → IfSome (option_and_then item.settable found) IsSettable
+settable_sound : (found : Option ℕ) → IfSome found (IsWithin 54 599) → IfSome (option_and_then declaration.settable found) IsSettable
 settable_sound None range = tt
 settable_sound (Some number) range = settable_by (nat_le number 57) (nat_le 505 number) number refl refl range
 
-g_sound : (word : List ℕ) → IfOk (item.g_of word) IsSettable
-unfolding item.g_of
+g_sound : (word : List ℕ) → IfOk (declaration.g_of word) IsSettable
+unfolding declaration.g_of
 g_sound [] = tt
 g_sound (letter ∷ digits) =
     if_ok IsSettable (letter == 71) _ _
-    (λ _. or_ok IsSettable OutOfRange (option_and_then item.settable (number_within 54 599 digits)) (settable_sound (number_within 54 599 digits) (number_sound 54 599 digits))) tt
+    (λ _. or_ok IsSettable OutOfRange (option_and_then declaration.settable (number_within 54 599 digits)) (settable_sound (number_within 54 599 digits) (number_sound 54 599 digits))) tt
 
-slot_sound : (word : List ℕ) → IfOk (item.slot_of word) (λ slot. slot < 3)
-unfolding item.slot_of
+slot_sound : (word : List ℕ) → IfOk (declaration.slot_of word) (λ slot. slot < 3)
+unfolding declaration.slot_of
 slot_sound word =
     if_ok (λ slot. slot < 3) (bytes_eq word (codes "X")) _ _ (λ _. omega arith)
     (if_ok (λ slot. slot < 3) (bytes_eq word (codes "Y")) _ _ (λ _. omega arith)
@@ -152,187 +152,187 @@ range_by : (ordered : Bool) (carrier : Option (AxisName × Bool)) (lo hi : ℤ) 
 range_by true carrier lo hi ordered low high = record { ordered = search (rules, ordered); low = low; high = high }
 range_by false carrier lo hi ordered low high = tt
 
-side_sound : (carrier lo hi : List ℕ) → IfOk (item.named_side_of carrier lo hi) IsSoundSide
-unfolding item.named_side_of
+side_sound : (carrier lo hi : List ℕ) → IfOk (declaration.named_side_of carrier lo hi) IsSoundSide
+unfolding declaration.named_side_of
 side_sound carrier lo hi =
-    then_any IsSoundSide (item.carrier_of carrier) _ (λ c.
+    then_any IsSoundSide (declaration.carrier_of carrier) _ (λ c.
     then_ok IsInReach IsSoundSide (length_of lo) _ (length_sound lo) (λ l low.
     then_ok IsInReach IsSoundSide (length_of hi) _ (length_sound hi) (λ h high. range_by (int_le l h) c l h refl low high)))
 
 -- what holds of a job line
-abbrev pub IsSoundItem : Item → Type 0
-IsSoundItem (Channel channel program starts) = IsWithin 1 8 channel × (starts ≡ true → IsSome program)
-IsSoundItem (Axis name owner at) = IsInReach at
-IsSoundItem (Offset channel g slot by) = IsSettable g × (slot < 3) × IsInReach by
-IsSoundItem (Zone zone) = IsWithin 1 32 zone.zone × IsWithin 1 32 zone.group × IsSoundSide zone.x × IsSoundSide zone.y × IsSoundSide zone.z
-IsSoundItem (Margin margin) = IsSoundMargin margin
-IsSoundItem (Depth depth) = depth ≤ 4
-IsSoundItem (Budget budget) = IsWithin 1 100000000 budget
-IsSoundItem item = ⊤
+abbrev pub IsSoundDeclaration : Declaration → Type 0
+IsSoundDeclaration (Channel channel program starts) = IsWithin 1 8 channel × (starts ≡ true → IsSome program)
+IsSoundDeclaration (Axis name owner at) = IsInReach at
+IsSoundDeclaration (Offset channel g slot by) = IsSettable g × (slot < 3) × IsInReach by
+IsSoundDeclaration (Zone zone) = IsWithin 1 32 zone.zone × IsWithin 1 32 zone.group × IsSoundSide zone.x × IsSoundSide zone.y × IsSoundSide zone.z
+IsSoundDeclaration (Margin margin) = IsSoundMargin margin
+IsSoundDeclaration (Depth depth) = depth ≤ 4
+IsSoundDeclaration (Budget budget) = IsWithin 1 100000000 budget
+IsSoundDeclaration declaration = ⊤
 
-channel_item_sound : (channel : List ℕ) (program : Option (List ℕ)) (starts : Bool) → (starts ≡ true → IsSome program) → IfOk (item.channel_item_of channel program starts) IsSoundItem
-unfolding item.channel_item_of
-channel_item_sound channel program starts named =
-    then_ok (IsWithin 1 8) IsSoundItem (item.channel_of channel) _ (channel_sound channel) (λ number range. (range, named))
+channel_declaration_sound : (channel : List ℕ) (program : Option (List ℕ)) (starts : Bool) → (starts ≡ true → IsSome program) → IfOk (declaration.channel_declaration_of channel program starts) IsSoundDeclaration
+unfolding declaration.channel_declaration_of
+channel_declaration_sound channel program starts named =
+    then_ok (IsWithin 1 8) IsSoundDeclaration (declaration.channel_of channel) _ (channel_sound channel) (λ number range. (range, named))
 
-starting_item_sound : (channel program start : List ℕ) → IfOk (item.starting_item_of channel program start) IsSoundItem
-unfolding item.starting_item_of
-starting_item_sound channel program start =
-    if_ok IsSoundItem (bytes_eq start (codes "START")) _ _ (λ _. channel_item_sound channel (Some (name_of program)) true (λ _. refl)) tt
+starting_declaration_sound : (channel program start : List ℕ) → IfOk (declaration.starting_declaration_of channel program start) IsSoundDeclaration
+unfolding declaration.starting_declaration_of
+starting_declaration_sound channel program start =
+    if_ok IsSoundDeclaration (bytes_eq start (codes "START")) _ _ (λ _. channel_declaration_sound channel (Some (name_of program)) true (λ _. refl)) tt
 
-channel_line_sound : (args : List (List ℕ)) → IfOk (item.channel_line args) IsSoundItem
-unfolding item.channel_line
-channel_line_sound (channel ∷ []) = channel_item_sound channel None false (λ starts. absurd cc)
-channel_line_sound (channel ∷ program ∷ []) = channel_item_sound channel (Some (name_of program)) false (λ starts. absurd cc)
-channel_line_sound (channel ∷ program ∷ start ∷ []) = starting_item_sound channel program start
+channel_line_sound : (args : List (List ℕ)) → IfOk (declaration.channel_line args) IsSoundDeclaration
+unfolding declaration.channel_line
+channel_line_sound (channel ∷ []) = channel_declaration_sound channel None false (λ starts. absurd cc)
+channel_line_sound (channel ∷ program ∷ []) = channel_declaration_sound channel (Some (name_of program)) false (λ starts. absurd cc)
+channel_line_sound (channel ∷ program ∷ start ∷ []) = starting_declaration_sound channel program start
 channel_line_sound args = tt
 
-axis_item_sound : (name owner at : List ℕ) → IfOk (item.axis_item_of name owner at) IsSoundItem
-unfolding item.axis_item_of
-axis_item_sound name owner at =
-    then_any IsSoundItem (item.axis_name_of name) _ (λ n. then_any IsSoundItem (item.owner_of owner) _ (λ o.
-    then_ok IsInReach IsSoundItem (length_of at) _ (length_sound at) (λ z near. near)))
+axis_declaration_sound : (name owner at : List ℕ) → IfOk (declaration.axis_declaration_of name owner at) IsSoundDeclaration
+unfolding declaration.axis_declaration_of
+axis_declaration_sound name owner at =
+    then_any IsSoundDeclaration (declaration.axis_name_of name) _ (λ n. then_any IsSoundDeclaration (declaration.owner_of owner) _ (λ o.
+    then_ok IsInReach IsSoundDeclaration (length_of at) _ (length_sound at) (λ z near. near)))
 
-axis_line_sound : (args : List (List ℕ)) → IfOk (item.axis_line args) IsSoundItem
-unfolding item.axis_line
-axis_line_sound (name ∷ owner ∷ at ∷ []) = axis_item_sound name owner at
+axis_line_sound : (args : List (List ℕ)) → IfOk (declaration.axis_line args) IsSoundDeclaration
+unfolding declaration.axis_line
+axis_line_sound (name ∷ owner ∷ at ∷ []) = axis_declaration_sound name owner at
 axis_line_sound args = tt
 
-geo_item_sound : (channel slot axis : List ℕ) → IfOk (item.geo_item_of channel slot axis) IsSoundItem
-unfolding item.geo_item_of
-geo_item_sound channel slot axis =
-    then_any IsSoundItem (item.channel_of channel) _ (λ c. then_any IsSoundItem (item.slot_of slot) _ (λ s.
-    then_any IsSoundItem (item.axis_name_of axis) _ (λ a. tt)))
+geo_declaration_sound : (channel slot axis : List ℕ) → IfOk (declaration.geo_declaration_of channel slot axis) IsSoundDeclaration
+unfolding declaration.geo_declaration_of
+geo_declaration_sound channel slot axis =
+    then_any IsSoundDeclaration (declaration.channel_of channel) _ (λ c. then_any IsSoundDeclaration (declaration.slot_of slot) _ (λ s.
+    then_any IsSoundDeclaration (declaration.axis_name_of axis) _ (λ a. tt)))
 
-geo_line_sound : (args : List (List ℕ)) → IfOk (item.geo_line args) IsSoundItem
-unfolding item.geo_line
-geo_line_sound (channel ∷ slot ∷ axis ∷ []) = geo_item_sound channel slot axis
+geo_line_sound : (args : List (List ℕ)) → IfOk (declaration.geo_line args) IsSoundDeclaration
+unfolding declaration.geo_line
+geo_line_sound (channel ∷ slot ∷ axis ∷ []) = geo_declaration_sound channel slot axis
 geo_line_sound args = tt
 
-offset_item_sound : (channel g slot by : List ℕ) → IfOk (item.offset_item_of channel g slot by) IsSoundItem
-unfolding item.offset_item_of
-offset_item_sound channel g slot by =
-    then_any IsSoundItem (item.channel_of channel) _ (λ c.
-    then_ok IsSettable IsSoundItem (item.g_of g) _ (g_sound g) (λ w settable.
-    then_ok (λ n. n < 3) IsSoundItem (item.slot_of slot) _ (slot_sound slot) (λ s low.
-    then_ok IsInReach IsSoundItem (length_of by) _ (length_sound by) (λ l near. (settable, low, near)))))
+offset_declaration_sound : (channel g slot by : List ℕ) → IfOk (declaration.offset_declaration_of channel g slot by) IsSoundDeclaration
+unfolding declaration.offset_declaration_of
+offset_declaration_sound channel g slot by =
+    then_any IsSoundDeclaration (declaration.channel_of channel) _ (λ c.
+    then_ok IsSettable IsSoundDeclaration (declaration.g_of g) _ (g_sound g) (λ w settable.
+    then_ok (λ n. n < 3) IsSoundDeclaration (declaration.slot_of slot) _ (slot_sound slot) (λ s low.
+    then_ok IsInReach IsSoundDeclaration (length_of by) _ (length_sound by) (λ l near. (settable, low, near)))))
 
-offset_line_sound : (args : List (List ℕ)) → IfOk (item.offset_line args) IsSoundItem
-unfolding item.offset_line
-offset_line_sound (channel ∷ g ∷ slot ∷ by ∷ []) = offset_item_sound channel g slot by
+offset_line_sound : (args : List (List ℕ)) → IfOk (declaration.offset_line args) IsSoundDeclaration
+unfolding declaration.offset_line
+offset_line_sound (channel ∷ g ∷ slot ∷ by ∷ []) = offset_declaration_sound channel g slot by
 offset_line_sound args = tt
 
-zone_item_sound : (zone group holder state cx lx hx cy ly hy cz lz hz : List ℕ)
-    → IfOk (item.zone_item_of zone group holder state cx lx hx cy ly hy cz lz hz) IsSoundItem
-unfolding item.zone_item_of
-zone_item_sound zone group holder state cx lx hx cy ly hy cz lz hz =
-    then_any IsSoundItem (item.state_of state) _ (λ on.
-    then_ok (IsWithin 1 32) IsSoundItem (item.zone_of zone) _ (zone_sound zone) (λ z zone_range.
-    then_ok (IsWithin 1 32) IsSoundItem (item.zone_of group) _ (zone_sound group) (λ g group_range.
-    then_any IsSoundItem (item.owner_of holder) _ (λ h.
-    then_ok IsSoundSide IsSoundItem (item.named_side_of cx lx hx) _ (side_sound cx lx hx) (λ x x_range.
-    then_ok IsSoundSide IsSoundItem (item.named_side_of cy ly hy) _ (side_sound cy ly hy) (λ y y_range.
-    then_ok IsSoundSide IsSoundItem (item.named_side_of cz lz hz) _ (side_sound cz lz hz) (λ w w_range.
+zone_declaration_sound : (zone group holder state cx lx hx cy ly hy cz lz hz : List ℕ)
+    → IfOk (declaration.zone_declaration_of zone group holder state cx lx hx cy ly hy cz lz hz) IsSoundDeclaration
+unfolding declaration.zone_declaration_of
+zone_declaration_sound zone group holder state cx lx hx cy ly hy cz lz hz =
+    then_any IsSoundDeclaration (declaration.state_of state) _ (λ on.
+    then_ok (IsWithin 1 32) IsSoundDeclaration (declaration.zone_of zone) _ (zone_sound zone) (λ z zone_range.
+    then_ok (IsWithin 1 32) IsSoundDeclaration (declaration.zone_of group) _ (zone_sound group) (λ g group_range.
+    then_any IsSoundDeclaration (declaration.owner_of holder) _ (λ h.
+    then_ok IsSoundSide IsSoundDeclaration (declaration.named_side_of cx lx hx) _ (side_sound cx lx hx) (λ x x_range.
+    then_ok IsSoundSide IsSoundDeclaration (declaration.named_side_of cy ly hy) _ (side_sound cy ly hy) (λ y y_range.
+    then_ok IsSoundSide IsSoundDeclaration (declaration.named_side_of cz lz hz) _ (side_sound cz lz hz) (λ w w_range.
     (zone_range, group_range, x_range, y_range, w_range))))))))
 
-zone_line_sound : (args : List (List ℕ)) → IfOk (item.zone_line args) IsSoundItem
-unfolding item.zone_line
-zone_line_sound (zone ∷ group ∷ holder ∷ state ∷ cx ∷ lx ∷ hx ∷ cy ∷ ly ∷ hy ∷ cz ∷ lz ∷ hz ∷ []) = zone_item_sound zone group holder state cx lx hx cy ly hy cz lz hz
+zone_line_sound : (args : List (List ℕ)) → IfOk (declaration.zone_line args) IsSoundDeclaration
+unfolding declaration.zone_line
+zone_line_sound (zone ∷ group ∷ holder ∷ state ∷ cx ∷ lx ∷ hx ∷ cy ∷ ly ∷ hy ∷ cz ∷ lz ∷ hz ∷ []) = zone_declaration_sound zone group holder state cx lx hx cy ly hy cz lz hz
 zone_line_sound args = tt
 
-job_line_sound : (args : List (List ℕ)) → IfOk (item.job_line args) IsSoundItem
-unfolding item.job_line
+job_line_sound : (args : List (List ℕ)) → IfOk (declaration.job_line args) IsSoundDeclaration
+unfolding declaration.job_line
 job_line_sound (version ∷ []) = tt
 job_line_sound args = tt
 
 margin_by : (low high : Bool) (margin : ℤ) → int_le (pos 0) margin ≡ low → int_le margin (pos 1000000) ≡ high
-    → IfOk {T = Item} {E = Code} (if low && high then Ok (Margin margin) else Err OutOfRange) IsSoundItem
+    → IfOk {T = Declaration} {E = Code} (if low && high then Ok (Margin margin) else Err OutOfRange) IsSoundDeclaration
 margin_by true true margin low high = (search (rules, low), search (rules, high))
 margin_by true false margin low high = tt
 margin_by false high margin low high_is = tt
 
-margin_sound : (word : List ℕ) → IfOk (option.margin_of word) IsSoundItem
+margin_sound : (word : List ℕ) → IfOk (option.margin_of word) IsSoundDeclaration
 unfolding option.margin_of
-margin_sound word = then_any IsSoundItem (length_of word) _ (λ m. margin_by (int_le (pos 0) m) (int_le m (pos 1000000)) m refl refl)
+margin_sound word = then_any IsSoundDeclaration (length_of word) _ (λ m. margin_by (int_le (pos 0) m) (int_le m (pos 1000000)) m refl refl)
 
-margin_line_sound : (args : List (List ℕ)) → IfOk (option.margin_line args) IsSoundItem
+margin_line_sound : (args : List (List ℕ)) → IfOk (option.margin_line args) IsSoundDeclaration
 unfolding option.margin_line
 margin_line_sound (margin ∷ []) = margin_sound margin
 margin_line_sound args = tt
 
-depth_sound : (word : List ℕ) → IfOk (option.depth_of word) IsSoundItem
+depth_sound : (word : List ℕ) → IfOk (option.depth_of word) IsSoundDeclaration
 unfolding option.depth_of
 depth_sound word =
-    then_ok (IsWithin 0 4) IsSoundItem (or_code OutOfRange (number_within 0 4 word)) _
+    then_ok (IsWithin 0 4) IsSoundDeclaration (or_code OutOfRange (number_within 0 4 word)) _
     (or_ok (IsWithin 0 4) OutOfRange (number_within 0 4 word) (number_sound 0 4 word)) (λ depth range. range.1)
 
-depth_line_sound : (args : List (List ℕ)) → IfOk (option.depth_line args) IsSoundItem
+depth_line_sound : (args : List (List ℕ)) → IfOk (option.depth_line args) IsSoundDeclaration
 unfolding option.depth_line
 depth_line_sound (depth ∷ []) = depth_sound depth
 depth_line_sound args = tt
 
-budget_sound : (word : List ℕ) → IfOk (option.budget_of word) IsSoundItem
+budget_sound : (word : List ℕ) → IfOk (option.budget_of word) IsSoundDeclaration
 unfolding option.budget_of
 budget_sound word =
-    then_ok (IsWithin 1 100000000) IsSoundItem (or_code OutOfRange (number_within 1 100000000 word)) _
+    then_ok (IsWithin 1 100000000) IsSoundDeclaration (or_code OutOfRange (number_within 1 100000000 word)) _
     (or_ok (IsWithin 1 100000000) OutOfRange (number_within 1 100000000 word) (number_sound 1 100000000 word)) (λ budget range. range)
 
-budget_line_sound : (args : List (List ℕ)) → IfOk (option.budget_line args) IsSoundItem
+budget_line_sound : (args : List (List ℕ)) → IfOk (option.budget_line args) IsSoundDeclaration
 unfolding option.budget_line
 budget_line_sound (budget ∷ []) = budget_sound budget
 budget_line_sound args = tt
 
-compensation_sound : (word : List ℕ) → IfOk (option.compensation_of word) IsSoundItem
+compensation_sound : (word : List ℕ) → IfOk (option.compensation_of word) IsSoundDeclaration
 unfolding option.compensation_of
-compensation_sound word = if_ok IsSoundItem (bytes_eq word (codes "CONTOUR")) _ _ (λ _. tt) tt
+compensation_sound word = if_ok IsSoundDeclaration (bytes_eq word (codes "CONTOUR")) _ _ (λ _. tt) tt
 
-compensation_line_sound : (args : List (List ℕ)) → IfOk (option.compensation_line args) IsSoundItem
+compensation_line_sound : (args : List (List ℕ)) → IfOk (option.compensation_line args) IsSoundDeclaration
 unfolding option.compensation_line
 compensation_line_sound (word ∷ []) = compensation_sound word
 compensation_line_sound args = tt
 
-skip_sound : (word : List ℕ) → IfOk (option.skip_of word) IsSoundItem
+skip_sound : (word : List ℕ) → IfOk (option.skip_of word) IsSoundDeclaration
 unfolding option.skip_of
-skip_sound word = if_ok IsSoundItem (bytes_eq word (codes "ON")) _ _ (λ _. tt) tt
+skip_sound word = if_ok IsSoundDeclaration (bytes_eq word (codes "ON")) _ _ (λ _. tt) tt
 
-skip_line_sound : (args : List (List ℕ)) → IfOk (option.skip_line args) IsSoundItem
+skip_line_sound : (args : List (List ℕ)) → IfOk (option.skip_line args) IsSoundDeclaration
 unfolding option.skip_line
 skip_line_sound (word ∷ []) = skip_sound word
 skip_line_sound args = tt
 
-option_item_sound : (kind : List ℕ) (args : List (List ℕ)) → IfOk (option.option_item_of kind args) IsSoundItem
-unfolding option.option_item_of
-option_item_sound kind args =
-    if_ok IsSoundItem (bytes_eq kind (codes "MARGIN")) _ _ (λ _. margin_line_sound args)
-    (if_ok IsSoundItem (bytes_eq kind (codes "DEPTH")) _ _ (λ _. depth_line_sound args)
-    (if_ok IsSoundItem (bytes_eq kind (codes "BUDGET")) _ _ (λ _. budget_line_sound args)
-    (if_ok IsSoundItem (bytes_eq kind (codes "COMPENSATION")) _ _ (λ _. compensation_line_sound args)
-    (if_ok IsSoundItem (bytes_eq kind (codes "SKIP")) _ _ (λ _. skip_line_sound args) tt))))
+option_declaration_sound : (kind : List ℕ) (args : List (List ℕ)) → IfOk (option.option_declaration_of kind args) IsSoundDeclaration
+unfolding option.option_declaration_of
+option_declaration_sound kind args =
+    if_ok IsSoundDeclaration (bytes_eq kind (codes "MARGIN")) _ _ (λ _. margin_line_sound args)
+    (if_ok IsSoundDeclaration (bytes_eq kind (codes "DEPTH")) _ _ (λ _. depth_line_sound args)
+    (if_ok IsSoundDeclaration (bytes_eq kind (codes "BUDGET")) _ _ (λ _. budget_line_sound args)
+    (if_ok IsSoundDeclaration (bytes_eq kind (codes "COMPENSATION")) _ _ (λ _. compensation_line_sound args)
+    (if_ok IsSoundDeclaration (bytes_eq kind (codes "SKIP")) _ _ (λ _. skip_line_sound args) tt))))
 
-item_sound : (kind : List ℕ) (args : List (List ℕ)) → IfOk (item.item_of kind args) IsSoundItem
-unfolding item.item_of
-item_sound kind args =
-    if_ok IsSoundItem (bytes_eq kind (codes "CHANNEL")) _ _ (λ _. channel_line_sound args)
-    (if_ok IsSoundItem (bytes_eq kind (codes "AXIS")) _ _ (λ _. axis_line_sound args)
-    (if_ok IsSoundItem (bytes_eq kind (codes "GEO")) _ _ (λ _. geo_line_sound args)
-    (if_ok IsSoundItem (bytes_eq kind (codes "OFFSET")) _ _ (λ _. offset_line_sound args)
-    (if_ok IsSoundItem (bytes_eq kind (codes "ZONE")) _ _ (λ _. zone_line_sound args)
-    (if_ok IsSoundItem (bytes_eq kind (codes "JOB")) _ _ (λ _. job_line_sound args) (option_item_sound kind args))))))
+declaration_sound : (kind : List ℕ) (args : List (List ℕ)) → IfOk (declaration.declaration_of kind args) IsSoundDeclaration
+unfolding declaration.declaration_of
+declaration_sound kind args =
+    if_ok IsSoundDeclaration (bytes_eq kind (codes "CHANNEL")) _ _ (λ _. channel_line_sound args)
+    (if_ok IsSoundDeclaration (bytes_eq kind (codes "AXIS")) _ _ (λ _. axis_line_sound args)
+    (if_ok IsSoundDeclaration (bytes_eq kind (codes "GEO")) _ _ (λ _. geo_line_sound args)
+    (if_ok IsSoundDeclaration (bytes_eq kind (codes "OFFSET")) _ _ (λ _. offset_line_sound args)
+    (if_ok IsSoundDeclaration (bytes_eq kind (codes "ZONE")) _ _ (λ _. zone_line_sound args)
+    (if_ok IsSoundDeclaration (bytes_eq kind (codes "JOB")) _ _ (λ _. job_line_sound args) (option_declaration_sound kind args))))))
 
 -- what holds of what a line says that begins with '%' or not
 abbrev pub IsSoundReading : Bool → ReadingView → Type 0
-IsSoundReading percent (Entry item) = IsSoundItem item
+IsSoundReading percent (DeclarationLine declaration) = IsSoundDeclaration declaration
 IsSoundReading percent (Header name) = percent ≡ true
-IsSoundReading percent (Step block) = is_built block.statement ≡ true
+IsSoundReading percent (BlockLine block) = is_built block.statement ≡ true
 IsSoundReading percent _ = ⊤
 
-entry_sound : (percent : Bool) (words : List (List ℕ)) → IfOk (reading.entry_of words) (IsSoundReading percent)
-unfolding reading.entry_of
+entry_sound : (percent : Bool) (words : List (List ℕ)) → IfOk (reading.declaration_line words) (IsSoundReading percent)
+unfolding reading.declaration_line
 entry_sound percent [] = tt
-entry_sound percent (kind ∷ args) = then_ok IsSoundItem (IsSoundReading percent) (item.item_of kind args) _ (item_sound kind args) (λ i sound. sound)
+entry_sound percent (kind ∷ args) = then_ok IsSoundDeclaration (IsSoundReading percent) (declaration.declaration_of kind args) _ (declaration_sound kind args) (λ i sound. sound)
 
-header_sound : (words : List (List ℕ)) → IfOk (reading.header_entry words) (IsSoundReading true)
-unfolding reading.header_entry
+header_sound : (words : List (List ℕ)) → IfOk (reading.header_line words) (IsSoundReading true)
+unfolding reading.header_line
 header_sound words = then_any (IsSoundReading true) (header_of words) _ (λ name. refl)
 
 form_sound : (seen percent : Bool) (words : List (List ℕ)) → IfOk (reading.form_of seen percent words) (IsSoundReading percent)
@@ -352,12 +352,12 @@ entry_reading_sound seen percent content =
     (if_ok (IsSoundReading percent) (is_visible content) _ _ (λ _. form_sound seen percent (words (upper content))) tt)
 
 step_by : (percent built : Bool) (block : BlockView) → is_built block.statement ≡ built
-    → IfOk {T = ReadingView} {E = ℕ} (if built then Ok (Step block) else Err (shown NotBuilt)) (IsSoundReading percent)
+    → IfOk {T = ReadingView} {E = ℕ} (if built then Ok (BlockLine block) else Err (shown NotBuilt)) (IsSoundReading percent)
 step_by percent true block is = is
 step_by percent false block is = tt
 
-step_sound : (percent : Bool) (read : Result BlockView ℕ) → IfOk (reading.step_of read) (IsSoundReading percent)
-unfolding reading.step_of
+step_sound : (percent : Bool) (read : Result BlockView ℕ) → IfOk (reading.block_line read) (IsSoundReading percent)
+unfolding reading.block_line
 step_sound percent (Ok block) = step_by percent (is_built block.statement) block refl
 step_sound percent (Err code) = tt
 

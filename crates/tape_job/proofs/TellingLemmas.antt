@@ -1,12 +1,12 @@
 -- One line more: what lines tell together, and what is told line by line, are the same.
-use Rattle.std.proofs.Common.{◌≡◌, ◌∙◌, ℕ, Bool, true, false, not, ◌&&◌, ◌||◌, if◌then◌else◌, nat_lt, List, [], ◌∷◌, ◌++◌, Result, Ok, Err, Option, Some, None, refl, sym, ap, append_assoc, append-nil, ◌+◌, length, arith}
+use Rattle.std.proofs.Common.{is_some, unwrap_or, ◌≡◌, ◌∙◌, ℕ, Bool, true, false, not, ◌&&◌, ◌||◌, if◌then◌else◌, nat_lt, List, [], ◌∷◌, ◌++◌, Result, Ok, Err, Option, Some, None, refl, sym, ap, append_assoc, append-nil, ◌+◌, length, arith}
 use Rattle.std.specs.List.{list_any, cons_option, enumerate_from}
 use Rattle.std.specs.Option.{option_or}
 use Rattle.nc_faults.specs.declared.Refusal.{Refusal}
 use Rattle.nc_blocks.specs.Statement.{BlockView}
-use Rattle.tape_job.specs.Reading.{ReadingView, Header, Step, words_of, step_of, tokens_reading, block_reading, entry_reading, with_shown, reading_of}
-use Rattle.tape_job.specs.Built.{is_built}
-use Rattle.tape_job.specs.Draft.{job_of}
+use Rattle.tape_job.specs.Draft.{nothing_told}
+use Rattle.tape_job.specs.Reading.{ReadingView, Header, BlockLine, words_of, block_line, tokens_reading, block_reading, entry_reading, with_shown, reading_of}
+use Rattle.job_types.specs.Built.{is_built}
 use Rattle.nc_syntax.specs.Blocks.{statement_of}
 use Rattle.block_scanner.specs.Tokens.{tokens_of}
 use Rattle.block_scanner.specs.declared.ScanFault.{ScanFault}
@@ -16,7 +16,7 @@ use Rattle.job_lines.specs.Code.{shown}
 use Rattle.job_lines.specs.declared.code.Code.TheVariants.{LineTooLong, NotBuilt}
 use Rattle.tape_job.specs.declared.fault.JobFault.{JobFault}
 use Rattle.tape_job.specs.declared.fault.JobFault.TheVariants.{Refused, NoMemory}
-use Rattle.tape_job.specs.Job.{JobView, ProgramView}
+use Rattle.job_types.specs.Job.{JobView, ProgramView}
 use Rattle.tape_job.specs.Lines.{Line, has_token, begins_with_percent, raw_lines, text_of, before_comment}
 use Rattle.tape_job.specs.Told.{Told, told, reading_under, reading_after, accept_compensation, says_compensation, says_skip, any_after, last_of, option_in, entries, axes_in, channel_from, axis_from, geo_from, offset_from, zone_from, margin_from, depth_from, budget_from, block_from, name_from, until_header, blocks_in, with_program, programs_in}
 use Rattle.tape_job.specs.Read.{trial, first_trial, end_trial, answer, read_of, GivesRead}
@@ -83,13 +83,30 @@ option_push give lines line =
     ap last_of (entries_push (λ before (l : Line). give (reading_after before l.1)) [] lines line)
     ∙ last_with_entry (entries (λ before (l : Line). give (reading_after before l.1)) [] lines) (give (reading_after lines line.1))
 
+unwrap_either : {A : Type 0} (a b : Option A) (d : A) → unwrap_or (option_or a b) d ≡ unwrap_or a (unwrap_or b d)
+unwrap_either None b d = refl
+unwrap_either (Some a) b d = refl
+
+some_either : {A : Type 0} (a b : Option A) → is_some (option_or a b) ≡ is_some a || is_some b
+some_either None b = refl
+some_either (Some a) b = refl
+
+value_push : {A : Type 0} (give : Result ReadingView ℕ → Option A) (d : A) (lines : List Line) (line : Line)
+    → unwrap_or (option_in give (lines ++ line ∷ [])) d ≡ unwrap_or (give (reading_after lines line.1)) (unwrap_or (option_in give lines) d)
+value_push give d lines line =
+    ap (λ o. unwrap_or o d) (option_push give lines line) ∙ unwrap_either (give (reading_after lines line.1)) (option_in give lines) d
+
+given_push : {A : Type 0} (give : Result ReadingView ℕ → Option A) (lines : List Line) (line : Line)
+    → is_some (option_in give (lines ++ line ∷ [])) ≡ is_some (give (reading_after lines line.1)) || is_some (option_in give lines)
+given_push give lines line = ap is_some (option_push give lines line) ∙ some_either (give (reading_after lines line.1)) (option_in give lines)
+
 -- no block accepts compensation, so that a line does so hangs on no line before it that does
-step_accepts_none : (built : Bool) (block : BlockView) → says_compensation (if built then Ok (Step block) else Err (shown NotBuilt)) ≡ false
+step_accepts_none : (built : Bool) (block : BlockView) → says_compensation (if built then Ok (BlockLine block) else Err (shown NotBuilt)) ≡ false
 step_accepts_none true block = refl
 step_accepts_none false block = refl
 
-block_accepts_none : (read : Result BlockView ℕ) → says_compensation (step_of read) ≡ false
-unfolding step_of
+block_accepts_none : (read : Result BlockView ℕ) → says_compensation (block_line read) ≡ false
+unfolding block_line
 block_accepts_none (Ok block) = step_accepts_none (is_built block.statement) block
 block_accepts_none (Err code) = refl
 
@@ -132,7 +149,7 @@ extended (program ∷ programs) number reading blocks = blocks
 
 one_block : (number : ℕ) (reading : Result ReadingView ℕ) → until_header (name_from reading) (block_from number reading) [] ≡ with_entry [] (block_from number reading)
 one_block number (Ok (Header name)) = refl
-one_block number (Ok (Step block)) = refl
+one_block number (Ok (BlockLine block)) = refl
 one_block number reading = refl
 
 cons_extended : (first : Option (ℕ × BlockView)) (programs : List (List ℕ × ProgramView)) (number : ℕ) (reading : Result ReadingView ℕ) (blocks : List (ℕ × BlockView))
@@ -161,17 +178,17 @@ grown programs number reading = with_header (with_block_of programs (block_from 
 
 one_program : (number : ℕ) (reading : Result ReadingView ℕ) → with_program (name_from reading) (record { line = number; blocks = [] }) [] ≡ grown [] number reading
 one_program number (Ok (Header name)) = refl
-one_program number (Ok (Step block)) = refl
+one_program number (Ok (BlockLine block)) = refl
 one_program number reading = refl
 
 grown_behind : (name : List ℕ) (header : ℕ) (blocks : List (ℕ × BlockView)) (programs : List (List ℕ × ProgramView)) (number : ℕ) (reading : Result ReadingView ℕ)
     → (name, record { line = header; blocks = extended programs number reading blocks }) ∷ grown programs number reading
     ≡ grown ((name, record { line = header; blocks = blocks }) ∷ programs) number reading
 grown_behind name header blocks [] number (Ok (Header other)) = refl
-grown_behind name header blocks [] number (Ok (Step block)) = refl
+grown_behind name header blocks [] number (Ok (BlockLine block)) = refl
 grown_behind name header blocks [] number reading = refl
 grown_behind name header blocks (program ∷ programs) number (Ok (Header other)) = refl
-grown_behind name header blocks (program ∷ programs) number (Ok (Step block)) = refl
+grown_behind name header blocks (program ∷ programs) number (Ok (BlockLine block)) = refl
 grown_behind name header blocks (program ∷ programs) number reading = refl
 
 program_behind : (name : Option (List ℕ)) (header : ℕ) (blocks : List (ℕ × BlockView)) (programs : List (List ℕ × ProgramView)) (number : ℕ) (reading : Result ReadingView ℕ)
@@ -203,9 +220,12 @@ told-push lines line =
       entries_push (λ before (l : Line). geo_from (axes_in before) l.0 (reading_after before l.1)) [] lines line,
       entries_push (λ before (l : Line). offset_from l.0 (reading_after before l.1)) [] lines line,
       entries_push (λ before (l : Line). zone_from (axes_in before) l.0 (reading_after before l.1)) [] lines line,
-      option_push margin_from lines line,
-      option_push depth_from lines line,
-      option_push budget_from lines line,
+      given_push margin_from lines line,
+      given_push depth_from lines line,
+      given_push budget_from lines line,
+      value_push margin_from nothing_told.margin lines line,
+      value_push depth_from nothing_told.depth lines line,
+      value_push budget_from nothing_told.budget lines line,
       accept_push lines line,
       any_after_push (λ before (l : Line). says_skip (reading_after before l.1)) [] lines line,
       programs_push [] lines line,
@@ -221,16 +241,16 @@ step None now more rest job same = same
 step (Some refused) now more rest job same = refl
 
 read_lines_is : (before lines : List Line)
-    → answer (option_or (first_trial before lines) (end_trial (told (before ++ lines)))) (job_of (told (before ++ lines)).job) ≡ finish (run (told before) lines)
+    → answer (option_or (first_trial before lines) (end_trial (told (before ++ lines)))) (told (before ++ lines)).job ≡ finish (run (told before) lines)
 unfolding finish
 read_lines_is before [] = rw (append-nil before) refl
 read_lines_is before (line ∷ lines) =
-    let behind : answer (option_or (first_trial (before ++ line ∷ []) lines) (end_trial (told (before ++ line ∷ lines)))) (job_of (told (before ++ line ∷ lines)).job)
+    let behind : answer (option_or (first_trial (before ++ line ∷ []) lines) (end_trial (told (before ++ line ∷ lines)))) (told (before ++ line ∷ lines)).job
     ≡ finish (run (tell (told before) line) lines) =
-    ap (λ all. answer (option_or (first_trial (before ++ line ∷ []) lines) (end_trial (told all))) (job_of (told all).job)) (sym (append_assoc before (line ∷ []) lines))
+    ap (λ all. answer (option_or (first_trial (before ++ line ∷ []) lines) (end_trial (told all))) (told all).job) (sym (append_assoc before (line ∷ []) lines))
     ∙ read_lines_is (before ++ line ∷ []) lines
     ∙ ap (λ now. finish (run now lines)) (told-push before line) in
-    step (trial (told before) line) (told (before ++ line ∷ lines)) (first_trial (before ++ line ∷ []) lines) (run (tell (told before) line) lines) (job_of (told (before ++ line ∷ lines)).job) behind
+    step (trial (told before) line) (told (before ++ line ∷ lines)) (first_trial (before ++ line ∷ []) lines) (run (tell (told before) line) lines) (told (before ++ line ∷ lines)).job behind
 
 pub read_of_is : (bytes : List ℕ) → read_of bytes ≡ finish (run (told []) (enumerate_from 1 (raw_lines bytes)))
 unfolding read_of
@@ -249,7 +269,7 @@ read_refused bytes rest raw after reader new number NoMemory same lines tells = 
 -- where no line is left, the input is what is tried at the end
 pub read_finished : (bytes rest : List ℕ) (reader : Told) (number : ℕ)
     → run reader (enumerate_from (number + 1) (raw_lines rest)) ≡ run (told []) (enumerate_from 1 (raw_lines bytes))
-    → length rest ≡ 0 → read_of bytes ≡ answer (end_trial reader) (job_of reader.job)
+    → length rest ≡ 0 → read_of bytes ≡ answer (end_trial reader) reader.job
 unfolding finish
 read_finished bytes [] reader number same empty = read_of_is bytes ∙ ap finish (sym same)
 read_finished bytes (byte ∷ rest) reader number same empty = absurd (omega arith)

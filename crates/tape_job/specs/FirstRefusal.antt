@@ -1,8 +1,7 @@
 -- Law. What it means that lines are accepted, or refused at the first line that breaks a rule.
 use Rattle.std.specs.Prelude.{◌≡◌, ◌⊎◌, List, ◌∷◌, ◌++◌, Result, Ok, Err, None, Some}
 use Rattle.nc_faults.specs.declared.Refusal.{Refusal}
-use Rattle.tape_job.specs.Draft.{job_of}
-use Rattle.tape_job.specs.Job.{JobView}
+use Rattle.job_types.specs.Job.{JobView}
 use Rattle.tape_job.specs.Lines.{Line}
 use Rattle.tape_job.specs.Told.{told}
 use Rattle.tape_job.specs.Read.{trial, end_trial}
@@ -29,7 +28,7 @@ pub record RefusedAtEnd (lines : List Line) (refused : Refusal) : Type 0 where
 pub record AcceptedAs (lines : List Line) (job : JobView) : Type 0 where
   pub before : NoneRefused lines
   pub here : end_trial (told lines) ≡ None
-  pub tells : job_of (told lines).job ≡ job
+  pub tells : (told lines).job ≡ job
 
 abbrev pub IsReadAs : List Line → Result JobView Refusal → Type 0
 IsReadAs lines (Ok job) = AcceptedAs lines job

@@ -1,12 +1,8 @@
-pub mod Built
 pub mod Draft
 pub mod FirstRefusal
-pub mod Job
 pub mod Lines
 pub mod Read
 pub mod Reading
 pub mod Rules
-pub mod SoundJob
 pub mod Steps
 pub mod Told
-pub mod TreeCode

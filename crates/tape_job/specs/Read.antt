@@ -7,26 +7,26 @@ use Rattle.nc_faults.specs.Texts.{IsRefusalCode}
 use Rattle.nc_faults.specs.declared.Refusal.{Refusal}
 use Rattle.tape_job.specs.declared.fault.JobFault.{JobFault}
 use Rattle.tape_job.specs.declared.fault.JobFault.TheVariants.{Refused, NoMemory}
-use Rattle.tape_job.specs.declared.job.Job.{Job}
-use Rattle.tape_job.specs.Draft.{DraftView, job_of}
-use Rattle.tape_job.specs.Job.{JobView}
+use Rattle.job_types.specs.declared.job.Job.{Job}
+use Rattle.tape_job.specs.declared.draft.GivenOptions.{GivenOptions}
+use Rattle.job_types.specs.Job.{JobView}
 use Rattle.tape_job.specs.Lines.{Line, numbered, begins_with_percent}
-use Rattle.tape_job.specs.Reading.{ReadingView, Step, reading_of}
+use Rattle.tape_job.specs.Reading.{ReadingView, BlockLine, reading_of}
 use Rattle.tape_job.specs.Rules.{refusal, rule_of, structure_rule, unmatched, missing}
 use Rattle.tape_job.specs.Told.{Told, told}
 
 -- the code that a line shows by itself, or else against what the lines before it told
-abbrev pub code_by : DraftView → ℕ → Result ReadingView ℕ → Option ℕ
-code_by job number (Ok (Step block)) = structure_rule job.programs (number, block)
-code_by job number (Ok reading) = option_map shown (rule_of job reading)
-code_by job number (Err code) = Some code
+abbrev pub code_by : GivenOptions → JobView → ℕ → Result ReadingView ℕ → Option ℕ
+code_by options job number (Ok (BlockLine block)) = structure_rule job.programs (number, block)
+code_by options job number (Ok reading) = option_map shown (rule_of options job reading)
+code_by options job number (Err code) = Some code
 
 unfoldable pub line_trial : Told → Line → Option Refusal
 line_trial told line =
-    option_map (λ code. record { code = code; line = line.0 }) (code_by told.job line.0 (reading_of told.seen told.in_programs told.job.compensation line.1))
+    option_map (λ code. record { code = code; line = line.0 }) (code_by told.options told.job line.0 (reading_of told.seen told.in_programs told.job.compensation line.1))
 
 -- a line that begins with '%' ends the program before it, ahead of all else
-unfoldable pub end_of_program : DraftView → List ℕ → Option Refusal
+unfoldable pub end_of_program : JobView → List ℕ → Option Refusal
 end_of_program job raw = if begins_with_percent raw then unmatched job else None
 
 -- the refusal that a line gives after what the lines before it told
@@ -47,7 +47,7 @@ answer None job = Ok job
 answer (Some refused) job = Err refused
 
 abbrev pub read_lines : List Line → Result JobView Refusal
-read_lines lines = answer (option_or (first_trial [] lines) (end_trial (told lines))) (job_of (told lines).job)
+read_lines lines = answer (option_or (first_trial [] lines) (end_trial (told lines))) (told lines).job
 
 -- what an input is: a job, or the first refusal
 unfoldable pub read_of : List ℕ → Result JobView Refusal

@@ -9,10 +9,10 @@ use Rattle.block_scanner.specs.declared.Token.{Token}
 use Rattle.block_scanner.specs.WordsView.{WordsView}
 use Rattle.job_lines.specs.Code.{◌>>=◌, shown}
 use Rattle.job_lines.specs.Header.{header_of}
-use Rattle.job_lines.specs.Item.{item_of}
+use Rattle.job_lines.specs.Declaration.{declaration_of}
 use Rattle.job_lines.specs.declared.code.Code.{Code}
 use Rattle.job_lines.specs.declared.code.Code.TheVariants.{NoJobLine, LineTooLong, BadByte, UnknownJobLine, OpenText, NotBuilt}
-use Rattle.job_lines.specs.declared.item.Item.{Item}
+use Rattle.job_lines.specs.declared.declaration.Declaration.{Declaration}
 use Rattle.nc_faults.specs.Texts.{IsRefusalCode}
 use Rattle.nc_blocks.specs.Indices.{StatementFits}
 use Rattle.nc_blocks.specs.Names.{upper}
@@ -22,23 +22,23 @@ use Rattle.tape_job.specs.declared.reading.LineFault.{LineFault}
 use Rattle.tape_job.specs.declared.reading.LineFault.TheVariants.{Broken, NoMemory}
 use Rattle.tape_job.specs.declared.reading.Reading.{Reading}
 use Rattle.tape_job.specs.declared.reading.Reading.TheVariants as reading
-use Rattle.tape_job.specs.Built.{is_built}
+use Rattle.job_types.specs.Built.{is_built}
 use Rattle.tape_job.specs.Lines.{text_of, before_comment, is_visible, words, begins_with_percent}
 
 -- what a line says, with a block as contracts see it
 pub data ReadingView : Type 0 where
   Blank : ReadingView
   First : ReadingView
-  Entry : Item → ReadingView
+  DeclarationLine : Declaration → ReadingView
   Header : List ℕ → ReadingView
-  Step : BlockView → ReadingView
+  BlockLine : BlockView → ReadingView
 
 abbrev pub reading_view : Reading → ReadingView
 reading_view reading.Blank = Blank
 reading_view reading.First = First
-reading_view (reading.Entry item) = Entry item
+reading_view (reading.DeclarationLine declaration) = DeclarationLine declaration
 reading_view (reading.Header name) = Header name
-reading_view (reading.Step block) = Step (view_of block)
+reading_view (reading.BlockLine block) = BlockLine (view_of block)
 
 -- the words of the job line
 unfoldable pub is_job_line : List (List ℕ) → Bool
@@ -49,18 +49,18 @@ is_job_line words = false
 unfoldable pub is_bad_byte : ℕ → Bool
 is_bad_byte byte = (nat_lt byte 32 && not (byte == 9)) || nat_lt 126 byte
 
-unfoldable pub entry_of : List (List ℕ) → Result ReadingView Code
-entry_of [] = Err UnknownJobLine
-entry_of (kind ∷ args) = item_of kind args >>= (λ item. Ok (Entry item))
+unfoldable pub declaration_line : List (List ℕ) → Result ReadingView Code
+declaration_line [] = Err UnknownJobLine
+declaration_line (kind ∷ args) = declaration_of kind args >>= (λ declaration. Ok (DeclarationLine declaration))
 
-unfoldable pub header_entry : List (List ℕ) → Result ReadingView Code
-header_entry words = header_of words >>= (λ name. Ok (Header name))
+unfoldable pub header_line : List (List ℕ) → Result ReadingView Code
+header_line words = header_of words >>= (λ name. Ok (Header name))
 
 -- what words say in upper case: the first words of all are the job line's; behind '%' stands a header, else a job line
 unfoldable pub form_of : Bool → Bool → List (List ℕ) → Result ReadingView Code
 form_of false percent words = if is_job_line words then Ok First else Err NoJobLine
-form_of true true words = header_entry words
-form_of true false words = entry_of words
+form_of true true words = header_line words
+form_of true false words = declaration_line words
 
 -- what a line says that is no block, from what stands before its comment
 unfoldable pub entry_reading : Bool → Bool → List ℕ → Result ReadingView Code
@@ -74,13 +74,13 @@ abbrev pub words_of : List ℕ → List Token → WordsView
 words_of text tokens = record { line = text; tokens = tokens }
 
 -- a block that is built; that it is not built comes after all else that its line breaks, and no block that is not built opens or ends a structure
-unfoldable pub step_of : Result BlockView ℕ → Result ReadingView ℕ
-step_of (Ok block) = if is_built block.statement then Ok (Step block) else Err (shown NotBuilt)
-step_of (Err code) = Err code
+unfoldable pub block_line : Result BlockView ℕ → Result ReadingView ℕ
+block_line (Ok block) = if is_built block.statement then Ok (BlockLine block) else Err (shown NotBuilt)
+block_line (Err code) = Err code
 
 abbrev pub tokens_reading : Bool → List ℕ → Result (List Token) ScanFault → Result ReadingView ℕ
 tokens_reading compensation text (Ok []) = Ok Blank
-tokens_reading compensation text (Ok (token ∷ tokens)) = step_of (statement_of (words_of text (token ∷ tokens)) compensation)
+tokens_reading compensation text (Ok (token ∷ tokens)) = block_line (statement_of (words_of text (token ∷ tokens)) compensation)
 tokens_reading compensation text (Err (fault.OpenText place)) = Err (shown OpenText)
 tokens_reading compensation text (Err _) = Err (shown BadByte)
 
@@ -113,7 +113,7 @@ Gives (Err NoMemory) read = Unit {0}
 
 -- the parameter numbers of a block fit
 abbrev pub ReadingFits : ReadingView → Type 0
-ReadingFits (Step block) = StatementFits block.statement
+ReadingFits (BlockLine block) = StatementFits block.statement
 ReadingFits _ = Unit {0}
 
 -- a refusal's code has a text

@@ -1,5 +1,5 @@
 -- Meaning. What a line breaks against what the lines before it told.
-use Rattle.std.specs.Prelude.{ℕ, Bool, true, false, not, ◌&&◌, ◌||◌, if◌then◌else◌, ◌==◌, nat_lt, nat_le, List, [], ◌∷◌, ◌++◌, length, slice_get, position, find, is_some, Option, Some, None, Result, Ok, Err}
+use Rattle.std.specs.Prelude.{ℕ, Bool, true, false, not, ◌&&◌, ◌||◌, if◌then◌else◌, ◌==◌, nat_le, List, [], ◌∷◌, ◌++◌, length, slice_get, position, find, is_some, Option, Some, None, Result, Ok, Err}
 use Rattle.std.specs.List.{list_any}
 use Rattle.std.specs.Option.{option_and_then, option_map, option_or}
 use Rattle.std.specs.Map.{keys_of}
@@ -7,53 +7,51 @@ use Rattle.std.specs.Str.{bytes_eq}
 use Rattle.job_lines.specs.Code.{shown}
 use Rattle.job_lines.specs.declared.code.Code.{Code}
 use Rattle.job_lines.specs.declared.code.Code.TheVariants.{NotDeclared, DeclaredTwice, OwnerDiffers, TooMany, NameRepeated, NotInLibrary, NotBuilt}
-use Rattle.job_lines.specs.declared.item.AxisName.{AxisName}
-use Rattle.job_lines.specs.declared.item.NamedSide.{NamedSide}
-use Rattle.job_lines.specs.declared.item.Item.{Item}
-use Rattle.job_lines.specs.declared.item.Item.TheVariants.{Channel, Axis, Geo, Offset, Zone, Margin, Depth, Budget, Compensation, Skip}
+use Rattle.job_lines.specs.declared.declaration.AxisName.{AxisName}
+use Rattle.job_lines.specs.declared.declaration.NamedSide.{NamedSide}
+use Rattle.job_lines.specs.declared.declaration.Declaration.{Declaration}
+use Rattle.job_lines.specs.declared.declaration.Declaration.TheVariants.{Channel, Axis, Geo, Offset, Zone, Margin, Depth, Budget, Compensation, Skip}
 use Rattle.nc_blocks.specs.Statement.{BlockView}
 use Rattle.nc_control_flow.specs.declared.nest.Opened.{Opened}
 use Rattle.nc_control_flow.specs.Nested.{nest_of}
 use Rattle.nc_faults.specs.declared.Refusal.{Refusal}
-use Rattle.tape_job.specs.declared.job.AxisLine.{AxisLine}
-use Rattle.tape_job.specs.declared.job.Side.{Side}
-use Rattle.tape_job.specs.Draft.{DraftView}
-use Rattle.tape_job.specs.Job.{ProgramView}
-use Rattle.tape_job.specs.Reading.{ReadingView, Blank, First, Entry, Header, Step}
+use Rattle.job_types.specs.declared.job.AxisLine.{AxisLine}
+use Rattle.job_types.specs.declared.job.Side.{Side}
+use Rattle.tape_job.specs.declared.draft.GivenOptions.{GivenOptions}
+use Rattle.job_types.specs.Job.{JobView, ProgramView}
+use Rattle.tape_job.specs.Reading.{ReadingView, Blank, First, DeclarationLine, Header, BlockLine}
+use Rattle.job_types.specs.Zones.{is_carrier}
+use Rattle.job_types.specs.Axes.{axis_at}
 
 -- the refusal of a line by a rule
 unfoldable pub refusal : Code → ℕ → Refusal
 refusal code line = record { code = shown code; line = line }
 
-unfoldable pub has_channel : DraftView → ℕ → Bool
+unfoldable pub has_channel : JobView → ℕ → Bool
 has_channel job channel = list_any (λ line. line.channel == channel) job.channels
 
 abbrev pub is_named : AxisName → AxisLine → Bool
 is_named name line = (line.letter == name.letter) && (line.number == name.number)
 
--- an axis is named by its place in the list, below 16
-abbrev pub axis_at : ℕ → Option ℕ
-axis_at place = if nat_lt place 16 then Some place else None
-
 -- the axis with this name
 unfoldable pub axis_of : List AxisLine → AxisName → Option ℕ
 axis_of axes name = option_and_then axis_at (position (is_named name) axes)
 
-unfoldable pub has_axis : DraftView → AxisName → Bool
+unfoldable pub has_axis : JobView → AxisName → Bool
 has_axis job name = list_any (is_named name) job.axes
 
-unfoldable pub has_slot : DraftView → ℕ → ℕ → Bool
+unfoldable pub has_slot : JobView → ℕ → ℕ → Bool
 has_slot job channel slot = list_any (λ line. (line.channel == channel) && (line.slot == slot)) job.geo
 
-unfoldable pub has_slot_axis : DraftView → ℕ → ℕ → Bool
+unfoldable pub has_slot_axis : JobView → ℕ → ℕ → Bool
 has_slot_axis job channel axis = list_any (λ line. (line.channel == channel) && (line.axis == axis)) job.geo
 
 -- an owner or a holder that is a channel is declared
-unfoldable pub has_owner : DraftView → Option ℕ → Bool
+unfoldable pub has_owner : JobView → Option ℕ → Bool
 has_owner job None = true
 has_owner job (Some channel) = has_channel job channel
 
-unfoldable pub has_offset : DraftView → ℕ → ℕ → ℕ → Bool
+unfoldable pub has_offset : JobView → ℕ → ℕ → ℕ → Bool
 has_offset job channel g slot = list_any (λ line. (line.channel == channel) && (line.g == g) && (line.slot == slot)) job.offsets
 
 -- both the same channel, or both free
@@ -67,19 +65,19 @@ is_owned_line owner None = false
 is_owned_line owner (Some line) = is_same_owner line.owner owner
 
 -- the axis is there, and this is its owner
-unfoldable pub owns : DraftView → Option ℕ → ℕ → Bool
+unfoldable pub owns : JobView → Option ℕ → ℕ → Bool
 owns job owner axis = is_owned_line owner (slice_get job.axes axis)
 
-unfoldable pub has_zone : DraftView → ℕ → Bool
+unfoldable pub has_zone : JobView → ℕ → Bool
 has_zone job zone = list_any (λ line. line.zone == zone) job.zones
 
-unfoldable pub holds_zone : DraftView → ℕ → Bool
+unfoldable pub holds_zone : JobView → ℕ → Bool
 holds_zone job channel = list_any (λ line. is_same_owner line.holder (Some channel)) job.zones
 
-unfoldable pub channel_rule : DraftView → ℕ → Option Code
+unfoldable pub channel_rule : JobView → ℕ → Option Code
 channel_rule job channel = if has_channel job channel then Some DeclaredTwice else None
 
-unfoldable pub axis_rule : DraftView → AxisName → Option ℕ → Option Code
+unfoldable pub axis_rule : JobView → AxisName → Option ℕ → Option Code
 axis_rule job name owner =
     if not (has_owner job owner) then Some NotDeclared
     else if has_axis job name then Some DeclaredTwice
@@ -87,14 +85,14 @@ axis_rule job name owner =
     else None
 
 -- an axis may stand in slots of channels that do not own it
-unfoldable pub slot_rule : DraftView → ℕ → ℕ → Option ℕ → Option Code
+unfoldable pub slot_rule : JobView → ℕ → ℕ → Option ℕ → Option Code
 slot_rule job channel slot None = Some NotDeclared
 slot_rule job channel slot (Some axis) =
     if not (has_channel job channel) then Some NotDeclared
     else if has_slot job channel slot || has_slot_axis job channel axis then Some DeclaredTwice
     else None
 
-unfoldable pub offset_rule : DraftView → ℕ → ℕ → ℕ → Option Code
+unfoldable pub offset_rule : JobView → ℕ → ℕ → ℕ → Option Code
 offset_rule job channel g slot =
     if not (has_channel job channel) then Some NotDeclared
     else if has_offset job channel g slot then Some DeclaredTwice
@@ -111,10 +109,6 @@ carried_side axes side (Some (name, minus)) = option_map (λ axis. side_with sid
 unfoldable pub side_of : List AxisLine → NamedSide → Option Side
 side_of axes side = carried_side axes side side.carrier
 
-abbrev pub is_carrier : ℕ → Option (ℕ × Bool) → Bool
-is_carrier axis None = false
-is_carrier axis (Some (other, minus)) = other == axis
-
 abbrev pub same_carrier : Option (ℕ × Bool) → Option (ℕ × Bool) → Bool
 same_carrier None other = false
 same_carrier (Some (axis, minus)) other = is_carrier axis other
@@ -123,22 +117,22 @@ same_carrier (Some (axis, minus)) other = is_carrier axis other
 unfoldable pub same_axis : Side → Side → Bool
 same_axis a b = same_carrier a.carrier b.carrier
 
-abbrev pub is_owned_carrier : DraftView → Option ℕ → Option (ℕ × Bool) → Bool
+abbrev pub is_owned_carrier : JobView → Option ℕ → Option (ℕ × Bool) → Bool
 is_owned_carrier job holder None = true
 is_owned_carrier job holder (Some (axis, minus)) = owns job holder axis
 
 -- the owner of the carrier is the holder of the zone
-unfoldable pub owns_carrier : DraftView → Option ℕ → Side → Bool
+unfoldable pub owns_carrier : JobView → Option ℕ → Side → Bool
 owns_carrier job holder side = is_owned_carrier job holder side.carrier
 
 -- a zone's directions
-unfoldable pub sides_rule : DraftView → Option ℕ → Side → Side → Side → Option Code
+unfoldable pub sides_rule : JobView → Option ℕ → Side → Side → Side → Option Code
 sides_rule job holder x y z =
     if same_axis x y || same_axis x z || same_axis y z then Some DeclaredTwice
     else if not (owns_carrier job holder x && owns_carrier job holder y && owns_carrier job holder z) then Some OwnerDiffers
     else None
 
-unfoldable pub zone_rule : DraftView → ℕ → Option ℕ → Option Side → Option Side → Option Side → Option Code
+unfoldable pub zone_rule : JobView → ℕ → Option ℕ → Option Side → Option Side → Option Side → Option Code
 zone_rule job zone holder (Some x) (Some y) (Some z) =
     if not (has_owner job holder) then Some NotDeclared
     else if has_zone job zone then Some DeclaredTwice
@@ -150,20 +144,20 @@ abbrev pub option_rule : Bool → Option Code
 option_rule given = if given then Some DeclaredTwice else None
 
 -- what a job line breaks of what must be declared before it, and of what is declared already
-unfoldable pub declaration_rule : DraftView → Item → Option Code
-declaration_rule job (Channel channel program starts) = channel_rule job channel
-declaration_rule job (Axis name owner at) = axis_rule job name owner
-declaration_rule job (Geo channel slot axis) = slot_rule job channel slot (axis_of job.axes axis)
-declaration_rule job (Offset channel g slot by) = offset_rule job channel g slot
-declaration_rule job (Zone zone) = zone_rule job zone.zone zone.holder (side_of job.axes zone.x) (side_of job.axes zone.y) (side_of job.axes zone.z)
-declaration_rule job (Margin margin) = option_rule (is_some job.margin)
-declaration_rule job (Depth depth) = option_rule (is_some job.depth)
-declaration_rule job (Budget budget) = option_rule (is_some job.budget)
-declaration_rule job Compensation = option_rule job.compensation
-declaration_rule job Skip = option_rule job.skip
+unfoldable pub declaration_rule : GivenOptions → JobView → Declaration → Option Code
+declaration_rule options job (Channel channel program starts) = channel_rule job channel
+declaration_rule options job (Axis name owner at) = axis_rule job name owner
+declaration_rule options job (Geo channel slot axis) = slot_rule job channel slot (axis_of job.axes axis)
+declaration_rule options job (Offset channel g slot by) = offset_rule job channel g slot
+declaration_rule options job (Zone zone) = zone_rule job zone.zone zone.holder (side_of job.axes zone.x) (side_of job.axes zone.y) (side_of job.axes zone.z)
+declaration_rule options job (Margin margin) = option_rule options.margin
+declaration_rule options job (Depth depth) = option_rule options.depth
+declaration_rule options job (Budget budget) = option_rule options.budget
+declaration_rule options job Compensation = option_rule job.compensation
+declaration_rule options job Skip = option_rule job.skip
 
 -- a channel holds a zone already; any number of zones may be held free
-abbrev pub holds_another : DraftView → Option ℕ → Bool
+abbrev pub holds_another : JobView → Option ℕ → Bool
 holds_another job None = false
 holds_another job (Some channel) = holds_zone job channel
 
@@ -171,15 +165,15 @@ abbrev pub unless_built : Bool → Option Code
 unless_built built = if built then None else Some NotBuilt
 
 -- the job lines that are not built yet: a channel that does not start, an axis that is free, a zone that is off, and a channel's second zone
-unfoldable pub built_rule : DraftView → Item → Option Code
+unfoldable pub built_rule : JobView → Declaration → Option Code
 built_rule job (Channel channel program starts) = unless_built starts
 built_rule job (Axis name owner at) = unless_built (is_some owner)
 built_rule job (Zone zone) = unless_built (zone.on && not (holds_another job zone.holder))
-built_rule job item = None
+built_rule job declaration = None
 
 -- what a job line breaks
-unfoldable pub item_rule : DraftView → Item → Option Code
-item_rule job item = option_or (declaration_rule job item) (built_rule job item)
+unfoldable pub job_line_rule : GivenOptions → JobView → Declaration → Option Code
+job_line_rule options job declaration = option_or (declaration_rule options job declaration) (built_rule job declaration)
 
 -- a program in the library has this name
 unfoldable pub has_program : List (List ℕ × ProgramView) → List ℕ → Bool
@@ -219,7 +213,7 @@ unfoldable pub left_open : List (List ℕ × ProgramView) → Option ℕ
 left_open programs = option_and_then (λ program. open_line program.blocks) (last_program programs)
 
 -- where the last program ends, a structure that is open is refused at the line of the one opened last
-unfoldable pub unmatched : DraftView → Option Refusal
+unfoldable pub unmatched : JobView → Option Refusal
 unmatched job = option_map (λ line. record { code = 25; line = line }) (left_open job.programs)
 
 -- the code by which a block breaks the structures of the last program
@@ -227,24 +221,24 @@ unfoldable pub structure_rule : List (List ℕ × ProgramView) → ℕ × BlockV
 structure_rule programs block = option_and_then (λ program. structure_fault program.blocks block) (last_program programs)
 
 -- what a header breaks
-unfoldable pub header_rule : DraftView → List ℕ → Option Code
+unfoldable pub header_rule : JobView → List ℕ → Option Code
 header_rule job name =
     if has_program job.programs name then Some NameRepeated
     else if nat_le 256 (length job.programs) then Some TooMany
     else None
 
 -- what a line breaks
-unfoldable pub rule_of : DraftView → ReadingView → Option Code
-rule_of job Blank = None
-rule_of job First = None
-rule_of job (Entry item) = item_rule job item
-rule_of job (Header name) = header_rule job name
-rule_of job (Step block) = None
+unfoldable pub rule_of : GivenOptions → JobView → ReadingView → Option Code
+rule_of options job Blank = None
+rule_of options job First = None
+rule_of options job (DeclarationLine declaration) = job_line_rule options job declaration
+rule_of options job (Header name) = header_rule job name
+rule_of options job (BlockLine block) = None
 
 abbrev pub is_known : List (List ℕ × ProgramView) → Option (List ℕ) → Bool
 is_known programs None = true
 is_known programs (Some name) = has_program programs name
 
 -- the first channel whose program is not in the library
-unfoldable pub missing : DraftView → Option Refusal
+unfoldable pub missing : JobView → Option Refusal
 missing job = option_map (λ line. refusal NotInLibrary line.line) (find (λ line. not (is_known job.programs line.program)) job.channels)

@@ -1,6 +1,5 @@
 -- Steps. The same, one line after the other.
-use Rattle.std.specs.Prelude.{◌≡◌, ℕ, Bool, false, ◌||◌, List, [], ◌∷◌, ◌++◌, Result, Ok, Err, Option, Some, None}
-use Rattle.std.specs.Option.{option_or}
+use Rattle.std.specs.Prelude.{◌≡◌, ℕ, Bool, false, ◌||◌, List, [], ◌∷◌, ◌++◌, Result, Ok, Err, Option, Some, None, is_some, unwrap_or}
 use Rattle.std.specs.Str.{bytes_eq}
 use Rattle.nc_blocks.specs.Statement.{BlockView}
 use Rattle.nc_faults.specs.declared.Refusal.{Refusal}
@@ -9,8 +8,9 @@ use Rattle.tape_job.specs.declared.fault.JobFault.TheVariants.{Refused, NoMemory
 use Rattle.tape_job.specs.declared.reading.LineFault.{LineFault}
 use Rattle.tape_job.specs.declared.reading.LineFault.TheVariants as fault
 use Rattle.tape_job.specs.declared.reading.Reading.{Reading}
-use Rattle.tape_job.specs.Draft.{DraftView, job_of}
-use Rattle.tape_job.specs.Job.{JobView, ProgramView}
+use Rattle.tape_job.specs.Draft.{DraftView}
+use Rattle.tape_job.specs.declared.draft.GivenOptions.{GivenOptions}
+use Rattle.job_types.specs.Job.{JobView, ProgramView}
 use Rattle.tape_job.specs.Lines.{Line, has_token, begins_with_percent}
 use Rattle.tape_job.specs.Reading.{ReadingView, reading_view, reading_of}
 use Rattle.tape_job.specs.Told.{Told, channel_from, axis_from, geo_from, offset_from, zone_from, margin_from, depth_from, budget_from, says_compensation, says_skip, block_from, name_from}
@@ -37,25 +37,38 @@ with_header programs number None = programs
 with_header programs number (Some name) = programs ++ (name, record { line = number; blocks = [] }) ∷ []
 
 -- the job with what one more line says
-unfoldable pub with_line : DraftView → ℕ → Result ReadingView ℕ → DraftView
+unfoldable pub with_line : JobView → ℕ → Result ReadingView ℕ → JobView
 with_line job number reading = record {
   channels = with_entry job.channels (channel_from number reading);
   axes = with_entry job.axes (axis_from number reading);
   geo = with_entry job.geo (geo_from job.axes number reading);
   offsets = with_entry job.offsets (offset_from number reading);
   zones = with_entry job.zones (zone_from job.axes number reading);
-  margin = option_or (margin_from reading) job.margin;
-  depth = option_or (depth_from reading) job.depth;
-  budget = option_or (budget_from reading) job.budget;
+  margin = unwrap_or (margin_from reading) job.margin;
+  depth = unwrap_or (depth_from reading) job.depth;
+  budget = unwrap_or (budget_from reading) job.budget;
   compensation = says_compensation reading || job.compensation;
   skip = says_skip reading || job.skip;
   programs = with_header (with_block_of job.programs (block_from number reading)) number (name_from reading);
 }
 
+-- the options that lines gave, and those that one more line gives
+abbrev pub options_with : GivenOptions → Result ReadingView ℕ → GivenOptions
+options_with options reading = record {
+  margin = is_some (margin_from reading) || options.margin;
+  depth = is_some (depth_from reading) || options.depth;
+  budget = is_some (budget_from reading) || options.budget;
+}
+
+-- both
+abbrev pub draft_with : DraftView → ℕ → Result ReadingView ℕ → DraftView
+draft_with draft number reading = record { options = options_with draft.options reading; job = with_line draft.job number reading }
+
 unfoldable pub tell : Told → Line → Told
 tell told line = record {
   seen = told.seen || has_token line.1;
   in_programs = told.in_programs || begins_with_percent line.1;
+  options = options_with told.options (reading_of told.seen told.in_programs told.job.compensation line.1);
   job = with_line told.job line.0 (reading_of told.seen told.in_programs told.job.compensation line.1);
 }
 
@@ -68,7 +81,7 @@ run told [] = Ok told
 run told (line ∷ lines) = unless_refused (trial told line) (run (tell told line) lines)
 
 unfoldable pub finish : Result Told Refusal → Result JobView Refusal
-finish (Ok told) = answer (end_trial told) (job_of told.job)
+finish (Ok told) = answer (end_trial told) told.job
 finish (Err refused) = Err refused
 
 -- the call adds what the code does not refuse, or gives the code; it may want memory at any time
@@ -80,7 +93,7 @@ Adds code next (Err fault.NoMemory) new = Unit {0}
 -- the call gives what a line says that breaks no rule, or its refusal; it may want memory at any time
 abbrev pub Admits : Told → Line → Result Reading JobFault → Type 0
 Admits told line (Ok reading) =
-    (reading_of told.seen told.in_programs told.job.compensation line.1 ≡ Ok (reading_view reading)) × (rule_of told.job (reading_view reading) ≡ None)
+    (reading_of told.seen told.in_programs told.job.compensation line.1 ≡ Ok (reading_view reading)) × (rule_of told.options told.job (reading_view reading) ≡ None)
 Admits told line (Err (Refused refused)) = line_trial told line ≡ Some refused
 Admits told line (Err NoMemory) = Unit {0}
 

@@ -1,27 +1,29 @@
 -- Meaning. What lines tell together.
-use Rattle.std.specs.Prelude.{ℕ, ℤ, Bool, true, false, ◌||◌, List, [], ◌∷◌, ◌++◌, Result, Ok, Option, Some, None}
+use Rattle.std.specs.Prelude.{ℕ, ℤ, Bool, true, false, ◌||◌, List, [], ◌∷◌, ◌++◌, Result, Ok, Option, Some, None, is_some, unwrap_or}
 use Rattle.std.specs.List.{list_any, cons_option}
 use Rattle.std.specs.Option.{option_map}
-use Rattle.job_lines.specs.declared.item.Item.TheVariants.{Channel, Axis, Geo, Offset, Zone, Margin, Depth, Budget, Compensation, Skip}
-use Rattle.job_lines.specs.declared.item.NamedZone.{NamedZone}
+use Rattle.job_lines.specs.declared.declaration.Declaration.TheVariants.{Channel, Axis, Geo, Offset, Zone, Margin, Depth, Budget, Compensation, Skip}
+use Rattle.job_lines.specs.declared.declaration.NamedZone.{NamedZone}
 use Rattle.nc_blocks.specs.Statement.{BlockView}
-use Rattle.tape_job.specs.declared.job.ChannelLine.{ChannelLine}
-use Rattle.tape_job.specs.declared.job.AxisLine.{AxisLine}
-use Rattle.tape_job.specs.declared.job.GeoLine.{GeoLine}
-use Rattle.tape_job.specs.declared.job.OffsetLine.{OffsetLine}
-use Rattle.tape_job.specs.declared.job.ZoneLine.{ZoneLine}
-use Rattle.tape_job.specs.declared.job.Side.{Side}
-use Rattle.tape_job.specs.Draft.{DraftView}
-use Rattle.tape_job.specs.Job.{ProgramView}
+use Rattle.job_types.specs.declared.job.ChannelLine.{ChannelLine}
+use Rattle.job_types.specs.declared.job.AxisLine.{AxisLine}
+use Rattle.job_types.specs.declared.job.GeoLine.{GeoLine}
+use Rattle.job_types.specs.declared.job.OffsetLine.{OffsetLine}
+use Rattle.job_types.specs.declared.job.ZoneLine.{ZoneLine}
+use Rattle.job_types.specs.declared.job.Side.{Side}
+use Rattle.tape_job.specs.Draft.{nothing_told}
+use Rattle.tape_job.specs.declared.draft.GivenOptions.{GivenOptions}
+use Rattle.job_types.specs.Job.{JobView, ProgramView}
 use Rattle.tape_job.specs.Lines.{Line, has_token, begins_with_percent}
-use Rattle.tape_job.specs.Reading.{ReadingView, Entry, Header, Step, reading_of}
+use Rattle.tape_job.specs.Reading.{ReadingView, DeclarationLine, Header, BlockLine, reading_of}
 use Rattle.tape_job.specs.Rules.{axis_of, side_of}
 
--- what lines have told: whether one has a token, whether one begins with '%', where the programs begin, and the job list and programs so far
+-- what lines have told: whether one has a token, whether one begins with '%', where the programs begin, which options lines gave, and the job so far
 pub record Told : Type 0 where
   pub seen : Bool
   pub in_programs : Bool
-  pub job : DraftView
+  pub options : GivenOptions
+  pub job : JobView
 
 -- what a line says that follows the given lines, where the job accepts tool radius compensation or not
 abbrev pub reading_under : Bool → List Line → List ℕ → Result ReadingView ℕ
@@ -29,11 +31,11 @@ reading_under compensation before raw =
     reading_of (list_any (λ line. has_token line.1) before) (list_any (λ line. begins_with_percent line.1) before) compensation raw
 
 abbrev pub says_compensation : Result ReadingView ℕ → Bool
-says_compensation (Ok (Entry Compensation)) = true
+says_compensation (Ok (DeclarationLine Compensation)) = true
 says_compensation reading = false
 
 abbrev pub says_skip : Result ReadingView ℕ → Bool
-says_skip (Ok (Entry Skip)) = true
+says_skip (Ok (DeclarationLine Skip)) = true
 says_skip reading = false
 
 -- a line passes a test in the light of the lines before it
@@ -62,34 +64,34 @@ last_of (x ∷ y ∷ xs) = last_of (y ∷ xs)
 
 -- what a line of the input tells by what it says
 abbrev pub channel_from : ℕ → Result ReadingView ℕ → Option ChannelLine
-channel_from number (Ok (Entry (Channel channel program starts))) = Some (record { line = number; channel = channel; program = program; starts = starts })
+channel_from number (Ok (DeclarationLine (Channel channel program starts))) = Some (record { line = number; channel = channel; program = program; starts = starts })
 channel_from number reading = None
 
 abbrev pub axis_from : ℕ → Result ReadingView ℕ → Option AxisLine
-axis_from number (Ok (Entry (Axis name owner at))) = Some (record { line = number; letter = name.letter; number = name.number; owner = owner; at = at })
+axis_from number (Ok (DeclarationLine (Axis name owner at))) = Some (record { line = number; letter = name.letter; number = name.number; owner = owner; at = at })
 axis_from number reading = None
 
 abbrev pub offset_from : ℕ → Result ReadingView ℕ → Option OffsetLine
-offset_from number (Ok (Entry (Offset channel g slot by))) = Some (record { line = number; channel = channel; g = g; slot = slot; by = by })
+offset_from number (Ok (DeclarationLine (Offset channel g slot by))) = Some (record { line = number; channel = channel; g = g; slot = slot; by = by })
 offset_from number reading = None
 
 abbrev pub margin_from : Result ReadingView ℕ → Option ℤ
-margin_from (Ok (Entry (Margin margin))) = Some margin
+margin_from (Ok (DeclarationLine (Margin margin))) = Some margin
 margin_from reading = None
 
 abbrev pub depth_from : Result ReadingView ℕ → Option ℕ
-depth_from (Ok (Entry (Depth depth))) = Some depth
+depth_from (Ok (DeclarationLine (Depth depth))) = Some depth
 depth_from reading = None
 
 abbrev pub budget_from : Result ReadingView ℕ → Option ℕ
-budget_from (Ok (Entry (Budget budget))) = Some budget
+budget_from (Ok (DeclarationLine (Budget budget))) = Some budget
 budget_from reading = None
 
 abbrev pub geo_line : ℕ → ℕ → ℕ → Option ℕ → Option GeoLine
 geo_line number channel slot axis = option_map (λ axis. record { line = number; channel = channel; slot = slot; axis = axis }) axis
 
 abbrev pub geo_from : List AxisLine → ℕ → Result ReadingView ℕ → Option GeoLine
-geo_from axes number (Ok (Entry (Geo channel slot axis))) = geo_line number channel slot (axis_of axes axis)
+geo_from axes number (Ok (DeclarationLine (Geo channel slot axis))) = geo_line number channel slot (axis_of axes axis)
 geo_from axes number reading = None
 
 abbrev pub zone_line : ℕ → NamedZone → Option Side → Option Side → Option Side → Option ZoneLine
@@ -98,11 +100,11 @@ zone_line number zone (Some x) (Some y) (Some z) =
 zone_line number zone x y z = None
 
 abbrev pub zone_from : List AxisLine → ℕ → Result ReadingView ℕ → Option ZoneLine
-zone_from axes number (Ok (Entry (Zone zone))) = zone_line number zone (side_of axes zone.x) (side_of axes zone.y) (side_of axes zone.z)
+zone_from axes number (Ok (DeclarationLine (Zone zone))) = zone_line number zone (side_of axes zone.x) (side_of axes zone.y) (side_of axes zone.z)
 zone_from axes number reading = None
 
 abbrev pub block_from : ℕ → Result ReadingView ℕ → Option (ℕ × BlockView)
-block_from number (Ok (Step block)) = Some (number, block)
+block_from number (Ok (BlockLine block)) = Some (number, block)
 block_from number reading = None
 
 abbrev pub name_from : Result ReadingView ℕ → Option (List ℕ)
@@ -141,15 +143,20 @@ unfoldable pub told : List Line → Told
 told lines = record {
   seen = list_any (λ line. has_token line.1) lines;
   in_programs = list_any (λ line. begins_with_percent line.1) lines;
+  options = record {
+    margin = is_some (option_in margin_from lines);
+    depth = is_some (option_in depth_from lines);
+    budget = is_some (option_in budget_from lines);
+  };
   job = record {
     channels = entries (λ before line. channel_from line.0 (reading_after before line.1)) [] lines;
     axes = axes_in lines;
     geo = entries (λ before line. geo_from (axes_in before) line.0 (reading_after before line.1)) [] lines;
     offsets = entries (λ before line. offset_from line.0 (reading_after before line.1)) [] lines;
     zones = entries (λ before line. zone_from (axes_in before) line.0 (reading_after before line.1)) [] lines;
-    margin = option_in margin_from lines;
-    depth = option_in depth_from lines;
-    budget = option_in budget_from lines;
+    margin = unwrap_or (option_in margin_from lines) nothing_told.margin;
+    depth = unwrap_or (option_in depth_from lines) nothing_told.depth;
+    budget = unwrap_or (option_in budget_from lines) nothing_told.budget;
     compensation = accept_compensation lines;
     skip = any_after (λ before line. says_skip (reading_after before line.1)) [] lines;
     programs = programs_in [] lines;

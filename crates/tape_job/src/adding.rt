@@ -1,9 +1,9 @@
 //! What a line adds to a job.
 use crate::draft::Draft;
 use crate::reading::{LineFault, Reading};
-use crate::{AxisLine, ChannelLine, GeoLine, OffsetLine, ZoneLine};
 use axis_sets::ChannelId;
-use job_lines::{AxisName, Item, NamedZone};
+use job_lines::{AxisName, Declaration, NamedZone};
+use job_types::{AxisLine, ChannelLine, GeoLine, OffsetLine, ZoneLine};
 use micro_units::Um;
 use nc_blocks::NameText;
 use std::alloc::{AllocError, Global};
@@ -11,9 +11,9 @@ use std::alloc::{AllocError, Global};
 impl Draft {
     ghost use Rattle.std.specs.Prelude.{◌≡◌, ◌<◌, ◌^◌, [], ◌∷◌, ◌++◌, Ok, OnOk, IfErr, None};
     ghost use Rattle.tape_job.specs.Read.{code_by};
-    ghost use Rattle.tape_job.specs.Reading.{Entry, reading_view, FaultIsListed};
+    ghost use Rattle.tape_job.specs.Reading.{DeclarationLine, reading_view, FaultIsListed};
     ghost use Rattle.tape_job.specs.Rules.{axis_of, side_of, last_count, rule_of};
-    ghost use Rattle.tape_job.specs.Steps.{with_entry, with_line, Adds};
+    ghost use Rattle.tape_job.specs.Steps.{with_entry, draft_with, Adds};
     ghost use Rattle.tape_job.specs.Told.{geo_line, zone_line};
 
     /// Adds a channel.
@@ -25,11 +25,10 @@ impl Draft {
         starts: bool,
     ) -> Result<(), AllocError>
         ensures { OnOk result (self.new ≡ record self.old {
-          channels = self.old.channels
-              ++ record { line = line; channel = channel; program = program; starts = starts } ∷ [];
+          job = record self.old.job { channels = self.old.job.channels ++ record { line = line; channel = channel; program = program; starts = starts } ∷ [] };
         }) }
     {
-        self.channels.push(ChannelLine {
+        self.job.channels.push(ChannelLine {
             line,
             channel,
             program,
@@ -47,11 +46,10 @@ impl Draft {
         at: Um,
     ) -> Result<(), AllocError>
         ensures { OnOk result (self.new ≡ record self.old {
-          axes = self.old.axes
-              ++ record { line = line; letter = name.letter; number = name.number; owner = owner; at = at } ∷ [];
+          job = record self.old.job { axes = self.old.job.axes ++ record { line = line; letter = name.letter; number = name.number; owner = owner; at = at } ∷ [] };
         }) }
     {
-        self.axes.push(AxisLine {
+        self.job.axes.push(AxisLine {
             line,
             letter: name.letter,
             number: name.number,
@@ -70,12 +68,11 @@ impl Draft {
         axis: AxisName,
     ) -> Result<(), AllocError>
         ensures { OnOk result (self.new ≡ record self.old {
-          geo = with_entry self.old.geo
-              (geo_line line channel slot (axis_of self.old.axes axis));
+          job = record self.old.job { geo = with_entry self.old.job.geo (geo_line line channel slot (axis_of self.old.job.axes axis)) };
         }) }
     {
         if let Some(axis) = self.axis_of(axis) {
-            self.geo.push(GeoLine {
+            self.job.geo.push(GeoLine {
                 line,
                 channel,
                 slot,
@@ -95,11 +92,10 @@ impl Draft {
         by: Um,
     ) -> Result<(), AllocError>
         ensures { OnOk result (self.new ≡ record self.old {
-          offsets = self.old.offsets
-              ++ record { line = line; channel = channel; g = g; slot = slot; by = by } ∷ [];
+          job = record self.old.job { offsets = self.old.job.offsets ++ record { line = line; channel = channel; g = g; slot = slot; by = by } ∷ [] };
         }) }
     {
-        self.offsets.push(OffsetLine {
+        self.job.offsets.push(OffsetLine {
             line,
             channel,
             g,
@@ -112,8 +108,7 @@ impl Draft {
     /// Adds a zone, if its carriers are there.
     fn add_zone(&mut self, line: u32, zone: NamedZone) -> Result<(), AllocError>
         ensures { OnOk result (self.new ≡ record self.old {
-          zones = with_entry self.old.zones
-              (zone_line line zone (side_of self.old.axes zone.x) (side_of self.old.axes zone.y) (side_of self.old.axes zone.z));
+          job = record self.old.job { zones = with_entry self.old.job.zones (zone_line line zone (side_of self.old.job.axes zone.x) (side_of self.old.job.axes zone.y) (side_of self.old.job.axes zone.z)) };
         }) }
     {
         if let (Some(x), Some(y), Some(z)) = (
@@ -121,7 +116,7 @@ impl Draft {
             self.side_of(zone.y),
             self.side_of(zone.z),
         ) {
-            self.zones.push(ZoneLine {
+            self.job.zones.push(ZoneLine {
                 line,
                 zone: zone.zone,
                 group: zone.group,
@@ -135,33 +130,42 @@ impl Draft {
 
     /// Adds what a job line says.
     #[tactic(auto, unfolding(crate::specs::Steps::with_line))]
-    fn add_item(&mut self, line: u32, item: Item) -> Result<(), AllocError>
-        ensures { OnOk result (self.new ≡ with_line self.old line (Ok (Entry item))) }
+    fn add_declaration(&mut self, line: u32, declaration: Declaration) -> Result<(), AllocError>
+        ensures { OnOk result (self.new ≡ draft_with self.old line (Ok (DeclarationLine declaration))) }
     {
-        match item {
-            Item::Channel {
+        match declaration {
+            Declaration::Channel {
                 channel,
                 program,
                 starts,
             } => self.add_channel(line, channel, program, starts)?,
-            Item::Axis { name, owner, at } => self.add_axis(line, name, owner, at)?,
-            Item::Geo {
+            Declaration::Axis { name, owner, at } => self.add_axis(line, name, owner, at)?,
+            Declaration::Geo {
                 channel,
                 slot,
                 axis,
             } => self.add_geo(line, channel, slot, axis)?,
-            Item::Offset {
+            Declaration::Offset {
                 channel,
                 g,
                 slot,
                 by,
             } => self.add_offset(line, channel, g, slot, by)?,
-            Item::Zone(zone) => self.add_zone(line, zone)?,
-            Item::Margin(margin) => self.margin = Some(margin),
-            Item::Depth(depth) => self.depth = Some(depth),
-            Item::Budget(budget) => self.budget = Some(budget),
-            Item::Compensation => self.compensation = true,
-            Item::Skip => self.skip = true,
+            Declaration::Zone(zone) => self.add_zone(line, zone)?,
+            Declaration::Margin(margin) => {
+                self.options.margin = true;
+                self.job.margin = margin;
+            }
+            Declaration::Depth(depth) => {
+                self.options.depth = true;
+                self.job.depth = depth;
+            }
+            Declaration::Budget(budget) => {
+                self.options.budget = true;
+                self.job.budget = budget;
+            }
+            Declaration::Compensation => self.job.compensation = true,
+            Declaration::Skip => self.job.skip = true,
         }
         Ok(())
     }
@@ -174,22 +178,22 @@ impl Draft {
         line: u32,
         reading: Reading,
     ) -> Result<(), LineFault>
-        requires admitted { rule_of self.old (reading_view reading) ≡ None }
-        requires short { last_count self.old.programs < 2 ^ 32 }
-        ensures exact { Adds (code_by self.old line (Ok (reading_view reading))) (with_line self.old line (Ok (reading_view reading))) result self.new }
+        requires admitted { rule_of self.old.options self.old.job (reading_view reading) ≡ None }
+        requires short { last_count self.old.job.programs < 2 ^ 32 }
+        ensures exact { Adds (code_by self.old.options self.old.job line (Ok (reading_view reading))) (draft_with self.old line (Ok (reading_view reading))) result self.new }
         ensures listed { IfErr result FaultIsListed }
     {
         match reading {
             Reading::Blank | Reading::First => Ok(()),
-            Reading::Entry(item) => {
-                self.add_item(line, item)?;
+            Reading::DeclarationLine(declaration) => {
+                self.add_declaration(line, declaration)?;
                 Ok(())
             }
             Reading::Header(name) => {
                 self.programs.begin(alloc, line, name)?;
                 Ok(())
             }
-            Reading::Step(block) => self.programs.push(line, block),
+            Reading::BlockLine(block) => self.programs.push(line, block),
         }
     }
 }

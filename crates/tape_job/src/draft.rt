@@ -1,105 +1,88 @@
 //! A job whose lines are being read.
 use crate::programs::Library;
-use crate::{AxisLine, ChannelLine, GeoLine, Job, OffsetLine, ZoneLine};
+use indexmap::IndexMap;
+use job_types::Job;
 use micro_units::Um;
 use std::alloc::{AllocError, Global};
 use std::marker::Model;
 
+/// Which options lines gave.
+#[derive(Clone, Copy, Debug, PartialEq, Eq)]
+pub(crate) struct GivenOptions {
+    /// Whether one gave the margin.
+    pub margin: bool,
+    /// Whether one gave the depth.
+    pub depth: bool,
+    /// Whether one gave the budget.
+    pub budget: bool,
+}
+
 /// A job whose lines are being read.
 #[derive(Drop)]
 pub(crate) struct Draft {
-    pub channels: Vec<ChannelLine>,
-    pub axes: Vec<AxisLine>,
-    pub geo: Vec<GeoLine>,
-    pub offsets: Vec<OffsetLine>,
-    pub zones: Vec<ZoneLine>,
-    pub margin: Option<Um>,
-    pub depth: Option<u8>,
-    pub budget: Option<u32>,
-    pub compensation: bool,
-    pub skip: bool,
+    /// Which options lines gave.
+    pub options: GivenOptions,
+    /// What the job lines declare; an option that none of them gave has its value from the start.
+    pub job: Job,
+    /// The programs, which the job has once they are resolved.
     pub programs: Library,
 }
 
 impl Model for Draft {
     ghost use Rattle.std.specs.Coded.{codes};
-    ghost use Rattle.tape_job.specs.TreeCode.{tree_code};
+    ghost use Rattle.job_types.specs.TreeCode.{tree_code};
     ghost use Rattle.tape_job.specs.Draft.{DraftView};
 
     ghost Value = { DraftView };
 
     ghost coded = { Prim.hlevel (codes, tree_code) };
 
-    ghost view = { λ j. record {
-      channels = j.channels.items;
-      axes = j.axes.items;
-      geo = j.geo.items;
-      offsets = j.offsets.items;
-      zones = j.zones.items;
-      margin = j.margin;
-      depth = j.depth;
-      budget = j.budget;
-      compensation = j.compensation;
-      skip = j.skip;
-      programs = j.programs;
-    } };
+    ghost view = { λ d. record { options = d.options; job = record d.job { programs = d.programs } } };
 }
 
 impl Draft {
     ghost use Rattle.std.specs.Prelude.{◌≡◌, ◌<◌, ◌^◌, IfOk};
     ghost use Rattle.tape_job.specs.Rules.{last_count};
-    ghost use Rattle.tape_job.specs.Draft.{nothing_told, job_of};
+    ghost use Rattle.tape_job.specs.Draft.{no_options, nothing_told};
 
     /// A job of which nothing is told.
     pub(crate) fn new(alloc: Global) -> Draft
-        ensures { result ≡ nothing_told }
+        ensures { result ≡ record { options = no_options; job = nothing_told } }
     {
         Draft {
-            channels: Vec::new(alloc),
-            axes: Vec::new(alloc),
-            geo: Vec::new(alloc),
-            offsets: Vec::new(alloc),
-            zones: Vec::new(alloc),
-            margin: None,
-            depth: None,
-            budget: None,
-            compensation: false,
-            skip: false,
+            options: GivenOptions {
+                margin: false,
+                depth: false,
+                budget: false,
+            },
+            job: Job {
+                channels: Vec::new(alloc),
+                axes: Vec::new(alloc),
+                geo: Vec::new(alloc),
+                offsets: Vec::new(alloc),
+                zones: Vec::new(alloc),
+                margin: Um { micrometres: 0 },
+                depth: 0,
+                budget: 1_000_000,
+                compensation: false,
+                skip: false,
+                programs: IndexMap::new(alloc),
+            },
             programs: Library::new(alloc),
         }
     }
 
-    /// The job, with its programs resolved, and with the value from the start for each option that no line gave.
+    /// The job, with its programs resolved.
     pub(crate) fn resolve(self, alloc: Global) -> Result<Job, AllocError>
-        requires { last_count self.programs < 2 ^ 32 }
-        ensures { IfOk result (λ job. job ≡ job_of self) }
+        requires { last_count self.job.programs < 2 ^ 32 }
+        ensures { IfOk result (λ job. job ≡ self.job) }
     {
         let Draft {
-            channels,
-            axes,
-            geo,
-            offsets,
-            zones,
-            margin,
-            depth,
-            budget,
-            compensation,
-            skip,
+            options: _,
+            mut job,
             programs,
         } = self;
-        let programs = programs.resolve(alloc)?;
-        Ok(Job {
-            channels,
-            axes,
-            geo,
-            offsets,
-            zones,
-            margin: margin.unwrap_or(Um { micrometres: 0 }),
-            depth: depth.unwrap_or(0),
-            budget: budget.unwrap_or(1_000_000),
-            compensation,
-            skip,
-            programs,
-        })
+        job.programs = programs.resolve(alloc)?;
+        Ok(job)
     }
 }

@@ -1,10 +1,10 @@
 //! Laws of what an input is.
 ghost use Rattle.std.specs.Prelude.{◌≡◌, ℕ, List, Ok};
 ghost use Rattle.tape_job.specs.FirstRefusal.{IsReadAs};
-ghost use Rattle.tape_job.specs.Job.{JobView};
+ghost use Rattle.job_types.specs.Job.{JobView};
 ghost use Rattle.tape_job.specs.Lines.{numbered};
 ghost use Rattle.tape_job.specs.Read.{read_of};
-ghost use Rattle.tape_job.specs.SoundJob.{IsSoundJob};
+ghost use Rattle.job_types.specs.SoundJob.{IsSoundJob};
 
 /// Every accepted job is sound.
 pub fn accepted_jobs_are_sound()

@@ -5,7 +5,6 @@ mod adding;
 mod built;
 mod draft;
 mod fault;
-mod job;
 mod laws;
 mod library;
 mod lines;
@@ -14,9 +13,8 @@ mod read;
 mod reader;
 mod reading;
 mod rules;
-mod threads;
 
 pub use fault::JobFault;
-pub use job::{AxisLine, ChannelLine, GeoLine, Job, OffsetLine, Program, Side, ZoneLine};
+pub use job_types::{AxisLine, ChannelLine, GeoLine, Job, OffsetLine, Program, Side, ZoneLine};
 pub use laws::{accepted_jobs_are_sound, refusals_are_first};
 pub use read::read_job;

@@ -30,7 +30,7 @@ impl Draft {
     /// What a header breaks.
     #[tactic(auto, unfolding(crate::specs::Rules::header_rule))]
     fn header_rule(&self, name: &NameText) -> Option<Code>
-        ensures { result ≡ header_rule self.now name.now }
+        ensures { result ≡ header_rule self.now.job name.now }
     {
         if self.programs.has(name) {
             Some(Code::NameRepeated)
@@ -44,18 +44,18 @@ impl Draft {
     /// What a line breaks.
     #[tactic(auto, unfolding(crate::specs::Rules::rule_of))]
     pub(crate) fn rule(&self, reading: &Reading) -> Option<Code>
-        ensures { result ≡ rule_of self.now (reading_view reading.now) }
+        ensures { result ≡ rule_of self.now.options self.now.job (reading_view reading.now) }
     {
         match reading {
-            Reading::Entry(item) => self.item_rule(item),
+            Reading::DeclarationLine(declaration) => self.job_line_rule(declaration),
             Reading::Header(name) => self.header_rule(name),
-            Reading::Blank | Reading::First | Reading::Step(_) => None,
+            Reading::Blank | Reading::First | Reading::BlockLine(_) => None,
         }
     }
 
     /// Whether the library has the program, if there is one.
     fn is_known(&self, program: &Option<NameText>) -> bool
-        ensures { result ≡ is_known self.now.programs program.now }
+        ensures { result ≡ is_known self.now.job.programs program.now }
     {
         match program {
             Some(name) => self.programs.has(name),
@@ -66,7 +66,7 @@ impl Draft {
     /// The refusal of a structure that the end of the last program leaves open.
     #[tactic(auto, unfolding(crate::specs::Rules::unmatched, nc_faults::specs::Texts::IsRefusalCode, nc_faults::specs::Texts::refusal_texts))]
     pub(crate) fn unmatched(&self) -> Option<Refusal>
-        ensures value { result ≡ unmatched self.now }
+        ensures value { result ≡ unmatched self.now.job }
         ensures listed { IfSome result (λ refused. IsRefusalCode refused.code) }
     {
         match self.programs.left_open() {
@@ -78,10 +78,11 @@ impl Draft {
     /// The refusal of the first channel whose program is not in the library.
     #[tactic(auto, unfolding(crate::specs::Rules::missing))]
     pub(crate) fn missing(&self) -> Option<Refusal>
-        ensures value { result ≡ missing self.now }
+        ensures value { result ≡ missing self.now.job }
         ensures listed { IfSome result (λ refused. IsRefusalCode refused.code) }
     {
         let line = self
+            .job
             .channels
             .iter()
             .find(|line| !self.is_known(&line.program))?;

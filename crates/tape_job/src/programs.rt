@@ -6,9 +6,9 @@ ghost use Rattle.tape_job.specs.Reading.{FaultIsListed};
 ghost use Rattle.tape_job.specs.Rules.{has_program};
 ghost use Rattle.tape_job.specs.Steps.{is_last, last_fault, last_with, Adds};
 
-use crate::Program;
 use crate::reading::LineFault;
 use indexmap::IndexMap;
+use job_types::Program;
 use nc_blocks::{Block, NameText};
 use nc_control_flow::{Nest, resolve};
 use nc_faults::NoMemory;
@@ -35,8 +35,8 @@ impl Model for Unresolved {
     ghost use Rattle.std.specs.Prelude.{◌≡◌, ℕ, List, Ok, map};
     ghost use Rattle.std.specs.Coded.{codes};
     ghost use Rattle.nc_control_flow.specs.Nested.{nest_of};
-    ghost use Rattle.tape_job.specs.TreeCode.{tree_code};
-    ghost use Rattle.tape_job.specs.Job.{ProgramView, block_entry};
+    ghost use Rattle.job_types.specs.TreeCode.{tree_code};
+    ghost use Rattle.job_types.specs.Job.{ProgramView, block_entry};
 
     ghost Value = { List ℕ × ProgramView };
 
@@ -170,8 +170,8 @@ pub(crate) struct Library {
 impl Model for Library {
     ghost use Rattle.std.specs.Prelude.{ℕ, List};
     ghost use Rattle.std.specs.Coded.{codes};
-    ghost use Rattle.tape_job.specs.TreeCode.{tree_code};
-    ghost use Rattle.tape_job.specs.Job.{ProgramView};
+    ghost use Rattle.job_types.specs.TreeCode.{tree_code};
+    ghost use Rattle.job_types.specs.Job.{ProgramView};
     ghost use Rattle.tape_job.specs.Steps.{IsLibrary, with_entry};
 
     ghost Value = { List (List ℕ × ProgramView) };

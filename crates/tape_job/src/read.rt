@@ -1,11 +1,12 @@
 //! An input, read whole.
 ghost use Rattle.std.specs.Prelude.{◌≤◌, length, IfOk, IfErr};
 ghost use Rattle.tape_job.specs.Read.{read_of, GivesRead, IsListed};
-ghost use Rattle.tape_job.specs.SoundJob.{BlocksFit};
+ghost use Rattle.job_types.specs.SoundJob.{BlocksFit};
 
+use crate::JobFault;
 use crate::lines::first_line;
 use crate::reader::Reader;
-use crate::{Job, JobFault};
+use job_types::Job;
 use std::alloc::Global;
 
 /// Reads an input: its job, or the first refusal of a line that is tried and broken.

@@ -1,10 +1,11 @@
 //! A reader of lines, one after the other.
+use crate::JobFault;
 use crate::draft::Draft;
 use crate::library::refusal;
 use crate::lines::{begins_with_percent, has_token};
 use crate::reading::{LineFault, Reading, reading_in};
-use crate::{Job, JobFault};
 use job_lines::Code;
+use job_types::Job;
 use nc_faults::Refusal;
 use std::alloc::Global;
 use std::marker::Model;
@@ -14,19 +15,19 @@ use std::marker::Model;
 pub(crate) struct Reader {
     seen: bool,
     in_programs: bool,
-    job: Draft,
+    draft: Draft,
 }
 
 impl Model for Reader {
     ghost use Rattle.std.specs.Coded.{codes};
-    ghost use Rattle.tape_job.specs.TreeCode.{tree_code};
+    ghost use Rattle.job_types.specs.TreeCode.{tree_code};
     ghost use Rattle.tape_job.specs.Told.{Told};
 
     ghost Value = { Told };
 
     ghost coded = { Prim.hlevel (codes, tree_code) };
 
-    ghost view = { λ r. record { seen = r.seen; in_programs = r.in_programs; job = r.job } };
+    ghost view = { λ r. record { seen = r.seen; in_programs = r.in_programs; options = r.draft.options; job = r.draft.job } };
 }
 
 impl Reader {
@@ -34,8 +35,7 @@ impl Reader {
     ghost use Rattle.nc_faults.specs.Texts.{IsRefusalCode};
     ghost use Rattle.tape_job.specs.Reading.{reading_view, reading_of, ReadingFits, FaultIsListed};
     ghost use Rattle.tape_job.specs.Rules.{last_count, rule_of};
-    ghost use Rattle.tape_job.specs.Draft.{job_of};
-    ghost use Rattle.tape_job.specs.SoundJob.{BlocksFit};
+    ghost use Rattle.job_types.specs.SoundJob.{BlocksFit};
     ghost use Rattle.tape_job.specs.Told.{told};
     ghost use Rattle.tape_job.specs.Read.{answer, code_by, end_of_program, end_trial, GivesRead, IsListed};
     ghost use Rattle.tape_job.specs.Steps.{tell, Adds, Admits, Tells};
@@ -44,13 +44,13 @@ impl Reader {
     #[tactic(auto, using(crate::proofs::FitLemmas::nothing_fits, crate::proofs::FitLemmas::nothing_short), unfolding(crate::specs::Told::told, crate::specs::Told::accept_compensation))]
     pub(crate) fn new(alloc: Global) -> Reader
         ensures value { result ≡ told [] }
-        ensures fits { BlocksFit (job_of result.job) }
+        ensures fits { BlocksFit result.job }
         ensures count { last_count result.job.programs ≡ 0 }
     {
         Reader {
             seen: false,
             in_programs: false,
-            job: Draft::new(alloc),
+            draft: Draft::new(alloc),
         }
     }
 
@@ -61,7 +61,7 @@ impl Reader {
         ensures listed { IfSome result (λ refused. IsRefusalCode refused.code) }
     {
         if begins_with_percent(raw) {
-            self.job.unmatched()
+            self.draft.unmatched()
         } else {
             None
         }
@@ -78,10 +78,10 @@ impl Reader {
             alloc,
             self.seen,
             self.in_programs,
-            self.job.compensation,
+            self.draft.job.compensation,
             raw,
         ) {
-            Ok(reading) => match self.job.rule(&reading) {
+            Ok(reading) => match self.draft.rule(&reading) {
                 Some(code) => Err(JobFault::Refused(refusal(code, number))),
                 None => Ok(reading),
             },
@@ -100,12 +100,12 @@ impl Reader {
         reading: Reading,
     ) -> Result<(), LineFault>
         requires said { reading_of self.old.seen self.old.in_programs self.old.job.compensation raw.now ≡ Ok (reading_view reading) }
-        requires admitted { rule_of self.old.job (reading_view reading) ≡ None }
+        requires admitted { rule_of self.old.options self.old.job (reading_view reading) ≡ None }
         requires short { last_count self.old.job.programs < 2 ^ 32 }
-        ensures exact { Adds (code_by self.old.job number (Ok (reading_view reading))) (tell self.old (number, raw.now)) result self.new }
+        ensures exact { Adds (code_by self.old.options self.old.job number (Ok (reading_view reading))) (tell self.old (number, raw.now)) result self.new }
         ensures listed { IfErr result FaultIsListed }
     {
-        self.job.add(alloc, number, reading)?;
+        self.draft.add(alloc, number, reading)?;
         self.seen = self.seen || has_token(raw);
         self.in_programs = self.in_programs || begins_with_percent(raw);
         Ok(())
@@ -116,7 +116,7 @@ impl Reader {
     pub(crate) fn line(&mut self, alloc: Global, number: u32, raw: &[u8]) -> Result<(), JobFault>
         requires short { last_count self.old.job.programs < 2 ^ 32 }
         ensures exact { Tells self.old (number, raw.now) result self.new }
-        ensures fits { BlocksFit (job_of self.old.job) → OnOk result (BlocksFit (job_of self.new.job)) }
+        ensures fits { BlocksFit self.old.job → OnOk result (BlocksFit self.new.job) }
         ensures count { OnOk result (last_count self.new.job.programs ≤ last_count self.old.job.programs + 1) }
         ensures listed { IfErr result IsListed }
     {
@@ -135,24 +135,24 @@ impl Reader {
     #[tactic(auto, unfolding(crate::specs::Read::end_trial))]
     pub(crate) fn finish(self, alloc: Global) -> Result<Job, JobFault>
         requires { last_count self.job.programs < 2 ^ 32 }
-        ensures exact { GivesRead result (answer (end_trial self) (job_of self.job)) }
+        ensures exact { GivesRead result (answer (end_trial self) self.job) }
         ensures listed { IfErr result IsListed }
     {
         let Reader {
             seen,
             in_programs: _,
-            job,
+            draft,
         } = self;
-        if let Some(refused) = job.unmatched() {
+        if let Some(refused) = draft.unmatched() {
             return Err(JobFault::Refused(refused));
         }
-        if let Some(refused) = job.missing() {
+        if let Some(refused) = draft.missing() {
             return Err(JobFault::Refused(refused));
         }
         if !seen {
             return Err(JobFault::Refused(refusal(Code::NoJobLine, 1)));
         }
-        match job.resolve(alloc) {
+        match draft.resolve(alloc) {
             Ok(job) => Ok(job),
             Err(_) => Err(JobFault::NoMemory),
         }

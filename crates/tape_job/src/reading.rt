@@ -5,12 +5,12 @@ ghost use Rattle.job_lines.specs.Code.{shown};
 ghost use Rattle.block_scanner.specs.Scanned.{IsScanned};
 ghost use Rattle.nc_blocks.specs.Names.{upper};
 ghost use Rattle.nc_syntax.specs.Blocks.{statement_of};
-ghost use Rattle.tape_job.specs.Reading.{is_job_line, is_bad_byte, entry_of, header_entry, form_of, entry_reading, step_of, block_reading, with_shown, reading_of, GivesForm, Gives, reading_view, ReadingFits, FaultIsListed};
+ghost use Rattle.tape_job.specs.Reading.{is_job_line, is_bad_byte, declaration_line, header_line, form_of, entry_reading, block_line, block_reading, with_shown, reading_of, GivesForm, Gives, reading_view, ReadingFits, FaultIsListed};
 
 use crate::built::is_built;
 use crate::lines::{before_comment, begins_with_percent, is_visible, text_in, upper_in, words_of};
 use block_scanner::{ScanFault, Words, scan};
-use job_lines::{Code, Item, header_in, item_in};
+use job_lines::{Code, Declaration, declaration_in, header_in};
 use nc_blocks::{Block, NameText};
 use nc_expressions::SyntaxFault;
 use nc_syntax::statement;
@@ -24,11 +24,11 @@ pub(crate) enum Reading {
     /// It is the job line.
     First,
     /// A job line.
-    Entry(Item),
+    DeclarationLine(Declaration),
     /// The header of a program, with its name.
     Header(NameText),
     /// A block of a program.
-    Step(Block),
+    BlockLine(Block),
 }
 
 /// Why a line gives nothing.
@@ -91,21 +91,21 @@ fn has_bad_byte(text: &[u8]) -> bool
 }
 
 /// What the words of a job line say.
-#[tactic(auto, unfolding(crate::specs::Reading::entry_of))]
-fn entry_in(words: &[&[u8]]) -> Result<Reading, Code>
-    ensures exact { GivesForm result (entry_of (map (λ word. word.now) words.now)) }
+#[tactic(auto, unfolding(crate::specs::Reading::declaration_line))]
+fn declaration_line_in(words: &[&[u8]]) -> Result<Reading, Code>
+    ensures exact { GivesForm result (declaration_line (map (λ word. word.now) words.now)) }
     ensures fits { IfOk result (λ reading. ReadingFits (reading_view reading)) }
 {
     match words {
-        [kind, args @ ..] => Ok(Reading::Entry(item_in(kind, args)?)),
+        [kind, args @ ..] => Ok(Reading::DeclarationLine(declaration_in(kind, args)?)),
         [] => Err(Code::UnknownJobLine),
     }
 }
 
 /// What the words of a header say.
-#[tactic(auto, unfolding(crate::specs::Reading::header_entry))]
-fn header_entry_in(words: &[&[u8]]) -> Result<Reading, Code>
-    ensures exact { GivesForm result (header_entry (map (λ word. word.now) words.now)) }
+#[tactic(auto, unfolding(crate::specs::Reading::header_line))]
+fn header_line_in(words: &[&[u8]]) -> Result<Reading, Code>
+    ensures exact { GivesForm result (header_line (map (λ word. word.now) words.now)) }
     ensures fits { IfOk result (λ reading. ReadingFits (reading_view reading)) }
 {
     Ok(Reading::Header(header_in(words)?))
@@ -125,9 +125,9 @@ fn form_in(seen: bool, percent: bool, words: &[&[u8]]) -> Result<Reading, Code>
         };
     }
     if percent {
-        header_entry_in(words)
+        header_line_in(words)
     } else {
-        entry_in(words)
+        declaration_line_in(words)
     }
 }
 
@@ -163,15 +163,15 @@ fn has_no_tokens(words: &Words<'_>) -> bool
 }
 
 /// What a line of a program says, from its tokens.
-#[tactic(auto, using(crate::proofs::ReadingLemmas::block_refusal_has_text), unfolding(crate::specs::Reading::step_of))]
-fn step_in(alloc: Global, words: &Words<'_>, compensation: bool) -> Result<Reading, LineFault>
+#[tactic(auto, using(crate::proofs::ReadingLemmas::block_refusal_has_text), unfolding(crate::specs::Reading::block_line))]
+fn block_line_in(alloc: Global, words: &Words<'_>, compensation: bool) -> Result<Reading, LineFault>
     requires { IsScanned words.now }
-    ensures exact { Gives result (step_of (statement_of words.now compensation)) }
+    ensures exact { Gives result (block_line (statement_of words.now compensation)) }
     ensures fits { IfOk result (λ reading. ReadingFits (reading_view reading)) }
     ensures listed { IfErr result FaultIsListed }
 {
     match statement(alloc, words, compensation) {
-        Ok(block) if is_built(&block.stmt) => Ok(Reading::Step(block)),
+        Ok(block) if is_built(&block.stmt) => Ok(Reading::BlockLine(block)),
         Ok(_) => Err(LineFault::from(Code::NotBuilt)),
         Err(SyntaxFault::Refused(code)) => Err(LineFault::Broken(code)),
         Err(SyntaxFault::NoMemory) => Err(LineFault::NoMemory),
@@ -188,7 +188,7 @@ fn block_reading_in(alloc: Global, compensation: bool, text: &[u8]) -> Result<Re
 {
     match scan(alloc, text) {
         Ok(words) if has_no_tokens(&words) => Ok(Reading::Blank),
-        Ok(words) => step_in(alloc, &words, compensation),
+        Ok(words) => block_line_in(alloc, &words, compensation),
         Err(ScanFault::BadByte(_)) => Err(LineFault::from(Code::BadByte)),
         Err(ScanFault::OpenText(_)) => Err(LineFault::from(Code::OpenText)),
         Err(ScanFault::NoMemory) => Err(LineFault::NoMemory),

@@ -1,12 +1,12 @@
 //! What a line breaks against what the lines before it told.
 ghost use Rattle.std.specs.Prelude.{◌≡◌, position};
 ghost use Rattle.std.specs.Option.{option_copied};
-ghost use Rattle.tape_job.specs.Rules.{is_named, axis_at, is_same_owner, is_owned_line, side_with, same_axis, option_rule, unless_built};
+ghost use Rattle.tape_job.specs.Rules.{is_named, is_same_owner, is_owned_line, side_with, same_axis, option_rule, unless_built};
 
 use crate::draft::Draft;
-use crate::{AxisLine, Side};
 use axis_sets::{AxisId, ChannelId, ZoneId};
-use job_lines::{AxisName, Code, Item, NamedSide, NamedZone};
+use job_lines::{AxisName, Code, Declaration, NamedSide, NamedZone};
+use job_types::{AxisLine, Side, axis_at};
 
 /// Whether the axis has this name.
 fn is_named(name: AxisName, line: &AxisLine) -> bool
@@ -20,17 +20,6 @@ fn place_in(name: AxisName, axes: &[AxisLine]) -> Option<usize>
     ensures { result ≡ position (is_named name) axes.now }
 {
     axes.iter().position(|line| is_named(name, line))
-}
-
-/// The axis at a place.
-fn axis_at(place: usize) -> Option<AxisId>
-    ensures { result ≡ axis_at place }
-{
-    if place < 16 {
-        Some(AxisId { index: place as u8 })
-    } else {
-        None
-    }
 }
 
 /// Whether both are the same channel, or both free.
@@ -96,22 +85,22 @@ fn unless_built(built: bool) -> Option<Code>
 
 impl Draft {
     ghost use Rattle.std.specs.Prelude.{◌≡◌, Some};
-    ghost use Rattle.tape_job.specs.Rules.{has_channel, axis_of, has_axis, has_slot, has_slot_axis, has_owner, has_offset, owns, has_zone, holds_zone, holds_another, channel_rule, axis_rule, slot_rule, offset_rule, side_of, owns_carrier, sides_rule, zone_rule, declaration_rule, built_rule, item_rule};
+    ghost use Rattle.tape_job.specs.Rules.{has_channel, axis_of, has_axis, has_slot, has_slot_axis, has_owner, has_offset, owns, has_zone, holds_zone, holds_another, channel_rule, axis_rule, slot_rule, offset_rule, side_of, owns_carrier, sides_rule, zone_rule, declaration_rule, built_rule, job_line_rule};
 
     /// Whether a line declares the channel.
     #[tactic(auto, unfolding(crate::specs::Rules::has_channel))]
     fn has_channel(&self, channel: ChannelId) -> bool
-        ensures { result ≡ has_channel self.now channel }
+        ensures { result ≡ has_channel self.now.job channel }
     {
-        self.channels.iter().any(|line| line.channel == channel)
+        self.job.channels.iter().any(|line| line.channel == channel)
     }
 
     /// The axis with this name.
     #[tactic(auto, unfolding(crate::specs::Rules::axis_of))]
     pub(crate) fn axis_of(&self, name: AxisName) -> Option<AxisId>
-        ensures { result ≡ axis_of self.now.axes name }
+        ensures { result ≡ axis_of self.now.job.axes name }
     {
-        match place_in(name, self.axes.as_slice()) {
+        match place_in(name, self.job.axes.as_slice()) {
             Some(place) => axis_at(place),
             None => None,
         }
@@ -120,17 +109,18 @@ impl Draft {
     /// Whether an axis has this name.
     #[tactic(auto, unfolding(crate::specs::Rules::has_axis))]
     fn has_axis(&self, name: AxisName) -> bool
-        ensures { result ≡ has_axis self.now name }
+        ensures { result ≡ has_axis self.now.job name }
     {
-        self.axes.iter().any(|line| is_named(name, line))
+        self.job.axes.iter().any(|line| is_named(name, line))
     }
 
     /// Whether the channel has the slot.
     #[tactic(auto, unfolding(crate::specs::Rules::has_slot))]
     fn has_slot(&self, channel: ChannelId, slot: u8) -> bool
-        ensures { result ≡ has_slot self.now channel slot }
+        ensures { result ≡ has_slot self.now.job channel slot }
     {
-        self.geo
+        self.job
+            .geo
             .iter()
             .any(|line| line.channel == channel && line.slot == slot)
     }
@@ -138,9 +128,10 @@ impl Draft {
     /// Whether the axis stands in a slot of the channel.
     #[tactic(auto, unfolding(crate::specs::Rules::has_slot_axis))]
     fn has_slot_axis(&self, channel: ChannelId, axis: AxisId) -> bool
-        ensures { result ≡ has_slot_axis self.now channel axis }
+        ensures { result ≡ has_slot_axis self.now.job channel axis }
     {
-        self.geo
+        self.job
+            .geo
             .iter()
             .any(|line| line.channel == channel && line.axis == axis)
     }
@@ -148,7 +139,7 @@ impl Draft {
     /// Whether the owner or holder is declared, if it is a channel.
     #[tactic(auto, unfolding(crate::specs::Rules::has_owner))]
     fn has_owner(&self, owner: Option<ChannelId>) -> bool
-        ensures { result ≡ has_owner self.now owner }
+        ensures { result ≡ has_owner self.now.job owner }
     {
         match owner {
             Some(channel) => self.has_channel(channel),
@@ -159,40 +150,43 @@ impl Draft {
     /// Whether a line gives the offset of this channel, G word and slot.
     #[tactic(auto, unfolding(crate::specs::Rules::has_offset))]
     fn has_offset(&self, channel: ChannelId, g: u16, slot: u8) -> bool
-        ensures { result ≡ has_offset self.now channel g slot }
+        ensures { result ≡ has_offset self.now.job channel g slot }
     {
-        self.offsets.iter().any(|line| line.channel == channel && line.g == g && line.slot == slot)
+        self.job.offsets.iter().any(|line| line.channel == channel
+            && line.g == g
+            && line.slot == slot)
     }
 
     /// Whether the axis is there and has this owner, or is free where this is none.
     #[tactic(auto, unfolding(crate::specs::Rules::owns))]
     fn owns(&self, owner: Option<ChannelId>, axis: AxisId) -> bool
-        ensures { result ≡ owns self.now owner axis }
+        ensures { result ≡ owns self.now.job owner axis }
     {
-        is_owned_line(owner, self.axes.get(axis.index as usize))
+        is_owned_line(owner, self.job.axes.get(axis.index as usize))
     }
 
     /// Whether a line declares the zone.
     #[tactic(auto, unfolding(crate::specs::Rules::has_zone))]
     fn has_zone(&self, zone: ZoneId) -> bool
-        ensures { result ≡ has_zone self.now zone }
+        ensures { result ≡ has_zone self.now.job zone }
     {
-        self.zones.iter().any(|line| line.zone == zone)
+        self.job.zones.iter().any(|line| line.zone == zone)
     }
 
     /// Whether the channel holds a zone.
     #[tactic(auto, unfolding(crate::specs::Rules::holds_zone))]
     fn holds_zone(&self, channel: ChannelId) -> bool
-        ensures { result ≡ holds_zone self.now channel }
+        ensures { result ≡ holds_zone self.now.job channel }
     {
-        self.zones
+        self.job
+            .zones
             .iter()
             .any(|line| is_same_owner(line.holder, Some(channel)))
     }
 
     /// Whether the holder is a channel that holds a zone already.
     fn holds_another(&self, holder: Option<ChannelId>) -> bool
-        ensures { result ≡ holds_another self.now holder }
+        ensures { result ≡ holds_another self.now.job holder }
     {
         match holder {
             Some(channel) => self.holds_zone(channel),
@@ -203,7 +197,7 @@ impl Draft {
     /// What a CHANNEL line breaks.
     #[tactic(auto, unfolding(crate::specs::Rules::channel_rule))]
     fn channel_rule(&self, channel: ChannelId) -> Option<Code>
-        ensures { result ≡ channel_rule self.now channel }
+        ensures { result ≡ channel_rule self.now.job channel }
     {
         if self.has_channel(channel) {
             Some(Code::DeclaredTwice)
@@ -215,13 +209,13 @@ impl Draft {
     /// What an AXIS line breaks.
     #[tactic(auto, unfolding(crate::specs::Rules::axis_rule))]
     fn axis_rule(&self, name: AxisName, owner: Option<ChannelId>) -> Option<Code>
-        ensures { result ≡ axis_rule self.now name owner }
+        ensures { result ≡ axis_rule self.now.job name owner }
     {
         if !self.has_owner(owner) {
             Some(Code::NotDeclared)
         } else if self.has_axis(name) {
             Some(Code::DeclaredTwice)
-        } else if self.axes.len() >= 16 {
+        } else if self.job.axes.len() >= 16 {
             Some(Code::TooMany)
         } else {
             None
@@ -231,7 +225,7 @@ impl Draft {
     /// What a GEO line breaks.
     #[tactic(auto, unfolding(crate::specs::Rules::slot_rule))]
     fn slot_rule(&self, channel: ChannelId, slot: u8, axis: Option<AxisId>) -> Option<Code>
-        ensures { result ≡ slot_rule self.now channel slot axis }
+        ensures { result ≡ slot_rule self.now.job channel slot axis }
     {
         let Some(axis) = axis else {
             return Some(Code::NotDeclared);
@@ -248,7 +242,7 @@ impl Draft {
     /// What an OFFSET line breaks.
     #[tactic(auto, unfolding(crate::specs::Rules::offset_rule))]
     fn offset_rule(&self, channel: ChannelId, g: u16, slot: u8) -> Option<Code>
-        ensures { result ≡ offset_rule self.now channel g slot }
+        ensures { result ≡ offset_rule self.now.job channel g slot }
     {
         if !self.has_channel(channel) {
             Some(Code::NotDeclared)
@@ -262,7 +256,7 @@ impl Draft {
     /// A direction with the axis that its name names.
     #[tactic(auto, unfolding(crate::specs::Rules::side_of))]
     pub(crate) fn side_of(&self, side: NamedSide) -> Option<Side>
-        ensures { result ≡ side_of self.now.axes side }
+        ensures { result ≡ side_of self.now.job.axes side }
     {
         match side.carrier {
             Some((name, minus)) => match self.axis_of(name) {
@@ -276,7 +270,7 @@ impl Draft {
     /// Whether the carrier of the direction has this owner, if there is a carrier.
     #[tactic(auto, unfolding(crate::specs::Rules::owns_carrier))]
     fn owns_carrier(&self, holder: Option<ChannelId>, side: Side) -> bool
-        ensures { result ≡ owns_carrier self.now holder side }
+        ensures { result ≡ owns_carrier self.now.job holder side }
     {
         match side.carrier {
             Some((axis, _)) => self.owns(holder, axis),
@@ -287,7 +281,7 @@ impl Draft {
     /// What the directions of a zone break.
     #[tactic(auto, unfolding(crate::specs::Rules::sides_rule))]
     fn sides_rule(&self, holder: Option<ChannelId>, x: Side, y: Side, z: Side) -> Option<Code>
-        ensures { result ≡ sides_rule self.now holder x y z }
+        ensures { result ≡ sides_rule self.now.job holder x y z }
     {
         if same_axis(x, y) || same_axis(x, z) || same_axis(y, z) {
             Some(Code::DeclaredTwice)
@@ -304,7 +298,7 @@ impl Draft {
     /// What a ZONE line breaks whose carriers are declared.
     #[tactic(auto, unfolding(crate::specs::Rules::zone_rule))]
     fn carried_zone_rule(&self, zone: &NamedZone, x: Side, y: Side, z: Side) -> Option<Code>
-        ensures { result ≡ zone_rule self.now zone.now.zone zone.now.holder (Some x) (Some y) (Some z) }
+        ensures { result ≡ zone_rule self.now.job zone.now.zone zone.now.holder (Some x) (Some y) (Some z) }
     {
         if !self.has_owner(zone.holder) {
             Some(Code::NotDeclared)
@@ -318,8 +312,8 @@ impl Draft {
     /// What a ZONE line breaks.
     #[tactic(auto, unfolding(crate::specs::Rules::zone_rule))]
     fn zone_rule(&self, zone: &NamedZone) -> Option<Code>
-        ensures { result ≡ zone_rule self.now zone.now.zone zone.now.holder
-            (side_of self.now.axes zone.now.x) (side_of self.now.axes zone.now.y) (side_of self.now.axes zone.now.z) }
+        ensures { result ≡ zone_rule self.now.job zone.now.zone zone.now.holder
+            (side_of self.now.job.axes zone.now.x) (side_of self.now.job.axes zone.now.y) (side_of self.now.job.axes zone.now.z) }
     {
         match (
             self.side_of(zone.x),
@@ -333,59 +327,59 @@ impl Draft {
 
     /// What a job line breaks of what must be declared before it, and of what is declared already.
     #[tactic(auto, unfolding(crate::specs::Rules::declaration_rule))]
-    fn declaration_rule(&self, item: &Item) -> Option<Code>
-        ensures { result ≡ declaration_rule self.now item.now }
+    fn declaration_rule(&self, declaration: &Declaration) -> Option<Code>
+        ensures { result ≡ declaration_rule self.now.options self.now.job declaration.now }
     {
-        match item {
-            Item::Channel { channel, .. } => self.channel_rule(*channel),
-            Item::Axis { name, owner, .. } => self.axis_rule(*name, *owner),
-            Item::Geo {
+        match declaration {
+            Declaration::Channel { channel, .. } => self.channel_rule(*channel),
+            Declaration::Axis { name, owner, .. } => self.axis_rule(*name, *owner),
+            Declaration::Geo {
                 channel,
                 slot,
                 axis,
             } => self.slot_rule(*channel, *slot, self.axis_of(*axis)),
-            Item::Offset {
+            Declaration::Offset {
                 channel,
                 g,
                 slot,
                 ..
             } => self.offset_rule(*channel, *g, *slot),
-            Item::Zone(zone) => self.zone_rule(zone),
-            Item::Margin(_) => option_rule(self.margin.is_some()),
-            Item::Depth(_) => option_rule(self.depth.is_some()),
-            Item::Budget(_) => option_rule(self.budget.is_some()),
-            Item::Compensation => option_rule(self.compensation),
-            Item::Skip => option_rule(self.skip),
+            Declaration::Zone(zone) => self.zone_rule(zone),
+            Declaration::Margin(_) => option_rule(self.options.margin),
+            Declaration::Depth(_) => option_rule(self.options.depth),
+            Declaration::Budget(_) => option_rule(self.options.budget),
+            Declaration::Compensation => option_rule(self.job.compensation),
+            Declaration::Skip => option_rule(self.job.skip),
         }
     }
 
     /// Whether a job line is one that is not built yet.
     #[tactic(auto, unfolding(crate::specs::Rules::built_rule))]
-    fn built_rule(&self, item: &Item) -> Option<Code>
-        ensures { result ≡ built_rule self.now item.now }
+    fn built_rule(&self, declaration: &Declaration) -> Option<Code>
+        ensures { result ≡ built_rule self.now.job declaration.now }
     {
-        match item {
-            Item::Channel { starts, .. } => unless_built(*starts),
-            Item::Axis { owner, .. } => unless_built(owner.is_some()),
-            Item::Zone(zone) => unless_built(zone.on && !self.holds_another(zone.holder)),
-            Item::Geo { .. }
-            | Item::Offset { .. }
-            | Item::Margin(_)
-            | Item::Depth(_)
-            | Item::Budget(_)
-            | Item::Compensation
-            | Item::Skip => None,
+        match declaration {
+            Declaration::Channel { starts, .. } => unless_built(*starts),
+            Declaration::Axis { owner, .. } => unless_built(owner.is_some()),
+            Declaration::Zone(zone) => unless_built(zone.on && !self.holds_another(zone.holder)),
+            Declaration::Geo { .. }
+            | Declaration::Offset { .. }
+            | Declaration::Margin(_)
+            | Declaration::Depth(_)
+            | Declaration::Budget(_)
+            | Declaration::Compensation
+            | Declaration::Skip => None,
         }
     }
 
     /// What a job line breaks.
-    #[tactic(auto, unfolding(crate::specs::Rules::item_rule))]
-    pub(crate) fn item_rule(&self, item: &Item) -> Option<Code>
-        ensures { result ≡ item_rule self.now item.now }
+    #[tactic(auto, unfolding(crate::specs::Rules::job_line_rule))]
+    pub(crate) fn job_line_rule(&self, declaration: &Declaration) -> Option<Code>
+        ensures { result ≡ job_line_rule self.now.options self.now.job declaration.now }
     {
-        match self.declaration_rule(item) {
+        match self.declaration_rule(declaration) {
             Some(code) => Some(code),
-            None => self.built_rule(item),
+            None => self.built_rule(declaration),
         }
     }
 }

@@ -5,9 +5,9 @@ use Rattle.std.proofs.lemmas.List.{append-nil}
 use Rattle.std.proofs.lemmas.Bool.{le-leb, leb-true}
 use Rattle.edge_io.specs.Moves.{Loses, Grows}
 use Rattle.nc_faults.specs.declared.Refusal.{Refusal}
-use Rattle.tape_job.specs.Job.{JobView}
+use Rattle.job_types.specs.Job.{JobView}
 use Rattle.tape_job.specs.Read.{read_of}
-use Rattle.tape_job.specs.SoundJob.{IsSoundJob}
+use Rattle.job_types.specs.SoundJob.{IsSoundJob}
 use Rattle.job_verdict.specs.Clash.{verdict_of}
 use Rattle.job_verdict.specs.Report.{refusal_bytes}
 use Rattle.turnmill.specs.Input.{ReadsAll, TakesTooMany}

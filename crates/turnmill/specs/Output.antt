@@ -2,7 +2,7 @@
 use Rattle.std.specs.Prelude.{◌≡◌, ℕ, nat_le, if◌then◌else◌, List, [], length, Option, Result, Ok, Err, ⊤}
 use Rattle.edge_io.specs.Moves.{Grows}
 use Rattle.nc_faults.specs.declared.Refusal.{Refusal}
-use Rattle.tape_job.specs.Job.{JobView}
+use Rattle.job_types.specs.Job.{JobView}
 use Rattle.tape_job.specs.Read.{read_of}
 use Rattle.job_verdict.specs.ChannelRun.{runs_of}
 use Rattle.job_verdict.specs.Clash.{verdict_of}

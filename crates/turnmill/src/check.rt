@@ -2,7 +2,7 @@
 ghost use Rattle.std.specs.Prelude.{◌≡◌, ◌↔◌, ◌⊎◌, ℕ, ◌-◌, ◌^◌, ◌<◌, ◌≤◌, Bool, true, false, [], length, map, IfSome, IfOk, IsOkAnd, IsErr, IsErrAnd, Some, Ok, Err, string_bytes};
 ghost use Rattle.edge_io.specs.Moves.{Grows, GrowsByFront};
 ghost use Rattle.tape_job.specs.Read.{read_of};
-ghost use Rattle.tape_job.specs.SoundJob.{BlocksFit, IsSoundJob};
+ghost use Rattle.job_types.specs.SoundJob.{BlocksFit, IsSoundJob};
 ghost use Rattle.turnmill.specs.Input.{is_check, ReadsInput, TakesTooMany};
 ghost use Rattle.turnmill.specs.Output.{output_of, output_by, status_of, Answers, IsVerdict, Makes};
 ghost use Rattle.nc_faults.specs.Texts.{IsRefusalCode};

@@ -1,5 +1,5 @@
 use Rattle.std.proofs.Common.{◌∙◌, [], Option, IfSome, ap, subst, sym}
-use Rattle.tape_job.specs.Job.{JobView}
+use Rattle.job_types.specs.Job.{JobView}
 use Rattle.channel_machine.specs.declared.levels.Levels.{Levels}
 use Rattle.channel_machine.specs.Levels.{come, first_place, LevelsFit}
 use Rattle.channel_machine.proofs.Fitting.{begin_fits}

@@ -3,7 +3,7 @@ use Rattle.nc_blocks.specs.Indices.{StatementFits}
 use Rattle.nc_blocks.specs.Statement.{BlockView}
 use Rattle.nc_control_flow.specs.Parts.{statement_at, views}
 use Rattle.nc_control_flow.specs.Structures.{opening}
-use Rattle.tape_job.specs.Job.{block_entry}
+use Rattle.job_types.specs.Job.{block_entry}
 use Rattle.channel_machine.proofs.Fitting.{block_fits, statement_fits}
 use Rattle.channel_machine.proofs.Going.{views_are}
 use Rattle.channel_machine.proofs.Placed.{viewed, viewed_none}

@@ -1,6 +1,6 @@
 use Rattle.std.proofs.Common.{◌∙◌, ap, sym}
 use Rattle.block_effects.specs.Courses.{course_view}
-use Rattle.tape_job.specs.Job.{JobView}
+use Rattle.job_types.specs.Job.{JobView}
 use Rattle.channel_machine.specs.Levels.{followed}
 use Rattle.channel_machine.proofs.Fitting.{followed_fits}
 use Rattle.channel_machine.proofs.run.leave.Goals as goal

@@ -1,8 +1,9 @@
 use Rattle.std.proofs.Common.{◌∙◌, ◌≤◌, ◌&&◌, Bool, false, ap, arith}
 use Rattle.std.proofs.lemmas.Bool.{lt-ltb}
 use Rattle.std.proofs.lemmas.List.FromFn.{fill_by_all}
-use Rattle.job_verdict.specs.Channels.{owns, owned_axes}
+use Rattle.job_verdict.specs.Channels.{owned_axes}
 use Rattle.job_verdict.proofs.channels.owned_axes.Goals as goal
+use Rattle.job_types.specs.Axes.{owns}
 
 pub returns : goal.returns
 unfolding owned_axes

@@ -1,7 +1,7 @@
 use Rattle.std.proofs.Common.{◌≡◌, ℕ, nat_lt, ◌&&◌, length}
 use Rattle.axis_sets.specs.Sets.{has}
-use Rattle.job_verdict.specs.Channels.{owns}
 use Rattle.job_verdict.proofs.channels.owned_axes.Given as goal
+use Rattle.job_types.specs.Axes.{owns}
 
 abbrev pub invariant-loop-index : goal.invariant-loop-index
 invariant-loop-index l = record {

@@ -8,15 +8,15 @@ use Rattle.job_verdict.proofs.channels.run_selected.Goals as goal
 pub returns-clause-items : goal.returns-clause-items
 unfolding program_run
 returns-clause-items c =
-    let setting : Setting = setting_of c.args.job.now c.args.line.now.channel c.first_grant-grant.result in
+    let setting : Setting = setting_of c.args.job.now c.args.line.now.channel c.start_grant-grant.result in
     let told = c.in_ok-segment.ensures.told setting (begun setting) c.in_ok-local.ensures.setting c.in_ok-local.ensures.kept in
     subst (λ (g : Grant). (segment_of (setting_of c.args.job.now c.args.line.now.channel g) (begun (setting_of c.args.job.now c.args.line.now.channel g))).items ≡ c.in_ok-segment.segment.items)
-    c.first_grant-grant.ensures told.items
+    c.start_grant-grant.ensures told.items
 
 pub returns-clause-step : goal.returns-clause-step
 unfolding program_run
 returns-clause-step c =
-    let setting : Setting = setting_of c.args.job.now c.args.line.now.channel c.first_grant-grant.result in
+    let setting : Setting = setting_of c.args.job.now c.args.line.now.channel c.start_grant-grant.result in
     let told = c.in_ok-segment.ensures.told setting (begun setting) c.in_ok-local.ensures.setting c.in_ok-local.ensures.kept in
     subst (λ (g : Grant). (segment_of (setting_of c.args.job.now c.args.line.now.channel g) (begun (setting_of c.args.job.now c.args.line.now.channel g))).step ≡ c.in_ok-segment.segment.step)
-    c.first_grant-grant.ensures told.step
+    c.start_grant-grant.ensures told.step

@@ -1,7 +1,7 @@
 use Rattle.std.proofs.Common.{◌≡◌, ℕ, ◌<◌, length}
 use Rattle.job_verdict.specs.Channels.{positions_in}
-use Rattle.job_verdict.specs.Channels.{start_position}
 use Rattle.job_verdict.proofs.channels.start_positions.Given as goal
+use Rattle.job_types.specs.Axes.{start_position}
 
 abbrev pub invariant-loop-index : goal.invariant-loop-index
 invariant-loop-index l = record {

@@ -1,8 +1,8 @@
 use Rattle.std.proofs.Common.{◌∙◌, ◌≤◌, List, length, false, ap, arith}
 use Rattle.std.proofs.lemmas.List.{take_all}
 use Rattle.std.proofs.lemmas.List.FromFn.{fill_by_all}
-use Rattle.tape_job.specs.Job.{JobView}
-use Rattle.tape_job.specs.declared.job.ZoneLine.{ZoneLine}
+use Rattle.job_types.specs.Job.{JobView}
+use Rattle.job_types.specs.declared.job.ZoneLine.{ZoneLine}
 use Rattle.job_verdict.specs.Channels.{holds_number, zones_on}
 use Rattle.job_verdict.proofs.channels.zones_on.Goals as goal
 

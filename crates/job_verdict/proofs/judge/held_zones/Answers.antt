@@ -1,5 +1,5 @@
 use Rattle.std.proofs.Common.{◌==◌, ℕ, Option, find, sym, ◌∙◌}
-use Rattle.tape_job.specs.declared.job.ZoneLine.{ZoneLine}
+use Rattle.job_types.specs.declared.job.ZoneLine.{ZoneLine}
 use Rattle.job_verdict.specs.ShownStretches as shown
 use Rattle.job_verdict.proofs.Ranges.{map-range_some, map-range_none}
 use Rattle.job_verdict.proofs.judge.held_zones.Goals as goal

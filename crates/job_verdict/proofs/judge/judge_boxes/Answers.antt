@@ -1,5 +1,5 @@
 use Rattle.std.proofs.Common.{◌≡◌, ◌<◌, ◌≤◌, ◌∙◌, ap, sym, subst, List, arith}
-use Rattle.tape_job.specs.Job.{JobView}
+use Rattle.job_types.specs.Job.{JobView}
 use Rattle.job_verdict.specs.Clash.{pair_count}
 use Rattle.job_verdict.specs.PairCounts.{count_of}
 use Rattle.job_verdict.specs.ShownStretches.{HeldView, measure_of, first_meeting, verdict_by}

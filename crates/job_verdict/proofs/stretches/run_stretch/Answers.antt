@@ -1,10 +1,10 @@
 use Rattle.std.proofs.Common.{◌≡◌, ap, refl}
 use mathlib.Core.Path.{fun_ext}
-use Rattle.tape_job.specs.Job.{JobView}
+use Rattle.job_types.specs.Job.{JobView}
 use Rattle.job_verdict.specs.Channels.{positions_in}
-use Rattle.job_verdict.specs.Channels.{start_position}
 use Rattle.job_verdict.specs.ShownStretches.{run_stretch}
 use Rattle.job_verdict.proofs.stretches.run_stretch.Goals as goal
+use Rattle.job_types.specs.Axes.{start_position}
 
 pub returns : goal.returns
 unfolding run_stretch

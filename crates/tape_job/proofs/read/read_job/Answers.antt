@@ -3,7 +3,6 @@ use Rattle.std.proofs.Common.{◌≡◌, length, sym, subst, tests, arith}
 use Rattle.std.proofs.lemmas.Result.{err_from_is_err_and}
 use Rattle.tape_job.proofs.FitLemmas.{given_fits}
 use Rattle.tape_job.proofs.TellingLemmas.{read_refused, read_finished}
-use Rattle.tape_job.specs.Draft.{job_of}
 use Rattle.tape_job.specs.Read.{end_trial, GivesRead}
 use Rattle.tape_job.proofs.read.read_job.Goals as goal
 
@@ -19,4 +18,4 @@ returns-clause-exact c =
     subst (GivesRead c.finish.result) (sym (read_finished c.args.bytes.now c.loop-rest.rest.now c.loop-rest.reader c.loop-rest.number c.loop-rest.invariant.rest none)) c.finish.ensures.exact
 
 pub returns-clause-indices : goal.returns-clause-indices
-returns-clause-indices c = given_fits c.finish.result (end_trial c.loop-rest.reader) (job_of c.loop-rest.reader.job) c.loop-rest.invariant.fits c.finish.ensures.exact
+returns-clause-indices c = given_fits c.finish.result (end_trial c.loop-rest.reader) c.loop-rest.reader.job c.loop-rest.invariant.fits c.finish.ensures.exact

@@ -1,7 +1,7 @@
 -- What the output of an input says of the call.
 use Rattle.std.proofs.Common.{◌∙◌, sym}
 use Rattle.turnmill.proofs.CheckLemmas.{Answers-long, safe_at_yes, refused_wrote, refused_ends}
-use Rattle.job_verdict.proofs.RunnableLemmas.{read_sound}
+use Rattle.tape_job.proofs.SoundJobs.{read_sound}
 use Rattle.turnmill.proofs.check.check_words.Goals as goal
 
 pub returns-in-Err-TooLong-clause-exact : goal.returns-in-Err-TooLong-clause-exact

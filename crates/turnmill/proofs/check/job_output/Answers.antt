@@ -1,4 +1,4 @@
-use Rattle.job_verdict.proofs.RunnableLemmas.{runnable}
+use Rattle.job_types.proofs.RunnableJobs.{runnable}
 use Rattle.job_verdict.proofs.VerdictLemmas.{known_runs}
 use Rattle.turnmill.proofs.check.job_output.Goals as goal
 

@@ -5,15 +5,15 @@ use Rattle.std.specs.Option.{option_and_then}
 use Rattle.std.specs.Str.{bytes_eq}
 use Rattle.job_lines.specs.declared.code.Code.{Code}
 use Rattle.job_lines.specs.declared.code.Code.TheVariants.{UnknownJobLine, OutOfRange, DeclaredTwice}
-use Rattle.job_lines.specs.declared.item.AxisName.{AxisName}
-use Rattle.job_lines.specs.declared.item.NamedSide.{NamedSide}
-use Rattle.job_lines.specs.declared.item.Item.{Item}
-use Rattle.job_lines.specs.declared.item.Item.TheVariants.{Channel, Axis, Geo, Offset, Zone}
+use Rattle.job_lines.specs.declared.declaration.AxisName.{AxisName}
+use Rattle.job_lines.specs.declared.declaration.NamedSide.{NamedSide}
+use Rattle.job_lines.specs.declared.declaration.Declaration.{Declaration}
+use Rattle.job_lines.specs.declared.declaration.Declaration.TheVariants.{Channel, Axis, Geo, Offset, Zone}
 use Rattle.nc_blocks.specs.Names.{name_of}
 use Rattle.job_lines.specs.Code.{◌>>=◌, or_code}
 use Rattle.job_lines.specs.Numbers.{number_within}
 use Rattle.job_lines.specs.Length.{length_of}
-use Rattle.job_lines.specs.OptionLines.{option_item_of}
+use Rattle.job_lines.specs.OptionLines.{option_declaration_of}
 
 -- a channel is 1 to 8
 unfoldable pub channel_of : List ℕ → Result ℕ Code
@@ -74,51 +74,51 @@ named_side_of carrier lo hi = do
   if int_le lo hi then Ok (record { carrier = carrier; lo = lo; hi = hi }) else Err OutOfRange
 
 -- a channel, with a program or none, that starts running or not
-unfoldable pub channel_item_of : List ℕ → Option (List ℕ) → Bool → Result Item Code
-channel_item_of channel program starts = channel_of channel >>= (λ number. Ok (Channel number program starts))
+unfoldable pub channel_declaration_of : List ℕ → Option (List ℕ) → Bool → Result Declaration Code
+channel_declaration_of channel program starts = channel_of channel >>= (λ number. Ok (Channel number program starts))
 
-unfoldable pub starting_item_of : List ℕ → List ℕ → List ℕ → Result Item Code
-starting_item_of channel program start =
-    if bytes_eq start (codes "START") then channel_item_of channel (Some (name_of program)) true else Err UnknownJobLine
+unfoldable pub starting_declaration_of : List ℕ → List ℕ → List ℕ → Result Declaration Code
+starting_declaration_of channel program start =
+    if bytes_eq start (codes "START") then channel_declaration_of channel (Some (name_of program)) true else Err UnknownJobLine
 
-unfoldable pub channel_line : List (List ℕ) → Result Item Code
-channel_line (channel ∷ []) = channel_item_of channel None false
-channel_line (channel ∷ program ∷ []) = channel_item_of channel (Some (name_of program)) false
-channel_line (channel ∷ program ∷ start ∷ []) = starting_item_of channel program start
+unfoldable pub channel_line : List (List ℕ) → Result Declaration Code
+channel_line (channel ∷ []) = channel_declaration_of channel None false
+channel_line (channel ∷ program ∷ []) = channel_declaration_of channel (Some (name_of program)) false
+channel_line (channel ∷ program ∷ start ∷ []) = starting_declaration_of channel program start
 channel_line args = Err UnknownJobLine
 
-unfoldable pub axis_item_of : List ℕ → List ℕ → List ℕ → Result Item Code
-axis_item_of name owner at = do
+unfoldable pub axis_declaration_of : List ℕ → List ℕ → List ℕ → Result Declaration Code
+axis_declaration_of name owner at = do
   name ← axis_name_of name
   owner ← owner_of owner
   at ← length_of at
   Ok (Axis name owner at)
 
-unfoldable pub axis_line : List (List ℕ) → Result Item Code
-axis_line (name ∷ owner ∷ at ∷ []) = axis_item_of name owner at
+unfoldable pub axis_line : List (List ℕ) → Result Declaration Code
+axis_line (name ∷ owner ∷ at ∷ []) = axis_declaration_of name owner at
 axis_line args = Err UnknownJobLine
 
-unfoldable pub geo_item_of : List ℕ → List ℕ → List ℕ → Result Item Code
-geo_item_of channel slot axis = do
+unfoldable pub geo_declaration_of : List ℕ → List ℕ → List ℕ → Result Declaration Code
+geo_declaration_of channel slot axis = do
   channel ← channel_of channel
   slot ← slot_of slot
   axis ← axis_name_of axis
   Ok (Geo channel slot axis)
 
-unfoldable pub geo_line : List (List ℕ) → Result Item Code
-geo_line (channel ∷ slot ∷ axis ∷ []) = geo_item_of channel slot axis
+unfoldable pub geo_line : List (List ℕ) → Result Declaration Code
+geo_line (channel ∷ slot ∷ axis ∷ []) = geo_declaration_of channel slot axis
 geo_line args = Err UnknownJobLine
 
-unfoldable pub offset_item_of : List ℕ → List ℕ → List ℕ → List ℕ → Result Item Code
-offset_item_of channel g slot length = do
+unfoldable pub offset_declaration_of : List ℕ → List ℕ → List ℕ → List ℕ → Result Declaration Code
+offset_declaration_of channel g slot length = do
   channel ← channel_of channel
   g ← g_of g
   slot ← slot_of slot
   by ← length_of length
   Ok (Offset channel g slot by)
 
-unfoldable pub offset_line : List (List ℕ) → Result Item Code
-offset_line (channel ∷ g ∷ slot ∷ length ∷ []) = offset_item_of channel g slot length
+unfoldable pub offset_line : List (List ℕ) → Result Declaration Code
+offset_line (channel ∷ g ∷ slot ∷ length ∷ []) = offset_declaration_of channel g slot length
 offset_line args = Err UnknownJobLine
 
 -- whether a zone is on
@@ -128,8 +128,8 @@ state_of word =
     else if bytes_eq word (codes "OFF") then Ok false
     else Err UnknownJobLine
 
-unfoldable pub zone_item_of : List ℕ → List ℕ → List ℕ → List ℕ → List ℕ → List ℕ → List ℕ → List ℕ → List ℕ → List ℕ → List ℕ → List ℕ → List ℕ → Result Item Code
-zone_item_of zone group holder state cx lx hx cy ly hy cz lz hz = do
+unfoldable pub zone_declaration_of : List ℕ → List ℕ → List ℕ → List ℕ → List ℕ → List ℕ → List ℕ → List ℕ → List ℕ → List ℕ → List ℕ → List ℕ → List ℕ → Result Declaration Code
+zone_declaration_of zone group holder state cx lx hx cy ly hy cz lz hz = do
   on ← state_of state
   zone ← zone_of zone
   group ← zone_of group
@@ -139,23 +139,23 @@ zone_item_of zone group holder state cx lx hx cy ly hy cz lz hz = do
   z ← named_side_of cz lz hz
   Ok (Zone (record { zone = zone; group = group; holder = holder; on = on; x = x; y = y; z = z }))
 
-unfoldable pub zone_line : List (List ℕ) → Result Item Code
+unfoldable pub zone_line : List (List ℕ) → Result Declaration Code
 zone_line (zone ∷ group ∷ holder ∷ state ∷ cx ∷ lx ∷ hx ∷ cy ∷ ly ∷ hy ∷ cz ∷ lz ∷ hz ∷ []) =
-    zone_item_of zone group holder state cx lx hx cy ly hy cz lz hz
+    zone_declaration_of zone group holder state cx lx hx cy ly hy cz lz hz
 zone_line args = Err UnknownJobLine
 
 -- a second job line
-unfoldable pub job_line : List (List ℕ) → Result Item Code
+unfoldable pub job_line : List (List ℕ) → Result Declaration Code
 job_line (version ∷ []) = Err DeclaredTwice
 job_line args = Err UnknownJobLine
 
 -- what a job line says: its first word, and the others
-unfoldable pub item_of : List ℕ → List (List ℕ) → Result Item Code
-item_of kind args =
+unfoldable pub declaration_of : List ℕ → List (List ℕ) → Result Declaration Code
+declaration_of kind args =
     if bytes_eq kind (codes "CHANNEL") then channel_line args
     else if bytes_eq kind (codes "AXIS") then axis_line args
     else if bytes_eq kind (codes "GEO") then geo_line args
     else if bytes_eq kind (codes "OFFSET") then offset_line args
     else if bytes_eq kind (codes "ZONE") then zone_line args
     else if bytes_eq kind (codes "JOB") then job_line args
-    else option_item_of kind args
+    else option_declaration_of kind args

@@ -1,11 +1,11 @@
 //! Job lines, each read by itself.
 ghost use Rattle.std.specs.Prelude.{◌≡◌, map};
-ghost use Rattle.job_lines.specs.Item.{channel_of, zone_of, axis_name_of, owner_of, slot_of, g_of, carrier_of, named_side_of, channel_item_of, starting_item_of, channel_line, axis_item_of, axis_line, geo_item_of, geo_line, offset_item_of, offset_line, state_of, zone_item_of, zone_line, job_line, item_of};
+ghost use Rattle.job_lines.specs.Declaration.{channel_of, zone_of, axis_name_of, owner_of, slot_of, g_of, carrier_of, named_side_of, channel_declaration_of, starting_declaration_of, channel_line, axis_declaration_of, axis_line, geo_declaration_of, geo_line, offset_declaration_of, offset_line, state_of, zone_declaration_of, zone_line, job_line, declaration_of};
 
 use crate::code::Code;
 use crate::length::length_in;
 use crate::numbers::{number_within, small_within};
-use crate::option_lines::option_item_in;
+use crate::option_lines::option_declaration_in;
 use axis_sets::{ChannelId, ZoneId};
 use micro_units::Um;
 use nc_blocks::NameText;
@@ -51,7 +51,7 @@ pub struct NamedZone {
 
 /// What a job line says by itself.
 #[derive(Debug, Drop)]
-pub enum Item {
+pub enum Declaration {
     /// A channel, the program that is selected in it, and whether it starts running.
     Channel {
         /// The channel.
@@ -105,7 +105,7 @@ pub enum Item {
 }
 
 /// The channel that the word names.
-#[tactic(auto, unfolding(crate::specs::Item::channel_of))]
+#[tactic(auto, unfolding(crate::specs::Declaration::channel_of))]
 fn channel_in(word: &[u8]) -> Result<ChannelId, Code>
     ensures { result ≡ channel_of word.now }
 {
@@ -116,7 +116,7 @@ fn channel_in(word: &[u8]) -> Result<ChannelId, Code>
 }
 
 /// The zone that the word names.
-#[tactic(auto, unfolding(crate::specs::Item::zone_of))]
+#[tactic(auto, unfolding(crate::specs::Declaration::zone_of))]
 fn zone_in(word: &[u8]) -> Result<ZoneId, Code>
     ensures { result ≡ zone_of word.now }
 {
@@ -127,7 +127,7 @@ fn zone_in(word: &[u8]) -> Result<ZoneId, Code>
 }
 
 /// The group that the word names, which has the range of a zone.
-#[tactic(auto, unfolding(crate::specs::Item::zone_of))]
+#[tactic(auto, unfolding(crate::specs::Declaration::zone_of))]
 fn group_in(word: &[u8]) -> Result<u8, Code>
     ensures { result ≡ zone_of word.now }
 {
@@ -138,7 +138,7 @@ fn group_in(word: &[u8]) -> Result<u8, Code>
 }
 
 /// The axis name that the word is.
-#[tactic(auto, unfolding(crate::specs::Item::axis_name_of))]
+#[tactic(auto, unfolding(crate::specs::Declaration::axis_name_of))]
 fn axis_name_in(word: &[u8]) -> Result<AxisName, Code>
     ensures { result ≡ axis_name_of word.now }
 {
@@ -158,7 +158,7 @@ fn axis_name_in(word: &[u8]) -> Result<AxisName, Code>
 }
 
 /// The channel that owns an axis or holds a zone, or none where it is free.
-#[tactic(auto, unfolding(crate::specs::Item::owner_of))]
+#[tactic(auto, unfolding(crate::specs::Declaration::owner_of))]
 fn owner_in(word: &[u8]) -> Result<Option<ChannelId>, Code>
     ensures { result ≡ owner_of word.now }
 {
@@ -169,7 +169,7 @@ fn owner_in(word: &[u8]) -> Result<Option<ChannelId>, Code>
 }
 
 /// The slot that the word names.
-#[tactic(auto, unfolding(crate::specs::Item::slot_of))]
+#[tactic(auto, unfolding(crate::specs::Declaration::slot_of))]
 fn slot_in(word: &[u8]) -> Result<u8, Code>
     ensures { result ≡ slot_of word.now }
 {
@@ -185,7 +185,7 @@ fn slot_in(word: &[u8]) -> Result<u8, Code>
 }
 
 /// The number of the G word of a settable offset.
-#[tactic(auto, unfolding(crate::specs::Item::g_of))]
+#[tactic(auto, unfolding(crate::specs::Declaration::g_of))]
 fn g_in(word: &[u8]) -> Result<u16, Code>
     ensures { result ≡ g_of word.now }
 {
@@ -199,7 +199,7 @@ fn g_in(word: &[u8]) -> Result<u16, Code>
 }
 
 /// The carrier of a direction.
-#[tactic(auto, unfolding(crate::specs::Item::carrier_of))]
+#[tactic(auto, unfolding(crate::specs::Declaration::carrier_of))]
 fn carrier_in(word: &[u8]) -> Result<Option<(AxisName, bool)>, Code>
     ensures { result ≡ carrier_of word.now }
 {
@@ -212,7 +212,7 @@ fn carrier_in(word: &[u8]) -> Result<Option<(AxisName, bool)>, Code>
 }
 
 /// A direction of a zone.
-#[tactic(auto, unfolding(crate::specs::Item::named_side_of))]
+#[tactic(auto, unfolding(crate::specs::Declaration::named_side_of))]
 fn named_side_in(carrier: &[u8], lo: &[u8], hi: &[u8]) -> Result<NamedSide, Code>
     ensures { result ≡ named_side_of carrier.now lo.now hi.now }
 {
@@ -226,12 +226,16 @@ fn named_side_in(carrier: &[u8], lo: &[u8], hi: &[u8]) -> Result<NamedSide, Code
 }
 
 /// A channel with a program or none.
-#[tactic(auto, unfolding(crate::specs::Item::channel_item_of))]
-fn channel_item_in(channel: &[u8], program: Option<NameText>, starts: bool) -> Result<Item, Code>
-    ensures { result ≡ channel_item_of channel.now program starts }
+#[tactic(auto, unfolding(crate::specs::Declaration::channel_declaration_of))]
+fn channel_declaration_in(
+    channel: &[u8],
+    program: Option<NameText>,
+    starts: bool,
+) -> Result<Declaration, Code>
+    ensures { result ≡ channel_declaration_of channel.now program starts }
 {
     let channel = channel_in(channel)?;
-    Ok(Item::Channel {
+    Ok(Declaration::Channel {
         channel,
         program,
         starts,
@@ -239,60 +243,68 @@ fn channel_item_in(channel: &[u8], program: Option<NameText>, starts: bool) -> R
 }
 
 /// A channel that runs a program from the beginning.
-#[tactic(auto, unfolding(crate::specs::Item::starting_item_of))]
-fn starting_item_in(channel: &[u8], program: &[u8], start: &[u8]) -> Result<Item, Code>
-    ensures { result ≡ starting_item_of channel.now program.now start.now }
+#[tactic(auto, unfolding(crate::specs::Declaration::starting_declaration_of))]
+fn starting_declaration_in(
+    channel: &[u8],
+    program: &[u8],
+    start: &[u8],
+) -> Result<Declaration, Code>
+    ensures { result ≡ starting_declaration_of channel.now program.now start.now }
 {
     if start != b"START".as_slice() {
         return Err(Code::UnknownJobLine);
     }
-    channel_item_in(channel, Some(NameText::of_word(program)), true)
+    channel_declaration_in(channel, Some(NameText::of_word(program)), true)
 }
 
 /// What follows CHANNEL.
-#[tactic(auto, unfolding(crate::specs::Item::channel_line))]
-fn channel_line_in(args: &[&[u8]]) -> Result<Item, Code>
+#[tactic(auto, unfolding(crate::specs::Declaration::channel_line))]
+fn channel_line_in(args: &[&[u8]]) -> Result<Declaration, Code>
     ensures { result ≡ channel_line (map (λ word. word.now) args.now) }
 {
     match args {
-        [channel] => channel_item_in(channel, None, false),
-        [channel, program] => channel_item_in(channel, Some(NameText::of_word(program)), false),
-        [channel, program, start] => starting_item_in(channel, program, start),
+        [channel] => channel_declaration_in(channel, None, false),
+        [channel, program] => channel_declaration_in(
+            channel,
+            Some(NameText::of_word(program)),
+            false,
+        ),
+        [channel, program, start] => starting_declaration_in(channel, program, start),
         _ => Err(Code::UnknownJobLine),
     }
 }
 
 /// An axis, its owner and its position.
-#[tactic(auto, unfolding(crate::specs::Item::axis_item_of))]
-fn axis_item_in(name: &[u8], owner: &[u8], at: &[u8]) -> Result<Item, Code>
-    ensures { result ≡ axis_item_of name.now owner.now at.now }
+#[tactic(auto, unfolding(crate::specs::Declaration::axis_declaration_of))]
+fn axis_declaration_in(name: &[u8], owner: &[u8], at: &[u8]) -> Result<Declaration, Code>
+    ensures { result ≡ axis_declaration_of name.now owner.now at.now }
 {
     let name = axis_name_in(name)?;
     let owner = owner_in(owner)?;
     let at = length_in(at)?;
-    Ok(Item::Axis { name, owner, at })
+    Ok(Declaration::Axis { name, owner, at })
 }
 
 /// What follows AXIS.
-#[tactic(auto, unfolding(crate::specs::Item::axis_line))]
-fn axis_line_in(args: &[&[u8]]) -> Result<Item, Code>
+#[tactic(auto, unfolding(crate::specs::Declaration::axis_line))]
+fn axis_line_in(args: &[&[u8]]) -> Result<Declaration, Code>
     ensures { result ≡ axis_line (map (λ word. word.now) args.now) }
 {
     match args {
-        [name, owner, at] => axis_item_in(name, owner, at),
+        [name, owner, at] => axis_declaration_in(name, owner, at),
         _ => Err(Code::UnknownJobLine),
     }
 }
 
 /// A slot of a channel, and the axis in it.
-#[tactic(auto, unfolding(crate::specs::Item::geo_item_of))]
-fn geo_item_in(channel: &[u8], slot: &[u8], axis: &[u8]) -> Result<Item, Code>
-    ensures { result ≡ geo_item_of channel.now slot.now axis.now }
+#[tactic(auto, unfolding(crate::specs::Declaration::geo_declaration_of))]
+fn geo_declaration_in(channel: &[u8], slot: &[u8], axis: &[u8]) -> Result<Declaration, Code>
+    ensures { result ≡ geo_declaration_of channel.now slot.now axis.now }
 {
     let channel = channel_in(channel)?;
     let slot = slot_in(slot)?;
     let axis = axis_name_in(axis)?;
-    Ok(Item::Geo {
+    Ok(Declaration::Geo {
         channel,
         slot,
         axis,
@@ -300,26 +312,31 @@ fn geo_item_in(channel: &[u8], slot: &[u8], axis: &[u8]) -> Result<Item, Code>
 }
 
 /// What follows GEO.
-#[tactic(auto, unfolding(crate::specs::Item::geo_line))]
-fn geo_line_in(args: &[&[u8]]) -> Result<Item, Code>
+#[tactic(auto, unfolding(crate::specs::Declaration::geo_line))]
+fn geo_line_in(args: &[&[u8]]) -> Result<Declaration, Code>
     ensures { result ≡ geo_line (map (λ word. word.now) args.now) }
 {
     match args {
-        [channel, slot, axis] => geo_item_in(channel, slot, axis),
+        [channel, slot, axis] => geo_declaration_in(channel, slot, axis),
         _ => Err(Code::UnknownJobLine),
     }
 }
 
 /// A settable offset.
-#[tactic(auto, unfolding(crate::specs::Item::offset_item_of))]
-fn offset_item_in(channel: &[u8], g: &[u8], slot: &[u8], by: &[u8]) -> Result<Item, Code>
-    ensures { result ≡ offset_item_of channel.now g.now slot.now by.now }
+#[tactic(auto, unfolding(crate::specs::Declaration::offset_declaration_of))]
+fn offset_declaration_in(
+    channel: &[u8],
+    g: &[u8],
+    slot: &[u8],
+    by: &[u8],
+) -> Result<Declaration, Code>
+    ensures { result ≡ offset_declaration_of channel.now g.now slot.now by.now }
 {
     let channel = channel_in(channel)?;
     let g = g_in(g)?;
     let slot = slot_in(slot)?;
     let by = length_in(by)?;
-    Ok(Item::Offset {
+    Ok(Declaration::Offset {
         channel,
         g,
         slot,
@@ -328,18 +345,18 @@ fn offset_item_in(channel: &[u8], g: &[u8], slot: &[u8], by: &[u8]) -> Result<It
 }
 
 /// What follows OFFSET.
-#[tactic(auto, unfolding(crate::specs::Item::offset_line))]
-fn offset_line_in(args: &[&[u8]]) -> Result<Item, Code>
+#[tactic(auto, unfolding(crate::specs::Declaration::offset_line))]
+fn offset_line_in(args: &[&[u8]]) -> Result<Declaration, Code>
     ensures { result ≡ offset_line (map (λ word. word.now) args.now) }
 {
     match args {
-        [channel, g, slot, by] => offset_item_in(channel, g, slot, by),
+        [channel, g, slot, by] => offset_declaration_in(channel, g, slot, by),
         _ => Err(Code::UnknownJobLine),
     }
 }
 
 /// Whether a zone is on.
-#[tactic(auto, unfolding(crate::specs::Item::state_of))]
+#[tactic(auto, unfolding(crate::specs::Declaration::state_of))]
 fn state_in(word: &[u8]) -> Result<bool, Code>
     ensures { result ≡ state_of word.now }
 {
@@ -353,8 +370,8 @@ fn state_in(word: &[u8]) -> Result<bool, Code>
 }
 
 /// A zone.
-#[tactic(auto, unfolding(crate::specs::Item::zone_item_of))]
-fn zone_item_in(
+#[tactic(auto, unfolding(crate::specs::Declaration::zone_declaration_of))]
+fn zone_declaration_in(
     zone: &[u8],
     group: &[u8],
     holder: &[u8],
@@ -368,8 +385,8 @@ fn zone_item_in(
     cz: &[u8],
     lz: &[u8],
     hz: &[u8],
-) -> Result<Item, Code>
-    ensures { result ≡ zone_item_of zone.now group.now holder.now state.now cx.now lx.now hx.now cy.now ly.now hy.now cz.now lz.now hz.now }
+) -> Result<Declaration, Code>
+    ensures { result ≡ zone_declaration_of zone.now group.now holder.now state.now cx.now lx.now hx.now cy.now ly.now hy.now cz.now lz.now hz.now }
 {
     let on = state_in(state)?;
     let zone = zone_in(zone)?;
@@ -378,7 +395,7 @@ fn zone_item_in(
     let x = named_side_in(cx, lx, hx)?;
     let y = named_side_in(cy, ly, hy)?;
     let z = named_side_in(cz, lz, hz)?;
-    Ok(Item::Zone(NamedZone {
+    Ok(Declaration::Zone(NamedZone {
         zone,
         group,
         holder,
@@ -390,8 +407,8 @@ fn zone_item_in(
 }
 
 /// What follows ZONE.
-#[tactic(auto, unfolding(crate::specs::Item::zone_line))]
-fn zone_line_in(args: &[&[u8]]) -> Result<Item, Code>
+#[tactic(auto, unfolding(crate::specs::Declaration::zone_line))]
+fn zone_line_in(args: &[&[u8]]) -> Result<Declaration, Code>
     ensures { result ≡ zone_line (map (λ word. word.now) args.now) }
 {
     match args {
@@ -409,7 +426,7 @@ fn zone_line_in(args: &[&[u8]]) -> Result<Item, Code>
             cz,
             lz,
             hz,
-        ] => zone_item_in(
+        ] => zone_declaration_in(
             zone, group, holder, state, cx, lx, hx, cy, ly, hy, cz, lz, hz,
         ),
         _ => Err(Code::UnknownJobLine),
@@ -417,8 +434,8 @@ fn zone_line_in(args: &[&[u8]]) -> Result<Item, Code>
 }
 
 /// What follows JOB behind the first job line.
-#[tactic(auto, unfolding(crate::specs::Item::job_line))]
-fn job_line_in(args: &[&[u8]]) -> Result<Item, Code>
+#[tactic(auto, unfolding(crate::specs::Declaration::job_line))]
+fn job_line_in(args: &[&[u8]]) -> Result<Declaration, Code>
     ensures { result ≡ job_line (map (λ word. word.now) args.now) }
 {
     match args {
@@ -430,9 +447,9 @@ fn job_line_in(args: &[&[u8]]) -> Result<Item, Code>
 /// What a job line says, from its first word and the others, all in upper case.
 ///
 /// A first word that begins no job line, a wrong number of words, and a word in the place of START, ON, OFF or CONTOUR that is none of these are tried first (`UnknownJobLine`); then, from left to right, the numbers, names and lengths (`OutOfRange`).
-#[tactic(auto, unfolding(crate::specs::Item::item_of))]
-pub fn item_in(kind: &[u8], args: &[&[u8]]) -> Result<Item, Code>
-    ensures { result ≡ item_of kind.now (map (λ word. word.now) args.now) }
+#[tactic(auto, unfolding(crate::specs::Declaration::declaration_of))]
+pub fn declaration_in(kind: &[u8], args: &[&[u8]]) -> Result<Declaration, Code>
+    ensures { result ≡ declaration_of kind.now (map (λ word. word.now) args.now) }
 {
     if kind == b"CHANNEL".as_slice() {
         channel_line_in(args)
@@ -447,6 +464,6 @@ pub fn item_in(kind: &[u8], args: &[&[u8]]) -> Result<Item, Code>
     } else if kind == b"JOB".as_slice() {
         job_line_in(args)
     } else {
-        option_item_in(kind, args)
+        option_declaration_in(kind, args)
     }
 }

@@ -35,8 +35,8 @@ pub struct Job {
 
 impl Model for Job {
     ghost use Rattle.std.specs.Coded.{codes};
-    ghost use Rattle.tape_job.specs.TreeCode.{tree_code};
-    ghost use Rattle.tape_job.specs.Job.{JobView};
+    ghost use Rattle.job_types.specs.TreeCode.{tree_code};
+    ghost use Rattle.job_types.specs.Job.{JobView};
 
     ghost Value = { JobView };
 
@@ -153,8 +153,8 @@ pub struct Program {
 impl Model for Program {
     ghost use Rattle.std.specs.Prelude.{map};
     ghost use Rattle.std.specs.Coded.{codes};
-    ghost use Rattle.tape_job.specs.TreeCode.{tree_code};
-    ghost use Rattle.tape_job.specs.Job.{ProgramView, block_entry};
+    ghost use Rattle.job_types.specs.TreeCode.{tree_code};
+    ghost use Rattle.job_types.specs.Job.{ProgramView, block_entry};
 
     ghost Value = { ProgramView };
 

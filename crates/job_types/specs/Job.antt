@@ -2,11 +2,11 @@
 use Rattle.std.specs.Prelude.{ℕ, ℤ, Bool, List}
 use Rattle.nc_blocks.specs.declared.blocks.Block.{Block}
 use Rattle.nc_blocks.specs.Statement.{BlockView, view_of}
-use Rattle.tape_job.specs.declared.job.ChannelLine.{ChannelLine}
-use Rattle.tape_job.specs.declared.job.AxisLine.{AxisLine}
-use Rattle.tape_job.specs.declared.job.GeoLine.{GeoLine}
-use Rattle.tape_job.specs.declared.job.OffsetLine.{OffsetLine}
-use Rattle.tape_job.specs.declared.job.ZoneLine.{ZoneLine}
+use Rattle.job_types.specs.declared.job.ChannelLine.{ChannelLine}
+use Rattle.job_types.specs.declared.job.AxisLine.{AxisLine}
+use Rattle.job_types.specs.declared.job.GeoLine.{GeoLine}
+use Rattle.job_types.specs.declared.job.OffsetLine.{OffsetLine}
+use Rattle.job_types.specs.declared.job.ZoneLine.{ZoneLine}
 
 -- a block and its line
 abbrev pub block_entry : ℕ × Block → ℕ × BlockView

@@ -3,8 +3,8 @@ use denote.Param.Send.{IsSend, IsSync, sendable}
 use Rattle.std.proofs.Crossing.{crosses}
 use Rattle.std.proofs.MapsCrossing as maps
 use Rattle.nc_control_flow.proofs.Crosses.{flow_send, flow_sync}
-use Rattle.tape_job.specs.contracts.job.Job as Job
-use Rattle.tape_job.specs.contracts.job.Program as Program
+use Rattle.job_types.specs.contracts.job.Job as Job
+use Rattle.job_types.specs.contracts.job.Program as Program
 
 pub program_send : IsSend Program.the_field.row
 program_send = search (sendable, flow_send) depth 40

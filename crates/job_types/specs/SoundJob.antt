@@ -1,16 +1,16 @@
 -- Law. What holds of every accepted job.
-use Rattle.std.specs.Prelude.{◌≡◌, ◌≢◌, ◌⊎◌, ℕ, ◌<◌, ◌≤◌, ℤ, pos, ◌≤ℤ◌, unsigned_abs, true, length, slice_get, Option, Some, None, IfSome, IsSomeAnd}
+use Rattle.std.specs.Prelude.{◌≡◌, ◌≢◌, ◌⊎◌, ℕ, ◌<◌, ◌≤◌, ℤ, pos, ◌≤ℤ◌, unsigned_abs, true, length, Option, Some, None, IfSome, IsSomeAnd}
 use Rattle.std.specs.List.{All, Any, AllPairs}
-use Rattle.std.specs.Option.{option_and_then}
 use Rattle.nc_blocks.specs.Indices.{StatementFits}
 use Rattle.nc_control_flow.specs.Nested.{IsNested}
-use Rattle.tape_job.specs.declared.job.AxisLine.{AxisLine}
-use Rattle.tape_job.specs.declared.job.GeoLine.{GeoLine}
-use Rattle.tape_job.specs.declared.job.OffsetLine.{OffsetLine}
-use Rattle.tape_job.specs.declared.job.Side.{Side}
-use Rattle.tape_job.specs.declared.job.ZoneLine.{ZoneLine}
-use Rattle.tape_job.specs.Built.{is_built}
-use Rattle.tape_job.specs.Job.{JobView, ProgramView}
+use Rattle.job_types.specs.declared.job.AxisLine.{AxisLine}
+use Rattle.job_types.specs.declared.job.GeoLine.{GeoLine}
+use Rattle.job_types.specs.declared.job.OffsetLine.{OffsetLine}
+use Rattle.job_types.specs.declared.job.Side.{Side}
+use Rattle.job_types.specs.declared.job.ZoneLine.{ZoneLine}
+use Rattle.job_types.specs.Axes.{first_owner}
+use Rattle.job_types.specs.Built.{is_built}
+use Rattle.job_types.specs.Job.{JobView, ProgramView}
 
 -- at most 10,000 millimetres in size
 abbrev pub IsInReach : ℤ → Type 0
@@ -19,10 +19,6 @@ IsInReach at = unsigned_abs at ≤ 10000000
 -- the channel has a CHANNEL line
 abbrev pub IsDeclared : JobView → ℕ → Type 0
 IsDeclared job channel = Any (λ line. line.channel ≡ channel) job.channels
-
--- the channel that owns an axis at the start, or none where there is no such axis or it is free
-unfoldable pub first_owner : JobView → ℕ → Option ℕ
-first_owner job axis = option_and_then (λ line. line.owner) (slice_get job.axes axis)
 
 abbrev pub HaveOtherNames : AxisLine → AxisLine → Type 0
 HaveOtherNames line other = line.letter ≡ other.letter → line.number ≢ other.number
@@ -114,3 +110,12 @@ pub record IsSoundJob (job : JobView) : Type 0 where
 -- the number of each parameter that a block names is one of the 1,000
 abbrev pub BlocksFit : JobView → Type 0
 BlocksFit job = All (λ program. All (λ block. StatementFits block.1.statement) program.1.blocks) job.programs
+
+-- the job can be run and judged: it has few axes, they start in range, its motions are cut at most four times, its programs can be numbered,
+-- and its blocks name parameters that there are
+pub record IsRunnable (job : JobView) : Type 0 where
+  pub axes : length job.axes ≤ 16
+  pub starts : All (λ line. IsInReach line.at) job.axes
+  pub depth : job.depth ≤ 4
+  pub programs : length job.programs ≤ 256
+  pub blocks : BlocksFit job

@@ -1,6 +1,6 @@
 use denote.Param.Send.{sendable}
-use Rattle.tape_job.proofs.Crosses.{job_send, job_sync, program_send, program_sync}
-use Rattle.tape_job.proofs.threads.types_cross_threads.Goals as goal
+use Rattle.job_types.proofs.Crosses.{job_send, job_sync, program_send, program_sync}
+use Rattle.job_types.proofs.threads.types_cross_threads.Goals as goal
 
 pub crosses_threads-requires-4-send-T : goal.crosses_threads-requires-4-send-T
 crosses_threads-requires-4-send-T c κs = search (sendable, job_send) depth 40

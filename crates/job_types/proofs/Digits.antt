@@ -1,0 +1,21 @@
+-- The digits of a number below 1,000.
+use Rattle.std.proofs.Common.{◌≡◌, ◌∙◌, ℕ, ◌+◌, ◌/◌, ◌%◌, ◌≤◌, ◌<◌, List, [], ◌∷◌, ◌++◌, ap, arith}
+use Rattle.std.specs.Fmt.{decimal}
+use Rattle.std.proofs.lemmas.Fmt.{decimal_digit, decimal_step}
+
+pub one_digit : (n : ℕ) → n < 10 → decimal n ≡ (48 + n % 10) ∷ []
+one_digit n small =
+    let same : n ≡ n % 10 = omega arith in
+    decimal_digit n small ∙ ap (λ (d : ℕ). (48 + d) ∷ []) same
+
+pub two_digits : (n : ℕ) → 10 ≤ n → n < 100 → decimal n ≡ (48 + n / 10) ∷ (48 + n % 10) ∷ []
+two_digits n large small =
+    decimal_step n large (omega arith) ∙ ap (λ (front : List ℕ). front ++ (48 + n % 10) ∷ []) (decimal_digit (n / 10) (omega arith))
+
+pub three_digits : (n : ℕ) → 100 ≤ n → n < 1000 → decimal n ≡ (48 + n / 100) ∷ (48 + n / 10 % 10) ∷ (48 + n % 10) ∷ []
+three_digits n large small =
+    let same : n / 10 / 10 ≡ n / 100 = omega arith in
+    decimal_step n (omega arith) (omega arith)
+    ∙ ap (λ (front : List ℕ). front ++ (48 + n % 10) ∷ [])
+    (decimal_step (n / 10) (omega arith) (omega arith)
+    ∙ ap (λ (front : List ℕ). front ++ (48 + n / 10 % 10) ∷ []) (decimal_digit (n / 10 / 10) (omega arith) ∙ ap (λ (d : ℕ). (48 + d) ∷ []) same))

@@ -1,0 +1,4 @@
+pub mod Crosses
+pub mod Digits
+pub mod Owners
+pub mod RunnableJobs

@@ -1,0 +1,7 @@
+pub mod Axes
+pub mod Built
+pub mod Job
+pub mod Slots
+pub mod SoundJob
+pub mod TreeCode
+pub mod Zones
