@@ -28,12 +28,13 @@ use Rattle.nc_blocks.specs.Lists.{Item, list_at}
 use Rattle.nc_blocks.specs.Statement.{Statement, Case, Shape, Turn, Coord, Message, OperandView, Value, Text, AxisName}
 use Rattle.nc_blocks.proofs.Listing.{any_of_views}
 use Rattle.nc_syntax.specs.Jumps.{case_names, case_value, begins_number, named_jump, pair_at, default_at, case_form}
-use Rattle.nc_syntax.specs.Structures.{alone, is_open, is_close}
-use Rattle.nc_syntax.specs.Frames.{axis_of, is_slot, frame_value, has_axis, frame_word, frame_word_at, shape_form, turn_end, angle_at, turn_form}
-use Rattle.nc_syntax.specs.Coordination.{separator_of, separator_at, argument_at, axis_of_piece, axis_at, axis_argument_at, arguments_form, axes_form, clear_form, quoted_at, is_wait, wait_at, wait_behind, last_of_init, third, opened_value, init_form, cprot_form, after_text, msg_form, enclosed_at, setms_form}
-use Rattle.nc_syntax.proofs.Marked.{bound, constant_found}
-use Rattle.nc_syntax.proofs.Standings.{expression_found, expression_within, piece_within}
-use Rattle.nc_syntax.proofs.WordBlocks.{signed_within}
+use Rattle.nc_forms.specs.LineEnds.{alone}
+use Rattle.nc_forms.specs.Parentheses.{is_open, is_close}
+use Rattle.nc_forms.specs.Frames.{axis_of, is_slot, frame_value, has_axis, frame_word, frame_word_at, shape_form, turn_end, angle_at, turn_form}
+use Rattle.nc_forms.specs.Coordination.{separator_of, separator_at, argument_at, axis_of_piece, axis_at, axis_argument_at, arguments_form, axes_form, clear_form, quoted_at, is_wait, wait_at, wait_behind, last_of_init, third, opened_value, init_form, cprot_form, after_text, msg_form, enclosed_at, setms_form}
+use Rattle.nc_forms.proofs.Marked.{bound, constant_found}
+use Rattle.nc_forms.proofs.Standings.{expression_found, expression_within, piece_within}
+use Rattle.nc_forms.proofs.LineEnds.{signed_within}
 use Rattle.nc_syntax.proofs.JumpLaws.{named_jump_found, jump_within}
 use Rattle.nc_syntax.specs.Wanted.{Mark, mark_at, Wanted, Assigns, Opens, Closes, Commas, Keyword, AJump, Signed, MorePairs, MoreAxes, FrameValue, Angle, TurnEnd, MoreValues, AxisArgument, AfterArgument, ArgumentDigits, MoreArguments, ClearArguments, Quoted, InitLast, Wait, TextOrNot, SetmsBehind, start, Do, Push, Pass, No, want, only_if, more_pairs, axes_want, more_axes, signed_want, turn_want, separator_want, only_digits, axis_argument, and_then, clear_want, text_or_not, quoted_want, wait_want, setms_want, value_want, value_next, Stack}
 use Rattle.nc_syntax.proofs.Wanted.{run_at, follow}
