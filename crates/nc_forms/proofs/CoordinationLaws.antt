@@ -15,10 +15,12 @@ use Rattle.nc_blocks.specs.Marks.{open_at}
 use Rattle.nc_blocks.specs.AxisNames.{is_axis_start, has_digits, has_axis_name}
 use Rattle.nc_blocks.specs.Lists.{Item, list_at}
 use Rattle.nc_blocks.specs.Statement.{OperandView, Value, Text, AxisName, Statement, Coord}
+use Rattle.nc_forms.specs.declared.coordination.ArgumentKind.{ArgumentKind}
+use Rattle.nc_forms.specs.declared.coordination.ArgumentKind.TheVariants as argument
 use Rattle.nc_forms.specs.Frames.{axis_of}
 use Rattle.nc_forms.specs.LineEnds.{alone}
 use Rattle.nc_forms.specs.Parentheses.{is_close}
-use Rattle.nc_forms.specs.Coordination.{separator_of, separator_at, argument_at, axis_of_piece, axis_at, axis_argument_at, arguments_form, axes_form, clear_form, quoted_at, is_wait, wait_at, wait_behind, last_of_init, third, opened_value, init_form, cprot_form, coordination_form}
+use Rattle.nc_forms.specs.Coordination.{separator_of, separator_at, value_argument_at, argument_at, axis_of_piece, axis_at, axis_argument_at, arguments_form, clear_form, quoted_at, is_wait, wait_at, wait_behind, last_of_init, third, opened_value, init_form, cprot_form, coordination_form}
 use Rattle.nc_forms.specs.Standing.{IsKeyword, IsExpressionText, IsAxisName, AreSeparated}
 use Rattle.nc_forms.specs.SpelledForms.{coordination_name, IsValue, IsAxis, IsText, IsInit, IsZoneState, AreArguments, IsCoordination}
 use Rattle.nc_forms.proofs.Standings.{piece_within, follows_piece, expression_within, expression_begins, expression_found, expression_only}
@@ -107,9 +109,9 @@ item_same x y b c n m h =
     let same : (x, b, n) ≡ (y, c, m) = cc in
     (ap (λ (q : OperandView × Bool × ℕ). q.0) same, ap (λ (q : OperandView × Bool × ℕ). q.1) same, ap (λ (q : OperandView × Bool × ℕ). q.2) same)
 
-argument_found : (words : WordsView) → Found words (argument_at words) (IsValue words)
-unfolding argument_at
-argument_found words at next x more h =
+value_argument_found : (words : WordsView) → Found words (value_argument_at words) (IsValue words)
+unfolding value_argument_at
+value_argument_found words at next x more h =
     let a = bound _ _ _ h in
     let b = bound _ _ _ a.2 in
     let s = item_same (Value a.0.0) x b.0.0 more b.0.1 next b.2 in
@@ -118,12 +120,12 @@ argument_found words at next x more h =
     let Q : Bool → Type 0 = λ c. Parted words a.0.1 c in
     (a.0.1, subst P s.0 (expression_found words at a.0.1 a.0.0 a.1), subst Q s.1 d.0, sym s.2 ∙ d.1)
 
-argument_only : (words : WordsView) → Only words (argument_at words) (IsValue words)
-unfolding argument_at
-argument_only words at middle (Value t) more h p =
+value_argument_only : (words : WordsView) → Only words (value_argument_at words) (IsValue words)
+unfolding value_argument_at
+value_argument_only words at middle (Value t) more h p =
     rw (expression_only words at middle t h (parted_follows words middle more p), separator_only words middle more p) refl
-argument_only words at middle (Text bytes) more h p = absurd h
-argument_only words at middle (AxisName name) more h p = absurd h
+value_argument_only words at middle (Text bytes) more h p = absurd h
+value_argument_only words at middle (AxisName name) more h p = absurd h
 
 value_forward : (words : WordsView) → Forward (IsValue words)
 value_forward words at middle (Value t) h = (expression_within words at middle t h).0
@@ -221,42 +223,42 @@ Listed words R at which s =
 moved_start : (words : WordsView) (R : ℕ → ℕ → OperandView → Type 0) (from to close : ℕ) (xs : List OperandView) → from ≡ to → AreSeparated words R from close xs → AreSeparated words R to close xs
 moved_start words R from to close xs e h = let P = λ (n : ℕ). AreSeparated words R n close xs in subst P e h
 
-arguments_found : (words : WordsView) (at : ℕ) (which : CoordWord) (s : Statement) → arguments_form words which (at + 1) ≡ Ok s → Listed words (IsValue words) at which s
+-- arguments of either kind
+abbrev IsArgument : WordsView → ArgumentKind → ℕ → ℕ → OperandView → Type 0
+IsArgument words argument.Value = IsValue words
+IsArgument words argument.Axis = IsAxis words
+
+kind_found : (words : WordsView) (kind : ArgumentKind) → Found words (argument_at words kind) (IsArgument words kind)
+kind_found words argument.Value = value_argument_found words
+kind_found words argument.Axis = axis_argument_found words
+
+kind_only : (words : WordsView) (kind : ArgumentKind) → Only words (argument_at words kind) (IsArgument words kind)
+kind_only words argument.Value = value_argument_only words
+kind_only words argument.Axis = axis_argument_only words
+
+kind_forward : (words : WordsView) (kind : ArgumentKind) → Forward (IsArgument words kind)
+kind_forward words argument.Value = value_forward words
+kind_forward words argument.Axis = axis_forward words
+
+arguments_found : (words : WordsView) (kind : ArgumentKind) (at : ℕ) (which : CoordWord) (s : Statement) → arguments_form words kind which (at + 1) ≡ Ok s →
+    Listed words (IsArgument words kind) at which s
 unfolding arguments_form
-arguments_found words at which s h =
+arguments_found words kind at which s h =
     let a = bound _ _ _ h in
     let b = bound _ _ _ a.2 in
     let o = open_found words (at + 1) 22 a.0 a.1 in
-    let l = listed_found words (argument_at words) (IsValue words) (argument_found words) (value_forward words) a.0 b.0.1 b.0.0 b.1 in
+    let l = listed_found words (argument_at words kind) (IsArgument words kind) (kind_found words kind) (kind_forward words kind) a.0 b.0.1 b.0.0 b.1 in
     let e = alone_found words b.0.1 (Coord which b.0.0) s b.2 in
     let P = λ (n : ℕ). piece_at words n ≡ piece.End in
-    (b.0.0, l.0, o.0, moved_start words (IsValue words) a.0 (at + 2) l.0 b.0.0 (omega (arith, o.1)) l.1, l.2, close_last words l.0 l.2 (subst P l.3 e.0), sym e.1)
+    (b.0.0, l.0, o.0, moved_start words (IsArgument words kind) a.0 (at + 2) l.0 b.0.0 (omega (arith, o.1)) l.1, l.2, close_last words l.0 l.2 (subst P l.3 e.0), sym e.1)
 
-axes_found : (words : WordsView) (at : ℕ) (which : CoordWord) (s : Statement) → axes_form words which (at + 1) ≡ Ok s → Listed words (IsAxis words) at which s
-unfolding axes_form
-axes_found words at which s h =
-    let a = bound _ _ _ h in
-    let b = bound _ _ _ a.2 in
-    let o = open_found words (at + 1) 22 a.0 a.1 in
-    let l = listed_found words (axis_argument_at words) (IsAxis words) (axis_argument_found words) (axis_forward words) a.0 b.0.1 b.0.0 b.1 in
-    let e = alone_found words b.0.1 (Coord which b.0.0) s b.2 in
-    let P = λ (n : ℕ). piece_at words n ≡ piece.End in
-    (b.0.0, l.0, o.0, moved_start words (IsAxis words) a.0 (at + 2) l.0 b.0.0 (omega (arith, o.1)) l.1, l.2, close_last words l.0 l.2 (subst P l.3 e.0), sym e.1)
-
-arguments_only : (words : WordsView) (at close : ℕ) (which : CoordWord) (xs : List OperandView) → piece_at words (at + 1) ≡ piece.Open → AreSeparated words (IsValue words) (at + 2) close xs →
-    piece_at words close ≡ piece.Close → length words.tokens ≡ close + 1 → arguments_form words which (at + 1) ≡ Ok (Coord which xs)
+arguments_only : (words : WordsView) (kind : ArgumentKind) (at close : ℕ) (which : CoordWord) (xs : List OperandView) → piece_at words (at + 1) ≡ piece.Open →
+    AreSeparated words (IsArgument words kind) (at + 2) close xs → piece_at words close ≡ piece.Close → length words.tokens ≡ close + 1 →
+    arguments_form words kind which (at + 1) ≡ Ok (Coord which xs)
 unfolding arguments_form
-arguments_only words at close which xs o h c e =
-    let l = listed_only words (argument_at words) (IsValue words) (argument_only words) (value_forward words) (at + 1 + 1) close xs
-    (moved_start words (IsValue words) (at + 2) (at + 1 + 1) close xs (omega arith) h) c in
-    rw (open_only words (at + 1) 22 o, l) (alone_only words (close + 1) (Coord which xs) (at_line_end words (close + 1) (sym e)))
-
-axes_only : (words : WordsView) (at close : ℕ) (which : CoordWord) (xs : List OperandView) → piece_at words (at + 1) ≡ piece.Open → AreSeparated words (IsAxis words) (at + 2) close xs →
-    piece_at words close ≡ piece.Close → length words.tokens ≡ close + 1 → axes_form words which (at + 1) ≡ Ok (Coord which xs)
-unfolding axes_form
-axes_only words at close which xs o h c e =
-    let l = listed_only words (axis_argument_at words) (IsAxis words) (axis_argument_only words) (axis_forward words) (at + 1 + 1) close xs
-    (moved_start words (IsAxis words) (at + 2) (at + 1 + 1) close xs (omega arith) h) c in
+arguments_only words kind at close which xs o h c e =
+    let l = listed_only words (argument_at words kind) (IsArgument words kind) (kind_only words kind) (kind_forward words kind) (at + 1 + 1) close xs
+    (moved_start words (IsArgument words kind) (at + 2) (at + 1 + 1) close xs (omega arith) h) c in
     rw (open_only words (at + 1) 22 o, l) (alone_only words (close + 1) (Coord which xs) (at_line_end words (close + 1) (sym e)))
 
 -- CLEARM
@@ -276,7 +278,7 @@ clear_found words at which s h =
     let Q = λ (n : ℕ). piece_at words n ≡ piece.End in
     let k = subst P place (close_piece (piece_at words (at + 1 + 1)) c) in
     ([], at + 2, o.0, inl (refl, refl), k, close_last words (at + 2) k (subst Q further f.0), sym f.1))
-    (λ c e. let l = arguments_found words at which s e in (l.0, l.1, l.2, inr l.3, l.4, l.5, l.6))
+    (λ c e. let l = arguments_found words argument.Value at which s e in (l.0, l.1, l.2, inr l.3, l.4, l.5, l.6))
 
 value_no_close : (words : WordsView) (at end : ℕ) (x : OperandView) → IsValue words at end x → is_close (piece_at words at) ≡ false
 value_no_close words at end (Value t) h = false_of (is_close (piece_at words at)) (λ k. expression_begins words at end t piece.Close h (close_piece (piece_at words at) k) tt)
@@ -299,7 +301,7 @@ clear_only words at close which xs o h c e =
           rw (subst P place c, open_only words (at + 1) 22 o, a.0) (alone_only words (at + 1 + 2) (Coord which []) (at_line_end words (at + 1 + 2) (sym last)))
       | inr a ↦ let place : at + 2 ≡ at + 1 + 1 = omega arith in
           let P = λ (n : ℕ). is_close (piece_at words n) ≡ false in
-          rw (subst P place (no_close words (at + 2) close xs a)) (arguments_only words at close which xs o a c e)
+          rw (subst P place (no_close words (at + 2) close xs a)) (arguments_only words argument.Value at close which xs o a c e)
     ]
 
 -- INIT
@@ -503,15 +505,15 @@ IsRead words at which s =
 
 read_found : (words : WordsView) (at : ℕ) (which : CoordWord) (s : Statement) → coordination_form words which (at + 1) ≡ Ok s → IsRead words at which s
 unfolding coordination_form
-read_found words at coord.WaitM s h = arguments_found words at coord.WaitM s h
-read_found words at coord.WaitMC s h = arguments_found words at coord.WaitMC s h
-read_found words at coord.SetM s h = arguments_found words at coord.SetM s h
+read_found words at coord.WaitM s h = arguments_found words argument.Value at coord.WaitM s h
+read_found words at coord.WaitMC s h = arguments_found words argument.Value at coord.WaitMC s h
+read_found words at coord.SetM s h = arguments_found words argument.Value at coord.SetM s h
 read_found words at coord.ClearM s h = clear_found words at coord.ClearM s h
 read_found words at coord.Init s h = init_found words at coord.Init s h
-read_found words at coord.Start s h = arguments_found words at coord.Start s h
-read_found words at coord.WaitE s h = arguments_found words at coord.WaitE s h
-read_found words at coord.Release s h = axes_found words at coord.Release s h
-read_found words at coord.Get s h = axes_found words at coord.Get s h
+read_found words at coord.Start s h = arguments_found words argument.Value at coord.Start s h
+read_found words at coord.WaitE s h = arguments_found words argument.Value at coord.WaitE s h
+read_found words at coord.Release s h = arguments_found words argument.Axis at coord.Release s h
+read_found words at coord.Get s h = arguments_found words argument.Axis at coord.Get s h
 read_found words at coord.CProt s h = cprot_found words at coord.CProt s h
 
 pub coordination_form_found : (words : WordsView) (at : ℕ) (which : CoordWord) (s : Statement) → IsKeyword words at (coordination_name which) →
@@ -522,13 +524,13 @@ coordination_form_found words at which s k h =
 pub coordination_form_only : (words : WordsView) (at : ℕ) (which : CoordWord) (xs : List OperandView) → IsCoordination words at (length words.tokens) which xs →
     coordination_form words which (at + 1) ≡ Ok (Coord which xs)
 unfolding coordination_form
-coordination_form_only words at coord.WaitM xs h = arguments_only words at h.0 coord.WaitM xs h.2 h.3 h.4 h.5
-coordination_form_only words at coord.WaitMC xs h = arguments_only words at h.0 coord.WaitMC xs h.2 h.3 h.4 h.5
-coordination_form_only words at coord.SetM xs h = arguments_only words at h.0 coord.SetM xs h.2 h.3 h.4 h.5
+coordination_form_only words at coord.WaitM xs h = arguments_only words argument.Value at h.0 coord.WaitM xs h.2 h.3 h.4 h.5
+coordination_form_only words at coord.WaitMC xs h = arguments_only words argument.Value at h.0 coord.WaitMC xs h.2 h.3 h.4 h.5
+coordination_form_only words at coord.SetM xs h = arguments_only words argument.Value at h.0 coord.SetM xs h.2 h.3 h.4 h.5
 coordination_form_only words at coord.ClearM xs h = clear_only words at h.0 coord.ClearM xs h.2 h.3 h.4 h.5
 coordination_form_only words at coord.Init xs h = init_only words at h.0 coord.Init xs h.2 h.3 h.4 h.5
-coordination_form_only words at coord.Start xs h = arguments_only words at h.0 coord.Start xs h.2 h.3 h.4 h.5
-coordination_form_only words at coord.WaitE xs h = arguments_only words at h.0 coord.WaitE xs h.2 h.3 h.4 h.5
-coordination_form_only words at coord.Release xs h = axes_only words at h.0 coord.Release xs h.2 h.3 h.4 h.5
-coordination_form_only words at coord.Get xs h = axes_only words at h.0 coord.Get xs h.2 h.3 h.4 h.5
+coordination_form_only words at coord.Start xs h = arguments_only words argument.Value at h.0 coord.Start xs h.2 h.3 h.4 h.5
+coordination_form_only words at coord.WaitE xs h = arguments_only words argument.Value at h.0 coord.WaitE xs h.2 h.3 h.4 h.5
+coordination_form_only words at coord.Release xs h = arguments_only words argument.Axis at h.0 coord.Release xs h.2 h.3 h.4 h.5
+coordination_form_only words at coord.Get xs h = arguments_only words argument.Axis at h.0 coord.Get xs h.2 h.3 h.4 h.5
 coordination_form_only words at coord.CProt xs h = cprot_only words at h.0 coord.CProt xs h.2 h.3 h.4 h.5

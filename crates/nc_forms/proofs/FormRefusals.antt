@@ -11,9 +11,11 @@ use Rattle.nc_blocks.specs.Pieces.{piece_at}
 use Rattle.nc_blocks.specs.AxisNames.{has_axis_name}
 use Rattle.nc_blocks.specs.Statement.{Statement}
 use Rattle.nc_blocks.proofs.Refusals.{Listed, found, refuses, unreadable, not_alone, transformed, bound, chosen, code_listed, end_listed, assign_listed, open_listed, close_listed, comma_listed, expression_listed, constant_listed, list_listed}
+use Rattle.nc_forms.specs.declared.coordination.ArgumentKind.{ArgumentKind}
+use Rattle.nc_forms.specs.declared.coordination.ArgumentKind.TheVariants as argument
 use Rattle.nc_forms.specs.LineEnds.{alone}
 use Rattle.nc_forms.specs.Frames.{axis_of, frame_value, frame_word, frame_word_at, shape_form, turn_end, angle_at, turn_form}
-use Rattle.nc_forms.specs.Coordination.{separator_of, separator_at, argument_at, axis_of_piece, axis_at, axis_argument_at, arguments_form, axes_form, clear_form, quoted_at, wait_at, wait_behind, last_of_init, opened_value, init_form, cprot_form, msg_form, enclosed_at, setms_form, after_text, behind_last, last_close, workpiece_form, coordination_form}
+use Rattle.nc_forms.specs.Coordination.{separator_of, separator_at, value_argument_at, argument_at, axis_of_piece, axis_at, axis_argument_at, arguments_form, clear_form, quoted_at, wait_at, wait_behind, last_of_init, opened_value, init_form, cprot_form, msg_form, enclosed_at, setms_form, after_text, behind_last, last_close, workpiece_form, coordination_form}
 use Rattle.nc_blocks.specs.declared.blocks.CoordWord.TheVariants as coord
 
 -- what stands alone, loops, repetitions and calls
@@ -64,9 +66,9 @@ pub separator_listed : (words : WordsView) (at : ℕ) → Listed (separator_at w
 unfolding separator_at
 separator_listed words at = piece_separator (piece_at words at) (at + 1)
 
-pub argument_listed : (words : WordsView) (at : ℕ) → Listed (argument_at words at)
-unfolding argument_at
-argument_listed words at = bound _ _ (expression_listed words at) (λ p. bound _ _ (separator_listed words p.1) (λ q. found _))
+pub value_argument_listed : (words : WordsView) (at : ℕ) → Listed (value_argument_at words at)
+unfolding value_argument_at
+value_argument_listed words at = bound _ _ (expression_listed words at) (λ p. bound _ _ (separator_listed words p.1) (λ q. found _))
 
 pub piece_axis : (words : WordsView) (at : ℕ) (p : Piece) → Listed (axis_of_piece words at p)
 piece_axis words at (piece.Letter letter) = chosen (has_axis_name words at) _ _ (found _) (chosen _ _ _ (found (letter ∷ [], at + 1)) (refuses unreadable))
@@ -76,22 +78,20 @@ pub axis_argument_listed : (words : WordsView) (at : ℕ) → Listed (axis_argum
 unfolding axis_argument_at axis_at
 axis_argument_listed words at = bound _ _ (piece_axis words at (piece_at words at)) (λ p. bound _ _ (separator_listed words p.1) (λ q. found _))
 
-pub arguments_listed : (words : WordsView) (which : CoordWord) (at : ℕ) → Listed (arguments_form words which at)
-unfolding arguments_form
-arguments_listed words which at =
-    bound _ _ (open_listed words at 22 unreadable)
-    (λ first. bound _ _ (list_listed (λ before. argument_at words) words first (λ before. argument_listed words)) (λ p. alone_listed words p.1 _))
+kind_listed : (words : WordsView) (kind : ArgumentKind) (at : ℕ) → Listed (argument_at words kind at)
+kind_listed words argument.Value at = value_argument_listed words at
+kind_listed words argument.Axis at = axis_argument_listed words at
 
-pub axes_listed : (words : WordsView) (which : CoordWord) (at : ℕ) → Listed (axes_form words which at)
-unfolding axes_form
-axes_listed words which at =
+pub arguments_listed : (words : WordsView) (kind : ArgumentKind) (which : CoordWord) (at : ℕ) → Listed (arguments_form words kind which at)
+unfolding arguments_form
+arguments_listed words kind which at =
     bound _ _ (open_listed words at 22 unreadable)
-    (λ first. bound _ _ (list_listed (λ before. axis_argument_at words) words first (λ before. axis_argument_listed words)) (λ p. alone_listed words p.1 _))
+    (λ first. bound _ _ (list_listed (λ before. argument_at words kind) words first (λ before. kind_listed words kind)) (λ p. alone_listed words p.1 _))
 
 pub clear_listed : (words : WordsView) (which : CoordWord) (at : ℕ) → Listed (clear_form words which at)
 unfolding clear_form
 clear_listed words which at =
-    chosen _ _ _ (bound _ _ (open_listed words at 22 unreadable) (λ first. alone_listed words (at + 2) _)) (arguments_listed words which at)
+    chosen _ _ _ (bound _ _ (open_listed words at 22 unreadable) (λ first. alone_listed words (at + 2) _)) (arguments_listed words argument.Value which at)
 
 pub quoted_listed : (words : WordsView) (at : ℕ) → Listed (quoted_at words at)
 unfolding quoted_at
@@ -159,6 +159,6 @@ unfolding coordination_form
 coordination_listed words coord.ClearM at = clear_listed words coord.ClearM at
 coordination_listed words coord.Init at = init_listed words coord.Init at
 coordination_listed words coord.CProt at = cprot_listed words coord.CProt at
-coordination_listed words coord.Release at = axes_listed words coord.Release at
-coordination_listed words coord.Get at = axes_listed words coord.Get at
-coordination_listed words which at = arguments_listed words which at
+coordination_listed words coord.Release at = arguments_listed words argument.Axis coord.Release at
+coordination_listed words coord.Get at = arguments_listed words argument.Axis coord.Get at
+coordination_listed words which at = arguments_listed words argument.Value which at

@@ -13,6 +13,8 @@ use Rattle.nc_blocks.specs.Marks.{open_at, close_at, comma_at}
 use Rattle.nc_expressions.specs.Value.{◌>>=◌}
 use Rattle.nc_blocks.specs.Reading.{expression_at}
 use Rattle.nc_blocks.specs.Lists.{Item, list_at}
+use Rattle.nc_forms.specs.declared.coordination.ArgumentKind.{ArgumentKind}
+use Rattle.nc_forms.specs.declared.coordination.ArgumentKind.TheVariants as argument
 use Rattle.nc_forms.specs.LineEnds.{alone}
 use Rattle.nc_forms.specs.Parentheses.{is_close, is_open, is_close_kind}
 use Rattle.nc_blocks.specs.Statement.{Statement, Coord, Message, OperandView, Value, Text, AxisName}
@@ -28,8 +30,8 @@ unfoldable pub separator_at : WordsView → ℕ → Result (Bool × ℕ) ℕ
 separator_at words at = separator_of (piece_at words at) (at + 1)
 
 -- an argument that is an expression
-unfoldable pub argument_at : WordsView → ℕ → Result (Item OperandView) ℕ
-argument_at words at = do
+unfoldable pub value_argument_at : WordsView → ℕ → Result (Item OperandView) ℕ
+value_argument_at words at = do
   p ← expression_at words at
   q ← separator_at words p.1
   Ok (Value p.0, q.0, q.1)
@@ -52,18 +54,16 @@ axis_argument_at words at = do
   q ← separator_at words p.1
   Ok (AxisName p.0, q.0, q.1)
 
--- ( and one argument or more, and ), behind which nothing stands
-unfoldable pub arguments_form : WordsView → CoordWord → ℕ → Result Statement ℕ
-arguments_form words which at = do
-  first ← open_at words at 22
-  p ← list_at (λ before. argument_at words) words first
-  alone words p.1 (Coord which p.0)
+-- an argument of this kind
+abbrev pub argument_at : WordsView → ArgumentKind → ℕ → Result (Item OperandView) ℕ
+argument_at words argument.Value at = value_argument_at words at
+argument_at words argument.Axis at = axis_argument_at words at
 
--- the same of axes
-unfoldable pub axes_form : WordsView → CoordWord → ℕ → Result Statement ℕ
-axes_form words which at = do
+-- ( and one argument or more of this kind, and ), after which nothing stands
+unfoldable pub arguments_form : WordsView → ArgumentKind → CoordWord → ℕ → Result Statement ℕ
+arguments_form words kind which at = do
   first ← open_at words at 22
-  p ← list_at (λ before. axis_argument_at words) words first
+  p ← list_at (λ before. argument_at words kind) words first
   alone words p.1 (Coord which p.0)
 
 -- CLEARM, behind its name: its parentheses may be empty
@@ -71,7 +71,7 @@ unfoldable pub clear_form : WordsView → CoordWord → ℕ → Result Statement
 clear_form words which at =
     if is_close (piece_at words (at + 1))
     then (open_at words at 22 >>= λ first. alone words (at + 2) (Coord which []))
-    else arguments_form words which at
+    else arguments_form words argument.Value which at
 
 -- the text at a place
 unfoldable pub quoted_at : WordsView → ℕ → Result (List ℕ) ℕ
@@ -170,13 +170,13 @@ workpiece_form words at = do
 
 -- the form of a coordination word, behind its name
 unfoldable pub coordination_form : WordsView → CoordWord → ℕ → Result Statement ℕ
-coordination_form words coord.WaitM at = arguments_form words coord.WaitM at
-coordination_form words coord.WaitMC at = arguments_form words coord.WaitMC at
-coordination_form words coord.SetM at = arguments_form words coord.SetM at
+coordination_form words coord.WaitM at = arguments_form words argument.Value coord.WaitM at
+coordination_form words coord.WaitMC at = arguments_form words argument.Value coord.WaitMC at
+coordination_form words coord.SetM at = arguments_form words argument.Value coord.SetM at
 coordination_form words coord.ClearM at = clear_form words coord.ClearM at
 coordination_form words coord.Init at = init_form words coord.Init at
-coordination_form words coord.Start at = arguments_form words coord.Start at
-coordination_form words coord.WaitE at = arguments_form words coord.WaitE at
-coordination_form words coord.Release at = axes_form words coord.Release at
-coordination_form words coord.Get at = axes_form words coord.Get at
+coordination_form words coord.Start at = arguments_form words argument.Value coord.Start at
+coordination_form words coord.WaitE at = arguments_form words argument.Value coord.WaitE at
+coordination_form words coord.Release at = arguments_form words argument.Axis coord.Release at
+coordination_form words coord.Get at = arguments_form words argument.Axis coord.Get at
 coordination_form words coord.CProt at = cprot_form words coord.CProt at

@@ -3,7 +3,7 @@
 ghost use Rattle.nc_blocks.specs.Indices.{OperandFits, StatementFits};
 ghost use Rattle.std.specs.Prelude.{◌≡◌, ◌<◌, ◌≤◌, ◌+◌, ◌∷◌, [], map, length, IfOk, All};
 ghost use Rattle.block_scanner.specs.Scanned.{IsScanned};
-ghost use Rattle.nc_forms.specs.Coordination.{separator_at, argument_at, axis_at, axis_argument_at, arguments_form, axes_form, clear_form, quoted_at, is_wait, wait_at, last_of_init, third, opened_value, init_form, cprot_form, coordination_form};
+ghost use Rattle.nc_forms.specs.Coordination.{separator_at, value_argument_at, axis_at, axis_argument_at, argument_at, arguments_form, clear_form, quoted_at, is_wait, wait_at, last_of_init, third, opened_value, init_form, cprot_form, coordination_form};
 ghost use Rattle.nc_blocks.specs.Lists.{list_at};
 ghost use Rattle.nc_blocks.specs.Reading.{Gives};
 ghost use Rattle.nc_blocks.specs.Statement.{statement_view, operand_view, operand_item, operand_items, placed_operand, placed_bytes, placed_bytes_option, bytes_option, bytes_of};
@@ -16,6 +16,15 @@ use nc_blocks::{
 };
 use nc_expressions::SyntaxFault;
 use std::alloc::{AllocError, Global};
+
+/// What an argument of a coordination word is.
+#[derive(Clone, Copy)]
+pub(crate) enum ArgumentKind {
+    /// An expression.
+    Value,
+    /// An axis name or a slot letter.
+    Axis,
+}
 
 /// Whether another argument follows, and the place where it begins or behind `)`.
 #[tactic(auto, unfolding(crate::specs::Coordination::separator_at))]
@@ -32,15 +41,15 @@ fn separator_at(words: &Words<'_>, at: usize) -> Result<(bool, usize), u16>
 }
 
 /// An argument that is an expression.
-#[tactic(auto, using(nc_blocks::proofs::Passing::passing), unfolding(crate::specs::Coordination::argument_at))]
-fn argument_at(
+#[tactic(auto, using(nc_blocks::proofs::Passing::passing), unfolding(crate::specs::Coordination::value_argument_at))]
+fn value_argument_at(
     alloc: Global,
     words: &Words<'_>,
     at: usize,
 ) -> Result<(Operand, bool, usize), SyntaxFault>
     requires scanned { IsScanned words.now }
     requires within { at ≤ length words.now.tokens }
-    ensures exact { Gives operand_item (argument_at words.now at) result }
+    ensures exact { Gives operand_item (value_argument_at words.now at) result }
     ensures indices { IfOk result (λ p. OperandFits (operand_view p.0)) }
     ensures within { IfOk result (λ p. (at < p.2) × (p.2 ≤ length words.now.tokens)) }
 {
@@ -91,22 +100,42 @@ fn axis_argument_at(
     }
 }
 
-/// Arguments, one at least, and the place behind their `)`.
+/// An argument of this kind.
+fn argument_at(
+    alloc: Global,
+    words: &Words<'_>,
+    kind: ArgumentKind,
+    at: usize,
+) -> Result<(Operand, bool, usize), SyntaxFault>
+    requires scanned { IsScanned words.now }
+    requires within { at ≤ length words.now.tokens }
+    ensures exact { Gives operand_item (argument_at words.now kind at) result }
+    ensures indices { IfOk result (λ p. OperandFits (operand_view p.0)) }
+    ensures within { IfOk result (λ p. (at < p.2) × (p.2 ≤ length words.now.tokens)) }
+{
+    match kind {
+        ArgumentKind::Value => value_argument_at(alloc, words, at),
+        ArgumentKind::Axis => axis_argument_at(alloc, words, at),
+    }
+}
+
+/// Arguments of this kind, one at least, and the place after their `)`.
 #[tactic(auto, using(nc_blocks::proofs::Listing::list_steps))]
 fn arguments_at(
     alloc: Global,
     words: &Words<'_>,
+    kind: ArgumentKind,
     start: usize,
 ) -> Result<(Vec<Operand>, usize), SyntaxFault>
     requires scanned { IsScanned words.now }
     requires within { start ≤ length words.now.tokens }
-    ensures exact { Gives operand_items (list_at (λ _. argument_at words.now) words.now start) result }
+    ensures exact { Gives operand_items (list_at (λ _. argument_at words.now kind) words.now start) result }
     ensures indices { IfOk result (λ p. All OperandFits (map operand_view p.0.items)) }
 {
     let mut list = Vec::new(alloc);
     let mut at = start;
     loop {
-        let (argument, more, end) = argument_at(alloc, words, at)?;
+        let (argument, more, end) = argument_at(alloc, words, kind, at)?;
         list.push(argument)?;
         if !more {
             return Ok((list, end));
@@ -115,66 +144,22 @@ fn arguments_at(
     }
 }
 
-/// Axes, one at least, and the place behind their `)`.
-#[tactic(auto, using(nc_blocks::proofs::Listing::list_steps))]
-fn axes_at(
-    alloc: Global,
-    words: &Words<'_>,
-    start: usize,
-) -> Result<(Vec<Operand>, usize), SyntaxFault>
-    requires scanned { IsScanned words.now }
-    requires within { start ≤ length words.now.tokens }
-    ensures exact { Gives operand_items (list_at (λ _. axis_argument_at words.now) words.now start) result }
-    ensures indices { IfOk result (λ p. All OperandFits (map operand_view p.0.items)) }
-{
-    let mut list = Vec::new(alloc);
-    let mut at = start;
-    loop {
-        let (argument, more, end) = axis_argument_at(alloc, words, at)?;
-        list.push(argument)?;
-        if !more {
-            return Ok((list, end));
-        }
-        at = end;
-    }
-}
-
-/// A coordination word with arguments that are expressions, behind its name.
+/// A coordination word with arguments of this kind, after its name.
 #[tactic(auto, using(nc_blocks::proofs::Passing::passing), unfolding(crate::specs::Coordination::arguments_form))]
 fn arguments_form(
     alloc: Global,
     words: &Words<'_>,
+    kind: ArgumentKind,
     which: CoordWord,
     at: usize,
 ) -> Result<Stmt, SyntaxFault>
     requires { IsScanned words.now }
-    ensures exact { Gives statement_view (arguments_form words.now which at) result }
+    ensures exact { Gives statement_view (arguments_form words.now kind which at) result }
     ensures indices { IfOk result (λ s. StatementFits (statement_view s)) }
 {
     match open_at(words, at, 22) {
         Ok(first) => {
-            let (list, end) = arguments_at(alloc, words, first)?;
-            alone(words, end, Stmt::Coord(which, list))
-        }
-        Err(code) => Err(SyntaxFault::Refused(code)),
-    }
-}
-
-/// A coordination word with arguments that are axes, behind its name.
-#[tactic(auto, using(nc_blocks::proofs::Passing::passing), unfolding(crate::specs::Coordination::axes_form))]
-fn axes_form(
-    alloc: Global,
-    words: &Words<'_>,
-    which: CoordWord,
-    at: usize,
-) -> Result<Stmt, SyntaxFault>
-    requires { IsScanned words.now }
-    ensures exact { Gives statement_view (axes_form words.now which at) result }
-    ensures indices { IfOk result (λ s. StatementFits (statement_view s)) }
-{
-    match open_at(words, at, 22) {
-        Ok(first) => {
-            let (list, end) = axes_at(alloc, words, first)?;
+            let (list, end) = arguments_at(alloc, words, kind, first)?;
             alone(words, end, Stmt::Coord(which, list))
         }
         Err(code) => Err(SyntaxFault::Refused(code)),
@@ -199,7 +184,7 @@ fn clear_form(
             Ok(_) => alone(words, at + 2, Stmt::Coord(which, Vec::new(alloc))),
             Err(code) => Err(SyntaxFault::Refused(code)),
         },
-        _ => arguments_form(alloc, words, which, at),
+        _ => arguments_form(alloc, words, ArgumentKind::Value, which, at),
     }
 }
 
@@ -369,8 +354,10 @@ pub fn coordination_form(
         | CoordWord::WaitMC
         | CoordWord::SetM
         | CoordWord::Start
-        | CoordWord::WaitE => arguments_form(alloc, words, which, at),
-        CoordWord::Release | CoordWord::Get => axes_form(alloc, words, which, at),
+        | CoordWord::WaitE => arguments_form(alloc, words, ArgumentKind::Value, which, at),
+        CoordWord::Release | CoordWord::Get => {
+            arguments_form(alloc, words, ArgumentKind::Axis, which, at)
+        }
         CoordWord::ClearM => clear_form(alloc, words, which, at),
         CoordWord::Init => init_form(alloc, words, which, at),
         CoordWord::CProt => cprot_form(alloc, words, which, at),

@@ -6,7 +6,7 @@ use Rattle.nc_forms.proofs.coordination.arguments_at.Goals as goal
 
 pub returns-then-not-more-clause-exact : goal.returns-then-not-more-clause-exact
 returns-then-not-more-clause-exact c =
-    list_last (λ before. argument_at c.args.words.now) operand_view c.args.words.now c.args.start c.loop-list.at c.in_ok-argument.end
+    list_last (λ before. argument_at c.args.words.now c.args.kind) operand_view c.args.words.now c.args.start c.loop-list.at c.in_ok-argument.end
     c.loop-list.list.items _ c.in_ok-argument.argument c.in_ok-argument.more c.loop-list.invariant.so_far c.in_ok-argument.ensures.exact
     c.if-not-more.true c.in_ok-argument.ensures.within.0 c.in_ok-argument.ensures.within.1 c.in_ok-push.ensures.items
 
@@ -17,7 +17,7 @@ returns-then-not-more-clause-indices c =
 pub loop-list-preserved : goal.loop-list-preserved
 loop-list-preserved c = record {
   within = c.in_ok-argument.ensures.within.1;
-  so_far = list_more (λ before. argument_at c.args.words.now) operand_view c.args.words.now c.args.start c.loop-list.at c.in_ok-argument.end
+  so_far = list_more (λ before. argument_at c.args.words.now c.args.kind) operand_view c.args.words.now c.args.start c.loop-list.at c.in_ok-argument.end
       c.loop-list.list.items _ c.in_ok-argument.argument c.in_ok-argument.more c.loop-list.invariant.so_far c.in_ok-argument.ensures.exact
       c.if-not-more.false c.in_ok-argument.ensures.within.0 c.in_ok-argument.ensures.within.1 c.in_ok-push.ensures.items;
   fits = fits_more OperandFits operand_view c.loop-list.list.items _ c.in_ok-argument.argument c.loop-list.invariant.fits c.in_ok-argument.ensures.indices c.in_ok-push.ensures.items;

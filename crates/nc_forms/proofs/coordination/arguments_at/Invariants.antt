@@ -9,7 +9,7 @@ use Rattle.nc_forms.proofs.coordination.arguments_at.Given as goal
 abbrev pub invariant-loop-list : goal.invariant-loop-list
 invariant-loop-list l = record {
   within : l.at ≤ length l.words.tokens;
-  so_far : listed (λ before. argument_at l.words) (map operand_view l.list.items) l.at (drop l.at l.words.tokens) 0 ≡ list_at (λ before. argument_at l.words) l.words l.start;
+  so_far : listed (λ before. argument_at l.words l.kind) (map operand_view l.list.items) l.at (drop l.at l.words.tokens) 0 ≡ list_at (λ before. argument_at l.words l.kind) l.words l.start;
   fits : All OperandFits (map operand_view l.list.items);
 }
 
