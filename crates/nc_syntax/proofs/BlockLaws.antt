@@ -1,6 +1,6 @@
 -- Blocks: what is read is spelled so, and what is spelled so is read; so a line spells one block at most.
 use Rattle.std.proofs.Common.{◌≡◌, ℕ, ◌+◌, ◌≤◌, List, [], ◌∷◌, length, refl, ap, sym, ◌∙◌, subst, inl, inr, Option, Some, None, Result, Ok, Err, Bool, true, false, cond, arith}
-use Rattle.std.specs.Prelude.{◌⊎◌, ◌==◌, ◌&&◌, codes}
+use Rattle.std.specs.Prelude.{◌⊎◌, ◌==◌, ◌&&◌, codes, IfOk}
 use Rattle.block_scanner.specs.WordsView.{WordsView}
 use Rattle.nc_expressions.specs.Tree.{Tree}
 use Rattle.nc_expressions.specs.Value.{◌>>=◌}
@@ -14,23 +14,25 @@ use Rattle.nc_blocks.specs.Pieces.{piece_at, text_at, is_name}
 use Rattle.nc_blocks.specs.Reading.{block_number_at, Gives}
 use Rattle.nc_blocks.specs.declared.blocks.Block.{Block}
 use Rattle.nc_expressions.specs.declared.faults.SyntaxFault.{SyntaxFault}
-use Rattle.std.specs.Prelude.{IfOk}
 use Rattle.word_tables.specs.Refused.{refused_word}
 use Rattle.word_tables.specs.LargeNumbers.{has_large_number}
 use Rattle.nc_blocks.specs.Statement.{OperandView, WordView, Assign, AssignAt, G, Axis, Radius, Aux, End, Statement, Empty, WordBlock, Jump, IfJump, If, Else, EndIf, While, EndWhile, Repeat, Until, Loop, EndLoop, For, EndFor, Case, RepeatFrom, RepeatBlock, Call, Return, Proc, Shape, Turn, Coord, Message, BlockView, view_of}
 use Rattle.nc_syntax.specs.Structures.{is_letter}
 use Rattle.nc_syntax.specs.Bodies.{is_number}
 use Rattle.nc_syntax.specs.Blocks.{is_slash, is_colon, skip_of, has_number, number_at, label_at, head_of, block_of, unless_refused, statement_of}
-use Rattle.nc_syntax.specs.Standing.{IsKeyword, IsExpressionText, AreListed}
+use Rattle.nc_forms.specs.Standing.{IsKeyword, IsExpressionText, AreListed, IsAlone}
 use Rattle.nc_syntax.specs.SpelledWords.{IsAxisWord, IsBracket, IsAux, IsWord}
-use Rattle.nc_syntax.specs.Spelled.{IsAlone, IsTarget, IsFrameAxis, IsAngle, IsCall, IsMessage, AreWords, IsSpelled, IsSkip, IsNumber, IsLabel, Spells, IsAccepted}
-use Rattle.nc_syntax.proofs.Standings.{piece_within, keyword_piece, expression_begins}
-use Rattle.nc_syntax.proofs.Marked.{bound, one_of, refused, parts_true, same_pair, block_number_found, block_number_only}
+use Rattle.nc_syntax.specs.Spelled.{IsTarget, IsCall, AreWords, IsSpelled, IsSkip, IsNumber, IsLabel, Spells, IsAccepted}
+use Rattle.nc_forms.specs.SpelledForms.{IsFrameAxis, IsAngle, IsMessage}
+use Rattle.nc_forms.proofs.Standings.{piece_within, keyword_piece, expression_begins}
+use Rattle.nc_forms.proofs.Marked.{bound, one_of, refused, parts_true, same_pair, block_number_found, block_number_only}
 use Rattle.nc_syntax.proofs.WordLaws.{name_is}
-use Rattle.nc_syntax.proofs.WordsRead.{Behind, false_of, first_false, last_false}
-use Rattle.nc_syntax.proofs.WordBlocks.{word_starts, behind_list, at_line_end}
+use Rattle.nc_syntax.proofs.WordsRead.{Behind, first_false}
+use Rattle.nc_forms.proofs.PieceLaws.{false_of, last_false}
+use Rattle.nc_syntax.proofs.WordBlocks.{word_starts, behind_list}
+use Rattle.nc_forms.proofs.LineEnds.{at_line_end}
 use Rattle.nc_syntax.proofs.StructureLaws.{letter_piece}
-use Rattle.nc_syntax.proofs.FrameLaws.{axis_letter}
+use Rattle.nc_forms.proofs.FrameLaws.{axis_letter}
 use Rattle.nc_syntax.proofs.BodyLaws.{body_found, body_only}
 
 colon_piece : (p : Piece) → is_colon p ≡ true → p ≡ piece.Colon

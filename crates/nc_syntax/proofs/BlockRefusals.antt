@@ -4,8 +4,6 @@ use Rattle.std.specs.Prelude.{IfErr}
 use Rattle.block_scanner.specs.WordsView.{WordsView}
 use Rattle.nc_expressions.specs.declared.faults.SyntaxFault.{SyntaxFault}
 use Rattle.nc_blocks.specs.declared.blocks.Block.{Block}
-use Rattle.nc_blocks.specs.declared.blocks.CoordWord.{CoordWord}
-use Rattle.nc_blocks.specs.declared.blocks.CoordWord.TheVariants as coord
 use Rattle.nc_blocks.specs.declared.pieces.Piece.{Piece}
 use Rattle.nc_blocks.specs.declared.pieces.Piece.TheVariants as piece
 use Rattle.nc_blocks.specs.Names.{name_of}
@@ -19,9 +17,10 @@ use Rattle.nc_syntax.specs.declared.bodies.Control.{Control}
 use Rattle.nc_syntax.specs.declared.bodies.Control.TheVariants as control
 use Rattle.nc_syntax.specs.declared.bodies.Form.{Form}
 use Rattle.nc_syntax.specs.declared.bodies.Form.TheVariants as form
-use Rattle.nc_syntax.specs.Bodies.{form_of, control_form, coordination_form, form_body, named_form, named_body, lettered_body, body_of, body_at}
+use Rattle.nc_syntax.specs.Bodies.{form_of, control_form, form_body, named_form, named_body, lettered_body, body_of, body_at}
 use Rattle.nc_syntax.specs.Blocks.{skip_of, number_at, label_at, head_of, block_of, unless_refused, statement_of}
-use Rattle.nc_syntax.proofs.FormRefusals.{alone_listed, last_expression_listed, for_listed, repeat_listed, repeat_block_listed, call_listed, number_call_listed, proc_listed, if_listed, jump_form_listed, case_listed, shape_listed, turn_listed, arguments_listed, axes_listed, clear_listed, init_listed, cprot_listed, msg_listed, setms_listed, workpiece_listed}
+use Rattle.nc_forms.proofs.FormRefusals.{alone_listed, shape_listed, turn_listed, msg_listed, setms_listed, workpiece_listed, coordination_listed}
+use Rattle.nc_syntax.proofs.FormRefusals.{last_expression_listed, for_listed, repeat_listed, repeat_block_listed, call_listed, number_call_listed, proc_listed, if_listed, jump_form_listed, case_listed}
 use Rattle.nc_syntax.proofs.RefusedWords.{Named, word_named}
 
 control_listed : (words : WordsView) (which : Control) (at : ℕ) → Listed (control_form words which at)
@@ -41,15 +40,6 @@ control_listed words control.Repeat at = repeat_listed words at
 control_listed words control.RepeatBlock at = repeat_block_listed words at
 control_listed words control.Return at = alone_listed words at _
 control_listed words control.Proc at = proc_listed words at
-
-coordination_listed : (words : WordsView) (which : CoordWord) (at : ℕ) → Listed (coordination_form words which at)
-unfolding coordination_form
-coordination_listed words coord.ClearM at = clear_listed words coord.ClearM at
-coordination_listed words coord.Init at = init_listed words coord.Init at
-coordination_listed words coord.CProt at = cprot_listed words coord.CProt at
-coordination_listed words coord.Release at = axes_listed words coord.Release at
-coordination_listed words coord.Get at = axes_listed words coord.Get at
-coordination_listed words which at = arguments_listed words which at
 
 form_listed : (words : WordsView) (which : Form) (at : ℕ) → Listed (form_body words which at)
 unfolding form_body

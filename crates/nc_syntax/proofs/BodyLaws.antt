@@ -1,30 +1,36 @@
 -- Bodies: what is read is spelled so, and what is spelled so is read.
-use Rattle.std.proofs.Common.{◌≡◌, ℕ, ◌+◌, ◌≤◌, List, [], ◌∷◌, length, refl, ap, sym, ◌∙◌, subst, inl, inr, Option, Some, None, Ok, true, false, arith}
+use Rattle.std.proofs.Common.{◌≡◌, ℕ, ◌+◌, ◌≤◌, List, [], ◌∷◌, length, refl, ap, sym, ◌∙◌, subst, inl, inr, Option, Some, None, Ok, Bool, true, false, arith}
 use Rattle.std.specs.Prelude.{ℤ, ◌==◌, codes}
 use Rattle.std.proofs.lemmas.Bool.{eqb-true}
 use Rattle.block_scanner.specs.WordsView.{WordsView}
+use Rattle.nc_blocks.specs.declared.blocks.CoordWord.{CoordWord}
+use Rattle.nc_blocks.specs.declared.blocks.FrameWord.{FrameWord}
 use Rattle.nc_blocks.specs.declared.pieces.Piece.{Piece}
 use Rattle.nc_blocks.specs.declared.pieces.Piece.TheVariants as piece
 use Rattle.nc_blocks.specs.Names.{name_of}
 use Rattle.nc_blocks.specs.Pieces.{piece_at, text_at}
-use Rattle.nc_blocks.specs.Statement.{WordView, Statement, Empty, WordBlock, Jump, IfJump, If, Else, EndIf, While, EndWhile, Repeat, Until, Loop, EndLoop, For, EndFor, Case, RepeatFrom, RepeatBlock, Call, Return, Proc, Shape, Turn, Coord, Message}
+use Rattle.nc_blocks.specs.Statement.{OperandView, WordView, Statement, Empty, WordBlock, Jump, IfJump, If, Else, EndIf, While, EndWhile, Repeat, Until, Loop, EndLoop, For, EndFor, Case, RepeatFrom, RepeatBlock, Call, Return, Proc, Shape, Turn, Coord, Message}
+use Rattle.nc_expressions.specs.Tree.{Tree}
 use Rattle.nc_blocks.specs.Wording.{words_form}
 use Rattle.nc_syntax.specs.declared.bodies.Control.TheVariants as control
 use Rattle.nc_syntax.specs.declared.bodies.Form.{Form}
 use Rattle.nc_syntax.specs.declared.bodies.Form.TheVariants as form
-use Rattle.nc_syntax.specs.Structures.{alone, call_form, number_name, number_call_form}
+use Rattle.nc_forms.specs.LineEnds.{alone}
+use Rattle.nc_syntax.specs.Structures.{call_form, number_name, number_call_form}
 use Rattle.nc_syntax.specs.Bodies.{form_of, control_form, form_body, named_form, named_body, is_number, lettered_body, body_of, body_at}
-use Rattle.nc_syntax.specs.Standing.{IsKeyword}
-use Rattle.nc_syntax.specs.Spelled.{IsAlone, IsParentheses, IsPasses, IsCall, IsMessage, AreWords, IsSpelled}
-use Rattle.nc_syntax.proofs.Marked.{bound, one_of, parts_true}
+use Rattle.nc_forms.specs.Standing.{IsKeyword, IsAlone}
+use Rattle.nc_syntax.specs.Spelled.{IsParentheses, IsPasses, IsCall, AreWords, IsSpelled}
+use Rattle.nc_forms.specs.SpelledForms.{IsShape, turn_name, IsAngle, IsCoordination, IsMessage}
+use Rattle.nc_forms.proofs.Marked.{bound, one_of, parts_true}
 use Rattle.nc_syntax.proofs.WordLaws.{keyword_of}
-use Rattle.nc_syntax.proofs.WordBlocks.{word_starts, words_form_found, words_form_only, line_end, at_line_end}
+use Rattle.nc_syntax.proofs.WordBlocks.{word_starts, words_form_found, words_form_only}
+use Rattle.nc_forms.proofs.LineEnds.{line_end, at_line_end, alone_form_found}
 use Rattle.nc_syntax.proofs.FormNames.{form_name, form_found, form_read, word_name_read, program_name_read}
 use Rattle.nc_syntax.proofs.JumpLaws.{last_found, last_only, jump_form_found, jump_form_only, if_form_found, if_jump_only, if_only, case_form_found, case_form_only}
-use Rattle.nc_syntax.proofs.StructureLaws.{alone_form_found, alone_form_only, for_form_found, for_form_only, repeat_form_found, repeat_from_only, repeat_only, repeat_block_found, repeat_block_only, name_call_found, number_call_found, call_only, number_name_only, proc_form_found, proc_form_only}
-use Rattle.nc_syntax.proofs.FrameLaws.{shape_form_found, shape_form_only, turn_form_found, turn_form_only}
-use Rattle.nc_syntax.proofs.CoordinationLaws.{coordination_form_found, coordination_form_only}
-use Rattle.nc_syntax.proofs.MessageLaws.{msg_form_found, msg_form_only, setms_form_found, setms_form_only, workpiece_form_found, workpiece_form_only}
+use Rattle.nc_syntax.proofs.StructureLaws.{alone_form_only, for_form_found, for_form_only, repeat_form_found, repeat_from_only, repeat_only, repeat_block_found, repeat_block_only, name_call_found, number_call_found, call_only, number_name_only, proc_form_found, proc_form_only}
+use Rattle.nc_forms.proofs.FrameLaws.{shape_form_found, shape_form_only, turn_form_found, turn_form_only}
+use Rattle.nc_forms.proofs.CoordinationLaws.{coordination_form_found, coordination_form_only}
+use Rattle.nc_forms.proofs.MessageLaws.{msg_form_found, msg_form_only, setms_form_found, setms_form_only, workpiece_form_found, workpiece_form_only}
 
 abbrev IsDone : WordsView → ℕ → Statement → Type 0
 IsDone words at s = IsSpelled words at (length words.tokens) s
@@ -53,6 +59,26 @@ until_found words at s k h =
     let P = λ (y : Statement). IsDone words at y in
     subst P same (k, last_found words (at + 1) b.0 b.1)
 
+-- what the forms of the crate below say is spelled
+of_shape : (words : WordsView) (at : ℕ) (which : FrameWord) (s : Statement) →
+    ((xs : List (ℕ × Tree)) × (s ≡ Shape which xs) × IsShape words at (length words.tokens) which xs) → IsDone words at s
+unfolding IsSpelled
+of_shape words at which s r = let P = λ (y : Statement). IsDone words at y in subst P (sym r.1) r.2
+
+of_turn : (words : WordsView) (at : ℕ) (more : Bool) (s : Statement) →
+    ((o : Option Tree) × (s ≡ Turn more o) × IsKeyword words at (turn_name more) × IsAngle words (at + 1) (length words.tokens) o) → IsDone words at s
+unfolding IsSpelled
+of_turn words at more s r = let P = λ (y : Statement). IsDone words at y in subst P (sym r.1) (r.2, r.3)
+
+of_coordination : (words : WordsView) (at : ℕ) (which : CoordWord) (s : Statement) →
+    ((xs : List OperandView) × (s ≡ Coord which xs) × IsCoordination words at (length words.tokens) which xs) → IsDone words at s
+unfolding IsSpelled
+of_coordination words at which s r = let P = λ (y : Statement). IsDone words at y in subst P (sym r.1) r.2
+
+of_message : (words : WordsView) (at : ℕ) (s : Statement) → s ≡ Message → IsMessage words at (length words.tokens) → IsDone words at s
+unfolding IsSpelled
+of_message words at s e h = let P = λ (y : Statement). IsDone words at y in subst P (sym e) h
+
 form_done : (words : WordsView) (at : ℕ) (f : Form) (s : Statement) → IsKeyword words at (form_name f) → form_body words f (at + 1) ≡ Ok s → IsDone words at s
 unfolding form_body control_form IsSpelled
 form_done words at (form.Jump way) s k h = jump_form_found words at way s k h
@@ -71,13 +97,13 @@ form_done words at (form.Control control.Repeat) s k h = repeat_form_found words
 form_done words at (form.Control control.RepeatBlock) s k h = repeat_block_found words at s k h
 form_done words at (form.Control control.Return) s k h = alone_done words at (codes "RET") Return s k h (λ a. a)
 form_done words at (form.Control control.Proc) s k h = proc_form_found words at s k h
-form_done words at (form.Shape which) s k h = shape_form_found words at which s k h
-form_done words at (form.Turn more) s k h = turn_form_found words at more s k h
-form_done words at (form.Coord which) s k h = coordination_form_found words at which s k h
-form_done words at form.Msg s k h = msg_form_found words at s k h
+form_done words at (form.Shape which) s k h = of_shape words at which s (shape_form_found words at which s k h)
+form_done words at (form.Turn more) s k h = of_turn words at more s (turn_form_found words at more s k h)
+form_done words at (form.Coord which) s k h = of_coordination words at which s (coordination_form_found words at which s k h)
+form_done words at form.Msg s k h = let m = msg_form_found words at s k h in of_message words at s m.0 (inl m.1)
 form_done words at form.Stopre s k h = alone_done words at (codes "STOPRE") Message s k h (λ a. inr (inl a))
-form_done words at form.Setms s k h = setms_form_found words at s k h
-form_done words at form.Workpiece s k h = workpiece_form_found words at s k h
+form_done words at form.Setms s k h = let m = setms_form_found words at s k h in of_message words at s m.0 (inr (inr (inl m.1)))
+form_done words at form.Workpiece s k h = let m = workpiece_form_found words at s k h in of_message words at s m.0 (inr (inr (inr m.1)))
 
 words_done : (words : WordsView) (at : ℕ) (s : Statement) → words_form words at ≡ Ok s → IsDone words at s
 unfolding IsSpelled

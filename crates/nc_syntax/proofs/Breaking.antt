@@ -6,9 +6,8 @@ use Rattle.nc_blocks.specs.declared.pieces.Piece.{Piece}
 use Rattle.nc_blocks.specs.declared.pieces.Piece.TheVariants as piece
 use Rattle.nc_blocks.specs.Pieces.{text_at}
 use Rattle.nc_blocks.specs.Statement.{BlockView}
-use Rattle.std.specs.Prelude.{◌||◌}
-use Rattle.nc_syntax.specs.Frames.{is_slot}
-use Rattle.std.specs.Prelude.{◌==◌}
+use Rattle.std.specs.Prelude.{◌||◌, ◌==◌}
+use Rattle.nc_forms.specs.Frames.{is_slot}
 use Rattle.nc_syntax.specs.Structures.{is_letter}
 use Rattle.nc_syntax.specs.Bodies.{is_number}
 use Rattle.nc_syntax.specs.Blocks.{is_slash, is_colon, block_of}

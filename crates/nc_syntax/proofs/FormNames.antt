@@ -23,11 +23,12 @@ use Rattle.nc_syntax.specs.declared.bodies.Form.TheVariants as form
 use Rattle.nc_syntax.specs.Jumps.{way_of, way_of_piece, way_at}
 use Rattle.nc_syntax.specs.Structures.{call_form}
 use Rattle.nc_syntax.specs.Bodies.{jump_name, structure_name, control_name, frame_name as frame_form_name, coordination_name as coordination_form_name, form_of, form_body, named_form, named_body, body_of, body_at}
-use Rattle.nc_syntax.specs.Standing.{IsKeyword}
-use Rattle.nc_syntax.specs.Spelled.{way_name, frame_name, turn_name, coordination_name}
-use Rattle.nc_syntax.proofs.Standings.{same_letters, keyword_piece, keyword_text}
+use Rattle.nc_forms.specs.Standing.{IsKeyword}
+use Rattle.nc_syntax.specs.Spelled.{way_name}
+use Rattle.nc_forms.specs.SpelledForms.{frame_name, turn_name, coordination_name}
+use Rattle.nc_forms.proofs.Standings.{same_letters, keyword_piece, keyword_text}
 use Rattle.nc_syntax.proofs.WordLaws.{keyword_of, or_left, or_right}
-use Rattle.nc_syntax.proofs.WordsRead.{or_cases}
+use Rattle.nc_forms.proofs.PieceLaws.{or_cases}
 use Rattle.nc_syntax.proofs.WordBlocks.{NamesWord, not_in_group}
 
 abbrev pub form_name : Form → List ℕ

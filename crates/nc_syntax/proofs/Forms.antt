@@ -15,11 +15,13 @@ use Rattle.nc_blocks.specs.declared.pieces.Piece.TheVariants as piece
 use Rattle.nc_blocks.specs.Names.{name_of}
 use Rattle.nc_blocks.specs.Pieces.{piece_at, text_at, is_name}
 use Rattle.nc_blocks.specs.Marks as marks
-use Rattle.nc_blocks.specs.Marks.{code_of, code_at, end_at, assign_at, open_at, close_at, comma_of, comma_at, is_keyword, keyword_at}
+use Rattle.nc_blocks.specs.Marks.{code_of, code_at, end_at, assign_at, comma_of, comma_at, is_keyword, keyword_at}
 use Rattle.nc_blocks.specs.Reading.{expression_at, whole, block_number, block_number_of, block_number_at, index_or, parameter_number, index_of_piece, index_at, label_of, label_at}
 use Rattle.nc_blocks.specs.Statement.{Statement, Jump, IfJump, If, For, RepeatFrom, RepeatBlock, Repeat, Call, Proc}
 use Rattle.nc_syntax.specs.Jumps.{way_of_piece, way_at, is_n, target_of, target_at, jump_at, last_jump, if_behind, if_form, jump_form, jump_of, named_jump}
-use Rattle.nc_syntax.specs.Structures.{alone, last_expression, is_letter, counter_at, first_value, for_form, times_at, repeat_form, repeat_block_form, has_close, is_close, is_open, parentheses_at, count_of_piece, passes_at, call_passes, call_form, proc_form}
+use Rattle.nc_forms.specs.LineEnds.{alone}
+use Rattle.nc_syntax.specs.Structures.{last_expression, is_letter, counter_at, first_value, for_form, times_at, repeat_form, repeat_block_form, has_close, parentheses_at, count_of_piece, passes_at, call_passes, call_form, proc_form}
+use Rattle.nc_forms.specs.Parentheses.{is_close, is_open}
 use Rattle.nc_syntax.specs.Wanted.{Assigns, Commas, Keyword, ATarget, BlockNumber, IfBehind, AJump, CounterLetter, Counter, Times, RepeatBehind, ALabel, Parentheses, CloseOfCall, Passes, Count, Displof, start, Push, No, want, only_if, perhaps, comma_want, block_number_want, target_want, if_want, jump_want, counter_index, counter_want, label_want, call_close, count_want, Stack, on_mark, line_end}
 use Rattle.nc_syntax.proofs.Wanted.{go, last, run_at, follow}
 use Rattle.nc_syntax.proofs.Stepping.{follow_bind, run_on, run_past, after, one_step}

@@ -23,7 +23,7 @@ use Rattle.nc_blocks.specs.Texts.{unquoted}
 use Rattle.nc_blocks.specs.declared.pieces.Piece.{Piece}
 use Rattle.nc_blocks.specs.declared.pieces.Piece.TheVariants as piece
 use Rattle.nc_syntax.specs.Wanted as wanted
-use Rattle.nc_syntax.specs.Wanted.{Mark, Wanted, Do, Stack, Next, On, Done, Refuse, want, on_mark}
+use Rattle.nc_syntax.specs.Wanted.{Mark, Wanted, Do, Stack, Refuse, want, on_mark}
 use Rattle.nc_syntax.proofs.Wanted.{last, go}
 use Rattle.nc_syntax.proofs.Stepping.{end_mark}
 use Rattle.nc_syntax.proofs.Breaking.{seen}

@@ -23,9 +23,9 @@ use Rattle.nc_syntax.specs.declared.bodies.Control.TheVariants as control
 use Rattle.nc_syntax.specs.declared.bodies.Form.{Form}
 use Rattle.nc_syntax.specs.declared.bodies.Form.TheVariants as form
 use Rattle.nc_syntax.specs.Structures.{has_close, is_letter, number_name, number_call_form, call_form}
-use Rattle.nc_syntax.specs.Bodies.{form_of, control_form, coordination_form, form_body, named_form, named_body, is_number, lettered_body, body_of, body_at}
+use Rattle.nc_syntax.specs.Bodies.{form_of, control_form, form_body, named_form, named_body, is_number, lettered_body, body_of, body_at}
+use Rattle.nc_forms.specs.Coordination.{coordination_form, workpiece_form}
 use Rattle.nc_syntax.specs.Blocks.{is_slash, is_colon, skip_of, has_number, number_at, label_at, head_of, with_label, block_of}
-use Rattle.nc_syntax.specs.Coordination.{workpiece_form}
 use Rattle.nc_syntax.specs.Wanted.{Mark, mark_at, Opens, Anything, AfterL, AWord, MoreWords, Do, Push, Pass, No, want, name_want, word_want, call_name, call_want, on_stack, Stack, Next, On, Done, Refuse, on_mark}
 use Rattle.nc_syntax.proofs.Wanted.{last, go, run, run_at, follow}
 use Rattle.nc_syntax.proofs.Stepping.{follow_bind, follow_same, after, one_step, Takes, at_end, end_mark, mark_past}

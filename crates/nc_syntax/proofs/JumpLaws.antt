@@ -21,29 +21,15 @@ use Rattle.nc_blocks.specs.Reading.{block_number_at}
 use Rattle.nc_blocks.specs.Lists.{Item}
 use Rattle.nc_blocks.specs.Statement.{Statement, Jump, IfJump, If, Case}
 use Rattle.nc_syntax.specs.Jumps.{way_of_piece, way_at, is_n, target_of, target_at, jump_at, last_jump, if_behind, if_form, jump_form, case_names, case_value, begins_number, jump_of, named_jump, pair_at, default_at, case_form}
-use Rattle.nc_syntax.specs.Structures.{alone, last_expression}
-use Rattle.nc_syntax.specs.Standing.{IsKeyword, IsExpressionText, IsSignedNumber, IsEnclosed, AreListed}
+use Rattle.nc_syntax.specs.Structures.{last_expression}
+use Rattle.nc_forms.specs.Standing.{IsKeyword, IsExpressionText, IsSignedNumber, IsEnclosed, AreListed}
 use Rattle.nc_syntax.specs.Spelled.{way_name, IsTarget, IsJump, IsPair, IsDefault, IsCase, IsSpelled}
-use Rattle.nc_syntax.proofs.Standings.{piece_within, follows_piece, follows_end, follows_keyword, keyword_piece, expression_within, expression_found, expression_only}
-use Rattle.nc_syntax.proofs.Marked.{bound, taken, one_of, same_pair, end_found, end_only, open_found, open_only, close_found, close_only, keyword_found, keyword_only, constant_found, constant_only, block_number_found, block_number_only}
-use Rattle.nc_syntax.proofs.Chained.{not_empty, Steps, list_found, list_only}
-use Rattle.nc_syntax.proofs.WordLaws.{moved}
-use Rattle.nc_syntax.proofs.WordBlocks.{signed_within, line_end, at_line_end}
+use Rattle.nc_forms.proofs.Standings.{piece_within, follows_piece, follows_end, follows_keyword, keyword_piece, expression_within, expression_found, expression_only}
+use Rattle.nc_forms.proofs.Marked.{bound, taken, one_of, same_pair, end_found, end_only, open_found, open_only, close_found, close_only, keyword_found, keyword_only, constant_found, constant_only, block_number_found, block_number_only}
+use Rattle.nc_forms.proofs.Chained.{not_empty, Steps, list_found, list_only}
+use Rattle.nc_forms.proofs.PieceLaws.{moved}
+use Rattle.nc_forms.proofs.LineEnds.{signed_within, line_end, at_line_end, keyword_within}
 use Rattle.nc_syntax.proofs.FormNames.{way_at_found, way_at_only}
-
--- what stands alone or last
-pub keyword_within : (words : WordsView) (at : ℕ) (word : List ℕ) → IsKeyword words at word → at < length words.tokens
-keyword_within words at word h = piece_within words at piece.Name (keyword_piece words at word h) tt
-
-pub alone_found : (words : WordsView) (at : ℕ) (s x : Statement) → alone words at s ≡ Ok x → (piece_at words at ≡ piece.End) × (s ≡ x)
-unfolding alone
-alone_found words at s x h =
-    let b = bound (end_at words at) (λ (n : ℕ). Ok s) x h in
-    let same : s ≡ x = cc in (end_found words at b.0 b.1, same)
-
-pub alone_only : (words : WordsView) (at : ℕ) (s : Statement) → piece_at words at ≡ piece.End → alone words at s ≡ Ok s
-unfolding alone
-alone_only words at s h = rw (end_only words at h) refl
 
 pub last_found : (words : WordsView) (at : ℕ) (t : Tree) → last_expression words at ≡ Ok t → IsExpressionText words at (length words.tokens) t
 unfolding last_expression

@@ -16,7 +16,7 @@ use Rattle.nc_blocks.specs.AxisNames.{is_axis_letter}
 use Rattle.nc_blocks.specs.Statement.{Statement, WordBlock, WordView}
 use Rattle.nc_blocks.proofs.Places.{piece_past}
 use Rattle.nc_blocks.proofs.Listing.{list_goes_on, list_ends, list_refused, list_begins}
-use Rattle.nc_syntax.proofs.Marked.{bound}
+use Rattle.nc_forms.proofs.Marked.{bound}
 use Rattle.nc_syntax.proofs.WordLaws.{word_found}
 use Rattle.nc_syntax.proofs.WordBlocks.{word_within}
 use Rattle.nc_syntax.specs.Wanted.{Assigns, Bracket, AWord, MoreWords, start, Do, Push, Pass, No, want, group_want, letter_want, name_want, word_want, and_more, more_words, Stack}

@@ -28,12 +28,14 @@ use Rattle.nc_blocks.specs.Lists.{Item, list_at}
 use Rattle.nc_blocks.specs.Statement.{Statement, Case, Shape, Turn, Coord, Message, OperandView, Value, Text, AxisName}
 use Rattle.nc_blocks.proofs.Listing.{any_of_views}
 use Rattle.nc_syntax.specs.Jumps.{case_names, case_value, begins_number, named_jump, pair_at, default_at, case_form}
-use Rattle.nc_syntax.specs.Structures.{alone, is_open, is_close}
-use Rattle.nc_syntax.specs.Frames.{axis_of, is_slot, frame_value, has_axis, frame_word, frame_word_at, shape_form, turn_end, angle_at, turn_form}
-use Rattle.nc_syntax.specs.Coordination.{separator_of, separator_at, argument_at, axis_of_piece, axis_at, axis_argument_at, arguments_form, axes_form, clear_form, quoted_at, is_wait, wait_at, wait_behind, last_of_init, third, opened_value, init_form, cprot_form, after_text, msg_form, enclosed_at, setms_form}
-use Rattle.nc_syntax.proofs.Marked.{bound, constant_found}
-use Rattle.nc_syntax.proofs.Standings.{expression_found, expression_within, piece_within}
-use Rattle.nc_syntax.proofs.WordBlocks.{signed_within}
+use Rattle.nc_forms.specs.declared.coordination.ArgumentKind.TheVariants as argument
+use Rattle.nc_forms.specs.LineEnds.{alone}
+use Rattle.nc_forms.specs.Parentheses.{is_open, is_close}
+use Rattle.nc_forms.specs.Frames.{axis_of, is_slot, frame_value, has_axis, frame_word, frame_word_at, shape_form, turn_end, angle_at, turn_form}
+use Rattle.nc_forms.specs.Coordination.{separator_of, separator_at, value_argument_at, axis_of_piece, axis_at, axis_argument_at, arguments_form, clear_form, quoted_at, is_wait, wait_at, wait_behind, last_of_init, third, opened_value, init_form, cprot_form, after_text, msg_form, enclosed_at, setms_form}
+use Rattle.nc_forms.proofs.Marked.{bound, constant_found}
+use Rattle.nc_forms.proofs.Standings.{expression_found, expression_within, piece_within}
+use Rattle.nc_forms.proofs.LineEnds.{signed_within}
 use Rattle.nc_syntax.proofs.JumpLaws.{named_jump_found, jump_within}
 use Rattle.nc_syntax.specs.Wanted.{Mark, mark_at, Wanted, Assigns, Opens, Closes, Commas, Keyword, AJump, Signed, MorePairs, MoreAxes, FrameValue, Angle, TurnEnd, MoreValues, AxisArgument, AfterArgument, ArgumentDigits, MoreArguments, ClearArguments, Quoted, InitLast, Wait, TextOrNot, SetmsBehind, start, Do, Push, Pass, No, want, only_if, more_pairs, axes_want, more_axes, signed_want, turn_want, separator_want, only_digits, axis_argument, and_then, clear_want, text_or_not, quoted_want, wait_want, setms_want, value_want, value_next, Stack}
 use Rattle.nc_syntax.proofs.Wanted.{run_at, follow}
@@ -308,8 +310,8 @@ unfolding want
 more_values words at = refl
 
 value_one : (words : WordsView) (before : List OperandView) (at : ℕ) →
-    run_at words at (start false ∷ MoreValues ∷ []) ≡ follow (argument_at words at) (onward words (λ ys. start false ∷ MoreValues ∷ []) (λ p. run_at words p.1 []) before)
-unfolding argument_at
+    run_at words at (start false ∷ MoreValues ∷ []) ≡ follow (value_argument_at words at) (onward words (λ ys. start false ∷ MoreValues ∷ []) (λ p. run_at words p.1 []) before)
+unfolding value_argument_at
 value_one words before at =
     expressions words at (MoreValues ∷ [])
     ∙ chain _ _ _ _ (λ (p : Tree × ℕ). separators words p.1 MoreValues (start false ∷ MoreValues ∷ []) (more_values words p.1)
@@ -324,8 +326,8 @@ separator_within : (words : WordsView) (at : ℕ) (q : Bool × ℕ) → separato
 unfolding separator_at
 separator_within words at q h = separator_piece words at (piece_at words at) q refl h
 
-values_within : (words : WordsView) → Within {A = OperandView} (λ before. argument_at words) (length words.tokens)
-unfolding argument_at
+values_within : (words : WordsView) → Within {A = OperandView} (λ before. value_argument_at words) (length words.tokens)
+unfolding value_argument_at
 values_within words before at x more next e =
     let a = bound _ _ _ e in
     let b = bound _ _ _ a.2 in
@@ -335,16 +337,16 @@ values_within words before at x more next e =
     let s = separator_within words a.0.1 b.0 b.1 in
     (omega (arith, w.0, s.1, n), omega (arith, s.0, s.1, n))
 
-value_list : (words : WordsView) (at : ℕ) → run_at words at (start false ∷ MoreValues ∷ []) ≡ follow (list_at (λ before. argument_at words) words at) (λ p. run_at words p.1 [])
+value_list : (words : WordsView) (at : ℕ) → run_at words at (start false ∷ MoreValues ∷ []) ≡ follow (list_at (λ before. value_argument_at words) words at) (λ p. run_at words p.1 [])
 value_list words at =
-    list_goes {A = OperandView} words (λ before. argument_at words) (λ ys. start false ∷ MoreValues ∷ []) (λ p. run_at words p.1 []) (values_within words)
+    list_goes {A = OperandView} words (λ before. value_argument_at words) (λ ys. start false ∷ MoreValues ∷ []) (λ p. run_at words p.1 []) (values_within words)
     (λ (before : List OperandView) (n : ℕ). value_one words before n) at
 
 arguments_behind : (words : WordsView) (which : CoordWord) (at : ℕ) →
-    run_at words at (start false ∷ MoreValues ∷ []) ≡ follow (list_at (λ before. argument_at words) words at >>= λ p. alone words p.1 (Coord which p.0)) (λ s. None)
+    run_at words at (start false ∷ MoreValues ∷ []) ≡ follow (list_at (λ before. value_argument_at words) words at >>= λ p. alone words p.1 (Coord which p.0)) (λ s. None)
 arguments_behind words which at = value_list words at ∙ chain _ _ _ _ (λ (p : List OperandView × ℕ). alone_ends words p.1 (Coord which p.0))
 
-pub argument_forms : (words : WordsView) (which : CoordWord) (at : ℕ) → run_at words at (Opens false ∷ start false ∷ MoreValues ∷ []) ≡ follow (arguments_form words which at) (λ s. None)
+pub argument_forms : (words : WordsView) (which : CoordWord) (at : ℕ) → run_at words at (Opens false ∷ start false ∷ MoreValues ∷ []) ≡ follow (arguments_form words argument.Value which at) (λ s. None)
 unfolding arguments_form
 argument_forms words which at = opens words at false (start false ∷ MoreValues ∷ []) ∙ chain _ _ _ _ (λ (n : ℕ). arguments_behind words which n)
 
@@ -432,8 +434,8 @@ axis_list words at =
     list_goes {A = OperandView} words (λ before. axis_argument_at words) (λ ys. AxisArgument ∷ MoreArguments ∷ []) (λ p. run_at words p.1 []) (arguments_within words)
     (λ (before : List OperandView) (n : ℕ). axis_argument_one words before n) at
 
-pub axes_forms : (words : WordsView) (which : CoordWord) (at : ℕ) → run_at words at (Opens false ∷ AxisArgument ∷ MoreArguments ∷ []) ≡ follow (axes_form words which at) (λ s. None)
-unfolding axes_form
+pub axes_forms : (words : WordsView) (which : CoordWord) (at : ℕ) → run_at words at (Opens false ∷ AxisArgument ∷ MoreArguments ∷ []) ≡ follow (arguments_form words argument.Axis which at) (λ s. None)
+unfolding arguments_form
 axes_forms words which at =
     opens words at false (AxisArgument ∷ MoreArguments ∷ [])
     ∙ chain _ _ _ _ (λ (n : ℕ). axis_list words n ∙ chain _ _ _ _ (λ (p : List OperandView × ℕ). alone_ends words p.1 (Coord which p.0)))
@@ -616,7 +618,7 @@ clears words at =
 
 clear_or : (words : WordsView) (which : CoordWord) (at : ℕ) (b : Bool) (r : Result ℕ ℕ) → ((n : ℕ) → r ≡ Ok n → n ≡ at + 1) → is_close (piece_at words (at + 1)) ≡ b →
     follow r (λ n. run_at words n (ClearArguments ∷ []))
-    ≡ follow (cond b (r >>= λ first. alone words (at + 2) (Coord which [])) (r >>= λ first. list_at (λ before. argument_at words) words first >>= λ p. alone words p.1 (Coord which p.0))) (λ s. None)
+    ≡ follow (cond b (r >>= λ first. alone words (at + 2) (Coord which [])) (r >>= λ first. list_at (λ before. value_argument_at words) words first >>= λ p. alone words p.1 (Coord which p.0))) (λ s. None)
 clear_or words which at true (Ok n) f h =
     let e : n ≡ at + 1 = f n refl in
     clears words n ∙ rw (e, h, two at) (alone_ends words (at + 2) (Coord which []))

@@ -26,9 +26,10 @@ use Rattle.nc_blocks.specs.Texts.{unquoted}
 use Rattle.nc_blocks.specs.AxisNames.{is_axis_letter, is_digits_piece}
 use Rattle.nc_blocks.specs.Wording.{is_open_bracket, is_slot_letter, is_centre_letter, is_aux_letter, is_spindle_word, name_code}
 use Rattle.nc_syntax.specs.Jumps.{way_of_piece, is_n}
-use Rattle.nc_syntax.specs.Structures.{is_letter, is_open, count_of_piece}
-use Rattle.nc_syntax.specs.Frames.{axis_of, is_slot}
-use Rattle.nc_syntax.specs.Coordination.{is_wait}
+use Rattle.nc_syntax.specs.Structures.{is_letter, count_of_piece}
+use Rattle.nc_forms.specs.Parentheses.{is_open}
+use Rattle.nc_forms.specs.Frames.{axis_of, is_slot}
+use Rattle.nc_forms.specs.Coordination.{is_wait}
 use Rattle.nc_syntax.specs.Wanted as wanted
 use Rattle.nc_syntax.specs.Wanted.{Mark, Wanted, Do, Push, Pass, No, Stack, Next, On, Done, Refuse, want, on_mark}
 use Rattle.nc_syntax.proofs.Going.{NoPrefix, TidyStack, TidyState, attached, IsKey, TidyItem, Tidy}

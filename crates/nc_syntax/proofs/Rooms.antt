@@ -12,7 +12,7 @@ use Rattle.nc_expressions.specs.Limits.{all_limits, has_room}
 use Rattle.nc_expressions.specs.Machine as machine
 use Rattle.nc_blocks.specs.declared.pieces.Piece.{Piece}
 use Rattle.nc_blocks.specs.declared.pieces.Piece.TheVariants as piece
-use Rattle.nc_syntax.specs.Frames.{axis_of, is_slot}
+use Rattle.nc_forms.specs.Frames.{axis_of, is_slot}
 use Rattle.nc_syntax.specs.Wanted as wanted
 use Rattle.nc_syntax.specs.Wanted.{Mark, Wanted, Do, Push, Pass, No, Stack, Next, On, Done, Refuse, want, on_mark}
 use Rattle.nc_syntax.proofs.Going.{TidyItem, Tidy, HasRoom, RoomItem, Roomy}

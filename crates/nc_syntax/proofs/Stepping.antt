@@ -15,7 +15,7 @@ use Rattle.nc_blocks.specs.Pieces.{text_at}
 use Rattle.nc_blocks.proofs.Places.{piece_past}
 use Rattle.nc_blocks.specs.AxisNames.{has_axis_word}
 use Rattle.nc_syntax.specs.Structures.{has_close}
-use Rattle.nc_syntax.specs.Coordination.{last_close}
+use Rattle.nc_forms.specs.Coordination.{last_close}
 use Rattle.nc_syntax.specs.Wanted.{Mark, mark_at, Wanted, Assigns, Opens, Closes, ClosesBracket, Constant, Value, Parameter, GNumber, Measured, AfterCentre, AfterSlot, AfterDigits, AfterAxis, AfterAux, AfterAuxDigits, ValueOrText, Bracket, AWord, MoreWords, Keyword, Commas, ATarget, BlockNumber, IfBehind, AJump, Signed, MorePairs, CounterLetter, Counter, Times, RepeatBehind, ALabel, Parentheses, CloseOfCall, Passes, Count, Displof, MoreAxes, FrameValue, Angle, TurnEnd, MoreValues, AxisArgument, AfterArgument, ArgumentDigits, MoreArguments, ClearArguments, Quoted, InitLast, Wait, TextOrNot, SetmsBehind, Anything, AfterL, has_close_from, rest_of, Do, Push, Pass, No, want, Stack, on_stack, on_mark, end_next}
 use Rattle.nc_syntax.proofs.Wanted.{last, go, run, run_at, follow}
 

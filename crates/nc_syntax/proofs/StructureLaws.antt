@@ -12,25 +12,17 @@ use Rattle.nc_blocks.specs.Names.{name_of}
 use Rattle.nc_blocks.specs.Pieces.{piece_at, text_at}
 use Rattle.nc_blocks.specs.Marks.{end_at, is_keyword, code_at}
 use Rattle.nc_blocks.specs.Statement.{Statement, For, RepeatFrom, RepeatBlock, Repeat, Call, Proc}
-use Rattle.nc_syntax.specs.Structures.{alone, is_letter, counter_at, first_value, for_form, times_at, repeat_form, repeat_block_form, has_close, is_close, is_open, parentheses_at, pass_count, count_of_piece, passes_at, call_passes, call_form, number_name, number_call_form, proc_form}
-use Rattle.nc_syntax.specs.Standing.{IsKeyword, IsExpressionText, IsIndex}
-use Rattle.nc_syntax.specs.Spelled.{IsNameOf, IsAlone, IsFor, IsTimes, IsParentheses, IsPasses, IsProc, IsSpelled}
-use Rattle.nc_syntax.proofs.Standings.{piece_within, past_end, follows_keyword, expression_found, expression_only}
-use Rattle.nc_syntax.proofs.Marked.{bound, taken, one_of, parts_true, same_pair, end_found, end_only, assign_found, assign_only, keyword_found, keyword_only, index_found, index_only, label_found, label_only}
+use Rattle.nc_forms.specs.LineEnds.{alone}
+use Rattle.nc_syntax.specs.Structures.{is_letter, counter_at, first_value, for_form, times_at, repeat_form, repeat_block_form, has_close, parentheses_at, pass_count, count_of_piece, passes_at, call_passes, call_form, number_name, number_call_form, proc_form}
+use Rattle.nc_forms.specs.Parentheses.{is_close, is_open}
+use Rattle.nc_forms.specs.Standing.{IsKeyword, IsExpressionText, IsIndex, IsNameOf, IsAlone}
+use Rattle.nc_syntax.specs.Spelled.{IsFor, IsTimes, IsParentheses, IsPasses, IsProc, IsSpelled}
+use Rattle.nc_forms.proofs.Standings.{piece_within, past_end, follows_keyword, expression_found, expression_only}
+use Rattle.nc_forms.proofs.Marked.{bound, taken, one_of, parts_true, same_pair, end_found, end_only, assign_found, assign_only, keyword_found, keyword_only, index_found, index_only, label_found, label_only}
 use Rattle.nc_syntax.proofs.WordLaws.{name_is}
-use Rattle.nc_syntax.proofs.WordsRead.{both}
-use Rattle.nc_syntax.proofs.WordBlocks.{line_end, at_line_end}
-use Rattle.nc_syntax.proofs.JumpLaws.{keyword_within, alone_found, alone_only, last_found, last_only}
-
--- the end of the line behind what stands there
-pub behind_last : (words : WordsView) (at : ℕ) → at < length words.tokens → piece_at words (at + 1) ≡ piece.End → length words.tokens ≡ at + 1
-behind_last words at w h = omega (arith, past_end words (at + 1) h, w)
-
--- a name alone
-pub alone_form_found : (words : WordsView) (at : ℕ) (word : List ℕ) (s x : Statement) → IsKeyword words at word → alone words (at + 1) s ≡ Ok x →
-    IsAlone words at (length words.tokens) word × (s ≡ x)
-alone_form_found words at word s x k h =
-    let a = alone_found words (at + 1) s x h in ((k, behind_last words at (keyword_within words at word k) a.0), a.1)
+use Rattle.nc_forms.proofs.PieceLaws.{both, close_piece}
+use Rattle.nc_forms.proofs.LineEnds.{line_end, at_line_end, keyword_within, alone_found, alone_only, alone_form_found}
+use Rattle.nc_syntax.proofs.JumpLaws.{last_found, last_only}
 
 pub alone_form_only : (words : WordsView) (at : ℕ) (word : List ℕ) (s : Statement) → IsAlone words at (length words.tokens) word → alone words (at + 1) s ≡ Ok s
 alone_form_only words at word s h = alone_only words (at + 1) s (at_line_end words (at + 1) (sym h.1))
@@ -175,10 +167,6 @@ repeat_block_only words at label o n h =
 pub open_piece : (p : Piece) → is_open p ≡ true → p ≡ piece.Open
 open_piece piece.Open h = refl
 open_piece p h = cc
-
-pub close_piece : (p : Piece) → is_close p ≡ true → p ≡ piece.Close
-close_piece piece.Close h = refl
-close_piece p h = cc
 
 inner_refused : {C : Type 0} (b : Bool) (x y end : ℕ) → cond b (Err x) (Err y) ≡ Ok end → C
 inner_refused true x y end h = cc

@@ -17,7 +17,7 @@ use Rattle.nc_syntax.specs.Structures.{is_letter}
 use Rattle.nc_syntax.specs.Bodies.{is_number, form_of}
 use Rattle.nc_syntax.specs.Blocks.{is_slash, is_colon}
 use Rattle.nc_syntax.specs.Wanted as wanted
-use Rattle.nc_syntax.specs.Wanted.{Mark, mark_at, Wanted, Do, Push, Pass, No, Stack, Next, On, Done, Refuse, on_mark, name_want}
+use Rattle.nc_syntax.specs.Wanted.{Mark, mark_at, Do, Push, Pass, No, Stack, Next, On, Done, Refuse, on_mark, name_want}
 use Rattle.nc_syntax.proofs.Wanted.{last, go}
 use Rattle.nc_syntax.proofs.Stepping.{end_mark}
 use Rattle.nc_syntax.specs.Forms.{control_stack, coordination_stack, form_stack, Beginning, Goes, Stops, word_beginning, plain_beginning, form_beginning, beginning, Head, AtStart, BehindSlash, BehindN, AtLabel, Named, AtBody, Within, HeadNext, HeadOn, Over, Refused, inside, beginning_next, beginning_more, letter_body, body_step, label_step, number_step, block_number_step, after_n, after_slash, start_step, named_step, head_step, state_of, state_next, state_at}

@@ -1,6 +1,6 @@
 -- Word blocks: what is read is spelled so, and what is spelled so is read.
 use Rattle.std.proofs.Common.{◌≡◌, ℕ, ◌+◌, ◌<◌, ◌≤◌, List, [], ◌∷◌, ◌++◌, length, refl, ap, sym, ◌∙◌, subst, inl, inr, Option, Some, None, Result, Ok, Bool, true, false, cond, arith}
-use Rattle.std.specs.Prelude.{ℤ, ◌⊎◌, ◌==◌, not, IsTrue, codes}
+use Rattle.std.specs.Prelude.{◌⊎◌, ◌==◌, not, IsTrue, codes}
 use Rattle.std.specs.Option.{option_or}
 use Rattle.std.specs.Str.{bytes_eq, str_to_ascii_lowercase}
 use Rattle.block_scanner.specs.WordsView.{WordsView}
@@ -14,21 +14,21 @@ use Rattle.nc_expressions.specs.Syntax.{Follows}
 use Rattle.nc_expressions.specs.Tree.{Tree}
 use Rattle.nc_blocks.specs.declared.blocks.Measure.{Measure}
 use Rattle.nc_blocks.specs.declared.blocks.Measure.TheVariants.{Modal, Absolute, Incremental}
-use Rattle.nc_blocks.specs.declared.pieces.Piece.{Piece}
 use Rattle.nc_blocks.specs.declared.pieces.Piece.TheVariants as piece
 use Rattle.nc_blocks.specs.Pieces.{piece_at, text_at, is_end}
 use Rattle.nc_blocks.specs.Lists.{Item}
 use Rattle.nc_blocks.specs.Statement.{OperandView, Value, Text, AxisName, WordView, Assign, AssignAt, G, Axis, Radius, Aux, End, Statement, WordBlock}
 use Rattle.nc_blocks.specs.Wording.{g_at, is_spindle_word, name_word, lettered_word, word_at, word_item_at, words_form}
-use Rattle.nc_blocks.proofs.Places.{piece_past}
-use Rattle.nc_syntax.specs.Standing.{IsSignedNumber, IsEnclosed, IsAssigned, AreListed}
+use Rattle.nc_forms.specs.Standing.{IsEnclosed, AreListed}
 use Rattle.nc_syntax.specs.SpelledWords.{IsGroupWord, IsMeasured, IsPlainAxis, IsAxisWord, IsAuxLetter, IsOperand, IsBracket, IsAux, IsWord}
 use Rattle.nc_syntax.specs.Spelled.{AreWords}
-use Rattle.nc_syntax.proofs.Standings.{same_letters, same_symbol, follows_piece, piece_within, past_end, keyword_piece, keyword_text, expression_within}
-use Rattle.nc_syntax.proofs.Marked.{bound}
-use Rattle.nc_syntax.proofs.Chained.{not_empty, Steps, list_found, list_only}
+use Rattle.nc_forms.proofs.Standings.{same_letters, same_symbol, follows_piece, piece_within, keyword_piece, keyword_text, expression_within}
+use Rattle.nc_forms.proofs.Marked.{bound}
+use Rattle.nc_forms.proofs.Chained.{not_empty, Steps, list_found, list_only}
 use Rattle.nc_syntax.proofs.WordLaws.{word_found}
-use Rattle.nc_syntax.proofs.WordsRead.{false_of, or_cases, Behind, behind_follows, assigned_only, letter_read, name_read, assign_read, assign_at_read, axis_read, aux_only, program_end_read, plain_letters, axis_letters, aux_letters}
+use Rattle.nc_forms.proofs.PieceLaws.{false_of, or_cases}
+use Rattle.nc_syntax.proofs.WordsRead.{Behind, behind_follows, assigned_only, letter_read, name_read, assign_read, assign_at_read, axis_read, aux_only, program_end_read, plain_letters, axis_letters, aux_letters}
+use Rattle.nc_forms.proofs.LineEnds.{assigned_within, at_line_end, end_is, line_end, nearer, signed_within}
 
 -- a name of a group is no other word
 among_same : (p q : Spelling → Bool) → ((s : Spelling) → p s ≡ q s) → (group place : ℕ) (words : List Spelling) → word_among p group place words ≡ word_among q group place words
@@ -126,24 +126,10 @@ measured_within words at end Modal t h = expression_within words at end t h
 measured_within words at end Absolute t h = let w = enclosed_within words (at + 1) end t h.1 in (omega (arith, w.0), w.1)
 measured_within words at end Incremental t h = let w = enclosed_within words (at + 1) end t h.1 in (omega (arith, w.0), w.1)
 
-pub signed_within : (words : WordsView) (at end : ℕ) (z : ℤ) → IsSignedNumber words at end z → (at < end) × (end ≤ length words.tokens)
-signed_within words at end z h =
-    elim h [
-      | inl a ↦ let w = piece_within words at (piece.Number z) a.0 tt in (omega (arith, a.1), omega (arith, a.1, w))
-      | inr b ↦ elim b [
-        | inl c ↦ let w = piece_within words (at + 1) (piece.Number z) c.1 tt in (omega (arith, c.2), omega (arith, c.2, w))
-        | inr c ↦ let w = piece_within words (at + 1) (piece.Number c.0) c.2 tt in (omega (arith, c.4), omega (arith, c.4, w))
-      ]
-    ]
-
 operand_within : (words : WordsView) (at end : ℕ) (o : OperandView) → IsOperand words at end o → (at < end) × (end ≤ length words.tokens)
 operand_within words at end (Value t) h = expression_within words at end t h
 operand_within words at end (Text bytes) h = let w = piece_within words at piece.Text h.0 tt in (omega (arith, h.2), omega (arith, h.2, w))
 operand_within words at end (AxisName name) h = absurd h
-
--- from a nearer place on
-nearer : (at next end all : ℕ) → at ≤ next → (next < end) × (end ≤ all) → (at < end) × (end ≤ all)
-nearer at next end all h w = (omega (arith, w.0), w.1)
 
 axis_within : (words : WordsView) (at end : ℕ) (address : List ℕ) (m : Measure) (t : Tree) → IsAxisWord words at end address m t → (at < end) × (end ≤ length words.tokens)
 axis_within words at end address m t h =
@@ -154,9 +140,6 @@ axis_within words at end address m t h =
         | inr c ↦ nearer at (at + 3) end (length words.tokens) (omega arith) (measured_within words (at + 3) end m t c.2)
       ]
     ]
-
-pub assigned_within : (words : WordsView) (at end : ℕ) (t : Tree) → IsAssigned words at end t → (at < end) × (end ≤ length words.tokens)
-assigned_within words at end t h = nearer at (at + 1) end (length words.tokens) (omega arith) (expression_within words (at + 1) end t h.1)
 
 bracket_forward : (words : WordsView) (at end : ℕ) (i : Option Tree) → IsBracket words at end i → at ≤ end
 bracket_forward words at end None h = omega (arith, h)
@@ -316,10 +299,6 @@ item_found words at x more next h =
     let s = item_same b.0 words x more next b.2 in
     (word_found words at next x (b.1 ∙ ap (λ (p : WordView × ℕ). Ok p) s.0), s.1)
 
-pub end_is : (p : Piece) → not (is_end p) ≡ false → p ≡ piece.End
-end_is piece.End h = refl
-end_is p h = cc
-
 steps_words : (words : WordsView) (xs before : List WordView) (at end : ℕ) → Steps (λ ys. word_item_at words) before at end xs →
     AreListed (IsWord words) at end xs × (IsTrue (not_empty xs) → (piece_at words end ≡ piece.End) × (end ≤ length words.tokens))
 steps_words words [] before at end h = (h, λ i. cc)
@@ -332,13 +311,6 @@ steps_words words (x ∷ (y ∷ ys)) before at end h =
     let i = item_found words at x true h.0 h.2 in
     let r = steps_words words (y ∷ ys) (before ++ x ∷ []) h.0 end h.3 in
     ((h.0, i.0, r.0), λ k. r.1 refl)
-
--- the end of the line
-pub line_end : (words : WordsView) (end : ℕ) → piece_at words end ≡ piece.End → end ≤ length words.tokens → end ≡ length words.tokens
-line_end words end h w = omega (arith, past_end words end h, w)
-
-pub at_line_end : (words : WordsView) (end : ℕ) → end ≡ length words.tokens → piece_at words end ≡ piece.End
-at_line_end words end h = sym (piece_past words end (omega (arith, h)))
 
 are_words : (words : WordsView) (at end : ℕ) (xs : List WordView) → AreListed (IsWord words) at end xs → IsTrue (not_empty xs) → AreWords words at end xs
 are_words words at end [] h k = cc

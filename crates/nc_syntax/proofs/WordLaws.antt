@@ -14,24 +14,17 @@ use Rattle.nc_blocks.specs.declared.pieces.Piece.{Piece}
 use Rattle.nc_blocks.specs.declared.pieces.Piece.TheVariants as piece
 use Rattle.nc_blocks.specs.Names.{upper}
 use Rattle.nc_blocks.specs.Texts.{unquoted}
-use Rattle.nc_blocks.specs.Pieces.{piece_at, text_at, is_assign, is_text, is_name}
+use Rattle.nc_blocks.specs.Pieces.{piece_at, text_at, is_assign, is_name}
 use Rattle.nc_blocks.specs.Marks.{word_code, assign_at, close_bracket_at, is_keyword}
 use Rattle.nc_blocks.specs.Reading.{value_at, after_sign}
-use Rattle.nc_blocks.specs.AxisNames.{is_axis_start, has_digits, has_axis_name, has_axis_word}
+use Rattle.nc_blocks.specs.AxisNames.{has_digits, has_axis_name, has_axis_word}
 use Rattle.nc_blocks.specs.Statement.{OperandView, Value, Text, WordView, Assign, AssignAt, G, Axis, Radius, Aux, End}
 use Rattle.nc_blocks.specs.Wording.{assigned_at, bracketed_at, is_open_bracket, assignment_at, group_word, g_of_piece, g_at, enclosed_value, measured_at, measured_word, letter_word, axis_word_at, slot_word_at, other_axis_at, is_program_end, plain_aux, aux_value, has_digits_assign, numbered_aux, aux_of, aux_at, bracket_at, spindle_at, is_spindle_word, name_code, name_word, is_centre_letter, is_slot_letter, lettered_word, word_of_piece, word_at}
-use Rattle.nc_syntax.specs.Standing.{IsKeyword, IsExpressionText, IsEnclosed, IsBracketed, IsAssigned, IsAxisName}
+use Rattle.nc_forms.specs.Standing.{IsKeyword, IsExpressionText, IsEnclosed, IsBracketed, IsAssigned}
 use Rattle.nc_syntax.specs.SpelledWords.{IsMeasured, IsPlainAxis, IsAuxLetter, IsOperand, IsBracket, IsWord}
-use Rattle.nc_syntax.proofs.Standings.{value_found}
-use Rattle.nc_syntax.proofs.Marked.{bound, taken, refused, one_of, parts_true, same_pair, assign_found, open_found, close_found, close_bracket_found, constant_found, index_found, digits_found}
-
--- what holds of the value and the place that are read holds of those that the answer has
-pub moved : {A : Type 0} (P : ℕ → A → Type 0) (a c : A) (b d : ℕ) → ◌≡◌ {A = Result (A × ℕ) ℕ} (Ok (a, b)) (Ok (c, d)) → P b a → P d c
-moved {A = A} P a c b d e h =
-    let p = same_pair a c b d e in
-    let Q = λ (x : A). P b x in
-    let R = λ (n : ℕ). P n c in
-    subst R p.1 (subst Q p.0 h)
+use Rattle.nc_forms.proofs.Standings.{value_found}
+use Rattle.nc_forms.proofs.Marked.{bound, taken, refused, one_of, parts_true, same_pair, assign_found, open_found, close_found, close_bracket_found, constant_found, index_found, digits_found}
+use Rattle.nc_forms.proofs.PieceLaws.{assign_is, axis_name_found, moved, text_is}
 
 pub measured_moved : (P : ℕ → Measure → Tree → Type 0) (m k : Measure) (t u : Tree) (b d : ℕ) →
     ◌≡◌ {A = Result (Measure × Tree × ℕ) ℕ} (Ok (m, t, b)) (Ok (k, u, d)) → P b m t → P d k u
@@ -86,14 +79,6 @@ open_bracket_is : (p : Piece) → is_open_bracket p ≡ true → p ≡ piece.Ope
 open_bracket_is piece.OpenBracket h = refl
 open_bracket_is p h = cc
 
-pub assign_is : (p : Piece) → is_assign p ≡ true → p ≡ piece.Assign
-assign_is piece.Assign h = refl
-assign_is p h = cc
-
-pub text_is : (p : Piece) → is_text p ≡ true → p ≡ piece.Text
-text_is piece.Text h = refl
-text_is p h = cc
-
 -- an assignment to a parameter
 assignment_found : (words : WordsView) (at end : ℕ) (x : WordView) → piece_at words at ≡ piece.Letter 82 → assignment_at words (at + 1) ≡ Ok (x, end) → IsWord words at end x
 unfolding assignment_at
@@ -144,12 +129,6 @@ letter_found words at letter end x l h =
     (λ is ae. let b = bound _ _ _ ae in
     moved P (Axis (letter ∷ []) Modal (Number b.0.0)) x b.0.1 end b.2
     (inl (letter, b.0.0, l, constant_found words (at + 1) (word_code words (after_sign words (at + 1))) b.0.0 b.0.1 b.1, refl, refl, refl)))
-
-pub axis_name_found : (words : WordsView) (at letter : ℕ) → piece_at words at ≡ piece.Letter letter → has_axis_name words at ≡ true → IsAxisName words at (letter ∷ text_at words (at + 1))
-unfolding has_axis_name
-axis_name_found words at letter l h =
-    let p = parts_true (is_axis_start (piece_at words at)) (has_digits words (at + 1)) h in
-    (letter, l, sym (ap is_axis_start l) ∙ p.0, digits_found words (at + 1) p.1, refl)
 
 axis_word_found : (words : WordsView) (at letter end : ℕ) (x : WordView) → piece_at words at ≡ piece.Letter letter → has_axis_word words at ≡ true →
     axis_word_at words letter at ≡ Ok (x, end) → IsWord words at end x

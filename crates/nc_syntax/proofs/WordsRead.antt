@@ -1,8 +1,7 @@
 -- WordsView: what is spelled as a word is read so, where another word or the end of the line stands behind it.
 use Rattle.std.proofs.Common.{◌≡◌, ℕ, ◌+◌, List, ◌∷◌, drop, refl, ap, sym, ◌∙◌, subst, inl, inr, Option, Some, None, Ok, Bool, true, false, arith}
-use Rattle.std.specs.Prelude.{ℤ, ◌⊎◌, ◌==◌, ◌&&◌, ◌||◌, codes}
+use Rattle.std.specs.Prelude.{ℤ, ◌⊎◌, ◌&&◌, ◌||◌, codes}
 use Rattle.std.specs.Str.{bytes_eq, str_to_ascii_lowercase}
-use Rattle.std.proofs.lemmas.Bool.{eqb-true}
 use Rattle.block_scanner.specs.WordsView.{WordsView}
 use Rattle.nc_expressions.specs.declared.symbols.Symbol.{Symbol}
 use Rattle.nc_expressions.specs.Symbols.{symbols_of, name_symbol, value_symbol, is_word}
@@ -15,46 +14,18 @@ use Rattle.nc_blocks.specs.declared.pieces.Piece.TheVariants as piece
 use Rattle.nc_blocks.specs.Pieces.{piece_at, text_at, is_assign, is_text, is_name}
 use Rattle.nc_blocks.specs.Marks.{word_code, is_keyword}
 use Rattle.nc_blocks.specs.Reading.{after_sign}
-use Rattle.nc_blocks.specs.AxisNames.{is_axis_letter, is_axis_start, is_digits_piece, has_digits, has_axis_name, has_axis_word}
+use Rattle.nc_blocks.specs.AxisNames.{is_axis_letter, is_axis_start, has_digits, has_axis_name, has_axis_word}
 use Rattle.nc_blocks.specs.Statement.{OperandView, Value, Text, AxisName, Assign, AssignAt, Axis, Aux, End}
 use Rattle.nc_blocks.specs.Wording.{assigned_at, bracketed_at, assignment_at, enclosed_value, measured_at, measured_word, letter_word, axis_word_at, slot_word_at, other_axis_at, aux_value, has_digits_assign, numbered_aux, aux_of, aux_at, bracket_at, spindle_at, is_spindle_word, name_word, is_centre_letter, is_slot_letter, is_aux_letter, lettered_word, word_of_piece, word_at}
-use Rattle.nc_syntax.specs.Standing.{IsKeyword, IsExpressionText, IsSignedNumber, IsEnclosed, IsBracketed, IsAssigned, IsAxisName}
+use Rattle.nc_forms.specs.Standing.{IsKeyword, IsExpressionText, IsSignedNumber, IsEnclosed, IsBracketed, IsAssigned, IsAxisName}
 use Rattle.nc_syntax.specs.SpelledWords.{IsMeasured, IsPlainAxis, IsAxisWord, IsAuxLetter, IsNumberedAux, IsOperand, IsAssignedAux, IsExtendedAux, IsBracket, IsSpindleWord, IsAux, IsProgramEnd, IsWord}
-use Rattle.nc_syntax.proofs.Standings.{Begins, value_only, same_letters, same_symbol, follows_piece, follows_end, follows_letter, keyword_piece, keyword_text, expression_begins}
-use Rattle.nc_syntax.proofs.WordLaws.{text_is}
-use Rattle.nc_syntax.proofs.Marked.{assign_only, open_only, close_only, close_bracket_only, constant_only, index_only, digits_only}
-
--- truth values
-pub false_of : (b : Bool) → (b ≡ true → ⊥) → b ≡ false
-false_of true h = absurd (h refl)
-false_of false h = refl
-
-pub or_cases : {C : Type 0} (a b : Bool) → (a || b) ≡ true → (a ≡ true → C) → (b ≡ true → C) → C
-or_cases true b h f g = f refl
-or_cases false b h f g = g h
-
-pub both : (a b : Bool) → a ≡ true → b ≡ true → (a && b) ≡ true
-both true b h k = k
-both false b h k = cc
-
-pub last_false : (a b : Bool) → b ≡ false → (a && b) ≡ false
-last_false true b h = h
-last_false false b h = refl
+use Rattle.nc_forms.proofs.Standings.{Begins, value_only, same_letters, same_symbol, follows_piece, follows_end, follows_letter, keyword_piece, keyword_text, expression_begins}
+use Rattle.nc_forms.proofs.PieceLaws.{text_is, axis_name_only, both, false_of, last_false, letter_case, no_digits, or_cases, signed_no_assign}
+use Rattle.nc_forms.proofs.Marked.{assign_only, open_only, close_only, close_bracket_only, constant_only, index_only, digits_only}
 
 pub first_false : (a b : Bool) → a ≡ false → (a && b) ≡ false
 first_false true b h = cc
 first_false false b h = refl
-
-pub or_parts : (a b : Bool) → (a || b) ≡ false → (a ≡ false) × (b ≡ false)
-or_parts true b h = cc
-or_parts false b h = (refl, h)
-
-pub or_both : (a b : Bool) → a ≡ false → b ≡ false → (a || b) ≡ false
-or_both true b h k = cc
-or_both false b h k = k
-
-pub letter_case : (P : ℕ → Type 0) (b k : ℕ) → (b == k) ≡ true → P k → P b
-letter_case P b k h p = subst P (sym (eqb-true b k h)) p
 
 -- names
 pub same_word : (a b v : List ℕ) → str_to_ascii_lowercase a ≡ str_to_ascii_lowercase b → is_word a v ≡ is_word b v
@@ -174,11 +145,6 @@ aux_letters P b h a1 a2 a3 a4 a5 a6 =
     (λ h. letter_case P b 77 h a1) (λ h. letter_case P b 83 h a2)) (λ h. letter_case P b 84 h a3)) (λ h. letter_case P b 68 h a4))
     (λ h. letter_case P b 70 h a5)) (λ h. letter_case P b 72 h a6)
 
-pub axis_name_only : (words : WordsView) (at : ℕ) (address : List ℕ) → IsAxisName words at address → has_axis_name words at ≡ true
-unfolding has_axis_name
-axis_name_only words at address h =
-    both (is_axis_start (piece_at words at)) (has_digits words (at + 1)) (ap is_axis_start h.1 ∙ h.2) (digits_only words (at + 1) h.3)
-
 axis_word_only : (words : WordsView) (at : ℕ) (address : List ℕ) → IsAxisName words at address → piece_at words (at + 2) ≡ piece.Assign → has_axis_word words at ≡ true
 unfolding has_axis_word
 axis_word_only words at address h a = both (has_axis_name words at) (is_assign (piece_at words (at + 2))) (axis_name_only words at address h) (ap is_assign a)
@@ -192,10 +158,6 @@ unfolding has_axis_word has_axis_name
 no_digits_behind words at h =
     first_false (is_axis_start (piece_at words at) && has_digits words (at + 1)) (is_assign (piece_at words (at + 2)))
     (last_false (is_axis_start (piece_at words at)) (has_digits words (at + 1)) h)
-
-pub no_digits : (words : WordsView) (at : ℕ) (p : Piece) → piece_at words at ≡ p → ((text : List ℕ) → is_digits_piece p text ≡ false) → has_digits words at ≡ false
-unfolding has_digits
-no_digits words at p h f = ap (λ q. is_digits_piece q (text_at words at)) h ∙ f (text_at words at)
 
 named_axis_read : (words : WordsView) (at : ℕ) (address : List ℕ) (h : IsAxisName words at address) → piece_at words (at + 2) ≡ piece.Assign →
     word_at words at ≡ measured_word words (h.0 ∷ text_at words (at + 1)) (at + 3)
@@ -222,16 +184,6 @@ signed_no_word words at end z h f =
       | inr b ↦ elim b [
         | inl c ↦ no_digits_behind words at (no_digits words (at + 1) piece.Plus c.0 (λ text. refl))
         | inr c ↦ no_digits_behind words at (no_digits words (at + 1) piece.Minus c.1 (λ text. refl))
-      ]
-    ]
-
-pub signed_no_assign : (words : WordsView) (at end : ℕ) (z : ℤ) → IsSignedNumber words at end z → is_assign (piece_at words at) ≡ false
-signed_no_assign words at end z h =
-    elim h [
-      | inl a ↦ ap is_assign a.0
-      | inr b ↦ elim b [
-        | inl c ↦ ap is_assign c.0
-        | inr c ↦ ap is_assign c.1
       ]
     ]
 

@@ -10,24 +10,22 @@ use Rattle.block_scanner.specs.WordsView.{WordsView}
 use Rattle.nc_expressions.specs.Value.{◌>>=◌}
 use Rattle.nc_blocks.specs.declared.pieces.Piece.{Piece}
 use Rattle.nc_blocks.specs.declared.pieces.Piece.TheVariants as piece
-use Rattle.nc_blocks.specs.Pieces.{piece_at}
-use Rattle.nc_blocks.specs.Marks.{code_of, end_at, open_at}
+use Rattle.nc_blocks.specs.Pieces.{piece_at, is_end}
+use Rattle.nc_blocks.specs.Marks.{code_of, end_at, open_at, open_of}
 use Rattle.nc_blocks.specs.Statement.{Statement, Message}
 use Rattle.std.proofs.lemmas.Option.{slice_get-get_or}
-use Rattle.nc_blocks.specs.Pieces.{is_end}
-use Rattle.nc_blocks.specs.Marks.{open_of}
 use Rattle.nc_blocks.proofs.Places.{piece_past}
-use Rattle.nc_syntax.proofs.Standings.{piece_within}
-use Rattle.nc_syntax.proofs.Standings.{past_end}
-use Rattle.nc_syntax.proofs.MessageLaws.{close_token, close_stands}
+use Rattle.nc_forms.proofs.Standings.{piece_within, past_end}
+use Rattle.nc_forms.proofs.MessageLaws.{close_token, close_stands}
 use Rattle.nc_syntax.specs.Wanted.{mark_at, Opens, Anything, want, anything_want, has_close_from, rest_of}
 use Rattle.nc_syntax.proofs.Wanted.{run_at, follow}
 use Rattle.nc_syntax.proofs.Stepping.{after, one_step}
 use Rattle.nc_syntax.proofs.Signs.{opens}
 use Rattle.nc_syntax.proofs.Words.{made}
 use Rattle.nc_syntax.proofs.Forms.{ends}
-use Rattle.nc_syntax.specs.Structures.{alone, is_close, is_close_kind}
-use Rattle.nc_syntax.specs.Coordination.{behind_last, last_close, is_broken, has_broken, workpiece_form}
+use Rattle.nc_forms.specs.LineEnds.{alone}
+use Rattle.nc_forms.specs.Parentheses.{is_close, is_close_kind}
+use Rattle.nc_forms.specs.Coordination.{behind_last, last_close, is_broken, has_broken, workpiece_form}
 
 -- the count of tokens up to the last ) of a list
 abbrev up : Bool → Option ℕ → Option ℕ

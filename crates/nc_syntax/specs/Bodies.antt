@@ -4,7 +4,6 @@ use Rattle.std.specs.Option.{option_or}
 use Rattle.block_scanner.specs.WordsView.{WordsView}
 use Rattle.word_tables.specs.Tables.{is_table_word}
 use Rattle.nc_expressions.specs.Symbols.{is_word}
-use Rattle.nc_blocks.specs.declared.blocks.CoordWord.{CoordWord}
 use Rattle.nc_blocks.specs.declared.blocks.CoordWord.TheVariants as coord
 use Rattle.nc_blocks.specs.declared.blocks.FrameWord.TheVariants as frame
 use Rattle.nc_blocks.specs.declared.blocks.Way.{Way}
@@ -18,9 +17,10 @@ use Rattle.nc_blocks.specs.Names.{name_of}
 use Rattle.nc_blocks.specs.Pieces.{piece_at, text_at}
 use Rattle.nc_expressions.specs.Value.{◌>>=◌}
 use Rattle.nc_syntax.specs.Jumps.{way_of, jump_form, if_form, case_form}
-use Rattle.nc_syntax.specs.Structures.{alone, last_expression, for_form, repeat_form, repeat_block_form, call_form, number_call_form, proc_form}
-use Rattle.nc_syntax.specs.Frames.{shape_form, turn_form}
-use Rattle.nc_syntax.specs.Coordination.{arguments_form, axes_form, clear_form, init_form, cprot_form, msg_form, setms_form, workpiece_form}
+use Rattle.nc_forms.specs.LineEnds.{alone}
+use Rattle.nc_syntax.specs.Structures.{last_expression, for_form, repeat_form, repeat_block_form, call_form, number_call_form, proc_form}
+use Rattle.nc_forms.specs.Frames.{shape_form, turn_form}
+use Rattle.nc_forms.specs.Coordination.{msg_form, setms_form, workpiece_form, coordination_form}
 use Rattle.nc_blocks.specs.Wording.{words_form}
 use Rattle.nc_blocks.specs.Statement.{Statement, Empty, Else, EndIf, While, EndWhile, Until, Loop, EndLoop, EndFor, Return, Message}
 
@@ -104,19 +104,6 @@ control_form words control.Repeat at = repeat_form words at
 control_form words control.RepeatBlock at = repeat_block_form words at
 control_form words control.Return at = alone words at Return
 control_form words control.Proc at = proc_form words at
-
--- the form of a coordination word, behind its name
-unfoldable pub coordination_form : WordsView → CoordWord → ℕ → Result Statement ℕ
-coordination_form words coord.WaitM at = arguments_form words coord.WaitM at
-coordination_form words coord.WaitMC at = arguments_form words coord.WaitMC at
-coordination_form words coord.SetM at = arguments_form words coord.SetM at
-coordination_form words coord.ClearM at = clear_form words coord.ClearM at
-coordination_form words coord.Init at = init_form words coord.Init at
-coordination_form words coord.Start at = arguments_form words coord.Start at
-coordination_form words coord.WaitE at = arguments_form words coord.WaitE at
-coordination_form words coord.Release at = axes_form words coord.Release at
-coordination_form words coord.Get at = axes_form words coord.Get at
-coordination_form words coord.CProt at = cprot_form words coord.CProt at
 
 -- a form, behind its first name
 unfoldable pub form_body : WordsView → Form → ℕ → Result Statement ℕ

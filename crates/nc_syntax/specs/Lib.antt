@@ -1,10 +1,7 @@
 pub mod Jumps
 pub mod Structures
-pub mod Frames
-pub mod Coordination
 pub mod Bodies
 pub mod Blocks
-pub mod Standing
 pub mod SpelledWords
 pub mod Spelled
 pub mod Places

@@ -10,7 +10,7 @@ use Rattle.nc_blocks.specs.Names.{upper}
 use Rattle.nc_blocks.specs.Pieces.{piece_at, text_at}
 use Rattle.nc_blocks.specs.Texts.{unquoted}
 use Rattle.nc_blocks.specs.Wording.{is_slot_letter, is_centre_letter, is_aux_letter, is_program_end, is_spindle_word}
-use Rattle.nc_syntax.specs.Standing.{IsKeyword, IsExpressionText, IsSignedNumber, IsDigits, IsIndex, IsEnclosed, IsBracketed, IsAssigned, IsAxisName}
+use Rattle.nc_forms.specs.Standing.{IsKeyword, IsExpressionText, IsSignedNumber, IsDigits, IsIndex, IsEnclosed, IsBracketed, IsAssigned, IsAxisName}
 use Rattle.nc_blocks.specs.Statement.{OperandView, Value, Text, AxisName, WordView, Assign, AssignAt, G, Axis, Radius, Aux, End}
 
 -- a word of a group: G with its number, or its name; 71 is 'G'

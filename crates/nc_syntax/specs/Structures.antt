@@ -1,9 +1,6 @@
 -- Meaning. Loops, repetitions, calls and what stands alone.
-use Rattle.std.specs.Prelude.{ℕ, ℤ, pos, negsuc, ◌+◌, ◌/◌, ◌%◌, ◌==◌, ◌&&◌, nat_le, Bool, true, false, List, ◌∷◌, length, Option, Some, None, Result, Ok, Err, if◌then◌else◌, codes}
+use Rattle.std.specs.Prelude.{ℕ, ℤ, pos, negsuc, ◌+◌, ◌/◌, ◌%◌, ◌==◌, ◌&&◌, nat_le, Bool, false, List, ◌∷◌, length, Option, Some, None, Result, Ok, Err, if◌then◌else◌, codes}
 use Rattle.std.specs.List.{list_any}
-use Rattle.block_scanner.specs.declared.Kind.{Kind}
-use Rattle.block_scanner.specs.declared.Kind.TheVariants as kind
-use Rattle.block_scanner.specs.declared.Sign.TheVariants as sign
 use Rattle.block_scanner.specs.WordsView.{WordsView}
 use Rattle.nc_expressions.specs.Symbols.{is_digits}
 use Rattle.nc_expressions.specs.Tree.{Tree}
@@ -15,10 +12,8 @@ use Rattle.nc_blocks.specs.Marks.{code_at, end_at, assign_at, is_keyword, keywor
 use Rattle.nc_expressions.specs.Value.{◌>>=◌}
 use Rattle.nc_blocks.specs.Reading.{expression_at, index_at, label_at}
 use Rattle.nc_blocks.specs.Statement.{Statement, For, RepeatFrom, RepeatBlock, Repeat, Call, Proc}
-
--- this statement, where nothing stands behind it
-unfoldable pub alone : WordsView → ℕ → Statement → Result Statement ℕ
-alone words at statement = end_at words at >>= λ end. Ok statement
+use Rattle.nc_forms.specs.LineEnds.{alone}
+use Rattle.nc_forms.specs.Parentheses.{is_close, is_close_kind, is_open}
 
 -- an expression behind which nothing stands
 unfoldable pub last_expression : WordsView → ℕ → Result Tree ℕ
@@ -74,21 +69,9 @@ repeat_block_form words at = do
   times ← times_at words (at + 1)
   Ok (RepeatBlock label times)
 
-abbrev pub is_close_kind : Kind → Bool
-is_close_kind (kind.Sign sign.CloseParenthesis) = true
-is_close_kind one = false
-
 -- some `)` stands in the line
 unfoldable pub has_close : WordsView → Bool
 has_close words = list_any (λ token. is_close_kind token.kind) words.tokens
-
-abbrev pub is_close : Piece → Bool
-is_close piece.Close = true
-is_close one = false
-
-abbrev pub is_open : Piece → Bool
-is_open piece.Open = true
-is_open one = false
 
 -- ( ) behind a call, if they stand there, and the place behind; anything between them is 58
 unfoldable pub parentheses_at : WordsView → ℕ → Result ℕ ℕ

@@ -17,9 +17,10 @@ use Rattle.nc_blocks.specs.AxisNames.{is_axis_letter, is_digits_piece, has_axis_
 use Rattle.nc_blocks.specs.Texts.{unquoted}
 use Rattle.nc_blocks.specs.declared.blocks.Way.{Way}
 use Rattle.nc_syntax.specs.Jumps.{way_of_piece, is_n}
-use Rattle.nc_syntax.specs.Structures.{is_letter, is_close_kind, has_close, is_open, count_of_piece}
-use Rattle.nc_syntax.specs.Frames.{axis_of, is_slot}
-use Rattle.nc_syntax.specs.Coordination.{is_wait, last_close}
+use Rattle.nc_syntax.specs.Structures.{is_letter, has_close, count_of_piece}
+use Rattle.nc_forms.specs.Parentheses.{is_close_kind, is_open}
+use Rattle.nc_forms.specs.Frames.{axis_of, is_slot}
+use Rattle.nc_forms.specs.Coordination.{is_wait, last_close}
 use Rattle.nc_blocks.specs.Wording.{is_open_bracket, is_slot_letter, is_centre_letter, is_aux_letter, is_spindle_word, name_code}
 
 -- what a place of a line shows: the piece, the text and the symbol that stand there. What stands elsewhere changes the code of

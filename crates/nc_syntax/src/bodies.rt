@@ -3,16 +3,13 @@
 ghost use Rattle.nc_blocks.specs.Indices.{StatementFits};
 ghost use Rattle.std.specs.Prelude.{◌≡◌, ◌<◌, ◌≤◌, length, IfOk};
 ghost use Rattle.block_scanner.specs.Scanned.{IsScanned};
-ghost use Rattle.nc_syntax.specs.Bodies.{jump_name, structure_name, control_name, frame_name, coordination_name, form_of, control_form, coordination_form, form_body, named_body, lettered_body, body_at};
+ghost use Rattle.nc_syntax.specs.Bodies.{jump_name, structure_name, control_name, frame_name, coordination_name, form_of, control_form, form_body, named_body, lettered_body, body_at};
 ghost use Rattle.nc_blocks.specs.Reading.{Gives};
 ghost use Rattle.nc_blocks.specs.Statement.{statement_view};
 
-use crate::coordination::{arguments_form, axes_form, clear_form, cprot_form, init_form};
-use crate::frames::{shape_form, turn_form};
 use crate::jumps::{case_form, if_form, jump_form, way_of};
-use crate::messages::{msg_form, setms_form, workpiece_form};
 use crate::structures::{
-    alone, call_form, for_form, last_expression, number_call_form, proc_form, repeat_block_form,
+    call_form, for_form, last_expression, number_call_form, proc_form, repeat_block_form,
     repeat_form,
 };
 use block_scanner::Words;
@@ -20,6 +17,9 @@ use nc_blocks::{
     CoordWord, FrameWord, NameText, Piece, Stmt, Way, is_word, piece_at, text_at, words_form,
 };
 use nc_expressions::SyntaxFault;
+use nc_forms::{
+    alone, coordination_form, msg_form, setms_form, shape_form, turn_form, workpiece_form,
+};
 use std::alloc::Global;
 use word_tables::is_table_word;
 
@@ -249,32 +249,6 @@ fn control_form(
         Control::RepeatBlock => repeat_block_form(alloc, words, at),
         Control::Return => alone(words, at, Stmt::Return),
         Control::Proc => proc_form(words, at),
-    }
-}
-
-/// The form of a coordination word, behind its name.
-#[tactic(auto, unfolding(crate::specs::Bodies::coordination_form))]
-fn coordination_form(
-    alloc: Global,
-    words: &Words<'_>,
-    which: CoordWord,
-    at: usize,
-) -> Result<Stmt, SyntaxFault>
-    requires scanned { IsScanned words.now }
-    requires within { at ≤ length words.now.tokens }
-    ensures exact { Gives statement_view (coordination_form words.now which at) result }
-    ensures indices { IfOk result (λ s. StatementFits (statement_view s)) }
-{
-    match which {
-        CoordWord::WaitM
-        | CoordWord::WaitMC
-        | CoordWord::SetM
-        | CoordWord::Start
-        | CoordWord::WaitE => arguments_form(alloc, words, which, at),
-        CoordWord::Release | CoordWord::Get => axes_form(alloc, words, which, at),
-        CoordWord::ClearM => clear_form(alloc, words, which, at),
-        CoordWord::Init => init_form(alloc, words, which, at),
-        CoordWord::CProt => cprot_form(alloc, words, which, at),
     }
 }
 

@@ -2,11 +2,8 @@
 #![tactic(auto)]
 
 mod bodies;
-mod coordination;
-mod frames;
 mod jumps;
 mod laws;
-mod messages;
 mod statements;
 mod structures;
 

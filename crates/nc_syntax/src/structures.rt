@@ -6,7 +6,8 @@ ghost use Rattle.block_scanner.specs.Scanned.{IsScanned};
 ghost use Rattle.nc_expressions.specs.Tree.{tree_of, IndicesFit};
 ghost use Rattle.nc_blocks.specs.Reading.{Gives, placed_tree};
 ghost use Rattle.nc_blocks.specs.Statement.{statement_view, tree_option};
-ghost use Rattle.nc_syntax.specs.Structures.{alone, last_expression, counter_at, first_value, for_form, times_at, repeat_form, repeat_block_form, has_close, parentheses_at, pass_count, passes_at, call_passes, call_form, number_name, number_call_form, proc_form};
+ghost use Rattle.nc_forms.specs.LineEnds.{alone};
+ghost use Rattle.nc_syntax.specs.Structures.{last_expression, counter_at, first_value, for_form, times_at, repeat_form, repeat_block_form, has_close, parentheses_at, pass_count, passes_at, call_passes, call_form, number_name, number_call_form, proc_form};
 
 use block_scanner::{Kind, Sign, Words};
 use micro_units::Num;
@@ -15,21 +16,8 @@ use nc_blocks::{
     keyword_at, label_at, piece_at, text_at,
 };
 use nc_expressions::{Expr, SyntaxFault, is_digits};
+use nc_forms::alone;
 use std::alloc::Global;
-
-/// This statement, where nothing stands behind it.
-#[tactic(auto, unfolding(crate::specs::Structures::alone))]
-pub(crate) fn alone(words: &Words<'_>, at: usize, stmt: Stmt) -> Result<Stmt, SyntaxFault>
-    requires scanned { IsScanned words.now }
-    requires fits { StatementFits (statement_view stmt) }
-    ensures exact { Gives statement_view (alone words.now at (statement_view stmt)) result }
-    ensures indices { IfOk result (λ s. StatementFits (statement_view s)) }
-{
-    match end_at(words, at) {
-        Ok(_) => Ok(stmt),
-        Err(code) => Err(SyntaxFault::Refused(code)),
-    }
-}
 
 /// An expression behind which nothing stands.
 #[tactic(auto, using(nc_blocks::proofs::Passing::passing), unfolding(crate::specs::Structures::last_expression))]

@@ -1,0 +1,10 @@
+pub mod Standings
+pub mod Marked
+pub mod Chained
+pub mod LineEnds
+pub mod PieceLaws
+pub mod FrameLaws
+pub mod CoordinationLaws
+pub mod MessageLaws
+pub mod Broken
+pub mod FormRefusals
