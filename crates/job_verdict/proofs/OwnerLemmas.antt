@@ -8,7 +8,7 @@ use Rattle.tape_job.specs.Job.{JobView}
 use Rattle.tape_job.specs.declared.job.AxisLine.{AxisLine}
 use Rattle.tape_job.specs.declared.job.ChannelLine.{ChannelLine}
 use Rattle.job_verdict.proofs.Runs.{HasOwnAxes, motions_owned}
-use Rattle.job_verdict.proofs.SomeLemmas.{found_passes}
+use Rattle.number_laws.proofs.Lists.{found_passes}
 use Rattle.job_verdict.specs.Channels.{items_of}
 use Rattle.job_verdict.specs.Safety.{axis_owner, OneOwner}
 use Rattle.job_verdict.specs.SmallSteps.{State, motions_of}

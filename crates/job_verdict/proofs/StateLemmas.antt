@@ -6,7 +6,7 @@ use Rattle.std.specs.Option.{option_map_or}
 use Rattle.tape_job.specs.Job.{JobView}
 use Rattle.tape_job.specs.declared.job.ChannelLine.{ChannelLine}
 use Rattle.job_verdict.specs.Channels.{start_position}
-use Rattle.axis_moves.specs.Motions.{left_at}
+use Rattle.sync_types.specs.Items.{left_at}
 use Rattle.job_verdict.specs.SmallSteps.{IsAtPlace, Spot, State, opening, span_of, has_ended, is_running, motions_of, board_position, beginning, present, SmallStep, Advance, Act, after_step, IsLawful, AreLawful, reached}
 use Rattle.job_verdict.specs.Stretches.{channel_line}
 

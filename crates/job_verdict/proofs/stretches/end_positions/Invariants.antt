@@ -1,6 +1,6 @@
 use Rattle.std.proofs.Common.{◌≡◌, ℕ, drop}
 use Rattle.job_verdict.specs.Channels.{start_position}
-use Rattle.axis_moves.specs.Motions.{left_at}
+use Rattle.sync_types.specs.Items.{left_at}
 use Rattle.job_verdict.specs.Channels.{positions_in}
 use Rattle.job_verdict.proofs.stretches.end_positions.Given as goal
 
