@@ -3,14 +3,13 @@ use Rattle.std.proofs.Common.{◌≡◌, ℕ, ℤ, pos, negsuc, ◌^◌, ◌%◌
 use Rattle.std.specs.Prelude.{⊤}
 use Rattle.std.specs.Ordering.{int_eq}
 use Rattle.std.specs.Int.RustNames.{unsigned_abs}
-use Rattle.arc_moves.specs.Arcs.{arc_moved}
-use Rattle.arc_moves.specs.declared.words.ArcWords.{ArcWords}
-use Rattle.arc_moves.proofs.AlarmLaws.{moved_listed as arc_listed}
-use Rattle.axis_moves.specs.declared.goals.Programmed.{Programmed}
-use Rattle.axis_moves.specs.declared.goals.Targets.{Targets}
-use Rattle.axis_moves.specs.Goals.{InForce}
-use Rattle.axis_moves.specs.Motions.{moved}
-use Rattle.axis_moves.proofs.AlarmLaws.{moved_listed}
+use Rattle.block_motions.specs.Arcs.{arc_motion}
+use Rattle.block_motions.specs.declared.words.ArcWords.{ArcWords}
+use Rattle.block_motions.specs.declared.goals.Programmed.{Programmed}
+use Rattle.block_motions.specs.declared.goals.Targets.{Targets}
+use Rattle.block_motions.specs.Goals.{InForce}
+use Rattle.block_motions.specs.Motions.{straight_motion}
+use Rattle.block_motions.proofs.AlarmLaws.{arc_alarm_listed, straight_alarm_listed, listed_13, listed_14, listed_18}
 use Rattle.frames.specs.Composition.{shifts, scales, mirrors, turns}
 use Rattle.frames.specs.Faults.{or_else, is_scale, is_square_angle, map_fault, maps_fault, is_factor_allowed, is_shift_allowed, image_fault, chain_fault, adding_fault}
 use Rattle.frames.specs.Images.{Image, image_of}
@@ -30,7 +29,7 @@ use Rattle.nc_faults.specs.Texts.{IsAlarmCode, alarm_texts}
 use Rattle.nc_blocks.specs.declared.blocks.FrameWord.{FrameWord}
 use Rattle.nc_blocks.specs.declared.blocks.FrameWord.TheVariants.{Trans, Atrans, Scale, Ascale, Mirror, Amirror}
 use Rattle.nc_blocks.specs.Statement.{OperandView, Value, Text, AxisName, WordView, Assign, AssignAt, G, Axis, Radius, Aux, End, Statement, WordBlock, IfJump, If, While, Until, For, EndFor, Case, RepeatFrom, RepeatBlock, Call, Shape, Turn}
-use Rattle.sync_types.specs.declared.Item.{Item}
+use Rattle.path_geometry.specs.declared.motion.Motion.{Motion}
 use Rattle.block_effects.specs.Words.{Equipment, Progress, parameter_in, value_in, index_in, begun, given, given_at, counted, assigned, aimed, meant, slot_named, is_in_slot, programmed_once, slot_programmed, named_programmed, programmed_by, centre_named, centred, rounded, curved, addressed, option_read, operand_read, aux_read, word_done, words_done}
 use Rattle.block_effects.specs.Shapes.{values_done, no_values, unless_alarmed, added, shaped, turned, plane_of, shaped_by, turned_by}
 use Rattle.block_effects.specs.Effects.{Found, word_in, in_force, is_arc, has_stray_words, stands_still, motion_made, moved_or_still, words_moved, words_run, words_effect, group_words, framed, bounded, for_continued, times_in, times_of, repeated, called, number_of, control_effect, effect_of}
@@ -77,14 +76,6 @@ listed_12 : IsAlarmCode 12
 unfolding IsAlarmCode alarm_texts
 listed_12 = refl
 
-listed_13 : IsAlarmCode 13
-unfolding IsAlarmCode alarm_texts
-listed_13 = refl
-
-listed_14 : IsAlarmCode 14
-unfolding IsAlarmCode alarm_texts
-listed_14 = refl
-
 listed_16 : IsAlarmCode 16
 unfolding IsAlarmCode alarm_texts
 listed_16 = refl
@@ -92,10 +83,6 @@ listed_16 = refl
 listed_17 : IsAlarmCode 17
 unfolding IsAlarmCode alarm_texts
 listed_17 = refl
-
-listed_18 : IsAlarmCode 18
-unfolding IsAlarmCode alarm_texts
-listed_18 = refl
 
 listed_33 : IsAlarmCode 33
 unfolding IsAlarmCode alarm_texts
@@ -294,19 +281,19 @@ listed_of : {A : Type 0} (r : Result A ℕ) → ((code : ℕ) → r ≡ Err code
 listed_of (Ok x) each = tt
 listed_of (Err code) each = each code refl
 
-module _ (slots : List (Option ℕ)) (owned : List Bool) (h : InForce) (at : ℕ → ℤ) (line : ℕ) (targets : Targets) (arc : ArcWords) where
-  made_listed : IsListed (motion_made slots owned h at line targets arc)
+module _ (slots : List (Option ℕ)) (owned : List Bool) (h : InForce) (at : ℕ → ℤ) (targets : Targets) (arc : ArcWords) where
+  made_listed : IsListed (motion_made slots owned h at targets arc)
   made_listed = by_kind (is_arc h)
     where
-      by_kind : (b : Bool) → IsListed (cond b (arc_moved slots owned h at line targets arc) (moved slots owned h at line targets))
-      by_kind true = listed_of (arc_moved slots owned h at line targets arc) (λ code is. arc_listed owned h at line arc slots targets code is)
-      by_kind false = listed_of (moved slots owned h at line targets) (λ code is. moved_listed slots owned h at line targets code is)
+      by_kind : (b : Bool) → IsListed (cond b (arc_motion slots owned h at targets arc) (straight_motion slots owned h at targets))
+      by_kind true = listed_of (arc_motion slots owned h at targets arc) (λ code is. arc_alarm_listed owned h at arc slots targets code is)
+      by_kind false = listed_of (straight_motion slots owned h at targets) (λ code is. straight_alarm_listed slots owned h at targets code is)
 
-  still_listed : (groups : List GWord) → IsListed (moved_or_still slots owned h at line groups targets arc)
+  still_listed : (groups : List GWord) → IsListed (moved_or_still slots owned h at groups targets arc)
   unfolding moved_or_still
   still_listed groups = by_words (not (is_arc h) && has_stray_words h arc) (stands_still groups)
     where
-      by_words : (stray still : Bool) → IsListed (cond {A = Result (Option Item) ℕ} stray (Err 18) (cond still (Ok None) (motion_made slots owned h at line targets arc)))
+      by_words : (stray still : Bool) → IsListed (cond {A = Result (Option Motion) ℕ} stray (Err 18) (cond still (Ok None) (motion_made slots owned h at targets arc)))
       by_words true still = listed_18
       by_words false true = tt
       by_words false false = made_listed
@@ -314,10 +301,10 @@ module _ (slots : List (Option ℕ)) (owned : List Bool) (h : InForce) (at : ℕ
 module _ (equipment : Equipment) (found : Found) (line : ℕ) (groups : List GWord) (words : List WordView) where
   words_run_listed : IsListed (words_run equipment found line groups words)
   words_run_listed =
-      bind_listed (words_done equipment (begun found.parameters) words) (λ p. words_moved equipment found line groups p.targets p.arc >>= λ item. Ok (left found p item))
+      bind_listed (words_done equipment (begun found.parameters) words) (λ p. words_moved equipment found groups p.targets p.arc >>= λ motion. Ok (left line found p motion))
       (words_listed equipment (begun found.parameters) words)
-      (λ p. bind_listed (words_moved equipment found line groups p.targets p.arc) (λ item. Ok (left found p item))
-      (still_listed equipment.slots equipment.owned (in_force equipment found groups) found.at line p.targets p.arc groups) (λ item. tt))
+      (λ p. bind_listed (words_moved equipment found groups p.targets p.arc) (λ motion. Ok (left line found p motion))
+      (still_listed equipment.slots equipment.owned (in_force equipment found groups) found.at p.targets p.arc groups) (λ motion. tt))
 
   words_effect_listed : IsListed (words_effect equipment found line groups words)
   words_effect_listed = by_test (has_group_twice groups)

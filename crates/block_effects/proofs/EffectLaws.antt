@@ -1,27 +1,24 @@
 -- The motion of a block, whatever it says.
-use Rattle.std.proofs.Common.{◌≡◌, ◌∙◌, ℕ, ℤ, Bool, true, false, not, ◌&&◌, cond, List, [], Option, None, Some, Result, Ok, Err, refl, ap, subst}
-use Rattle.arc_moves.specs.Arcs.{IsArcOf, arc_moved}
-use Rattle.arc_moves.specs.declared.words.ArcWords.{ArcWords}
-use Rattle.arc_moves.proofs.ArcLaws.{arc_is}
-use Rattle.axis_moves.specs.declared.goals.Targets.{Targets}
-use Rattle.axis_moves.specs.Goals.{InForce}
-use Rattle.axis_moves.specs.Motions.{IsMotionOf, moved}
-use Rattle.axis_moves.proofs.MotionLaws.{moved_is}
+use Rattle.std.proofs.Common.{◌≡◌, ◌∙◌, ℕ, ℤ, Bool, true, false, not, ◌&&◌, cond, List, [], Option, None, Some, option_map, Result, Ok, Err, refl, ap, subst}
+use Rattle.block_motions.specs.Arcs.{arc_motion}
+use Rattle.block_motions.specs.declared.words.ArcWords.{ArcWords}
+use Rattle.block_motions.proofs.ArcLaws.{arc_is}
+use Rattle.block_motions.specs.declared.goals.Targets.{Targets}
+use Rattle.block_motions.specs.Goals.{InForce}
+use Rattle.block_motions.specs.Motions.{IsMotionOf, straight_motion}
+use Rattle.block_motions.proofs.MotionLaws.{straight_is}
 use Rattle.frames.specs.Maps.{Map}
 use Rattle.g_groups.specs.Modal.{has_group_twice}
 use Rattle.g_groups.specs.declared.GWord.{GWord}
 use Rattle.nc_expressions.specs.Value.{◌>>=◌}
 use Rattle.nc_blocks.specs.Statement.{WordView, Statement, WordBlock, Shape, Turn}
+use Rattle.path_geometry.specs.declared.motion.Motion.{Motion}
 use Rattle.sync_types.specs.declared.Item.{Item}
 use Rattle.sync_types.specs.Items.{motion_of}
 use Rattle.block_effects.specs.Words.{Equipment, begun, words_done}
 use Rattle.block_effects.specs.Shapes.{plane_of, shaped_by, turned_by}
-use Rattle.block_effects.specs.Effects.{Effect, Turning, Found, word_in, in_force, is_arc, has_stray_words, stands_still, motion_made, moved_or_still, words_moved, words_run, words_effect, group_words, framed, turned_only, control_effect, effect_of}
+use Rattle.block_effects.specs.Effects.{Effect, Turning, Found, word_in, in_force, item_on, is_arc, has_stray_words, stands_still, motion_made, moved_or_still, words_moved, words_run, words_effect, group_words, framed, turned_only, control_effect, effect_of}
 use Rattle.block_effects.proofs.EffectSteps.{left}
-
--- an arc is a motion, and sound wherever the axes stand
-arc_motion : (axes : List Bool) (at : ℕ → ℤ) (item : Item) → IsArcOf axes at (motion_of item) → IsMotionOf axes at (motion_of item)
-arc_motion axes at item arc = record { once = arc.once; owned = arc.owned; begins = arc.begins; in_range = arc.in_range; sound = λ _. arc.sound }
 
 module _ (equipment : Equipment) (found : Found) (line : ℕ) where
   -- the motion that a block has, if it is done and has one, is one from where the axes stand
@@ -33,33 +30,38 @@ module _ (equipment : Equipment) (found : Found) (line : ℕ) where
   moves_bind (Ok x) f each = each x refl
   moves_bind (Err code) f each = tt
 
-  made_from : (h : InForce) (targets : Targets) (arc : ArcWords) (item : Item)
-      → motion_made equipment.slots equipment.owned h found.at line targets arc ≡ Ok (Some item) → IsMotionOf equipment.owned found.at (motion_of item)
-  made_from h targets arc item is = by_kind (is_arc h) is
+  made_from : (h : InForce) (targets : Targets) (arc : ArcWords) (motion : Motion)
+      → motion_made equipment.slots equipment.owned h found.at targets arc ≡ Ok (Some motion) → IsMotionOf equipment.owned found.at motion
+  made_from h targets arc motion is = by_kind (is_arc h) is
     where
       by_kind : (b : Bool)
-          → cond b (arc_moved equipment.slots equipment.owned h found.at line targets arc) (moved equipment.slots equipment.owned h found.at line targets) ≡ Ok (Some item)
-          → IsMotionOf equipment.owned found.at (motion_of item)
-      by_kind true is = arc_motion equipment.owned found.at item (arc_is equipment.owned found.at line arc item h equipment.slots targets is)
-      by_kind false is = moved_is equipment.owned found.at line equipment.slots h targets item is
+          → cond b (arc_motion equipment.slots equipment.owned h found.at targets arc) (straight_motion equipment.slots equipment.owned h found.at targets) ≡ Ok (Some motion)
+          → IsMotionOf equipment.owned found.at motion
+      by_kind true is = (arc_is equipment.owned found.at arc motion h equipment.slots targets is).of
+      by_kind false is = straight_is equipment.owned found.at equipment.slots h targets motion is
 
-  moved_from : (h : InForce) (groups : List GWord) (targets : Targets) (arc : ArcWords) (item : Item)
-      → moved_or_still equipment.slots equipment.owned h found.at line groups targets arc ≡ Ok (Some item) → IsMotionOf equipment.owned found.at (motion_of item)
+  moved_from : (h : InForce) (groups : List GWord) (targets : Targets) (arc : ArcWords) (motion : Motion)
+      → moved_or_still equipment.slots equipment.owned h found.at groups targets arc ≡ Ok (Some motion) → IsMotionOf equipment.owned found.at motion
   unfolding moved_or_still
-  moved_from h groups targets arc item is = by_words (not (is_arc h) && has_stray_words h arc) (stands_still groups) is
+  moved_from h groups targets arc motion is = by_words (not (is_arc h) && has_stray_words h arc) (stands_still groups) is
     where
       by_words : (stray still : Bool)
-          → cond {A = Result (Option Item) ℕ} stray (Err 18) (cond still (Ok None) (motion_made equipment.slots equipment.owned h found.at line targets arc)) ≡ Ok (Some item)
-          → IsMotionOf equipment.owned found.at (motion_of item)
+          → cond {A = Result (Option Motion) ℕ} stray (Err 18) (cond still (Ok None) (motion_made equipment.slots equipment.owned h found.at targets arc)) ≡ Ok (Some motion)
+          → IsMotionOf equipment.owned found.at motion
       by_words true still is = absurd cc
       by_words false true is = absurd cc
-      by_words false false is = made_from h targets arc item is
+      by_words false false is = made_from h targets arc motion is
+
+  -- the item of a motion has this motion
+  item_moves : (o : Option Motion) (item : Item) → option_map (item_on line) o ≡ Some item → o ≡ Some (motion_of item)
+  item_moves None item is = absurd cc
+  item_moves (Some motion) item is = let same : item_on line motion ≡ item = cc in ap (λ (i : Item). Some (motion_of i)) same
 
   run_moves : (groups : List GWord) (words : List WordView) → Moves (words_run equipment found line groups words)
   run_moves groups words =
-      moves_bind (words_done equipment (begun found.parameters) words) (λ p. words_moved equipment found line groups p.targets p.arc >>= λ item. Ok (left found p item))
-      (λ p done. moves_bind (words_moved equipment found line groups p.targets p.arc) (λ item. Ok (left found p item))
-      (λ o made item is. moved_from (in_force equipment found groups) groups p.targets p.arc item (made ∙ ap (λ (i : Option Item). Ok i) is)))
+      moves_bind (words_done equipment (begun found.parameters) words) (λ p. words_moved equipment found groups p.targets p.arc >>= λ motion. Ok (left line found p motion))
+      (λ p done. moves_bind (words_moved equipment found groups p.targets p.arc) (λ motion. Ok (left line found p motion))
+      (λ o made item is. moved_from (in_force equipment found groups) groups p.targets p.arc (motion_of item) (made ∙ ap (λ (m : Option Motion). Ok m) (item_moves o item is))))
 
   words_move : (groups : List GWord) (words : List WordView) → Moves (words_effect equipment found line groups words)
   words_move groups words = by_test (has_group_twice groups)

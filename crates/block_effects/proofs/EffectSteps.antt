@@ -1,22 +1,29 @@
 -- What comes of the steps of a block.
-use Rattle.std.proofs.Common.{◌≡◌, ◌∙◌, ℕ, ℤ, Bool, true, false, cond, List, ◌∷◌, Option, Result, Ok, Err, sym, ap, subst, refl}
+use Rattle.std.proofs.Common.{◌≡◌, ◌∙◌, ℕ, ℤ, Bool, true, false, cond, List, ◌∷◌, Option, None, Some, option_map, Result, Ok, Err, sym, ap, subst, refl}
 use Rattle.std.specs.Prelude.{IsTrue, IsErrAnd, ⊤}
-use Rattle.axis_moves.specs.Goals.{InForce}
+use Rattle.block_motions.specs.Goals.{InForce}
 use Rattle.g_groups.specs.declared.GWord.{GWord}
 use Rattle.g_groups.specs.Modal.{has_group_twice}
 use Rattle.nc_expressions.specs.Value.{◌>>=◌}
 use Rattle.nc_blocks.specs.Statement.{WordView, Statement, WordBlock}
-use Rattle.sync_types.specs.declared.Item.{Item}
+use Rattle.block_motions.specs.Motions.{StandsAtEndOf}
+use Rattle.path_geometry.specs.declared.motion.Motion.{Motion}
+use Rattle.sync_types.specs.Items.{StandsAtEnd}
 use Rattle.block_effects.specs.declared.course.Done.{Done}
 use Rattle.block_effects.specs.declared.situation.Situation.{Situation}
 use Rattle.block_effects.specs.Courses.{ActsAll, Does, IsLeft, Runs}
-use Rattle.block_effects.specs.Effects.{Effect, Found, acted, course_of, in_force, moved_or_still, words_moved, words_run, group_words, effect_of}
+use Rattle.block_effects.specs.Effects.{Effect, Found, acted, course_of, in_force, item_on, moved_or_still, words_moved, words_run, group_words, effect_of}
 use Rattle.block_effects.specs.Words.{Equipment, Progress, begun, no_arc, nothing_programmed, progress_of, word_done, words_done}
 use Rattle.block_effects.specs.declared.progress.WordsDone.{WordsDone}
 
 -- what a block of words leaves
-abbrev pub left : Found → Progress → Option Item → Effect
-left found p item = record { parameters = p.parameters; chain = found.chain; item = item; course = course_of p.ends }
+abbrev pub left : ℕ → Found → Progress → Option Motion → Effect
+left line found p motion = record { parameters = p.parameters; chain = found.chain; item = option_map (item_on line) motion; course = course_of p.ends }
+
+-- where a motion takes the axes, there it takes them with its line
+pub stands_with_line : (line : ℕ) (motion : Option Motion) (old new : List (Option ℤ)) → StandsAtEndOf motion old new → StandsAtEnd (option_map (item_on line) motion) old new
+stands_with_line line None old new stand = stand
+stands_with_line line (Some motion) old new stand = stand
 
 -- before its first word a block has done nothing
 pub begun_is : (parameters : List ℤ) (done : WordsDone) → done.targets ≡ nothing_programmed → done.arc ≡ no_arc → done.ends ≡ false → progress_of parameters done ≡ begun parameters
@@ -37,26 +44,26 @@ bind_pair (Err code) g f = refl
 
 module _ (equipment : Equipment) (found : Found) (line : ℕ) (groups : List GWord) (words : List WordView) where
   -- the words have acted and the axes have moved, or alarm
-  pub words_end : (r : Result (Progress × Option Item) ℕ) → acted equipment (in_force equipment found groups) found.at line groups (begun found.parameters) words ≡ r
-      → words_run equipment found line groups words ≡ (r >>= λ both. Ok (left found both.0 both.1))
+  pub words_end : (r : Result (Progress × Option Motion) ℕ) → acted equipment (in_force equipment found groups) found.at groups (begun found.parameters) words ≡ r
+      → words_run equipment found line groups words ≡ (r >>= λ both. Ok (left line found both.0 both.1))
   words_end r is =
-      bind_pair (words_done equipment (begun found.parameters) words) (λ p. words_moved equipment found line groups p.targets p.arc) (left found)
-      ∙ ap (λ (q : Result (Progress × Option Item) ℕ). q >>= λ both. Ok (left found both.0 both.1)) is
+      bind_pair (words_done equipment (begun found.parameters) words) (λ p. words_moved equipment found groups p.targets p.arc) (left line found)
+      ∙ ap (λ (q : Result (Progress × Option Motion) ℕ). q >>= λ both. Ok (left line found both.0 both.1)) is
 
-module _ (equipment : Equipment) (h : InForce) (at : ℕ → ℤ) (line : ℕ) (groups : List GWord) (p : Progress) (word : WordView) (words : List WordView) where
+module _ (equipment : Equipment) (h : InForce) (at : ℕ → ℤ) (groups : List GWord) (p : Progress) (word : WordView) (words : List WordView) where
   -- a word has acted
-  pub acts_more : (q : Progress) (result : Result ⊤ ℕ) (new : Progress) (item : Option Item) → word_done equipment p word ≡ Ok q
-      → ActsAll (acted equipment h at line groups q words) result new item → ActsAll (acted equipment h at line groups p (word ∷ words)) result new item
-  acts_more q result new item is all =
-      subst (λ (r : Result (Progress × Option Item) ℕ). ActsAll r result new item)
-      (sym (ap (λ (r : Result Progress ℕ). (r >>= λ o. words_done equipment o words) >>= λ o. moved_or_still equipment.slots equipment.owned h at line groups o.targets o.arc >>= λ item. Ok (o, item)) is)) all
+  pub acts_more : (q : Progress) (result : Result ⊤ ℕ) (new : Progress) (motion : Option Motion) → word_done equipment p word ≡ Ok q
+      → ActsAll (acted equipment h at groups q words) result new motion → ActsAll (acted equipment h at groups p (word ∷ words)) result new motion
+  acts_more q result new motion is all =
+      subst (λ (r : Result (Progress × Option Motion) ℕ). ActsAll r result new motion)
+      (sym (ap (λ (r : Result Progress ℕ). (r >>= λ o. words_done equipment o words) >>= λ o. moved_or_still equipment.slots equipment.owned h at groups o.targets o.arc >>= λ motion. Ok (o, motion)) is)) all
 
   -- or alarms
-  pub acts_not : (code : ℕ) (result : Result ⊤ ℕ) (new : Progress) (item : Option Item) → word_done equipment p word ≡ Err code → IsErrAnd result (λ e. e ≡ code)
-      → ActsAll (acted equipment h at line groups p (word ∷ words)) result new item
-  acts_not code (Ok done) new item is same = absurd same
-  acts_not code (Err e) new item is same =
-      ap (λ (r : Result Progress ℕ). (r >>= λ o. words_done equipment o words) >>= λ o. moved_or_still equipment.slots equipment.owned h at line groups o.targets o.arc >>= λ item. Ok (o, item)) is
+  pub acts_not : (code : ℕ) (result : Result ⊤ ℕ) (new : Progress) (motion : Option Motion) → word_done equipment p word ≡ Err code → IsErrAnd result (λ e. e ≡ code)
+      → ActsAll (acted equipment h at groups p (word ∷ words)) result new motion
+  acts_not code (Ok done) new motion is same = absurd same
+  acts_not code (Err e) new motion is same =
+      ap (λ (r : Result Progress ℕ). (r >>= λ o. words_done equipment o words) >>= λ o. moved_or_still equipment.slots equipment.owned h at groups o.targets o.arc >>= λ motion. Ok (o, motion)) is
       ∙ ap (λ (k : ℕ). Err k) (sym same)
 
 -- what a block has done is what it does

@@ -54,8 +54,8 @@ module _ (equipment : Equipment) (found : Found) (line : ℕ) where
 
   run_stays : (groups : List GWord) (words : List WordView) → Stays (words_run equipment found line groups words)
   run_stays groups words =
-      stays_bind (words_done equipment (begun found.parameters) words) (λ p. words_moved equipment found line groups p.targets p.arc >>= λ item. Ok (left found p item))
-      (λ p. stays_bind (words_moved equipment found line groups p.targets p.arc) (λ item. Ok (left found p item)) (λ o. by_end p.ends))
+      stays_bind (words_done equipment (begun found.parameters) words) (λ p. words_moved equipment found groups p.targets p.arc >>= λ motion. Ok (left line found p motion))
+      (λ p. stays_bind (words_moved equipment found groups p.targets p.arc) (λ motion. Ok (left line found p motion)) (λ o. by_end p.ends))
     where
       by_end : {Q : Type 0} (ends : Bool) → searches (course_of ends) ≡ true → Q
       by_end true is = absurd cc

@@ -1,12 +1,14 @@
 -- Steps. What the code answers of a block, as a contract sees it.
-use Rattle.std.specs.Prelude.{◌≡◌, ⊤, MatchResult, ℕ, ℤ, List, Option, Result, Ok, Err}
-use Rattle.axis_moves.specs.Motions.{stands}
+use Rattle.std.specs.Prelude.{◌≡◌, ⊤, MatchResult, ℕ, ℤ, List, [], ◌∷◌, ◌++◌, Option, Result, Ok, Err}
+use Rattle.axis_sets.specs.Positions.{stands}
 use Rattle.frames.specs.Composition.{IsComposed}
 use Rattle.frames.specs.Maps.{Map}
 use Rattle.frames.specs.declared.Frame.{Frame}
+use Rattle.g_groups.specs.Modal.{IsAfter}
 use Rattle.g_groups.specs.declared.GWord.{GWord}
+use Rattle.nc_blocks.specs.Statement.{Statement, WordView}
 use Rattle.nc_control_flow.specs.Moves.{outcome_view}
-use Rattle.sync_types.specs.declared.Item.{Item}
+use Rattle.path_geometry.specs.declared.motion.Motion.{Motion}
 use Rattle.block_effects.specs.declared.course.BlockFault.{BlockFault}
 use Rattle.block_effects.specs.declared.course.BlockFault.TheVariants.{Alarm, NoMemory}
 use Rattle.block_effects.specs.declared.course.Course as answer
@@ -14,7 +16,7 @@ use Rattle.block_effects.specs.declared.course.Course.TheVariants as course
 use Rattle.block_effects.specs.declared.course.Done.{Done}
 use Rattle.block_effects.specs.declared.situation.ChannelAxes.{ChannelAxes}
 use Rattle.block_effects.specs.declared.situation.Situation.{Situation}
-use Rattle.block_effects.specs.Effects.{Course, Goes, Ends, Calls, Effect, Turning, Found}
+use Rattle.block_effects.specs.Effects.{Course, Goes, Ends, Calls, Effect, Turning, Found, effect_of, words_run}
 use Rattle.block_effects.specs.Words.{Equipment, Progress}
 
 abbrev pub course_view : answer.Course → Course
@@ -54,8 +56,8 @@ abbrev pub Runs : Result Effect ℕ → Result Done ℕ → Situation → Type 0
 Runs effect result new = MatchResult result (λ done. Does effect done new) (λ code. effect ≡ Err code)
 
 -- the words of a block have done this, and then it has this motion, or alarms
-abbrev pub ActsAll : Result (Progress × Option Item) ℕ → Result ⊤ ℕ → Progress → Option Item → Type 0
-ActsAll acted result new item = MatchResult result (λ _. acted ≡ Ok (new, item)) (λ code. acted ≡ Err code)
+abbrev pub ActsAll : Result (Progress × Option Motion) ℕ → Result ⊤ ℕ → Progress → Option Motion → Type 0
+ActsAll acted result new motion = MatchResult result (λ _. acted ≡ Ok (new, motion)) (λ code. acted ≡ Err code)
 
 -- the frame is that of the chain that was made
 abbrev pub IsMade : Result (List Map) ℕ → Frame → Type 0
@@ -72,3 +74,34 @@ turning_of parameters course = record { parameters = parameters; course = course
 
 abbrev pub Turns : Result Turning ℕ → Result answer.Course ℕ → List ℤ → Type 0
 Turns turning result parameters = MatchResult result (λ course. turning ≡ Ok (turning_of parameters course)) (λ code. turning ≡ Err code)
+
+-- ---- what a block finds
+
+-- this holds of all that a block can find in a situation: of all blocks that may have come before it, and of each chain of maps that makes up its frame
+abbrev pub HoldsOfAllFound : Situation → (List (List GWord) → Type 0) → (Found → Type 0) → Type 0
+HoldsOfAllFound old MayComeBefore Holds =
+    (blocks : List (List GWord)) (chain : List Map) → MayComeBefore blocks → IsComposed chain old.frame → Holds (found_in blocks chain old)
+
+-- the block does in a situation what is defined, or has the alarm that is defined; memory may want
+abbrev pub DoesAsDefined : Equipment → Situation → ℕ → Statement → Statement → Result Done BlockFault → Situation → Type 0
+DoesAsDefined equipment old line opener statement result new =
+    HoldsOfAllFound old (λ blocks. IsAfter blocks old.modal) (λ found. Leaves (effect_of equipment found line opener statement) result new)
+
+-- the block does in a situation what is defined, or has the alarm that is defined
+abbrev pub RunsAsDefined : Equipment → Situation → ℕ → Statement → Statement → Result Done ℕ → Situation → Type 0
+RunsAsDefined equipment old line opener statement result new =
+    HoldsOfAllFound old (λ blocks. IsAfter blocks old.modal) (λ found. Runs (effect_of equipment found line opener statement) result new)
+
+-- the same under the modal words that hold with the words of the block
+abbrev pub RunsUnder : List ℕ → List GWord → Equipment → Situation → ℕ → Statement → Statement → Result Done ℕ → Situation → Type 0
+RunsUnder modal words equipment old line opener statement result new =
+    HoldsOfAllFound old (λ blocks. IsAfter (blocks ++ words ∷ []) modal) (λ found. Runs (effect_of equipment found line opener statement) result new)
+
+-- the same of a block of words
+abbrev pub WordsRunUnder : List ℕ → List GWord → Equipment → Situation → ℕ → List WordView → Result Done ℕ → Situation → Type 0
+WordsRunUnder modal groups equipment old line words result new =
+    HoldsOfAllFound old (λ blocks. IsAfter (blocks ++ groups ∷ []) modal) (λ found. Runs (words_run equipment found line groups words) result new)
+
+-- the modal words afterwards are those with the words of the block
+abbrev pub ModalIsAfter : List GWord → Situation → Situation → Type 0
+ModalIsAfter words old new = (blocks : List (List GWord)) → IsAfter blocks old.modal → IsAfter (blocks ++ words ∷ []) new.modal

@@ -4,11 +4,11 @@ use Rattle.std.specs.List.{list_any}
 use Rattle.std.specs.Option.{option_or}
 use Rattle.std.specs.Ordering.{int_eq}
 use Rattle.std.specs.Str.{bytes_eq}
-use Rattle.arc_moves.specs.Arcs.{is_any, arc_moved}
-use Rattle.arc_moves.specs.declared.words.ArcWords.{ArcWords}
-use Rattle.axis_moves.specs.Goals.{InForce}
-use Rattle.axis_moves.specs.Motions.{moved}
-use Rattle.axis_moves.specs.declared.goals.Targets.{Targets}
+use Rattle.block_motions.specs.Arcs.{is_any, arc_motion}
+use Rattle.block_motions.specs.declared.words.ArcWords.{ArcWords}
+use Rattle.block_motions.specs.Goals.{InForce}
+use Rattle.block_motions.specs.Motions.{straight_motion}
+use Rattle.block_motions.specs.declared.goals.Targets.{Targets}
 use Rattle.frames.specs.Maps.{Map}
 use Rattle.g_groups.specs.Modal.{modal_word, has_group_twice}
 use Rattle.g_groups.specs.declared.GWord.{GWord}
@@ -18,7 +18,9 @@ use Rattle.nc_control_flow.specs.Moves.{OutcomeView}
 use Rattle.nc_control_flow.specs.Moves as outcome
 use Rattle.nc_expressions.specs.Tree.{Tree}
 use Rattle.nc_expressions.specs.Value.{◌>>=◌, is_true}
+use Rattle.path_geometry.specs.declared.motion.Motion.{Motion}
 use Rattle.sync_types.specs.declared.Item.{Item}
+use Rattle.sync_types.specs.declared.Part.TheVariants.{Move}
 use Rattle.block_effects.specs.Shapes.{shaped_by, turned_by, plane_of}
 use Rattle.block_effects.specs.Words.{Equipment, Progress, parameter_in, value_in, given, counted, begun, words_done}
 
@@ -28,7 +30,7 @@ pub data Course : Type 0 where
   Ends : Course
   Calls : ℕ → ℕ → Course
 
--- what a block leaves: the parameters, the frame, its motion, and what becomes of control
+-- what a block leaves: the parameters, the frame, its motion with its line, and what becomes of control
 pub record Effect : Type 0 where
   pub parameters : List ℤ
   pub chain : List Map
@@ -184,36 +186,40 @@ abbrev pub has_stray_words : InForce → ArcWords → Bool
 has_stray_words h words = is_some words.radius || (not (h.word 1 == 33) && is_any words.centre)
 
 -- an arc, or else a straight line or a rapid
-abbrev pub motion_made : List (Option ℕ) → List Bool → InForce → (ℕ → ℤ) → ℕ → Targets → ArcWords → Result (Option Item) ℕ
-motion_made slots owned h at line targets arc = if is_arc h then arc_moved slots owned h at line targets arc else moved slots owned h at line targets
+abbrev pub motion_made : List (Option ℕ) → List Bool → InForce → (ℕ → ℤ) → Targets → ArcWords → Result (Option Motion) ℕ
+motion_made slots owned h at targets arc = if is_arc h then arc_motion slots owned h at targets arc else straight_motion slots owned h at targets
 
 -- the motion of a block with these words of groups that programs these values and these words of an arc; none where it stands still. Alarm 18, before the others of a motion and also where it stands still, where it makes no arc and has words of one that may not stand there
-unfoldable pub moved_or_still : List (Option ℕ) → List Bool → InForce → (ℕ → ℤ) → ℕ → List GWord → Targets → ArcWords → Result (Option Item) ℕ
-moved_or_still slots owned h at line words targets arc =
+unfoldable pub moved_or_still : List (Option ℕ) → List Bool → InForce → (ℕ → ℤ) → List GWord → Targets → ArcWords → Result (Option Motion) ℕ
+moved_or_still slots owned h at words targets arc =
     if not (is_arc h) && has_stray_words h arc then Err 18
     else if stands_still words then Ok None
-    else motion_made slots owned h at line targets arc
+    else motion_made slots owned h at targets arc
 
-abbrev pub words_moved : Equipment → Found → ℕ → List GWord → Targets → ArcWords → Result (Option Item) ℕ
-words_moved equipment found line words targets arc =
-    moved_or_still equipment.slots equipment.owned (in_force equipment found words) found.at line words targets arc
+abbrev pub words_moved : Equipment → Found → List GWord → Targets → ArcWords → Result (Option Motion) ℕ
+words_moved equipment found words targets arc =
+    moved_or_still equipment.slots equipment.owned (in_force equipment found words) found.at words targets arc
+
+-- a motion is what a block on this line does
+abbrev pub item_on : ℕ → Motion → Item
+item_on line motion = record { line = line; part = Move motion }
 
 abbrev pub course_of : Bool → Course
 course_of ends = if ends then Ends else Goes outcome.Plain
 
 -- what words do behind others that have come so far, and the motion of the block behind its last word, or the first alarm
-abbrev pub acted : Equipment → InForce → (ℕ → ℤ) → ℕ → List GWord → Progress → List WordView → Result (Progress × Option Item) ℕ
-acted equipment h at line groups p words =
+abbrev pub acted : Equipment → InForce → (ℕ → ℤ) → List GWord → Progress → List WordView → Result (Progress × Option Motion) ℕ
+acted equipment h at groups p words =
     words_done equipment p words >>= λ q.
-    moved_or_still equipment.slots equipment.owned h at line groups q.targets q.arc >>= λ item.
-    Ok (q, item)
+    moved_or_still equipment.slots equipment.owned h at groups q.targets q.arc >>= λ motion.
+    Ok (q, motion)
 
 -- the words act from left to right, and then the axes move
 abbrev pub words_run : Equipment → Found → ℕ → List GWord → List WordView → Result Effect ℕ
 words_run equipment found line groups words =
     words_done equipment (begun found.parameters) words >>= λ p.
-    words_moved equipment found line groups p.targets p.arc >>= λ item.
-    Ok (record { parameters = p.parameters; chain = found.chain; item = item; course = course_of p.ends })
+    words_moved equipment found groups p.targets p.arc >>= λ motion.
+    Ok (record { parameters = p.parameters; chain = found.chain; item = option_map (item_on line) motion; course = course_of p.ends })
 
 -- alarm 10, before all others, where two words of one group stand in the block
 abbrev pub words_effect : Equipment → Found → ℕ → List GWord → List WordView → Result Effect ℕ

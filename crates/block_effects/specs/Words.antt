@@ -2,9 +2,9 @@
 use Rattle.std.specs.Prelude.{◌≡◌, ◌≤◌, ⊤, MatchOption, MatchResult, IsOk, ℕ, ◌==◌, ℤ, pos, ◌+ℤ◌, Bool, true, false, if◌then◌else◌, is_some, List, [], ◌∷◌, codes, replicate, slice_index_or, slice_set, Option, None, Some, Result, Ok, Err}
 use Rattle.std.specs.List.{list_any}
 use Rattle.std.specs.Str.{bytes_eq}
-use Rattle.arc_moves.specs.declared.words.ArcWords.{ArcWords}
-use Rattle.axis_moves.specs.declared.goals.Programmed.{Programmed}
-use Rattle.axis_moves.specs.declared.goals.Targets.{Targets}
+use Rattle.block_motions.specs.declared.words.ArcWords.{ArcWords}
+use Rattle.block_motions.specs.declared.goals.Programmed.{Programmed}
+use Rattle.block_motions.specs.declared.goals.Targets.{Targets}
 use Rattle.nc_blocks.specs.declared.blocks.Measure.{Measure}
 use Rattle.nc_expressions.specs.Symbols.{index_of}
 use Rattle.nc_expressions.specs.Tree.{Tree}

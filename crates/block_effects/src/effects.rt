@@ -1,17 +1,16 @@
 //! What a block does.
 
-ghost use Rattle.std.specs.Prelude.{◌≡◌, ℕ, ℤ, List, [], ◌∷◌, ◌++◌, All, IsTrue, IfOk, OnErr, None, map, not};
-ghost use Rattle.axis_moves.specs.Goals.{InForce, AreInForce};
-ghost use Rattle.axis_moves.specs.Motions.{stands, StandsAtEnd};
-ghost use Rattle.frames.specs.Composition.{IsComposed};
-ghost use Rattle.frames.specs.Maps.{Map};
-ghost use Rattle.g_groups.specs.Modal.{IsAfter, has_group_twice};
-ghost use Rattle.g_groups.specs.declared.GWord.{GWord};
+ghost use Rattle.std.specs.Prelude.{◌≡◌, All, IsTrue, IfOk, OnErr, None, map, not, option_map};
+ghost use Rattle.block_motions.specs.Goals.{InForce, AreInForce};
+ghost use Rattle.axis_sets.specs.Positions.{stands};
+ghost use Rattle.block_motions.specs.Motions.{StandsAtEndOf};
+ghost use Rattle.sync_types.specs.Items.{StandsAtEnd};
+ghost use Rattle.g_groups.specs.Modal.{has_group_twice};
 ghost use Rattle.nc_control_flow.specs.Moves as outcome;
 ghost use Rattle.nc_blocks.specs.Indices.{StatementFits, WordFits};
 ghost use Rattle.nc_blocks.specs.Statement.{statement_view, word_view};
 ghost use Rattle.block_effects.specs.Effects as model;
-ghost use Rattle.block_effects.specs.Courses.{equipment_of, found_in, ActsAll, Leaves, Runs, Turns, course_view};
+ghost use Rattle.block_effects.specs.Courses.{equipment_of, course_view, ActsAll, DoesAsDefined, ModalIsAfter, RunsAsDefined, RunsUnder, Turns, WordsRunUnder};
 ghost use Rattle.block_effects.specs.Words.{progress_of};
 
 use crate::control::{begin_for, called, choice, conditional, continue_for, jumped, leap, repeat};
@@ -21,14 +20,14 @@ use crate::parameters::Parameters;
 use crate::progress::WordsDone;
 use crate::shapes::{shape, turn};
 use crate::situation::{ChannelAxes, Situation};
-use arc_moves::{ArcWords, is_any, make_arc};
-use axis_moves::{Conditions, Targets, make_item, word};
 use axis_sets::Positions;
+use block_motions::{ArcWords, Conditions, Targets, arc_motion, is_any, straight_motion, word};
 use g_groups::{GWord, Modal, apply};
 use nc_blocks::{Stmt, Word};
 use nc_control_flow::Outcome;
 use std::alloc::Global;
-use sync_types::Item;
+use path_geometry::Motion;
+use sync_types::{Item, Part};
 
 /// The group of G0, G1, G2, G3 and G33.
 const MOTION_GROUP: u8 = 1;
@@ -56,7 +55,7 @@ fn framed<'a>() -> Done<'a>
 }
 
 /// Whether a block makes an arc.
-#[tactic(auto, using(axis_moves::proofs::Words::has_motion_word))]
+#[tactic(auto, using(block_motions::proofs::HeldWords::has_motion_word))]
 fn is_arc(conditions: &Conditions) -> bool
     ensures { (h : InForce) → AreInForce h conditions.now → result ≡ model.is_arc h }
 {
@@ -65,31 +64,30 @@ fn is_arc(conditions: &Conditions) -> bool
 }
 
 /// Whether there are words of an arc that may not stand where there is none.
-#[tactic(auto, using(axis_moves::proofs::Words::has_motion_word))]
+#[tactic(auto, using(block_motions::proofs::HeldWords::has_motion_word))]
 fn has_stray_words(conditions: &Conditions, arc: &ArcWords) -> bool
     ensures { (h : InForce) → AreInForce h conditions.now → result ≡ model.has_stray_words h arc.now }
 {
     arc.radius.is_some() || (word(conditions, MOTION_GROUP) != 33 && is_any(&arc.centre))
 }
 
-/// Makes the motion of a block: an arc, or else a straight line or a rapid.
+/// Gives the motion of a block: an arc, or else a straight line or a rapid.
 fn make_motion(
     axes: &ChannelAxes,
     conditions: &Conditions,
-    line: u32,
     targets: &Targets,
     arc: &ArcWords,
     at: &mut Positions,
-) -> Result<Option<Item>, u16>
+) -> Result<Option<Motion>, u16>
     ensures made { (h : InForce) → AreInForce h conditions.now
-        → result ≡ model.motion_made axes.now.slots axes.now.owned h (stands at.old) line targets.now arc.now }
-    ensures stand { IfOk result (λ item. StandsAtEnd item at.old at.new) }
+        → result ≡ model.motion_made axes.now.slots axes.now.owned h (stands at.old) targets.now arc.now }
+    ensures stand { IfOk result (λ motion. StandsAtEndOf motion at.old at.new) }
     ensures unmoved { OnErr result (at.new ≡ at.old) }
 {
     if is_arc(conditions) {
-        make_arc(line, &axes.slots, axes.owned, conditions, targets, arc, at)
+        arc_motion(&axes.slots, axes.owned, conditions, targets, arc, at)
     } else {
-        make_item(line, &axes.slots, axes.owned, conditions, targets, at)
+        straight_motion(&axes.slots, axes.owned, conditions, targets, at)
     }
 }
 
@@ -98,14 +96,13 @@ fn make_motion(
 fn move_axes(
     axes: &ChannelAxes,
     conditions: &Conditions,
-    line: u32,
     groups: &[GWord],
     done: &WordsDone,
     at: &mut Positions,
-) -> Result<Option<Item>, u16>
+) -> Result<Option<Motion>, u16>
     ensures made { (h : InForce) → AreInForce h conditions.now
-        → result ≡ model.moved_or_still axes.now.slots axes.now.owned h (stands at.old) line groups.now done.now.targets done.now.arc }
-    ensures stand { IfOk result (λ item. StandsAtEnd item at.old at.new) }
+        → result ≡ model.moved_or_still axes.now.slots axes.now.owned h (stands at.old) groups.now done.now.targets done.now.arc }
+    ensures stand { IfOk result (λ motion. StandsAtEndOf motion at.old at.new) }
     ensures unmoved { OnErr result (at.new ≡ at.old) }
 {
     if !is_arc(conditions) && has_stray_words(conditions, &done.arc) {
@@ -114,7 +111,7 @@ fn move_axes(
     if stands_still(groups) {
         return Ok(None);
     }
-    make_motion(axes, conditions, line, &done.targets, &done.arc, at)
+    make_motion(axes, conditions, &done.targets, &done.arc, at)
 }
 
 /// Does what these words of a block say, from left to right, and then moves the axes as all its words say. After an alarm
@@ -123,7 +120,6 @@ fn run_from<S: Setup>(
     setup: &S,
     axes: &ChannelAxes,
     conditions: &Conditions,
-    line: u32,
     groups: &[GWord],
     words: &[Word],
     parameters: &mut Parameters,
@@ -133,24 +129,37 @@ fn run_from<S: Setup>(
     requires { All WordFits (map word_view words.now) }
     ensures acts { (h : InForce) → AreInForce h conditions.now
         → ActsAll (model.acted (equipment_of (S.names setup.now) (S.axis_named setup.now) (S.offset setup.now) axes.now)
-        h (stands at.old) line groups.now (progress_of parameters.old done.old) (map word_view words.now)) result (progress_of parameters.new done.new) done.new.item }
-    ensures stand { IfOk result (λ _. StandsAtEnd done.new.item at.old at.new) }
+        h (stands at.old) groups.now (progress_of parameters.old done.old) (map word_view words.now)) result (progress_of parameters.new done.new) done.new.motion }
+    ensures stand { IfOk result (λ _. StandsAtEndOf done.new.motion at.old at.new) }
     ensures parameters { OnErr result (parameters.new ≡ parameters.old) }
     ensures at { OnErr result (at.new ≡ at.old) }
 {
     let [word, others @ ..] = words else {
-        done.item = move_axes(axes, conditions, line, groups, done, at)?;
+        done.motion = move_axes(axes, conditions, groups, done, at)?;
         return Ok(());
     };
     let change = done.act(setup, axes, parameters, word)?;
     match run_from(
-        setup, axes, conditions, line, groups, others, parameters, at, done,
+        setup, axes, conditions, groups, others, parameters, at, done,
     ) {
         Ok(()) => Ok(()),
         Err(code) => {
             parameters.undo_some(change);
             Err(code)
         }
+    }
+}
+
+/// The motion of a block on this line, with the line.
+fn item_on(line: u32, motion: Option<Motion>) -> Option<Item>
+    ensures { result ≡ option_map (model.item_on line) motion }
+{
+    match motion {
+        Some(motion) => Some(Item {
+            line,
+            part: Part::Move(motion),
+        }),
+        None => None,
     }
 }
 
@@ -165,10 +174,8 @@ fn run_words<'a, S: Setup>(
     words: &[Word],
 ) -> Result<Done<'a>, u16>
     requires { All WordFits (map word_view words.now) }
-    ensures runs { (blocks : List (List GWord)) (chain : List Map) → IsAfter (blocks ++ groups.now ∷ []) modal.now
-        → IsComposed chain situation.old.frame
-        → Runs (model.words_run (equipment_of (S.names setup.now) (S.axis_named setup.now) (S.offset setup.now) axes.now)
-        (found_in blocks chain situation.old) line groups.now (map word_view words.now)) result situation.new }
+    ensures runs { WordsRunUnder modal.now groups.now (equipment_of (S.names setup.now) (S.axis_named setup.now) (S.offset setup.now) axes.now)
+        situation.old line (map word_view words.now) result situation.new }
     ensures modal { situation.new.modal ≡ situation.old.modal }
     ensures stand { IfOk result (λ done. StandsAtEnd done.item situation.old.at situation.new.at) }
     ensures unchanged { OnErr result (situation.new ≡ situation.old) }
@@ -179,16 +186,15 @@ fn run_words<'a, S: Setup>(
         setup,
         axes,
         &conditions,
-        line,
         groups,
         words,
         &mut situation.parameters,
         &mut situation.at,
         &mut done,
     )?;
-    let WordsDone { item, ends, .. } = done;
+    let WordsDone { motion, ends, .. } = done;
     Ok(Done {
-        item,
+        item: item_on(line, motion),
         course: course_of(ends),
     })
 }
@@ -238,10 +244,8 @@ fn run_stmt<'a, S: Setup>(
     requires once { IsTrue (not (has_group_twice groups.now)) }
     requires opener { StatementFits (statement_view opener.now) }
     requires fits { StatementFits (statement_view stmt.now) }
-    ensures runs { (blocks : List (List GWord)) (chain : List Map) → IsAfter (blocks ++ groups.now ∷ []) modal.now
-        → IsComposed chain situation.old.frame
-        → Runs (model.effect_of (equipment_of (S.names setup.now) (S.axis_named setup.now) (S.offset setup.now) axes.now)
-        (found_in blocks chain situation.old) line (statement_view opener.now) (statement_view stmt.now)) result situation.new }
+    ensures runs { RunsUnder modal.now groups.now (equipment_of (S.names setup.now) (S.axis_named setup.now) (S.offset setup.now) axes.now)
+        situation.old line (statement_view opener.now) (statement_view stmt.now) result situation.new }
     ensures modal { situation.new.modal ≡ situation.old.modal }
     ensures stand { IfOk result (λ done. StandsAtEnd done.item situation.old.at situation.new.at) }
     ensures unchanged { OnErr result (situation.new ≡ situation.old) }
@@ -289,12 +293,9 @@ fn run<'a, S: Setup>(
     requires groups { groups.now ≡ model.group_words (statement_view stmt.now) }
     requires opener { StatementFits (statement_view opener.now) }
     requires fits { StatementFits (statement_view stmt.now) }
-    ensures runs { (blocks : List (List GWord)) (chain : List Map) → IsAfter blocks situation.old.modal
-        → IsComposed chain situation.old.frame
-        → Runs (model.effect_of (equipment_of (S.names setup.now) (S.axis_named setup.now) (S.offset setup.now) axes.now)
-        (found_in blocks chain situation.old) line (statement_view opener.now) (statement_view stmt.now)) result situation.new }
-    ensures modal { IfOk result (λ _. (blocks : List (List GWord)) → IsAfter blocks situation.old.modal
-        → IsAfter (blocks ++ groups.now ∷ []) situation.new.modal) }
+    ensures runs { RunsAsDefined (equipment_of (S.names setup.now) (S.axis_named setup.now) (S.offset setup.now) axes.now)
+        situation.old line (statement_view opener.now) (statement_view stmt.now) result situation.new }
+    ensures modal { IfOk result (λ _. ModalIsAfter groups.now situation.old situation.new) }
     ensures stand { IfOk result (λ done. StandsAtEnd done.item situation.old.at situation.new.at) }
     ensures unchanged { OnErr result (situation.new ≡ situation.old) }
 {
@@ -310,7 +311,7 @@ fn run<'a, S: Setup>(
 /// the left 1 to 4 of its values, 14 where a slot has no axis or the job has no axis of the name, 16 where an axis of a
 /// slot is named itself, 17 where an axis, a word of the centre or the radius is programmed twice. Then comes 18 where
 /// no arc is made, under G0, G1 or G33, and a radius stands there, or under G0 or G1 a word of the centre, also in a
-/// block that moves nothing; then under G2 and G3 the alarms of `make_arc`, else those of `make_item`. A block with G4,
+/// block that moves nothing; then under G2 and G3 the alarms of `arc_motion`, else those of `straight_motion`. A block with G4,
 /// G25 or G26 moves nothing and has no further alarm.
 ///
 /// Those of a block of a frame: 1 to 4 of its values, then 11 and 12 of its maps, then 11 and 13 of the whole chain.
@@ -331,12 +332,9 @@ pub fn execute<'a, S: Setup>(
 ) -> Result<Done<'a>, BlockFault>
     requires opener { StatementFits (statement_view opener.now) }
     requires fits { StatementFits (statement_view stmt.now) }
-    ensures leaves { (blocks : List (List GWord)) (chain : List Map) → IsAfter blocks situation.old.modal
-        → IsComposed chain situation.old.frame
-        → Leaves (model.effect_of (equipment_of (S.names setup.now) (S.axis_named setup.now) (S.offset setup.now) axes.now)
-        (found_in blocks chain situation.old) line (statement_view opener.now) (statement_view stmt.now)) result situation.new }
-    ensures modal { IfOk result (λ _. (blocks : List (List GWord)) → IsAfter blocks situation.old.modal
-        → IsAfter (blocks ++ model.group_words (statement_view stmt.now) ∷ []) situation.new.modal) }
+    ensures leaves { DoesAsDefined (equipment_of (S.names setup.now) (S.axis_named setup.now) (S.offset setup.now) axes.now)
+        situation.old line (statement_view opener.now) (statement_view stmt.now) result situation.new }
+    ensures modal { IfOk result (λ _. ModalIsAfter (model.group_words (statement_view stmt.now)) situation.old situation.new) }
     ensures stand { IfOk result (λ done. StandsAtEnd done.item situation.old.at situation.new.at) }
     ensures unchanged { OnErr result (situation.new ≡ situation.old) }
 {

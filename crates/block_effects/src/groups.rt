@@ -6,12 +6,12 @@ ghost use Rattle.frames.specs.Maps.{Map};
 ghost use Rattle.g_groups.specs.Modal.{IsAfter, modal_word};
 ghost use Rattle.g_groups.specs.declared.GWord.{GWord};
 ghost use Rattle.nc_blocks.specs.Statement.{statement_view, word_view};
-ghost use Rattle.axis_moves.specs.Goals.{AreInForce};
+ghost use Rattle.block_motions.specs.Goals.{AreInForce};
 ghost use Rattle.block_effects.specs.Effects as model;
 ghost use Rattle.block_effects.specs.Shapes.{plane_of};
 
 use crate::course::Setup;
-use axis_moves::Conditions;
+use block_motions::Conditions;
 use frames::{Frame, Plane};
 use g_groups::{GWord, Modal};
 use nc_blocks::{Stmt, Word};

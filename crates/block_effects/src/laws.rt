@@ -1,7 +1,7 @@
 //! Laws of blocks. The functions do nothing: their contracts are the laws.
 
 ghost use Rattle.std.specs.Prelude.{◌≡◌, ℕ, Option, Some, Ok, Err};
-ghost use Rattle.axis_moves.specs.Motions.{IsMotionOf};
+ghost use Rattle.block_motions.specs.Motions.{IsMotionOf};
 ghost use Rattle.nc_blocks.specs.Statement.{Statement};
 ghost use Rattle.nc_faults.specs.Texts.{IsAlarmCode};
 ghost use Rattle.sync_types.specs.declared.Item.{Item};

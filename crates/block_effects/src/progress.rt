@@ -10,13 +10,12 @@ ghost use Rattle.block_effects.specs.Courses.{equipment_of};
 use crate::course::Setup;
 use crate::parameters::{Change, Parameters};
 use crate::situation::ChannelAxes;
-use arc_moves::ArcWords;
-use axis_moves::{Programmed, Targets};
 use axis_sets::AxisId;
+use block_motions::{ArcWords, Programmed, Targets};
 use micro_units::Num;
 use nc_blocks::{Operand, Word};
 use nc_expressions::{Expr, eval};
-use sync_types::Item;
+use path_geometry::Motion;
 
 /// What the words of a block have done so far, besides what they gave parameters.
 #[derive(Drop)]
@@ -28,7 +27,7 @@ pub(crate) struct WordsDone {
     /// Whether the program ends behind the block.
     pub(crate) ends: bool,
     /// The motion of the block, once its last word has acted.
-    pub(crate) item: Option<Item>,
+    pub(crate) motion: Option<Motion>,
 }
 
 /// The slot with this letter, 0, 1 and 2 for X, Y and Z.
@@ -218,7 +217,7 @@ impl WordsDone {
                 radius: None,
             },
             ends: false,
-            item: None,
+            motion: None,
         }
     }
 

@@ -4,6 +4,7 @@ pub mod Rows
 pub mod Steps
 pub mod RunLaws
 pub mod Fitting
+pub mod Follows
 pub mod Placed
 pub mod Searching
 pub mod Segments

@@ -3,7 +3,7 @@ use Rattle.std.proofs.Common.{◌≡◌, ◌∙◌, List, [], ◌∷◌, ◌++�
 use Rattle.std.proofs.lemmas.List.Elements.{filter_map-append}
 use Rattle.std.specs.Option.{option_to_list}
 use Rattle.sync_types.specs.declared.Item.{Item}
-use Rattle.axis_moves.proofs.Rows.{filter_map-one}
+use Rattle.number_laws.proofs.Lists.{filter_map-one}
 use Rattle.channel_machine.specs.Run.{Executed, items_of}
 
 pub fold-push : {X Y : Type 0} (f : Y → X → Y) (y : Y) (xs : List X) (x : X) → fold f y (xs ++ x ∷ []) ≡ f (fold f y xs) x

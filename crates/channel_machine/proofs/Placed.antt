@@ -3,7 +3,7 @@ use Rattle.std.proofs.Common.{◌≡◌, ◌∙◌, ℕ, zero, suc, ◌+◌, ◌
 use mathlib.Core.Path.{fun_ext}
 use Rattle.std.proofs.lemmas.Bool.Decides.{nat_tests}
 use Rattle.std.proofs.lemmas.List.{length-map}
-use Rattle.axis_moves.specs.Motions.{stands}
+use Rattle.axis_sets.specs.Positions.{stands}
 use Rattle.block_effects.specs.Effects.{Course, Found, effect_of}
 use Rattle.block_effects.specs.Words.{Equipment}
 use Rattle.frames.specs.Maps.{Map}

@@ -4,7 +4,7 @@ use Rattle.std.specs.Option.{option_to_list}
 use Rattle.block_effects.specs.Effects.{Course, Goes, Ends, Calls, effect_of}
 use Rattle.block_effects.proofs.AlarmLaws.{IsListed, bind_listed, effect_listed, listed_8, listed_9}
 use Rattle.block_effects.proofs.EffectLaws.{effect_is}
-use Rattle.axis_moves.proofs.MotionLaws.{AllFollow, AllFollow-push, follows_none, sound_motions}
+use Rattle.channel_machine.proofs.Follows.{AllFollow, AllFollow-push, follows_none, sound_motions}
 use Rattle.nc_blocks.specs.Statement.{BlockView}
 use Rattle.nc_control_flow.specs.Counted.{next_going}
 use Rattle.nc_control_flow.proofs.Alarms.{Alarms, going_alarms}

@@ -3,8 +3,9 @@ use Rattle.std.proofs.Common.{◌≡◌, ◌∙◌, ℕ, zero, suc, ◌+◌, ◌
 use mathlib.Core.Path.{fun_ext}
 use Rattle.std.proofs.lemmas.List.{append_assoc, length-append}
 use Rattle.std.specs.Option.{option_to_list}
-use Rattle.axis_moves.specs.Motions.{stands, left_at, StandsAtEnd}
-use Rattle.axis_moves.proofs.Positions.{stands_more}
+use Rattle.axis_sets.specs.Positions.{stands}
+use Rattle.sync_types.specs.Items.{left_at, StandsAtEnd}
+use Rattle.sync_types.proofs.Positions.{stands_more}
 use Rattle.block_effects.specs.Courses.{IsLeft, Does, course_view}
 use Rattle.block_effects.specs.Effects.{Course, Effect, IsStill, group_words, effect_of}
 use Rattle.block_effects.proofs.StillLaws.{searching_stays}

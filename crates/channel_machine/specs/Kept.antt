@@ -1,7 +1,7 @@
 -- Steps. What is kept of a channel between two blocks.
 use Rattle.std.specs.Prelude.{◌≡◌, ℕ, ◌+◌, ℤ, Bool, true, false, List, ◌++◌, length, slice_get, Option, Some, None, Result, Ok, Err}
 use Rattle.std.specs.Option.{option_to_list}
-use Rattle.axis_moves.specs.Motions.{stands}
+use Rattle.axis_sets.specs.Positions.{stands}
 use Rattle.frames.specs.Composition.{IsComposed}
 use Rattle.frames.specs.declared.Frame.{Frame}
 use Rattle.g_groups.specs.Modal.{IsAfter}

@@ -3,7 +3,8 @@ use Rattle.std.specs.Prelude.{⊤, ℕ, zero, suc, ◌-◌, ◌==◌, ℤ, Bool,
 use Rattle.std.specs.List.{range_with_len}
 use Rattle.std.specs.Option.{option_map_or, option_to_list}
 use Rattle.axis_sets.specs.Sets.{has}
-use Rattle.axis_moves.specs.Motions.{left_at, stands}
+use Rattle.axis_sets.specs.Positions.{stands}
+use Rattle.sync_types.specs.Items.{left_at}
 use Rattle.block_effects.specs.Effects.{Course, Goes, Ends, Calls, Effect, Found, group_words, effect_of}
 use Rattle.block_effects.specs.Words.{Equipment, zeros}
 use Rattle.frames.specs.Maps.{Map}

@@ -2,8 +2,8 @@
 
 ghost use Rattle.std.specs.Prelude.{◌≡◌, ◌≤◌, ℕ, All, Some, length, slice_get, take};
 ghost use Rattle.path_geometry.specs.Motions.{IsInRange, IsSound};
-ghost use Rattle.axis_moves.specs.Motions.{IsMotionOf, left_at};
-ghost use Rattle.sync_types.specs.Items.{motion_of};
+ghost use Rattle.sync_types.specs.Items.{left_at, motion_of};
+ghost use Rattle.block_motions.specs.Motions.{IsMotionOf};
 ghost use Rattle.sync_types.specs.declared.Item.{Item};
 ghost use Rattle.channel_machine.specs.Run.{Setting, begun, segment_of, stands_at_start, IsListedAction};
 

@@ -7,7 +7,7 @@ use Rattle.swept_boxes.specs.declared.Box3.{Box3}
 use Rattle.job_types.specs.declared.job.ZoneLine.{ZoneLine}
 use Rattle.job_verdict.proofs.PieceBoxes.{list_any-map, list_any-same}
 use Rattle.job_verdict.specs.BoxView.{BoxView}
-use Rattle.job_verdict.specs.Clash.{boxes_meet}
+use Rattle.swept_boxes.specs.Boxes.{boxes_meet}
 use Rattle.job_verdict.specs.PieceTests.{piece_box, touches, do_meet, boxes_in}
 use Rattle.job_verdict.specs.declared.pieces.Measure.{Measure}
 use Rattle.sync_types.specs.Items.{motion_of}

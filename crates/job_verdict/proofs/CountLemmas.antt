@@ -14,7 +14,7 @@ use Rattle.job_verdict.proofs.JudgeLemmas.{IsTimed, AllTimed, all_timed, overlap
 use Rattle.job_verdict.proofs.Runs.{good_run}
 use Rattle.job_verdict.specs.Channels.{items_of}
 use Rattle.job_verdict.specs.Clash.{own_clock, pairs_by_group, zone_pairs, BoxPlace, box_pairs, stretch_pairs, pairs_of_zones, compared_pairs, pair_count}
-use Rattle.axis_moves.specs.Motions.{left_at}
+use Rattle.sync_types.specs.Items.{left_at}
 use Rattle.job_verdict.specs.PairCounts.{count_in_stretches, count_against, count_of_zones, count_of}
 use Rattle.job_verdict.specs.ShownStretches.{shown_stretch, held_zone, HeldView, do_overlap}
 use Rattle.job_verdict.specs.Stretches.{Stretch, spans_of, stretches_from, channel_line, free_stretch, stretches_of}

@@ -7,16 +7,15 @@ use Rattle.path_geometry.specs.declared.motion.Motion.{Motion}
 use Rattle.path_geometry.specs.declared.motion.Motion.TheVariants.{Line, Rapid}
 use Rattle.path_geometry.specs.declared.motion.Motion.TheVariants as Kind
 use Rattle.job_types.specs.declared.job.ZoneLine.{ZoneLine}
-use Rattle.job_verdict.proofs.PathEnds.{start_on_path, end_on_path}
+use Rattle.path_geometry.proofs.PathEnds.{start_on_path, end_on_path}
 use Rattle.job_verdict.proofs.PositionLemmas.{Joins, AllJoin, after_is, left_at-nil, left_at-cons}
-use Rattle.job_verdict.proofs.SomeLemmas.{SomeOf}
+use Rattle.number_laws.proofs.Lists.{SomeOf}
 use Rattle.path_geometry.specs.Path.{Point, IsOnPath}
-use Rattle.axis_moves.specs.Motions.{end_in, left_at}
+use Rattle.sync_types.specs.Items.{end_in, left_at, motion_of}
 use Rattle.job_verdict.specs.SmallSteps.{StandsAt, IsAlong, IsAtPlace}
 use Rattle.path_geometry.specs.Motions.{axes_of, IsSound}
 use Rattle.job_verdict.specs.ZoneBoxes.{after, moves_zone, PlaceBox, Opened, Waiting, Moving, close, closed, next_open, walk, boxes_of}
 use Rattle.sync_types.specs.declared.Item.{Item}
-use Rattle.sync_types.specs.Items.{motion_of}
 use Rattle.job_types.specs.Zones.{has_axis}
 
 -- ---- the ends of a path
@@ -123,7 +122,7 @@ apart_axes zone axis has (e ∷ ends) none = by_test (has_axis zone e.0) refl no
     by_test false is none (inr other) rest = rw (ne_eqb e.0 axis other) (rest none)
 
 not_moved : (zone : ZoneLine) (item : Item) (axis : ℕ) → moves_zone zone item ≡ false → has_axis zone axis ≡ true → IsNone (end_in axis item)
-unfolding moves_zone end_in
+unfolding moves_zone axis_end
 not_moved zone item axis none has =
     let nothing : find (λ (e : ℕ × ℤ × ℤ). e.0 == axis) (axes_of (motion_of item)) ≡ None =
     not_found (λ e. e.0 == axis) (axes_of (motion_of item)) (apart_axes zone axis has (axes_of (motion_of item)) none) in

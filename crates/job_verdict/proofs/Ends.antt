@@ -15,13 +15,12 @@ use Rattle.job_verdict.proofs.StateLemmas.{WellPlaced, well_placed, WellPlaced-o
 use Rattle.job_verdict.proofs.ZoneLemmas.{some_at}
 use Rattle.job_verdict.specs.Channels.{items_of}
 use Rattle.job_verdict.specs.Safety.{CanEnd}
-use Rattle.axis_moves.specs.Motions.{left_at}
+use Rattle.sync_types.specs.Items.{left_at, motion_of}
 use Rattle.job_verdict.specs.SmallSteps.{IsAlong, IsEndOf, IsAtPlace, IsAtEnd, Spot, State, opening, span_of, has_ended, is_running, motions_of, board_position, present, SmallStep, Advance, Act, after_step, IsLawful, AreLawful, reached}
 use Rattle.job_verdict.specs.Stretches.{channel_line}
 use Rattle.path_geometry.specs.Motions.{axes_of}
 use Rattle.job_verdict.specs.ZoneBoxes.{after}
 use Rattle.sync_types.specs.declared.Item.{Item}
-use Rattle.sync_types.specs.Items.{motion_of}
 use Rattle.job_types.specs.Axes.{start_position}
 
 -- a place is at most the number of the motions

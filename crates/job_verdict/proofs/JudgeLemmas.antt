@@ -8,7 +8,7 @@ use Rattle.std.proofs.lemmas.List.Folds.{find-append}
 use Rattle.job_types.specs.Job.{JobView}
 use Rattle.job_types.specs.declared.job.ChannelLine.{ChannelLine}
 use Rattle.job_types.specs.declared.job.ZoneLine.{ZoneLine}
-use Rattle.job_verdict.proofs.SomeLemmas.{found_passes}
+use Rattle.number_laws.proofs.Lists.{found_passes}
 use Rattle.job_verdict.proofs.PieceBoxes.{meets_by_pieces}
 use Rattle.job_verdict.proofs.Runs.{good_run}
 use Rattle.job_verdict.proofs.SoundBoxes.{AllMoveSoundly, boxes_sound}
@@ -16,8 +16,8 @@ use Rattle.job_verdict.specs.BoxView.{BoxView, MovesSoundly}
 use Rattle.job_verdict.specs.ChannelRun.{RunView, run_of, runs_of, run_in}
 use Rattle.job_verdict.specs.Channels.{items_of}
 use Rattle.job_verdict.specs.FirstAnswer.{first_some}
-use Rattle.axis_moves.specs.Motions.{left_at}
 use Rattle.job_verdict.specs.Clash.{own_clock, is_open_at, may_overlap, pairs_by_group, zone_pairs, BoxPlace, box_pairs, stretch_pairs, pairs_of_zones, compared_pairs, pair_meets, name_of, pairs_verdict}
+use Rattle.sync_types.specs.Items.{left_at}
 use Rattle.job_verdict.specs.PieceTests.{do_meet}
 use Rattle.job_verdict.specs.ShownStretches.{measure_of, lines_of, run_stretch, end_stretch, shown_stretch, held_zone, share_channel, are_run_and_end, do_overlap, first_touched, first_lines, named, first_in_stretches, first_against, first_of_zones, first_meeting, verdict_by}
 use Rattle.job_verdict.specs.Stretches.{Event, Stretch, spans_of, stretches_from, channel_line, free_stretch, stretches_of}

@@ -1,8 +1,6 @@
-pub mod SomeLemmas
 pub mod PositionLemmas
 pub mod GrantLemmas
 pub mod Runs
-pub mod PathEnds
 pub mod CoverLemmas
 pub mod PieceBoxes
 pub mod CollectedBoxes
@@ -14,10 +12,9 @@ pub mod OwnerLemmas
 pub mod Soundness
 pub mod NoJumps
 pub mod Ends
-pub mod Ranges
+pub mod Directions
 pub mod Positions
 pub mod BoxLemmas
-pub mod MeetLemmas
 pub mod SoundBoxes
 pub mod JudgeLemmas
 pub mod CountLemmas

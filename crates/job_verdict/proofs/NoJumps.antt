@@ -9,18 +9,17 @@ use Rattle.job_types.specs.Job.{JobView}
 use Rattle.job_types.specs.SoundJob.{IsSoundJob}
 use Rattle.job_types.specs.declared.job.ChannelLine.{ChannelLine}
 use Rattle.job_verdict.proofs.PositionLemmas.{begins_at_left, after_is, left_at-nil, left_at-cons}
-use Rattle.job_verdict.proofs.SomeLemmas.{found_passes, All-found}
+use Rattle.number_laws.proofs.Lists.{found_passes, All-found}
 use Rattle.job_verdict.proofs.Runs.{motions_join}
 use Rattle.job_verdict.proofs.StateLemmas.{WellPlaced, WellPlaced-step, well_placed, WellPlaced-opening, not_ended, run_place, board_last, end_place, one_under}
 use Rattle.job_verdict.specs.Channels.{items_of}
 use Rattle.job_verdict.specs.Safety.{axis_owner, axis_position, fraction_of, NoJump}
-use Rattle.axis_moves.specs.Motions.{end_in, left_at}
+use Rattle.sync_types.specs.Items.{end_in, left_at, motion_of}
 use Rattle.job_verdict.specs.SmallSteps.{StandsAt, IsAlong, IsEndOf, IsAtPlace, IsAtEnd, Spot, State, opening, span_of, has_ended, motions_of, board_position, beginning, present, Act, after_step, IsLawful, reached}
 use Rattle.job_verdict.specs.Stretches.{channel_line}
 use Rattle.path_geometry.specs.Motions.{axes_of}
 use Rattle.job_verdict.specs.ZoneBoxes.{after}
 use Rattle.sync_types.specs.declared.Item.{Item}
-use Rattle.sync_types.specs.Items.{motion_of}
 use Rattle.job_types.specs.Axes.{start_position}
 
 -- ---- between motions
@@ -55,7 +54,7 @@ left_at-last (first ∷ next ∷ items) at (suc n) item long is axis =
 -- at the end of a motion its axes are at its ends, and the others where they stood
 at_its_end : (item : Item) (positions : ℕ → ℤ) (point : Point) → IsAlong positions item point → IsEndOf item point → (axis : ℕ)
     → StandsAt point axis (unwrap_or (end_in axis item) (positions axis))
-unfolding end_in
+unfolding axis_end
 at_its_end item positions point along ends axis = by_end (find (λ e. e.0 == axis) (axes_of (motion_of item))) refl
   where
     by_end : (o : Option (ℕ × ℤ × ℤ)) → find (λ e. e.0 == axis) (axes_of (motion_of item)) ≡ o → StandsAt point axis (unwrap_or (option_map (λ (e : ℕ × ℤ × ℤ). e.2) o) (positions axis))

@@ -8,7 +8,7 @@ use Rattle.job_types.specs.Job.{JobView}
 use Rattle.job_types.specs.declared.job.AxisLine.{AxisLine}
 use Rattle.job_types.specs.declared.job.ChannelLine.{ChannelLine}
 use Rattle.job_verdict.proofs.Runs.{HasOwnAxes, motions_owned}
-use Rattle.job_verdict.proofs.SomeLemmas.{found_passes}
+use Rattle.number_laws.proofs.Lists.{found_passes}
 use Rattle.job_verdict.specs.Channels.{items_of}
 use Rattle.job_verdict.specs.Safety.{axis_owner, OneOwner}
 use Rattle.job_verdict.specs.SmallSteps.{State, motions_of}

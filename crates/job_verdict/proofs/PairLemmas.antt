@@ -3,13 +3,14 @@ use Rattle.std.proofs.Common.{◌≡◌, ◌≢◌, ◌⊎◌, ◌∙◌, ℕ, z
 use Rattle.std.proofs.lemmas.Bool.{eq-eqb, ne_eqb, lt-ltb, cases_eq}
 use Rattle.std.proofs.lemmas.Int.{ints}
 use Rattle.std.specs.List.{cons_option, range_with_len, list_any}
-use Rattle.swept_boxes.proofs.Meeting.{touch-from_meet}
+use Rattle.swept_boxes.proofs.MeetTests.{meet_passes}
 use Rattle.swept_boxes.specs.Boxes.{SpacePoint, IsInBox, DoMeet, TouchIn}
 use Rattle.swept_boxes.specs.declared.Box3.{Box3}
 use Rattle.job_types.specs.Job.{JobView}
 use Rattle.job_types.specs.declared.job.ZoneLine.{ZoneLine}
-use Rattle.job_verdict.proofs.SomeLemmas.{SomeOf, SomeOf-weaker, SomeOf-append_left, SomeOf-append_right, SomeOf-map, SomeOf-flat_map, SomeOf-filter, list_any-some}
-use Rattle.job_verdict.specs.Clash.{Clock, own_clock, is_open_at, may_overlap, pairs_by_group, BoxPlace, box_pairs, stretch_pairs, pairs_of_zones, do_touch, boxes_meet, depth_of, pair_meets}
+use Rattle.job_verdict.specs.Clash.{Clock, own_clock, is_open_at, may_overlap, pairs_by_group, BoxPlace, box_pairs, stretch_pairs, pairs_of_zones, depth_of, pair_meets}
+use Rattle.number_laws.proofs.Lists.{SomeOf, SomeOf-weaker, SomeOf-append_left, SomeOf-append_right, SomeOf-map, SomeOf-flat_map, SomeOf-filter, list_any-some}
+use Rattle.swept_boxes.specs.Boxes.{do_touch, boxes_meet}
 use Rattle.job_verdict.specs.Stretches.{Event, Stretch, stretches_of}
 use Rattle.job_verdict.specs.ZoneBoxes.{PlaceBox, piece_boxes}
 use Rattle.job_types.specs.Zones.{zones_in_order}
@@ -133,15 +134,6 @@ some_box_pair clock counts cut job zone other Q R P holds left right =
 
 -- ---- pairs that meet
 
-touch_is : (left right : Box3) (direction : ℕ) → TouchIn left right direction → do_touch left right direction ≡ true
-touch_is left right direction touch = grind (arith, ints)
-
-meet_is : (left right : Box3) → DoMeet left right → boxes_meet left right ≡ true
-unfolding boxes_meet
-meet_is left right meet =
-    let touch = touch-from_meet left right meet in
-    rw (touch_is left right 0 (touch 0 (omega arith)), touch_is left right 1 (touch 1 (omega arith)), touch_is left right 2 (touch 2 (omega arith))) refl
-
 -- a pair meets where a point of space is in a piece of the one and in a piece of the other
 pub pair_is : (job : JobView) (pair : BoxPlace × BoxPlace) (point : SpacePoint)
     → SomeOf (λ piece. IsInBox piece point) (piece_boxes job.margin pair.0.zone (depth_of job) pair.0.box)
@@ -151,6 +143,6 @@ pair_is job pair point left right =
     list_any-some (λ l. list_any (λ r. boxes_meet l r) (piece_boxes job.margin pair.1.zone (depth_of job) pair.1.box)) (piece_boxes job.margin pair.0.zone (depth_of job) pair.0.box)
     (SomeOf-weaker (λ piece. IsInBox piece point) (λ l. list_any (λ r. boxes_meet l r) (piece_boxes job.margin pair.1.zone (depth_of job) pair.1.box) ≡ true)
     (λ l in_left. list_any-some (λ r. boxes_meet l r) (piece_boxes job.margin pair.1.zone (depth_of job) pair.1.box)
-    (SomeOf-weaker (λ piece. IsInBox piece point) (λ r. boxes_meet l r ≡ true) (λ r in_right. meet_is l r (point, in_left, in_right))
+    (SomeOf-weaker (λ piece. IsInBox piece point) (λ r. boxes_meet l r ≡ true) (λ r in_right. meet_passes l r (point, in_left, in_right))
     (piece_boxes job.margin pair.1.zone (depth_of job) pair.1.box) right))
     (piece_boxes job.margin pair.0.zone (depth_of job) pair.0.box) left)

@@ -14,9 +14,9 @@ use Rattle.swept_boxes.specs.Ranges.{RangesView, LieIn}
 use Rattle.swept_boxes.specs.declared.Box3.{Box3}
 use Rattle.job_types.specs.declared.job.Side.{Side}
 use Rattle.job_types.specs.declared.job.ZoneLine.{ZoneLine}
-use Rattle.job_verdict.proofs.MeetLemmas.{touch_of, touch_passes}
+use Rattle.swept_boxes.proofs.MeetTests.{touch_of, touch_passes}
 use Rattle.job_verdict.specs.BoxView.{BoxView, MovesSoundly}
-use Rattle.job_verdict.specs.Clash.{do_touch, boxes_meet}
+use Rattle.swept_boxes.specs.Boxes.{do_touch, boxes_meet}
 use Rattle.job_verdict.specs.PieceTests.{piece_low, piece_high, by_direction, piece_box, touches, do_meet}
 use Rattle.job_verdict.specs.ZoneBoxes.{carried, carried_low, carried_high, side_low, side_high, zone_box, box_of, low_in, high_in, PlaceBox, piece_boxes, moving_box, standing_box, shown_box}
 use Rattle.job_verdict.specs.declared.pieces.Measure.{Measure}

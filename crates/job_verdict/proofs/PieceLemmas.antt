@@ -18,14 +18,13 @@ use Rattle.path_geometry.specs.declared.motion.Motion.TheVariants as Kind
 use Rattle.job_types.specs.declared.job.ZoneLine.{ZoneLine}
 use Rattle.job_verdict.proofs.CoverLemmas.{Covers, IsCovered}
 use Rattle.job_verdict.proofs.PieceBoxes.{absent}
-use Rattle.job_verdict.proofs.SomeLemmas.{SomeOf, SomeOf-weaker, SomeOf-map, found_passes, All-found}
+use Rattle.number_laws.proofs.Lists.{SomeOf, SomeOf-weaker, SomeOf-map, found_passes, All-found}
 use Rattle.path_geometry.specs.Path.{Point}
-use Rattle.axis_moves.specs.Motions.{end_in}
+use Rattle.sync_types.specs.Items.{end_in, motion_of}
 use Rattle.job_verdict.specs.SmallSteps.{StandsAt, IsAlong}
 use Rattle.path_geometry.specs.Motions.{axes_of, IsSound}
 use Rattle.job_verdict.specs.ZoneBoxes.{PlaceBox, zone_box, low_in, high_in, piece_boxes}
 use Rattle.sync_types.specs.declared.Item.{Item}
-use Rattle.sync_types.specs.Items.{motion_of}
 use Rattle.job_types.specs.Zones.{has_axis}
 
 -- ---- the pieces of a motion
@@ -79,7 +78,7 @@ in_itself z t n is = record { above = omega (arith, ints); below = omega (arith,
 -- at a point of a motion that a piece holds, each axis is within the piece's bounds, or stands
 within_piece : (at : ℕ → ℤ) (item : Item) (point : Point) (ranges : RangesView) → IsAlong at item point → Hold ranges point → HasAxesOf (motion_of item) ranges
     → (axis : ℕ) → IsIn (low_in ranges at axis) (high_in ranges at axis) (point.top axis) point.under
-unfolding low_in high_in end_in
+unfolding low_in high_in axis_end
 within_piece at item point ranges along hold has axis = by_range (find (λ r. r.0 == axis) ranges.axes) refl
   where
     by_range : (o : Option (ℕ × ℤ × ℤ)) → find (λ r. r.0 == axis) ranges.axes ≡ o

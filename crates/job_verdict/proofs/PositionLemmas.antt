@@ -6,11 +6,10 @@ use Rattle.std.proofs.lemmas.List.Elements.{All-weaker}
 use Rattle.std.specs.Prelude.{⊤}
 use Rattle.std.specs.List.{last_or, cons_option}
 use Rattle.std.specs.Option.{option_map_or}
-use Rattle.axis_moves.specs.Motions.{end_in, left_at}
+use Rattle.sync_types.specs.Items.{end_in, left_at, motion_of}
 use Rattle.path_geometry.specs.Motions.{axes_of, IsSound}
 use Rattle.job_verdict.specs.ZoneBoxes.{after}
 use Rattle.sync_types.specs.declared.Item.{Item}
-use Rattle.sync_types.specs.Items.{motion_of}
 
 -- ---- the last of a list
 
@@ -30,7 +29,7 @@ unwrap_or-last_or o (x ∷ xs) d = last_of_some x d (unwrap_or o d) xs
 -- ---- one motion after another
 
 pub after_is : (item : Item) (at : ℕ → ℤ) (axis : ℕ) → after item at axis ≡ unwrap_or (end_in axis item) (at axis)
-unfolding after end_in
+unfolding after axis_end
 after_is item at axis = by_found (find (λ e. e.0 == axis) (axes_of (motion_of item)))
   where
     by_found : (o : Option (ℕ × ℤ × ℤ)) → option_map_or (λ e. e.2) o (at axis) ≡ unwrap_or (option_map (λ e. e.2) o) (at axis)

@@ -7,12 +7,12 @@ use Rattle.std.proofs.lemmas.List.Elements.{All-head, All-tail, All-weaker}
 use Rattle.std.proofs.lemmas.List.FromFn.{get_or-map-range_with_len, length-map-range_with_len}
 use Rattle.std.proofs.lemmas.Option.{slice_get-get_or, slice_get_within, get_or_from_slice_get}
 use Rattle.axis_sets.specs.Sets.{has}
-use Rattle.axis_moves.proofs.MotionLaws.{ends_found}
-use Rattle.axis_moves.specs.Motions.{left_at, IsMotionOf}
+use Rattle.block_motions.proofs.MotionLaws.{ends_found}
+use Rattle.sync_types.specs.Items.{left_at, motion_of}
+use Rattle.block_motions.specs.Motions.{IsMotionOf}
 use Rattle.channel_machine.proofs.RunLaws.{all_follow, few_items, items_sound, end_listed}
 use Rattle.channel_machine.specs.Run.{IsListedAction}
 use Rattle.path_geometry.specs.Motions.{axes_of, IsInRange, IsSound}
-use Rattle.sync_types.specs.Items.{motion_of}
 use Rattle.sync_types.specs.declared.Action.{Action}
 use Rattle.sync_types.specs.declared.Action.TheVariants as action
 use Rattle.sync_types.specs.declared.Item.{Item}
@@ -39,7 +39,7 @@ motion_joins axes at item is sound = (
   λ k d within. (
     is.begins k d within,
     let e : ℕ × ℤ × ℤ = get_or (axes_of (motion_of item)) k d in
-        sym (after_is item at e.0 ∙ ap (λ (o : Option ℤ). unwrap_or o (at e.0)) (ends_found axes at item is k d within)),
+        sym (after_is item at e.0 ∙ ap (λ (o : Option ℤ). unwrap_or o (at e.0)) (ends_found axes at (motion_of item) is k d within)),
   ),
 )
 

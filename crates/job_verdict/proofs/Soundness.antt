@@ -16,14 +16,14 @@ use Rattle.job_verdict.proofs.OwnerLemmas.{one_owner}
 use Rattle.job_verdict.proofs.PairLemmas.{is_in_order, some_zone_pair, IsCurrent, IsCut-own_clock, HasBox, some_box_pair, pair_is}
 use Rattle.job_verdict.proofs.PieceLemmas.{AxesWithin, some_piece}
 use Rattle.job_verdict.proofs.Runs.{motions_join}
-use Rattle.job_verdict.proofs.SomeLemmas.{SomeOf, SomeOf-weaker, SomeOf-flat_map, none_found}
+use Rattle.number_laws.proofs.Lists.{SomeOf, SomeOf-weaker, SomeOf-flat_map, none_found}
 use Rattle.job_verdict.proofs.StateLemmas.{WellPlaced, well_placed, WellPlaced-opening, run_place, end_place, first_span_of, later_span_of, board_last, one_under}
 use Rattle.job_verdict.proofs.VerdictLemmas.{none_meets}
 use Rattle.job_verdict.proofs.ZoneLemmas.{FractionsWithin, in_zone_box}
 use Rattle.job_verdict.specs.Channels.{items_of}
 use Rattle.job_verdict.specs.Clash.{own_clock, zone_pairs, pairs_of_zones, compared_pairs, depth_of, pair_meets, verdict_of}
 use Rattle.job_verdict.specs.Safety.{axis_owner, axis_position, fraction_of, IsInZone, ZonesMeet, NoneMeet, SafeAlways}
-use Rattle.axis_moves.specs.Motions.{left_at}
+use Rattle.sync_types.specs.Items.{left_at}
 use Rattle.path_geometry.specs.Path.{Point}
 use Rattle.job_verdict.specs.SmallSteps.{StandsAt, IsAtPlace, Spot, State, opening, span_of, has_ended, motions_of, board_position, beginning, present, reached}
 use Rattle.job_types.specs.SoundJob.{IsDeclared, IsCarriedBy, IsSoundZone, IsSoundJob}

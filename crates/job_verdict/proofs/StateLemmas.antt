@@ -5,7 +5,7 @@ use Rattle.std.proofs.lemmas.Int.{ints}
 use Rattle.std.specs.Option.{option_map_or}
 use Rattle.job_types.specs.Job.{JobView}
 use Rattle.job_types.specs.declared.job.ChannelLine.{ChannelLine}
-use Rattle.axis_moves.specs.Motions.{left_at}
+use Rattle.sync_types.specs.Items.{left_at}
 use Rattle.job_verdict.specs.SmallSteps.{IsAtPlace, Spot, State, opening, span_of, has_ended, is_running, motions_of, board_position, beginning, present, SmallStep, Advance, Act, after_step, IsLawful, AreLawful, reached}
 use Rattle.job_verdict.specs.Stretches.{channel_line}
 use Rattle.job_types.specs.Axes.{start_position}

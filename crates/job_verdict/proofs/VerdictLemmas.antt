@@ -7,7 +7,7 @@ use Rattle.std.specs.Option.{option_or}
 use Rattle.nc_faults.specs.declared.Alarm.{Alarm}
 use Rattle.job_types.specs.Job.{JobView}
 use Rattle.job_verdict.proofs.Runs.{good_run}
-use Rattle.job_verdict.proofs.SomeLemmas.{All-found}
+use Rattle.number_laws.proofs.Lists.{All-found}
 use Rattle.job_verdict.specs.ZoneBoxes.{IsFit}
 use Rattle.job_verdict.specs.ChannelRun.{IsListedEnd}
 use Rattle.job_verdict.specs.ChannelRun.{RunView, run_of, runs_of, run_in}

@@ -1,11 +1,9 @@
 -- Meaning. Which boxes are compared, and the verdict.
 use Rattle.std.specs.Prelude.{ℕ, ◌==◌, ◌&&◌, not, nat_lt, Bool, true, if◌then◌else◌, List, [], ◌∷◌, ◌++◌, map, length, Option, None, Some, find, filter}
-use Rattle.std.specs.Int.{int_max, int_min}
-use Rattle.std.specs.Int.RustNames.{int_le}
 use Rattle.std.specs.List.{flat_map, range_with_len, list_any}
 use Rattle.std.specs.Option.{option_map, option_map_or, option_and_then}
 use Rattle.nc_faults.specs.declared.Alarm.{Alarm}
-use Rattle.swept_boxes.specs.Boxes.{low_of, high_of}
+use Rattle.swept_boxes.specs.Boxes.{boxes_meet}
 use Rattle.swept_boxes.specs.declared.Box3.{Box3}
 use Rattle.job_types.specs.Job.{JobView}
 use Rattle.job_types.specs.declared.job.ZoneLine.{ZoneLine}
@@ -69,13 +67,6 @@ compared_pairs job = flat_map (λ pair. pairs_of_zones own_clock job pair.0 pair
 
 unfoldable pub pair_count : JobView → ℕ
 pair_count job = length (compared_pairs job)
-
--- the two boxes share a point: in each direction the greater low bound is not above the lesser high bound
-abbrev pub do_touch : Box3 → Box3 → ℕ → Bool
-do_touch left right direction = int_le (int_max (low_of left direction) (low_of right direction)) (int_min (high_of left direction) (high_of right direction))
-
-unfoldable pub boxes_meet : Box3 → Box3 → Bool
-boxes_meet left right = do_touch left right 0 && (do_touch left right 1 && do_touch left right 2)
 
 -- the depth at which motions are cut into pieces
 abbrev pub depth_of : JobView → ℕ

@@ -9,7 +9,7 @@ use Rattle.swept_boxes.specs.declared.Box3.{Box3}
 use Rattle.job_types.specs.declared.job.Side.{Side}
 use Rattle.job_types.specs.declared.job.ZoneLine.{ZoneLine}
 use Rattle.job_verdict.specs.BoxView.{BoxView}
-use Rattle.job_verdict.specs.Clash.{boxes_meet}
+use Rattle.swept_boxes.specs.Boxes.{boxes_meet}
 use Rattle.job_verdict.specs.ZoneBoxes.{side_low, side_high}
 use Rattle.job_verdict.specs.declared.pieces.Measure.{Measure}
 use Rattle.sync_types.specs.Items.{motion_of}

@@ -6,7 +6,7 @@ use Rattle.job_types.specs.declared.job.ZoneLine.{ZoneLine}
 use Rattle.job_verdict.specs.BoxView.{BoxView}
 use Rattle.job_verdict.specs.ChannelRun.{RunView, line_of_end}
 use Rattle.job_verdict.specs.FirstAnswer.{first_some}
-use Rattle.axis_moves.specs.Motions.{left_at}
+use Rattle.sync_types.specs.Items.{left_at}
 use Rattle.job_verdict.specs.PieceTests.{do_meet}
 use Rattle.job_verdict.specs.StretchView.{StretchView}
 use Rattle.job_verdict.specs.Stretches.{Stretch, stretches_of}

@@ -6,7 +6,7 @@ use Rattle.job_types.specs.declared.job.ChannelLine.{ChannelLine}
 use Rattle.job_types.specs.declared.job.ZoneLine.{ZoneLine}
 use Rattle.job_verdict.specs.ChannelRun.{line_of_end}
 use Rattle.job_verdict.specs.Channels.{items_of, end_of}
-use Rattle.axis_moves.specs.Motions.{left_at}
+use Rattle.sync_types.specs.Items.{left_at}
 use Rattle.job_verdict.specs.ZoneBoxes.{PlaceBox, boxes_of}
 use Rattle.sync_types.specs.declared.Item.{Item}
 use Rattle.job_verdict.specs.declared.stretches.StretchKind.{StretchKind}

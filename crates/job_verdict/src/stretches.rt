@@ -1,6 +1,6 @@
 //! The stretches of each zone, and the verdict's words.
 ghost use Rattle.std.specs.Prelude.{◌≡◌, ◌≤◌, ℕ, [], ◌∷◌, All, IfOk, length, map};
-ghost use Rattle.axis_moves.specs.Motions.{left_at};
+ghost use Rattle.sync_types.specs.Items.{left_at};
 ghost use Rattle.job_verdict.specs.Channels.{positions_in};
 ghost use Rattle.job_verdict.specs.ShownStretches as model;
 ghost use Rattle.job_verdict.specs.Stretches.{free_stretch};

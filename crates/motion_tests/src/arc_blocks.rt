@@ -3,9 +3,8 @@
 
 use crate::block_moves::{Lathe, after, bare_lathe, columns, no_targets, owned, take, value};
 use crate::tables::is_row;
-use arc_moves::*;
-use axis_moves::{Programmed, Targets, make_item};
 use axis_sets::Positions;
+use block_motions::*;
 use frames::Frame;
 use g_groups::Modal;
 use micro_units::Num;
@@ -13,7 +12,6 @@ use path_geometry::Motion;
 use std::alloc::Global;
 use std::process::Abort;
 use std::test::Fail;
-use sync_types::Item;
 
 /// What a block programs.
 #[derive(Drop)]
@@ -82,36 +80,35 @@ fn centre_of(alloc: Global, motion: &Motion) -> Result<String, Fail> {
     }
 }
 
-/// The motion of a block on line 7 as text: its turn, the ends of its axes, where they stand now, and its centre.
+/// The motion of a block as text: its turn, the ends of its axes, where they stand now, and its centre.
 fn said(
     rt: &impl Abort,
     alloc: Global,
-    item: &Option<Item>,
+    motion: &Option<Motion>,
     at: &Positions,
 ) -> Result<String, Fail> {
     let mut text = String::new(alloc);
-    if let Some(item) = item {
-        assert!(rt; item.line == 7);
-        text.push_str(turn_of(alloc, item.motion())?.as_str())?;
-        for (axis, _, end) in item.motion().ends().axes.as_slice() {
+    if let Some(motion) = motion {
+        text.push_str(turn_of(alloc, motion)?.as_str())?;
+        for (axis, _, end) in motion.ends().axes.as_slice() {
             assert!(rt; at.get(*axis) == Some(*end));
             let axis = axis.index;
             let end = end.micrometres;
             text.push_str(format!(in alloc; "{axis}:{end} ")?.as_str())?;
         }
-        text.push_str(centre_of(alloc, item.motion())?.as_str())?;
+        text.push_str(centre_of(alloc, motion)?.as_str())?;
     }
     Ok(text)
 }
 
 /// The motion of a block, or its alarm. A block whose last G word is G1 is a line.
-fn made(lathe: &mut Lathe, words: &str, block: &Block) -> Result<Option<Item>, u16> {
+fn made(lathe: &mut Lathe, words: &str, block: &Block) -> Result<Option<Motion>, u16> {
     let (slots, conditions, at) = (&lathe.slots, &lathe.conditions, &mut lathe.at);
     if words.trim_end().ends_with("G1") {
-        make_item(7, slots, owned(), conditions, &block.targets, at)
+        straight_motion(slots, owned(), conditions, &block.targets, at)
     } else {
         let (targets, words) = (&block.targets, &block.words);
-        make_arc(7, slots, owned(), conditions, targets, words, at)
+        arc_motion(slots, owned(), conditions, targets, words, at)
     }
 }
 
@@ -128,7 +125,7 @@ fn done(
     let before = lathe.at;
     let block = block_of(rt, letters)?;
     match made(lathe, words, &block) {
-        Ok(item) => said(rt, alloc, &item, &lathe.at),
+        Ok(motion) => said(rt, alloc, &motion, &lathe.at),
         Err(code) => {
             assert!(rt; lathe.at == before);
             lathe.conditions.modal = modal;

@@ -2,16 +2,16 @@
 //! the channel, and W1 of another one; their numbers are 0 to 4.
 
 use crate::tables::is_row;
-use axis_moves::*;
 use axis_sets::{AxisId, AxisSet, Positions};
+use block_motions::*;
 use frames::Frame;
 use g_groups::{GWord, Modal, apply};
 use micro_units::{Num, Um};
 use nc_blocks::Measure;
+use path_geometry::Motion;
 use std::alloc::Global;
 use std::process::Abort;
 use std::test::Fail;
-use sync_types::Item;
 
 /// What stays from block to block.
 #[derive(Drop)]
@@ -151,17 +151,16 @@ pub(crate) fn columns(row: &str) -> Option<(&str, &str, &str)> {
     Some((words, letters, answer.trim()))
 }
 
-/// The motion of a block on line 7 as text: each of its axes with its start and its end, where it stands now.
+/// The motion of a block as text: each of its axes with its start and its end, where it stands now.
 fn said(
     rt: &impl Abort,
     alloc: Global,
-    item: &Option<Item>,
+    motion: &Option<Motion>,
     at: &Positions,
 ) -> Result<String, Fail> {
     let mut text = String::new(alloc);
-    if let Some(item) = item {
-        assert!(rt; item.line == 7);
-        for (axis, start, end) in item.motion().ends().axes.as_slice() {
+    if let Some(motion) = motion {
+        for (axis, start, end) in motion.ends().axes.as_slice() {
             assert!(rt; at.get(*axis) == Some(*end));
             let axis = axis.index;
             let start = start.micrometres;
@@ -183,15 +182,14 @@ fn done(
     lathe.conditions.modal = after(&lathe.conditions.modal, words)?;
     let before = lathe.at;
     let targets = targets(rt, letters)?;
-    match make_item(
-        7,
+    match straight_motion(
         &lathe.slots,
         owned(),
         &lathe.conditions,
         &targets,
         &mut lathe.at,
     ) {
-        Ok(item) => said(rt, alloc, &item, &lathe.at),
+        Ok(motion) => said(rt, alloc, &motion, &lathe.at),
         Err(code) => {
             assert!(rt; lathe.at == before);
             Ok(format!(in alloc; "ALARM {code}")?)

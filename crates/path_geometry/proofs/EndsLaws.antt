@@ -1,18 +1,11 @@
 -- Where an axis starts and where it ends, among the axes of a motion.
-use Rattle.std.proofs.Common.{◌≡◌, ℕ, ℤ, ◌==◌, Bool, true, false, cond, All, List, [], ◌∷◌, find, Option, None, Some, pos, refl, subst, arith}
+use Rattle.std.proofs.Common.{◌≡◌, ℕ, ℤ, ◌==◌, Bool, true, false, cond, All, List, [], ◌∷◌, find, Option, None, Some, option_map, IfSome, pos, refl, subst, arith}
 use Rattle.std.specs.Option.{option_map_or}
 use Rattle.std.proofs.lemmas.List.Elements.{All-head, All-tail}
+use Rattle.number_laws.proofs.Lists.{All-found, found_holds}
 use Rattle.path_geometry.specs.Ends.{EndsView, start_of, end_of}
-use Rattle.path_geometry.specs.Motions.{AreSound, IsInRange}
-
--- what is true of all is true of the one that was found
-pub All-found : {X : Type 0} (P : X → Type 0) (test : X → Bool) (xs : List X) (x : X) → All P xs → find test xs ≡ Some x → P x
-All-found P test [] x all e = absurd cc
-All-found P test (y ∷ ys) x all e = by_test (test y) e (All-found P test ys x (All-tail P y ys all))
-  where
-    by_test : (b : Bool) → cond b (Some y) (find test ys) ≡ Some x → (find test ys ≡ Some x → P x) → P x
-    by_test true f rest = let same : y ≡ x = cc in subst P same (All-head P y ys all)
-    by_test false f rest = rest f
+use Rattle.path_geometry.specs.Motions.{AreSound, IsInRange, axes_of, axis_end}
+use Rattle.path_geometry.specs.declared.motion.Motion.{Motion}
 
 -- the axes of sound ends are in range wherever they start and end
 pub found_in_range : (ends : EndsView) (axis : ℕ) (e : ℕ × ℤ × ℤ) → AreSound ends → find (λ e. e.0 == axis) ends.axes ≡ Some e → IsInRange e.1 × IsInRange e.2
@@ -31,3 +24,12 @@ end_in_range ends axis sound = by_found (find (λ e. e.0 == axis) ends.axes) (fo
     by_found : (o : Option (ℕ × ℤ × ℤ)) → ((e : ℕ × ℤ × ℤ) → AreSound ends → o ≡ Some e → IsInRange e.1 × IsInRange e.2) → IsInRange (option_map_or (λ (e : ℕ × ℤ × ℤ). e.2) o (pos 0))
     by_found None held = omega arith
     by_found (Some e) held = (held e sound refl).1
+
+-- where all axes end in range, so does one that is of the motion
+pub axis_end_in_range : (axis : ℕ) (motion : Motion) → All (λ e. IsInRange e.2) (axes_of motion) → IfSome (axis_end axis motion) IsInRange
+unfolding axis_end
+axis_end_in_range axis motion all = by_found (find (λ e. e.0 == axis) (axes_of motion)) (found_holds (λ e. IsInRange e.2) (λ e. e.0 == axis) (axes_of motion) all)
+  where
+    by_found : (o : Option (ℕ × ℤ × ℤ)) → IfSome o (λ e. IsInRange e.2) → IfSome (option_map (λ e. e.2) o) IsInRange
+    by_found None here = tt
+    by_found (Some e) here = here

@@ -1,5 +1,5 @@
 -- Meaning. The axes of a motion, and when a motion is sound.
-use Rattle.std.specs.Prelude.{◌≡◌, ◌≢◌, ℕ, ℤ, ◌≤◌, Bool, IsTrue, ◌==◌, ◌⊎◌, List, Ok}
+use Rattle.std.specs.Prelude.{◌≡◌, ◌≢◌, ℕ, ℤ, ◌≤◌, Bool, IsTrue, ◌==◌, ◌⊎◌, List, Option, find, option_map, Ok}
 use Rattle.std.specs.Int.RustNames.{unsigned_abs}
 use Rattle.std.specs.List.{All, AllPairs, list_any}
 use Rattle.path_geometry.specs.Arcs.{arc_about, arc_of_radius}
@@ -14,6 +14,10 @@ abbrev pub axes_of : Motion → List (ℕ × ℤ × ℤ)
 axes_of (Line ends) = ends.axes
 axes_of (Rapid ends) = ends.axes
 axes_of (Kind.Arc arc) = arc.ends.axes
+
+-- the end that a motion gives an axis; none where the motion has not this axis
+unfoldable pub axis_end : ℕ → Motion → Option ℤ
+axis_end axis motion = option_map (λ e. e.2) (find (λ e. e.0 == axis) (axes_of motion))
 
 -- a position of an axis is at most 10,000,000 micrometres in size
 abbrev pub IsInRange : ℤ → Type 0

@@ -1,6 +1,7 @@
 -- Meaning. When two boxes meet.
-use Rattle.std.specs.Prelude.{ℕ, ℤ, pos, ◌<◌, ◌*ℤ◌, ◌≤ℤ◌}
+use Rattle.std.specs.Prelude.{ℕ, ℤ, pos, ◌<◌, ◌*ℤ◌, ◌≤ℤ◌, Bool, ◌&&◌}
 use Rattle.std.specs.Int.{int_max, int_min}
+use Rattle.std.specs.Int.RustNames.{int_le}
 use Rattle.std.specs.List.{slice_index_or}
 use Rattle.swept_boxes.specs.declared.Box3.{Box3}
 
@@ -34,3 +35,13 @@ TouchIn left right direction =
 -- the same by the bounds: so it is in all three directions
 abbrev pub TouchInAll : Box3 → Box3 → Type 0
 TouchInAll left right = (direction : ℕ) → direction < 3 → TouchIn left right direction
+
+-- ---- the same as a test
+
+-- in this direction they touch
+abbrev pub do_touch : Box3 → Box3 → ℕ → Bool
+do_touch left right direction = int_le (int_max (low_of left direction) (low_of right direction)) (int_min (high_of left direction) (high_of right direction))
+
+-- the two boxes share a point: in each direction the greater low bound is not above the lesser high bound
+unfoldable pub boxes_meet : Box3 → Box3 → Bool
+boxes_meet left right = do_touch left right 0 && (do_touch left right 1 && do_touch left right 2)

@@ -1,4 +1,8 @@
--- Meaning. What items do.
+-- Meaning. What items do, and where they leave axes.
+use Rattle.std.specs.Prelude.{◌≡◌, ℕ, ℤ, List, filter_map, Option, None, option_and_then, unwrap_or}
+use Rattle.std.specs.List.{last_or}
+use Rattle.axis_sets.specs.Positions.{stands}
+use Rattle.path_geometry.specs.Motions.{axis_end}
 use Rattle.path_geometry.specs.declared.motion.Motion.{Motion}
 use Rattle.sync_types.specs.declared.Item.{Item}
 use Rattle.sync_types.specs.declared.Part.{Part}
@@ -10,3 +14,19 @@ motion_in (Move motion) = motion
 -- the motion of an item
 abbrev pub motion_of : Item → Motion
 motion_of item = motion_in item.part
+
+-- the end that an item gives an axis; none where its motion has not this axis
+abbrev pub end_in : ℕ → Item → Option ℤ
+end_in axis item = axis_end axis (motion_of item)
+
+-- where an axis stands after these items: at the end in the last that has this axis, or where it stood before them
+unfoldable pub left_at : List Item → (ℕ → ℤ) → ℕ → ℤ
+left_at items before axis = unwrap_or (last_or None (filter_map (λ item. end_in axis item) items)) (before axis)
+
+-- the axes stand where the item leaves them, if there is one
+abbrev pub StandsAtEnd : Option Item → List (Option ℤ) → List (Option ℤ) → Type 0
+StandsAtEnd item old new = (axis : ℕ) → stands new axis ≡ unwrap_or (option_and_then (end_in axis) item) (stands old axis)
+
+-- the axes stand where these items leave them
+abbrev pub StandsAfter : List Item → List (Option ℤ) → List (Option ℤ) → Type 0
+StandsAfter items start at = (axis : ℕ) → stands at axis ≡ left_at items (stands start) axis

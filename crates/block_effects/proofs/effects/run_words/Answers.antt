@@ -1,5 +1,5 @@
 use Rattle.std.proofs.Common.{◌∙◌, ◌++◌, [], ◌∷◌, map, Ok, Err, refl, ap, sym}
-use Rattle.axis_moves.specs.Motions.{stands}
+use Rattle.axis_sets.specs.Positions.{stands}
 use Rattle.nc_blocks.specs.Statement.{word_view}
 use Rattle.block_effects.specs.Courses.{equipment_of, found_in}
 use Rattle.block_effects.specs.Effects.{acted, held_behind, words_run}
@@ -19,7 +19,7 @@ returns-in_err-run_from-clause-runs g c = λ blocks chain after composed.
     let begins = begun_is situation.parameters c.nothing-done.result nothing.targets nothing.arc nothing.ends in
     let code = c.in_err-run_from.field-0.0 in
     let is = words_end equipment found c.args.line c.args.groups.now words (Err code)
-    (ap (λ (p : Progress). acted equipment h (stands situation.at) c.args.line c.args.groups.now p words) (sym begins) ∙ c.in_err-run_from.ensures.acts h holds) in
+    (ap (λ (p : Progress). acted equipment h (stands situation.at) c.args.groups.now p words) (sym begins) ∙ c.in_err-run_from.ensures.acts h holds) in
     let says = c.from_residual.ensures in
     fails_with (words_run equipment found c.args.line c.args.groups.now words) _ _ code says.1 is
 
@@ -34,8 +34,8 @@ returns-clause-runs g c = λ blocks chain after composed.
     let holds = c.conditions-conditions.ensures (blocks ++ c.args.groups.now ∷ []) chain after composed in
     let begins = begun_is situation.parameters c.nothing-done.result nothing.targets nothing.arc nothing.ends in
     let p = progress_of c.run_from.new.parameters c.run_from.new.done in
-    let item = c.run_from.new.done.item in
-    let is = words_end equipment found c.args.line c.args.groups.now words (Ok (p, item))
-    (ap (λ (p : Progress). acted equipment h (stands situation.at) c.args.line c.args.groups.now p words) (sym begins) ∙ c.in_ok-run_from.ensures.acts h holds) in
-    does_left (words_run equipment found c.args.line c.args.groups.now words) (left found p item) _ _ is
-    (record { parameters = refl; frame = composed; item = refl; course = sym c.course_of.ensures })
+    let motion = c.run_from.new.done.motion in
+    let is = words_end equipment found c.args.line c.args.groups.now words (Ok (p, motion))
+    (ap (λ (p : Progress). acted equipment h (stands situation.at) c.args.groups.now p words) (sym begins) ∙ c.in_ok-run_from.ensures.acts h holds) in
+    does_left (words_run equipment found c.args.line c.args.groups.now words) (left c.args.line found p motion) _ _ is
+    (record { parameters = refl; frame = composed; item = sym c.item_on.ensures; course = sym c.course_of.ensures })

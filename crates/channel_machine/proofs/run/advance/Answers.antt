@@ -1,5 +1,5 @@
 use Rattle.std.proofs.Common.{◌∙◌, ◌-◌, ℕ, ℤ, List, Option, None, Some, Result, ap, subst, sym}
-use Rattle.axis_moves.specs.Motions.{stands}
+use Rattle.axis_sets.specs.Positions.{stands}
 use Rattle.block_effects.specs.Courses.{Does, course_view}
 use Rattle.block_effects.specs.Effects.{Effect}
 use Rattle.block_effects.specs.declared.situation.Situation.{Situation}

@@ -1,5 +1,5 @@
 use Rattle.std.proofs.Common.{arith}
-use Rattle.axis_moves.specs.Motions.{stands}
+use Rattle.axis_sets.specs.Positions.{stands}
 use Rattle.channel_machine.proofs.Rows.{owned_row}
 use Rattle.channel_machine.proofs.run.owned_at.Goals as goal
 

@@ -1,7 +1,6 @@
 use Rattle.std.proofs.Common.{◌≡◌, ℕ, nat_lt, ◌&&◌, cond, length, Some, None}
-use Rattle.axis_sets.specs.Positions.{position_of}
+use Rattle.axis_sets.specs.Positions.{position_of, stands}
 use Rattle.axis_sets.specs.Sets.{has}
-use Rattle.axis_moves.specs.Motions.{stands}
 use Rattle.channel_machine.proofs.run.owned_at.Given as goal
 
 abbrev pub invariant-loop-index : goal.invariant-loop-index

@@ -1,7 +1,7 @@
 use Rattle.std.proofs.Common.{◌==◌, ℕ, Option, find, sym, ◌∙◌}
 use Rattle.job_types.specs.declared.job.ZoneLine.{ZoneLine}
 use Rattle.job_verdict.specs.ShownStretches as shown
-use Rattle.job_verdict.proofs.Ranges.{map-range_some, map-range_none}
+use Rattle.number_laws.proofs.Lists.{map-range_some, map-range_none}
 use Rattle.job_verdict.proofs.judge.held_zones.Goals as goal
 use Rattle.job_verdict.proofs.judge.held_zones.Goals.{in-Some+in_ok-held_zone+in_ok-push, in_default}
 

@@ -1,4 +1,4 @@
-use Rattle.job_verdict.proofs.MeetLemmas.{meets_is}
+use Rattle.swept_boxes.proofs.MeetTests.{meets_is}
 use Rattle.job_verdict.proofs.pieces.do_meet.Goals as goal
 
 pub returns : goal.returns

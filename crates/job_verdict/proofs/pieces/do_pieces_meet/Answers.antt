@@ -1,7 +1,7 @@
 use Rattle.std.proofs.Common.{◌∙◌, ap}
 use Rattle.job_verdict.proofs.CollectedBoxes.{answered}
 use Rattle.job_verdict.specs.BoxView.{BoxView}
-use Rattle.job_verdict.specs.Clash.{boxes_meet}
+use Rattle.swept_boxes.specs.Boxes.{boxes_meet}
 use Rattle.job_verdict.proofs.pieces.do_pieces_meet.Goals as goal
 
 pub returns : goal.returns

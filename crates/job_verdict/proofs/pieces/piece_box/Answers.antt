@@ -3,7 +3,7 @@ use mir.Val.{to_z, of_z, SFits}
 use Rattle.swept_boxes.specs.Boxes.{low_of, high_of}
 use Rattle.job_types.specs.declared.job.Side.{Side}
 use Rattle.job_verdict.specs.PieceTests.{piece_box, piece_low, piece_high}
-use Rattle.job_verdict.proofs.Ranges.{by_direction-three, stored}
+use Rattle.job_verdict.proofs.Directions.{by_direction-three, stored}
 use Rattle.job_verdict.proofs.pieces.piece_box.Goals as goal
 
 pub returns : goal.returns

@@ -1,7 +1,7 @@
 use Rattle.std.proofs.Common.{◌==◌, sym}
 use Rattle.job_verdict.specs.ChannelRun.{IsListedEnd}
 use Rattle.job_verdict.specs.ChannelRun.{RunView, run_in}
-use Rattle.job_verdict.proofs.SomeLemmas.{All-found}
+use Rattle.number_laws.proofs.Lists.{All-found}
 use Rattle.job_verdict.proofs.report.push_lines_of.Goals as goal
 
 pub push_channel_lines-requires : goal.push_channel_lines-requires

@@ -1,5 +1,5 @@
 use Rattle.std.proofs.Common.{◌≡◌, ℕ, drop}
-use Rattle.axis_moves.specs.Motions.{left_at}
+use Rattle.sync_types.specs.Items.{left_at}
 use Rattle.job_verdict.specs.Channels.{positions_in}
 use Rattle.job_verdict.proofs.stretches.end_positions.Given as goal
 use Rattle.job_types.specs.Axes.{start_position}

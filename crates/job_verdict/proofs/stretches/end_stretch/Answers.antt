@@ -1,7 +1,7 @@
 use Rattle.std.proofs.Common.{◌≡◌, ap, refl}
 use mathlib.Core.Path.{fun_ext}
 use Rattle.job_types.specs.Job.{JobView}
-use Rattle.axis_moves.specs.Motions.{left_at}
+use Rattle.sync_types.specs.Items.{left_at}
 use Rattle.job_verdict.specs.Channels.{positions_in}
 use Rattle.job_verdict.specs.ShownStretches.{end_stretch}
 use Rattle.job_verdict.proofs.stretches.end_stretch.Goals as goal

@@ -1,7 +1,8 @@
 use Rattle.std.proofs.Common.{rules, ◌≡◌, ℕ, ℤ, pos, refl, w32, get_or}
 use mir.Val.{to_z, of_z, SFits}
 use Rattle.job_verdict.specs.ZoneBoxes.{box_of, low_in, high_in, side_low, side_high}
-use Rattle.job_verdict.proofs.Ranges.{map-three, stored}
+use Rattle.number_laws.proofs.Lists.{map-three}
+use Rattle.job_verdict.proofs.Directions.{stored}
 use Rattle.job_verdict.proofs.zone_boxes.box_of.Goals as goal
 
 pub returns : goal.returns

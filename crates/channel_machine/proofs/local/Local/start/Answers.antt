@@ -1,6 +1,6 @@
 use Rattle.std.proofs.Common.{refl, sym}
-use Rattle.axis_moves.specs.Motions.{stands}
-use Rattle.axis_moves.proofs.Positions.{left_at-nil}
+use Rattle.axis_sets.specs.Positions.{stands}
+use Rattle.sync_types.proofs.Positions.{left_at-nil}
 use Rattle.channel_machine.proofs.local.Local.start.Goals as goal
 
 pub returns-clause-kept : goal.returns-clause-kept

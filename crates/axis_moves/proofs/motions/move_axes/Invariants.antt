@@ -1,5 +1,0 @@
-use Rattle.axis_moves.proofs.Moves.{Moves}
-use Rattle.axis_moves.proofs.motions.move_axes.Given as goal
-
-abbrev pub invariant-loop-index : goal.invariant-loop-index
-invariant-loop-index l = Moves l.goals l.initial.at l.index l.at l.axes.items

@@ -1,0 +1,12 @@
+pub mod AlarmLaws
+pub mod ArcAxes
+pub mod ArcLaws
+pub mod Arrivals
+pub mod Ends
+pub mod Factors
+pub mod GoalLaws
+pub mod MotionLaws
+pub mod Moves
+pub mod Reaches
+pub mod Runs
+pub mod HeldWords

@@ -1,0 +1,4 @@
+pub mod Arcs
+pub mod Goals
+pub mod Motions
+pub mod Sides

@@ -1,0 +1,329 @@
+//! What a block programs for axes, what holds in it, and where the axes are to go.
+
+ghost use Rattle.std.specs.Prelude.{◌≡◌, ◌<◌, ◌==◌, List, map, option_map};
+ghost use Rattle.frames.specs.Composition.{IsComposed};
+ghost use Rattle.frames.specs.Images.{image_of};
+ghost use Rattle.frames.specs.Maps.{Map, mapped_point};
+ghost use Rattle.frames.specs.Places.{programmed, end_at, change_of};
+ghost use Rattle.g_groups.specs.Groups.{HasModalValue};
+ghost use Rattle.micro_units.specs.Rounding.{half_away};
+ghost use Rattle.block_motions.specs.Goals as model;
+ghost use Rattle.block_motions.specs.Goals.{InForce, AreInForce};
+
+use axis_sets::AxisId;
+use frames::Frame;
+use g_groups::Modal;
+use micro_units::{Num, Um};
+use nc_blocks::Measure;
+
+/// The greatest size of a position in micrometres.
+pub(crate) const RANGE: u32 = 10_000_000;
+
+/// The group of G53, G153 and SUPA, of which no word may hold.
+const BLOCK_GROUP: u8 = 9;
+
+/// The group of G90 and G91.
+const MEASURE_GROUP: u8 = 14;
+
+/// The group of DIAMON, DIAMOF and DIAM90, the first, second and third word in it.
+const DIAMETER_GROUP: u8 = 29;
+
+/// A value that is programmed for an axis, in millimetres.
+#[derive(Clone, Copy, Debug, PartialEq, Eq)]
+pub struct Programmed {
+    /// How it is meant.
+    pub measure: Measure,
+    /// The value.
+    pub value: Num,
+}
+
+/// What a block programs.
+#[derive(Clone, Copy, Debug)]
+pub struct Targets {
+    /// The values of X, Y and Z.
+    pub slots: [Option<Programmed>; 3],
+    /// The values of axes by their own names, by the numbers of the axes.
+    pub axes: [Option<Programmed>; 16],
+}
+
+/// What holds in a block.
+#[derive(Clone, Copy, Debug)]
+pub struct Conditions {
+    /// The words of groups, its own among them.
+    pub modal: Modal,
+    /// The programmable frame.
+    pub frame: Frame,
+    /// The settable offsets of the slots X, Y and Z under the word of their group, in micrometres.
+    pub offsets: [Um; 3],
+}
+
+/// Where an axis is to go.
+#[derive(Clone, Copy, Debug, PartialEq, Eq)]
+pub(crate) enum Goal {
+    /// To this position, in micrometres.
+    To(Um),
+    /// On by so much, in micrometres.
+    By(Um),
+    /// Farther than any axis may go.
+    TooFar,
+}
+
+/// The code of the word of a group that holds in the block.
+pub fn word(conditions: &Conditions, group: u8) -> u16
+    requires { HasModalValue group }
+    ensures { (h : InForce) → AreInForce h conditions.now → result ≡ h.word group }
+{
+    conditions.modal.word(group)
+}
+
+/// Whether the frame and the offsets hold in the block.
+#[tactic(auto, using(crate::proofs::HeldWords::has_block_word))]
+fn is_in_frame(conditions: &Conditions) -> bool
+    ensures { (h : InForce) → AreInForce h conditions.now → result ≡ (h.word 9 == 0) }
+{
+    word(conditions, BLOCK_GROUP) == 0
+}
+
+/// The frame of the block.
+pub(crate) fn frame_in(conditions: &Conditions) -> Frame
+    ensures { (h : InForce) → AreInForce h conditions.now → IsComposed (model.chain_in h) result }
+{
+    if is_in_frame(conditions) {
+        conditions.frame
+    } else {
+        Frame::empty()
+    }
+}
+
+/// The offset of a slot in the block.
+fn offset_in(conditions: &Conditions, slot: u8) -> Um
+    requires { slot < 3 }
+    ensures { (h : InForce) → AreInForce h conditions.now → result ≡ model.offset_in h slot }
+{
+    if !is_in_frame(conditions) {
+        return Um { micrometres: 0 };
+    }
+    conditions.offsets[usize::from(slot)]
+}
+
+/// Whether a value is a change of a position.
+#[tactic(auto, using(crate::proofs::HeldWords::has_measure_word))]
+fn is_change(conditions: &Conditions, measure: Measure) -> bool
+    ensures { (h : InForce) → AreInForce h conditions.now → result ≡ model.is_change h measure }
+{
+    match measure {
+        Measure::Modal => word(conditions, MEASURE_GROUP) == 91,
+        Measure::Absolute => false,
+        Measure::Incremental => true,
+    }
+}
+
+/// Whether a value of X, Y or Z, which is a change or not, is a diameter.
+#[tactic(auto, using(crate::proofs::HeldWords::has_diameter_word))]
+fn is_diameter(conditions: &Conditions, axis: u8, change: bool) -> bool
+    ensures { (h : InForce) → AreInForce h conditions.now → result ≡ model.is_diameter h axis change }
+{
+    let code = word(conditions, DIAMETER_GROUP);
+    axis == 0 && (code == 1 || (code == 3 && !change))
+}
+
+/// Twice the value that goes through the frame, in millionths of a millimetre.
+fn twice_of(conditions: &Conditions, axis: u8, programmed: Programmed) -> i64
+    ensures { (h : InForce) → AreInForce h conditions.now → result ≡ model.twice_of h axis programmed }
+{
+    let change = is_change(conditions, programmed.measure);
+    let value = programmed.value.millionths;
+    if is_diameter(conditions, axis, change) {
+        value
+    } else {
+        value * 2
+    }
+}
+
+/// The slot to which a frame sends X, Y or Z.
+fn slot_of(frame: &Frame, axis: u8) -> u8
+    requires { axis < 3 }
+    ensures slot { (chain : List Map) → IsComposed chain frame.now → result ≡ (image_of chain axis).slot }
+    ensures bound { result < 3 }
+{
+    let (slot, _, _) = frame.image(axis);
+    slot
+}
+
+/// By how much X, Y or Z goes through the frame.
+pub(crate) fn change_through(frame: &Frame, axis: u8, twice: i64) -> Goal
+    requires { axis < 3 }
+    ensures { (chain : List Map) → IsComposed chain frame.now
+        → result ≡ model.change_by (change_of (image_of chain axis) twice) }
+{
+    match frame.point(axis, twice, Um { micrometres: 0 }, true) {
+        Ok((_, change)) => Goal::By(change),
+        Err(_) => Goal::TooFar,
+    }
+}
+
+/// Where X, Y or Z goes through the frame, with the offset of its slot.
+fn place_through(frame: &Frame, axis: u8, twice: i64, offset: Um) -> Goal
+    requires { axis < 3 }
+    ensures { (chain : List Map) → IsComposed chain frame.now
+        → let point = mapped_point chain (programmed (model.on_axis axis twice)) in
+        result ≡ model.position_at (end_at point (image_of chain axis).slot offset) }
+{
+    match frame.point(axis, twice, offset, false) {
+        Ok((_, place)) => Goal::To(place),
+        Err(_) => Goal::TooFar,
+    }
+}
+
+/// On by a value.
+fn change_by(value: Num) -> Goal
+    ensures { result ≡ model.change_by (half_away value 1000) }
+{
+    match value.to_um() {
+        Ok(change) => Goal::By(change),
+        Err(_) => Goal::TooFar,
+    }
+}
+
+/// To a value.
+fn position_at(value: Num) -> Goal
+    ensures { result ≡ model.position_at (half_away value 1000) }
+{
+    match value.to_um() {
+        Ok(end) if is_position(end.micrometres) => Goal::To(end),
+        _ => Goal::TooFar,
+    }
+}
+
+/// Whether a count of micrometres is that of a position.
+pub(crate) fn is_position(micrometres: i32) -> bool
+    ensures { result ≡ model.is_position micrometres }
+{
+    micrometres.unsigned_abs() <= RANGE
+}
+
+/// The goal of X, Y or Z with this value, through the frame.
+pub(crate) fn goal_through(conditions: &Conditions, axis: u8, programmed: Programmed) -> Goal
+    requires { axis < 3 }
+    ensures { (h : InForce) → AreInForce h conditions.now → result ≡ model.goal_through h axis programmed }
+{
+    let frame = frame_in(conditions);
+    let change = is_change(conditions, programmed.measure);
+    let twice = twice_of(conditions, axis, programmed);
+    if change {
+        change_through(&frame, axis, twice)
+    } else {
+        place_through(
+            &frame,
+            axis,
+            twice,
+            offset_in(conditions, slot_of(&frame, axis)),
+        )
+    }
+}
+
+/// The goal of an axis by its own name.
+fn goal_by_name(conditions: &Conditions, programmed: Programmed) -> Goal
+    ensures { (h : InForce) → AreInForce h conditions.now → result ≡ model.goal_by_name h programmed }
+{
+    if is_change(conditions, programmed.measure) {
+        change_by(programmed.value)
+    } else {
+        position_at(programmed.value)
+    }
+}
+
+/// The axis that X, Y or Z moves.
+pub(crate) fn axis_in(slots: &[Option<AxisId>; 3], conditions: &Conditions, axis: u8) -> Option<AxisId>
+    requires { axis < 3 }
+    ensures { (h : InForce) → AreInForce h conditions.now → result ≡ model.axis_in slots.now h axis }
+{
+    let frame = frame_in(conditions);
+    slots[usize::from(slot_of(&frame, axis))]
+}
+
+/// Whether X, Y or Z has an axis that it moves, or is not programmed.
+fn has_axis(
+    slots: &[Option<AxisId>; 3],
+    conditions: &Conditions,
+    axis: u8,
+    programmed: Option<Programmed>,
+) -> bool
+    requires { axis < 3 }
+    ensures { (h : InForce) → AreInForce h conditions.now → result ≡ model.has_axis slots.now h axis programmed }
+{
+    programmed.is_none() || axis_in(slots, conditions, axis).is_some()
+}
+
+/// Whether each of X, Y and Z that is programmed has an axis that it moves.
+#[tactic(auto, unfolding(crate::specs::Goals::have_axes))]
+pub(crate) fn have_axes(
+    slots: &[Option<AxisId>; 3],
+    conditions: &Conditions,
+    values: &[Option<Programmed>; 3],
+) -> bool
+    ensures { (h : InForce) → AreInForce h conditions.now → result ≡ model.have_axes slots.now h values.now }
+{
+    has_axis(slots, conditions, 0, values[0])
+        && has_axis(slots, conditions, 1, values[1])
+        && has_axis(slots, conditions, 2, values[2])
+}
+
+/// The goal of an axis by its own name, if it is programmed.
+fn named_goal(conditions: &Conditions, programmed: Option<Programmed>) -> Option<Goal>
+    ensures { (h : InForce) → AreInForce h conditions.now
+        → result ≡ option_map (model.goal_by_name h) programmed }
+{
+    match programmed {
+        Some(programmed) => Some(goal_by_name(conditions, programmed)),
+        None => None,
+    }
+}
+
+/// The goals of axes by their own names.
+fn named_goals(conditions: &Conditions, axes: &[Option<Programmed>; 16]) -> [Option<Goal>; 16]
+    ensures { (h : InForce) → AreInForce h conditions.now
+        → result ≡ map (λ value. option_map (model.goal_by_name h) value) axes.now }
+{
+    let mut goals = [None; 16];
+    for index in 0..16 {
+        goals[index] = named_goal(conditions, axes[index]);
+    }
+    goals
+}
+
+/// The goals with that of X, Y or Z, if it is programmed and moves an axis.
+fn with_goal(
+    mut goals: [Option<Goal>; 16],
+    slots: &[Option<AxisId>; 3],
+    conditions: &Conditions,
+    axis: u8,
+    programmed: Option<Programmed>,
+) -> [Option<Goal>; 16]
+    requires { axis < 3 }
+    ensures { (h : InForce) → AreInForce h conditions.now
+        → result ≡ model.with_goal slots.now h axis programmed goals }
+{
+    if let Some(programmed) = programmed {
+        if let Some(moved) = axis_in(slots, conditions, axis) {
+            goals[usize::from(moved.index)] = Some(goal_through(conditions, axis, programmed));
+        }
+    }
+    goals
+}
+
+/// The goals of a block by the numbers of the axes.
+#[tactic(auto, unfolding(crate::specs::Goals::goals_of))]
+pub(crate) fn goals_of(
+    slots: &[Option<AxisId>; 3],
+    conditions: &Conditions,
+    targets: &Targets,
+) -> [Option<Goal>; 16]
+    ensures { (h : InForce) → AreInForce h conditions.now → result ≡ model.goals_of slots.now h targets.now }
+{
+    let [x, y, z] = targets.slots;
+    let named = named_goals(conditions, &targets.axes);
+    let with_x = with_goal(named, slots, conditions, 0, x);
+    let with_y = with_goal(with_x, slots, conditions, 1, y);
+    with_goal(with_y, slots, conditions, 2, z)
+}

@@ -1,0 +1,191 @@
+//! The motion of a block by a line or as a rapid.
+
+ghost use Rattle.std.specs.Prelude.{◌≡◌, true, IsTrue, IfOk, OnErr};
+ghost use Rattle.axis_sets.specs.Positions as positions;
+ghost use Rattle.block_motions.specs.Goals.{InForce, AreInForce};
+ghost use Rattle.block_motions.specs.Motions as model;
+
+use crate::goals::{Conditions, Goal, Targets, goals_of, have_axes, is_position, word};
+use arrayvec::ArrayVec;
+use axis_sets::{AxisId, AxisSet, Positions};
+use micro_units::Um;
+use path_geometry::{Ends, Motion};
+
+/// The group of RTLION and RTLIOF, the first and second word in it.
+const RAPID_GROUP: u8 = 0;
+
+/// The group of G0, G1, G2, G3 and G33.
+const MOTION_GROUP: u8 = 1;
+
+/// Where an axis stands.
+pub fn stands(at: &Positions, axis: AxisId) -> Um
+    ensures { result ≡ positions.stands at.now axis }
+{
+    match at.get(axis) {
+        Some(position) => position,
+        None => Um { micrometres: 0 },
+    }
+}
+
+/// Whether an axis that starts there reaches its goal, if it has one.
+fn is_in_reach(owned: bool, start: Um, goal: Option<Goal>) -> bool
+    ensures { result ≡ model.is_in_reach owned start goal }
+{
+    match goal {
+        Some(goal) => is_goal_in_reach(owned, start, goal),
+        None => true,
+    }
+}
+
+/// Whether an axis that starts there reaches its goal.
+pub(crate) fn is_goal_in_reach(owned: bool, start: Um, goal: Goal) -> bool
+    ensures { result ≡ model.is_goal_in_reach owned start goal }
+{
+    match goal {
+        Goal::To(_) => true,
+        Goal::By(change) => !owned || is_position(start.micrometres + change.micrometres),
+        Goal::TooFar => false,
+    }
+}
+
+/// Whether all goals are in reach.
+#[tactic(auto, unfolding(crate::specs::Motions::are_in_reach))]
+pub(crate) fn are_in_reach(owned: AxisSet, at: &Positions, goals: &[Option<Goal>; 16]) -> bool
+    ensures { result ≡ model.are_in_reach owned (positions.stands at.now) goals.now }
+{
+    for index in 0..16 {
+        let axis = AxisId { index: index as u8 };
+        if !is_in_reach(owned.contains(axis), stands(at, axis), goals[index]) {
+            return false;
+        }
+    }
+    true
+}
+
+/// Whether all goals are those of axes of the set.
+#[tactic(auto, unfolding(crate::specs::Motions::are_own))]
+pub(crate) fn are_own(owned: AxisSet, goals: &[Option<Goal>; 16]) -> bool
+    ensures { result ≡ model.are_own owned goals.now }
+{
+    for index in 0..16 {
+        let axis = AxisId { index: index as u8 };
+        if goals[index].is_some() && !owned.contains(axis) {
+            return false;
+        }
+    }
+    true
+}
+
+/// Where an axis ends that starts there.
+pub(crate) fn end_from(start: Um, goal: Goal) -> Um
+    requires { IsTrue (model.is_goal_in_reach true start goal) }
+    ensures { result ≡ model.end_from start goal }
+{
+    match goal {
+        Goal::To(end) => end,
+        Goal::By(change) => Um {
+            micrometres: start.micrometres + change.micrometres,
+        },
+        Goal::TooFar => unreachable!(),
+    }
+}
+
+/// Moves the axes to their goals, and answers their starts and ends.
+pub(crate) fn move_axes(goals: &[Option<Goal>; 16], at: &mut Positions) -> Ends
+    requires { model.AreReached (positions.stands at.old) goals.now }
+    ensures ends { result.axes ≡ model.ends_from (positions.stands at.old) goals.now }
+    ensures stand { model.StandsMoved goals.now at.old at.new }
+{
+    let mut axes = ArrayVec::new();
+    for index in 0..16 {
+        if let Some(goal) = goals[index] {
+            let axis = AxisId { index: index as u8 };
+            let start = stands(at, axis);
+            let end = end_from(start, goal);
+            axes.push((axis, start, end));
+            at.set(axis, end);
+        }
+    }
+    Ends { axes }
+}
+
+/// Whether each axis goes by itself.
+#[tactic(auto, using(crate::proofs::HeldWords::has_rapid_word, crate::proofs::HeldWords::has_motion_word))]
+fn is_rapid(conditions: &Conditions) -> bool
+    ensures { (h : InForce) → AreInForce h conditions.now → result ≡ model.is_rapid h }
+{
+    word(conditions, MOTION_GROUP) == 0 && word(conditions, RAPID_GROUP) == 2
+}
+
+/// A rapid, or else a straight line.
+fn motion_between(rapid: bool, ends: Ends) -> Motion
+    ensures { result ≡ model.motion_between rapid ends }
+{
+    if rapid {
+        Motion::Rapid(ends)
+    } else {
+        Motion::Line(ends)
+    }
+}
+
+/// Gives the motion to these goals, or alarms.
+#[tactic(auto, unfolding(crate::specs::Motions::straight_motion_to))]
+fn move_to(
+    owned: AxisSet,
+    rapid: bool,
+    goals: &[Option<Goal>; 16],
+    at: &mut Positions,
+) -> Result<Option<Motion>, u16>
+    ensures made { result ≡ model.straight_motion_to owned (positions.stands at.old) rapid goals.now }
+    ensures stand { IfOk result (λ motion. model.StandsAtEndOf motion at.old at.new) }
+    ensures unmoved { OnErr result (at.new ≡ at.old) }
+{
+    if !are_in_reach(owned, at, goals) {
+        return Err(13);
+    }
+    if !are_own(owned, goals) {
+        return Err(15);
+    }
+    let ends = move_axes(goals, at);
+    if ends.axes.is_empty() {
+        return Ok(None);
+    }
+    Ok(Some(motion_between(rapid, ends)))
+}
+
+/// Gives the motion of a block, and takes the axes to its ends. A block that programs no axis has
+/// none. It is a straight line; under G0 with RTLIOF it is a rapid, in which each axis
+/// goes by itself.
+///
+/// X, Y and Z are halved where they are diameters, and go through the frame to the slots, with
+/// their offsets; axes by their own names go without either. A value in millimetres is rounded
+/// once, to whole micrometres. The alarms come in this order, and after one no axis has moved:
+///
+/// - 14: the frame sends X, Y or Z to a slot without axis.
+/// - 13: an axis would end more than 10,000,000 micrometres from 0, or change by more than
+///   20,000,000. Of an axis that is not owned, of which nobody knows where it stands, a change is
+///   tested alone.
+/// - 15: an axis is not owned.
+#[tactic(auto, unfolding(crate::specs::Motions::straight_motion))]
+pub fn straight_motion(
+    slots: &[Option<AxisId>; 3],
+    owned: AxisSet,
+    conditions: &Conditions,
+    targets: &Targets,
+    at: &mut Positions,
+) -> Result<Option<Motion>, u16>
+    ensures made { (h : InForce) → AreInForce h conditions.now
+        → result ≡ model.straight_motion slots.now owned h (positions.stands at.old) targets.now }
+    ensures stand { IfOk result (λ motion. model.StandsAtEndOf motion at.old at.new) }
+    ensures unmoved { OnErr result (at.new ≡ at.old) }
+{
+    if !have_axes(slots, conditions, &targets.slots) {
+        return Err(14);
+    }
+    move_to(
+        owned,
+        is_rapid(conditions),
+        &goals_of(slots, conditions, targets),
+        at,
+    )
+}

@@ -1,0 +1,54 @@
+-- The motions of a channel, each from where those before it leave the axes.
+use Rattle.std.proofs.Common.{◌≡◌, ◌⊎◌, ◌∙◌, ℕ, ℤ, ◌+◌, ◌≤◌, ◌<◌, Bool, List, [], ◌∷◌, ◌++◌, append-nil, length, length-append, take, slice_get, Option, None, Some, All, inl, inr, sym, ap, subst, arith}
+use Rattle.std.proofs.Math.Seq.{take-append_seam}
+use Rattle.std.proofs.lemmas.List.{take-append-le}
+use Rattle.std.proofs.lemmas.List.Elements.{All-take}
+use Rattle.std.proofs.lemmas.Option.{slice_get_within}
+use Rattle.std.specs.Option.{option_to_list}
+use Rattle.block_motions.specs.Motions.{IsMotionOf}
+use Rattle.block_motions.proofs.Ends.{le_or_lt}
+use Rattle.number_laws.proofs.Lists.{by_places, slice_get-append_left, slice_get-append_seam}
+use Rattle.path_geometry.specs.Motions.{axes_of, IsInRange, IsSound}
+use Rattle.sync_types.specs.declared.Item.{Item}
+use Rattle.sync_types.specs.Items.{left_at, motion_of}
+use Rattle.sync_types.proofs.Positions.{left_in_range}
+
+-- each of these motions is one of a block where the motions before it leave the axes
+pub record AllFollow (owned : List Bool) (start : ℕ → ℤ) (items : List Item) : Type 0 where
+  pub follows : (place : ℕ) (item : Item) → slice_get items place ≡ Some item → IsMotionOf owned (left_at (take place items) start) (motion_of item)
+
+-- the motion of a place follows those before it
+abbrev Follows : List Bool → (ℕ → ℤ) → List Item → ℕ → Item → Type 0
+Follows owned start items place item = IsMotionOf owned (left_at (take place items) start) (motion_of item)
+
+pub AllFollow-push : (owned : List Bool) (start : ℕ → ℤ) (items : List Item) (o : Option Item) → AllFollow owned start items
+    → ((item : Item) → o ≡ Some item → IsMotionOf owned (left_at items start) (motion_of item)) → AllFollow owned start (items ++ option_to_list o)
+AllFollow-push owned start items None all here = subst (λ (xs : List Item). AllFollow owned start xs) (sym (append-nil items)) all
+AllFollow-push owned start items (Some new) all here = record { follows = λ place item is. by_place place item is (le_or_lt (length items) place) }
+  where
+    at_end : (item : Item) → slice_get (items ++ new ∷ []) (length items) ≡ Some item → Follows owned start (items ++ new ∷ []) (length items) item
+    at_end item is =
+        let same : new ≡ item = let e : Some new ≡ Some item = sym (slice_get-append_seam items new) ∙ is in cc in
+        rw take-append_seam (here item (ap (λ (i : Item). Some i) same))
+
+    by_place : (place : ℕ) (item : Item) → slice_get (items ++ new ∷ []) place ≡ Some item → (length items ≤ place) ⊎ (place < length items) → Follows owned start (items ++ new ∷ []) place item
+    by_place place item is (inl beyond) =
+        let within : place < length (items ++ new ∷ []) = slice_get_within (items ++ new ∷ []) place item is in
+        let long : length (items ++ new ∷ []) ≡ length items + 1 = length-append items (new ∷ []) in
+        let same : length items ≡ place = omega arith in
+        subst (λ (k : ℕ). Follows owned start (items ++ new ∷ []) k item) same (at_end item (ap (slice_get (items ++ new ∷ [])) same ∙ is))
+    by_place place item is (inr within) =
+        let short : place ≤ length items = omega arith in
+        rw take-append-le (all.follows place item (sym (slice_get-append_left items (new ∷ []) place within) ∙ is))
+
+pub follows_none : (owned : List Bool) (start : ℕ → ℤ) → AllFollow owned start []
+follows_none owned start = record { follows = λ place item is. absurd cc }
+
+-- ---- sound motions
+
+pub ends_in_range : (owned : List Bool) (start : ℕ → ℤ) (items : List Item) → AllFollow owned start items → All (λ item. All (λ e. IsInRange e.2) (axes_of (motion_of item))) items
+ends_in_range owned start items all = by_places (λ item. All (λ e. IsInRange e.2) (axes_of (motion_of item))) items (λ place item is. (all.follows place item is).in_range)
+
+pub sound_motions : (owned : List Bool) (start : ℕ → ℤ) (items : List Item) → AllFollow owned start items → ((axis : ℕ) → IsInRange (start axis)) → All (λ item. IsSound (motion_of item)) items
+sound_motions owned start items all starts = by_places (λ item. IsSound (motion_of item)) items (λ place item is. (all.follows place item is).sound
+    (left_in_range (take place items) start (All-take (λ item. All (λ e. IsInRange e.2) (axes_of (motion_of item))) place items (ends_in_range owned start items all)) starts))

@@ -1,0 +1,46 @@
+-- Where items leave axes.
+use Rattle.std.proofs.Common.{◌≡◌, ◌∙◌, ℕ, ℤ, List, [], ◌++◌, Option, None, Some, option_and_then, unwrap_or, IfSome, All, refl, sym, ap}
+use Rattle.std.proofs.lemmas.List.Elements.{All-weaker, filter_map-append}
+use Rattle.std.specs.List.{filter_map}
+use Rattle.std.specs.Option.{option_to_list}
+use Rattle.axis_sets.specs.Positions.{stands}
+use Rattle.number_laws.proofs.Lists.{filter_map-one, last_or-push, last_kept, unwrap_kept}
+use Rattle.path_geometry.specs.Motions.{axes_of, IsInRange}
+use Rattle.path_geometry.proofs.EndsLaws.{axis_end_in_range}
+use Rattle.sync_types.specs.Items.{motion_of, end_in, left_at, StandsAtEnd, StandsAfter}
+use Rattle.sync_types.specs.declared.Item.{Item}
+
+-- no item leaves the axes where they stand
+pub left_at-nil : (at : ℕ → ℤ) (axis : ℕ) → left_at [] at axis ≡ at axis
+unfolding left_at
+left_at-nil at axis = refl
+
+-- an item more, if there is one, leaves an axis at its end, or where it stood
+pub left_at-push : (items : List Item) (o : Option Item) (at : ℕ → ℤ) (axis : ℕ)
+    → left_at (items ++ option_to_list o) at axis ≡ unwrap_or (option_and_then (λ item. end_in axis item) o) (left_at items at axis)
+unfolding left_at
+left_at-push items o at axis =
+    let h : Item → Option ℤ = λ item. end_in axis item in
+    rw (filter_map-append h items (option_to_list o), ends_of o)
+    (last_or-push None (filter_map h items) (option_and_then h o) (at axis))
+  where
+    ends_of : (o : Option Item) → filter_map (λ item. end_in axis item) (option_to_list o) ≡ option_to_list (option_and_then (λ item. end_in axis item) o)
+    ends_of None = refl
+    ends_of (Some item) = filter_map-one (λ item. end_in axis item) item (end_in axis item) refl
+
+-- so do positions that are moved on
+pub stands_more : (items : List Item) (o : Option Item) (start old new : List (Option ℤ)) → StandsAfter items start old → StandsAtEnd o old new
+    → StandsAfter (items ++ option_to_list o) start new
+stands_more items o start old new stand moved axis =
+    moved axis ∙ ap (λ (z : ℤ). unwrap_or (option_and_then (λ item. end_in axis item) o) z) (stand axis)
+    ∙ sym (left_at-push items o (stands start) axis)
+
+-- items that end in range leave the axes in range
+pub left_in_range : (items : List Item) (start : ℕ → ℤ) → All (λ item. All (λ e. IsInRange e.2) (axes_of (motion_of item))) items
+    → ((axis : ℕ) → IsInRange (start axis)) → (axis : ℕ) → IsInRange (left_at items start axis)
+unfolding left_at
+left_in_range items start all starts axis =
+    unwrap_kept IsInRange (last_or None (filter_map (λ item. end_in axis item) items)) (start axis)
+    (last_kept IsInRange (λ item. end_in axis item) None items tt
+    (All-weaker (λ item. All (λ e. IsInRange e.2) (axes_of (motion_of item))) (λ item. IfSome (end_in axis item) IsInRange) (λ item. axis_end_in_range axis (motion_of item)) items all))
+    (starts axis)
