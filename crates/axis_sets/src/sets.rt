@@ -3,13 +3,13 @@ ghost use Rattle.std.specs.Prelude.{◌≡◌, ℕ, ◌<◌, ◌==◌, ◌||◌,
 ghost use Rattle.axis_sets.specs.Sets.{has, IsEmpty, GivesLowest};
 
 use crate::places::Places;
-use crate::{AxisId, ChannelId, ZoneId};
+use crate::{AXIS_LIMIT, AxisId, CHANNEL_PLACES, ChannelId, MARK_LIMIT, ZONE_PLACES, ZoneId};
 use std::marker::Model;
 
 /// A set of axes. A contract sees for each number below 16 whether it is a member.
 #[derive(Clone, Copy, Debug, PartialEq, Eq)]
 pub struct AxisSet {
-    places: Places<16>,
+    places: Places<AXIS_LIMIT>,
 }
 
 impl Model for AxisSet {
@@ -25,8 +25,9 @@ impl Model for AxisSet {
 impl Default for AxisSet {
     ghost use Rattle.std.specs.Prelude.{◌≡◌, length};
     ghost use Rattle.axis_sets.specs.Sets.{IsEmpty};
+    ghost use Rattle.axis_sets.specs.declared.limits.TheConstants.{AXIS_LIMIT};
 
-    ghost is_default = { λ set. IsEmpty set × (length set ≡ 16) };
+    ghost is_default = { λ set. IsEmpty set × (length set ≡ AXIS_LIMIT) };
 
     fn default() -> AxisSet {
         AxisSet::empty()
@@ -37,7 +38,7 @@ impl AxisSet {
     /// The set with no member.
     pub fn empty() -> AxisSet
         ensures members { IsEmpty result }
-        ensures size { length result ≡ 16 }
+        ensures size { length result ≡ AXIS_LIMIT }
     {
         AxisSet {
             places: Places::empty(),
@@ -47,7 +48,7 @@ impl AxisSet {
     /// Whether this axis is a member.
     pub fn contains(&self, member: AxisId) -> bool
         ensures member { result ≡ has self.now member }
-        ensures size { length self.now ≡ 16 }
+        ensures size { length self.now ≡ AXIS_LIMIT }
     {
         self.places.contains(usize::from(member.index))
     }
@@ -55,7 +56,7 @@ impl AxisSet {
     /// The set with this member too.
     pub fn with(self, member: AxisId) -> AxisSet
         ensures members { (m : ℕ) → has result m ≡ ((m == member) || has self m) }
-        ensures size { length result ≡ 16 }
+        ensures size { length result ≡ AXIS_LIMIT }
     {
         AxisSet {
             places: self.places.with(usize::from(member.index)),
@@ -65,7 +66,7 @@ impl AxisSet {
     /// The set without this member.
     pub fn without(self, member: AxisId) -> AxisSet
         ensures members { (m : ℕ) → has result m ≡ (has self m && not (m == member)) }
-        ensures size { length result ≡ 16 }
+        ensures size { length result ≡ AXIS_LIMIT }
     {
         AxisSet {
             places: self.places.without(usize::from(member.index)),
@@ -75,7 +76,7 @@ impl AxisSet {
     /// The members of either set.
     pub fn union(self, other: AxisSet) -> AxisSet
         ensures members { (m : ℕ) → has result m ≡ (has self m || has other m) }
-        ensures size { length result ≡ 16 }
+        ensures size { length result ≡ AXIS_LIMIT }
     {
         AxisSet {
             places: self.places.union(other.places),
@@ -85,7 +86,7 @@ impl AxisSet {
     /// The members that the other set does not have.
     pub fn minus(self, other: AxisSet) -> AxisSet
         ensures members { (m : ℕ) → has result m ≡ (has self m && not (has other m)) }
-        ensures size { length result ≡ 16 }
+        ensures size { length result ≡ AXIS_LIMIT }
     {
         AxisSet {
             places: self.places.minus(other.places),
@@ -95,7 +96,7 @@ impl AxisSet {
     /// Whether no axis is a member.
     pub fn is_empty(&self) -> bool
         ensures empty { IsTrue result ↔ IsEmpty self.now }
-        ensures size { length self.now ≡ 16 }
+        ensures size { length self.now ≡ AXIS_LIMIT }
     {
         self.places.is_empty()
     }
@@ -103,7 +104,7 @@ impl AxisSet {
     /// The member with the lowest number.
     pub fn lowest(&self) -> Option<AxisId>
         ensures lowest { GivesLowest self.now result }
-        ensures size { length self.now ≡ 16 }
+        ensures size { length self.now ≡ AXIS_LIMIT }
     {
         match self.places.lowest() {
             Some(place) => Some(AxisId { index: place as u8 }),
@@ -115,7 +116,7 @@ impl AxisSet {
 /// A set of channels. A contract sees for each number below 9 whether it is a member; 0 never is.
 #[derive(Clone, Copy, Debug, PartialEq, Eq)]
 pub struct ChannelSet {
-    places: Places<9>,
+    places: Places<CHANNEL_PLACES>,
 }
 
 impl Model for ChannelSet {
@@ -134,8 +135,9 @@ impl Model for ChannelSet {
 impl Default for ChannelSet {
     ghost use Rattle.std.specs.Prelude.{◌≡◌, length};
     ghost use Rattle.axis_sets.specs.Sets.{IsEmpty};
+    ghost use Rattle.axis_sets.specs.declared.limits.TheConstants.{CHANNEL_PLACES};
 
-    ghost is_default = { λ set. IsEmpty set × (length set ≡ 9) };
+    ghost is_default = { λ set. IsEmpty set × (length set ≡ CHANNEL_PLACES) };
 
     fn default() -> ChannelSet {
         ChannelSet::empty()
@@ -146,7 +148,7 @@ impl ChannelSet {
     /// The set with no member.
     pub fn empty() -> ChannelSet
         ensures members { IsEmpty result }
-        ensures size { length result ≡ 9 }
+        ensures size { length result ≡ CHANNEL_PLACES }
     {
         ChannelSet {
             places: Places::empty(),
@@ -157,7 +159,7 @@ impl ChannelSet {
     pub fn contains(&self, member: ChannelId) -> bool
         ensures member { result ≡ has self.now member }
         ensures from_one { has self.now 0 ≡ false }
-        ensures size { length self.now ≡ 9 }
+        ensures size { length self.now ≡ CHANNEL_PLACES }
     {
         self.places.contains(usize::from(member.number))
     }
@@ -165,7 +167,7 @@ impl ChannelSet {
     /// The set with this member too.
     pub fn with(self, member: ChannelId) -> ChannelSet
         ensures members { (m : ℕ) → has result m ≡ ((m == member) || has self m) }
-        ensures size { length result ≡ 9 }
+        ensures size { length result ≡ CHANNEL_PLACES }
     {
         ChannelSet {
             places: self.places.with(usize::from(member.number)),
@@ -175,7 +177,7 @@ impl ChannelSet {
     /// The set without this member.
     pub fn without(self, member: ChannelId) -> ChannelSet
         ensures members { (m : ℕ) → has result m ≡ (has self m && not (m == member)) }
-        ensures size { length result ≡ 9 }
+        ensures size { length result ≡ CHANNEL_PLACES }
     {
         ChannelSet {
             places: self.places.without(usize::from(member.number)),
@@ -185,7 +187,7 @@ impl ChannelSet {
     /// The members of either set.
     pub fn union(self, other: ChannelSet) -> ChannelSet
         ensures members { (m : ℕ) → has result m ≡ (has self m || has other m) }
-        ensures size { length result ≡ 9 }
+        ensures size { length result ≡ CHANNEL_PLACES }
     {
         ChannelSet {
             places: self.places.union(other.places),
@@ -195,7 +197,7 @@ impl ChannelSet {
     /// The members that the other set does not have.
     pub fn minus(self, other: ChannelSet) -> ChannelSet
         ensures members { (m : ℕ) → has result m ≡ (has self m && not (has other m)) }
-        ensures size { length result ≡ 9 }
+        ensures size { length result ≡ CHANNEL_PLACES }
     {
         ChannelSet {
             places: self.places.minus(other.places),
@@ -205,7 +207,7 @@ impl ChannelSet {
     /// Whether no channel is a member.
     pub fn is_empty(&self) -> bool
         ensures empty { IsTrue result ↔ IsEmpty self.now }
-        ensures size { length self.now ≡ 9 }
+        ensures size { length self.now ≡ CHANNEL_PLACES }
     {
         self.places.is_empty()
     }
@@ -213,7 +215,7 @@ impl ChannelSet {
     /// The member with the lowest number.
     pub fn lowest(&self) -> Option<ChannelId>
         ensures lowest { GivesLowest self.now result }
-        ensures size { length self.now ≡ 9 }
+        ensures size { length self.now ≡ CHANNEL_PLACES }
     {
         match self.places.lowest() {
             Some(place) => Some(ChannelId {
@@ -227,7 +229,7 @@ impl ChannelSet {
 /// A set of marks, which are numbers from 0 to 9. A contract sees for each of them whether it is a member.
 #[derive(Clone, Copy, Debug, PartialEq, Eq)]
 pub struct MarkSet {
-    places: Places<10>,
+    places: Places<MARK_LIMIT>,
 }
 
 impl Model for MarkSet {
@@ -243,8 +245,9 @@ impl Model for MarkSet {
 impl Default for MarkSet {
     ghost use Rattle.std.specs.Prelude.{◌≡◌, length};
     ghost use Rattle.axis_sets.specs.Sets.{IsEmpty};
+    ghost use Rattle.axis_sets.specs.declared.limits.TheConstants.{MARK_LIMIT};
 
-    ghost is_default = { λ set. IsEmpty set × (length set ≡ 10) };
+    ghost is_default = { λ set. IsEmpty set × (length set ≡ MARK_LIMIT) };
 
     fn default() -> MarkSet {
         MarkSet::empty()
@@ -255,7 +258,7 @@ impl MarkSet {
     /// The set with no member.
     pub fn empty() -> MarkSet
         ensures members { IsEmpty result }
-        ensures size { length result ≡ 10 }
+        ensures size { length result ≡ MARK_LIMIT }
     {
         MarkSet {
             places: Places::empty(),
@@ -265,16 +268,16 @@ impl MarkSet {
     /// Whether this mark is a member.
     pub fn contains(&self, member: u8) -> bool
         ensures member { result ≡ has self.now member }
-        ensures size { length self.now ≡ 10 }
+        ensures size { length self.now ≡ MARK_LIMIT }
     {
         self.places.contains(usize::from(member))
     }
 
     /// The set with this member too. It is at most 9.
     pub fn with(self, member: u8) -> MarkSet
-        requires { member < 10 }
+        requires { member < MARK_LIMIT }
         ensures members { (m : ℕ) → has result m ≡ ((m == member) || has self m) }
-        ensures size { length result ≡ 10 }
+        ensures size { length result ≡ MARK_LIMIT }
     {
         MarkSet {
             places: self.places.with(usize::from(member)),
@@ -284,7 +287,7 @@ impl MarkSet {
     /// The set without this member.
     pub fn without(self, member: u8) -> MarkSet
         ensures members { (m : ℕ) → has result m ≡ (has self m && not (m == member)) }
-        ensures size { length result ≡ 10 }
+        ensures size { length result ≡ MARK_LIMIT }
     {
         MarkSet {
             places: self.places.without(usize::from(member)),
@@ -294,7 +297,7 @@ impl MarkSet {
     /// The members of either set.
     pub fn union(self, other: MarkSet) -> MarkSet
         ensures members { (m : ℕ) → has result m ≡ (has self m || has other m) }
-        ensures size { length result ≡ 10 }
+        ensures size { length result ≡ MARK_LIMIT }
     {
         MarkSet {
             places: self.places.union(other.places),
@@ -304,7 +307,7 @@ impl MarkSet {
     /// The members that the other set does not have.
     pub fn minus(self, other: MarkSet) -> MarkSet
         ensures members { (m : ℕ) → has result m ≡ (has self m && not (has other m)) }
-        ensures size { length result ≡ 10 }
+        ensures size { length result ≡ MARK_LIMIT }
     {
         MarkSet {
             places: self.places.minus(other.places),
@@ -314,7 +317,7 @@ impl MarkSet {
     /// Whether no mark is a member.
     pub fn is_empty(&self) -> bool
         ensures empty { IsTrue result ↔ IsEmpty self.now }
-        ensures size { length self.now ≡ 10 }
+        ensures size { length self.now ≡ MARK_LIMIT }
     {
         self.places.is_empty()
     }
@@ -322,7 +325,7 @@ impl MarkSet {
     /// The member with the lowest number.
     pub fn lowest(&self) -> Option<u8>
         ensures lowest { GivesLowest self.now result }
-        ensures size { length self.now ≡ 10 }
+        ensures size { length self.now ≡ MARK_LIMIT }
     {
         match self.places.lowest() {
             Some(place) => Some(place as u8),
@@ -334,7 +337,7 @@ impl MarkSet {
 /// A set of zones. A contract sees for each number below 33 whether it is a member; 0 never is.
 #[derive(Clone, Copy, Debug, PartialEq, Eq)]
 pub struct ZoneSet {
-    places: Places<33>,
+    places: Places<ZONE_PLACES>,
 }
 
 impl Model for ZoneSet {
@@ -353,8 +356,9 @@ impl Model for ZoneSet {
 impl Default for ZoneSet {
     ghost use Rattle.std.specs.Prelude.{◌≡◌, length};
     ghost use Rattle.axis_sets.specs.Sets.{IsEmpty};
+    ghost use Rattle.axis_sets.specs.declared.limits.TheConstants.{ZONE_PLACES};
 
-    ghost is_default = { λ set. IsEmpty set × (length set ≡ 33) };
+    ghost is_default = { λ set. IsEmpty set × (length set ≡ ZONE_PLACES) };
 
     fn default() -> ZoneSet {
         ZoneSet::empty()
@@ -365,7 +369,7 @@ impl ZoneSet {
     /// The set with no member.
     pub fn empty() -> ZoneSet
         ensures members { IsEmpty result }
-        ensures size { length result ≡ 33 }
+        ensures size { length result ≡ ZONE_PLACES }
     {
         ZoneSet {
             places: Places::empty(),
@@ -376,7 +380,7 @@ impl ZoneSet {
     pub fn contains(&self, member: ZoneId) -> bool
         ensures member { result ≡ has self.now member }
         ensures from_one { has self.now 0 ≡ false }
-        ensures size { length self.now ≡ 33 }
+        ensures size { length self.now ≡ ZONE_PLACES }
     {
         self.places.contains(usize::from(member.number))
     }
@@ -384,7 +388,7 @@ impl ZoneSet {
     /// The set with this member too.
     pub fn with(self, member: ZoneId) -> ZoneSet
         ensures members { (m : ℕ) → has result m ≡ ((m == member) || has self m) }
-        ensures size { length result ≡ 33 }
+        ensures size { length result ≡ ZONE_PLACES }
     {
         ZoneSet {
             places: self.places.with(usize::from(member.number)),
@@ -394,7 +398,7 @@ impl ZoneSet {
     /// The set without this member.
     pub fn without(self, member: ZoneId) -> ZoneSet
         ensures members { (m : ℕ) → has result m ≡ (has self m && not (m == member)) }
-        ensures size { length result ≡ 33 }
+        ensures size { length result ≡ ZONE_PLACES }
     {
         ZoneSet {
             places: self.places.without(usize::from(member.number)),
@@ -404,7 +408,7 @@ impl ZoneSet {
     /// The members of either set.
     pub fn union(self, other: ZoneSet) -> ZoneSet
         ensures members { (m : ℕ) → has result m ≡ (has self m || has other m) }
-        ensures size { length result ≡ 33 }
+        ensures size { length result ≡ ZONE_PLACES }
     {
         ZoneSet {
             places: self.places.union(other.places),
@@ -414,7 +418,7 @@ impl ZoneSet {
     /// The members that the other set does not have.
     pub fn minus(self, other: ZoneSet) -> ZoneSet
         ensures members { (m : ℕ) → has result m ≡ (has self m && not (has other m)) }
-        ensures size { length result ≡ 33 }
+        ensures size { length result ≡ ZONE_PLACES }
     {
         ZoneSet {
             places: self.places.minus(other.places),
@@ -424,7 +428,7 @@ impl ZoneSet {
     /// Whether no zone is a member.
     pub fn is_empty(&self) -> bool
         ensures empty { IsTrue result ↔ IsEmpty self.now }
-        ensures size { length self.now ≡ 33 }
+        ensures size { length self.now ≡ ZONE_PLACES }
     {
         self.places.is_empty()
     }
@@ -432,7 +436,7 @@ impl ZoneSet {
     /// The member with the lowest number.
     pub fn lowest(&self) -> Option<ZoneId>
         ensures lowest { GivesLowest self.now result }
-        ensures size { length self.now ≡ 33 }
+        ensures size { length self.now ≡ ZONE_PLACES }
     {
         match self.places.lowest() {
             Some(place) => Some(ZoneId {
