@@ -40,7 +40,9 @@ impl Positions {
         ensures none { (axis : ℕ) → position_of result axis ≡ None }
         ensures size { length result ≡ AXIS_LIMIT }
     {
-        Positions { at: [None; AXIS_LIMIT] }
+        Positions {
+            at: [None; AXIS_LIMIT],
+        }
     }
 
     /// The position of an axis, or `None` where it has none.

@@ -5,11 +5,13 @@ ghost use Rattle.std.specs.Prelude.{◌≡◌, ◌≢◌, ◌<◌, ◌≤◌, �
 ghost use Rattle.std.specs.Int.RustNames.{unsigned_abs};
 
 mod digits;
+mod positions;
 mod roots;
 mod rounding;
 mod threads;
 
 use digits::{Digits, digits_in};
+pub use positions::{POSITION_LIMIT, is_position};
 use roots::root_of_millionths;
 pub use roots::{isqrt_ceil, isqrt_floor};
 use rounding::rounded;
