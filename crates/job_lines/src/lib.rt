@@ -5,9 +5,11 @@ mod code;
 mod header;
 mod item;
 mod length;
+mod limits;
 mod numbers;
 mod option_lines;
 
 pub use code::Code;
 pub use header::header_in;
 pub use item::{AxisName, Item, NamedSide, NamedZone, item_in};
+pub use limits::{INPUT_LIMIT, PROGRAM_LIMIT};

@@ -4,9 +4,11 @@
 ghost use Rattle.std.specs.Prelude.{◌≡◌, ◌≤◌, length};
 ghost use Rattle.nc_subprograms.specs.Stack.{called, Calls, Returns};
 
+mod limits;
 mod threads;
 
 use arrayvec::ArrayVec;
+pub use limits::{CALL_LIMIT, LEVEL_LIMIT};
 use nc_control_flow::Repeats;
 use std::marker::Model;
 

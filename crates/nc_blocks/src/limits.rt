@@ -1,0 +1,4 @@
+//! How long names are.
+
+/// How many bytes a name has at most.
+pub const NAME_LIMIT: usize = 32;
