@@ -9,6 +9,7 @@ ghost use Rattle.g_groups.specs.Modal.{IsAfter, modal_word, has_group_twice, las
 
 mod numbers;
 
+use nc_faults::alarms::GROUP_TWICE;
 pub use numbers::{
     ACCELERATION_GROUP, APPROACH_GROUP, AREA_GROUP, AREA_SWITCH_GROUP, BLOCK_GROUP, CORNER_GROUP,
     DIAM90, DIAMETER_GROUP, DIAMOF, DIAMON, DIMENSION_GROUP, DWELL_GROUP, FEED_FORWARD_GROUP,
@@ -78,12 +79,12 @@ impl Modal {
 pub fn apply(modal: &Modal, codes: &[GWord]) -> Result<Modal, u16>
     ensures twice { MatchResult result
         (λ _. IsTrue (not (has_group_twice codes.now)))
-        (λ e. (e ≡ 10) × IsTrue (has_group_twice codes.now)) }
+        (λ e. (e ≡ GROUP_TWICE) × IsTrue (has_group_twice codes.now)) }
     ensures after { IfOk result (λ m. (blocks : List (List GWord)) → IsAfter blocks modal.now
         → IsAfter (blocks ++ codes.now ∷ []) m) }
 {
     if is_group_twice(codes) {
-        return Err(10);
+        return Err(GROUP_TWICE);
     }
     Ok(Modal {
         words: with_words(past_block(modal.words), codes),

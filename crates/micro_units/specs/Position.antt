@@ -1,7 +1,7 @@
 -- Meaning. The range of positions.
 use Rattle.std.specs.Prelude.{◌≤◌, ℤ, Bool, nat_le}
 use Rattle.std.specs.Int.RustNames.{unsigned_abs}
-use Rattle.micro_units.specs.declared.positions.TheConstants.{POSITION_LIMIT}
+use Rattle.micro_units.specs.declared.limits.TheConstants.{POSITION_LIMIT}
 
 -- so many micrometres are a position
 abbrev pub is_position : ℤ → Bool
