@@ -11,10 +11,11 @@ mod numbers;
 
 use nc_faults::alarms::GROUP_TWICE;
 pub use numbers::{
-    ACCELERATION_GROUP, APPROACH_GROUP, AREA_GROUP, AREA_SWITCH_GROUP, BLOCK_GROUP, CORNER_GROUP,
-    DIAM90, DIAMETER_GROUP, DIAMOF, DIAMON, DIMENSION_GROUP, DWELL_GROUP, FEED_FORWARD_GROUP,
-    FEED_GROUP, MOTION_GROUP, OFFSET_GROUP, PATH_GROUP, PLANE_GROUP, RADIUS_GROUP, RAPID_GROUP,
-    RTLIOF, RTLION, STOP_GROUP, STOP_WIDTH_GROUP, UNIT_GROUP,
+    ACCELERATION_GROUP, APPROACH_GROUP, AREA_GROUP, AREA_SWITCH_GROUP, BLOCK_GROUP, BRISK,
+    CODE_LIMIT, CORNER_GROUP, DIAM90, DIAMETER_GROUP, DIAMOF, DIAMON, DIMENSION_GROUP, DWELL_GROUP,
+    FEED_FORWARD_GROUP, FEED_GROUP, FFWOF, FFWON, KONT, MOTION_GROUP, NORM, OFFSET_GROUP,
+    PATH_GROUP, PLANE_GROUP, RADIUS_GROUP, RAPID_GROUP, RTLIOF, RTLION, SOFT, STOP_GROUP,
+    STOP_WIDTH_GROUP, SUPA, UNIT_GROUP, WALIMOF, WALIMON,
 };
 use std::marker::Model;
 
@@ -142,12 +143,17 @@ fn put_word(words: &mut [u16; GROUPS], word: GWord)
 }
 
 /// A law of the table: each group stands in it once, no word stands twice in a group, the word that
-/// holds at the start is one of its group, and the codes that have names are those of their names.
+/// holds at the start is one of its group, and the codes that have names are those of these names.
 pub fn table_is_sound()
     ensures groups_apart { IsTrue (are_apart (map (λ group. group.number) groups)) }
     ensures words_apart { IsTrue (list_all (λ group. are_apart (codes_from 1 group.words)) groups) }
     ensures starts { IsTrue (list_all (λ group. has_start group group.holding) groups) }
     ensures rapids { IsNamed RAPID_GROUP RTLION (codes "RTLION") × IsNamed RAPID_GROUP RTLIOF (codes "RTLIOF") }
+    ensures blocks { IsNamed BLOCK_GROUP SUPA (codes "SUPA") }
+    ensures approaches { IsNamed APPROACH_GROUP NORM (codes "NORM") × IsNamed APPROACH_GROUP KONT (codes "KONT") }
+    ensures accelerations { IsNamed ACCELERATION_GROUP BRISK (codes "BRISK") × IsNamed ACCELERATION_GROUP SOFT (codes "SOFT") }
+    ensures feeds_forward { IsNamed FEED_FORWARD_GROUP FFWON (codes "FFWON") × IsNamed FEED_FORWARD_GROUP FFWOF (codes "FFWOF") }
+    ensures area_switches { IsNamed AREA_SWITCH_GROUP WALIMON (codes "WALIMON") × IsNamed AREA_SWITCH_GROUP WALIMOF (codes "WALIMOF") }
     ensures diameters { IsNamed DIAMETER_GROUP DIAMON (codes "DIAMON") × IsNamed DIAMETER_GROUP DIAMOF (codes "DIAMOF")
         × IsNamed DIAMETER_GROUP DIAM90 (codes "DIAM90") }
 {}

@@ -1,4 +1,4 @@
-//! The numbers of groups, and the codes of words that are names.
+//! The numbers of groups, and the codes of the words that are names.
 
 /// The group of the words that say how axes go under G0. It has no number on the control.
 pub const RAPID_GROUP: u8 = 0;
@@ -66,6 +66,33 @@ pub const RTLION: u16 = 1;
 /// Under G0 each axis goes by itself: the code of RTLIOF in `RAPID_GROUP`.
 pub const RTLIOF: u16 = 2;
 
+/// No frame and no offset holds in the block: the code of SUPA in `BLOCK_GROUP`.
+pub const SUPA: u16 = 3;
+
+/// A contour is approached at a right angle: the code of NORM in `APPROACH_GROUP`.
+pub const NORM: u16 = 1;
+
+/// A contour is approached round its corner: the code of KONT in `APPROACH_GROUP`.
+pub const KONT: u16 = 2;
+
+/// Axes accelerate in a jump: the code of BRISK in `ACCELERATION_GROUP`.
+pub const BRISK: u16 = 1;
+
+/// Axes accelerate without a jerk: the code of SOFT in `ACCELERATION_GROUP`.
+pub const SOFT: u16 = 2;
+
+/// The feed forward is on: the code of FFWON in `FEED_FORWARD_GROUP`.
+pub const FFWON: u16 = 1;
+
+/// The feed forward is off: the code of FFWOF in `FEED_FORWARD_GROUP`.
+pub const FFWOF: u16 = 2;
+
+/// The limits of the working area hold: the code of WALIMON in `AREA_SWITCH_GROUP`.
+pub const WALIMON: u16 = 1;
+
+/// The limits of the working area do not hold: the code of WALIMOF in `AREA_SWITCH_GROUP`.
+pub const WALIMOF: u16 = 2;
+
 /// Values of X are diameters: the code of DIAMON in `DIAMETER_GROUP`.
 pub const DIAMON: u16 = 1;
 
@@ -74,3 +101,6 @@ pub const DIAMOF: u16 = 2;
 
 /// Ends of X are diameters, and changes are not: the code of DIAM90 in `DIAMETER_GROUP`.
 pub const DIAM90: u16 = 3;
+
+/// The code of a word stays below this number.
+pub const CODE_LIMIT: u16 = 1000;

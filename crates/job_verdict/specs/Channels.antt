@@ -5,7 +5,6 @@ use Rattle.std.specs.Map.{keys_of}
 use Rattle.std.specs.Option.{option_map_or, option_and_then}
 use Rattle.std.specs.Str.{bytes_eq}
 use Rattle.channel_machine.specs.Run.{Setting, SegmentView, setting_of, begun, segment_of, stands_at_start}
-use Rattle.path_geometry.specs.Motions.{IsInRange}
 use Rattle.sync_types.specs.declared.Action.{Action}
 use Rattle.sync_types.specs.declared.Action.TheVariants as action
 use Rattle.sync_types.specs.declared.ChannelEnd.{ChannelEnd}
@@ -17,6 +16,7 @@ use Rattle.tape_job.specs.Job.{JobView}
 use Rattle.tape_job.specs.SoundJob.{BlocksFit, first_owner}
 use Rattle.tape_job.specs.declared.job.ChannelLine.{ChannelLine}
 use Rattle.tape_job.specs.declared.job.ZoneLine.{ZoneLine}
+use Rattle.micro_units.specs.Position.{IsPosition}
 
 -- ---- where the job puts axes
 
@@ -118,7 +118,7 @@ end_of job line = end_of_step (program_run job line).step
 -- and its blocks name parameters that there are
 pub record IsRunnable (job : JobView) : Type 0 where
   pub axes : length job.axes ≤ 16
-  pub starts : All (λ line. IsInRange line.at) job.axes
+  pub starts : All (λ line. IsPosition line.at) job.axes
   pub depth : job.depth ≤ 4
   pub programs : length job.programs ≤ 256
   pub blocks : BlocksFit job
