@@ -12,4 +12,4 @@ mod option_lines;
 pub use code::Code;
 pub use header::header_in;
 pub use item::{AxisName, Item, NamedSide, NamedZone, item_in};
-pub use limits::{INPUT_LIMIT, PROGRAM_LIMIT};
+pub use limits::{BUDGET_LIMIT, DEPTH_LIMIT, INPUT_LIMIT, MARGIN_LIMIT, PROGRAM_LIMIT};
