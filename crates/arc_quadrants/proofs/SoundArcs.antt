@@ -5,15 +5,16 @@ use Rattle.std.proofs.lemmas.Bool.Decides.{nat_tests}
 use Rattle.std.specs.Int.RustNames.{unsigned_abs}
 use Rattle.std.specs.Prelude.{ℤ, ◌&&◌, not, if◌then◌else◌}
 use Rattle.number_laws.proofs.Naturals.{le_or_lt}
-use Rattle.path_geometry.specs.Arcs.{start_about, end_about, start_seen, end_seen, way_of, arc_with, unless, radius_alarm, centre_of, is_in_range, place_alarm, arc_placed, arc_of_radius}
+use Rattle.path_geometry.specs.Arcs.{start_about, end_about, start_seen, end_seen, way_of, arc_with, unless, radius_alarm, centre_of, place_alarm, arc_placed, arc_of_radius}
 use Rattle.path_geometry.specs.Ends.{EndsView}
-use Rattle.path_geometry.specs.Motions.{IsInRange, IsAbout, IsOfRadius, IsSoundArc}
+use Rattle.path_geometry.specs.Motions.{IsAbout, IsOfRadius, IsSoundArc}
 use Rattle.path_geometry.specs.Path.{Point, IsOnArc, point_seen}
 use Rattle.path_geometry.specs.Vectors.{Vector, square}
 use Rattle.path_geometry.specs.declared.motion.Arc.{Arc}
 use Rattle.path_geometry.specs.declared.motion.Motion.TheVariants as Kind
 use Rattle.path_geometry.proofs.RingLaws.{ring}
 use Rattle.arc_quadrants.proofs.Sectors.{IsReached}
+use Rattle.micro_units.specs.Position.{is_position, IsPosition}
 
 -- ---- its centre
 both_none : (o p : Option ℕ) (a b : Arc) → unless o (unless p (Ok (Kind.Arc a))) ≡ Ok (Kind.Arc b) → (p ≡ None) × (a ≡ b)
@@ -26,19 +27,19 @@ first_test true true n o h = (refl, refl)
 first_test true false n o h = absurd (cc)
 first_test false c n o h = absurd (cc)
 
-in_range : (position : ℤ) → is_in_range position ≡ true → IsInRange position
+in_range : (position : ℤ) → is_position position ≡ true → IsPosition position
 in_range position h = grind (arith, nat_tests)
 
-placed_in_range : (centre : ℤ × ℤ) (s e : Vector) → place_alarm centre s e ≡ None → IsInRange centre.0 × IsInRange centre.1
+placed_in_range : (centre : ℤ × ℤ) (s e : Vector) → place_alarm centre s e ≡ None → IsPosition centre.0 × IsPosition centre.1
 unfolding place_alarm
 placed_in_range centre s e h =
-    let within = first_test (is_in_range centre.0) (is_in_range centre.1) 13 _ h in (in_range centre.0 within.0, in_range centre.1 within.1)
+    let within = first_test (is_position centre.0) (is_position centre.1) 13 _ h in (in_range centre.0 within.0, in_range centre.1 within.1)
 
 centre_kept : (ends : EndsView) (first second : ℕ) (centre : ℤ × ℤ) (room : ℕ) → (arc_with ends first second centre room).centre ≡ centre
 unfolding arc_with
 centre_kept ends first second centre room = refl
 
-of_radius_in_range : (arc : Arc) → IsOfRadius arc → IsInRange arc.centre.0 × IsInRange arc.centre.1
+of_radius_in_range : (arc : Arc) → IsOfRadius arc → IsPosition arc.centre.0 × IsPosition arc.centre.1
 unfolding arc_of_radius arc_placed
 of_radius_in_range arc made =
     let centre = centre_of arc.ends arc.first arc.second made.radius made.long in
@@ -46,14 +47,14 @@ of_radius_in_range arc made =
     (place_alarm centre (start_about arc.ends arc.first arc.second centre) (end_about arc.ends arc.first arc.second centre))
     (arc_with arc.ends arc.first arc.second centre 2) arc made.gives in
     let same : (arc_with arc.ends arc.first arc.second centre 2).centre ≡ arc.centre = ap (λ (a : Arc). a.centre) found.1 in
-    subst (λ (c : ℤ × ℤ). IsInRange c.0 × IsInRange c.1) same
-    (subst (λ (c : ℤ × ℤ). IsInRange c.0 × IsInRange c.1) (sym (centre_kept arc.ends arc.first arc.second centre 2))
+    subst (λ (c : ℤ × ℤ). IsPosition c.0 × IsPosition c.1) same
+    (subst (λ (c : ℤ × ℤ). IsPosition c.0 × IsPosition c.1) (sym (centre_kept arc.ends arc.first arc.second centre 2))
     (placed_in_range centre (start_about arc.ends arc.first arc.second centre) (end_about arc.ends arc.first arc.second centre) found.0))
 
-pub centre_in_range : (arc : Arc) → IsSoundArc arc → IsInRange arc.centre.0 × IsInRange arc.centre.1
+pub centre_in_range : (arc : Arc) → IsSoundArc arc → IsPosition arc.centre.0 × IsPosition arc.centre.1
 centre_in_range arc sound = by_kind sound.made
   where
-    by_kind : IsAbout arc ⊎ IsOfRadius arc → IsInRange arc.centre.0 × IsInRange arc.centre.1
+    by_kind : IsAbout arc ⊎ IsOfRadius arc → IsPosition arc.centre.0 × IsPosition arc.centre.1
     by_kind (inl about) = about.in_range
     by_kind (inr made) = of_radius_in_range arc made
 

@@ -4,12 +4,15 @@ ghost use Rattle.arc_quadrants.specs.Bounds.{IsDirection};
 ghost use Rattle.arc_quadrants.specs.Halves as spec;
 ghost use Rattle.arc_quadrants.specs.Halves.{halves, IsShort};
 
+/// How many parts a quarter or a line is cut into at most.
+pub const PART_LIMIT: u8 = 16;
+
 /// How many parts there are at a depth, at each level of which every part is cut in two.
 #[tactic(auto, using(crate::proofs::HalfLaws::few_parts))]
 pub fn parts_at(depth: u8) -> u8
     requires { depth ≤ 4 }
     ensures value { result ≡ 2 ^ depth }
-    ensures few { result ≤ 16 }
+    ensures few { result ≤ PART_LIMIT }
 {
     1 << depth
 }

@@ -7,5 +7,5 @@ mod seen;
 mod walk;
 
 pub use bounds::quarter_box;
-pub use halves::{part_of_quarter, parts_at};
+pub use halves::{PART_LIMIT, part_of_quarter, parts_at};
 pub use walk::{Quarter, quarters};

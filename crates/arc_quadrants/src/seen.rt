@@ -7,6 +7,7 @@ ghost use Rattle.path_geometry.specs.Motions.{IsSoundArc};
 ghost use Rattle.path_geometry.specs.Vectors as vectors;
 ghost use Rattle.arc_quadrants.specs.Quadrants as quadrants;
 ghost use Rattle.arc_quadrants.specs.Quarters as parts;
+ghost use Rattle.micro_units.specs.declared.limits.TheConstants.{CHANGE_LIMIT};
 
 use axis_sets::AxisId;
 use micro_units::Um;
@@ -24,12 +25,13 @@ impl Model for Seen {
     ghost use Rattle.std.specs.Prelude.{◌≤◌};
     ghost use Rattle.std.specs.Int.RustNames.{unsigned_abs};
     ghost use Rattle.path_geometry.specs.Vectors.{Vector};
+    ghost use Rattle.micro_units.specs.declared.limits.TheConstants.{CHANGE_LIMIT};
 
     ghost Value = { Vector };
 
     ghost view = { λ p. record { u = p.u; v = p.v } };
 
-    ghost invariant = { λ p. (unsigned_abs p.u ≤ 20000000) × (unsigned_abs p.v ≤ 20000000) };
+    ghost invariant = { λ p. (unsigned_abs p.u ≤ CHANGE_LIMIT) × (unsigned_abs p.v ≤ CHANGE_LIMIT) };
 
     ghost inverse = { λ p. record { u = p.u; v = p.v } };
 }
@@ -48,9 +50,9 @@ fn ends_of(ends: &Ends, axis: AxisId) -> (Um, Um)
 }
 
 fn away(position: Um, centre: Um) -> i32
-    requires { unsigned_abs (position -ℤ centre) ≤ 20000000 }
+    requires { unsigned_abs (position -ℤ centre) ≤ CHANGE_LIMIT }
     ensures value { result ≡ position -ℤ centre }
-    ensures near { unsigned_abs result ≤ 20000000 }
+    ensures near { unsigned_abs result ≤ CHANGE_LIMIT }
 {
     position.micrometres - centre.micrometres
 }
@@ -127,8 +129,8 @@ pub(crate) fn sizes(p: Seen) -> (u64, u64)
 }
 
 fn product(a: i32, b: i32) -> i64
-    requires first { unsigned_abs a ≤ 20000000 }
-    requires second { unsigned_abs b ≤ 20000000 }
+    requires first { unsigned_abs a ≤ CHANGE_LIMIT }
+    requires second { unsigned_abs b ≤ CHANGE_LIMIT }
     ensures value { result ≡ a *ℤ b }
     ensures near { unsigned_abs result ≤ 400000000000000 }
 {

@@ -22,3 +22,7 @@ pub record IsLowest (set : List Bool) (member : ℕ) : Type 0 where
 -- the lowest member, or none where the set is empty
 abbrev pub GivesLowest : List Bool → Option ℕ → Type 0
 GivesLowest set answer = MatchOption answer (IsEmpty set) (IsLowest set)
+
+-- the same where the member itself is given, by its number
+abbrev pub GivesLowestOf : {M : Type 0} → (M → ℕ) → List Bool → Option M → Type 0
+GivesLowestOf number_of set answer = MatchOption answer (IsEmpty set) (λ member. IsLowest set (number_of member))

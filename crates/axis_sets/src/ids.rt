@@ -10,12 +10,13 @@ pub struct AxisId {
 
 impl Model for AxisId {
     ghost use Rattle.std.specs.Prelude.{ℕ, ◌<◌};
+    ghost use Rattle.axis_sets.specs.declared.limits.TheConstants.{AXIS_LIMIT};
 
     ghost Value = { ℕ };
 
     ghost view = { λ a. a.index };
 
-    ghost invariant = { λ a. a.index < 16 };
+    ghost invariant = { λ a. a.index < AXIS_LIMIT };
 
     ghost inverse = { λ n. record { index = n } };
 }
@@ -39,12 +40,13 @@ pub struct ChannelId {
 
 impl Model for ChannelId {
     ghost use Rattle.std.specs.Prelude.{ℕ, ◌≤◌};
+    ghost use Rattle.axis_sets.specs.declared.limits.TheConstants.{CHANNEL_LIMIT};
 
     ghost Value = { ℕ };
 
     ghost view = { λ c. c.number };
 
-    ghost invariant = { λ c. (1 ≤ c.number) × (c.number ≤ 8) };
+    ghost invariant = { λ c. (1 ≤ c.number) × (c.number ≤ CHANNEL_LIMIT) };
 
     ghost inverse = { λ n. record { number = n } };
 }
@@ -68,12 +70,13 @@ pub struct ZoneId {
 
 impl Model for ZoneId {
     ghost use Rattle.std.specs.Prelude.{ℕ, ◌≤◌};
+    ghost use Rattle.axis_sets.specs.declared.limits.TheConstants.{ZONE_LIMIT};
 
     ghost Value = { ℕ };
 
     ghost view = { λ z. z.number };
 
-    ghost invariant = { λ z. (1 ≤ z.number) × (z.number ≤ 32) };
+    ghost invariant = { λ z. (1 ≤ z.number) × (z.number ≤ ZONE_LIMIT) };
 
     ghost inverse = { λ n. record { number = n } };
 }

@@ -3,6 +3,8 @@
 
 mod ids;
 mod laws;
+mod limits;
+mod members;
 mod places;
 mod positions;
 mod sets;
@@ -10,5 +12,7 @@ mod threads;
 
 pub use ids::{AxisId, ChannelId, ZoneId};
 pub use laws::sets_are_known_by_their_members;
+pub use limits::{AXIS_LIMIT, CHANNEL_LIMIT, CHANNEL_PLACES, MARK_LIMIT, ZONE_LIMIT, ZONE_PLACES};
+pub use members::Member;
 pub use positions::Positions;
-pub use sets::{AxisSet, ChannelSet, MarkSet, ZoneSet};
+pub use sets::{AxisSet, ChannelSet, MarkSet, Set, ZoneSet};

@@ -1,443 +1,136 @@
 //! Sets of axes, of channels, of marks and of zones.
 ghost use Rattle.std.specs.Prelude.{◌≡◌, ℕ, ◌<◌, ◌==◌, ◌||◌, ◌&&◌, ◌↔◌, not, false, length, IsTrue};
-ghost use Rattle.axis_sets.specs.Sets.{has, IsEmpty, GivesLowest};
+ghost use Rattle.axis_sets.specs.Sets.{has, IsEmpty, GivesLowestOf};
 
+use crate::members::Member;
 use crate::places::Places;
-use crate::{AxisId, ChannelId, ZoneId};
-use std::marker::Model;
+use crate::{AXIS_LIMIT, AxisId, CHANNEL_PLACES, ChannelId, MARK_LIMIT, ZONE_PLACES, ZoneId};
+use std::marker::{Model, PhantomData};
 
-/// A set of axes. A contract sees for each number below 16 whether it is a member.
+/// A set of what has a number below `N`. A contract sees for each of these numbers whether it is a member.
 #[derive(Clone, Copy, Debug, PartialEq, Eq)]
-pub struct AxisSet {
-    places: Places<16>,
+pub struct Set<I: Member<N>, const N: usize> {
+    places: Places<N>,
+    members: PhantomData<I>,
 }
 
-impl Model for AxisSet {
-    ghost use Rattle.std.specs.Prelude.{Bool, List};
+/// A set of axes.
+pub type AxisSet = Set<AxisId, AXIS_LIMIT>;
 
-    ghost Value = { List Bool };
+/// A set of channels; 0 is never a member.
+pub type ChannelSet = Set<ChannelId, CHANNEL_PLACES>;
 
-    ghost view = { λ s. s.places };
+/// A set of marks, which are numbers below `MARK_LIMIT`.
+pub type MarkSet = Set<u8, MARK_LIMIT>;
 
-    ghost inverse = { λ set. record { places = set } };
-}
+/// A set of zones; 0 is never a member.
+pub type ZoneSet = Set<ZoneId, ZONE_PLACES>;
 
-impl Default for AxisSet {
-    ghost use Rattle.std.specs.Prelude.{◌≡◌, length};
-    ghost use Rattle.axis_sets.specs.Sets.{IsEmpty};
-
-    ghost is_default = { λ set. IsEmpty set × (length set ≡ 16) };
-
-    fn default() -> AxisSet {
-        AxisSet::empty()
-    }
-}
-
-impl AxisSet {
-    /// The set with no member.
-    pub fn empty() -> AxisSet
-        ensures members { IsEmpty result }
-        ensures size { length result ≡ 16 }
-    {
-        AxisSet {
-            places: Places::empty(),
-        }
-    }
-
-    /// Whether this axis is a member.
-    pub fn contains(&self, member: AxisId) -> bool
-        ensures member { result ≡ has self.now member }
-        ensures size { length self.now ≡ 16 }
-    {
-        self.places.contains(usize::from(member.index))
-    }
-
-    /// The set with this member too.
-    pub fn with(self, member: AxisId) -> AxisSet
-        ensures members { (m : ℕ) → has result m ≡ ((m == member) || has self m) }
-        ensures size { length result ≡ 16 }
-    {
-        AxisSet {
-            places: self.places.with(usize::from(member.index)),
-        }
-    }
-
-    /// The set without this member.
-    pub fn without(self, member: AxisId) -> AxisSet
-        ensures members { (m : ℕ) → has result m ≡ (has self m && not (m == member)) }
-        ensures size { length result ≡ 16 }
-    {
-        AxisSet {
-            places: self.places.without(usize::from(member.index)),
-        }
-    }
-
-    /// The members of either set.
-    pub fn union(self, other: AxisSet) -> AxisSet
-        ensures members { (m : ℕ) → has result m ≡ (has self m || has other m) }
-        ensures size { length result ≡ 16 }
-    {
-        AxisSet {
-            places: self.places.union(other.places),
-        }
-    }
-
-    /// The members that the other set does not have.
-    pub fn minus(self, other: AxisSet) -> AxisSet
-        ensures members { (m : ℕ) → has result m ≡ (has self m && not (has other m)) }
-        ensures size { length result ≡ 16 }
-    {
-        AxisSet {
-            places: self.places.minus(other.places),
-        }
-    }
-
-    /// Whether no axis is a member.
-    pub fn is_empty(&self) -> bool
-        ensures empty { IsTrue result ↔ IsEmpty self.now }
-        ensures size { length self.now ≡ 16 }
-    {
-        self.places.is_empty()
-    }
-
-    /// The member with the lowest number.
-    pub fn lowest(&self) -> Option<AxisId>
-        ensures lowest { GivesLowest self.now result }
-        ensures size { length self.now ≡ 16 }
-    {
-        match self.places.lowest() {
-            Some(place) => Some(AxisId { index: place as u8 }),
-            None => None,
-        }
-    }
-}
-
-/// A set of channels. A contract sees for each number below 9 whether it is a member; 0 never is.
-#[derive(Clone, Copy, Debug, PartialEq, Eq)]
-pub struct ChannelSet {
-    places: Places<9>,
-}
-
-impl Model for ChannelSet {
-    ghost use Rattle.std.specs.Prelude.{Bool, List, false, ◌≡◌};
+impl<I: Member<N>, const N: usize> Model for Set<I, N> {
+    ghost use Rattle.std.specs.Prelude.{Bool, List, ℕ, false, ◌≡◌, ◌<◌};
     ghost use Rattle.axis_sets.specs.Sets.{has};
 
     ghost Value = { List Bool };
 
     ghost view = { λ s. s.places };
 
-    ghost invariant = { λ s. has s.places 0 ≡ false };
+    ghost invariant = { λ s. (m : ℕ) → m < I.lowest_number → has s.places m ≡ false };
 
-    ghost inverse = { λ set. record { places = set } };
+    ghost inverse = { λ set. record { places = set; members = record {} } };
 }
 
-impl Default for ChannelSet {
+impl<I: Member<N>, const N: usize> Default for Set<I, N> {
     ghost use Rattle.std.specs.Prelude.{◌≡◌, length};
     ghost use Rattle.axis_sets.specs.Sets.{IsEmpty};
 
-    ghost is_default = { λ set. IsEmpty set × (length set ≡ 9) };
+    ghost is_default = { λ set. IsEmpty set × (length set ≡ N) };
 
-    fn default() -> ChannelSet {
-        ChannelSet::empty()
+    fn default() -> Set<I, N> {
+        Set::empty()
     }
 }
 
-impl ChannelSet {
+impl<I: Member<N>, const N: usize> Set<I, N> {
     /// The set with no member.
-    pub fn empty() -> ChannelSet
+    pub fn empty() -> Set<I, N>
         ensures members { IsEmpty result }
-        ensures size { length result ≡ 9 }
+        ensures size { length result ≡ N }
     {
-        ChannelSet {
+        Set {
             places: Places::empty(),
+            members: PhantomData,
         }
     }
 
-    /// Whether this channel is a member.
-    pub fn contains(&self, member: ChannelId) -> bool
-        ensures member { result ≡ has self.now member }
-        ensures from_one { has self.now 0 ≡ false }
-        ensures size { length self.now ≡ 9 }
+    /// Whether this is a member.
+    pub fn contains(&self, member: I) -> bool
+        ensures member { result ≡ has self.now (I.number_of member) }
+        ensures from { (m : ℕ) → m < I.lowest_number → has self.now m ≡ false }
+        ensures size { length self.now ≡ N }
     {
-        self.places.contains(usize::from(member.number))
+        self.places.contains(member.number())
     }
 
     /// The set with this member too.
-    pub fn with(self, member: ChannelId) -> ChannelSet
-        ensures members { (m : ℕ) → has result m ≡ ((m == member) || has self m) }
-        ensures size { length result ≡ 9 }
+    pub fn with(self, member: I) -> Set<I, N>
+        requires { I.CanStand member }
+        ensures members { (m : ℕ) → has result m ≡ ((m == I.number_of member) || has self m) }
+        ensures size { length result ≡ N }
     {
-        ChannelSet {
-            places: self.places.with(usize::from(member.number)),
+        Set {
+            places: self.places.with(member.number()),
+            members: PhantomData,
         }
     }
 
     /// The set without this member.
-    pub fn without(self, member: ChannelId) -> ChannelSet
-        ensures members { (m : ℕ) → has result m ≡ (has self m && not (m == member)) }
-        ensures size { length result ≡ 9 }
+    pub fn without(self, member: I) -> Set<I, N>
+        ensures members { (m : ℕ) → has result m ≡ (has self m && not (m == I.number_of member)) }
+        ensures size { length result ≡ N }
     {
-        ChannelSet {
-            places: self.places.without(usize::from(member.number)),
+        Set {
+            places: self.places.without(member.number()),
+            members: PhantomData,
         }
     }
 
     /// The members of either set.
-    pub fn union(self, other: ChannelSet) -> ChannelSet
+    pub fn union(self, other: Set<I, N>) -> Set<I, N>
         ensures members { (m : ℕ) → has result m ≡ (has self m || has other m) }
-        ensures size { length result ≡ 9 }
+        ensures size { length result ≡ N }
     {
-        ChannelSet {
+        Set {
             places: self.places.union(other.places),
+            members: PhantomData,
         }
     }
 
     /// The members that the other set does not have.
-    pub fn minus(self, other: ChannelSet) -> ChannelSet
+    pub fn minus(self, other: Set<I, N>) -> Set<I, N>
         ensures members { (m : ℕ) → has result m ≡ (has self m && not (has other m)) }
-        ensures size { length result ≡ 9 }
+        ensures size { length result ≡ N }
     {
-        ChannelSet {
+        Set {
             places: self.places.minus(other.places),
+            members: PhantomData,
         }
     }
 
-    /// Whether no channel is a member.
+    /// Whether there is no member.
     pub fn is_empty(&self) -> bool
         ensures empty { IsTrue result ↔ IsEmpty self.now }
-        ensures size { length self.now ≡ 9 }
+        ensures size { length self.now ≡ N }
     {
         self.places.is_empty()
     }
 
     /// The member with the lowest number.
-    pub fn lowest(&self) -> Option<ChannelId>
-        ensures lowest { GivesLowest self.now result }
-        ensures size { length self.now ≡ 9 }
+    pub fn lowest(&self) -> Option<I>
+        ensures lowest { GivesLowestOf I.number_of self.now result }
+        ensures size { length self.now ≡ N }
     {
         match self.places.lowest() {
-            Some(place) => Some(ChannelId {
-                number: place as u8,
-            }),
-            None => None,
-        }
-    }
-}
-
-/// A set of marks, which are numbers from 0 to 9. A contract sees for each of them whether it is a member.
-#[derive(Clone, Copy, Debug, PartialEq, Eq)]
-pub struct MarkSet {
-    places: Places<10>,
-}
-
-impl Model for MarkSet {
-    ghost use Rattle.std.specs.Prelude.{Bool, List};
-
-    ghost Value = { List Bool };
-
-    ghost view = { λ s. s.places };
-
-    ghost inverse = { λ set. record { places = set } };
-}
-
-impl Default for MarkSet {
-    ghost use Rattle.std.specs.Prelude.{◌≡◌, length};
-    ghost use Rattle.axis_sets.specs.Sets.{IsEmpty};
-
-    ghost is_default = { λ set. IsEmpty set × (length set ≡ 10) };
-
-    fn default() -> MarkSet {
-        MarkSet::empty()
-    }
-}
-
-impl MarkSet {
-    /// The set with no member.
-    pub fn empty() -> MarkSet
-        ensures members { IsEmpty result }
-        ensures size { length result ≡ 10 }
-    {
-        MarkSet {
-            places: Places::empty(),
-        }
-    }
-
-    /// Whether this mark is a member.
-    pub fn contains(&self, member: u8) -> bool
-        ensures member { result ≡ has self.now member }
-        ensures size { length self.now ≡ 10 }
-    {
-        self.places.contains(usize::from(member))
-    }
-
-    /// The set with this member too. It is at most 9.
-    pub fn with(self, member: u8) -> MarkSet
-        requires { member < 10 }
-        ensures members { (m : ℕ) → has result m ≡ ((m == member) || has self m) }
-        ensures size { length result ≡ 10 }
-    {
-        MarkSet {
-            places: self.places.with(usize::from(member)),
-        }
-    }
-
-    /// The set without this member.
-    pub fn without(self, member: u8) -> MarkSet
-        ensures members { (m : ℕ) → has result m ≡ (has self m && not (m == member)) }
-        ensures size { length result ≡ 10 }
-    {
-        MarkSet {
-            places: self.places.without(usize::from(member)),
-        }
-    }
-
-    /// The members of either set.
-    pub fn union(self, other: MarkSet) -> MarkSet
-        ensures members { (m : ℕ) → has result m ≡ (has self m || has other m) }
-        ensures size { length result ≡ 10 }
-    {
-        MarkSet {
-            places: self.places.union(other.places),
-        }
-    }
-
-    /// The members that the other set does not have.
-    pub fn minus(self, other: MarkSet) -> MarkSet
-        ensures members { (m : ℕ) → has result m ≡ (has self m && not (has other m)) }
-        ensures size { length result ≡ 10 }
-    {
-        MarkSet {
-            places: self.places.minus(other.places),
-        }
-    }
-
-    /// Whether no mark is a member.
-    pub fn is_empty(&self) -> bool
-        ensures empty { IsTrue result ↔ IsEmpty self.now }
-        ensures size { length self.now ≡ 10 }
-    {
-        self.places.is_empty()
-    }
-
-    /// The member with the lowest number.
-    pub fn lowest(&self) -> Option<u8>
-        ensures lowest { GivesLowest self.now result }
-        ensures size { length self.now ≡ 10 }
-    {
-        match self.places.lowest() {
-            Some(place) => Some(place as u8),
-            None => None,
-        }
-    }
-}
-
-/// A set of zones. A contract sees for each number below 33 whether it is a member; 0 never is.
-#[derive(Clone, Copy, Debug, PartialEq, Eq)]
-pub struct ZoneSet {
-    places: Places<33>,
-}
-
-impl Model for ZoneSet {
-    ghost use Rattle.std.specs.Prelude.{Bool, List, false, ◌≡◌};
-    ghost use Rattle.axis_sets.specs.Sets.{has};
-
-    ghost Value = { List Bool };
-
-    ghost view = { λ s. s.places };
-
-    ghost invariant = { λ s. has s.places 0 ≡ false };
-
-    ghost inverse = { λ set. record { places = set } };
-}
-
-impl Default for ZoneSet {
-    ghost use Rattle.std.specs.Prelude.{◌≡◌, length};
-    ghost use Rattle.axis_sets.specs.Sets.{IsEmpty};
-
-    ghost is_default = { λ set. IsEmpty set × (length set ≡ 33) };
-
-    fn default() -> ZoneSet {
-        ZoneSet::empty()
-    }
-}
-
-impl ZoneSet {
-    /// The set with no member.
-    pub fn empty() -> ZoneSet
-        ensures members { IsEmpty result }
-        ensures size { length result ≡ 33 }
-    {
-        ZoneSet {
-            places: Places::empty(),
-        }
-    }
-
-    /// Whether this zone is a member.
-    pub fn contains(&self, member: ZoneId) -> bool
-        ensures member { result ≡ has self.now member }
-        ensures from_one { has self.now 0 ≡ false }
-        ensures size { length self.now ≡ 33 }
-    {
-        self.places.contains(usize::from(member.number))
-    }
-
-    /// The set with this member too.
-    pub fn with(self, member: ZoneId) -> ZoneSet
-        ensures members { (m : ℕ) → has result m ≡ ((m == member) || has self m) }
-        ensures size { length result ≡ 33 }
-    {
-        ZoneSet {
-            places: self.places.with(usize::from(member.number)),
-        }
-    }
-
-    /// The set without this member.
-    pub fn without(self, member: ZoneId) -> ZoneSet
-        ensures members { (m : ℕ) → has result m ≡ (has self m && not (m == member)) }
-        ensures size { length result ≡ 33 }
-    {
-        ZoneSet {
-            places: self.places.without(usize::from(member.number)),
-        }
-    }
-
-    /// The members of either set.
-    pub fn union(self, other: ZoneSet) -> ZoneSet
-        ensures members { (m : ℕ) → has result m ≡ (has self m || has other m) }
-        ensures size { length result ≡ 33 }
-    {
-        ZoneSet {
-            places: self.places.union(other.places),
-        }
-    }
-
-    /// The members that the other set does not have.
-    pub fn minus(self, other: ZoneSet) -> ZoneSet
-        ensures members { (m : ℕ) → has result m ≡ (has self m && not (has other m)) }
-        ensures size { length result ≡ 33 }
-    {
-        ZoneSet {
-            places: self.places.minus(other.places),
-        }
-    }
-
-    /// Whether no zone is a member.
-    pub fn is_empty(&self) -> bool
-        ensures empty { IsTrue result ↔ IsEmpty self.now }
-        ensures size { length self.now ≡ 33 }
-    {
-        self.places.is_empty()
-    }
-
-    /// The member with the lowest number.
-    pub fn lowest(&self) -> Option<ZoneId>
-        ensures lowest { GivesLowest self.now result }
-        ensures size { length self.now ≡ 33 }
-    {
-        match self.places.lowest() {
-            Some(place) => Some(ZoneId {
-                number: place as u8,
-            }),
+            Some(place) => Some(I::numbered(place)),
             None => None,
         }
     }

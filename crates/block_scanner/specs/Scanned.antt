@@ -13,7 +13,7 @@ InOrder from (token ∷ tokens) to = (from ≤ token.start) × (token.start < to
 abbrev pub IsTokenOf : List ℕ → Token → Type 0
 IsTokenOf line token = (token.start < token.end) × (token.end ≤ length line)
 
--- what `scan` gives of a line of at most 512 bytes: the tokens of the line, in order, and no more of them than bytes
+-- what `scan` gives of a line that is not too long: the tokens of the line, in order, and no more of them than bytes
 pub record IsScanned (words : WordsView) : Type 0 where
   pub read : tokens_of words.line ≡ Ok words.tokens
   pub ordered : InOrder 0 words.tokens (length words.line)

@@ -6,12 +6,14 @@ ghost use Rattle.std.specs.Prelude.{◌≡◌, ◌<◌, length, slice_index_or};
 mod beginnings;
 mod bytes;
 mod laws;
+mod limits;
 mod numbers;
 mod scanning;
 mod signs;
 
 pub use bytes::{is_blank, is_name_part, is_name_start};
 pub use laws::lines_say_one_thing;
+pub use limits::LINE_LIMIT;
 pub use scanning::scan;
 use smallvec::SmallVec;
 use std::alloc::AllocFailed;

@@ -4,19 +4,20 @@ ghost use Rattle.std.specs.Prelude.{◌≤◌, length, IfOk};
 ghost use Rattle.block_scanner.specs.Scanned.{IsScanned};
 ghost use Rattle.block_scanner.specs.Tokenisation.{Answers, AreFormed};
 ghost use Rattle.block_scanner.specs.Tokens.{Scans};
+ghost use Rattle.block_scanner.specs.declared.limits.TheConstants.{LINE_LIMIT};
 
 use crate::beginnings::{Front, front_of};
 use crate::{ScanFault, Token, Words};
 use smallvec::SmallVec;
 use std::alloc::Global;
 
-/// The tokens of a line of at most 512 bytes.
+/// The tokens of a line of at most `LINE_LIMIT` bytes.
 ///
 /// `BadByte` and `OpenText` have the leftmost place from which the line can't be read on: what
 /// stands within a text or a comment does not count. `NoMemory` comes where memory runs out, and
 /// says nothing of the line.
 pub fn scan(alloc: Global, line: &[u8]) -> Result<Words<'_>, ScanFault>
-    requires { length line.now ≤ 512 }
+    requires { length line.now ≤ LINE_LIMIT }
     ensures exact { Scans line.now result }
     ensures said { Answers line.now result }
     ensures formed { IfOk result (λ words. AreFormed line.now words.tokens) }
@@ -27,7 +28,7 @@ pub fn scan(alloc: Global, line: &[u8]) -> Result<Words<'_>, ScanFault>
 
 #[tactic(auto, using(crate::proofs::Steps::scan_steps))]
 fn scan_from_left(alloc: Global, line: &[u8]) -> Result<Words<'_>, ScanFault>
-    requires { length line.now ≤ 512 }
+    requires { length line.now ≤ LINE_LIMIT }
     ensures exact { Scans line.now result }
     ensures scanned { IfOk result (λ words. IsScanned words) }
 {

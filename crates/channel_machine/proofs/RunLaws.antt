@@ -12,7 +12,7 @@ use Rattle.nc_expressions.specs.Value.{◌>>=◌}
 use Rattle.nc_faults.specs.Texts.{IsAlarmCode, alarm_texts}
 use Rattle.nc_subprograms.specs.declared.Place.{Place}
 use Rattle.nc_subprograms.specs.Stack.{called}
-use Rattle.path_geometry.specs.Motions.{IsInRange, IsSound}
+use Rattle.path_geometry.specs.Motions.{IsSound}
 use Rattle.sync_types.specs.Items.{motion_of}
 use Rattle.sync_types.specs.declared.Item.{Item}
 use Rattle.job_types.specs.Job.{ProgramView}
@@ -20,6 +20,7 @@ use Rattle.channel_machine.specs.declared.levels.Levels.{Levels}
 use Rattle.channel_machine.specs.Levels.{program_blocks, gone_on, past_end, come, followed}
 use Rattle.channel_machine.specs.Run.{Setting, Executed, Channel, SegmentView, equipment, found_after, items_of, stands_at_start, opener_at, block_at, executed, line_after, alarmed, ends_main, with_block, with_levels, led, finished, behind, run_after, segment_of, begun, IsListedAction}
 use Rattle.channel_machine.proofs.Pasts.{items_of-push}
+use Rattle.micro_units.specs.Position.{IsPosition}
 
 -- ---- alarms of control
 
@@ -182,5 +183,5 @@ module _ (s : Setting) where
   pub end_listed : IsListedAction (segment_of s (begun s)).step.action
   end_listed = let c = segment_comes in c.listed
 
-  pub items_sound : ((axis : ℕ) → IsInRange (stands_at_start s.grant axis)) → All (λ item. IsSound (motion_of item)) (segment_of s (begun s)).items
+  pub items_sound : ((axis : ℕ) → IsPosition (stands_at_start s.grant axis)) → All (λ item. IsSound (motion_of item)) (segment_of s (begun s)).items
   items_sound starts = sound_motions s.grant.axes (stands_at_start s.grant) (segment_of s (begun s)).items all_follow starts

@@ -1,11 +1,12 @@
 //! Laws of segments.
 
 ghost use Rattle.std.specs.Prelude.{◌≡◌, ◌≤◌, ℕ, All, Some, length, slice_get, take};
-ghost use Rattle.path_geometry.specs.Motions.{IsInRange, IsSound};
+ghost use Rattle.path_geometry.specs.Motions.{IsSound};
 ghost use Rattle.sync_types.specs.Items.{left_at, motion_of};
 ghost use Rattle.block_motions.specs.Motions.{IsMotionOf};
 ghost use Rattle.sync_types.specs.declared.Item.{Item};
 ghost use Rattle.channel_machine.specs.Run.{Setting, begun, segment_of, stands_at_start, IsListedAction};
+ghost use Rattle.micro_units.specs.Position.{IsPosition};
 
 /// A law: each motion of a channel's first segment is one of axes that the channel owns, each once, from where the motions
 /// before it left it to an end in range. It is sound where they left the axes in range.
@@ -18,7 +19,7 @@ pub fn motions_follow_one_another()
 /// A law: the motions of a channel's first segment are sound, where its axes start in range.
 pub fn motions_are_sound()
     ensures { (s : Setting)
-        → ((axis : ℕ) → IsInRange (stands_at_start s.grant axis))
+        → ((axis : ℕ) → IsPosition (stands_at_start s.grant axis))
         → All (λ item. IsSound (motion_of item)) (segment_of s (begun s)).items }
 {}
 

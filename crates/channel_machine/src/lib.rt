@@ -4,11 +4,13 @@
 
 mod laws;
 mod levels;
+mod limits;
 mod local;
 mod run;
 mod surroundings;
 mod threads;
 
 pub use laws::{alarms_are_listed, motions_are_few, motions_are_sound, motions_follow_one_another};
+pub use limits::BLOCK_LIMIT;
 pub use local::Local;
 pub use run::{Segment, run_segment};

@@ -4,6 +4,7 @@ use Rattle.std.specs.Int.RustNames.{unsigned_abs}
 use Rattle.frames.specs.declared.axis_map.AxisMap.{AxisMap}
 use Rattle.frames.specs.Faults.{is_scale}
 use Rattle.frames.specs.Images.{sign, other_sign}
+use Rattle.nc_faults.specs.declared.alarms.TheConstants.{OUT_OF_RANGE, SCALE_NOT_ALLOWED}
 
 -- the shift of an axis that is moved by so many millionths before it goes
 abbrev pub moved : AxisMap → ℤ → ℤ
@@ -34,13 +35,13 @@ is_product_allowed factor by = ((factor * by) % 1000000 == 0) && nat_le (factor 
 
 abbrev pub GivesMoved : AxisMap → ℤ → Result AxisMap ℕ → Type 0
 GivesMoved old by answer =
-    MatchResult answer (λ new. IsMoved old by new) (λ alarm. (alarm ≡ 13) × (10 ^ 16 < unsigned_abs (moved old by)))
+    MatchResult answer (λ new. IsMoved old by new) (λ alarm. (alarm ≡ OUT_OF_RANGE) × (10 ^ 16 < unsigned_abs (moved old by)))
 
 abbrev pub GivesScaled : AxisMap → ℤ → Result AxisMap ℕ → Type 0
 GivesScaled old by answer =
     MatchResult answer
     (λ new. (is_scale by ≡ true) × IsScaled old by new)
-    (λ alarm. (alarm ≡ 11) × ((is_scale by && is_product_allowed old.factor (unsigned_abs by)) ≡ false))
+    (λ alarm. (alarm ≡ SCALE_NOT_ALLOWED) × ((is_scale by && is_product_allowed old.factor (unsigned_abs by)) ≡ false))
 
 -- a place in 2,000,000,000ths of a micrometre, for twice a value in millionths of a millimetre
 abbrev pub place_sum : AxisMap → ℤ → ℤ → ℤ

@@ -1,8 +1,9 @@
--- Meaning. Alarms of frames: 11 and 12 of a map by itself, then 11 and 13 of the chain.
+-- Meaning. Alarms of frames: those of a map by itself, then those of the chain.
 use Rattle.std.specs.Prelude.{ℕ, ◌*◌, ◌%◌, ◌==◌, nat_lt, nat_le, if◌then◌else◌, ℤ, pos, negsuc, Bool, false, ◌&&◌, List, [], ◌∷◌, ◌++◌, Option, Some, None}
 use Rattle.std.specs.Int.RustNames.{unsigned_abs}
 use Rattle.frames.specs.Maps.{Map, shifting, scaling, mirroring, turning}
 use Rattle.frames.specs.Images.{Image, image_of}
+use Rattle.nc_faults.specs.declared.alarms.TheConstants.{SCALE_NOT_ALLOWED, NO_QUARTER_TURN, OUT_OF_RANGE}
 
 -- the first of two alarms
 abbrev pub or_else : Option ℕ → Option ℕ → Option ℕ
@@ -20,9 +21,9 @@ is_square_angle angle = unsigned_abs angle % 90000000 == 0
 
 abbrev pub map_fault : Map → Option ℕ
 map_fault (shifting axis value) = None
-map_fault (scaling axis value) = if is_scale value then None else Some 11
+map_fault (scaling axis value) = if is_scale value then None else Some SCALE_NOT_ALLOWED
 map_fault (mirroring axis) = None
-map_fault (turning plane angle) = if is_square_angle angle then None else Some 12
+map_fault (turning plane angle) = if is_square_angle angle then None else Some NO_QUARTER_TURN
 
 abbrev pub maps_fault : List Map → Option ℕ
 maps_fault [] = None
@@ -37,7 +38,7 @@ abbrev pub is_shift_allowed : Image → Bool
 is_shift_allowed i = nat_le (unsigned_abs i.shift) (10000 * i.under)
 
 abbrev pub image_fault : Image → Option ℕ
-image_fault i = if is_factor_allowed i then (if is_shift_allowed i then None else Some 13) else Some 11
+image_fault i = if is_factor_allowed i then (if is_shift_allowed i then None else Some OUT_OF_RANGE) else Some SCALE_NOT_ALLOWED
 
 -- the axes X, Y and Z in this order
 abbrev pub chain_fault : List Map → Option ℕ

@@ -5,6 +5,7 @@ use Rattle.micro_units.specs.Rounding.{half_away}
 use Rattle.micro_units.specs.declared.Um.{Um}
 use Rattle.frames.specs.Images.{Image, sign}
 use Rattle.frames.specs.Maps.{Point}
+use Rattle.nc_faults.specs.declared.alarms.TheConstants.{OUT_OF_RANGE}
 
 -- the point that is programmed by these numbers, twice each value in millionths of a millimetre
 abbrev pub programmed : (ℕ → ℤ) → Point
@@ -18,9 +19,9 @@ end_at p slot offset = half_away ((p.top slot *ℤ pos 1000) +ℤ (offset *ℤ p
 abbrev pub change_of : Image → ℤ → ℤ
 change_of i twice = half_away ((sign i.minus *ℤ (i.factor *ℤ twice)) *ℤ pos 1000) (i.under * 2000000)
 
--- the answer has this slot and this number, or is alarm 13 exactly where the number is greater than it may be
+-- the answer has this slot and this number, or is an alarm exactly where the number is greater than it may be
 abbrev pub GivesPlace : ℕ → ℤ → ℕ → Result (ℕ × Um) ℕ → Type 0
 GivesPlace slot place most answer =
     MatchResult answer
     (λ given. (given.0 ≡ slot) × (given.1 ≡ place) × (unsigned_abs place ≤ most))
-    (λ alarm. (alarm ≡ 13) × ¬ (unsigned_abs place ≤ most))
+    (λ alarm. (alarm ≡ OUT_OF_RANGE) × ¬ (unsigned_abs place ≤ most))

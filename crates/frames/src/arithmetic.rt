@@ -5,8 +5,10 @@ ghost use Rattle.std.specs.Int.RustNames.{unsigned_abs};
 ghost use Rattle.micro_units.specs.Rounding.{half_away};
 ghost use Rattle.frames.specs.Places.{GivesPlace};
 ghost use Rattle.frames.specs.Images.{sign};
+ghost use Rattle.micro_units.specs.declared.limits.TheConstants.{CHANGE_LIMIT};
 
 use micro_units::Um;
+use nc_faults::alarms::OUT_OF_RANGE;
 
 /// A factor in millionths times a value in millionths.
 pub(crate) fn product(factor: u32, value: i64) -> i128
@@ -65,11 +67,11 @@ pub(crate) fn rounded(numerator: i128) -> i128
 
 /// The slot and this count of micrometres, or alarm 13 where it is greater in size than it may be.
 pub(crate) fn in_slot(slot: u8, micrometres: i128, most: u32) -> Result<(u8, Um), u16>
-    requires { most ≤ 20000000 }
+    requires { most ≤ CHANGE_LIMIT }
     ensures { GivesPlace slot micrometres most result }
 {
     if micrometres.unsigned_abs() > u128::from(most) {
-        return Err(13);
+        return Err(OUT_OF_RANGE);
     }
     let place = Um {
         micrometres: micrometres as i32,

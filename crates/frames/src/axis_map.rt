@@ -4,7 +4,8 @@ ghost use Rattle.std.specs.Prelude.{◌<◌, ◌≤◌, ◌^◌};
 ghost use Rattle.std.specs.Int.RustNames.{unsigned_abs};
 
 use crate::arithmetic::{doubled, in_slot, offset_part, product, rounded, sum, with_sign};
-use micro_units::{Num, Um};
+use micro_units::{CHANGE_LIMIT, Num, POSITION_LIMIT, Um};
+use nc_faults::alarms::{OUT_OF_RANGE, SCALE_NOT_ALLOWED};
 
 /// Where an axis goes: to the slot, as shift + sign · factor · value.
 #[derive(Clone, Copy, Debug)]
@@ -62,7 +63,7 @@ impl AxisMap {
     {
         let shift = self.moved_shift(by);
         if shift.unsigned_abs() > 10_000_000_000_000_000 {
-            return Err(13);
+            return Err(OUT_OF_RANGE);
         }
         Ok(AxisMap {
             slot: self.slot,
@@ -102,11 +103,11 @@ impl AxisMap {
         ensures { GivesScaled self.now by result }
     {
         if by <= 0 || by > 1_000_000_000 || by % 1000 != 0 {
-            return Err(11);
+            return Err(SCALE_NOT_ALLOWED);
         }
         let product = u64::from(self.factor) * by as u64;
         if product % 1_000_000 != 0 || product > 1_000_000_000_000_000 {
-            return Err(11);
+            return Err(SCALE_NOT_ALLOWED);
         }
         Ok(AxisMap {
             slot: self.slot,
@@ -131,9 +132,13 @@ impl AxisMap {
     /// Where half of `twice` millionths of a millimetre goes, with an offset in micrometres; or
     /// alarm 13.
     pub(crate) fn end(&self, twice: i64, offset: Um) -> Result<(u8, Um), u16>
-        ensures { GivesPlace self.now.slot (half_away (place_sum self.now twice offset) 2000000000) 10000000 result }
+        ensures { GivesPlace self.now.slot (half_away (place_sum self.now twice offset) 2000000000) POSITION_LIMIT result }
     {
-        in_slot(self.slot, rounded(self.place(twice, offset)), 10_000_000)
+        in_slot(
+            self.slot,
+            rounded(self.place(twice, offset)),
+            POSITION_LIMIT,
+        )
     }
 
     /// That place before it is rounded, in 2,000,000,000ths of a micrometre.
@@ -154,8 +159,8 @@ impl AxisMap {
 
     /// By how much the slot goes by half of `twice` millionths of a millimetre; or alarm 13.
     pub(crate) fn change(&self, twice: i64) -> Result<(u8, Um), u16>
-        ensures { GivesPlace self.now.slot (half_away (change_sum self.now twice) 2000000000) 20000000 result }
+        ensures { GivesPlace self.now.slot (half_away (change_sum self.now twice) 2000000000) CHANGE_LIMIT result }
     {
-        in_slot(self.slot, rounded(self.signed_product(twice)), 20_000_000)
+        in_slot(self.slot, rounded(self.signed_product(twice)), CHANGE_LIMIT)
     }
 }

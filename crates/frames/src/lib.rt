@@ -11,6 +11,7 @@ ghost use Rattle.frames.specs.Faults.{is_square_angle};
 ghost use Rattle.frames.specs.Composition.{IsComposed, IsExtended, GivesComposed, Joins, Adds, shifts, scales, mirrors, turns, axis_of};
 ghost use Rattle.frames.specs.Places.{programmed, end_at, change_of, GivesPlace};
 ghost use Rattle.frames.specs.Turns.{IsTurned, IsTurnedFirst, IsTurnedSecond};
+ghost use Rattle.micro_units.specs.declared.limits.TheConstants.{POSITION_LIMIT, CHANGE_LIMIT};
 
 mod arithmetic;
 mod axis_map;
@@ -19,6 +20,7 @@ mod laws;
 pub use axis_map::AxisMap;
 pub use laws::{image_is_of_the_chain, shifts_add_up, turns_and_mirrors_end};
 use micro_units::{Num, Um};
+use nc_faults::alarms::NO_QUARTER_TURN;
 
 /// A plane, with the two axes in which it turns from the first towards the second.
 #[derive(Clone, Copy, Debug, PartialEq, Eq)]
@@ -149,8 +151,8 @@ impl Frame {
     /// millimetre, and the settable offset of the slot. With `incremental`, by how much the slot
     /// changes; the offset is not used.
     ///
-    /// Alarm 13: the end is more than 10,000,000 micrometres in size, or the change more than
-    /// 20,000,000.
+    /// Alarm 13: the end is no position, or the change is more than `CHANGE_LIMIT` micrometres in
+    /// size.
     pub fn point(
         &self,
         axis: u8,
@@ -162,9 +164,9 @@ impl Frame {
         ensures absolute { (chain : List Map) (values : ℕ → ℤ) → IsComposed chain self.now
             → incremental ≡ false → values axis ≡ twice
             → let slot = (image_of chain axis).slot in
-            GivesPlace slot (end_at (mapped_point chain (programmed values)) slot offset) 10000000 result }
+            GivesPlace slot (end_at (mapped_point chain (programmed values)) slot offset) POSITION_LIMIT result }
         ensures change { (chain : List Map) → IsComposed chain self.now → incremental ≡ true
-            → GivesPlace (image_of chain axis).slot (change_of (image_of chain axis) twice) 20000000 result }
+            → GivesPlace (image_of chain axis).slot (change_of (image_of chain axis) twice) CHANGE_LIMIT result }
     {
         let map = self.axis(axis);
         if incremental {
@@ -252,7 +254,7 @@ impl Frame {
             → GivesComposed chain (turning plane angle ∷ []) result }
     {
         if !is_square(angle) {
-            return Err(12);
+            return Err(NO_QUARTER_TURN);
         }
         Ok(self.turned(plane, quarters_in(angle)))
     }

@@ -1,19 +1,26 @@
 //! The groups of words, and the words that hold from block to block.
 #![tactic(auto)]
 
-ghost use Rattle.std.specs.Prelude.{◌≡◌, ℕ, ◌<◌, List, [], ◌∷◌, ◌++◌, not, map, slice_index, IsTrue, MatchResult, IfOk, ◌==◌, if◌then◌else◌};
+ghost use Rattle.std.specs.Prelude.{◌≡◌, ℕ, ◌<◌, List, [], ◌∷◌, ◌++◌, not, map, slice_index, codes, IsTrue, MatchResult, IfOk, ◌==◌, if◌then◌else◌};
 ghost use Rattle.std.specs.List.{list_any, list_all};
 ghost use Rattle.g_groups.specs.declared.GWord.{GWord};
-ghost use Rattle.g_groups.specs.Groups.{HasModalValue, groups, has_start, are_apart, codes_from};
+ghost use Rattle.g_groups.specs.Groups.{HasModalValue, IsNamed, groups, has_start, are_apart, codes_from};
 ghost use Rattle.g_groups.specs.Modal.{IsAfter, modal_word, has_group_twice, last_code, words_of};
 
+mod numbers;
+
+use nc_faults::alarms::GROUP_TWICE;
+pub use numbers::{
+    ACCELERATION_GROUP, APPROACH_GROUP, AREA_GROUP, AREA_SWITCH_GROUP, BLOCK_GROUP, BRISK,
+    CODE_LIMIT, CORNER_GROUP, DIAM90, DIAMETER_GROUP, DIAMOF, DIAMON, DIMENSION_GROUP, DWELL_GROUP,
+    FEED_FORWARD_GROUP, FEED_GROUP, FFWOF, FFWON, KONT, MOTION_GROUP, NORM, OFFSET_GROUP,
+    PATH_GROUP, PLANE_GROUP, RADIUS_GROUP, RAPID_GROUP, RTLIOF, RTLION, SOFT, STOP_GROUP,
+    STOP_WIDTH_GROUP, SUPA, UNIT_GROUP, WALIMOF, WALIMON,
+};
 use std::marker::Model;
 
 /// One more than the greatest number of a group.
 const GROUPS: usize = 30;
-
-/// The group whose words hold in their own block alone.
-const BLOCK_GROUP: usize = 9;
 
 /// The words that hold at the start, by groups; 0 for a group with no such word.
 const START: [u16; GROUPS] = [
@@ -73,12 +80,12 @@ impl Modal {
 pub fn apply(modal: &Modal, codes: &[GWord]) -> Result<Modal, u16>
     ensures twice { MatchResult result
         (λ _. IsTrue (not (has_group_twice codes.now)))
-        (λ e. (e ≡ 10) × IsTrue (has_group_twice codes.now)) }
+        (λ e. (e ≡ GROUP_TWICE) × IsTrue (has_group_twice codes.now)) }
     ensures after { IfOk result (λ m. (blocks : List (List GWord)) → IsAfter blocks modal.now
         → IsAfter (blocks ++ codes.now ∷ []) m) }
 {
     if is_group_twice(codes) {
-        return Err(10);
+        return Err(GROUP_TWICE);
     }
     Ok(Modal {
         words: with_words(past_block(modal.words), codes),
@@ -106,16 +113,16 @@ fn has_word_of(codes: &[GWord], group: u8) -> bool
 
 /// The words by groups, without the word that held in its block alone.
 fn past_block(mut words: [u16; GROUPS]) -> [u16; GROUPS]
-    ensures { (group : ℕ) → group < 30
-        → slice_index result group ≡ (if group == 9 then 0 else slice_index words group) }
+    ensures { (group : ℕ) → group < GROUPS
+        → slice_index result group ≡ (if group == BLOCK_GROUP then 0 else slice_index words group) }
 {
-    words[BLOCK_GROUP] = 0;
+    words[usize::from(BLOCK_GROUP)] = 0;
     words
 }
 
 /// The words by groups, where those of a block take the place of earlier ones.
 fn with_words(mut words: [u16; GROUPS], codes: &[GWord]) -> [u16; GROUPS]
-    ensures { (group : ℕ) → group < 30
+    ensures { (group : ℕ) → group < GROUPS
         → slice_index result group ≡ last_code (slice_index words group) (words_of group codes.now) }
 {
     for word in codes {
@@ -126,7 +133,7 @@ fn with_words(mut words: [u16; GROUPS], codes: &[GWord]) -> [u16; GROUPS]
 
 /// Puts a word in the place of the earlier one of its group.
 fn put_word(words: &mut [u16; GROUPS], word: GWord)
-    ensures { (group : ℕ) → group < 30
+    ensures { (group : ℕ) → group < GROUPS
         → slice_index words.new group ≡ (if word.group == group then word.code else slice_index words.old group) }
 {
     let group = usize::from(word.group);
@@ -135,10 +142,18 @@ fn put_word(words: &mut [u16; GROUPS], word: GWord)
     }
 }
 
-/// A law of the table: each group stands in it once, no word stands twice in a group, and the word
-/// that holds at the start is one of its group.
+/// A law of the table: each group stands in it once, no word stands twice in a group, the word that
+/// holds at the start is one of its group, and the codes that have names are those of these names.
 pub fn table_is_sound()
     ensures groups_apart { IsTrue (are_apart (map (λ group. group.number) groups)) }
     ensures words_apart { IsTrue (list_all (λ group. are_apart (codes_from 1 group.words)) groups) }
     ensures starts { IsTrue (list_all (λ group. has_start group group.holding) groups) }
+    ensures rapids { IsNamed RAPID_GROUP RTLION (codes "RTLION") × IsNamed RAPID_GROUP RTLIOF (codes "RTLIOF") }
+    ensures blocks { IsNamed BLOCK_GROUP SUPA (codes "SUPA") }
+    ensures approaches { IsNamed APPROACH_GROUP NORM (codes "NORM") × IsNamed APPROACH_GROUP KONT (codes "KONT") }
+    ensures accelerations { IsNamed ACCELERATION_GROUP BRISK (codes "BRISK") × IsNamed ACCELERATION_GROUP SOFT (codes "SOFT") }
+    ensures feeds_forward { IsNamed FEED_FORWARD_GROUP FFWON (codes "FFWON") × IsNamed FEED_FORWARD_GROUP FFWOF (codes "FFWOF") }
+    ensures area_switches { IsNamed AREA_SWITCH_GROUP WALIMON (codes "WALIMON") × IsNamed AREA_SWITCH_GROUP WALIMOF (codes "WALIMOF") }
+    ensures diameters { IsNamed DIAMETER_GROUP DIAMON (codes "DIAMON") × IsNamed DIAMETER_GROUP DIAMOF (codes "DIAMOF")
+        × IsNamed DIAMETER_GROUP DIAM90 (codes "DIAM90") }
 {}

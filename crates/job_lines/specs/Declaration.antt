@@ -14,14 +14,15 @@ use Rattle.job_lines.specs.Code.{◌>>=◌, or_code}
 use Rattle.job_lines.specs.Numbers.{number_within}
 use Rattle.job_lines.specs.Length.{length_of}
 use Rattle.job_lines.specs.OptionLines.{option_declaration_of}
+use Rattle.axis_sets.specs.declared.limits.TheConstants.{CHANNEL_LIMIT, ZONE_LIMIT}
 
--- a channel is 1 to 8
+-- a channel
 unfoldable pub channel_of : List ℕ → Result ℕ Code
-channel_of word = or_code OutOfRange (number_within 1 8 word)
+channel_of word = or_code OutOfRange (number_within 1 CHANNEL_LIMIT word)
 
 -- a zone, or a group
 unfoldable pub zone_of : List ℕ → Result ℕ Code
-zone_of word = or_code OutOfRange (number_within 1 32 word)
+zone_of word = or_code OutOfRange (number_within 1 ZONE_LIMIT word)
 
 -- one of the letters of axes, and a number from 1 to 99
 unfoldable pub axis_name_of : List ℕ → Result AxisName Code

@@ -1,5 +1,5 @@
 -- Meaning. Lengths, in millimetres as a line writes them, in micrometres as a job holds them.
-use Rattle.std.specs.Prelude.{ℕ, ◌+◌, ℤ, neg_ℤ, unsigned_abs, Bool, ◌&&◌, if◌then◌else◌, ◌==◌, nat_le, List, [], ◌∷◌, take, drop, position, Result, Option, Some, None}
+use Rattle.std.specs.Prelude.{ℕ, ◌+◌, ℤ, neg_ℤ, Bool, ◌&&◌, if◌then◌else◌, ◌==◌, List, [], ◌∷◌, take, drop, position, Result, Option, Some, None}
 use Rattle.std.specs.Option.{option_and_then, option_map}
 use Rattle.micro_units.specs.Rounding.{half_away}
 use Rattle.micro_units.specs.NumberText.{is_point, number_of}
@@ -7,6 +7,7 @@ use Rattle.job_lines.specs.declared.code.Code.{Code}
 use Rattle.job_lines.specs.declared.code.Code.TheVariants.{OutOfRange}
 use Rattle.job_lines.specs.Code.{or_code}
 use Rattle.job_lines.specs.Numbers.{is_digits}
+use Rattle.micro_units.specs.Position.{is_position}
 
 -- one to five digits, and behind a point one to three
 abbrev pub is_size_at : List ℕ → Option ℕ → Bool
@@ -16,9 +17,9 @@ is_size_at text (Some place) = is_digits 1 5 (take place text) && is_digits 1 3 
 unfoldable pub is_size : List ℕ → Bool
 is_size text = is_size_at text (position is_point text)
 
--- at most 10,000 millimetres
+-- the micrometres where they are a position
 unfoldable pub in_reach : ℤ → Option ℤ
-in_reach micrometres = if nat_le (unsigned_abs micrometres) 10000000 then Some micrometres else None
+in_reach micrometres = if is_position micrometres then Some micrometres else None
 
 -- the size of a length, without its sign: what the number is in whole micrometres
 unfoldable pub size_of : List ℕ → Option ℤ

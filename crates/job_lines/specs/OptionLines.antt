@@ -8,24 +8,25 @@ use Rattle.job_lines.specs.declared.declaration.Declaration.TheVariants.{Margin,
 use Rattle.job_lines.specs.Code.{◌>>=◌, or_code}
 use Rattle.job_lines.specs.Numbers.{number_within}
 use Rattle.job_lines.specs.Length.{length_of}
+use Rattle.job_lines.specs.declared.limits.TheConstants.{MARGIN_LIMIT, DEPTH_LIMIT, BUDGET_LIMIT}
 
--- a length from 0 to 1,000 millimetres
+-- a length from 0 to the greatest margin
 unfoldable pub margin_of : List ℕ → Result Declaration Code
-margin_of word = length_of word >>= (λ margin. if int_le (pos 0) margin && int_le margin (pos 1000000) then Ok (Margin margin) else Err OutOfRange)
+margin_of word = length_of word >>= (λ margin. if int_le (pos 0) margin && int_le margin MARGIN_LIMIT then Ok (Margin margin) else Err OutOfRange)
 
 unfoldable pub margin_line : List (List ℕ) → Result Declaration Code
 margin_line (margin ∷ []) = margin_of margin
 margin_line args = Err UnknownJobLine
 
 unfoldable pub depth_of : List ℕ → Result Declaration Code
-depth_of word = or_code OutOfRange (number_within 0 4 word) >>= (λ depth. Ok (Depth depth))
+depth_of word = or_code OutOfRange (number_within 0 DEPTH_LIMIT word) >>= (λ depth. Ok (Depth depth))
 
 unfoldable pub depth_line : List (List ℕ) → Result Declaration Code
 depth_line (depth ∷ []) = depth_of depth
 depth_line args = Err UnknownJobLine
 
 unfoldable pub budget_of : List ℕ → Result Declaration Code
-budget_of word = or_code OutOfRange (number_within 1 100000000 word) >>= (λ budget. Ok (Budget budget))
+budget_of word = or_code OutOfRange (number_within 1 BUDGET_LIMIT word) >>= (λ budget. Ok (Budget budget))
 
 unfoldable pub budget_line : List (List ℕ) → Result Declaration Code
 budget_line (budget ∷ []) = budget_of budget

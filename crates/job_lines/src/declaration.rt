@@ -6,7 +6,7 @@ use crate::code::Code;
 use crate::length::length_in;
 use crate::numbers::{number_within, small_within};
 use crate::option_lines::option_declaration_in;
-use axis_sets::{ChannelId, ZoneId};
+use axis_sets::{CHANNEL_LIMIT, ChannelId, ZONE_LIMIT, ZoneId};
 use micro_units::Um;
 use nc_blocks::NameText;
 
@@ -35,7 +35,7 @@ pub struct NamedSide {
 pub struct NamedZone {
     /// The zone.
     pub zone: ZoneId,
-    /// Its group, 1 to 32.
+    /// Its group, from 1 on.
     pub group: u8,
     /// The channel that holds it, or none where it is held free.
     pub holder: Option<ChannelId>,
@@ -109,7 +109,7 @@ pub enum Declaration {
 fn channel_in(word: &[u8]) -> Result<ChannelId, Code>
     ensures { result ≡ channel_of word.now }
 {
-    match small_within(1, 8, word) {
+    match small_within(1, CHANNEL_LIMIT as u8, word) {
         Some(number) => Ok(ChannelId { number }),
         None => Err(Code::OutOfRange),
     }
@@ -120,7 +120,7 @@ fn channel_in(word: &[u8]) -> Result<ChannelId, Code>
 fn zone_in(word: &[u8]) -> Result<ZoneId, Code>
     ensures { result ≡ zone_of word.now }
 {
-    match small_within(1, 32, word) {
+    match small_within(1, ZONE_LIMIT as u8, word) {
         Some(number) => Ok(ZoneId { number }),
         None => Err(Code::OutOfRange),
     }
@@ -131,7 +131,7 @@ fn zone_in(word: &[u8]) -> Result<ZoneId, Code>
 fn group_in(word: &[u8]) -> Result<u8, Code>
     ensures { result ≡ zone_of word.now }
 {
-    match small_within(1, 32, word) {
+    match small_within(1, ZONE_LIMIT as u8, word) {
         Some(number) => Ok(number),
         None => Err(Code::OutOfRange),
     }

@@ -6,7 +6,7 @@ ghost use Rattle.job_lines.specs.Length.{is_size, in_reach, size_of, signed_size
 
 use crate::code::Code;
 use crate::numbers::is_digits;
-use micro_units::{Num, Um};
+use micro_units::{Num, Um, is_position};
 
 /// The place of the first point.
 fn point_in(text: &[u8]) -> Option<usize>
@@ -26,13 +26,13 @@ fn is_size(text: &[u8]) -> bool
     }
 }
 
-/// The number of millimetres in micrometres, where it is at most 10,000 in size.
+/// The number of millimetres in micrometres, where that is a position.
 #[tactic(auto, unfolding(crate::specs::Length::in_reach))]
 fn in_reach(number: Num) -> Option<Um>
     ensures { result ≡ in_reach (half_away number 1000) }
 {
     match number.to_um() {
-        Ok(um) if um.micrometres.unsigned_abs() <= 10_000_000 => Some(um),
+        Ok(um) if is_position(um.micrometres) => Some(um),
         _ => None,
     }
 }

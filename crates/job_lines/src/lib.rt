@@ -5,9 +5,11 @@ mod code;
 mod declaration;
 mod header;
 mod length;
+mod limits;
 mod numbers;
 mod option_lines;
 
 pub use code::Code;
 pub use declaration::{AxisName, Declaration, NamedSide, NamedZone, declaration_in};
 pub use header::header_in;
+pub use limits::{BUDGET_LIMIT, DEPTH_LIMIT, INPUT_LIMIT, MARGIN_LIMIT, PROGRAM_LIMIT};

@@ -5,6 +5,7 @@ ghost use Rattle.job_lines.specs.OptionLines.{margin_of, margin_line, depth_of, 
 use crate::code::Code;
 use crate::declaration::Declaration;
 use crate::length::length_in;
+use crate::limits::{BUDGET_LIMIT, DEPTH_LIMIT, MARGIN_LIMIT};
 use crate::numbers::{number_within, small_within};
 
 /// The margin that the word writes.
@@ -13,7 +14,7 @@ fn margin_in(word: &[u8]) -> Result<Declaration, Code>
     ensures { result ≡ margin_of word.now }
 {
     let margin = length_in(word)?;
-    if margin.micrometres < 0 || margin.micrometres > 1_000_000 {
+    if margin.micrometres < 0 || margin.micrometres > MARGIN_LIMIT {
         return Err(Code::OutOfRange);
     }
     Ok(Declaration::Margin(margin))
@@ -35,7 +36,7 @@ fn margin_line_in(args: &[&[u8]]) -> Result<Declaration, Code>
 fn depth_in(word: &[u8]) -> Result<Declaration, Code>
     ensures { result ≡ depth_of word.now }
 {
-    match small_within(0, 4, word) {
+    match small_within(0, DEPTH_LIMIT, word) {
         Some(depth) => Ok(Declaration::Depth(depth)),
         None => Err(Code::OutOfRange),
     }
@@ -57,7 +58,7 @@ fn depth_line_in(args: &[&[u8]]) -> Result<Declaration, Code>
 fn budget_in(word: &[u8]) -> Result<Declaration, Code>
     ensures { result ≡ budget_of word.now }
 {
-    match number_within(1, 100_000_000, word) {
+    match number_within(1, BUDGET_LIMIT, word) {
         Some(budget) => Ok(Declaration::Budget(budget)),
         None => Err(Code::OutOfRange),
     }

@@ -5,7 +5,6 @@ use Rattle.std.proofs.lemmas.Bool.{eq-eqb}
 use Rattle.std.proofs.lemmas.List.{get_or_past}
 use Rattle.std.proofs.lemmas.Option.{slice_get_within}
 use Rattle.std.proofs.lemmas.List.FromFn.{get_or-map-range_with_len, length-map-range_with_len}
-use Rattle.path_geometry.specs.Motions.{IsInRange}
 use Rattle.job_types.specs.Job.{JobView}
 use Rattle.job_types.specs.SoundJob.{IsSoundJob}
 use Rattle.job_types.specs.declared.job.AxisLine.{AxisLine}
@@ -13,6 +12,7 @@ use Rattle.job_types.specs.declared.job.ChannelLine.{ChannelLine}
 use Rattle.job_verdict.proofs.Positions.{le_or_lt, starts_in_range}
 use Rattle.job_verdict.specs.Channels.{owned_position, owned_positions, start_grant, granted_position}
 use Rattle.job_types.specs.Axes.{first_owner, start_position, owns}
+use Rattle.micro_units.specs.Position.{IsPosition}
 
 -- what is granted for an axis of the row
 granted_is : (job : JobView) (line : ChannelLine) (axis : ℕ) → axis < 16 → granted_position job line axis ≡ unwrap_or (owned_position job line.channel axis) (pos 0)
@@ -46,13 +46,13 @@ granted_own job sound line axis owned =
     granted_is job line axis (omega arith) ∙ ap (λ (b : Bool). unwrap_or (cond b (Some (start_position job axis)) None) (pos 0)) own
 
 -- each axis is granted in range
-pub granted_in_range : (job : JobView) (line : ChannelLine) → All (λ l. IsInRange l.at) job.axes → (axis : ℕ) → IsInRange (granted_position job line axis)
+pub granted_in_range : (job : JobView) (line : ChannelLine) → All (λ l. IsPosition l.at) job.axes → (axis : ℕ) → IsPosition (granted_position job line axis)
 granted_in_range job line starts axis = by_place (le_or_lt 16 axis)
   where
-    by_owner : (b : Bool) → IsInRange (unwrap_or (cond b (Some (start_position job axis)) None) (pos 0))
+    by_owner : (b : Bool) → IsPosition (unwrap_or (cond b (Some (start_position job axis)) None) (pos 0))
     by_owner true = starts_in_range job starts axis
     by_owner false = omega arith
 
-    by_place : (16 ≤ axis) ⊎ (axis < 16) → IsInRange (granted_position job line axis)
-    by_place (inl past) = subst IsInRange (sym (granted_past job line axis past)) (omega arith)
-    by_place (inr within) = subst IsInRange (sym (granted_is job line axis within)) (by_owner (owns job line.channel axis))
+    by_place : (16 ≤ axis) ⊎ (axis < 16) → IsPosition (granted_position job line axis)
+    by_place (inl past) = subst IsPosition (sym (granted_past job line axis past)) (omega arith)
+    by_place (inr within) = subst IsPosition (sym (granted_is job line axis within)) (by_owner (owns job line.channel axis))

@@ -4,11 +4,11 @@ use Rattle.std.specs.Option.{option_map_or}
 use Rattle.std.proofs.lemmas.List.{length-map, ext_get_or}
 use Rattle.std.proofs.lemmas.List.Elements.{All-head, All-tail}
 use Rattle.job_verdict.specs.Channels.{positions_in}
-use Rattle.path_geometry.specs.Motions.{IsInRange}
 use Rattle.job_types.specs.Job.{JobView}
 use Rattle.job_types.specs.declared.job.AxisLine.{AxisLine}
 use Rattle.job_verdict.specs.Channels.{start_row}
 use Rattle.job_types.specs.Axes.{start_position}
+use Rattle.micro_units.specs.Position.{IsPosition}
 
 -- one number is not above another, or it is
 pub le_or_lt : (a b : ℕ) → (a ≤ b) ⊎ (b < a)
@@ -48,11 +48,11 @@ whole_row job at few long put =
     ext_get_or (pos 0) at (start_row job) (omega arith) (λ axis within. put axis (omega arith) ∙ sym (row_is job axis))
 
 -- where the AXIS lines put their axes in range, each axis starts in range
-pub starts_in_range : (job : JobView) → All (λ line. IsInRange line.at) job.axes → (axis : ℕ) → IsInRange (start_position job axis)
+pub starts_in_range : (job : JobView) → All (λ line. IsPosition line.at) job.axes → (axis : ℕ) → IsPosition (start_position job axis)
 unfolding start_position
 starts_in_range job starts axis = at_line job.axes axis starts
   where
-    at_line : (lines : List AxisLine) (axis : ℕ) → All (λ line. IsInRange line.at) lines → IsInRange (option_map_or (λ line. line.at) (slice_get lines axis) (pos 0))
+    at_line : (lines : List AxisLine) (axis : ℕ) → All (λ line. IsPosition line.at) lines → IsPosition (option_map_or (λ line. line.at) (slice_get lines axis) (pos 0))
     at_line [] axis all = omega arith
-    at_line (line ∷ lines) zero all = All-head (λ l. IsInRange l.at) line lines all
-    at_line (line ∷ lines) (suc axis) all = at_line lines axis (All-tail (λ l. IsInRange l.at) line lines all)
+    at_line (line ∷ lines) zero all = All-head (λ l. IsPosition l.at) line lines all
+    at_line (line ∷ lines) (suc axis) all = at_line lines axis (All-tail (λ l. IsPosition l.at) line lines all)

@@ -12,7 +12,7 @@ use Rattle.sync_types.specs.Items.{left_at, motion_of}
 use Rattle.block_motions.specs.Motions.{IsMotionOf}
 use Rattle.channel_machine.proofs.RunLaws.{all_follow, few_items, items_sound, end_listed}
 use Rattle.channel_machine.specs.Run.{IsListedAction}
-use Rattle.path_geometry.specs.Motions.{axes_of, IsInRange, IsSound}
+use Rattle.path_geometry.specs.Motions.{axes_of, IsSound}
 use Rattle.sync_types.specs.declared.Action.{Action}
 use Rattle.sync_types.specs.declared.Action.TheVariants as action
 use Rattle.sync_types.specs.declared.Item.{Item}
@@ -26,6 +26,7 @@ use Rattle.job_verdict.specs.ChannelRun.{IsListedEnd}
 use Rattle.job_verdict.specs.Channels.{owned_axes, start_grant, setting_at, granted_position, program_run, items_of, end_by, end_of}
 use Rattle.job_verdict.specs.ZoneBoxes.{IsFit, after}
 use Rattle.job_types.specs.Axes.{first_owner, start_position, is_of, owns}
+use Rattle.micro_units.specs.Position.{IsPosition}
 
 -- ---- motions, one after another
 
@@ -69,7 +70,7 @@ unfolding program_run
 motions_follow job line place item is = (all_follow (setting_at job line)).follows place item is
 
 -- they are sound, since the axes start in range
-motions_sound : (job : JobView) (line : ChannelLine) → All (λ l. IsInRange l.at) job.axes → All (λ item. IsSound (motion_of item)) (items_of job line)
+motions_sound : (job : JobView) (line : ChannelLine) → All (λ l. IsPosition l.at) job.axes → All (λ item. IsSound (motion_of item)) (items_of job line)
 unfolding program_run
 motions_sound job line starts = items_sound (setting_at job line) (granted_in_range job line starts)
 

@@ -16,6 +16,7 @@ use Rattle.job_types.specs.Job.{JobView}
 use Rattle.job_types.specs.declared.job.ChannelLine.{ChannelLine}
 use Rattle.job_types.specs.declared.job.ZoneLine.{ZoneLine}
 use Rattle.job_types.specs.Axes.{start_position, is_of, owns}
+use Rattle.micro_units.specs.Position.{IsPosition}
 
 -- ---- where the job puts axes
 

@@ -1,17 +1,18 @@
 -- Meaning. Numbers and lengths, and where they are in range.
-use Rattle.std.specs.Prelude.{◌≡◌, ◌≢◌, ◌<◌, ◌≤◌, ◌^◌, ℤ, pos, ◌<ℤ◌, ◌≤ℤ◌, Result, Ok, Err, MatchResult}
+use Rattle.std.specs.Prelude.{◌≡◌, ◌≢◌, ◌<◌, ◌≤◌, ℤ, pos, ◌<ℤ◌, ◌≤ℤ◌, Result, Ok, Err, MatchResult}
 use Rattle.std.specs.Int.RustNames.{unsigned_abs}
 use Rattle.micro_units.specs.declared.Num.{Num}
 use Rattle.micro_units.specs.declared.Um.{Um}
+use Rattle.micro_units.specs.declared.limits.TheConstants.{NUMBER_LIMIT, CHANGE_LIMIT}
 use Rattle.micro_units.specs.declared.NumFault.{NumFault}
 use Rattle.micro_units.specs.declared.NumFault.TheVariants.{NotANumber, TooLarge, DivideByZero, NegativeRoot}
 
--- a count of millionths that a `Num` can hold, and of micrometres that a `Um` can
+-- a count of millionths that a number can have, and of micrometres that it can be turned into
 abbrev pub FitsNum : ℤ → Type 0
-FitsNum millionths = unsigned_abs millionths < 10 ^ 14
+FitsNum millionths = unsigned_abs millionths < NUMBER_LIMIT
 
 abbrev pub FitsUm : ℤ → Type 0
-FitsUm micrometres = unsigned_abs micrometres ≤ 20000000
+FitsUm micrometres = unsigned_abs micrometres ≤ CHANGE_LIMIT
 
 -- the answer has this value, or is TooLarge exactly where the value is out of range
 abbrev pub GivesNum : ℤ → Result Num NumFault → Type 0

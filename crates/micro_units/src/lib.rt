@@ -5,11 +5,13 @@ ghost use Rattle.std.specs.Prelude.{◌≡◌, ◌≢◌, ◌<◌, ◌≤◌, �
 ghost use Rattle.std.specs.Int.RustNames.{unsigned_abs};
 
 mod digits;
+mod limits;
 mod roots;
 mod rounding;
 mod threads;
 
 use digits::{Digits, digits_in};
+pub use limits::{BOUND_LIMIT, CHANGE_LIMIT, NUMBER_LIMIT, POSITION_LIMIT, is_position};
 use roots::root_of_millionths;
 pub use roots::{isqrt_ceil, isqrt_floor};
 use rounding::rounded;
@@ -27,19 +29,20 @@ pub struct Num {
 }
 
 impl Model for Num {
-    ghost use Rattle.std.specs.Prelude.{ℤ, ◌<◌, ◌^◌};
+    ghost use Rattle.std.specs.Prelude.{ℤ, ◌<◌};
     ghost use Rattle.std.specs.Int.RustNames.{unsigned_abs};
+    ghost use Rattle.micro_units.specs.declared.limits.TheConstants.{NUMBER_LIMIT};
 
     ghost Value = { ℤ };
 
     ghost view = { λ n. n.millionths };
 
-    ghost invariant = { λ n. unsigned_abs n.millionths < 10 ^ 14 };
+    ghost invariant = { λ n. unsigned_abs n.millionths < NUMBER_LIMIT };
 
     ghost inverse = { λ z. record { millionths = z } };
 }
 
-/// A position, a length or a bound in whole micrometres, at most 50,000,000 in size: so far at the most do the boxes of arcs reach.
+/// A position, a length or a bound in whole micrometres, at most `BOUND_LIMIT` in size.
 ///
 /// A contract sees it as this count.
 #[derive(Clone, Copy, Debug, PartialEq, Eq)]
@@ -51,12 +54,13 @@ pub struct Um {
 impl Model for Um {
     ghost use Rattle.std.specs.Prelude.{ℤ, ◌≤◌};
     ghost use Rattle.std.specs.Int.RustNames.{unsigned_abs};
+    ghost use Rattle.micro_units.specs.declared.limits.TheConstants.{BOUND_LIMIT};
 
     ghost Value = { ℤ };
 
     ghost view = { λ u. u.micrometres };
 
-    ghost invariant = { λ u. unsigned_abs u.micrometres ≤ 50000000 };
+    ghost invariant = { λ u. unsigned_abs u.micrometres ≤ BOUND_LIMIT };
 
     ghost inverse = { λ z. record { micrometres = z } };
 }
@@ -105,7 +109,7 @@ impl Num {
     fn from_millionths(millionths: i128) -> Result<Num, NumFault>
         ensures { GivesNum millionths result }
     {
-        if millionths.unsigned_abs() < 100_000_000_000_000 {
+        if millionths.unsigned_abs() < u128::from(NUMBER_LIMIT) {
             Ok(Num {
                 millionths: millionths as i64,
             })
@@ -260,7 +264,7 @@ impl Num {
     }
 
     /// This number of millimetres, rounded once to whole micrometres, or `TooLarge` where that is
-    /// more than 20,000,000 in size.
+    /// more than `CHANGE_LIMIT` in size.
     pub fn to_um(self) -> Result<Um, NumFault>
         ensures { GivesUm (half_away self 1000) result }
     {
@@ -268,7 +272,7 @@ impl Num {
     }
 
     /// Half of this number of millimetres, as of a diameter, rounded once to whole micrometres, or
-    /// `TooLarge` where that is more than 20,000,000 in size.
+    /// `TooLarge` where that is more than `CHANGE_LIMIT` in size.
     pub fn half_to_um(self) -> Result<Um, NumFault>
         ensures { GivesUm (half_away self 2000) result }
     {
@@ -283,7 +287,7 @@ impl Um {
     fn from_micrometres(micrometres: i128) -> Result<Um, NumFault>
         ensures { GivesUm micrometres result }
     {
-        if micrometres.unsigned_abs() <= 20_000_000 {
+        if micrometres.unsigned_abs() <= u128::from(CHANGE_LIMIT) {
             Ok(Um {
                 micrometres: micrometres as i32,
             })

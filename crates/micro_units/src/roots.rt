@@ -2,6 +2,7 @@
 
 ghost use Rattle.std.specs.Prelude.{◌≡◌, ℕ, ◌<◌, ◌≤◌, ◌+◌, ◌*◌, ◌^◌};
 ghost use Rattle.micro_units.specs.Root.{floor_root, ceil_root};
+ghost use Rattle.micro_units.specs.declared.limits.TheConstants.{NUMBER_LIMIT};
 
 /// The root of `value`, rounded down.
 pub fn isqrt_floor(value: u128) -> u64
@@ -31,7 +32,7 @@ pub fn isqrt_ceil(value: u128) -> u64
 /// The root of so many millionths, in millionths too, rounded down.
 #[tactic(auto, using(crate::proofs::SquareRoots::root_below))]
 pub(crate) fn root_of_millionths(millionths: u64) -> u64
-    requires { millionths < 10 ^ 14 }
+    requires { millionths < NUMBER_LIMIT }
     ensures value { result ≡ floor_root (millionths * 1000000) }
     ensures bound { result < 10 ^ 10 }
 {

@@ -1,7 +1,8 @@
 //! Boxes and pieces against values that were worked out by hand or by other programs.
 ghost use Rattle.std.specs.Prelude.{◌≡◌, ◌≤◌, pos, ◌≤ℤ◌, IfOk, IfSome};
 ghost use Rattle.std.specs.Int.RustNames.{unsigned_abs};
-ghost use Rattle.path_geometry.specs.Motions.{AreSound, HavePlane, IsInRange, IsSound};
+ghost use Rattle.path_geometry.specs.Motions.{AreSound, HavePlane, IsSound};
+ghost use Rattle.micro_units.specs.Position.{IsPosition};
 
 use crate::tables::{is_row, pair};
 use arrayvec::ArrayVec;
@@ -14,7 +15,7 @@ use swept_boxes::*;
 
 // A position, within the range.
 fn um(micrometres: i32) -> Um
-    ensures { IsInRange result }
+    ensures { IsPosition result }
 {
     Um {
         micrometres: micrometres.clamp(-10_000_000, 10_000_000),
@@ -23,7 +24,7 @@ fn um(micrometres: i32) -> Um
 
 // A length, within the range.
 fn length(micrometres: i32) -> Um
-    ensures range { IsInRange result }
+    ensures range { IsPosition result }
     ensures above { pos 0 ≤ℤ result }
 {
     Um {
@@ -75,7 +76,7 @@ fn about(ends: &Ends, ahead: bool, centre: (Um, Um)) -> Result<Motion, u16>
     requires sound { AreSound ends.now }
     requires ahead { HavePlane ends.now 0 1 }
     requires back { HavePlane ends.now 1 0 }
-    requires centre { IsInRange centre.0 × IsInRange centre.1 }
+    requires centre { IsPosition centre.0 × IsPosition centre.1 }
     ensures { IfOk result IsSound }
 {
     if ahead {
@@ -89,7 +90,7 @@ fn of_radius(ends: &Ends, ahead: bool, radius: Um, long: bool) -> Result<Motion,
     requires sound { AreSound ends.now }
     requires ahead { HavePlane ends.now 0 1 }
     requires back { HavePlane ends.now 1 0 }
-    requires range { IsInRange radius }
+    requires range { IsPosition radius }
     requires above { pos 0 ≤ℤ radius }
     ensures { IfOk result IsSound }
 {

@@ -1,6 +1,7 @@
 //! Arcs against values that were worked out by hand or by other programs.
 ghost use Rattle.std.specs.Prelude.{◌≡◌, ◌≢◌, pos, ◌≤ℤ◌};
-ghost use Rattle.path_geometry.specs.Motions.{AreSound, HavePlane, IsInRange};
+ghost use Rattle.path_geometry.specs.Motions.{AreSound, HavePlane};
+ghost use Rattle.micro_units.specs.Position.{IsPosition};
 
 use crate::tables::{is_row, pair};
 use arrayvec::ArrayVec;
@@ -24,7 +25,7 @@ fn second() -> AxisId
 
 // A position, within the range.
 fn um(micrometres: i32) -> Um
-    ensures { IsInRange result }
+    ensures { IsPosition result }
 {
     Um {
         micrometres: micrometres.clamp(-10_000_000, 10_000_000),
@@ -33,7 +34,7 @@ fn um(micrometres: i32) -> Um
 
 // A length, within the range.
 fn length(micrometres: i32) -> Um
-    ensures range { IsInRange result }
+    ensures range { IsPosition result }
     ensures above { pos 0 ≤ℤ result }
 {
     Um {

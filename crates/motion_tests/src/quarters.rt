@@ -1,6 +1,7 @@
 //! Quarters, bounds and parts against values that were worked out by hand.
 ghost use Rattle.std.specs.Prelude.{◌≡◌};
-ghost use Rattle.path_geometry.specs.Motions.{AreSound, HavePlane, IsInRange};
+ghost use Rattle.path_geometry.specs.Motions.{AreSound, HavePlane};
+ghost use Rattle.micro_units.specs.Position.{IsPosition};
 
 use arc_quadrants::*;
 use arrayvec::ArrayVec;
@@ -11,7 +12,7 @@ use std::process::Abort;
 
 // A position, within the range.
 fn um(micrometres: i32) -> Um
-    ensures { IsInRange result }
+    ensures { IsPosition result }
 {
     Um {
         micrometres: micrometres.clamp(-10_000_000, 10_000_000),

@@ -1,7 +1,8 @@
--- Law. Each parameter that a block names by its number is one of the 1,000.
+-- Law. Each parameter that a block names by its number is one of those that a channel has.
 use Rattle.std.specs.Prelude.{ℕ, ◌≤◌, All, Option, Some, None}
 use Rattle.nc_expressions.specs.Tree.{Tree, IndicesFit}
 use Rattle.nc_blocks.specs.Statement.{OperandView, Value, Text, AxisName, WordView, Assign, AssignAt, G, Axis, Radius, Aux, End, Statement, Empty, WordBlock, Jump, IfJump, If, Else, EndIf, While, EndWhile, Repeat, Until, Loop, EndLoop, For, EndFor, Case, RepeatFrom, RepeatBlock, Call, Return, Proc, Shape, Turn, Coord, Message}
+use Rattle.nc_expressions.specs.declared.limits.TheConstants.{LAST_PARAMETER}
 
 abbrev pub OptionFits : Option Tree → Type 0
 OptionFits None = Unit {0}
@@ -13,7 +14,7 @@ OperandFits (Text bytes) = Unit {0}
 OperandFits (AxisName bytes) = Unit {0}
 
 abbrev pub WordFits : WordView → Type 0
-WordFits (Assign i t) = (i ≤ 999) × IndicesFit t
+WordFits (Assign i t) = (i ≤ LAST_PARAMETER) × IndicesFit t
 WordFits (AssignAt i t) = IndicesFit i × IndicesFit t
 WordFits (G group code) = Unit {0}
 WordFits (Axis bytes m t) = IndicesFit t
@@ -38,7 +39,7 @@ StatementFits Repeat = Unit {0}
 StatementFits (Until t) = IndicesFit t
 StatementFits Loop = Unit {0}
 StatementFits EndLoop = Unit {0}
-StatementFits (For i a b) = (i ≤ 999) × IndicesFit a × IndicesFit b
+StatementFits (For i a b) = (i ≤ LAST_PARAMETER) × IndicesFit a × IndicesFit b
 StatementFits EndFor = Unit {0}
 StatementFits (Case t pairs d) = IndicesFit t
 StatementFits (RepeatFrom n t) = OptionFits t

@@ -12,6 +12,7 @@ use Rattle.nc_expressions.specs.declared.symbols.Symbol.TheVariants as symbol
 use Rattle.nc_expressions.specs.Symbols.{symbols_of}
 use Rattle.nc_blocks.specs.declared.pieces.Piece.{Piece}
 use Rattle.nc_blocks.specs.declared.pieces.Piece.TheVariants as piece
+use Rattle.nc_blocks.specs.declared.limits.TheConstants.{NAME_LIMIT}
 
 unfoldable pub sign_piece : Sign → Piece
 sign_piece sign.Plus = piece.Plus
@@ -38,10 +39,10 @@ unfoldable pub number_piece : Symbol → Piece
 number_piece (symbol.Number z digits) = piece.Number z
 number_piece one = piece.Broken
 
--- a name has at most 32 bytes
+-- a name that is too long fits no form
 unfoldable pub plain_piece : Kind → ℕ → ℕ → Symbol → Piece
 plain_piece (kind.Letter b) from to one = piece.Letter b
-plain_piece kind.Name from to one = if nat_lt (from + 32) to then piece.Broken else piece.Name
+plain_piece kind.Name from to one = if nat_lt (from + NAME_LIMIT) to then piece.Broken else piece.Name
 plain_piece kind.Number from to one = number_piece one
 plain_piece kind.Text from to one = piece.Text
 plain_piece (kind.Sign s) from to one = sign_piece s

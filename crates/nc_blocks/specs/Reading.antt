@@ -77,7 +77,7 @@ abbrev pub index_or : Option ℕ → ℕ → Result ℕ ℕ
 index_or (Some i) code = Ok i
 index_or None code = Err code
 
--- the number of a parameter: digits, 0 to 999 by their value
+-- the number of a parameter: digits, and it counts by its value
 unfoldable pub parameter_number : List ℕ → ℤ → Result ℕ ℕ
 parameter_number text z = if is_digits text then index_or (index_of z) 22 else Err 22
 

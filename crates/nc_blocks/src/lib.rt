@@ -4,6 +4,7 @@
 
 mod axis_names;
 mod blocks;
+mod limits;
 mod marks;
 mod names;
 mod pieces;
@@ -14,6 +15,7 @@ mod wording;
 
 pub use axis_names::{has_axis_name, has_axis_word};
 pub use blocks::{Block, CoordWord, FrameWord, JumpTo, Measure, Operand, Stmt, Target, Way, Word};
+pub use limits::{NAME_LIMIT, PASS_LIMIT};
 pub use marks::{
     assign_at, close_at, code_at, comma_at, end_at, is_keyword, is_word, keyword_at, open_at,
 };

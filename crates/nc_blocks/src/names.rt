@@ -1,13 +1,14 @@
 //! Names of labels and programs.
 
+use crate::limits::NAME_LIMIT;
 use arrayvec::ArrayVec;
 use std::fmt;
 use std::marker::Model;
 
-/// A name of at most 32 bytes, in upper case; a contract sees it as the list of its bytes.
+/// A name of at most `NAME_LIMIT` bytes, in upper case; a contract sees it as the list of its bytes.
 #[derive(Drop, PartialEq, Eq, Hash)]
 pub struct NameText {
-    bytes: ArrayVec<u8, 32>,
+    bytes: ArrayVec<u8, NAME_LIMIT>,
 }
 
 impl Model for NameText {
@@ -21,16 +22,16 @@ impl Model for NameText {
 }
 
 impl NameText {
-    ghost use Rattle.std.specs.Prelude.{◌≡◌, ◌≤◌, ◌∷◌, length};
+    ghost use Rattle.std.specs.Prelude.{◌≡◌, ◌<◌, ◌≤◌, ◌∷◌, length};
     ghost use Rattle.nc_blocks.specs.Names.{name_of};
 
-    /// The name that has the letters of a word in upper case, of its first 32 bytes where it is
+    /// The name that has the letters of a word in upper case, of its first `NAME_LIMIT` bytes where it is
     /// longer.
     pub fn of_word(word: &[u8]) -> NameText
         ensures { result ≡ name_of word.now }
     {
         let mut bytes = ArrayVec::new();
-        for byte in &word[..word.len().min(32)] {
+        for byte in &word[..word.len().min(NAME_LIMIT)] {
             bytes.push(byte.to_ascii_uppercase());
         }
         NameText { bytes }
@@ -38,7 +39,7 @@ impl NameText {
 
     /// The name of a program that is L and these digits.
     pub fn numbered(digits: &[u8]) -> NameText
-        requires { length digits.now ≤ 31 }
+        requires { length digits.now < NAME_LIMIT }
         ensures { result ≡ 76 ∷ digits.now }
     {
         let mut bytes = ArrayVec::new();
@@ -52,7 +53,7 @@ impl NameText {
     /// The bytes of the name.
     pub fn as_bytes(&self) -> &[u8]
         ensures bytes { result.now ≡ self.now }
-        ensures short { length result.now ≤ 32 }
+        ensures short { length result.now ≤ NAME_LIMIT }
     {
         self.bytes.as_slice()
     }

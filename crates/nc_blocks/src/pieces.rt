@@ -4,6 +4,7 @@ ghost use Rattle.std.specs.Prelude.{◌≡◌, ◌<◌, ◌≤◌, length};
 ghost use Rattle.block_scanner.specs.Scanned.{IsScanned};
 ghost use Rattle.nc_blocks.specs.Pieces.{sign_piece, number_piece, plain_piece, piece_of, piece_at, text_at, Stands};
 
+use crate::limits::NAME_LIMIT;
 use block_scanner::{Kind, Sign, Token, Words};
 use micro_units::Num;
 use nc_expressions::{Symbol, symbol_at};
@@ -15,7 +16,7 @@ pub enum Piece {
     End,
     /// A letter, in upper case.
     Letter(u8),
-    /// A name of at most 32 bytes.
+    /// A name of at most `NAME_LIMIT` bytes.
     Name,
     /// A number.
     Number(Num),
@@ -90,7 +91,7 @@ fn plain_piece(kind: Kind, start: u16, end: u16, symbol: Symbol) -> Piece
     match kind {
         Kind::Letter(letter) => Piece::Letter(letter),
         Kind::Name => {
-            if usize::from(start) + 32 < usize::from(end) {
+            if usize::from(start) + NAME_LIMIT < usize::from(end) {
                 Piece::Broken
             } else {
                 Piece::Name

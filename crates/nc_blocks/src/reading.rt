@@ -6,6 +6,7 @@ ghost use Rattle.block_scanner.specs.Scanned.{IsScanned};
 ghost use Rattle.nc_expressions.specs.Tree.{tree_of, IndicesFit};
 ghost use Rattle.nc_blocks.specs.declared.pieces.Piece.{Piece};
 ghost use Rattle.nc_blocks.specs.Reading.{Gives, placed_tree, expression_at, value_at, after_sign, signed, constant_at, block_number, block_number_at, parameter_number, index_at, label_at};
+ghost use Rattle.nc_expressions.specs.declared.limits.TheConstants.{LAST_PARAMETER};
 
 use crate::marks::word_code;
 use crate::names::NameText;
@@ -130,7 +131,7 @@ pub fn block_number_at(words: &Words<'_>, at: usize) -> Result<u32, u16>
 #[tactic(auto, unfolding(crate::specs::Reading::parameter_number))]
 fn parameter_number(text: &[u8], number: Num) -> Result<u16, u16>
     ensures value { result ≡ parameter_number text.now number }
-    ensures within { IfOk result (λ i. i ≤ 999) }
+    ensures within { IfOk result (λ i. i ≤ LAST_PARAMETER) }
 {
     match index_of(number) {
         Some(index) if is_digits(text) => Ok(index),
@@ -138,13 +139,13 @@ fn parameter_number(text: &[u8], number: Num) -> Result<u16, u16>
     }
 }
 
-/// The parameter number at a place: digits, 0 to 999 by their value. Another number is refused by
+/// The parameter number at a place: digits, at most `LAST_PARAMETER` by their value. Another number is refused by
 /// 22, and what is no number by the given code.
 #[tactic(auto, unfolding(crate::specs::Reading::index_at))]
 pub fn index_at(words: &Words<'_>, at: usize, code: u16) -> Result<u16, u16>
     requires { IsScanned words.now }
     ensures value { result ≡ index_at words.now at code }
-    ensures within { IfOk result (λ i. (i ≤ 999) × (at < length words.now.tokens)) }
+    ensures within { IfOk result (λ i. (i ≤ LAST_PARAMETER) × (at < length words.now.tokens)) }
 {
     match piece_at(words, at) {
         Piece::Number(number) => parameter_number(text_at(words, at), number),

@@ -10,12 +10,14 @@ use Rattle.nc_control_flow.specs.declared.repeats.Control.TheVariants.{Done, Com
 use Rattle.nc_control_flow.specs.Parts.{statement_at}
 use Rattle.nc_control_flow.specs.Repetitions.{Going, is_within, settled}
 use Rattle.nc_control_flow.specs.Moves.{OutcomeView, move_of}
+use Rattle.nc_faults.specs.declared.alarms.TheConstants.{TOO_MANY_REPETITIONS}
+use Rattle.nc_control_flow.specs.declared.limits.TheConstants.{REPETITION_LIMIT}
 
--- a leap ends the repetitions whose blocks it leaves; a seventeenth is alarm 32
+-- a leap ends the repetitions whose blocks it leaves; one too many is an alarm
 unfoldable pub going : ℕ → List Running → Move → Result Going ℕ
 going pc running Onward = Ok (settled (Done pc) running)
 going pc running (Leap place) = Ok (settled (Comes place) (filter (is_within place) running))
-going pc running (Start r) = if length running == 16 then Err 32 else Ok (settled (Comes r.first) (r ∷ running))
+going pc running (Start r) = if length running == REPETITION_LIMIT then Err TOO_MANY_REPETITIONS else Ok (settled (Comes r.first) (r ∷ running))
 
 abbrev pub gone : ℕ → List Running → Result Move ℕ → Result Going ℕ
 gone pc running (Ok move) = going pc running move

@@ -11,6 +11,7 @@ use Rattle.nc_control_flow.specs.declared.flow.Move.TheVariants.{Onward, Leap, S
 use Rattle.nc_control_flow.specs.Repetitions.{OwnFits}
 use Rattle.nc_control_flow.specs.Structures.{closing, branching, opening}
 use Rattle.nc_control_flow.specs.Targets.{target_of, first_of_range, single_block}
+use Rattle.nc_faults.specs.declared.alarms.TheConstants.{JUMP_TARGET_MISSING}
 
 -- what came of a block, with the target of a jump in it
 pub data OutcomeView : Type 0 where
@@ -51,21 +52,21 @@ choice pc blocks (Until c) holds = onward_if holds (opening pc blocks + 1)
 choice pc blocks EndFor holds = leap_if holds (opening pc blocks + 1)
 choice pc blocks other holds = Onward
 
--- a missing target is alarm 5, but not of GOTOC
+-- a missing target is an alarm, but not of GOTOC
 abbrev pub jump : Way → Option ℕ → Result Move ℕ
 jump way (Some place) = Ok (Leap place)
 jump Optional None = Ok Onward
-jump way None = Err 5
+jump way None = Err JUMP_TARGET_MISSING
 
 -- the range of a REPEAT from its label, which stands once in the text and is repeated so many times
 abbrev pub range : ℕ → ℕ → Option ℕ → Result Move ℕ
-range pc times None = Err 5
+range pc times None = Err JUMP_TARGET_MISSING
 range pc times (Some first) =
     if times == 0 then Ok Onward else Ok (Start (record { single = false; first = first; last = pc; own = pc; left = times - 1 }))
 
 -- the one block of a REPEATB
 abbrev pub single : ℕ → ℕ → Option ℕ → Result Move ℕ
-single pc times None = Err 5
+single pc times None = Err JUMP_TARGET_MISSING
 single pc times (Some first) =
     if times == 0 then Ok Onward else Ok (Start (record { single = true; first = first; last = first; own = pc; left = times - 1 }))
 

@@ -4,6 +4,7 @@ use Rattle.nc_blocks.specs.Statement.{Statement, If, Else, EndIf, While, EndWhil
 use Rattle.nc_control_flow.specs.declared.nest.Opened.{Opened}
 use Rattle.nc_control_flow.specs.declared.nest.Structure.{Structure}
 use Rattle.nc_control_flow.specs.declared.nest.Structure.TheVariants as structure
+use Rattle.nc_control_flow.specs.declared.limits.TheConstants.{STRUCTURE_LIMIT}
 
 -- whether the end of the first structure ends the second, which is open
 abbrev pub ends : Structure → Structure → Bool
@@ -16,7 +17,7 @@ ends structure.For structure.For = true
 ends one other = false
 
 abbrev pub opened : List Opened → Structure → ℕ → Result (List Opened) ℕ
-opened all one line = if length all == 16 then Err 26 else Ok (record { structure = one; line = line } ∷ all)
+opened all one line = if length all == STRUCTURE_LIMIT then Err 26 else Ok (record { structure = one; line = line } ∷ all)
 
 abbrev pub closed : Structure → List Opened → Result (List Opened) ℕ
 closed one [] = Err 25

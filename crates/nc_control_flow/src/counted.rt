@@ -11,6 +11,7 @@ ghost use Rattle.nc_control_flow.specs.Counted.{plain_from, end_of};
 use crate::flow::{Flow, Move, Next, Outcome};
 use crate::repeats::{Control, Repeats, Running};
 use nc_blocks::Block;
+use nc_faults::alarms::TOO_MANY_REPETITIONS;
 use std::alloc::{AllocError, Global};
 
 /// For each block the place of the nearest one without `/` at or behind it; without one the place
@@ -117,7 +118,7 @@ impl Flow {
             }
             Move::Start(repetition) => {
                 if repeats.is_full() {
-                    return Err(32);
+                    return Err(TOO_MANY_REPETITIONS);
                 }
                 if self.is_idle(&repetition) {
                     return Ok(self.walk(repeats, Control::Done(pc)));

@@ -10,6 +10,7 @@ use crate::repeats::{Control, Repeats, Running};
 use crate::structures::{found_ahead, found_before};
 use nc_blocks::{Block, Target, Way};
 use nc_faults::NoMemory;
+use nc_faults::alarms::TOO_MANY_REPETITIONS;
 use std::alloc::Global;
 use std::marker::Model;
 
@@ -143,7 +144,7 @@ impl Flow {
             }
             Move::Start(repetition) => {
                 if repeats.is_full() {
-                    return Err(32);
+                    return Err(TOO_MANY_REPETITIONS);
                 }
                 repeats.begin(repetition);
                 Ok(self.at(repeats.settle(Control::Comes(repetition.first))))

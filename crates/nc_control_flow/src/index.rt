@@ -7,16 +7,16 @@ ghost use Rattle.nc_control_flow.specs.Targets.{is_label, is_number};
 ghost use Rattle.nc_control_flow.specs.Index.{labelled, numbered, IsIndex};
 
 use arrayvec::ArrayVec;
-use nc_blocks::{Block, NameText};
+use nc_blocks::{Block, NAME_LIMIT, NameText};
 use std::alloc::{AllocError, Global};
 use std::collections::HashMap;
 
 /// A label as a key.
-pub(crate) type Name = ArrayVec<u8, 32>;
+pub(crate) type Name = ArrayVec<u8, NAME_LIMIT>;
 
 /// The label with these bytes.
 fn name_of(bytes: &[u8]) -> Name
-    requires { length bytes.now ≤ 32 }
+    requires { length bytes.now ≤ NAME_LIMIT }
     ensures { result.items ≡ bytes.now }
 {
     let mut name = ArrayVec::new();
@@ -33,7 +33,7 @@ fn note_label(
     name: &[u8],
     place: u32,
 ) -> Result<(), AllocError>
-    requires { length name.now ≤ 32 }
+    requires { length name.now ≤ NAME_LIMIT }
     ensures { OnOk result ((q : List ℕ) → labelled labels.new q
         ≡ (if bytes_eq name.now q then labelled labels.old name.now ++ place ∷ [] else labelled labels.old q)) }
 {
@@ -63,7 +63,7 @@ fn note_number(
 
 /// The places of a label.
 pub(crate) fn places_of_label<'a>(labels: &'a HashMap<Name, Vec<u32>>, name: &[u8]) -> &'a [u32]
-    requires { length name.now ≤ 32 }
+    requires { length name.now ≤ NAME_LIMIT }
     ensures { result.now ≡ labelled labels.now name.now }
 {
     match labels.get(&name_of(name)) {

@@ -9,6 +9,7 @@ mod counted;
 mod flow;
 mod index;
 mod laws;
+mod limits;
 mod moves;
 mod nest;
 mod parts;
@@ -19,5 +20,6 @@ mod threads;
 
 pub use flow::{Flow, Next, Outcome, resolve};
 pub use laws::structures_are_found;
+pub use limits::{REPETITION_LIMIT, STRUCTURE_LIMIT};
 pub use nest::Nest;
 pub use repeats::Repeats;

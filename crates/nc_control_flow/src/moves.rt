@@ -10,6 +10,7 @@ use crate::index::{places_of_label, places_of_number};
 use crate::places::{first_after, last_before};
 use crate::repeats::Running;
 use nc_blocks::{NameText, Stmt, Target, Way};
+use nc_faults::alarms::JUMP_TARGET_MISSING;
 
 impl Flow {
     ghost use Rattle.nc_control_flow.specs.Structures.{closing, branching, opening};
@@ -205,7 +206,7 @@ fn jump(way: Way, target: Option<u32>) -> Result<Move, u16>
     match (target, way) {
         (Some(place), _) => Ok(Move::Leap(place)),
         (None, Way::Optional) => Ok(Move::Onward),
-        (None, _) => Err(5),
+        (None, _) => Err(JUMP_TARGET_MISSING),
     }
 }
 
@@ -216,7 +217,7 @@ fn range(pc: u32, times: u16, first: Option<u32>) -> Result<Move, u16>
     ensures fits { IfOk result MoveFits }
 {
     match first {
-        None => Err(5),
+        None => Err(JUMP_TARGET_MISSING),
         Some(_) if times == 0 => Ok(Move::Onward),
         Some(first) => Ok(Move::Start(Running {
             single: false,
@@ -235,7 +236,7 @@ fn single(pc: u32, times: u16, block: Option<u32>) -> Result<Move, u16>
     ensures fits { IfOk result MoveFits }
 {
     match block {
-        None => Err(5),
+        None => Err(JUMP_TARGET_MISSING),
         Some(_) if times == 0 => Ok(Move::Onward),
         Some(first) => Ok(Move::Start(Running {
             single: true,

@@ -4,6 +4,7 @@ ghost use Rattle.std.specs.Prelude.{◌≡◌, option_map, slice_get};
 ghost use Rattle.nc_blocks.specs.Statement.{statement_view};
 ghost use Rattle.nc_control_flow.specs.Nest.{ends as ends_of, opened, closed, branched, nested, Nests};
 
+use crate::limits::STRUCTURE_LIMIT;
 use arrayvec::ArrayVec;
 use nc_blocks::Stmt;
 use std::marker::Model;
@@ -67,7 +68,7 @@ impl Default for Opened {
 /// innermost first.
 #[derive(Drop)]
 pub struct Nest {
-    open: ArrayVec<Opened, 16>,
+    open: ArrayVec<Opened, STRUCTURE_LIMIT>,
 }
 
 impl Model for Nest {
@@ -139,7 +140,7 @@ impl Nest {
     fn enter(&mut self, structure: Structure, line: u32) -> Result<(), u16>
         ensures { Nests (opened self.old structure line) result self.old self.new }
     {
-        if self.open.len() == 16 {
+        if self.open.len() == STRUCTURE_LIMIT {
             return Err(26);
         }
         self.open.insert(0, Opened { structure, line });

@@ -3,6 +3,7 @@
 ghost use Rattle.std.specs.Prelude.{◌≡◌, ℕ, ◌+◌, ◌^◌, ◌<◌, ◌≤◌, ◌==◌, ◌∷◌, [], List, All, length, filter, position, IfSome};
 ghost use Rattle.nc_control_flow.specs.Repetitions.{hop, is_over, is_within as within, past as past_of, settled, turn, Fits, OwnFits, TurnsTo};
 
+use crate::limits::REPETITION_LIMIT;
 use arrayvec::ArrayVec;
 use std::marker::Model;
 
@@ -30,11 +31,11 @@ pub(crate) enum Control {
     Comes(u32),
 }
 
-/// The repetitions that run in a program, 16 at most; a contract sees them as a list, the innermost
+/// The repetitions that run in a program, `REPETITION_LIMIT` at most; a contract sees them as a list, the innermost
 /// first.
 #[derive(Drop)]
 pub struct Repeats {
-    running: ArrayVec<Running, 16>,
+    running: ArrayVec<Running, REPETITION_LIMIT>,
 }
 
 impl Model for Repeats {
@@ -78,16 +79,16 @@ impl Repeats {
 
     /// Whether no other repetition can run.
     pub(crate) fn is_full(&self) -> bool
-        ensures full { result ≡ (length self.now == 16) }
-        ensures few { length self.now ≤ 16 }
+        ensures full { result ≡ (length self.now == REPETITION_LIMIT) }
+        ensures few { length self.now ≤ REPETITION_LIMIT }
     {
-        self.running.as_slice().len() == 16
+        self.running.as_slice().len() == REPETITION_LIMIT
     }
 
     /// Runs one more repetition, the innermost.
     pub(crate) fn begin(&mut self, repetition: Running)
         requires own { OwnFits repetition }
-        requires room { length self.old < 16 }
+        requires room { length self.old < REPETITION_LIMIT }
         ensures { self.new ≡ repetition ∷ self.old }
     {
         self.running.insert(0, repetition);
@@ -154,8 +155,8 @@ impl Repeats {
 }
 
 /// The same repetitions.
-fn copies(running: &[Running]) -> ArrayVec<Running, 16>
-    requires { length running.now ≤ 16 }
+fn copies(running: &[Running]) -> ArrayVec<Running, REPETITION_LIMIT>
+    requires { length running.now ≤ REPETITION_LIMIT }
     ensures { result.items ≡ running.now }
 {
     let mut kept = ArrayVec::new();
@@ -166,8 +167,8 @@ fn copies(running: &[Running]) -> ArrayVec<Running, 16>
 }
 
 /// Those of some repetitions that have the block at this place.
-fn with_block(running: &[Running], place: u32) -> ArrayVec<Running, 16>
-    requires { length running.now ≤ 16 }
+fn with_block(running: &[Running], place: u32) -> ArrayVec<Running, REPETITION_LIMIT>
+    requires { length running.now ≤ REPETITION_LIMIT }
     ensures { result.items ≡ filter (within place) running.now }
 {
     let mut kept = ArrayVec::new();

@@ -1,8 +1,9 @@
 -- Meaning. The two limits of the grammar, which every expression keeps. Which of them an input breaks is told by whether it could go
 -- on without that one.
 use Rattle.std.specs.Prelude.{ℕ, Bool, true, false, not, ◌||◌, nat_lt}
+use Rattle.nc_expressions.specs.declared.limits.TheConstants.{PARENTHESIS_LIMIT}
 
--- at most 32 parentheses are open; no comparison stands beside AND, OR, XOR or NOT
+-- at most so many parentheses are open as may be; no comparison stands beside AND, OR, XOR or NOT
 pub record Limits : Type 0 where
   pub nested : Bool
   pub apart : Bool
@@ -20,4 +21,4 @@ any_mixture = record { nested = true; apart = false }
 
 -- with so many parentheses open, one more may be opened
 abbrev pub has_room : Limits → ℕ → Bool
-has_room limits n = not limits.nested || nat_lt n 32
+has_room limits n = not limits.nested || nat_lt n PARENTHESIS_LIMIT

@@ -1,5 +1,5 @@
 -- Meaning. The symbols of expressions: what each token of a line means to an expression.
-use Rattle.std.specs.Prelude.{zero, suc, ◌^◌, ◌==◌, ◌&&◌, ◌%◌, ◌/◌, ℕ, ℤ, pos, negsuc, Bool, true, false, List, [], ◌∷◌, take, drop, Option, Some, None, nat_lt, if◌then◌else◌, codes}
+use Rattle.std.specs.Prelude.{zero, suc, ◌*◌, ◌==◌, ◌&&◌, ◌%◌, ◌/◌, ℕ, ℤ, pos, negsuc, Bool, true, false, List, [], ◌∷◌, take, drop, Option, Some, None, nat_lt, if◌then◌else◌, codes}
 use Rattle.std.specs.List.{list_all}
 use Rattle.std.specs.Char.{is_ascii_digit}
 use Rattle.std.specs.Str.{str_eq_ignore_ascii_case}
@@ -16,15 +16,17 @@ use Rattle.nc_expressions.specs.declared.trees.UnaryOp.TheVariants as unary
 use Rattle.nc_expressions.specs.declared.trees.BinaryOp.TheVariants as binary
 use Rattle.nc_expressions.specs.declared.symbols.Symbol.{Symbol}
 use Rattle.nc_expressions.specs.declared.symbols.Symbol.TheVariants.{Number, Truth, Operator, Not, Function, Letter, Open, Close, OpenBracket, CloseBracket, Exponent, Other}
+use Rattle.micro_units.specs.declared.limits.TheConstants.{NUMBER_LIMIT}
+use Rattle.nc_expressions.specs.declared.limits.TheConstants.{PARAMETER_LIMIT}
 
 -- the value of TRUE and of FALSE
 abbrev pub truth : Bool → ℤ
 truth true = pos 1000000
 truth false = pos 0
 
--- the number of a parameter: a whole number 0 to 999
+-- the number of a parameter: a whole number below their limit
 unfoldable pub index_of : ℤ → Option ℕ
-index_of (pos n) = if n % 1000000 == 0 && nat_lt n 1000000000 then Some (n / 1000000) else None
+index_of (pos n) = if n % 1000000 == 0 && nat_lt n (PARAMETER_LIMIT * 1000000) then Some (n / 1000000) else None
 index_of (negsuc n) = None
 
 unfoldable pub sign_symbol : Sign → Symbol
@@ -79,7 +81,7 @@ is_digits text = list_all is_ascii_digit text
 
 -- a number, and whether it is digits alone; one that is out of range stands in no expression
 unfoldable pub number_symbol : Option ℤ → Bool → Symbol
-number_symbol (Some z) digits = if nat_lt (unsigned_abs z) (10 ^ 14) then Number z digits else Other
+number_symbol (Some z) digits = if nat_lt (unsigned_abs z) NUMBER_LIMIT then Number z digits else Other
 number_symbol None digits = Other
 
 -- 82 is 'R'

@@ -4,6 +4,7 @@ use Rattle.nc_expressions.specs.declared.trees.UnaryOp.{UnaryOp}
 use Rattle.nc_expressions.specs.declared.trees.BinaryOp.{BinaryOp}
 use Rattle.nc_expressions.specs.declared.trees.Expr.{Expr}
 use Rattle.nc_expressions.specs.declared.trees.Expr.TheVariants as expr
+use Rattle.nc_expressions.specs.declared.limits.TheConstants.{LAST_PARAMETER}
 
 pub data Tree : Type 0 where
   Number : (millionths : ℤ) → Tree
@@ -23,7 +24,7 @@ tree_of (expr.Binary' op p a q b) = Binary op (tree_of a) (tree_of b)
 -- each parameter that a tree names by its number is one of the 1,000
 abbrev pub IndicesFit : Tree → Type 0
 IndicesFit (Number n) = Unit {0}
-IndicesFit (Parameter i) = i ≤ 999
+IndicesFit (Parameter i) = i ≤ LAST_PARAMETER
 IndicesFit (Indexed t) = IndicesFit t
 IndicesFit (Unary op t) = IndicesFit t
 IndicesFit (Binary op a b) = IndicesFit a × IndicesFit b

@@ -1,5 +1,5 @@
 -- Meaning. The value of an expression, or its first alarm from left to right.
-use Rattle.std.specs.Prelude.{◌^◌, ℕ, ℤ, pos, Bool, true, false, not, ◌&&◌, ◌||◌, Option, Some, None, Result, Ok, Err, nat_lt, int_lt, if◌then◌else◌, ◌+ℤ◌, ◌-ℤ◌, neg_ℤ}
+use Rattle.std.specs.Prelude.{ℕ, ℤ, pos, Bool, true, false, not, ◌&&◌, ◌||◌, Option, Some, None, Result, Ok, Err, nat_lt, int_lt, if◌then◌else◌, ◌+ℤ◌, ◌-ℤ◌, neg_ℤ}
 use Rattle.std.specs.Ordering.{int_eq}
 use Rattle.std.specs.Int.RustNames.{unsigned_abs}
 use Rattle.micro_units.specs.Arithmetic.{product, quotient, whole_quotient, remainder, square_root, whole_part, nearest_whole}
@@ -12,23 +12,25 @@ use Rattle.nc_expressions.specs.declared.trees.BinaryOp.{BinaryOp}
 use Rattle.nc_expressions.specs.declared.trees.BinaryOp.TheVariants.{Add, Sub, Mul, Div, WholeDiv, Modulo, And, Or, Xor, Equal, NotEqual, Greater, Less, GreaterEqual, LessEqual}
 use Rattle.nc_expressions.specs.Symbols.{truth, index_of}
 use Rattle.nc_expressions.specs.Tree.{Tree, Number, Parameter, Indexed, Unary, Binary}
+use Rattle.micro_units.specs.declared.limits.TheConstants.{NUMBER_LIMIT}
+use Rattle.nc_faults.specs.declared.alarms.TheConstants.{NUMBER_TOO_LARGE, DIVISION_BY_ZERO, NEGATIVE_ROOT, PARAMETER_INDEX}
 
 infixl 10 ◌>>=◌
 abbrev pub ◌>>=◌ : {A B : Type 0} → Result A ℕ → (A → Result B ℕ) → Result B ℕ
 Ok x >>= f = f x
 Err alarm >>= f = Err alarm
 
--- alarm 1 where a result is out of range
+-- an alarm where a result is out of range
 unfoldable pub checked : ℤ → Result ℤ ℕ
-checked z = if nat_lt (unsigned_abs z) (10 ^ 14) then Ok z else Err 1
+checked z = if nat_lt (unsigned_abs z) NUMBER_LIMIT then Ok z else Err NUMBER_TOO_LARGE
 
--- alarm 2 where the divisor is 0
+-- an alarm where the divisor is 0
 unfoldable pub divided : ℤ → Result ℤ ℕ → Result ℤ ℕ
-divided divisor value = if int_eq divisor (pos 0) then Err 2 else value
+divided divisor value = if int_eq divisor (pos 0) then Err DIVISION_BY_ZERO else value
 
--- alarm 3 where the root of a negative number is asked for
+-- an alarm where the root of a negative number is asked for
 unfoldable pub rooted : ℤ → Result ℤ ℕ
-rooted z = if int_lt z (pos 0) then Err 3 else Ok (square_root z)
+rooted z = if int_lt z (pos 0) then Err NEGATIVE_ROOT else Ok (square_root z)
 
 -- a number other than 0 counts as true
 abbrev pub is_true : ℤ → Bool
@@ -65,10 +67,10 @@ binary_value Less x y = Ok (truth (int_lt x y))
 binary_value GreaterEqual x y = Ok (truth (not (int_lt x y)))
 binary_value LessEqual x y = Ok (truth (not (int_lt y x)))
 
--- alarm 4 where an index is not a whole number 0 to 999
+-- an alarm where an index is no number of a parameter
 abbrev pub at_index : (ℕ → ℤ) → Option ℕ → Result ℤ ℕ
 at_index parameters (Some i) = Ok (parameters i)
-at_index parameters None = Err 4
+at_index parameters None = Err PARAMETER_INDEX
 
 -- the value where the parameters have these values
 abbrev pub value_of : (ℕ → ℤ) → Tree → Result ℤ ℕ
@@ -82,7 +84,7 @@ value_of parameters (Binary op a b) =
 -- a number, or the alarm in place of its fault
 abbrev pub alarmed : Result Num NumFault → Result ℤ ℕ
 alarmed (Ok n) = Ok n
-alarmed (Err DivideByZero) = Err 2
-alarmed (Err NegativeRoot) = Err 3
-alarmed (Err TooLarge) = Err 1
-alarmed (Err NotANumber) = Err 1
+alarmed (Err DivideByZero) = Err DIVISION_BY_ZERO
+alarmed (Err NegativeRoot) = Err NEGATIVE_ROOT
+alarmed (Err TooLarge) = Err NUMBER_TOO_LARGE
+alarmed (Err NotANumber) = Err NUMBER_TOO_LARGE

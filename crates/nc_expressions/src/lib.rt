@@ -4,6 +4,7 @@
 mod faults;
 mod laws;
 mod levels;
+mod limits;
 mod parsing;
 mod stack;
 mod steps;
@@ -15,6 +16,7 @@ mod values;
 
 pub use faults::SyntaxFault;
 pub use laws::one_tree_at_most;
+pub use limits::{LAST_PARAMETER, PARAMETER_LIMIT, PARENTHESIS_LIMIT};
 pub use parsing::{parse_constant, parse_expr};
 pub use stops::expr_stop;
 pub use symbols::{Symbol, index_of, is_digits, symbol_at};

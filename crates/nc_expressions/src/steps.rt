@@ -9,13 +9,11 @@ ghost use Rattle.nc_expressions.specs.Stack.{stack_of, state_of, Steps};
 
 use crate::faults::SyntaxFault;
 use crate::levels::{Level, clash, kind, rank, together};
+use crate::limits::PARENTHESIS_LIMIT;
 use crate::stack::{Bracket, Held, attach, depth, join, pop, push};
 use crate::symbols::{Symbol, index_of, truth};
 use crate::trees::{BinaryOp, Expr, UnaryOp};
 use std::alloc::Global;
-
-/// How many parentheses may be open.
-const DEEPEST: usize = 32;
 
 /// What the next symbol is to be.
 #[derive(Drop)]
@@ -142,7 +140,7 @@ fn on_not(pending: &mut Vec<Held>, level: Level) -> Result<Step, SyntaxFault>
 fn opened(pending: &mut Vec<Held>, level: Level, bracket: Bracket) -> Result<Step, SyntaxFault>
     ensures { Steps (opened all_limits bracket (stack_of pending.old.items) level) result (stack_of pending.new.items) }
 {
-    if DEEPEST <= depth(pending) {
+    if PARENTHESIS_LIMIT <= depth(pending) {
         return Err(SyntaxFault::Refused(26));
     }
     push(pending, Held::Opened(bracket, level))?;

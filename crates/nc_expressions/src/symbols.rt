@@ -5,7 +5,9 @@ ghost use Rattle.block_scanner.specs.Scanned.{IsScanned, IsTokenOf};
 ghost use Rattle.block_scanner.specs.Texts.{text_of};
 ghost use Rattle.micro_units.specs.NumberText.{number_of};
 ghost use Rattle.nc_expressions.specs.Symbols.{truth, index_of, sign_symbol, is_word, value_symbol, name_symbol, is_digits, number_symbol, kind_symbol, is_exponent, is_number_kind, touches_number, symbol_of, symbols_of, token_before};
+ghost use Rattle.nc_expressions.specs.declared.limits.TheConstants.{LAST_PARAMETER};
 
+use crate::limits::PARAMETER_LIMIT;
 use crate::trees::{BinaryOp, UnaryOp};
 use block_scanner::{Kind, Sign, Token, Words};
 use micro_units::Num;
@@ -48,14 +50,17 @@ pub fn truth(holds: bool) -> Num
     }
 }
 
-/// The parameter number that a number is: whole, and 0 to 999.
+/// The parameter number that a number is: whole, and at most `LAST_PARAMETER`.
 #[tactic(auto, unfolding(crate::specs::Symbols::index_of))]
 pub fn index_of(number: Num) -> Option<u16>
     ensures value { result ≡ index_of number }
-    ensures few { IfSome result (λ index. index ≤ 999) }
+    ensures few { IfSome result (λ index. index ≤ LAST_PARAMETER) }
 {
     let millionths = number.millionths;
-    if 0 <= millionths && millionths < 1_000_000_000 && millionths % 1_000_000 == 0 {
+    if 0 <= millionths
+        && millionths < i64::from(PARAMETER_LIMIT) * 1_000_000
+        && millionths % 1_000_000 == 0
+    {
         Some((millionths / 1_000_000) as u16)
     } else {
         None

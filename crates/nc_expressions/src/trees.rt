@@ -61,7 +61,7 @@ pub enum BinaryOp {
 pub enum Expr {
     /// A constant. TRUE is 1 and FALSE is 0.
     Number(Num),
-    /// The parameter of this number, 0 to 999.
+    /// The parameter of this number.
     Parameter(u16),
     /// The parameter whose number is the value of an expression.
     Indexed(Box<Expr>),

@@ -6,25 +6,27 @@ ghost use Rattle.micro_units.specs.Num.{FitsNum};
 ghost use Rattle.nc_expressions.specs.Symbols.{truth, index_of};
 ghost use Rattle.nc_expressions.specs.Tree.{tree_of, IndicesFit};
 ghost use Rattle.nc_expressions.specs.Value.{value_of, checked, divided, rooted, unary_value, binary_value, is_true, at_index, alarmed};
+ghost use Rattle.nc_expressions.specs.declared.limits.TheConstants.{LAST_PARAMETER};
 
 use crate::symbols::{index_of, truth};
 use crate::trees::{BinaryOp, Expr, UnaryOp};
 use micro_units::{Num, NumFault};
+use nc_faults::alarms::{DIVISION_BY_ZERO, NEGATIVE_ROOT, NUMBER_TOO_LARGE, PARAMETER_INDEX};
 
 /// The values of the 1,000 parameters.
 pub trait Names {
     /// The value of each parameter.
     ghost parameter: { Self → ℕ → ℤ };
 
-    /// The value of the parameter of this number, 0 to 999.
+    /// The value of the parameter of this number, at most `LAST_PARAMETER`.
     fn parameter(&self, index: u16) -> Num
-        requires { index ≤ 999 }
+        requires { index ≤ LAST_PARAMETER }
         ensures { result ≡ parameter self.now index };
 }
 
 /// The value of an expression, or the first alarm from left to right: 1 where a result is out of
 /// range, 2 where a divisor is 0, 3 where the root of a negative number is asked for, 4 where an
-/// index in brackets is not a whole number 0 to 999.
+/// index in brackets is no number of a parameter.
 pub fn eval<N: Names>(expr: &Expr, names: &N) -> Result<Num, u16>
     requires { IndicesFit (tree_of expr.now) }
     ensures { result ≡ value_of (N.parameter names.now) (tree_of expr.now) }
@@ -54,7 +56,7 @@ fn at_index<N: Names>(names: &N, index: Num) -> Result<Num, u16>
 {
     match index_of(index) {
         Some(index) => Ok(names.parameter(index)),
-        None => Err(4),
+        None => Err(PARAMETER_INDEX),
     }
 }
 
@@ -68,9 +70,9 @@ fn alarmed(number: Result<Num, NumFault>) -> Result<Num, u16>
             let _range = number.millionths;
             Ok(number)
         }
-        Err(NumFault::DivideByZero) => Err(2),
-        Err(NumFault::NegativeRoot) => Err(3),
-        Err(NumFault::TooLarge | NumFault::NotANumber) => Err(1),
+        Err(NumFault::DivideByZero) => Err(DIVISION_BY_ZERO),
+        Err(NumFault::NegativeRoot) => Err(NEGATIVE_ROOT),
+        Err(NumFault::TooLarge | NumFault::NotANumber) => Err(NUMBER_TOO_LARGE),
     }
 }
 

@@ -1,6 +1,7 @@
 -- Meaning. The printed texts of refusals and alarms, by their codes.
 use Rattle.std.specs.Prelude.{ℕ, ◌==◌, Bool, IsTrue, List, [], ◌∷◌, codes, if◌then◌else◌}
 use Rattle.std.specs.List.{list_any}
+use Rattle.nc_faults.specs.declared.alarms.TheConstants.{NUMBER_TOO_LARGE, DIVISION_BY_ZERO, NEGATIVE_ROOT, PARAMETER_INDEX, JUMP_TARGET_MISSING, TOO_MANY_LEVELS, NO_SUCH_PROGRAM, TOO_MANY_BLOCKS, NO_PROGRAM_END, GROUP_TWICE, SCALE_NOT_ALLOWED, NO_QUARTER_TURN, OUT_OF_RANGE, NO_SUCH_AXIS, AXIS_NOT_OWNED, GEOMETRY_AXIS_BY_NAME, ADDRESS_TWICE, ARC_WORDS, CENTRE_OUTSIDE_PLANE, RADIUS_DIFFERS, ARC_DEGENERATE, RADIUS_TOO_SMALL, ARC_SCALE, NO_SUCH_CHANNEL, NO_SUCH_MARK, OWN_MARK_STANDS, CHANNEL_NOT_IDLE, NO_PROGRAM_SELECTED, ZONE_NOT_HELD, ZONE_STATE, ZONE_SPLIT, TOO_MANY_REPETITIONS, REPETITION_COUNT}
 
 -- what a refusal says, by its code
 unfoldable pub refusal_texts : List (ℕ × List ℕ)
@@ -51,39 +52,39 @@ refusal_texts =
 -- what an alarm says, by its code
 unfoldable pub alarm_texts : List (ℕ × List ℕ)
 alarm_texts =
-    (1, codes "number too large") ∷
-    (2, codes "division by zero") ∷
-    (3, codes "root of a negative number") ∷
-    (4, codes "parameter index") ∷
-    (5, codes "jump target missing") ∷
-    (6, codes "too many program levels") ∷
-    (7, codes "no such program") ∷
-    (8, codes "block limit") ∷
-    (9, codes "no program end") ∷
-    (10, codes "two words of one group") ∷
-    (11, codes "scale not allowed") ∷
-    (12, codes "quarter turns only") ∷
-    (13, codes "out of range") ∷
-    (14, codes "no such axis") ∷
-    (15, codes "axis not owned") ∷
-    (16, codes "geometry axis by name") ∷
-    (17, codes "address twice") ∷
-    (18, codes "arc words") ∷
-    (19, codes "centre outside the plane") ∷
-    (20, codes "radius differs") ∷
-    (21, codes "arc degenerate") ∷
-    (22, codes "radius too small") ∷
-    (23, codes "arc scale") ∷
-    (24, codes "no such channel") ∷
-    (25, codes "no such mark") ∷
-    (26, codes "own mark stands") ∷
-    (27, codes "channel not idle") ∷
-    (28, codes "no program selected") ∷
-    (29, codes "zone not held") ∷
-    (30, codes "zone state") ∷
-    (31, codes "zone split") ∷
-    (32, codes "too many repetitions") ∷
-    (33, codes "repetition count") ∷
+    (NUMBER_TOO_LARGE, codes "number too large") ∷
+    (DIVISION_BY_ZERO, codes "division by zero") ∷
+    (NEGATIVE_ROOT, codes "root of a negative number") ∷
+    (PARAMETER_INDEX, codes "parameter index") ∷
+    (JUMP_TARGET_MISSING, codes "jump target missing") ∷
+    (TOO_MANY_LEVELS, codes "too many program levels") ∷
+    (NO_SUCH_PROGRAM, codes "no such program") ∷
+    (TOO_MANY_BLOCKS, codes "block limit") ∷
+    (NO_PROGRAM_END, codes "no program end") ∷
+    (GROUP_TWICE, codes "two words of one group") ∷
+    (SCALE_NOT_ALLOWED, codes "scale not allowed") ∷
+    (NO_QUARTER_TURN, codes "quarter turns only") ∷
+    (OUT_OF_RANGE, codes "out of range") ∷
+    (NO_SUCH_AXIS, codes "no such axis") ∷
+    (AXIS_NOT_OWNED, codes "axis not owned") ∷
+    (GEOMETRY_AXIS_BY_NAME, codes "geometry axis by name") ∷
+    (ADDRESS_TWICE, codes "address twice") ∷
+    (ARC_WORDS, codes "arc words") ∷
+    (CENTRE_OUTSIDE_PLANE, codes "centre outside the plane") ∷
+    (RADIUS_DIFFERS, codes "radius differs") ∷
+    (ARC_DEGENERATE, codes "arc degenerate") ∷
+    (RADIUS_TOO_SMALL, codes "radius too small") ∷
+    (ARC_SCALE, codes "arc scale") ∷
+    (NO_SUCH_CHANNEL, codes "no such channel") ∷
+    (NO_SUCH_MARK, codes "no such mark") ∷
+    (OWN_MARK_STANDS, codes "own mark stands") ∷
+    (CHANNEL_NOT_IDLE, codes "channel not idle") ∷
+    (NO_PROGRAM_SELECTED, codes "no program selected") ∷
+    (ZONE_NOT_HELD, codes "zone not held") ∷
+    (ZONE_STATE, codes "zone state") ∷
+    (ZONE_SPLIT, codes "zone split") ∷
+    (TOO_MANY_REPETITIONS, codes "too many repetitions") ∷
+    (REPETITION_COUNT, codes "repetition count") ∷
     []
 
 -- the code stands in the table

@@ -5,8 +5,10 @@ ghost use Rattle.std.specs.Prelude.{◌≡◌};
 ghost use Rattle.nc_faults.specs.NoMemory.{no_memory};
 ghost use Rattle.nc_faults.specs.Texts.{IsRefusalCode, refusal_text_of, IsAlarmCode, alarm_text_of};
 
+pub mod alarms;
 mod threads;
 
+use alarms::*;
 use std::alloc::{AllocError, AllocFailed};
 use thiserror::Error;
 
@@ -101,46 +103,46 @@ pub fn refusal_text(code: u16) -> &'static str
     }
 }
 
-/// What the alarm of this code says. The codes are 1 to 33.
+/// What the alarm of this code says. The codes are those of `alarms`.
 #[tactic(auto, unfolding(crate::specs::Texts::IsAlarmCode, crate::specs::Texts::alarm_text_of, crate::specs::Texts::alarm_texts))]
 pub fn alarm_text(code: u16) -> &'static str
     requires { IsAlarmCode code }
     ensures { result.now ≡ alarm_text_of code }
 {
     match code {
-        1 => "number too large",
-        2 => "division by zero",
-        3 => "root of a negative number",
-        4 => "parameter index",
-        5 => "jump target missing",
-        6 => "too many program levels",
-        7 => "no such program",
-        8 => "block limit",
-        9 => "no program end",
-        10 => "two words of one group",
-        11 => "scale not allowed",
-        12 => "quarter turns only",
-        13 => "out of range",
-        14 => "no such axis",
-        15 => "axis not owned",
-        16 => "geometry axis by name",
-        17 => "address twice",
-        18 => "arc words",
-        19 => "centre outside the plane",
-        20 => "radius differs",
-        21 => "arc degenerate",
-        22 => "radius too small",
-        23 => "arc scale",
-        24 => "no such channel",
-        25 => "no such mark",
-        26 => "own mark stands",
-        27 => "channel not idle",
-        28 => "no program selected",
-        29 => "zone not held",
-        30 => "zone state",
-        31 => "zone split",
-        32 => "too many repetitions",
-        33 => "repetition count",
+        NUMBER_TOO_LARGE => "number too large",
+        DIVISION_BY_ZERO => "division by zero",
+        NEGATIVE_ROOT => "root of a negative number",
+        PARAMETER_INDEX => "parameter index",
+        JUMP_TARGET_MISSING => "jump target missing",
+        TOO_MANY_LEVELS => "too many program levels",
+        NO_SUCH_PROGRAM => "no such program",
+        TOO_MANY_BLOCKS => "block limit",
+        NO_PROGRAM_END => "no program end",
+        GROUP_TWICE => "two words of one group",
+        SCALE_NOT_ALLOWED => "scale not allowed",
+        NO_QUARTER_TURN => "quarter turns only",
+        OUT_OF_RANGE => "out of range",
+        NO_SUCH_AXIS => "no such axis",
+        AXIS_NOT_OWNED => "axis not owned",
+        GEOMETRY_AXIS_BY_NAME => "geometry axis by name",
+        ADDRESS_TWICE => "address twice",
+        ARC_WORDS => "arc words",
+        CENTRE_OUTSIDE_PLANE => "centre outside the plane",
+        RADIUS_DIFFERS => "radius differs",
+        ARC_DEGENERATE => "arc degenerate",
+        RADIUS_TOO_SMALL => "radius too small",
+        ARC_SCALE => "arc scale",
+        NO_SUCH_CHANNEL => "no such channel",
+        NO_SUCH_MARK => "no such mark",
+        OWN_MARK_STANDS => "own mark stands",
+        CHANNEL_NOT_IDLE => "channel not idle",
+        NO_PROGRAM_SELECTED => "no program selected",
+        ZONE_NOT_HELD => "zone not held",
+        ZONE_STATE => "zone state",
+        ZONE_SPLIT => "zone split",
+        TOO_MANY_REPETITIONS => "too many repetitions",
+        REPETITION_COUNT => "repetition count",
         _ => unreachable!(),
     }
 }

@@ -1,10 +1,12 @@
 -- Meaning. The places to which subprograms return, the latest first.
 use Rattle.std.specs.Prelude.{◌≡◌, ℕ, ◌==◌, List, [], ◌∷◌, length, Option, Some, None, Result, Ok, Err, if◌then◌else◌}
 use Rattle.nc_subprograms.specs.declared.Place.{Place}
+use Rattle.nc_faults.specs.declared.alarms.TheConstants.{TOO_MANY_LEVELS}
+use Rattle.nc_subprograms.specs.declared.limits.TheConstants.{CALL_LIMIT}
 
--- the level of the main program and those of 15 calls are the most; one more is alarm 6
+-- the main program has the first level, and each call one more; one level too many is an alarm
 abbrev pub called : List Place → Place → Result (List Place) ℕ
-called stack place = if length stack == 15 then Err 6 else Ok (place ∷ stack)
+called stack place = if length stack == CALL_LIMIT then Err TOO_MANY_LEVELS else Ok (place ∷ stack)
 
 -- after a fault the stack is unchanged
 abbrev pub Calls : Result (List Place) ℕ → Result Unit ℕ → List Place → List Place → Type 0

@@ -4,10 +4,13 @@
 ghost use Rattle.std.specs.Prelude.{◌≡◌, ◌≤◌, length};
 ghost use Rattle.nc_subprograms.specs.Stack.{called, Calls, Returns};
 
+mod limits;
 mod threads;
 
 use arrayvec::ArrayVec;
+pub use limits::{CALL_LIMIT, LEVEL_LIMIT};
 use nc_control_flow::Repeats;
+use nc_faults::alarms::TOO_MANY_LEVELS;
 use std::marker::Model;
 
 /// Where a program of a level stands.
@@ -43,7 +46,7 @@ impl Place {
 /// latest first.
 #[derive(Drop)]
 pub struct CallStack {
-    places: ArrayVec<Place, 15>,
+    places: ArrayVec<Place, CALL_LIMIT>,
 }
 
 impl Model for CallStack {
@@ -89,8 +92,8 @@ impl CallStack {
     pub fn call(&mut self, place: Place) -> Result<(), u16>
         ensures { Calls (called self.old place) result self.old self.new }
     {
-        if self.places.len() == 15 {
-            return Err(6);
+        if self.places.len() == CALL_LIMIT {
+            return Err(TOO_MANY_LEVELS);
         }
         self.places.push(place);
         Ok(())
@@ -105,8 +108,8 @@ impl CallStack {
 }
 
 /// The same places.
-fn copies(places: &[Place]) -> ArrayVec<Place, 15>
-    requires { length places.now ≤ 15 }
+fn copies(places: &[Place]) -> ArrayVec<Place, CALL_LIMIT>
+    requires { length places.now ≤ CALL_LIMIT }
     ensures { result.items ≡ places.now }
 {
     let mut kept = ArrayVec::new();

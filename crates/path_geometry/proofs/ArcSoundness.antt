@@ -1,17 +1,18 @@
 -- What the two calls give is the arc that is defined, and sound.
 use Rattle.std.proofs.Common.{◌≡◌, ℕ, ℤ, ◌≤◌, ◌==◌, ◌&&◌, not, Bool, true, false, Option, None, Some, Ok, Err, IfOk, if◌then◌else◌, inl, inr, refl, ap, subst}
-use Rattle.path_geometry.specs.Arcs.{start_about, end_about, way_of, arc_with, unless, has_no_radius, centre_alarm, arc_about, radius_alarm, centre_of, is_in_range, place_alarm, arc_placed, arc_of_radius}
+use Rattle.path_geometry.specs.Arcs.{start_about, end_about, way_of, arc_with, unless, has_no_radius, centre_alarm, arc_about, radius_alarm, centre_of, place_alarm, arc_placed, arc_of_radius}
 use Rattle.path_geometry.specs.Ends.{EndsView}
-use Rattle.path_geometry.specs.Motions.{AreSound, HavePlane, IsInRange, IsSound}
+use Rattle.path_geometry.specs.Motions.{AreSound, HavePlane, IsSound}
 use Rattle.path_geometry.specs.Vectors.{square}
 use Rattle.path_geometry.specs.declared.motion.Motion.{Motion}
 use Rattle.path_geometry.specs.declared.motion.Motion.TheVariants as Kind
+use Rattle.micro_units.specs.Position.{is_position, IsPosition}
 
 -- the arc about a centre that is in range
-pub placed_in_range : (ends : EndsView) (first second : ℕ) (whole centre : ℤ × ℤ) → (if is_in_range whole.0 && is_in_range whole.1 then Some whole else None) ≡ Some centre
+pub placed_in_range : (ends : EndsView) (first second : ℕ) (whole centre : ℤ × ℤ) → (if is_position whole.0 && is_position whole.1 then Some whole else None) ≡ Some centre
     → (if has_no_radius (start_about ends first second centre) (end_about ends first second centre) then Err 22 else Ok (Kind.Arc (arc_with ends first second centre 2))) ≡ arc_placed ends first second whole
 unfolding arc_placed place_alarm
-placed_in_range ends first second whole centre = by_range (is_in_range whole.0 && is_in_range whole.1)
+placed_in_range ends first second whole centre = by_range (is_position whole.0 && is_position whole.1)
   where
     by_radius : (none : Bool) (motion : Motion) → (if none then Err 22 else Ok motion) ≡ unless (if none then Some 22 else None) (Ok motion)
     by_radius true motion = refl
@@ -27,10 +28,10 @@ placed_in_range ends first second whole centre = by_range (is_in_range whole.0 &
     by_range false e = absurd cc
 
 -- a centre that is not
-pub placed_out_of_range : (ends : EndsView) (first second : ℕ) (whole : ℤ × ℤ) → (if is_in_range whole.0 && is_in_range whole.1 then Some whole else None) ≡ None
+pub placed_out_of_range : (ends : EndsView) (first second : ℕ) (whole : ℤ × ℤ) → (if is_position whole.0 && is_position whole.1 then Some whole else None) ≡ None
     → Err 13 ≡ arc_placed ends first second whole
 unfolding arc_placed place_alarm
-placed_out_of_range ends first second whole = by_range (is_in_range whole.0 && is_in_range whole.1)
+placed_out_of_range ends first second whole = by_range (is_position whole.0 && is_position whole.1)
   where
     by_range : (b : Bool) → (if b then Some whole else None) ≡ None
         → Err 13 ≡ unless (if not b then Some 13 else if has_no_radius (start_about ends first second whole) (end_about ends first second whole) then Some 22 else None) (Ok (Kind.Arc (arc_with ends first second whole 2)))
@@ -38,7 +39,7 @@ placed_out_of_range ends first second whole = by_range (is_in_range whole.0 && i
     by_range false e = refl
 
 -- an arc about a centre without an alarm is sound
-pub about_sound : (ends : EndsView) (first second : ℕ) (centre : ℤ × ℤ) → AreSound ends → HavePlane ends first second → IsInRange centre.0 × IsInRange centre.1 → IfOk (arc_about ends first second centre) IsSound
+pub about_sound : (ends : EndsView) (first second : ℕ) (centre : ℤ × ℤ) → AreSound ends → HavePlane ends first second → IsPosition centre.0 × IsPosition centre.1 → IfOk (arc_about ends first second centre) IsSound
 unfolding arc_about arc_with
 about_sound ends first second centre sound plane near = by_alarm (centre_alarm (square (way_of ends first second) == 0) (start_about ends first second centre) (end_about ends first second centre)) refl
   where

@@ -8,20 +8,20 @@ use Rattle.path_geometry.specs.Motions.{AreSound, IsInRange, axes_of, axis_end}
 use Rattle.path_geometry.specs.declared.motion.Motion.{Motion}
 
 -- the axes of sound ends are in range wherever they start and end
-pub found_in_range : (ends : EndsView) (axis : ℕ) (e : ℕ × ℤ × ℤ) → AreSound ends → find (λ e. e.0 == axis) ends.axes ≡ Some e → IsInRange e.1 × IsInRange e.2
-found_in_range ends axis e sound = All-found (λ e. IsInRange e.1 × IsInRange e.2) (λ e. e.0 == axis) ends.axes e sound.in_range
+pub found_in_range : (ends : EndsView) (axis : ℕ) (e : ℕ × ℤ × ℤ) → AreSound ends → find (λ e. e.0 == axis) ends.axes ≡ Some e → IsPosition e.1 × IsPosition e.2
+found_in_range ends axis e sound = All-found (λ e. IsPosition e.1 × IsPosition e.2) (λ e. e.0 == axis) ends.axes e sound.in_range
 
-pub start_in_range : (ends : EndsView) (axis : ℕ) → AreSound ends → IsInRange (start_of ends axis)
+pub start_in_range : (ends : EndsView) (axis : ℕ) → AreSound ends → IsPosition (start_of ends axis)
 start_in_range ends axis sound = by_found (find (λ e. e.0 == axis) ends.axes) (found_in_range ends axis)
   where
-    by_found : (o : Option (ℕ × ℤ × ℤ)) → ((e : ℕ × ℤ × ℤ) → AreSound ends → o ≡ Some e → IsInRange e.1 × IsInRange e.2) → IsInRange (option_map_or (λ (e : ℕ × ℤ × ℤ). e.1) o (pos 0))
+    by_found : (o : Option (ℕ × ℤ × ℤ)) → ((e : ℕ × ℤ × ℤ) → AreSound ends → o ≡ Some e → IsPosition e.1 × IsPosition e.2) → IsPosition (option_map_or (λ (e : ℕ × ℤ × ℤ). e.1) o (pos 0))
     by_found None held = omega arith
     by_found (Some e) held = (held e sound refl).0
 
-pub end_in_range : (ends : EndsView) (axis : ℕ) → AreSound ends → IsInRange (end_of ends axis)
+pub end_in_range : (ends : EndsView) (axis : ℕ) → AreSound ends → IsPosition (end_of ends axis)
 end_in_range ends axis sound = by_found (find (λ e. e.0 == axis) ends.axes) (found_in_range ends axis)
   where
-    by_found : (o : Option (ℕ × ℤ × ℤ)) → ((e : ℕ × ℤ × ℤ) → AreSound ends → o ≡ Some e → IsInRange e.1 × IsInRange e.2) → IsInRange (option_map_or (λ (e : ℕ × ℤ × ℤ). e.2) o (pos 0))
+    by_found : (o : Option (ℕ × ℤ × ℤ)) → ((e : ℕ × ℤ × ℤ) → AreSound ends → o ≡ Some e → IsPosition e.1 × IsPosition e.2) → IsPosition (option_map_or (λ (e : ℕ × ℤ × ℤ). e.2) o (pos 0))
     by_found None held = omega arith
     by_found (Some e) held = (held e sound refl).1
 

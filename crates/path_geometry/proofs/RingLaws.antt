@@ -4,18 +4,19 @@ use Rattle.number_laws.proofs.Naturals.{from_squares}
 use Rattle.std.proofs.lemmas.Int.{ints}
 use Rattle.std.proofs.Math.Nat.{mul-le-mul, le_trans}
 use Rattle.micro_units.specs.Root.{floor_root, ceil_root}
-use Rattle.path_geometry.specs.Arcs.{start_about, end_about, way_of, arc_with, unless, has_no_radius, centre_alarm, arc_about, centre_of, is_in_range, place_alarm, arc_placed, arc_of_radius}
+use Rattle.path_geometry.specs.Arcs.{start_about, end_about, way_of, arc_with, unless, has_no_radius, centre_alarm, arc_about, centre_of, place_alarm, arc_placed, arc_of_radius}
 use Rattle.path_geometry.specs.Ends.{EndsView, start_of, end_of}
-use Rattle.path_geometry.specs.Motions.{AreSound, IsInRange, IsSoundArc, IsAbout, IsOfRadius}
+use Rattle.path_geometry.specs.Motions.{AreSound, IsSoundArc, IsAbout, IsOfRadius}
 use Rattle.path_geometry.specs.Rings.{IsInRing}
 use Rattle.path_geometry.specs.Vectors.{Vector, square}
 use Rattle.path_geometry.specs.declared.motion.Arc.{Arc}
 use Rattle.path_geometry.specs.declared.motion.Motion.TheVariants as Kind
 use Rattle.path_geometry.proofs.EndsLaws.{start_in_range, end_in_range}
 use Rattle.path_geometry.proofs.RadiusLaws.{ceil_root-small, root-below, root-above}
+use Rattle.micro_units.specs.Position.{is_position, IsPosition}
 
 -- two positions in range are apart by at most twice the range
-apart : (a b : ℤ) → IsInRange a → IsInRange b → unsigned_abs (a -ℤ b) ≤ 20000000
+apart : (a b : ℤ) → IsPosition a → IsPosition b → unsigned_abs (a -ℤ b) ≤ 20000000
 apart a b near close = omega (arith, ints)
 
 square_small : (w : Vector) → unsigned_abs w.u ≤ 20000000 → unsigned_abs w.v ≤ 20000000 → square w ≤ 800000000000000
@@ -65,7 +66,7 @@ outer_small : (m n room : ℕ) → m ≤ 800000000000000 → n ≤ 8000000000000
 outer_small m n room p q r = let e = ceil_root-small (max m n) (omega arith) in omega arith
 
 -- the arc about a centre that is not its start and not its end
-pub ring_with : (ends : EndsView) (first second : ℕ) (centre : ℤ × ℤ) (room : ℕ) → AreSound ends → IsInRange centre.0 × IsInRange centre.1 → room ≤ 2
+pub ring_with : (ends : EndsView) (first second : ℕ) (centre : ℤ × ℤ) (room : ℕ) → AreSound ends → IsPosition centre.0 × IsPosition centre.1 → room ≤ 2
     → has_no_radius (start_about ends first second centre) (end_about ends first second centre) ≡ false → IsInRing (arc_with ends first second centre room)
 unfolding arc_with
 ring_with ends first second centre room sound near few radii =
@@ -102,11 +103,11 @@ both_hold true true e = (refl, refl)
 both_hold true false e = absurd cc
 both_hold false c e = absurd cc
 
-placed_well : (centre : ℤ × ℤ) (s e : Vector) → place_alarm centre s e ≡ None → (IsInRange centre.0 × IsInRange centre.1) × (has_no_radius s e ≡ false)
+placed_well : (centre : ℤ × ℤ) (s e : Vector) → place_alarm centre s e ≡ None → (IsPosition centre.0 × IsPosition centre.1) × (has_no_radius s e ≡ false)
 unfolding place_alarm
 placed_well centre s e none =
-    let range = no_alarm_here (not (is_in_range centre.0 && is_in_range centre.1)) 13 _ none in
-    let both = both_hold (is_in_range centre.0) (is_in_range centre.1) range.0 in
+    let range = no_alarm_here (not (is_position centre.0 && is_position centre.1)) 13 _ none in
+    let both = both_hold (is_position centre.0) (is_position centre.1) range.0 in
     ((leb-true (unsigned_abs centre.0) 10000000 both.0, leb-true (unsigned_abs centre.1) 10000000 both.1), (no_alarm_here (has_no_radius s e) 22 None range.1).0)
 
 ring_about : (arc : Arc) → AreSound arc.ends → IsAbout arc → IsInRing arc

@@ -1,5 +1,5 @@
 -- Meaning. Arcs by their centre and by their radius: the motion that each gives, or its alarm.
-use Rattle.std.specs.Prelude.{ℕ, ℤ, pos, negsuc, neg_ℤ, ◌+◌, ◌-◌, ◌*◌, ◌/◌, ◌==◌, nat_lt, nat_le, min, max, ◌+ℤ◌, ◌-ℤ◌, Bool, true, false, not, ◌&&◌, ◌||◌, if◌then◌else◌, unsigned_abs, Option, Some, None, Result, Ok, Err}
+use Rattle.std.specs.Prelude.{ℕ, ℤ, pos, negsuc, neg_ℤ, ◌+◌, ◌-◌, ◌*◌, ◌/◌, ◌==◌, nat_lt, min, max, ◌+ℤ◌, ◌-ℤ◌, Bool, true, false, not, ◌&&◌, ◌||◌, if◌then◌else◌, unsigned_abs, Option, Some, None, Result, Ok, Err}
 use Rattle.micro_units.specs.Root.{floor_root, ceil_root}
 use Rattle.number_laws.specs.Floors.{floor_div}
 use Rattle.path_geometry.specs.Ends.{EndsView, start_of, end_of}
@@ -7,6 +7,8 @@ use Rattle.path_geometry.specs.Vectors.{Vector, square, is_one_way}
 use Rattle.path_geometry.specs.declared.motion.Arc.{Arc}
 use Rattle.path_geometry.specs.declared.motion.Motion.{Motion}
 use Rattle.path_geometry.specs.declared.motion.Motion.TheVariants as Kind
+use Rattle.micro_units.specs.Position.{is_position}
+use Rattle.nc_faults.specs.declared.alarms.TheConstants.{OUT_OF_RANGE, RADIUS_DIFFERS, ARC_DEGENERATE, RADIUS_TOO_SMALL}
 
 -- the start and the end in the plane of two axes, seen from a centre
 abbrev pub start_about : EndsView → ℕ → ℕ → ℤ × ℤ → Vector
@@ -54,9 +56,9 @@ differ greater lesser = nat_lt 100 (greater - lesser) && nat_lt (400 * lesser) (
 -- the alarm of an arc by its centre, which is a whole turn or not, from s to e
 unfoldable pub centre_alarm : Bool → Vector → Vector → Option ℕ
 centre_alarm full s e =
-    if has_no_radius s e then Some 22
-    else if differ (max (square s) (square e)) (min (square s) (square e)) then Some 20
-    else if not full && is_one_way s e then Some 21
+    if has_no_radius s e then Some RADIUS_TOO_SMALL
+    else if differ (max (square s) (square e)) (min (square s) (square e)) then Some RADIUS_DIFFERS
+    else if not full && is_one_way s e then Some ARC_DEGENERATE
     else None
 
 -- an arc by its centre
@@ -69,8 +71,8 @@ arc_about ends first second centre =
 -- the alarm of an arc of this radius along a way
 unfoldable pub radius_alarm : Vector → ℕ → Option ℕ
 radius_alarm way radius =
-    if square way == 0 then Some 21
-    else if (radius == 0) || nat_lt ((2 * radius + 10) * (2 * radius + 10)) (square way) then Some 22
+    if square way == 0 then Some ARC_DEGENERATE
+    else if (radius == 0) || nat_lt ((2 * radius + 10) * (2 * radius + 10)) (square way) then Some RADIUS_TOO_SMALL
     else None
 
 -- a size with the sign of a number
@@ -99,15 +101,11 @@ centre_of ends first second radius long =
       floor_div ((start_of ends second +ℤ end_of ends second) +ℤ on_side long (offset way radius way.u)) 2,
     )
 
--- a position is at most 10,000,000 micrometres in size
-abbrev pub is_in_range : ℤ → Bool
-is_in_range position = nat_le (unsigned_abs position) 10000000
-
 -- the alarm of an arc whose centre came by its radius
 unfoldable pub place_alarm : ℤ × ℤ → Vector → Vector → Option ℕ
 place_alarm centre s e =
-    if not (is_in_range centre.0 && is_in_range centre.1) then Some 13
-    else if has_no_radius s e then Some 22
+    if not (is_position centre.0 && is_position centre.1) then Some OUT_OF_RANGE
+    else if has_no_radius s e then Some RADIUS_TOO_SMALL
     else None
 
 -- the arc about such a centre

@@ -5,13 +5,16 @@ ghost use Rattle.number_laws.specs.Floors.{floor_div};
 ghost use Rattle.path_geometry.specs.Arcs as spec;
 ghost use Rattle.path_geometry.specs.Ends.{start_of, end_of};
 ghost use Rattle.path_geometry.specs.Vectors.{square};
-ghost use Rattle.path_geometry.specs.Motions.{AreSound, HavePlane, IsInRange, IsSound};
+ghost use Rattle.path_geometry.specs.Motions.{AreSound, HavePlane, IsSound};
+ghost use Rattle.micro_units.specs.Position.{is_position, IsPosition};
+ghost use Rattle.micro_units.specs.declared.limits.TheConstants.{CHANGE_LIMIT};
 
 use crate::vector::{Vector, square_of};
 use crate::{Arc, Ends, Motion};
 use arrayvec::ArrayVec;
 use axis_sets::AxisId;
-use micro_units::{Um, isqrt_ceil, isqrt_floor};
+use micro_units::{POSITION_LIMIT, Um, isqrt_ceil, isqrt_floor};
+use nc_faults::alarms::{ARC_DEGENERATE, OUT_OF_RANGE, RADIUS_DIFFERS, RADIUS_TOO_SMALL};
 
 /// The entry of an axis.
 fn entry_of(ends: &Ends, axis: AxisId) -> Option<(AxisId, Um, Um)>
@@ -25,8 +28,8 @@ fn course_of(ends: &Ends, axis: AxisId) -> (Um, Um)
     requires { AreSound ends.now }
     ensures start { result.0 ≡ start_of ends.now axis }
     ensures end { result.1 ≡ end_of ends.now axis }
-    ensures start_range { IsInRange result.0 }
-    ensures end_range { IsInRange result.1 }
+    ensures start_range { IsPosition result.0 }
+    ensures end_range { IsPosition result.1 }
 {
     match entry_of(ends, axis) {
         Some(entry) => (entry.1, entry.2),
@@ -36,10 +39,10 @@ fn course_of(ends: &Ends, axis: AxisId) -> (Um, Um)
 
 /// A position seen from another.
 fn seen(position: Um, from: Um) -> Um
-    requires position { IsInRange position }
-    requires from { IsInRange from }
+    requires position { IsPosition position }
+    requires from { IsPosition from }
     ensures value { result ≡ position -ℤ from }
-    ensures size { unsigned_abs result ≤ 20000000 }
+    ensures size { unsigned_abs result ≤ CHANGE_LIMIT }
 {
     Um {
         micrometres: position.micrometres - from.micrometres,
@@ -48,7 +51,7 @@ fn seen(position: Um, from: Um) -> Um
 
 fn start_about(ends: &Ends, first: AxisId, second: AxisId, centre: &(Um, Um)) -> Vector
     requires ends { AreSound ends.now }
-    requires centre { IsInRange centre.now.0 × IsInRange centre.now.1 }
+    requires centre { IsPosition centre.now.0 × IsPosition centre.now.1 }
     ensures { result ≡ spec.start_about ends.now first second centre.now }
 {
     Vector {
@@ -59,7 +62,7 @@ fn start_about(ends: &Ends, first: AxisId, second: AxisId, centre: &(Um, Um)) ->
 
 fn end_about(ends: &Ends, first: AxisId, second: AxisId, centre: &(Um, Um)) -> Vector
     requires ends { AreSound ends.now }
-    requires centre { IsInRange centre.now.0 × IsInRange centre.now.1 }
+    requires centre { IsPosition centre.now.0 × IsPosition centre.now.1 }
     ensures { result ≡ spec.end_about ends.now first second centre.now }
 {
     Vector {
@@ -94,7 +97,7 @@ fn copy_of(ends: &Ends) -> Ends
 #[tactic(auto, unfolding(crate::specs::Arcs::arc_with))]
 fn arc_with(ends: &Ends, first: AxisId, second: AxisId, centre: &(Um, Um), room: u32) -> Arc
     requires ends { AreSound ends.now }
-    requires centre { IsInRange centre.now.0 × IsInRange centre.now.1 }
+    requires centre { IsPosition centre.now.0 × IsPosition centre.now.1 }
     requires room { room ≤ 2 }
     ensures { result ≡ spec.arc_with ends.now first second centre.now room }
 {
@@ -153,11 +156,11 @@ fn centre_alarm(full: bool, start: Vector, end: Vector) -> Option<u16>
 {
     let (s, e) = (start.square(), end.square());
     if s == 0 || e == 0 {
-        Some(22)
+        Some(RADIUS_TOO_SMALL)
     } else if differ(s.max(e), s.min(e)) {
-        Some(20)
+        Some(RADIUS_DIFFERS)
     } else if !full && start.is_one_way(end) {
-        Some(21)
+        Some(ARC_DEGENERATE)
     } else {
         None
     }
@@ -179,7 +182,7 @@ pub fn arc_by_centre(
 ) -> Result<Motion, u16>
     requires ends { AreSound ends.now }
     requires plane { HavePlane ends.now first second }
-    requires centre { IsInRange centre.0 × IsInRange centre.1 }
+    requires centre { IsPosition centre.0 × IsPosition centre.1 }
     ensures value { result ≡ spec.arc_about ends.now first second centre }
     ensures sound { IfOk result IsSound }
 {
@@ -195,15 +198,15 @@ pub fn arc_by_centre(
 /// The alarm of an arc of this radius along a way.
 #[tactic(auto, unfolding(crate::specs::Arcs::radius_alarm))]
 fn radius_alarm(way: Vector, radius: u32) -> Option<u16>
-    requires { radius ≤ 10000000 }
+    requires { radius ≤ POSITION_LIMIT }
     ensures value { result ≡ spec.radius_alarm way radius }
     ensures way { IfNone result (0 < square way) }
 {
     let square = way.square();
     if square == 0 {
-        Some(21)
+        Some(ARC_DEGENERATE)
     } else if radius == 0 || reach_of(radius) < square {
-        Some(22)
+        Some(RADIUS_TOO_SMALL)
     } else {
         None
     }
@@ -211,7 +214,7 @@ fn radius_alarm(way: Vector, radius: u32) -> Option<u16>
 
 /// The square of the greatest distance from start to end.
 fn reach_of(radius: u32) -> u64
-    requires { radius ≤ 10000000 }
+    requires { radius ≤ POSITION_LIMIT }
     ensures { result ≡ (2 * radius + 10) * (2 * radius + 10) }
 {
     let reach = u64::from(2 * radius + 10);
@@ -220,7 +223,7 @@ fn reach_of(radius: u32) -> u64
 
 /// How far the centre lies beside the middle of the way, twice and squared.
 fn height_of(way: Vector, radius: u32) -> u64
-    requires { radius ≤ 10000000 }
+    requires { radius ≤ POSITION_LIMIT }
     ensures value { result ≡ spec.height way radius }
     ensures size { result ≤ 400000000000000 }
 {
@@ -230,7 +233,7 @@ fn height_of(way: Vector, radius: u32) -> u64
 
 /// The root of a height, in the part that it has along the other axis.
 fn root_of(part: Um, height: u64, square: u64) -> u64
-    requires part { unsigned_abs part ≤ 20000000 }
+    requires part { unsigned_abs part ≤ CHANGE_LIMIT }
     requires height { height ≤ 400000000000000 }
     requires divides { 0 < square }
     ensures value { result ≡ floor_root (((unsigned_abs part * unsigned_abs part) * height) / square) }
@@ -254,8 +257,8 @@ fn with_sign(part: Um, size: u64) -> i64
 /// What the height gives along an axis, by the part of the way along the other axis.
 #[tactic(auto, unfolding(crate::specs::Arcs::offset))]
 fn offset(way: Vector, radius: u32, part: Um) -> i64
-    requires radius { radius ≤ 10000000 }
-    requires part { unsigned_abs part ≤ 20000000 }
+    requires radius { radius ≤ POSITION_LIMIT }
+    requires part { unsigned_abs part ≤ CHANGE_LIMIT }
     requires divides { 0 < square way }
     ensures value { result ≡ spec.offset way radius part }
     ensures size { unsigned_abs result < 2 ^ 60 }
@@ -281,8 +284,8 @@ fn opposite(offset: i64) -> i64
 
 /// The middle between the two, twice.
 fn middle(start: Um, end: Um) -> i32
-    requires start { unsigned_abs start ≤ 20000000 }
-    requires end { unsigned_abs end ≤ 20000000 }
+    requires start { unsigned_abs start ≤ CHANGE_LIMIT }
+    requires end { unsigned_abs end ≤ CHANGE_LIMIT }
     ensures value { result ≡ start +ℤ end }
     ensures size { unsigned_abs result ≤ 40000000 }
 {
@@ -311,7 +314,7 @@ fn half(sum: i64) -> i64
 fn centre_of(ends: &Ends, first: AxisId, second: AxisId, radius: u32, long: bool) -> (i64, i64)
     requires ends { AreSound ends.now }
     requires way { 0 < square (spec.way_of ends.now first second) }
-    requires radius { radius ≤ 10000000 }
+    requires radius { radius ≤ POSITION_LIMIT }
     ensures { result ≡ spec.centre_of ends.now first second radius long }
 {
     let way = way_of(ends, first, second);
@@ -326,7 +329,7 @@ fn centre_of(ends: &Ends, first: AxisId, second: AxisId, radius: u32, long: bool
 
 /// The centre where it is in range.
 fn placed(centre: (i64, i64)) -> Option<(Um, Um)>
-    ensures { result ≡ (if spec.is_in_range centre.0 && spec.is_in_range centre.1 then Some centre else None) }
+    ensures { result ≡ (if is_position centre.0 && is_position centre.1 then Some centre else None) }
 {
     match (position_at(centre.0), position_at(centre.1)) {
         (Some(u), Some(v)) => Some((u, v)),
@@ -335,9 +338,9 @@ fn placed(centre: (i64, i64)) -> Option<(Um, Um)>
 }
 
 fn position_at(position: i64) -> Option<Um>
-    ensures { result ≡ (if spec.is_in_range position then Some position else None) }
+    ensures { result ≡ (if is_position position then Some position else None) }
 {
-    if position.unsigned_abs() <= 10_000_000 {
+    if position.unsigned_abs() <= u64::from(POSITION_LIMIT) {
         Some(Um {
             micrometres: position as i32,
         })
@@ -349,15 +352,15 @@ fn position_at(position: i64) -> Option<Um>
 /// The arc by its radius about a centre in range.
 fn arc_at(ends: &Ends, first: AxisId, second: AxisId, centre: &(Um, Um)) -> Result<Motion, u16>
     requires ends { AreSound ends.now }
-    requires centre { IsInRange centre.now.0 × IsInRange centre.now.1 }
+    requires centre { IsPosition centre.now.0 × IsPosition centre.now.1 }
     ensures { let s = spec.start_about ends.now first second centre.now in
         let e = spec.end_about ends.now first second centre.now in
-        result ≡ (if spec.has_no_radius s e then Err 22 else Ok (Motion.Arc (spec.arc_with ends.now first second centre.now 2))) }
+        result ≡ (if spec.has_no_radius s e then Err RADIUS_TOO_SMALL else Ok (Motion.Arc (spec.arc_with ends.now first second centre.now 2))) }
 {
     let start = start_about(ends, first, second, centre).square();
     let end = end_about(ends, first, second, centre).square();
     if start == 0 || end == 0 {
-        Err(22)
+        Err(RADIUS_TOO_SMALL)
     } else {
         Ok(Motion::Arc(arc_with(ends, first, second, centre, 2)))
     }
@@ -373,12 +376,12 @@ fn arc_along(
 ) -> Result<Motion, u16>
     requires ends { AreSound ends.now }
     requires way { 0 < square (spec.way_of ends.now first second) }
-    requires radius { radius ≤ 10000000 }
+    requires radius { radius ≤ POSITION_LIMIT }
     ensures { result ≡ spec.arc_placed ends.now first second (spec.centre_of ends.now first second radius long) }
 {
     match placed(centre_of(ends, first, second, radius, long)) {
         Some(centre) => arc_at(ends, first, second, &centre),
-        None => Err(13),
+        None => Err(OUT_OF_RANGE),
     }
 }
 
@@ -401,7 +404,7 @@ pub fn arc_by_radius(
 ) -> Result<Motion, u16>
     requires ends { AreSound ends.now }
     requires plane { HavePlane ends.now first second }
-    requires radius { IsInRange radius × (pos 0 ≤ℤ radius) }
+    requires radius { IsPosition radius × (pos 0 ≤ℤ radius) }
     ensures value { result ≡ spec.arc_of_radius ends.now first second (unsigned_abs radius) long }
     ensures sound { IfOk result IsSound }
 {

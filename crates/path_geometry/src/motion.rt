@@ -1,7 +1,7 @@
 //! What moves how.
 
 use arrayvec::ArrayVec;
-use axis_sets::AxisId;
+use axis_sets::{AXIS_LIMIT, AxisId};
 use micro_units::Um;
 use std::marker::Model;
 
@@ -9,7 +9,7 @@ use std::marker::Model;
 #[derive(Clone, Debug, Default, PartialEq, Eq, Drop)]
 pub struct Ends {
     /// The axis, its start and its end.
-    pub axes: ArrayVec<(AxisId, Um, Um), 16>,
+    pub axes: ArrayVec<(AxisId, Um, Um), AXIS_LIMIT>,
 }
 
 impl Model for Ends {

@@ -1,11 +1,12 @@
 //! Vectors of the plane with whole parts.
 ghost use Rattle.std.specs.Prelude.{◌≡◌, ◌<◌, ◌≤◌, ◌*◌, ◌*ℤ◌, ◌-ℤ◌, ◌+ℤ◌, unsigned_abs};
 ghost use Rattle.path_geometry.specs.Vectors as spec;
+ghost use Rattle.micro_units.specs.declared.limits.TheConstants.{CHANGE_LIMIT};
 
 use micro_units::Um;
 use std::marker::Model;
 
-/// A vector of the plane, its parts at most 20,000,000 micrometres in size.
+/// A vector of the plane, its parts at most `CHANGE_LIMIT` in size.
 #[derive(Clone, Copy)]
 pub(crate) struct Vector {
     /// Its part along the first axis.
@@ -17,12 +18,13 @@ pub(crate) struct Vector {
 impl Model for Vector {
     ghost use Rattle.std.specs.Prelude.{◌≤◌, unsigned_abs};
     ghost use Rattle.path_geometry.specs.Vectors as vectors;
+    ghost use Rattle.micro_units.specs.declared.limits.TheConstants.{CHANGE_LIMIT};
 
     ghost Value = { vectors.Vector };
 
     ghost view = { λ w. record { u = w.u; v = w.v } };
 
-    ghost invariant = { λ w. (unsigned_abs w.u ≤ 20000000) × (unsigned_abs w.v ≤ 20000000) };
+    ghost invariant = { λ w. (unsigned_abs w.u ≤ CHANGE_LIMIT) × (unsigned_abs w.v ≤ CHANGE_LIMIT) };
 
     ghost inverse = { λ w. record { u = w.u; v = w.v } };
 }
@@ -58,7 +60,7 @@ impl Vector {
 
 /// The square of a length.
 pub(crate) fn square_of(part: Um) -> u64
-    requires { unsigned_abs part ≤ 20000000 }
+    requires { unsigned_abs part ≤ CHANGE_LIMIT }
     ensures value { result ≡ unsigned_abs part * unsigned_abs part }
     ensures size { result ≤ 400000000000000 }
 {
@@ -67,8 +69,8 @@ pub(crate) fn square_of(part: Um) -> u64
 }
 
 fn product(a: Um, b: Um) -> i64
-    requires first { unsigned_abs a ≤ 20000000 }
-    requires second { unsigned_abs b ≤ 20000000 }
+    requires first { unsigned_abs a ≤ CHANGE_LIMIT }
+    requires second { unsigned_abs b ≤ CHANGE_LIMIT }
     ensures value { result ≡ a *ℤ b }
     ensures size { unsigned_abs result ≤ 400000000000000 }
 {

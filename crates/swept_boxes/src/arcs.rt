@@ -5,10 +5,11 @@ ghost use Rattle.std.specs.Int.RustNames.{unsigned_abs};
 ghost use Rattle.std.specs.List.{All};
 ghost use Rattle.arc_quadrants.specs.Bounds.{IsDirection, bounds_between};
 ghost use Rattle.arc_quadrants.specs.Quarters.{IsFit};
-ghost use Rattle.path_geometry.specs.Motions.{IsInRange, IsSoundArc};
+ghost use Rattle.path_geometry.specs.Motions.{IsSoundArc};
 ghost use Rattle.swept_boxes.specs.Cover as covers;
 ghost use Rattle.swept_boxes.specs.PlaneBoxes as boxes;
 ghost use Rattle.swept_boxes.specs.Pieces as spec;
+ghost use Rattle.micro_units.specs.Position.{IsPosition};
 
 use crate::Ranges;
 use crate::lines::range_between;
@@ -96,7 +97,7 @@ pub(crate) fn box_of_part(arc: &Arc, turn: u8, from: (u64, u64), to: (u64, u64))
 }
 
 fn moved(centre: Um, by: i32) -> Um
-    requires centre { IsInRange centre }
+    requires centre { IsPosition centre }
     requires near { unsigned_abs by ≤ 33554432 }
     ensures { result ≡ centre +ℤ by }
 {
@@ -113,8 +114,8 @@ fn is_same(a: AxisId, b: AxisId) -> bool
 
 /// The range of an axis of an arc over a box of its plane.
 fn range_over(arc: &Arc, area: PlaneBox, entry: (AxisId, Um, Um)) -> (AxisId, Um, Um)
-    requires first { IsInRange arc.now.centre.0 }
-    requires second { IsInRange arc.now.centre.1 }
+    requires first { IsPosition arc.now.centre.0 }
+    requires second { IsPosition arc.now.centre.1 }
     ensures { result ≡ spec.range_over arc.now area entry }
 {
     let axis = entry.0;
@@ -137,8 +138,8 @@ fn range_over(arc: &Arc, area: PlaneBox, entry: (AxisId, Um, Um)) -> (AxisId, Um
 
 /// The ranges of all axes of an arc over a box of its plane.
 pub(crate) fn ranges_over(arc: &Arc, area: PlaneBox) -> Ranges
-    requires first { IsInRange arc.now.centre.0 }
-    requires second { IsInRange arc.now.centre.1 }
+    requires first { IsPosition arc.now.centre.0 }
+    requires second { IsPosition arc.now.centre.1 }
     ensures { result ≡ spec.ranges_over arc.now area }
 {
     let mut axes = ArrayVec::new();

@@ -6,7 +6,7 @@ mod lines;
 mod sweeps;
 
 use arrayvec::ArrayVec;
-use axis_sets::AxisId;
+use axis_sets::{AXIS_LIMIT, AxisId};
 use micro_units::Um;
 use std::marker::Model;
 pub use sweeps::{Pieces, cover, pieces_of};
@@ -15,7 +15,7 @@ pub use sweeps::{Pieces, cover, pieces_of};
 #[derive(Clone, Debug, Default, PartialEq, Eq, Drop)]
 pub struct Ranges {
     /// The axis, its low and its high bound.
-    pub axes: ArrayVec<(AxisId, Um, Um), 16>,
+    pub axes: ArrayVec<(AxisId, Um, Um), AXIS_LIMIT>,
 }
 
 impl Model for Ranges {

@@ -5,6 +5,8 @@ ghost use Rattle.std.specs.Int.RustNames.{unsigned_abs};
 ghost use Rattle.number_laws.specs.Floors.{floor_div, ceil_div};
 ghost use Rattle.path_geometry.specs.Path.{along};
 ghost use Rattle.swept_boxes.specs.Pieces.{low_of_part, high_of_part, part_of_line, range_between, box_of_ends};
+ghost use Rattle.micro_units.specs.declared.limits.TheConstants.{BOUND_LIMIT};
+ghost use Rattle.arc_quadrants.specs.declared.halves.TheConstants.{PART_LIMIT};
 
 use crate::Ranges;
 use arrayvec::ArrayVec;
@@ -13,8 +15,8 @@ use micro_units::Um;
 use path_geometry::Ends;
 
 fn scaled(position: i32, by: u8) -> i64
-    requires few { by ≤ 16 }
-    requires near { unsigned_abs position ≤ 50000000 }
+    requires few { by ≤ PART_LIMIT }
+    requires near { unsigned_abs position ≤ BOUND_LIMIT }
     ensures value { result ≡ position *ℤ pos by }
     ensures small { unsigned_abs result ≤ 800000000 }
 {
@@ -23,10 +25,10 @@ fn scaled(position: i32, by: u8) -> i64
 
 // The position at this part of the way, times the number of parts.
 fn mark(start: i32, end: i32, parts: u8, part: u8) -> i64
-    requires few { parts ≤ 16 }
+    requires few { parts ≤ PART_LIMIT }
     requires within { part ≤ parts }
-    requires start_near { unsigned_abs start ≤ 50000000 }
-    requires end_near { unsigned_abs end ≤ 50000000 }
+    requires start_near { unsigned_abs start ≤ BOUND_LIMIT }
+    requires end_near { unsigned_abs end ≤ BOUND_LIMIT }
     ensures value { result ≡ along start end parts part }
     ensures near { unsigned_abs result ≤ 1600000000 }
 {
@@ -51,31 +53,31 @@ fn rounded_up(top: i64, under: u8) -> i64
 
 fn floor_at(start: i32, end: i32, parts: u8, part: u8) -> i64
     requires some { 0 < parts }
-    requires few { parts ≤ 16 }
+    requires few { parts ≤ PART_LIMIT }
     requires within { part ≤ parts }
-    requires start_near { unsigned_abs start ≤ 50000000 }
-    requires end_near { unsigned_abs end ≤ 50000000 }
+    requires start_near { unsigned_abs start ≤ BOUND_LIMIT }
+    requires end_near { unsigned_abs end ≤ BOUND_LIMIT }
     ensures value { result ≡ floor_div (along start end parts part) parts }
-    ensures near { unsigned_abs result ≤ 50000000 }
+    ensures near { unsigned_abs result ≤ BOUND_LIMIT }
 {
     rounded_down(mark(start, end, parts, part), parts)
 }
 
 fn ceil_at(start: i32, end: i32, parts: u8, part: u8) -> i64
     requires some { 0 < parts }
-    requires few { parts ≤ 16 }
+    requires few { parts ≤ PART_LIMIT }
     requires within { part ≤ parts }
-    requires start_near { unsigned_abs start ≤ 50000000 }
-    requires end_near { unsigned_abs end ≤ 50000000 }
+    requires start_near { unsigned_abs start ≤ BOUND_LIMIT }
+    requires end_near { unsigned_abs end ≤ BOUND_LIMIT }
     ensures value { result ≡ ceil_div (along start end parts part) parts }
-    ensures near { unsigned_abs result ≤ 50000000 }
+    ensures near { unsigned_abs result ≤ BOUND_LIMIT }
 {
     rounded_up(mark(start, end, parts, part), parts)
 }
 
 // The least position in this part of the way, rounded down.
 fn part_low(start: Um, end: Um, parts: u8, part: u8) -> Um
-    requires few { parts ≤ 16 }
+    requires few { parts ≤ PART_LIMIT }
     requires within { part < parts }
     ensures { result ≡ low_of_part start end parts part }
 {
@@ -88,7 +90,7 @@ fn part_low(start: Um, end: Um, parts: u8, part: u8) -> Um
 
 // The greatest position in this part of the way, rounded up.
 fn part_high(start: Um, end: Um, parts: u8, part: u8) -> Um
-    requires few { parts ≤ 16 }
+    requires few { parts ≤ PART_LIMIT }
     requires within { part < parts }
     ensures { result ≡ high_of_part start end parts part }
 {
@@ -101,7 +103,7 @@ fn part_high(start: Um, end: Um, parts: u8, part: u8) -> Um
 
 /// The ranges of one of the equal parts of the line between these ends.
 pub(crate) fn line_part(ends: &Ends, parts: u8, part: u8) -> Ranges
-    requires few { parts ≤ 16 }
+    requires few { parts ≤ PART_LIMIT }
     requires within { part < parts }
     ensures { result ≡ part_of_line ends.now parts part }
 {

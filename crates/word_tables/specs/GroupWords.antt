@@ -1,9 +1,10 @@
 -- Meaning. The words of the table of groups, by how they are written.
-use Rattle.std.specs.Prelude.{ℕ, ◌+◌, ◌/◌, ◌%◌, ◌==◌, ◌&&◌, nat_lt, ℤ, pos, negsuc, Bool, false, if◌then◌else◌, List, [], ◌∷◌, Option, Some, None}
+use Rattle.std.specs.Prelude.{ℕ, ◌+◌, ◌*◌, ◌/◌, ◌%◌, ◌==◌, ◌&&◌, nat_lt, ℤ, pos, negsuc, Bool, false, if◌then◌else◌, List, [], ◌∷◌, Option, Some, None}
 use Rattle.std.specs.Option.{option_or}
 use Rattle.g_groups.specs.declared.GWord.{GWord}
 use Rattle.g_groups.specs.Groups.{Spelling, g, name, Group, code_of, groups}
 use Rattle.word_tables.specs.Spelling.{is_word}
+use Rattle.g_groups.specs.declared.numbers.TheConstants.{CODE_LIMIT}
 
 -- the first of a group's words that passes a test, where they stand from a place on
 abbrev pub word_among : (Spelling → Bool) → ℕ → ℕ → List Spelling → Option GWord
@@ -26,10 +27,10 @@ abbrev pub is_name : List ℕ → Spelling → Bool
 is_name text (g number) = false
 is_name text (name other) = is_word text other
 
--- a whole number below 1,000, from its millionths; the table has no greater number
+-- a whole number below the limit of codes, from its millionths; the table has no greater number
 unfoldable pub small_whole : ℤ → Option ℕ
 small_whole (pos millionths) =
-    if millionths % 1000000 == 0 && nat_lt millionths 1000000000 then Some (millionths / 1000000) else None
+    if millionths % 1000000 == 0 && nat_lt millionths (CODE_LIMIT * 1000000) then Some (millionths / 1000000) else None
 small_whole (negsuc less) = None
 
 -- the word of the table with this number behind G

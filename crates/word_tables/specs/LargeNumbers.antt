@@ -1,5 +1,5 @@
 -- Meaning. Numbers of a line that are out of range.
-use Rattle.std.specs.Prelude.{ℕ, ◌^◌, ℤ, Bool, false, not, nat_lt, List, Option, Some, None}
+use Rattle.std.specs.Prelude.{ℕ, ℤ, Bool, false, not, nat_lt, List, Option, Some, None}
 use Rattle.std.specs.List.{list_any}
 use Rattle.std.specs.Int.RustNames.{unsigned_abs}
 use Rattle.block_scanner.specs.declared.Kind.{Kind}
@@ -7,10 +7,11 @@ use Rattle.block_scanner.specs.declared.Kind.TheVariants.{Letter, Name, Number, 
 use Rattle.block_scanner.specs.declared.Token.{Token}
 use Rattle.block_scanner.specs.Texts.{text_of}
 use Rattle.micro_units.specs.NumberText.{number_of}
+use Rattle.micro_units.specs.declared.limits.TheConstants.{NUMBER_LIMIT}
 
 -- millionths that are out of range
 abbrev pub is_large : Option ℤ → Bool
-is_large (Some millionths) = not (nat_lt (unsigned_abs millionths) (10 ^ 14))
+is_large (Some millionths) = not (nat_lt (unsigned_abs millionths) NUMBER_LIMIT)
 is_large None = false
 
 -- a token of this kind and text is a number out of range

@@ -4,33 +4,39 @@ ghost use Rattle.std.specs.Prelude.{◌≡◌, ◌<◌, ◌&&◌, nat_le, positi
 ghost use Rattle.word_tables.specs.GroupWords.{small_whole, g_word, word_by_number, word_by_name};
 
 use crate::spelling::is_word;
-use g_groups::GWord;
+use g_groups::{
+    ACCELERATION_GROUP, APPROACH_GROUP, AREA_GROUP, AREA_SWITCH_GROUP, BLOCK_GROUP, BRISK,
+    CODE_LIMIT, CORNER_GROUP, DIAM90, DIAMETER_GROUP, DIAMOF, DIAMON, DIMENSION_GROUP, DWELL_GROUP,
+    FEED_FORWARD_GROUP, FEED_GROUP, FFWOF, FFWON, GWord, KONT, MOTION_GROUP, NORM, OFFSET_GROUP,
+    PATH_GROUP, PLANE_GROUP, RADIUS_GROUP, RAPID_GROUP, RTLIOF, RTLION, SOFT, STOP_GROUP,
+    STOP_WIDTH_GROUP, SUPA, UNIT_GROUP, WALIMOF, WALIMON,
+};
 use micro_units::Num;
 
 /// The numbers behind G that are words of groups: the group, and the first and the last of numbers
 /// in a row.
 const NUMBERS: [(u8, u16, u16); 21] = [
-    (1, 0, 3),
-    (1, 33, 33),
-    (2, 4, 4),
-    (3, 25, 26),
-    (6, 17, 19),
-    (7, 40, 42),
-    (8, 54, 57),
-    (8, 500, 500),
-    (8, 505, 599),
-    (9, 53, 53),
-    (9, 153, 153),
-    (10, 60, 60),
-    (10, 64, 64),
-    (10, 641, 645),
-    (11, 9, 9),
-    (12, 601, 603),
-    (13, 71, 71),
-    (13, 710, 710),
-    (14, 90, 91),
-    (15, 94, 97),
-    (18, 450, 451),
+    (MOTION_GROUP, 0, 3),
+    (MOTION_GROUP, 33, 33),
+    (DWELL_GROUP, 4, 4),
+    (AREA_GROUP, 25, 26),
+    (PLANE_GROUP, 17, 19),
+    (RADIUS_GROUP, 40, 42),
+    (OFFSET_GROUP, 54, 57),
+    (OFFSET_GROUP, 500, 500),
+    (OFFSET_GROUP, 505, 599),
+    (BLOCK_GROUP, 53, 53),
+    (BLOCK_GROUP, 153, 153),
+    (PATH_GROUP, 60, 60),
+    (PATH_GROUP, 64, 64),
+    (PATH_GROUP, 641, 645),
+    (STOP_GROUP, 9, 9),
+    (STOP_WIDTH_GROUP, 601, 603),
+    (UNIT_GROUP, 71, 71),
+    (UNIT_GROUP, 710, 710),
+    (DIMENSION_GROUP, 90, 91),
+    (FEED_GROUP, 94, 97),
+    (CORNER_GROUP, 450, 451),
 ];
 
 /// The word with this number behind G, or none where the table of groups has no such word. The
@@ -45,14 +51,17 @@ pub fn group_word_by_number(number: Num) -> Option<GWord>
     }
 }
 
-/// A number that is whole and below 1,000.
+/// A number that is whole and below `CODE_LIMIT`.
 #[tactic(auto, unfolding(crate::specs::GroupWords::small_whole))]
 pub(crate) fn small_whole(number: Num) -> Option<u16>
     ensures value { result ≡ small_whole number }
-    ensures small { IfSome result (λ code. code < 1000) }
+    ensures small { IfSome result (λ code. code < CODE_LIMIT) }
 {
     let millionths = number.millionths;
-    if 0 <= millionths && millionths < 1_000_000_000 && millionths % 1_000_000 == 0 {
+    if 0 <= millionths
+        && millionths < i64::from(CODE_LIMIT) * 1_000_000
+        && millionths % 1_000_000 == 0
+    {
         Some((millionths / 1_000_000) as u16)
     } else {
         None
@@ -61,7 +70,7 @@ pub(crate) fn small_whole(number: Num) -> Option<u16>
 
 /// The word with this number behind G.
 pub(crate) fn word_with(code: u16) -> Option<GWord>
-    requires { code < 1000 }
+    requires { code < CODE_LIMIT }
     ensures { result ≡ g_word code }
 {
     match row_of(code) {
@@ -90,33 +99,75 @@ pub fn group_word_by_name(text: &[u8]) -> Option<GWord>
     ensures { result ≡ word_by_name text.now }
 {
     if is_word(text, b"RTLION") {
-        Some(GWord { group: 0, code: 1 })
+        Some(GWord {
+            group: RAPID_GROUP,
+            code: RTLION,
+        })
     } else if is_word(text, b"RTLIOF") {
-        Some(GWord { group: 0, code: 2 })
+        Some(GWord {
+            group: RAPID_GROUP,
+            code: RTLIOF,
+        })
     } else if is_word(text, b"SUPA") {
-        Some(GWord { group: 9, code: 3 })
+        Some(GWord {
+            group: BLOCK_GROUP,
+            code: SUPA,
+        })
     } else if is_word(text, b"NORM") {
-        Some(GWord { group: 17, code: 1 })
+        Some(GWord {
+            group: APPROACH_GROUP,
+            code: NORM,
+        })
     } else if is_word(text, b"KONT") {
-        Some(GWord { group: 17, code: 2 })
+        Some(GWord {
+            group: APPROACH_GROUP,
+            code: KONT,
+        })
     } else if is_word(text, b"BRISK") {
-        Some(GWord { group: 21, code: 1 })
+        Some(GWord {
+            group: ACCELERATION_GROUP,
+            code: BRISK,
+        })
     } else if is_word(text, b"SOFT") {
-        Some(GWord { group: 21, code: 2 })
+        Some(GWord {
+            group: ACCELERATION_GROUP,
+            code: SOFT,
+        })
     } else if is_word(text, b"FFWON") {
-        Some(GWord { group: 24, code: 1 })
+        Some(GWord {
+            group: FEED_FORWARD_GROUP,
+            code: FFWON,
+        })
     } else if is_word(text, b"FFWOF") {
-        Some(GWord { group: 24, code: 2 })
+        Some(GWord {
+            group: FEED_FORWARD_GROUP,
+            code: FFWOF,
+        })
     } else if is_word(text, b"WALIMON") {
-        Some(GWord { group: 28, code: 1 })
+        Some(GWord {
+            group: AREA_SWITCH_GROUP,
+            code: WALIMON,
+        })
     } else if is_word(text, b"WALIMOF") {
-        Some(GWord { group: 28, code: 2 })
+        Some(GWord {
+            group: AREA_SWITCH_GROUP,
+            code: WALIMOF,
+        })
     } else if is_word(text, b"DIAMON") {
-        Some(GWord { group: 29, code: 1 })
+        Some(GWord {
+            group: DIAMETER_GROUP,
+            code: DIAMON,
+        })
     } else if is_word(text, b"DIAMOF") {
-        Some(GWord { group: 29, code: 2 })
+        Some(GWord {
+            group: DIAMETER_GROUP,
+            code: DIAMOF,
+        })
     } else if is_word(text, b"DIAM90") {
-        Some(GWord { group: 29, code: 3 })
+        Some(GWord {
+            group: DIAMETER_GROUP,
+            code: DIAM90,
+        })
     } else {
         None
     }

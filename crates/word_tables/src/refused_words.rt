@@ -6,6 +6,7 @@ ghost use Rattle.block_scanner.specs.Texts.{text_of};
 ghost use Rattle.micro_units.specs.NumberText.{number_of};
 ghost use Rattle.word_tables.specs.GroupWords.{small_whole};
 ghost use Rattle.word_tables.specs.Refused.{refused_g, refused_kind, refused_whole, refused_value, refused_before, refused_behind, refused_first, refused_word, IsLeftmost};
+ghost use Rattle.g_groups.specs.declared.numbers.TheConstants.{CODE_LIMIT};
 
 use crate::group_words::{small_whole, word_with};
 use crate::refused_names::refused_name;
@@ -111,7 +112,7 @@ fn refused_number(compensation: bool, number: Num) -> Option<u16>
 /// The code of a whole number behind G.
 #[tactic(auto, unfolding(crate::specs::Refused::refused_g))]
 fn refused_g(compensation: bool, number: u16) -> Option<u16>
-    requires { number < 1000 }
+    requires { number < CODE_LIMIT }
     ensures { result ≡ refused_g compensation number }
 {
     if number == 70 || number == 700 {
