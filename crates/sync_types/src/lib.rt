@@ -1,11 +1,17 @@
 //! Plain types of a run: what a channel did, how it stopped, and what it may go on with.
 #![tactic(auto)]
 
+mod runs;
+mod start;
 mod threads;
+mod verdicts;
 
 use axis_sets::{AxisSet, Positions, ZoneSet};
 use nc_faults::Alarm;
 use path_geometry::Motion;
+pub use runs::{Entry, EventId, Go, Race, Run};
+pub use start::StartState;
+pub use verdicts::{PlaceName, StretchKind, Verdict};
 
 /// One thing that a block does.
 #[derive(Clone, Debug, PartialEq, Eq, Drop)]
@@ -60,7 +66,7 @@ pub struct Step {
 }
 
 /// What a channel goes on with.
-#[derive(Clone, Copy, Debug, PartialEq, Eq)]
+#[derive(Clone, Copy, Debug, Default, PartialEq, Eq)]
 pub struct Grant {
     /// All axes that it owns.
     pub axes: AxisSet,

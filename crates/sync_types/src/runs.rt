@@ -1,0 +1,77 @@
+//! What a run has: an entry for each step, and what each channel did and how it stopped.
+use crate::{ChannelEnd, Grant, Item, Step};
+use arrayvec::ArrayVec;
+use axis_sets::ChannelId;
+use std::marker::Model;
+
+/// A channel goes on, with this grant.
+#[derive(Clone, Copy, Debug, Default, PartialEq, Eq)]
+pub struct Go {
+    /// The channel.
+    pub channel: ChannelId,
+    /// What it goes on with.
+    pub grant: Grant,
+}
+
+/// A step of a run: who acted, what it did, and who goes on in the same step.
+#[derive(Clone, Debug, PartialEq, Eq, Drop)]
+pub struct Entry {
+    /// The channel that acted.
+    pub channel: ChannelId,
+    /// What it did.
+    pub step: Step,
+    /// Who goes on, in order.
+    pub goes: ArrayVec<Go, 8>,
+}
+
+impl Model for Entry {
+    ghost use Rattle.sync_types.specs.Views.{EntryView};
+
+    ghost Value = { EntryView };
+
+    ghost view = { λ e. record { channel = e.channel; step = e.step; goes = e.goes.items } };
+
+    ghost inverse = { λ e. record { channel = e.channel; step = e.step; goes = record { items = e.goes } } };
+}
+
+/// A whole run of a job.
+#[derive(Debug, Drop)]
+pub struct Run {
+    /// Its steps, in order.
+    pub entries: Vec<Entry>,
+    /// For each entry what its channel did before that step.
+    pub items: Vec<Vec<Item>>,
+    /// For each channel of the job how it has stopped, the lowest channel first.
+    pub ends: ArrayVec<ChannelEnd, 8>,
+}
+
+impl Model for Run {
+    ghost use Rattle.std.specs.Prelude.{map};
+    ghost use Rattle.sync_types.specs.Views.{RunView};
+
+    ghost Value = { RunView };
+
+    ghost view = { λ r. record { entries = r.entries.items; items = map (λ items. items.items) r.items.items; ends = r.ends.items } };
+}
+
+/// An event of a run: what a channel does in a step, or that it goes on in that step.
+#[derive(Clone, Copy, Debug, PartialEq, Eq)]
+pub struct EventId {
+    /// The step, counted from 0.
+    pub step: u32,
+    /// The channel; where several channels go on as one event, the lowest of them.
+    pub channel: ChannelId,
+    /// Whether the channel goes on.
+    pub go: bool,
+}
+
+/// Two places of a run whose order the programs do not settle.
+#[derive(Clone, Copy, Debug, PartialEq, Eq)]
+pub struct Race {
+    /// The letter of the rule, `a` to `g`.
+    pub case: u8,
+    /// The channel and the line of the first place.
+    pub first: (ChannelId, u32),
+    /// The channel and the line of the second place.
+    pub second: (ChannelId, u32),
+}
