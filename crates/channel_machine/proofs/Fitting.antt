@@ -19,7 +19,7 @@ use Rattle.nc_subprograms.specs.declared.Place.{Place}
 use Rattle.job_types.specs.Job.{JobView, ProgramView, block_entry}
 use Rattle.job_types.specs.SoundJob.{BlocksFit}
 use Rattle.channel_machine.specs.declared.levels.Levels.{Levels}
-use Rattle.channel_machine.specs.Levels.{lines_of, program_blocks, first_place, gone_on, behind_call, has_block, arrived, next_pass, begun_or, past_end, come, followed, Stands, LevelsFit}
+use Rattle.channel_machine.specs.Levels.{lines_of, program_blocks, first_place, gone_on, behind_call, has_block, arrived, next_pass, begun_or, past_end, come, followed, followed_from, Stands, LevelsFit}
 
 -- ---- levels
 
@@ -119,6 +119,13 @@ module _ (skip : Bool) (programs : List (List ℕ × ProgramView)) where
         let same : past_end skip programs levels.here.program levels.here.passes levels.returns ≡ next = cc in
         subst Fit same (past_fits levels.here.program levels.here.passes levels.returns fits.returns)
     followed_fits (Calls number passes) next is = calling_fits number passes (length levels.returns == 15) next is
+
+-- the same from where control is, or nowhere
+pub followed_from_fits : (skip : Bool) (programs : List (List ℕ × ProgramView)) (old : Option Levels) → IfSome old (LevelsFit skip programs) → (course : Course) (next : Option Levels)
+    → followed_from skip programs old course ≡ Ok next → IfSome next (LevelsFit skip programs)
+followed_from_fits skip programs None fit course None is = tt
+followed_from_fits skip programs None fit course (Some levels) is = absurd cc
+followed_from_fits skip programs (Some levels) fit course next is = followed_fits skip programs levels fit course next is
 
 -- ---- blocks
 

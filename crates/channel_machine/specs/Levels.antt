@@ -92,6 +92,21 @@ pub record LevelsFit (skip : Bool) (programs : List (List ℕ × ProgramView)) (
 
 -- ---- answers
 
+-- control comes there, or nowhere
+abbrev pub came : Bool → Levels → Option Levels
+came true there = Some there
+came false there = None
+
+-- the same, or an alarm
+abbrev pub came_ok : Result Bool ℕ → Levels → Result (Option Levels) ℕ
+came_ok (Ok comes) there = Ok (came comes there)
+came_ok (Err code) there = Err code
+
+-- where control is behind a block with this course, from where it is; nowhere where it is nowhere
+abbrev pub followed_from : Bool → List (List ℕ × ProgramView) → Option Levels → Course → Result (Option Levels) ℕ
+followed_from skip programs None course = Ok None
+followed_from skip programs (Some levels) course = followed skip programs levels course
+
 -- the program of a number, or none where there is no such program
 abbrev pub IsFlowOf : List (List ℕ × ProgramView) → ℕ → Option (List (ℕ × Block)) → Type 0
 IsFlowOf programs number (Some flow) = lines_of programs number ≡ map block_entry flow

@@ -1,6 +1,6 @@
 //! Where control stands on the levels of calls.
 
-ghost use Rattle.std.specs.Prelude.{◌≡◌, [], ◌<◌, ◌-◌, ◌==◌, All, IfSome, IfOk, map, length, option_copied, slice_get, true};
+ghost use Rattle.std.specs.Prelude.{◌≡◌, [], ◌<◌, ◌-◌, ◌==◌, All, IfSome, IfOk, MatchResult, Ok, Err, map, length, option_copied, slice_get, true};
 ghost use Rattle.block_effects.specs.Courses.{course_view};
 ghost use Rattle.nc_control_flow.specs.Counted.{next_going};
 ghost use Rattle.nc_control_flow.specs.Moves.{outcome_view};
@@ -113,27 +113,31 @@ fn go_behind(job: &Job, here: &mut Place, skip: bool) -> bool
     }
 }
 
-/// Where control is past the end of a program with so many passes still to begin.
-fn past_end(job: &Job, number: u16, passes: u16, returns: CallStack, skip: bool) -> Option<Levels>
-    requires { All (Stands skip job.now.programs) returns }
-    ensures { result ≡ model.past_end skip job.now.programs number passes returns }
+/// Goes on past the end of a program with so many passes still to begin, and answers whether control
+/// comes anywhere.
+fn past_end(job: &Job, levels: &mut Levels, number: u16, passes: u16, skip: bool) -> bool
+    requires { All (Stands skip job.now.programs) levels.old.returns }
+    ensures { model.came result levels.new ≡ model.past_end skip job.now.programs number passes levels.old.returns }
 {
-    let (mut number, mut passes, mut returns) = (number, passes, returns);
+    let (mut number, mut passes) = (number, passes);
     loop {
         match next_pass(job, number, passes, skip) {
-            Some(here) => return Some(Levels { here, returns }),
+            Some(here) => {
+                levels.here = here;
+                return true;
+            }
             None => {}
         }
-        match returns.ret() {
+        match levels.returns.ret() {
             Some(caller) => {
-                let mut here = caller;
-                if go_behind(job, &mut here, skip) {
-                    return Some(Levels { here, returns });
+                levels.here = caller;
+                if go_behind(job, &mut levels.here, skip) {
+                    return true;
                 }
-                number = here.program;
-                passes = here.passes;
+                number = levels.here.program;
+                passes = levels.here.passes;
             }
-            None => return None,
+            None => return false,
         }
     }
 }
@@ -151,57 +155,74 @@ pub(crate) fn begin(job: &Job, number: u16, skip: bool) -> Option<Levels>
     }
 }
 
-/// Calls a program, so many times. One in which no block counts is done at once.
+/// Calls a program, so many times, and answers whether control comes anywhere. One in which no block
+/// counts is done at once.
 ///
 /// Alarm 6: it would run on a seventeenth level.
-fn call(
-    job: &Job,
-    levels: Levels,
-    number: u16,
-    passes: u16,
-    skip: bool,
-) -> Result<Option<Levels>, u16>
-    requires { LevelsFit skip job.now.programs levels }
-    ensures { result ≡ model.calling skip job.now.programs levels number passes }
+fn call(job: &Job, levels: &mut Levels, number: u16, passes: u16, skip: bool) -> Result<bool, u16>
+    requires { LevelsFit skip job.now.programs levels.old }
+    ensures { model.came_ok result levels.new ≡ model.calling skip job.now.programs levels.old number passes }
 {
-    let Levels { here, mut returns } = levels;
-    returns.call(here)?;
-    Ok(past_end(job, number, passes, returns, skip))
+    let here = levels.here.copied();
+    levels.returns.call(here)?;
+    Ok(past_end(job, levels, number, passes, skip))
 }
 
-/// Where control is behind a block with this course.
+/// Goes on behind a block with this course, and answers whether control comes anywhere.
 ///
 /// Alarm 5: a label or block number stands where none is found. Alarm 6: a program would run on a
 /// seventeenth level. Alarm 32: a seventeenth repetition would run.
 #[tactic(auto, unfolding(crate::specs::Levels::followed))]
-pub(crate) fn follow(
-    job: &Job,
-    levels: Levels,
-    course: Course,
-    skip: bool,
-) -> Result<Option<Levels>, u16>
-    requires { LevelsFit skip job.now.programs levels }
-    ensures { result ≡ model.followed skip job.now.programs levels (course_view course.entry) }
+fn follow(job: &Job, levels: &mut Levels, course: Course, skip: bool) -> Result<bool, u16>
+    requires { LevelsFit skip job.now.programs levels.old }
+    ensures { model.came_ok result levels.new ≡ model.followed skip job.now.programs levels.old (course_view course.entry) }
 {
     match course {
         Course::Goes(outcome) => leave(job, levels, outcome, skip),
         Course::Ends => {
-            let Levels { here, returns } = levels;
-            Ok(past_end(job, here.program, here.passes, returns, skip))
+            let (number, passes) = (levels.here.program, levels.here.passes);
+            Ok(past_end(job, levels, number, passes, skip))
         }
         Course::Calls(number, passes) => call(job, levels, number, passes, skip),
     }
 }
 
-/// Where control is behind a block that goes on in its program by this outcome.
-fn leave(job: &Job, levels: Levels, outcome: Outcome, skip: bool) -> Result<Option<Levels>, u16>
-    requires { LevelsFit skip job.now.programs levels }
-    ensures { result ≡ model.going_on skip job.now.programs levels (outcome_view outcome.entry) }
+/// Goes on behind a block that goes on in its program by this outcome, and answers whether control
+/// comes anywhere.
+fn leave(job: &Job, levels: &mut Levels, outcome: Outcome, skip: bool) -> Result<bool, u16>
+    requires { LevelsFit skip job.now.programs levels.old }
+    ensures { model.came_ok result levels.new ≡ model.going_on skip job.now.programs levels.old (outcome_view outcome.entry) }
 {
-    let Levels { mut here, returns } = levels;
-    match go_on(job, &mut here, outcome, skip) {
-        Ok(true) => Ok(Some(Levels { here, returns })),
-        Ok(false) => Ok(past_end(job, here.program, here.passes, returns, skip)),
+    match go_on(job, &mut levels.here, outcome, skip) {
+        Ok(true) => Ok(true),
+        Ok(false) => {
+            let (number, passes) = (levels.here.program, levels.here.passes);
+            Ok(past_end(job, levels, number, passes, skip))
+        }
         Err(code) => Err(code),
     }
+}
+
+/// Goes on behind a block with this course, from where control is.
+///
+/// The alarms are those of `follow`; nothing is said of where control is behind one.
+pub(crate) fn follow_on(
+    job: &Job,
+    levels: &mut Option<Levels>,
+    course: Course,
+    skip: bool,
+) -> Result<(), u16>
+    requires { IfSome levels.old (LevelsFit skip job.now.programs) }
+    ensures { MatchResult result
+        (λ _. model.followed_from skip job.now.programs levels.old (course_view course.entry) ≡ Ok levels.new)
+        (λ code. model.followed_from skip job.now.programs levels.old (course_view course.entry) ≡ Err code) }
+{
+    let comes = match levels {
+        Some(there) => follow(job, there, course, skip)?,
+        None => false,
+    };
+    if !comes {
+        *levels = None;
+    }
+    Ok(())
 }

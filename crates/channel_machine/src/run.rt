@@ -13,7 +13,7 @@ ghost use Rattle.channel_machine.specs.Levels.{LevelsFit, followed, lines_of};
 ghost use Rattle.channel_machine.specs.Run as model;
 ghost use Rattle.channel_machine.specs.Run.{Setting, Channel, segment_of};
 
-use crate::levels::{Levels, flow_of, follow};
+use crate::levels::{Levels, flow_of, follow_on};
 use crate::local::{Local, State};
 use crate::surroundings::Surroundings;
 use axis_sets::{AxisId, AxisSet, Positions};
@@ -88,6 +88,15 @@ fn step(state: &State, line: u32, action: Action) -> Step
     }
 }
 
+/// Ends the run of a channel on this line: control is nowhere then.
+fn stop(state: &mut State, line: u32, action: Action) -> Step
+    ensures step { result ≡ model.step_at state.old.own.owned state.old.on (stands state.old.situation.at) line action }
+    ensures nowhere { state.new ≡ record state.old { levels = None } }
+{
+    state.levels = None;
+    step(state, line, action)
+}
+
 /// The statement that begins the structure round a place.
 fn opener_of(flow: &Flow, pc: u32) -> &Stmt
     requires { pc < length flow.now }
@@ -149,6 +158,16 @@ fn ends_main(levels: &Levels, course: &Course) -> bool
     }
 }
 
+/// Whether a block ends the main program, from where control is.
+fn ends_here(levels: &Option<Levels>, course: &Course) -> bool
+    ensures { (there : Levels) → levels.now ≡ Some there → result ≡ model.ends_main there (course_view course.now) }
+{
+    match levels {
+        Some(levels) => ends_main(levels, course),
+        None => false,
+    }
+}
+
 /// Goes on behind a block on this line that has done this, and answers the step where the segment ends with it.
 /// `modal` are the words of groups that held before the block.
 ///
@@ -158,15 +177,14 @@ fn leave(
     job: &Job,
     state: &mut State,
     items: &mut Vec<Item>,
-    levels: Levels,
     line: u32,
     modal: Modal,
     done: Done,
 ) -> Result<Option<Step>, NoMemory>
-    requires fit { LevelsFit job.now.skip job.now.programs levels }
+    requires fit { IfSome state.old.levels (LevelsFit job.now.skip job.now.programs) }
     requires few { state.old.count < 100000 }
-    requires nowhere { state.old.levels ≡ None }
-    ensures told { IfOk result (λ halt. IsBehind (kept_by state.old) modal items.old.items done.entry.item line (model.ends_main levels (course_view done.entry.course))
+    ensures told { IfOk result (λ halt. (levels : Levels) → state.old.levels ≡ Some levels
+        → IsBehind (record (kept_by state.old) { levels = None }) modal items.old.items done.entry.item line (model.ends_main levels (course_view done.entry.course))
         (followed job.now.skip job.now.programs levels (course_view done.entry.course)) halt items.new.items (kept_by state.new)) }
     ensures fit { IfOk result (λ _. IfSome state.new.levels (LevelsFit job.now.skip job.now.programs)) }
     ensures few { IfOk result (λ _. state.new.count ≤ 100000) }
@@ -174,23 +192,22 @@ fn leave(
     ensures channel { IfOk result (λ _. state.new.channel ≡ state.old.channel) }
 {
     let Done { item, course } = done;
-    if ends_main(&levels, &course) {
+    if ends_here(&state.levels, &course) {
         push_some(items, item)?;
         state.count += 1;
         state.last = line;
-        return Ok(Some(step(state, line, Action::End)));
+        return Ok(Some(stop(state, line, Action::End)));
     }
-    match follow(job, levels, course, job.skip) {
-        Ok(levels) => {
+    match follow_on(job, &mut state.levels, course, job.skip) {
+        Ok(()) => {
             push_some(items, item)?;
-            state.levels = levels;
             state.count += 1;
             state.last = line;
             Ok(None)
         }
         Err(code) => {
             state.situation.modal = modal;
-            Ok(Some(step(state, line, Action::Alarm(code))))
+            Ok(Some(stop(state, line, Action::Alarm(code))))
         }
     }
 }
@@ -216,15 +233,16 @@ fn advance(
     ensures count { IfOk result (λ halt. IfNone halt (state.new.count ≡ state.old.count + 1)) }
     ensures channel { IfOk result (λ _. state.new.channel ≡ state.old.channel) }
 {
-    let Some(levels) = state.levels.take() else {
-        return Ok(Some(step(state, state.last, Action::Alarm(9))));
+    let last = state.last;
+    let Some(levels) = &state.levels else {
+        return Ok(Some(stop(state, last, Action::Alarm(9))));
     };
     let Some(next) = find_block(job, &levels.here) else {
-        return Ok(Some(step(state, state.last, Action::Alarm(9))));
+        return Ok(Some(stop(state, last, Action::Alarm(9))));
     };
     let line = next.line;
     if state.count == MOST_BLOCKS {
-        return Ok(Some(step(state, line, Action::Alarm(8))));
+        return Ok(Some(stop(state, line, Action::Alarm(8))));
     }
     let channel = state.channel;
     let surroundings = Surroundings { job, channel };
@@ -238,9 +256,9 @@ fn advance(
         next.opener,
         &next.block.stmt,
     ) {
-        Ok(done) => leave(job, state, items, levels, line, modal, done),
+        Ok(done) => leave(job, state, items, line, modal, done),
         Err(fault) => match fault {
-            BlockFault::Alarm(code) => Ok(Some(step(state, line, Action::Alarm(code)))),
+            BlockFault::Alarm(code) => Ok(Some(stop(state, line, Action::Alarm(code)))),
             BlockFault::NoMemory => Err(NoMemory),
         },
     }

@@ -7,27 +7,27 @@ loop-here-init c = record { fits = c.requires; same = refl }
 
 pub returns-in-Some : goal.returns-in-Some
 returns-in-Some c =
-    begins c.args.skip c.args.job.now.programs c.loop-here.number c.loop-here.passes c.next_pass.result c.next_pass.ensures c.loop-here.returns c.in-Some.here _ c.in-Some.is c.loop-here.invariant.same
+    begins c.args.skip c.args.job.now.programs c.loop-here.number c.loop-here.passes c.next_pass.result c.next_pass.ensures c.loop-here.levels.returns c.in-Some.here _ c.in-Some.is c.loop-here.invariant.same
 
 pub go_behind-requires : goal.go_behind-requires
-go_behind-requires c = fits_head c.args.skip c.args.job.now.programs c.loop-here.returns c.ret.new.self c.in-Some-ret.caller c.in-Some-ret.ensures c.loop-here.invariant.fits
+go_behind-requires c = fits_head c.args.skip c.args.job.now.programs c.loop-here.levels.returns c.ret.new.self c.in-Some-ret.caller c.in-Some-ret.ensures c.loop-here.invariant.fits
 
 pub returns-then-go_behind : goal.returns-then-go_behind
 returns-then-go_behind c =
-    below_comes c.args.skip c.args.job.now.programs c.loop-here.number c.loop-here.passes c.next_pass.result c.next_pass.ensures c.loop-here.returns c.ret.new.self c.in-Some-ret.caller c.go_behind.new.here
+    below_comes c.args.skip c.args.job.now.programs c.loop-here.number c.loop-here.passes c.next_pass.result c.next_pass.ensures c.loop-here.levels.returns c.ret.new.self c.in-Some-ret.caller c.go_behind.new.here
     c.in-None.is c.in-Some-ret.ensures c.go_behind.result _ c.if-go_behind.true c.go_behind.ensures c.loop-here.invariant.same
 
 pub loop-here-smaller : goal.loop-here-smaller
-loop-here-smaller c = fewer c.args.skip c.args.job.now.programs c.loop-here.returns c.ret.new.self c.in-Some-ret.caller c.in-Some-ret.ensures
+loop-here-smaller c = fewer c.args.skip c.args.job.now.programs c.loop-here.levels.returns c.ret.new.self c.in-Some-ret.caller c.in-Some-ret.ensures
 
 pub loop-here-preserved : goal.loop-here-preserved
 loop-here-preserved c = record {
-  fits = fits_tail c.args.skip c.args.job.now.programs c.loop-here.returns c.ret.new.self c.in-Some-ret.caller c.in-Some-ret.ensures c.loop-here.invariant.fits;
-  same = below_ends c.args.skip c.args.job.now.programs c.loop-here.number c.loop-here.passes c.next_pass.result c.next_pass.ensures c.loop-here.returns c.ret.new.self c.in-Some-ret.caller c.go_behind.new.here
+  fits = fits_tail c.args.skip c.args.job.now.programs c.loop-here.levels.returns c.ret.new.self c.in-Some-ret.caller c.in-Some-ret.ensures c.loop-here.invariant.fits;
+  same = below_ends c.args.skip c.args.job.now.programs c.loop-here.number c.loop-here.passes c.next_pass.result c.next_pass.ensures c.loop-here.levels.returns c.ret.new.self c.in-Some-ret.caller c.go_behind.new.here
       c.in-None.is c.in-Some-ret.ensures c.go_behind.result _ c.if-go_behind.false c.go_behind.ensures c.loop-here.invariant.same;
 }
 
 pub returns-in-None-ret : goal.returns-in-None-ret
 returns-in-None-ret c =
-    at_main c.args.skip c.args.job.now.programs c.loop-here.number c.loop-here.passes c.next_pass.result c.next_pass.ensures c.loop-here.returns c.ret.new.self _
+    at_main c.args.skip c.args.job.now.programs c.loop-here.number c.loop-here.passes c.next_pass.result c.next_pass.ensures c.loop-here.levels.returns c.ret.new.self _
     c.in-None.is c.in-None-ret.ensures c.loop-here.invariant.same

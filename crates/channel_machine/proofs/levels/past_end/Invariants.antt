@@ -4,9 +4,9 @@ use Rattle.channel_machine.proofs.levels.past_end.Given as goal
 
 abbrev pub invariant-loop-here : goal.invariant-loop-here
 invariant-loop-here l = record {
-  fits : All (Stands l.skip l.job.programs) l.returns;
-  same : past_end l.skip l.job.programs l.number l.passes l.returns ≡ past_end l.skip l.fn.job.programs l.fn.number l.fn.passes l.fn.returns;
+  fits : All (Stands l.skip l.job.programs) l.levels.returns;
+  same : past_end l.skip l.job.programs l.number l.passes l.levels.returns ≡ past_end l.skip l.fn.job.programs l.fn.number l.fn.passes l.fn.levels.returns;
 }
 
 abbrev pub decreases-loop-here : goal.decreases-loop-here
-decreases-loop-here l = length l.returns
+decreases-loop-here l = length l.levels.returns

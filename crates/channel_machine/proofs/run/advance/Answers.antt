@@ -1,4 +1,4 @@
-use Rattle.std.proofs.Common.{◌∙◌, ◌-◌, ℕ, ℤ, List, Option, None, Some, Result, ap, subst, sym}
+use Rattle.std.proofs.Common.{◌∙◌, ◌-◌, ℕ, ℤ, List, Option, None, Some, Result, ap, subst, sym, refl}
 use Rattle.axis_sets.specs.Positions.{stands}
 use Rattle.block_effects.specs.Courses.{Does, course_view}
 use Rattle.block_effects.specs.Effects.{Effect}
@@ -18,15 +18,15 @@ pub returns-in_default-clause-told : goal.returns-in_default-clause-told
 returns-in_default-clause-told c s c' set keeps =
     let k = kept_by c.args.state.now in
     let items = c.args.items.now.items in
-    ends_at s _ items k _ k.last (Alarm 9) c'.past _ (nowhere s c' k keeps items (sym c.take.ensures.value ∙ c.in_default.is)) c.step.ensures (over_keeps s c' k keeps items _ (ap (λ (o : Option Levels). record k { levels = o }) c.take.ensures.after))
+    ends_at s _ items k _ k.last (Alarm 9) c'.past _ (nowhere s c' k keeps items c.in_default.is) c.stop.ensures.step (over_keeps s c' k keeps items _ (ap kept_by c.stop.ensures.nowhere))
 
 pub returns-in_default-find_block-clause-told : goal.returns-in_default-find_block-clause-told
 returns-in_default-find_block-clause-told c s c' set keeps =
     let k = kept_by c.args.state.now in
     let items = c.args.items.now.items in
     ends_at s _ items k _ k.last (Alarm 9) c'.past _
-    (no_block s c' k keeps items c.in-Some.levels (sym c.take.ensures.value ∙ c.in-Some.is)
-    (block_there s c.args.job.now.programs set.programs c.in-Some.levels.here None c.in_default-find_block.ensures)) c.step-in_default-find_block.ensures (over_keeps s c' k keeps items _ (ap (λ (o : Option Levels). record k { levels = o }) c.take.ensures.after))
+    (no_block s c' k keeps items c.in-Some.levels c.in-Some.is
+    (block_there s c.args.job.now.programs set.programs c.in-Some.levels.here None c.in_default-find_block.ensures)) c.stop-in_default-find_block.ensures.step (over_keeps s c' k keeps items _ (ap kept_by c.stop-in_default-find_block.ensures.nowhere))
 
 pub returns-then-state-eq-MOST_BLOCKS-clause-told : goal.returns-then-state-eq-MOST_BLOCKS-clause-told
 returns-then-state-eq-MOST_BLOCKS-clause-told c s c' set keeps =
@@ -34,9 +34,9 @@ returns-then-state-eq-MOST_BLOCKS-clause-told c s c' set keeps =
     let items = c.args.items.now.items in
     let next = c.in-Some-find_block.next in
     ends_at s _ items k _ next.line (Alarm 8) c'.past _
-    (spent s c' k keeps items c.in-Some.levels (sym c.take.ensures.value ∙ c.in-Some.is) next.line (view_of next.block.now)
+    (spent s c' k keeps items c.in-Some.levels c.in-Some.is next.line (view_of next.block.now)
     (block_there s c.args.job.now.programs set.programs c.in-Some.levels.here (Some (next.line, view_of next.block.now)) c.in-Some-find_block.ensures.found) c.if-state-eq-MOST_BLOCKS.true)
-    c.step-then-state-eq-MOST_BLOCKS.ensures (over_keeps s c' k keeps items _ (ap (λ (o : Option Levels). record k { levels = o }) c.take.ensures.after))
+    c.stop-then-state-eq-MOST_BLOCKS.ensures.step (over_keeps s c' k keeps items _ (ap kept_by c.stop-then-state-eq-MOST_BLOCKS.ensures.nowhere))
 
 pub returns-in-Ok-clause-told : goal.returns-in-Ok-clause-told
 returns-in-Ok-clause-told c =
@@ -46,17 +46,17 @@ returns-in-Ok-clause-told c =
     let here = c.in-Some.levels.here in
     let there = c.in-Some-find_block.ensures in
     let job = c.args.job.now in
-    performed s c' k keeps c.args.items.now.items c.in-Some.levels (sym c.take.ensures.value ∙ c.in-Some.is) next.line (view_of next.block.now)
+    performed s c' k keeps c.args.items.now.items c.in-Some.levels c.in-Some.is next.line (view_of next.block.now)
     (block_there s job.programs set.programs here (Some (next.line, view_of next.block.now)) there.found)
     (99999 - k.count) (room k.count c.requires.few c.if-state-eq-MOST_BLOCKS.false) c.in-Ok.done c.execute.new.situation
     (subst (λ (r : Result Effect ℕ). Does r c.in-Ok.done c.execute.new.situation)
     (effect_there job s c' k set keeps here next.line (statement_view next.opener.now) (statement_view next.block.now.stmt) (opener_there s job.programs set.programs here (statement_view next.opener.now) there.opens))
     (c.in-Ok.ensures.leaves (words_after c'.past) (chain_after c'.past) keeps.modal keeps.frame))
     (c.in-Ok.ensures.modal (words_after c'.past) keeps.modal) c.in-Ok.ensures.stand
-    c.take.new.self c.take.ensures.after halt c.leave.new.items.items (kept_by c.leave.new.state)
-    (subst (λ (r : Result (Option Levels) ℕ). IsBehind (in_situation k c.take.new.self c.execute.new.situation) k.modal c.args.items.now.items c.in-Ok.done.item next.line
+    None refl halt c.leave.new.items.items (kept_by c.leave.new.state)
+    (subst (λ (r : Result (Option Levels) ℕ). IsBehind (in_situation k None c.execute.new.situation) k.modal c.args.items.now.items c.in-Ok.done.item next.line
     (ends_main c.in-Some.levels (course_view c.in-Ok.done.course)) r halt c.leave.new.items.items (kept_by c.leave.new.state))
-    (followed_there s job.skip job.programs set.skip set.programs c.in-Some.levels (course_view c.in-Ok.done.course)) behind)) c.leave.ensures.told
+    (followed_there s job.skip job.programs set.skip set.programs c.in-Some.levels (course_view c.in-Ok.done.course)) (behind c.in-Some.levels c.in-Some.is))) c.leave.ensures.told
 
 pub returns-in-Alarm-clause-told : goal.returns-in-Alarm-clause-told
 returns-in-Alarm-clause-told c s c' set keeps =
@@ -67,11 +67,11 @@ returns-in-Alarm-clause-told c s c' set keeps =
     let there = c.in-Some-find_block.ensures in
     let job = c.args.job.now in
     ends_at s _ items k _ next.line (Alarm c.in-Alarm.code) c'.past _
-    (stops s c' k keeps items c.in-Some.levels (sym c.take.ensures.value ∙ c.in-Some.is) next.line (view_of next.block.now)
+    (stops s c' k keeps items c.in-Some.levels c.in-Some.is next.line (view_of next.block.now)
     (block_there s job.programs set.programs here (Some (next.line, view_of next.block.now)) there.found)
     (99999 - k.count) c.in-Alarm.code (room k.count c.requires.few c.if-state-eq-MOST_BLOCKS.false)
     (sym (effect_there job s c' k set keeps here next.line (statement_view next.opener.now) (statement_view next.block.now.stmt) (opener_there s job.programs set.programs here (statement_view next.opener.now) there.opens))
     ∙ (rw c.in-Alarm.is at (c.in-Err.ensures.leaves (words_after c'.past) (chain_after c'.past) keeps.modal keeps.frame))))
-    (c.step-in-Alarm.ensures ∙ ap (λ (at : List (Option ℤ)). step_at k.axes k.on (stands at) next.line (Alarm c.in-Alarm.code)) (ap (λ (old : Situation). old.at) c.in-Err.ensures.unchanged))
+    (c.stop-in-Alarm.ensures.step ∙ ap (λ (at : List (Option ℤ)). step_at k.axes k.on (stands at) next.line (Alarm c.in-Alarm.code)) (ap (λ (old : Situation). old.at) c.in-Err.ensures.unchanged))
     (over_keeps s c' k keeps items _
-    (ap (λ (o : Option Levels). in_situation k o c.execute.new.situation) c.take.ensures.after ∙ ap (in_situation k None) c.in-Err.ensures.unchanged))
+    (ap kept_by c.stop-in-Alarm.ensures.nowhere ∙ ap (in_situation k None) c.in-Err.ensures.unchanged))
