@@ -5,16 +5,16 @@ use Rattle.std.proofs.lemmas.Bool.{leb-true}
 use Rattle.frames.specs.Images.{image_of}
 use Rattle.frames.specs.Places.{change_of}
 use Rattle.micro_units.specs.Rounding.{half_away}
-use Rattle.path_geometry.specs.Motions.{IsInRange}
+use Rattle.micro_units.specs.Position.{IsPosition, is_position}
 use Rattle.block_motions.specs.declared.goals.Goal.{Goal}
 use Rattle.block_motions.specs.declared.goals.Goal.TheVariants.{To, By, TooFar}
 use Rattle.block_motions.specs.declared.goals.Programmed.{Programmed}
 use Rattle.block_motions.specs.declared.goals.Targets.{Targets}
-use Rattle.block_motions.specs.Goals.{InForce, is_position, position_at, change_by, is_change, chain_in, twice_of, place_of, goal_through, goal_by_name, axis_in, value_at, put, with_goal, goals_of}
+use Rattle.block_motions.specs.Goals.{InForce, position_at, change_by, is_change, chain_in, twice_of, place_of, goal_through, goal_by_name, axis_in, value_at, put, with_goal, goals_of}
 
 abbrev pub IsFit : Option Goal → Type 0
 IsFit None = ⊤
-IsFit (Some (To end)) = IsInRange end
+IsFit (Some (To end)) = IsPosition end
 IsFit (Some (By change)) = ⊤
 IsFit (Some TooFar) = ⊤
 

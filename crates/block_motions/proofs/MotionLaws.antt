@@ -9,7 +9,8 @@ use Rattle.std.proofs.lemmas.Option.{slice_get_within, slice_get-get_or}
 use Rattle.std.specs.List.{filter_map, last_or, cons_option}
 use Rattle.std.specs.Option.{option_to_list}
 use Rattle.path_geometry.specs.Ends.{EndsView}
-use Rattle.path_geometry.specs.Motions.{axes_of, IsInRange, AreSound, IsSound}
+use Rattle.path_geometry.specs.Motions.{axes_of, AreSound, IsSound}
+use Rattle.micro_units.specs.Position.{IsPosition}
 use Rattle.path_geometry.specs.declared.motion.Motion.{Motion}
 use Rattle.axis_sets.specs.Sets.{has}
 use Rattle.block_motions.specs.declared.goals.Goal.{Goal}
@@ -21,15 +22,16 @@ use Rattle.block_motions.specs.Motions.{end_from, is_in_reach, are_in_reach, is_
 use Rattle.block_motions.proofs.Ends.{le_or_lt, ends_all, Differ, ends_once}
 use Rattle.block_motions.proofs.GoalLaws.{IsFit, AllFit, goals_fit}
 use Rattle.block_motions.proofs.Reaches.{reach_at, own_at}
+use Rattle.nc_faults.specs.declared.alarms.TheConstants.{AXIS_NOT_OWNED, NO_SUCH_AXIS, OUT_OF_RANGE}
 
 -- ---- the motion of a block
 
 -- an end that is reached is in range, and is one of an owned axis
 end_fit : (mine : Bool) (start to : ℤ) (goal : Option Goal) → IsFit goal → is_in_reach mine start goal ≡ true → is_own mine goal ≡ true
-    → option_map (end_from start) goal ≡ Some to → IsInRange to
+    → option_map (end_from start) goal ≡ Some to → IsPosition to
 end_fit mine start to None fit reach own is = absurd cc
-end_fit mine start to (Some (To end)) fit reach own is = let same : end ≡ to = cc in subst IsInRange same fit
-end_fit true start to (Some (By change)) fit reach own is = let same : start +ℤ change ≡ to = cc in subst IsInRange same (leb-true _ _ reach)
+end_fit mine start to (Some (To end)) fit reach own is = let same : end ≡ to = cc in subst IsPosition same fit
+end_fit true start to (Some (By change)) fit reach own is = let same : start +ℤ change ≡ to = cc in subst IsPosition same (leb-true _ _ reach)
 end_fit false start to (Some (By change)) fit reach own is = absurd cc
 end_fit mine start to (Some TooFar) fit reach own is = absurd cc
 
@@ -41,11 +43,11 @@ end_own mine start to (Some goal) own is = own
 module _ (owned : List Bool) (at : ℕ → ℤ) where
   -- ends of axes that the channel owns, each once, from where it stands to an end in range
   between_is : (rapid : Bool) (ends : EndsView) → AllPairs (λ e f. e.0 ≢ f.0) ends.axes → All (λ e. has owned e.0 ≡ true) ends.axes → All (λ e. e.1 ≡ at e.0) ends.axes
-      → All (λ e. IsInRange e.2) ends.axes → IsMotionOf owned at (motion_between rapid ends)
+      → All (λ e. IsPosition e.2) ends.axes → IsMotionOf owned at (motion_between rapid ends)
   between_is rapid ends once own begins near = by_kind rapid
     where
-      sound : ((axis : ℕ) → IsInRange (at axis)) → AreSound ends
-      sound within = record { once = once; in_range = λ k d inside. (subst IsInRange (sym (begins k d inside)) (within (get_or ends.axes k d).0), near k d inside) }
+      sound : ((axis : ℕ) → IsPosition (at axis)) → AreSound ends
+      sound within = record { once = once; in_range = λ k d inside. (subst IsPosition (sym (begins k d inside)) (within (get_or ends.axes k d).0), near k d inside) }
 
       by_kind : (rapid : Bool) → IsMotionOf owned at (motion_between rapid ends)
       by_kind true = record { once = once; owned = own; begins = begins; in_range = near; sound = sound }
@@ -58,7 +60,7 @@ module _ (owned : List Bool) (at : ℕ → ℤ) where
       (ends_all (λ e. has owned e.0 ≡ true) at (end_for at goals) 0 16
       (λ axis to above below is. end_own (has owned axis) (at axis) to (goal_at goals axis) (own_at owned goals axis own (omega arith)) is))
       (ends_all (λ e. e.1 ≡ at e.0) at (end_for at goals) 0 16 (λ axis to above below is. refl))
-      (ends_all (λ e. IsInRange e.2) at (end_for at goals) 0 16
+      (ends_all (λ e. IsPosition e.2) at (end_for at goals) 0 16
       (λ axis to above below is. end_fit (has owned axis) (at axis) to (goal_at goals axis) (fit axis) (reach_at owned at goals axis reach (omega arith)) (own_at owned goals axis own (omega arith)) is))
 
   any_is : (rapid : Bool) (ends : List (ℕ × ℤ × ℤ)) (motion : Motion) → IsMotionOf owned at (motion_between rapid (record { axes = ends })) → motion_if_any rapid ends ≡ Some motion
@@ -73,7 +75,7 @@ module _ (owned : List Bool) (at : ℕ → ℤ) where
   straight_to_is rapid goals motion fit is = by_tests (are_in_reach owned at goals) (are_own owned goals) refl refl is
     where
       by_tests : (reach own : Bool) → are_in_reach owned at goals ≡ reach → are_own owned goals ≡ own
-          → cond {A = Result (Option Motion) ℕ} (not reach) (Err 13) (cond (not own) (Err 15) (Ok (motion_if_any rapid (ends_from at goals)))) ≡ Ok (Some motion) → IsMotionOf owned at motion
+          → cond {A = Result (Option Motion) ℕ} (not reach) (Err OUT_OF_RANGE) (cond (not own) (Err AXIS_NOT_OWNED) (Ok (motion_if_any rapid (ends_from at goals)))) ≡ Ok (Some motion) → IsMotionOf owned at motion
       by_tests false own reached mine is = absurd cc
       by_tests true false reached mine is = absurd cc
       by_tests true true reached mine is =
@@ -83,7 +85,7 @@ module _ (owned : List Bool) (at : ℕ → ℤ) where
   unfolding straight_motion
   straight_is slots h targets motion is = by_axes (have_axes slots h targets.slots) is
     where
-      by_axes : (b : Bool) → cond {A = Result (Option Motion) ℕ} (not b) (Err 14) (straight_motion_to owned at (is_rapid h) (goals_of slots h targets)) ≡ Ok (Some motion) → IsMotionOf owned at motion
+      by_axes : (b : Bool) → cond {A = Result (Option Motion) ℕ} (not b) (Err NO_SUCH_AXIS) (straight_motion_to owned at (is_rapid h) (goals_of slots h targets)) ≡ Ok (Some motion) → IsMotionOf owned at motion
       by_axes false is = absurd cc
       by_axes true is = straight_to_is (is_rapid h) (goals_of slots h targets) motion (goals_fit h slots targets) is
 

@@ -4,27 +4,29 @@ use Rattle.std.proofs.lemmas.Bool.{and_parts, eq-eqb, leb-true, not-true}
 use Rattle.std.proofs.lemmas.List.Elements.{All-nil, All-cons, All-weaker}
 use Rattle.std.specs.List.{list_all}
 use Rattle.block_motions.specs.declared.goals.Goal.{Goal}
-use Rattle.block_motions.specs.Goals.{InForce, is_position}
+use Rattle.block_motions.specs.Goals.{InForce}
 use Rattle.block_motions.specs.Motions.{are_in_reach, are_own, ends_from}
 use Rattle.path_geometry.specs.Ends.{EndsView}
-use Rattle.path_geometry.specs.Motions.{IsInRange, HavePlane}
+use Rattle.path_geometry.specs.Motions.{HavePlane}
+use Rattle.micro_units.specs.Position.{IsPosition, is_position}
 use Rattle.path_geometry.specs.declared.motion.Motion.{Motion}
 use Rattle.block_motions.specs.Arcs.{run_in_range, is_moved, can_run, some_motion, arc_given, arc_to}
 use Rattle.block_motions.specs.Sides.{SideView}
 use Rattle.block_motions.specs.declared.words.ArcWords.{ArcWords}
+use Rattle.nc_faults.specs.declared.alarms.TheConstants.{AXIS_NOT_OWNED, OUT_OF_RANGE}
 
 all_true : {X : Type 0} (f : X → Bool) (xs : List X) → list_all f xs ≡ true → All (λ x. f x ≡ true) xs
 all_true f [] is = All-nil (λ x. f x ≡ true)
 all_true f (x ∷ xs) is = let parts = and_parts (f x) (list_all f xs) is in All-cons (λ x. f x ≡ true) x xs parts.0 (all_true f xs parts.1)
 
-near_both : (e : ℕ × ℤ × ℤ) → (is_position e.1 && is_position e.2) ≡ true → IsInRange e.1 × IsInRange e.2
+near_both : (e : ℕ × ℤ × ℤ) → (is_position e.1 && is_position e.2) ≡ true → IsPosition e.1 × IsPosition e.2
 near_both e is = let parts = and_parts (is_position e.1) (is_position e.2) is in (leb-true _ _ parts.0, leb-true _ _ parts.1)
 
 module _ (sides : SideView × SideView) (ends : EndsView) (can : can_run sides ends ≡ true) where
-  pub in_range : All (λ e. IsInRange e.1 × IsInRange e.2) ends.axes
+  pub in_range : All (λ e. IsPosition e.1 × IsPosition e.2) ends.axes
   in_range =
       let parts = and_parts (run_in_range ends) (is_moved ends sides.0 && (is_moved ends sides.1 && not (sides.0.moved == sides.1.moved))) can in
-      All-weaker (λ e. (is_position e.1 && is_position e.2) ≡ true) (λ e. IsInRange e.1 × IsInRange e.2) near_both ends.axes
+      All-weaker (λ e. (is_position e.1 && is_position e.2) ≡ true) (λ e. IsPosition e.1 × IsPosition e.2) near_both ends.axes
       (all_true (λ e. is_position e.1 && is_position e.2) ends.axes parts.0)
 
   pub have_plane : HavePlane ends sides.0.moved sides.1.moved
@@ -41,7 +43,7 @@ module _ (sides : SideView × SideView) (ends : EndsView) (can : can_run sides e
 
 -- where all tests hold, the arc is given
 past : (a b c : Bool) (answer : Result (Option Motion) ℕ) → a ≡ true → b ≡ true → c ≡ true
-    → cond (not a) (Err 13) (cond (not b) (Err 15) (cond (not c) (Err 13) answer)) ≡ answer
+    → cond (not a) (Err OUT_OF_RANGE) (cond (not b) (Err AXIS_NOT_OWNED) (cond (not c) (Err OUT_OF_RANGE) answer)) ≡ answer
 past true true true answer x y z = refl
 past true true false answer x y z = absurd cc
 past true false c answer x y z = absurd cc

@@ -8,7 +8,7 @@ use Rattle.block_motions.specs.declared.goals.Goal.{Goal}
 use Rattle.block_motions.specs.declared.goals.Goal.TheVariants.{To, By, TooFar}
 use Rattle.block_motions.specs.declared.goals.Programmed.{Programmed}
 use Rattle.block_motions.specs.declared.goals.Targets.{Targets}
-use Rattle.block_motions.specs.Goals.{InForce, chain_in, is_position, change_by, goal_through, axis_in, have_axes, goals_of}
+use Rattle.block_motions.specs.Goals.{InForce, chain_in, change_by, goal_through, axis_in, have_axes, goals_of}
 use Rattle.block_motions.specs.Motions.{goal_at, are_in_reach, are_own, ends_from}
 use Rattle.frames.specs.Images.{image_of, other_sign}
 use Rattle.frames.specs.Maps.{first_axis, second_axis}
@@ -19,10 +19,13 @@ use Rattle.nc_blocks.specs.declared.blocks.Measure.{Measure}
 use Rattle.nc_blocks.specs.declared.blocks.Measure.TheVariants.{Modal, Absolute, Incremental}
 use Rattle.path_geometry.specs.Arcs.{arc_about, arc_of_radius}
 use Rattle.path_geometry.specs.Ends.{EndsView}
-use Rattle.path_geometry.specs.Motions.{axes_of, IsInRange, IsSound}
+use Rattle.path_geometry.specs.Motions.{axes_of, IsSound}
+use Rattle.micro_units.specs.Position.{IsPosition, is_position}
 use Rattle.path_geometry.specs.declared.motion.Motion.{Motion}
 use Rattle.block_motions.specs.Sides.{SideView}
 use Rattle.block_motions.specs.declared.words.ArcWords.{ArcWords}
+use Rattle.nc_faults.specs.declared.alarms.TheConstants.{ARC_SCALE, ARC_WORDS, AXIS_NOT_OWNED, CENTRE_OUTSIDE_PLANE, NO_SUCH_AXIS, OUT_OF_RANGE}
+use Rattle.g_groups.specs.declared.numbers.TheConstants.{MOTION_GROUP, PLANE_GROUP}
 
 -- the axes X, Y and Z are 0, 1 and 2; I, J and K are the words of the centre on them
 
@@ -46,7 +49,7 @@ is_given words = if is_any words.centre then is_none words.radius else is_radius
 
 -- the word of group 6 that holds; G18 where it is no other
 abbrev pub plane_of : InForce → Plane
-plane_of h = if h.word 6 == 17 then G17 else if h.word 6 == 19 then G19 else G18
+plane_of h = if h.word PLANE_GROUP == 17 then G17 else if h.word PLANE_GROUP == 19 then G19 else G18
 
 -- the axis that is not of the plane
 abbrev pub axis_across : Plane → ℕ
@@ -86,7 +89,7 @@ have_one_factor h plane =
 -- the arc turns from the second to the first: under G2, or where the frame mirrors one of the two, but not where both is so
 abbrev pub is_backward : InForce → Plane → Bool
 is_backward h plane =
-    other_sign (h.word 1 == 2) (other_sign (image_of (chain_in h) (first_axis plane)).minus (image_of (chain_in h) (second_axis plane)).minus)
+    other_sign (h.word MOTION_GROUP == 2) (other_sign (image_of (chain_in h) (first_axis plane)).minus (image_of (chain_in h) (second_axis plane)).minus)
 
 -- the sides in the order in which the arc turns
 abbrev pub in_turn : Bool → SideView × SideView → SideView × SideView
@@ -133,8 +136,8 @@ place_from start (By change) = placed (start +ℤ change)
 place_from start TooFar = None
 
 abbrev pub arc_about_places : EndsView → SideView × SideView → Option ℤ → Option ℤ → Result Motion ℕ
-arc_about_places ends sides None second = Err 13
-arc_about_places ends sides (Some first) None = Err 13
+arc_about_places ends sides None second = Err OUT_OF_RANGE
+arc_about_places ends sides (Some first) None = Err OUT_OF_RANGE
 arc_about_places ends sides (Some first) (Some second) = arc_about ends sides.0.moved sides.1.moved (first, second)
 
 -- the arc about the centre; alarm 13 where the centre is out of range, then its own alarms
@@ -153,7 +156,7 @@ abbrev pub radius_of : InForce → ℕ → ℤ → Option ℤ
 radius_of h axis radius = size_of (change_by (change_of (image_of (chain_in h) axis) (pos (unsigned_abs radius) *ℤ pos 2)))
 
 abbrev pub arc_of_size : EndsView → SideView × SideView → Bool → Option ℤ → Result Motion ℕ
-arc_of_size ends sides long None = Err 13
+arc_of_size ends sides long None = Err OUT_OF_RANGE
 arc_of_size ends sides long (Some size) = arc_of_radius ends sides.0.moved sides.1.moved (unsigned_abs size) long
 
 -- the arc by its radius, the longer one where it is below 0; alarm 13 where it is out of range, then its own alarms
@@ -186,28 +189,28 @@ some_motion (Err alarm) = Err alarm
 unfoldable pub arc_to : List Bool → InForce → (ℕ → ℤ) → ArcWords → SideView × SideView → List (Option Goal) → Result (Option Motion) ℕ
 arc_to owned h at words sides goals =
     let ends : EndsView = record { axes = ends_from at goals } in
-    if not (are_in_reach owned at goals) then Err 13
-    else if not (are_own owned goals) then Err 15
-    else if not (can_run sides ends) then Err 13
+    if not (are_in_reach owned at goals) then Err OUT_OF_RANGE
+    else if not (are_own owned goals) then Err AXIS_NOT_OWNED
+    else if not (can_run sides ends) then Err OUT_OF_RANGE
     else some_motion (arc_given h at words words.radius sides ends)
 
 -- the arc in a plane; alarm 23 where the frame has two factors in it
 abbrev pub arc_between : List (Option ℕ) → List Bool → InForce → (ℕ → ℤ) → Targets → ArcWords → Plane → Option (SideView × SideView) → Result (Option Motion) ℕ
-arc_between slots owned h at targets words plane None = Err 14
+arc_between slots owned h at targets words plane None = Err NO_SUCH_AXIS
 arc_between slots owned h at targets words plane (Some sides) =
-    if not (have_one_factor h plane) then Err 23
+    if not (have_one_factor h plane) then Err ARC_SCALE
     else arc_to owned h at words (in_turn (is_backward h plane) sides) (arc_goals slots h targets sides)
 
 -- the arc of words that can be one; alarm 14 where the frame sends X, Y or Z, if it is programmed or of the plane, to a slot without axis
 unfoldable pub arc_through : List (Option ℕ) → List Bool → InForce → (ℕ → ℤ) → Targets → ArcWords → Plane → Result (Option Motion) ℕ
 arc_through slots owned h at targets words plane =
-    if not (have_axes slots h targets.slots) then Err 14
+    if not (have_axes slots h targets.slots) then Err NO_SUCH_AXIS
     else arc_between slots owned h at targets words plane (sides_in slots h plane)
 
 -- the motion of a block under G2, or else G3, that programs these values and words, of a channel with these slots and axes, where this holds and the axes stand so; none without an axis and a centre. Alarm 18, before all others, where there is neither or both of a centre and a radius, or a radius of 0; then 19 where the centre has a word of an axis that is not of the plane
 unfoldable pub arc_motion : List (Option ℕ) → List Bool → InForce → (ℕ → ℤ) → Targets → ArcWords → Result (Option Motion) ℕ
 arc_motion slots owned h at targets words =
     if not (moves_arc targets words) then Ok None
-    else if not (is_given words) then Err 18
-    else if not (is_in_plane (plane_of h) words) then Err 19
+    else if not (is_given words) then Err ARC_WORDS
+    else if not (is_in_plane (plane_of h) words) then Err CENTRE_OUTSIDE_PLANE
     else arc_through slots owned h at targets words (plane_of h)

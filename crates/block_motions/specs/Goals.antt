@@ -14,6 +14,9 @@ use Rattle.block_motions.specs.declared.goals.Goal.{Goal}
 use Rattle.block_motions.specs.declared.goals.Goal.TheVariants.{To, By, TooFar}
 use Rattle.block_motions.specs.declared.goals.Programmed.{Programmed}
 use Rattle.block_motions.specs.declared.goals.Targets.{Targets}
+use Rattle.g_groups.specs.declared.numbers.TheConstants.{BLOCK_GROUP, DIAM90, DIAMETER_GROUP, DIAMON, DIMENSION_GROUP}
+use Rattle.micro_units.specs.declared.limits.TheConstants.{CHANGE_LIMIT}
+use Rattle.micro_units.specs.Position.{is_position}
 
 -- the axes X, Y and Z are 0, 1 and 2, and so are the slots of a channel
 
@@ -27,20 +30,20 @@ pub record InForce : Type 0 where
 
 -- G53, G153 and SUPA, the words of group 9, take the empty frame and no offset for their block
 abbrev pub chain_in : InForce → List Map
-chain_in h = if h.word 9 == 0 then h.chain else []
+chain_in h = if h.word BLOCK_GROUP == 0 then h.chain else []
 
 abbrev pub offset_in : InForce → ℕ → ℤ
-offset_in h slot = if h.word 9 == 0 then h.offset slot else pos 0
+offset_in h slot = if h.word BLOCK_GROUP == 0 then h.offset slot else pos 0
 
 -- a value is a change with IC, and under G91 without AC
 abbrev pub is_change : InForce → Measure → Bool
-is_change h Modal = h.word 14 == 91
+is_change h Modal = h.word DIMENSION_GROUP == 91
 is_change h Absolute = false
 is_change h Incremental = true
 
 -- a value of X is a diameter under DIAMON, and under DIAM90 where it is no change; these are the words 1 and 3 of group 29
 abbrev pub is_diameter : InForce → ℕ → Bool → Bool
-is_diameter h axis change = axis == 0 && (h.word 29 == 1 || (h.word 29 == 3 && not change))
+is_diameter h axis change = axis == 0 && (h.word DIAMETER_GROUP == DIAMON || (h.word DIAMETER_GROUP == DIAM90 && not change))
 
 -- twice the value that goes through the frame, in millionths of a millimetre: of a diameter goes the half
 abbrev pub twice_of : InForce → ℕ → Programmed → ℤ
@@ -48,15 +51,11 @@ twice_of h axis p = if is_diameter h axis (is_change h p.measure) then p.value e
 
 -- ---- goals
 
--- a position is at most 10,000,000 micrometres in size, and a change at most 20,000,000
-abbrev pub is_position : ℤ → Bool
-is_position at = nat_le (unsigned_abs at) 10000000
-
 abbrev pub position_at : ℤ → Goal
 position_at at = if is_position at then To at else TooFar
 
 abbrev pub change_by : ℤ → Goal
-change_by change = if nat_le (unsigned_abs change) 20000000 then By change else TooFar
+change_by change = if nat_le (unsigned_abs change) CHANGE_LIMIT then By change else TooFar
 
 -- the point that has a value on one axis and 0 on the others, all of them twice
 abbrev pub on_axis : ℕ → ℤ → ℕ → ℤ

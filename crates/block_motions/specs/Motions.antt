@@ -4,13 +4,17 @@ use Rattle.std.specs.List.{last_or, list_all, range_with_len}
 use Rattle.axis_sets.specs.Positions.{stands}
 use Rattle.axis_sets.specs.Sets.{has}
 use Rattle.path_geometry.specs.Ends.{EndsView}
-use Rattle.path_geometry.specs.Motions.{axes_of, axis_end, IsInRange, IsSound}
+use Rattle.path_geometry.specs.Motions.{axes_of, axis_end, IsSound}
+use Rattle.micro_units.specs.Position.{IsPosition, is_position}
 use Rattle.path_geometry.specs.declared.motion.Motion.{Motion}
 use Rattle.path_geometry.specs.declared.motion.Motion.TheVariants.{Line, Rapid}
 use Rattle.block_motions.specs.declared.goals.Goal.{Goal}
 use Rattle.block_motions.specs.declared.goals.Goal.TheVariants.{To, By, TooFar}
 use Rattle.block_motions.specs.declared.goals.Targets.{Targets}
-use Rattle.block_motions.specs.Goals.{InForce, is_position, have_axes, goals_of}
+use Rattle.block_motions.specs.Goals.{InForce, have_axes, goals_of}
+use Rattle.nc_faults.specs.declared.alarms.TheConstants.{AXIS_NOT_OWNED, NO_SUCH_AXIS, OUT_OF_RANGE}
+use Rattle.axis_sets.specs.declared.limits.TheConstants.{AXIS_LIMIT}
+use Rattle.g_groups.specs.declared.numbers.TheConstants.{MOTION_GROUP, RAPID_GROUP, RTLIOF}
 
 -- ---- goals and ends
 
@@ -35,11 +39,11 @@ is_in_reach owned start None = true
 is_in_reach owned start (Some goal) = is_goal_in_reach owned start goal
 
 unfoldable pub are_in_reach : List Bool → (ℕ → ℤ) → List (Option Goal) → Bool
-are_in_reach owned at goals = list_all (λ axis. is_in_reach (has owned axis) (at axis) (goal_at goals axis)) (range_with_len 0 16)
+are_in_reach owned at goals = list_all (λ axis. is_in_reach (has owned axis) (at axis) (goal_at goals axis)) (range_with_len 0 AXIS_LIMIT)
 
 -- each axis reaches its goal, if it has one
 abbrev pub AreReached : (ℕ → ℤ) → List (Option Goal) → Type 0
-AreReached at goals = (axis : ℕ) → axis < 16 → is_in_reach true (at axis) (goal_at goals axis) ≡ true
+AreReached at goals = (axis : ℕ) → axis < AXIS_LIMIT → is_in_reach true (at axis) (goal_at goals axis) ≡ true
 
 -- no goal, or one of an axis that the channel owns
 abbrev pub is_own : Bool → Option Goal → Bool
@@ -47,7 +51,7 @@ is_own owned None = true
 is_own owned (Some goal) = owned
 
 unfoldable pub are_own : List Bool → List (Option Goal) → Bool
-are_own owned goals = list_all (λ axis. is_own (has owned axis) (goal_at goals axis)) (range_with_len 0 16)
+are_own owned goals = list_all (λ axis. is_own (has owned axis) (goal_at goals axis)) (range_with_len 0 AXIS_LIMIT)
 
 -- the end of an axis that starts where it stands
 abbrev pub end_for : (ℕ → ℤ) → List (Option Goal) → ℕ → Option ℤ
@@ -55,11 +59,11 @@ end_for at goals axis = option_map (end_from (at axis)) (goal_at goals axis)
 
 -- the axes with goals in the order of their numbers, each from where it stands to its end
 abbrev pub ends_from : (ℕ → ℤ) → List (Option Goal) → List (ℕ × ℤ × ℤ)
-ends_from at goals = filter_map (λ axis. option_map (λ end. (axis, at axis, end)) (end_for at goals axis)) (range_with_len 0 16)
+ends_from at goals = filter_map (λ axis. option_map (λ end. (axis, at axis, end)) (end_for at goals axis)) (range_with_len 0 AXIS_LIMIT)
 
 -- each axis goes by itself under G0 with RTLIOF, the words 0 of group 1 and 2 of group 0
 abbrev pub is_rapid : InForce → Bool
-is_rapid h = h.word 1 == 0 && h.word 0 == 2
+is_rapid h = h.word MOTION_GROUP == 0 && h.word RAPID_GROUP == RTLIOF
 
 -- a rapid, or else a straight line
 abbrev pub motion_between : Bool → EndsView → Motion
@@ -73,14 +77,14 @@ motion_if_any rapid (e ∷ ends) = Some (motion_between rapid (record { axes = e
 -- the motion to these goals; alarm 13 where one is out of reach, then 15 where an axis is not the channel's own
 unfoldable pub straight_motion_to : List Bool → (ℕ → ℤ) → Bool → List (Option Goal) → Result (Option Motion) ℕ
 straight_motion_to owned at rapid goals =
-    if not (are_in_reach owned at goals) then Err 13
-    else if not (are_own owned goals) then Err 15
+    if not (are_in_reach owned at goals) then Err OUT_OF_RANGE
+    else if not (are_own owned goals) then Err AXIS_NOT_OWNED
     else Ok (motion_if_any rapid (ends_from at goals))
 
 -- the motion of a block, a line or a rapid, that programs these values, of a channel with these slots and axes, where this holds and the axes stand so; alarm 14, before the others, where the frame sends X, Y or Z to a slot without axis
 unfoldable pub straight_motion : List (Option ℕ) → List Bool → InForce → (ℕ → ℤ) → Targets → Result (Option Motion) ℕ
 straight_motion slots owned h at targets =
-    if not (have_axes slots h targets.slots) then Err 14
+    if not (have_axes slots h targets.slots) then Err NO_SUCH_AXIS
     else straight_motion_to owned at (is_rapid h) (goals_of slots h targets)
 
 -- the axes stand at the ends of these goals, and elsewhere where they stood
@@ -96,5 +100,5 @@ pub record IsMotionOf (axes : List Bool) (at : ℕ → ℤ) (motion : Motion) : 
   pub once : AllPairs (λ e f. e.0 ≢ f.0) (axes_of motion)
   pub owned : All (λ e. has axes e.0 ≡ true) (axes_of motion)
   pub begins : All (λ e. e.1 ≡ at e.0) (axes_of motion)
-  pub in_range : All (λ e. IsInRange e.2) (axes_of motion)
-  pub sound : ((axis : ℕ) → IsInRange (at axis)) → IsSound motion
+  pub in_range : All (λ e. IsPosition e.2) (axes_of motion)
+  pub sound : ((axis : ℕ) → IsPosition (at axis)) → IsSound motion

@@ -7,22 +7,29 @@ ghost use Rattle.axis_sets.specs.Positions.{stands as stands_at};
 ghost use Rattle.block_motions.specs.Motions.{StandsAtEndOf};
 ghost use Rattle.frames.specs.Images.{image_of};
 ghost use Rattle.frames.specs.Places.{change_of};
-ghost use Rattle.path_geometry.specs.Motions.{AreSound, HavePlane, IsInRange, axes_of};
+ghost use Rattle.path_geometry.specs.Motions.{AreSound, HavePlane, axes_of};
+ghost use Rattle.micro_units.specs.Position.{IsPosition};
 ghost use Rattle.block_motions.specs.Arcs as model;
 
-use crate::goals::{Conditions, Goal, Programmed, Targets, change_through, frame_in, goal_through, goals_of, have_axes, is_position};
+use crate::goals::{
+    Conditions, Goal, Programmed, Targets, change_through, frame_in, goal_through, goals_of,
+    have_axes,
+};
 use crate::motions::{are_in_reach, are_own, move_axes, stands};
 use crate::planes::Side;
 use crate::sides::{have_one_factor, in_turn, is_backward, sides_in};
 use crate::words::{ArcWords, centre_word, is_given, is_in_plane, moves_arc, plane_of};
-use axis_sets::{AxisId, AxisSet, Positions};
+use axis_sets::{AXIS_LIMIT, AxisId, AxisSet, Positions};
 use frames::Plane;
-use micro_units::{Num, Um};
+use micro_units::{Num, Um, is_position};
 use nc_blocks::Measure;
+use nc_faults::{
+    ARC_SCALE, ARC_WORDS, AXIS_NOT_OWNED, CENTRE_OUTSIDE_PLANE, NO_SUCH_AXIS, OUT_OF_RANGE,
+};
 use path_geometry::{Ends, Motion, arc_by_centre, arc_by_radius};
 
 /// The goals, in which an axis without a goal stays.
-fn staying(mut goals: [Option<Goal>; 16], axis: AxisId) -> [Option<Goal>; 16]
+fn staying(mut goals: [Option<Goal>; AXIS_LIMIT], axis: AxisId) -> [Option<Goal>; AXIS_LIMIT]
     ensures { result ≡ model.staying goals axis }
 {
     if goals[usize::from(axis.index)].is_none() {
@@ -37,7 +44,7 @@ fn arc_goals(
     conditions: &Conditions,
     targets: &Targets,
     sides: &(Side, Side),
-) -> [Option<Goal>; 16]
+) -> [Option<Goal>; AXIS_LIMIT]
     ensures { (h : InForce) → AreInForce h conditions.now
         → result ≡ model.arc_goals slots.now h targets.now sides.now }
 {
@@ -102,7 +109,7 @@ fn goal_on(conditions: &Conditions, words: &ArcWords, side: &Side) -> Goal
 /// A place in range.
 fn placed(micrometres: i32) -> Option<Um>
     ensures place { result ≡ model.placed micrometres }
-    ensures range { IfSome result IsInRange }
+    ensures range { IfSome result IsPosition }
 {
     if is_position(micrometres) {
         Some(Um { micrometres })
@@ -114,7 +121,7 @@ fn placed(micrometres: i32) -> Option<Um>
 /// Where a goal leads from the start, if that is in range.
 fn place_from(start: Um, goal: Goal) -> Option<Um>
     ensures place { result ≡ model.place_from start goal }
-    ensures range { IfSome result IsInRange }
+    ensures range { IfSome result IsPosition }
 {
     match goal {
         Goal::To(end) => placed(end.micrometres),
@@ -133,8 +140,8 @@ fn arc_about_places(
 ) -> Result<Motion, u16>
     requires ends { AreSound ends.now }
     requires plane { HavePlane ends.now sides.now.0.moved sides.now.1.moved }
-    requires first { IfSome first IsInRange }
-    requires second { IfSome second IsInRange }
+    requires first { IfSome first IsPosition }
+    requires second { IfSome second IsPosition }
     ensures value { result ≡ model.arc_about_places ends.now sides.now first second }
     ensures axes { IfOk result (λ motion. axes_of motion ≡ ends.now.axes) }
 {
@@ -142,7 +149,7 @@ fn arc_about_places(
         (Some(first), Some(second)) => {
             arc_by_centre(ends, sides.0.moved, sides.1.moved, (first, second))
         }
-        _ => Err(13),
+        _ => Err(OUT_OF_RANGE),
     }
 }
 
@@ -174,7 +181,7 @@ fn arc_by_words(
 /// The size of a change, if it is in range.
 fn size_of(goal: Goal) -> Option<Um>
     ensures size { result ≡ model.size_of goal }
-    ensures range { IfSome result (λ size. IsInRange size × (pos 0 ≤ℤ size)) }
+    ensures range { IfSome result (λ size. IsPosition size × (pos 0 ≤ℤ size)) }
 {
     match goal {
         Goal::By(change) if is_position(change.micrometres) => Some(Um {
@@ -188,7 +195,7 @@ fn size_of(goal: Goal) -> Option<Um>
 fn radius_of(conditions: &Conditions, axis: u8, radius: Num) -> Option<Um>
     requires { axis < 3 }
     ensures radius { (h : InForce) → AreInForce h conditions.now → result ≡ model.radius_of h axis radius }
-    ensures range { IfSome result (λ size. IsInRange size × (pos 0 ≤ℤ size)) }
+    ensures range { IfSome result (λ size. IsPosition size × (pos 0 ≤ℤ size)) }
 {
     size_of(change_in(conditions, axis, doubled(unsigned(radius))))
 }
@@ -203,13 +210,13 @@ fn arc_of_size(
 ) -> Result<Motion, u16>
     requires ends { AreSound ends.now }
     requires plane { HavePlane ends.now sides.now.0.moved sides.now.1.moved }
-    requires size { IfSome size (λ size. IsInRange size × (pos 0 ≤ℤ size)) }
+    requires size { IfSome size (λ size. IsPosition size × (pos 0 ≤ℤ size)) }
     ensures value { result ≡ model.arc_of_size ends.now sides.now long size }
     ensures axes { IfOk result (λ motion. axes_of motion ≡ ends.now.axes) }
 {
     match size {
         Some(size) => arc_by_radius(ends, sides.0.moved, sides.1.moved, size, long),
-        None => Err(13),
+        None => Err(OUT_OF_RANGE),
     }
 }
 
@@ -289,7 +296,7 @@ fn arc_to(
     conditions: &Conditions,
     words: &ArcWords,
     sides: &(Side, Side),
-    goals: &[Option<Goal>; 16],
+    goals: &[Option<Goal>; AXIS_LIMIT],
     at: &mut Positions,
 ) -> Result<Option<Motion>, u16>
     ensures made { (h : InForce) → AreInForce h conditions.now
@@ -298,15 +305,15 @@ fn arc_to(
     ensures unmoved { OnErr result (at.new ≡ at.old) }
 {
     if !are_in_reach(owned, at, goals) {
-        return Err(13);
+        return Err(OUT_OF_RANGE);
     }
     if !are_own(owned, goals) {
-        return Err(15);
+        return Err(AXIS_NOT_OWNED);
     }
     let mut moved = *at;
     let ends = move_axes(goals, &mut moved);
     if !can_run(sides, &ends) {
-        return Err(13);
+        return Err(OUT_OF_RANGE);
     }
     match arc_given(conditions, at, words, sides, &ends) {
         Ok(motion) => {
@@ -335,13 +342,13 @@ fn arc_between(
     match sides_in(slots, conditions, plane) {
         Some(sides) => {
             if !have_one_factor(conditions, plane) {
-                return Err(23);
+                return Err(ARC_SCALE);
             }
             let goals = arc_goals(slots, conditions, targets, &sides);
             let turned = in_turn(is_backward(conditions, plane), sides);
             arc_to(owned, conditions, words, &turned, &goals, at)
         }
-        None => Err(14),
+        None => Err(NO_SUCH_AXIS),
     }
 }
 
@@ -362,7 +369,7 @@ fn arc_through(
     ensures unmoved { OnErr result (at.new ≡ at.old) }
 {
     if !have_axes(slots, conditions, &targets.slots) {
-        return Err(14);
+        return Err(NO_SUCH_AXIS);
     }
     arc_between(slots, owned, conditions, targets, words, plane, at)
 }
@@ -404,11 +411,11 @@ pub fn arc_motion(
         return Ok(None);
     }
     if !is_given(words) {
-        return Err(18);
+        return Err(ARC_WORDS);
     }
     let plane = plane_of(conditions);
     if !is_in_plane(plane, words) {
-        return Err(19);
+        return Err(CENTRE_OUTSIDE_PLANE);
     }
     arc_through(slots, owned, conditions, targets, words, plane, at)
 }

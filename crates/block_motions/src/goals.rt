@@ -6,27 +6,16 @@ ghost use Rattle.frames.specs.Images.{image_of};
 ghost use Rattle.frames.specs.Maps.{Map, mapped_point};
 ghost use Rattle.frames.specs.Places.{programmed, end_at, change_of};
 ghost use Rattle.g_groups.specs.Groups.{HasModalValue};
+ghost use Rattle.g_groups.specs.declared.numbers.TheConstants.{BLOCK_GROUP};
 ghost use Rattle.micro_units.specs.Rounding.{half_away};
 ghost use Rattle.block_motions.specs.Goals as model;
 ghost use Rattle.block_motions.specs.Goals.{InForce, AreInForce};
 
-use axis_sets::AxisId;
+use axis_sets::{AXIS_LIMIT, AxisId};
 use frames::Frame;
-use g_groups::Modal;
-use micro_units::{Num, Um};
+use g_groups::{BLOCK_GROUP, DIAM90, DIAMETER_GROUP, DIAMON, DIMENSION_GROUP, Modal};
+use micro_units::{Num, Um, is_position};
 use nc_blocks::Measure;
-
-/// The greatest size of a position in micrometres.
-pub(crate) const RANGE: u32 = 10_000_000;
-
-/// The group of G53, G153 and SUPA, of which no word may hold.
-const BLOCK_GROUP: u8 = 9;
-
-/// The group of G90 and G91.
-const MEASURE_GROUP: u8 = 14;
-
-/// The group of DIAMON, DIAMOF and DIAM90, the first, second and third word in it.
-const DIAMETER_GROUP: u8 = 29;
 
 /// A value that is programmed for an axis, in millimetres.
 #[derive(Clone, Copy, Debug, PartialEq, Eq)]
@@ -43,7 +32,7 @@ pub struct Targets {
     /// The values of X, Y and Z.
     pub slots: [Option<Programmed>; 3],
     /// The values of axes by their own names, by the numbers of the axes.
-    pub axes: [Option<Programmed>; 16],
+    pub axes: [Option<Programmed>; AXIS_LIMIT],
 }
 
 /// What holds in a block.
@@ -79,7 +68,7 @@ pub fn word(conditions: &Conditions, group: u8) -> u16
 /// Whether the frame and the offsets hold in the block.
 #[tactic(auto, using(crate::proofs::HeldWords::has_block_word))]
 fn is_in_frame(conditions: &Conditions) -> bool
-    ensures { (h : InForce) → AreInForce h conditions.now → result ≡ (h.word 9 == 0) }
+    ensures { (h : InForce) → AreInForce h conditions.now → result ≡ (h.word BLOCK_GROUP == 0) }
 {
     word(conditions, BLOCK_GROUP) == 0
 }
@@ -112,7 +101,7 @@ fn is_change(conditions: &Conditions, measure: Measure) -> bool
     ensures { (h : InForce) → AreInForce h conditions.now → result ≡ model.is_change h measure }
 {
     match measure {
-        Measure::Modal => word(conditions, MEASURE_GROUP) == 91,
+        Measure::Modal => word(conditions, DIMENSION_GROUP) == 91,
         Measure::Absolute => false,
         Measure::Incremental => true,
     }
@@ -124,7 +113,7 @@ fn is_diameter(conditions: &Conditions, axis: u8, change: bool) -> bool
     ensures { (h : InForce) → AreInForce h conditions.now → result ≡ model.is_diameter h axis change }
 {
     let code = word(conditions, DIAMETER_GROUP);
-    axis == 0 && (code == 1 || (code == 3 && !change))
+    axis == 0 && (code == DIAMON || (code == DIAM90 && !change))
 }
 
 /// Twice the value that goes through the frame, in millionths of a millimetre.
@@ -195,13 +184,6 @@ fn position_at(value: Num) -> Goal
     }
 }
 
-/// Whether a count of micrometres is that of a position.
-pub(crate) fn is_position(micrometres: i32) -> bool
-    ensures { result ≡ model.is_position micrometres }
-{
-    micrometres.unsigned_abs() <= RANGE
-}
-
 /// The goal of X, Y or Z with this value, through the frame.
 pub(crate) fn goal_through(conditions: &Conditions, axis: u8, programmed: Programmed) -> Goal
     requires { axis < 3 }
@@ -234,7 +216,11 @@ fn goal_by_name(conditions: &Conditions, programmed: Programmed) -> Goal
 }
 
 /// The axis that X, Y or Z moves.
-pub(crate) fn axis_in(slots: &[Option<AxisId>; 3], conditions: &Conditions, axis: u8) -> Option<AxisId>
+pub(crate) fn axis_in(
+    slots: &[Option<AxisId>; 3],
+    conditions: &Conditions,
+    axis: u8,
+) -> Option<AxisId>
     requires { axis < 3 }
     ensures { (h : InForce) → AreInForce h conditions.now → result ≡ model.axis_in slots.now h axis }
 {
@@ -281,12 +267,15 @@ fn named_goal(conditions: &Conditions, programmed: Option<Programmed>) -> Option
 }
 
 /// The goals of axes by their own names.
-fn named_goals(conditions: &Conditions, axes: &[Option<Programmed>; 16]) -> [Option<Goal>; 16]
+fn named_goals(
+    conditions: &Conditions,
+    axes: &[Option<Programmed>; AXIS_LIMIT],
+) -> [Option<Goal>; AXIS_LIMIT]
     ensures { (h : InForce) → AreInForce h conditions.now
         → result ≡ map (λ value. option_map (model.goal_by_name h) value) axes.now }
 {
-    let mut goals = [None; 16];
-    for index in 0..16 {
+    let mut goals = [None; AXIS_LIMIT];
+    for index in 0..AXIS_LIMIT {
         goals[index] = named_goal(conditions, axes[index]);
     }
     goals
@@ -294,12 +283,12 @@ fn named_goals(conditions: &Conditions, axes: &[Option<Programmed>; 16]) -> [Opt
 
 /// The goals with that of X, Y or Z, if it is programmed and moves an axis.
 fn with_goal(
-    mut goals: [Option<Goal>; 16],
+    mut goals: [Option<Goal>; AXIS_LIMIT],
     slots: &[Option<AxisId>; 3],
     conditions: &Conditions,
     axis: u8,
     programmed: Option<Programmed>,
-) -> [Option<Goal>; 16]
+) -> [Option<Goal>; AXIS_LIMIT]
     requires { axis < 3 }
     ensures { (h : InForce) → AreInForce h conditions.now
         → result ≡ model.with_goal slots.now h axis programmed goals }
@@ -318,7 +307,7 @@ pub(crate) fn goals_of(
     slots: &[Option<AxisId>; 3],
     conditions: &Conditions,
     targets: &Targets,
-) -> [Option<Goal>; 16]
+) -> [Option<Goal>; AXIS_LIMIT]
     ensures { (h : InForce) → AreInForce h conditions.now → result ≡ model.goals_of slots.now h targets.now }
 {
     let [x, y, z] = targets.slots;

@@ -5,17 +5,13 @@ ghost use Rattle.axis_sets.specs.Positions as positions;
 ghost use Rattle.block_motions.specs.Goals.{InForce, AreInForce};
 ghost use Rattle.block_motions.specs.Motions as model;
 
-use crate::goals::{Conditions, Goal, Targets, goals_of, have_axes, is_position, word};
+use crate::goals::{Conditions, Goal, Targets, goals_of, have_axes, word};
 use arrayvec::ArrayVec;
-use axis_sets::{AxisId, AxisSet, Positions};
-use micro_units::Um;
+use axis_sets::{AXIS_LIMIT, AxisId, AxisSet, Positions};
+use g_groups::{MOTION_GROUP, RAPID_GROUP, RTLIOF};
+use micro_units::{Um, is_position};
+use nc_faults::{AXIS_NOT_OWNED, NO_SUCH_AXIS, OUT_OF_RANGE};
 use path_geometry::{Ends, Motion};
-
-/// The group of RTLION and RTLIOF, the first and second word in it.
-const RAPID_GROUP: u8 = 0;
-
-/// The group of G0, G1, G2, G3 and G33.
-const MOTION_GROUP: u8 = 1;
 
 /// Where an axis stands.
 pub fn stands(at: &Positions, axis: AxisId) -> Um
@@ -50,10 +46,14 @@ pub(crate) fn is_goal_in_reach(owned: bool, start: Um, goal: Goal) -> bool
 
 /// Whether all goals are in reach.
 #[tactic(auto, unfolding(crate::specs::Motions::are_in_reach))]
-pub(crate) fn are_in_reach(owned: AxisSet, at: &Positions, goals: &[Option<Goal>; 16]) -> bool
+pub(crate) fn are_in_reach(
+    owned: AxisSet,
+    at: &Positions,
+    goals: &[Option<Goal>; AXIS_LIMIT],
+) -> bool
     ensures { result ≡ model.are_in_reach owned (positions.stands at.now) goals.now }
 {
-    for index in 0..16 {
+    for index in 0..AXIS_LIMIT {
         let axis = AxisId { index: index as u8 };
         if !is_in_reach(owned.contains(axis), stands(at, axis), goals[index]) {
             return false;
@@ -64,10 +64,10 @@ pub(crate) fn are_in_reach(owned: AxisSet, at: &Positions, goals: &[Option<Goal>
 
 /// Whether all goals are those of axes of the set.
 #[tactic(auto, unfolding(crate::specs::Motions::are_own))]
-pub(crate) fn are_own(owned: AxisSet, goals: &[Option<Goal>; 16]) -> bool
+pub(crate) fn are_own(owned: AxisSet, goals: &[Option<Goal>; AXIS_LIMIT]) -> bool
     ensures { result ≡ model.are_own owned goals.now }
 {
-    for index in 0..16 {
+    for index in 0..AXIS_LIMIT {
         let axis = AxisId { index: index as u8 };
         if goals[index].is_some() && !owned.contains(axis) {
             return false;
@@ -91,13 +91,13 @@ pub(crate) fn end_from(start: Um, goal: Goal) -> Um
 }
 
 /// Moves the axes to their goals, and answers their starts and ends.
-pub(crate) fn move_axes(goals: &[Option<Goal>; 16], at: &mut Positions) -> Ends
+pub(crate) fn move_axes(goals: &[Option<Goal>; AXIS_LIMIT], at: &mut Positions) -> Ends
     requires { model.AreReached (positions.stands at.old) goals.now }
     ensures ends { result.axes ≡ model.ends_from (positions.stands at.old) goals.now }
     ensures stand { model.StandsMoved goals.now at.old at.new }
 {
     let mut axes = ArrayVec::new();
-    for index in 0..16 {
+    for index in 0..AXIS_LIMIT {
         if let Some(goal) = goals[index] {
             let axis = AxisId { index: index as u8 };
             let start = stands(at, axis);
@@ -114,7 +114,7 @@ pub(crate) fn move_axes(goals: &[Option<Goal>; 16], at: &mut Positions) -> Ends
 fn is_rapid(conditions: &Conditions) -> bool
     ensures { (h : InForce) → AreInForce h conditions.now → result ≡ model.is_rapid h }
 {
-    word(conditions, MOTION_GROUP) == 0 && word(conditions, RAPID_GROUP) == 2
+    word(conditions, MOTION_GROUP) == 0 && word(conditions, RAPID_GROUP) == RTLIOF
 }
 
 /// A rapid, or else a straight line.
@@ -133,7 +133,7 @@ fn motion_between(rapid: bool, ends: Ends) -> Motion
 fn move_to(
     owned: AxisSet,
     rapid: bool,
-    goals: &[Option<Goal>; 16],
+    goals: &[Option<Goal>; AXIS_LIMIT],
     at: &mut Positions,
 ) -> Result<Option<Motion>, u16>
     ensures made { result ≡ model.straight_motion_to owned (positions.stands at.old) rapid goals.now }
@@ -141,10 +141,10 @@ fn move_to(
     ensures unmoved { OnErr result (at.new ≡ at.old) }
 {
     if !are_in_reach(owned, at, goals) {
-        return Err(13);
+        return Err(OUT_OF_RANGE);
     }
     if !are_own(owned, goals) {
-        return Err(15);
+        return Err(AXIS_NOT_OWNED);
     }
     let ends = move_axes(goals, at);
     if ends.axes.is_empty() {
@@ -180,7 +180,7 @@ pub fn straight_motion(
     ensures unmoved { OnErr result (at.new ≡ at.old) }
 {
     if !have_axes(slots, conditions, &targets.slots) {
-        return Err(14);
+        return Err(NO_SUCH_AXIS);
     }
     move_to(
         owned,

@@ -7,14 +7,12 @@ ghost use Rattle.frames.specs.Images.{image_of, other_sign};
 ghost use Rattle.frames.specs.Maps.{first_axis as first_axis_of, second_axis as second_axis_of};
 ghost use Rattle.block_motions.specs.Arcs as model;
 
-use crate::planes::{Side, first_axis, second_axis};
 use crate::goals::{Conditions, axis_in, frame_in, word};
+use crate::planes::{Side, first_axis, second_axis};
 use axis_sets::AxisId;
 use frames::Plane;
+use g_groups::MOTION_GROUP;
 use micro_units::Num;
-
-/// The group of G2 and G3.
-const MOTION_GROUP: u8 = 1;
 
 /// An axis of the plane, if there is one that it moves.
 fn side_of(slots: &[Option<AxisId>; 3], conditions: &Conditions, axis: u8) -> Option<Side>

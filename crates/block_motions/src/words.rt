@@ -6,10 +6,8 @@ ghost use Rattle.block_motions.specs.Arcs as model;
 
 use crate::goals::{Conditions, Programmed, Targets, word};
 use frames::Plane;
+use g_groups::PLANE_GROUP;
 use micro_units::Num;
-
-/// The group of G17, G18 and G19.
-const PLANE_GROUP: u8 = 6;
 
 /// What a block with an arc programs besides its ends.
 #[derive(Clone, Copy, Debug)]

@@ -8,7 +8,8 @@ use Rattle.std.specs.Option.{option_to_list}
 use Rattle.block_motions.specs.Motions.{IsMotionOf}
 use Rattle.block_motions.proofs.Ends.{le_or_lt}
 use Rattle.number_laws.proofs.Lists.{by_places, slice_get-append_left, slice_get-append_seam}
-use Rattle.path_geometry.specs.Motions.{axes_of, IsInRange, IsSound}
+use Rattle.path_geometry.specs.Motions.{axes_of, IsSound}
+use Rattle.micro_units.specs.Position.{IsPosition}
 use Rattle.sync_types.specs.declared.Item.{Item}
 use Rattle.sync_types.specs.Items.{left_at, motion_of}
 use Rattle.sync_types.proofs.Positions.{left_in_range}
@@ -46,9 +47,9 @@ follows_none owned start = record { follows = λ place item is. absurd cc }
 
 -- ---- sound motions
 
-pub ends_in_range : (owned : List Bool) (start : ℕ → ℤ) (items : List Item) → AllFollow owned start items → All (λ item. All (λ e. IsInRange e.2) (axes_of (motion_of item))) items
-ends_in_range owned start items all = by_places (λ item. All (λ e. IsInRange e.2) (axes_of (motion_of item))) items (λ place item is. (all.follows place item is).in_range)
+pub ends_in_range : (owned : List Bool) (start : ℕ → ℤ) (items : List Item) → AllFollow owned start items → All (λ item. All (λ e. IsPosition e.2) (axes_of (motion_of item))) items
+ends_in_range owned start items all = by_places (λ item. All (λ e. IsPosition e.2) (axes_of (motion_of item))) items (λ place item is. (all.follows place item is).in_range)
 
-pub sound_motions : (owned : List Bool) (start : ℕ → ℤ) (items : List Item) → AllFollow owned start items → ((axis : ℕ) → IsInRange (start axis)) → All (λ item. IsSound (motion_of item)) items
+pub sound_motions : (owned : List Bool) (start : ℕ → ℤ) (items : List Item) → AllFollow owned start items → ((axis : ℕ) → IsPosition (start axis)) → All (λ item. IsSound (motion_of item)) items
 sound_motions owned start items all starts = by_places (λ item. IsSound (motion_of item)) items (λ place item is. (all.follows place item is).sound
-    (left_in_range (take place items) start (All-take (λ item. All (λ e. IsInRange e.2) (axes_of (motion_of item))) place items (ends_in_range owned start items all)) starts))
+    (left_in_range (take place items) start (All-take (λ item. All (λ e. IsPosition e.2) (axes_of (motion_of item))) place items (ends_in_range owned start items all)) starts))

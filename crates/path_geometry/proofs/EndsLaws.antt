@@ -4,7 +4,8 @@ use Rattle.std.specs.Option.{option_map_or}
 use Rattle.std.proofs.lemmas.List.Elements.{All-head, All-tail}
 use Rattle.number_laws.proofs.Lists.{All-found, found_holds}
 use Rattle.path_geometry.specs.Ends.{EndsView, start_of, end_of}
-use Rattle.path_geometry.specs.Motions.{AreSound, IsInRange, axes_of, axis_end}
+use Rattle.path_geometry.specs.Motions.{AreSound, axes_of, axis_end}
+use Rattle.micro_units.specs.Position.{IsPosition}
 use Rattle.path_geometry.specs.declared.motion.Motion.{Motion}
 
 -- the axes of sound ends are in range wherever they start and end
@@ -26,10 +27,10 @@ end_in_range ends axis sound = by_found (find (λ e. e.0 == axis) ends.axes) (fo
     by_found (Some e) held = (held e sound refl).1
 
 -- where all axes end in range, so does one that is of the motion
-pub axis_end_in_range : (axis : ℕ) (motion : Motion) → All (λ e. IsInRange e.2) (axes_of motion) → IfSome (axis_end axis motion) IsInRange
+pub axis_end_in_range : (axis : ℕ) (motion : Motion) → All (λ e. IsPosition e.2) (axes_of motion) → IfSome (axis_end axis motion) IsPosition
 unfolding axis_end
-axis_end_in_range axis motion all = by_found (find (λ e. e.0 == axis) (axes_of motion)) (found_holds (λ e. IsInRange e.2) (λ e. e.0 == axis) (axes_of motion) all)
+axis_end_in_range axis motion all = by_found (find (λ e. e.0 == axis) (axes_of motion)) (found_holds (λ e. IsPosition e.2) (λ e. e.0 == axis) (axes_of motion) all)
   where
-    by_found : (o : Option (ℕ × ℤ × ℤ)) → IfSome o (λ e. IsInRange e.2) → IfSome (option_map (λ e. e.2) o) IsInRange
+    by_found : (o : Option (ℕ × ℤ × ℤ)) → IfSome o (λ e. IsPosition e.2) → IfSome (option_map (λ e. e.2) o) IsPosition
     by_found None here = tt
     by_found (Some e) here = here

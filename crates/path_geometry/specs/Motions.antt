@@ -20,10 +20,6 @@ axes_of (Kind.Arc arc) = arc.ends.axes
 unfoldable pub axis_end : ℕ → Motion → Option ℤ
 axis_end axis motion = option_map (λ e. e.2) (find (λ e. e.0 == axis) (axes_of motion))
 
--- the same as `IsPosition`
-abbrev pub IsInRange : ℤ → Type 0
-IsInRange = IsPosition
-
 -- each axis stands once, and starts and ends in range
 pub record AreSound (ends : EndsView) : Type 0 where
   pub once : AllPairs (λ e f. e.0 ≢ f.0) ends.axes

@@ -5,7 +5,8 @@ use Rattle.std.specs.List.{filter_map}
 use Rattle.std.specs.Option.{option_to_list}
 use Rattle.axis_sets.specs.Positions.{stands}
 use Rattle.number_laws.proofs.Lists.{filter_map-one, last_or-push, last_kept, unwrap_kept}
-use Rattle.path_geometry.specs.Motions.{axes_of, IsInRange}
+use Rattle.path_geometry.specs.Motions.{axes_of}
+use Rattle.micro_units.specs.Position.{IsPosition}
 use Rattle.path_geometry.proofs.EndsLaws.{axis_end_in_range}
 use Rattle.sync_types.specs.Items.{motion_of, end_in, left_at, StandsAtEnd, StandsAfter}
 use Rattle.sync_types.specs.declared.Item.{Item}
@@ -36,11 +37,11 @@ stands_more items o start old new stand moved axis =
     ∙ sym (left_at-push items o (stands start) axis)
 
 -- items that end in range leave the axes in range
-pub left_in_range : (items : List Item) (start : ℕ → ℤ) → All (λ item. All (λ e. IsInRange e.2) (axes_of (motion_of item))) items
-    → ((axis : ℕ) → IsInRange (start axis)) → (axis : ℕ) → IsInRange (left_at items start axis)
+pub left_in_range : (items : List Item) (start : ℕ → ℤ) → All (λ item. All (λ e. IsPosition e.2) (axes_of (motion_of item))) items
+    → ((axis : ℕ) → IsPosition (start axis)) → (axis : ℕ) → IsPosition (left_at items start axis)
 unfolding left_at
 left_in_range items start all starts axis =
-    unwrap_kept IsInRange (last_or None (filter_map (λ item. end_in axis item) items)) (start axis)
-    (last_kept IsInRange (λ item. end_in axis item) None items tt
-    (All-weaker (λ item. All (λ e. IsInRange e.2) (axes_of (motion_of item))) (λ item. IfSome (end_in axis item) IsInRange) (λ item. axis_end_in_range axis (motion_of item)) items all))
+    unwrap_kept IsPosition (last_or None (filter_map (λ item. end_in axis item) items)) (start axis)
+    (last_kept IsPosition (λ item. end_in axis item) None items tt
+    (All-weaker (λ item. All (λ e. IsPosition e.2) (axes_of (motion_of item))) (λ item. IfSome (end_in axis item) IsPosition) (λ item. axis_end_in_range axis (motion_of item)) items all))
     (starts axis)
