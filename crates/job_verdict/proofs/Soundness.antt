@@ -1,15 +1,13 @@
 -- The verdict YES is sound at all speeds.
-use Rattle.std.proofs.Common.{◌≡◌, ◌≢◌, ◌⊎◌, ◌∙◌, ℕ, zero, suc, ℤ, pos, ◌*ℤ◌, ◌<◌, Bool, true, false, cond, ◌||◌, ◌==◌, List, [], ◌∷◌, length, get_or, find, Option, None, Some, IfSome, All, Contains, inl, inr, refl, sym, ap, subst, arith}
-use Rattle.std.proofs.lemmas.Bool.{false≢true, eqb-true, eq-eqb, cases_Bool}
-use Rattle.std.proofs.lemmas.List.Elements.{All-head, All-tail, All-contains}
+use Rattle.std.proofs.Common.{◌≡◌, ◌≢◌, ◌⊎◌, ◌∙◌, ℕ, zero, suc, ℤ, pos, ◌*ℤ◌, ◌<◌, Bool, true, false, cond, ◌==◌, List, [], ◌∷◌, length, get_or, find, Option, None, Some, IfSome, Contains, inl, inr, refl, sym, ap, subst, arith}
+use Rattle.std.proofs.lemmas.Bool.{eq-eqb, cases_Bool}
+use Rattle.std.proofs.lemmas.List.Elements.{All-contains}
 use Rattle.std.specs.Prelude.{Result, Ok, Err, IfOk}
-use Rattle.std.specs.List.{list_any}
 use Rattle.number_laws.specs.Fractions.{Fraction, IsIn, whole}
 use Rattle.swept_boxes.specs.Boxes.{SpacePoint, IsInBox}
 use Rattle.job_types.proofs.Owners.{carrier_owned}
 use Rattle.job_types.specs.Job.{JobView}
 use Rattle.job_types.specs.declared.job.ChannelLine.{ChannelLine}
-use Rattle.job_types.specs.declared.job.Side.{Side}
 use Rattle.job_types.specs.declared.job.ZoneLine.{ZoneLine}
 use Rattle.job_verdict.proofs.CoverLemmas.{Covers, box_covers, standing_covers}
 use Rattle.job_verdict.proofs.OwnerLemmas.{one_owner}
@@ -26,12 +24,12 @@ use Rattle.job_verdict.specs.Safety.{axis_owner, axis_position, fraction_of, IsI
 use Rattle.sync_types.specs.Items.{left_at}
 use Rattle.path_geometry.specs.Path.{Point}
 use Rattle.job_verdict.specs.SmallSteps.{StandsAt, IsAtPlace, Spot, State, opening, span_of, has_ended, motions_of, board_position, beginning, present, reached}
-use Rattle.job_types.specs.SoundJob.{IsDeclared, IsCarriedBy, IsSoundZone, IsSoundJob}
+use Rattle.job_types.specs.SoundJob.{IsDeclared, IsSoundZone, IsSoundJob}
 use Rattle.job_verdict.specs.Stretches.{Stretch, channel_line, spans_of, stretches_from, free_stretch, stretches_of}
 use Rattle.job_verdict.specs.ZoneBoxes.{PlaceBox, boxes_of, piece_boxes}
 use Rattle.sync_types.specs.declared.Item.{Item}
 use Rattle.job_verdict.specs.declared.stretches.Verdict.TheVariants.{Yes}
-use Rattle.job_types.specs.Zones.{zones_in_order, is_carrier, has_axis}
+use Rattle.job_types.specs.Zones.{zones_in_order, has_axis}
 use Rattle.job_types.specs.Axes.{start_position, first_owner}
 
 -- ---- channels of the job
