@@ -19,7 +19,7 @@ use std::alloc::{AllocError, Global};
 
 /// What an argument of a coordination word is.
 #[derive(Clone, Copy)]
-pub(crate) enum ArgumentKind {
+pub enum ArgumentKind {
     /// An expression.
     Value,
     /// An axis name or a slot letter.
