@@ -95,16 +95,16 @@ module _ (owned : List Bool) (at : ℕ → ℤ) (words : ArcWords) (motion : Mot
       subst (λ (m : Motion). IsSoundMotionOf owned at m) same
       (record {
         of = record {
-              once = subst (λ (es : List (ℕ × ℤ × ℤ)). AllPairs (λ e f. e.0 ≢ f.0) es) (sym for.axes) (ends_once at (end_for at goals) 0 16);
-              owned = subst (λ (es : List (ℕ × ℤ × ℤ)). All (λ e. has owned e.0 ≡ true) es) (sym for.axes)
-                  (ends_all (λ e. has owned e.0 ≡ true) at (end_for at goals) 0 16
-                  (λ axis to above below is. end_own (has owned axis) (at axis) to (goal_at goals axis) (own_at owned goals axis own (omega arith)) is));
-              begins = subst (λ (es : List (ℕ × ℤ × ℤ)). All (λ e. e.1 ≡ at e.0) es) (sym for.axes)
-                  (ends_all (λ e. e.1 ≡ at e.0) at (end_for at goals) 0 16 (λ axis to above below is. refl));
-              in_range = subst (λ (es : List (ℕ × ℤ × ℤ)). All (λ e. IsInRange e.2) es) (sym for.axes)
-                  (All-weaker (λ e. IsInRange e.1 × IsInRange e.2) (λ e. IsInRange e.2) (λ e both. both.1) (ends_from at goals) near);
-              sound = λ _. for.sound;
-            };
+          once = subst (λ (es : List (ℕ × ℤ × ℤ)). AllPairs (λ e f. e.0 ≢ f.0) es) (sym for.axes) (ends_once at (end_for at goals) 0 16);
+          owned = subst (λ (es : List (ℕ × ℤ × ℤ)). All (λ e. has owned e.0 ≡ true) es) (sym for.axes)
+              (ends_all (λ e. has owned e.0 ≡ true) at (end_for at goals) 0 16
+              (λ axis to above below is. end_own (has owned axis) (at axis) to (goal_at goals axis) (own_at owned goals axis own (omega arith)) is));
+          begins = subst (λ (es : List (ℕ × ℤ × ℤ)). All (λ e. e.1 ≡ at e.0) es) (sym for.axes)
+              (ends_all (λ e. e.1 ≡ at e.0) at (end_for at goals) 0 16 (λ axis to above below is. refl));
+          in_range = subst (λ (es : List (ℕ × ℤ × ℤ)). All (λ e. IsInRange e.2) es) (sym for.axes)
+              (All-weaker (λ e. IsInRange e.1 × IsInRange e.2) (λ e. IsInRange e.2) (λ e both. both.1) (ends_from at goals) near);
+          sound = λ _. for.sound;
+        };
         sound = for.sound;
       })
 

@@ -10,7 +10,10 @@ ghost use Rattle.frames.specs.Places.{change_of};
 ghost use Rattle.path_geometry.specs.Motions.{AreSound, HavePlane, IsInRange, axes_of};
 ghost use Rattle.block_motions.specs.Arcs as model;
 
-use crate::goals::{Conditions, Goal, Programmed, Targets, change_through, frame_in, goal_through, goals_of, have_axes, is_position};
+use crate::goals::{
+    Conditions, Goal, Programmed, Targets, change_through, frame_in, goal_through, goals_of,
+    have_axes, is_position,
+};
 use crate::motions::{are_in_reach, are_own, move_axes, stands};
 use crate::planes::Side;
 use crate::sides::{have_one_factor, in_turn, is_backward, sides_in};

@@ -234,7 +234,11 @@ fn goal_by_name(conditions: &Conditions, programmed: Programmed) -> Goal
 }
 
 /// The axis that X, Y or Z moves.
-pub(crate) fn axis_in(slots: &[Option<AxisId>; 3], conditions: &Conditions, axis: u8) -> Option<AxisId>
+pub(crate) fn axis_in(
+    slots: &[Option<AxisId>; 3],
+    conditions: &Conditions,
+    axis: u8,
+) -> Option<AxisId>
     requires { axis < 3 }
     ensures { (h : InForce) → AreInForce h conditions.now → result ≡ model.axis_in slots.now h axis }
 {

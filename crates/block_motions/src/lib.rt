@@ -14,11 +14,7 @@ mod sides;
 mod words;
 
 pub use arcs::arc_motion;
-pub use goals::{
-    Conditions, Programmed, Targets, word,
-};
+pub use goals::{Conditions, Programmed, Targets, word};
 pub use laws::{alarms_are_listed, arcs_begin_where_axes_stand, motions_begin_where_axes_stand};
-pub use motions::{
-    stands, straight_motion,
-};
+pub use motions::{stands, straight_motion};
 pub use words::{ArcWords, is_any};

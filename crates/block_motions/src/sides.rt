@@ -7,8 +7,8 @@ ghost use Rattle.frames.specs.Images.{image_of, other_sign};
 ghost use Rattle.frames.specs.Maps.{first_axis as first_axis_of, second_axis as second_axis_of};
 ghost use Rattle.block_motions.specs.Arcs as model;
 
-use crate::planes::{Side, first_axis, second_axis};
 use crate::goals::{Conditions, axis_in, frame_in, word};
+use crate::planes::{Side, first_axis, second_axis};
 use axis_sets::AxisId;
 use frames::Plane;
 use micro_units::Num;
