@@ -25,8 +25,8 @@ use block_motions::{ArcWords, Conditions, Targets, arc_motion, is_any, straight_
 use g_groups::{GWord, Modal, apply};
 use nc_blocks::{Stmt, Word};
 use nc_control_flow::Outcome;
-use std::alloc::Global;
 use path_geometry::Motion;
+use std::alloc::Global;
 use sync_types::{Item, Part};
 
 /// The group of G0, G1, G2, G3 and G33.

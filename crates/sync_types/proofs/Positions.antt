@@ -1,7 +1,7 @@
 -- Where items leave axes.
 use Rattle.std.proofs.Common.{◌≡◌, ◌∙◌, ℕ, ℤ, List, [], ◌++◌, Option, None, Some, option_and_then, unwrap_or, IfSome, All, refl, sym, ap}
 use Rattle.std.proofs.lemmas.List.Elements.{All-weaker, filter_map-append}
-use Rattle.std.specs.List.{filter_map}
+use Rattle.std.specs.List.{filter_map, last_or}
 use Rattle.std.specs.Option.{option_to_list}
 use Rattle.axis_sets.specs.Positions.{stands}
 use Rattle.number_laws.proofs.Lists.{filter_map-one, last_or-push, last_kept, unwrap_kept}
