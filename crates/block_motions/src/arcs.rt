@@ -23,7 +23,7 @@ use axis_sets::{AXIS_LIMIT, AxisId, AxisSet, Positions};
 use frames::Plane;
 use micro_units::{Num, Um, is_position};
 use nc_blocks::Measure;
-use nc_faults::{
+use nc_faults::alarms::{
     ARC_SCALE, ARC_WORDS, AXIS_NOT_OWNED, CENTRE_OUTSIDE_PLANE, NO_SUCH_AXIS, OUT_OF_RANGE,
 };
 use path_geometry::{Ends, Motion, arc_by_centre, arc_by_radius};

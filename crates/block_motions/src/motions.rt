@@ -10,7 +10,7 @@ use arrayvec::ArrayVec;
 use axis_sets::{AXIS_LIMIT, AxisId, AxisSet, Positions};
 use g_groups::{MOTION_GROUP, RAPID_GROUP, RTLIOF};
 use micro_units::{Um, is_position};
-use nc_faults::{AXIS_NOT_OWNED, NO_SUCH_AXIS, OUT_OF_RANGE};
+use nc_faults::alarms::{AXIS_NOT_OWNED, NO_SUCH_AXIS, OUT_OF_RANGE};
 use path_geometry::{Ends, Motion};
 
 /// Where an axis stands.

@@ -104,3 +104,7 @@ pub const DIAM90: u16 = 3;
 
 /// The code of a word stays below this number.
 pub const CODE_LIMIT: u16 = 1000;
+
+/// The alarm of a block with two words of one group. It is the one of this code in the table of alarms of `nc_faults`,
+/// on which this crate does not stand, so that no chain of crates is longer for one number.
+pub const GROUP_TWICE: u16 = 10;
