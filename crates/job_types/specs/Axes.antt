@@ -5,10 +5,11 @@ use Rattle.std.specs.Option.{option_and_then, option_map_or}
 use Rattle.std.specs.Str.{bytes_eq}
 use Rattle.job_types.specs.declared.job.AxisLine.{AxisLine}
 use Rattle.job_types.specs.Job.{JobView}
+use Rattle.axis_sets.specs.declared.limits.TheConstants.{AXIS_LIMIT}
 
 -- an axis is named by its place among the AXIS lines, below 16
 abbrev pub axis_at : ℕ → Option ℕ
-axis_at place = if nat_lt place 16 then Some place else None
+axis_at place = if nat_lt place AXIS_LIMIT then Some place else None
 
 -- the name of an axis: its letter and its number
 unfoldable pub axis_name : AxisLine → List ℕ

@@ -11,10 +11,9 @@ use Rattle.job_types.specs.declared.job.ZoneLine.{ZoneLine}
 use Rattle.job_types.specs.Axes.{first_owner}
 use Rattle.job_types.specs.Built.{is_built}
 use Rattle.job_types.specs.Job.{JobView, ProgramView}
-
--- at most 10,000 millimetres in size
-abbrev pub IsInReach : ℤ → Type 0
-IsInReach at = unsigned_abs at ≤ 10000000
+use Rattle.axis_sets.specs.declared.limits.TheConstants.{AXIS_LIMIT, CHANNEL_LIMIT, ZONE_LIMIT}
+use Rattle.job_lines.specs.declared.limits.TheConstants.{BUDGET_LIMIT, DEPTH_LIMIT, MARGIN_LIMIT, PROGRAM_LIMIT}
+use Rattle.micro_units.specs.Position.{IsPosition}
 
 -- the channel has a CHANNEL line
 abbrev pub IsDeclared : JobView → ℕ → Type 0
@@ -40,7 +39,7 @@ pub record IsSoundOffset (job : JobView) (line : OffsetLine) : Type 0 where
   pub declared : IsDeclared job line.channel
   pub word : IsSettable line.g
   pub slot : line.slot < 3
-  pub by : IsInReach line.by
+  pub by : IsPosition line.by
 
 -- no channel holds both zones; any number of them may be held free
 abbrev pub HaveOtherHolders : ZoneLine → ZoneLine → Type 0
@@ -57,15 +56,15 @@ HaveOtherCarriers side other = IfSome side.carrier (λ carrier. IfSome other.car
 -- the range of a side
 pub record IsSoundRange (lo hi : ℤ) : Type 0 where
   pub ordered : lo ≤ℤ hi
-  pub low : IsInReach lo
-  pub high : IsInReach hi
+  pub low : IsPosition lo
+  pub high : IsPosition hi
 
 -- a zone that is on, with a number and a group from 1 to 32, and three directions, carried by different axes of its holder, or by none where it is held free
 pub record IsSoundZone (job : JobView) (zone : ZoneLine) : Type 0 where
   pub low_number : 1 ≤ zone.zone
-  pub high_number : zone.zone ≤ 32
+  pub high_number : zone.zone ≤ ZONE_LIMIT
   pub low_group : 1 ≤ zone.group
-  pub high_group : zone.group ≤ 32
+  pub high_group : zone.group ≤ ZONE_LIMIT
   pub active : zone.on ≡ true
   pub held : IfSome zone.holder (IsDeclared job)
   pub still : zone.holder ≡ None → All (λ side. side.carrier ≡ None) zone.sides
@@ -81,18 +80,18 @@ pub record IsSoundProgram (program : ProgramView) : Type 0 where
 
 -- 0 to 1,000 millimetres
 abbrev pub IsSoundMargin : ℤ → Type 0
-IsSoundMargin margin = (pos 0 ≤ℤ margin) × (margin ≤ℤ pos 1000000)
+IsSoundMargin margin = (pos 0 ≤ℤ margin) × (margin ≤ℤ MARGIN_LIMIT)
 
 pub record IsSoundJob (job : JobView) : Type 0 where
   pub channel_numbers : AllPairs (λ line other. line.channel ≢ other.channel) job.channels
   pub low_channels : All (λ line. 1 ≤ line.channel) job.channels
-  pub high_channels : All (λ line. line.channel ≤ 8) job.channels
+  pub high_channels : All (λ line. line.channel ≤ CHANNEL_LIMIT) job.channels
   pub starting : All (λ line. line.starts ≡ true) job.channels
   pub selected : All (λ line. IsSomeAnd line.program (λ name. Any (λ program. program.0 ≡ name) job.programs)) job.channels
-  pub few_axes : length job.axes ≤ 16
+  pub few_axes : length job.axes ≤ AXIS_LIMIT
   pub axis_names : AllPairs HaveOtherNames job.axes
   pub owners : All (λ line. IsSomeAnd line.owner (IsDeclared job)) job.axes
-  pub positions : All (λ line. IsInReach line.at) job.axes
+  pub positions : All (λ line. IsPosition line.at) job.axes
   pub slot_numbers : AllPairs HaveOtherSlots job.geo
   pub slot_axes : All (λ g. g.axis < length job.axes) job.geo
   pub offset_places : AllPairs HaveOtherPlaces job.offsets
@@ -101,9 +100,9 @@ pub record IsSoundJob (job : JobView) : Type 0 where
   pub zone_holders : AllPairs HaveOtherHolders job.zones
   pub zones : All (IsSoundZone job) job.zones
   pub margin : IsSoundMargin job.margin
-  pub depth : job.depth ≤ 4
-  pub budget : (1 ≤ job.budget) × (job.budget ≤ 100000000)
-  pub few_programs : length job.programs ≤ 256
+  pub depth : job.depth ≤ DEPTH_LIMIT
+  pub budget : (1 ≤ job.budget) × (job.budget ≤ BUDGET_LIMIT)
+  pub few_programs : length job.programs ≤ PROGRAM_LIMIT
   pub program_names : AllPairs (λ program other. program.0 ≢ other.0) job.programs
   pub programs : All (λ program. IsSoundProgram program.1) job.programs
 
@@ -114,8 +113,8 @@ BlocksFit job = All (λ program. All (λ block. StatementFits block.1.statement)
 -- the job can be run and judged: it has few axes, they start in range, its motions are cut at most four times, its programs can be numbered,
 -- and its blocks name parameters that there are
 pub record IsRunnable (job : JobView) : Type 0 where
-  pub axes : length job.axes ≤ 16
-  pub starts : All (λ line. IsInReach line.at) job.axes
-  pub depth : job.depth ≤ 4
-  pub programs : length job.programs ≤ 256
+  pub axes : length job.axes ≤ AXIS_LIMIT
+  pub starts : All (λ line. IsPosition line.at) job.axes
+  pub depth : job.depth ≤ DEPTH_LIMIT
+  pub programs : length job.programs ≤ PROGRAM_LIMIT
   pub blocks : BlocksFit job

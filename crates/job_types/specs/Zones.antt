@@ -3,10 +3,11 @@ use Rattle.std.specs.Prelude.{ℕ, ◌==◌, Bool, false, List, find, Option, So
 use Rattle.std.specs.List.{filter_map, list_any, range_with_len}
 use Rattle.job_types.specs.declared.job.ZoneLine.{ZoneLine}
 use Rattle.job_types.specs.Job.{JobView}
+use Rattle.axis_sets.specs.declared.limits.TheConstants.{ZONE_LIMIT}
 
 -- the zones in ascending order of their numbers
 unfoldable pub zones_in_order : JobView → List ZoneLine
-zones_in_order job = filter_map (λ number. find (λ zone. zone.zone == number) job.zones) (range_with_len 1 32)
+zones_in_order job = filter_map (λ number. find (λ zone. zone.zone == number) job.zones) (range_with_len 1 ZONE_LIMIT)
 
 -- the axis carries a direction
 abbrev pub is_carrier : ℕ → Option (ℕ × Bool) → Bool

@@ -5,14 +5,14 @@ ghost use Rattle.std.specs.Str.{bytes_eq};
 ghost use Rattle.job_types.specs.Axes as model;
 
 use crate::job::{AxisLine, Job};
-use axis_sets::{AxisId, ChannelId};
+use axis_sets::{AXIS_LIMIT, AxisId, ChannelId};
 use micro_units::Um;
 
-/// The axis at a place among the AXIS lines, of which there are 16 at most.
+/// The axis at a place among the AXIS lines, of which there are `AXIS_LIMIT` at most.
 pub fn axis_at(place: usize) -> Option<AxisId>
     ensures { result ≡ model.axis_at place }
 {
-    if place < 16 {
+    if place < AXIS_LIMIT {
         Some(AxisId { index: place as u8 })
     } else {
         None

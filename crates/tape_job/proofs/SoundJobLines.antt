@@ -21,7 +21,8 @@ use Rattle.job_types.specs.declared.job.ZoneLine.{ZoneLine}
 use Rattle.tape_job.specs.Draft.{nothing_told}
 use Rattle.job_types.specs.Job.{JobView, ProgramView}
 use Rattle.tape_job.specs.Rules as rule
-use Rattle.job_types.specs.SoundJob.{IsInReach, IsDeclared, HaveOtherNames, HaveOtherSlots, HaveOtherPlaces, IsSettable, IsSoundOffset, HaveOtherHolders, IsCarriedBy, HaveOtherCarriers, IsSoundRange, IsSoundZone, IsSoundMargin}
+use Rattle.micro_units.specs.Position.{IsPosition}
+use Rattle.job_types.specs.SoundJob.{IsDeclared, HaveOtherNames, HaveOtherSlots, HaveOtherPlaces, IsSettable, IsSoundOffset, HaveOtherHolders, IsCarriedBy, HaveOtherCarriers, IsSoundRange, IsSoundZone, IsSoundMargin}
 use Rattle.tape_job.proofs.LineLemmas.{place}
 use Rattle.tape_job.proofs.SoundLists.{unbroken, not_false, or_fails, and_holds, differs, none_pass, Any-more, found, slice_get-more}
 use Rattle.job_types.specs.Axes.{axis_at, first_owner}
@@ -37,7 +38,7 @@ pub record ChannelFacts (channels : List ChannelLine) : Type 0 where
 pub record AxisFacts (axes : List AxisLine) : Type 0 where
   pub few : length axes ≤ 16
   pub names : AllPairs HaveOtherNames axes
-  pub positions : All (λ line. IsInReach line.at) axes
+  pub positions : All (λ line. IsPosition line.at) axes
 
 pub record SlotFacts (count : ℕ) (geo : List GeoLine) : Type 0 where
   pub numbers : AllPairs HaveOtherSlots geo
@@ -252,7 +253,7 @@ axis_differs job name none line letter number =
     job.axes (none_pass (rule.is_named name) job.axes none)
 
 pub axis_told : (job : JobView) (number : ℕ) (name : AxisName) (owner : Option ℕ) (at : ℤ) → ListFacts job → rule.axis_rule job name owner ≡ None
-    → rule.unless_built (is_some owner) ≡ None → IsInReach at
+    → rule.unless_built (is_some owner) ≡ None → IsPosition at
     → ListFacts (with_axis job (record { line = number; letter = name.letter; number = name.number; owner = owner; at = at }))
 unfolding rule.axis_rule
 axis_told job number name owner at facts none built near =
@@ -270,7 +271,7 @@ axis_told job number name owner at facts none built near =
       axes = record {
         few = omega arith;
         names = all_pairs_push HaveOtherNames job.axes line facts.axes.names (axis_differs job name second.0 line refl refl);
-        positions = All-push (λ (l : AxisLine). IsInReach l.at) job.axes line facts.axes.positions near;
+        positions = All-push (λ (l : AxisLine). IsPosition l.at) job.axes line facts.axes.positions near;
       };
       slots = record {
         numbers = facts.slots.numbers;
@@ -365,7 +366,7 @@ offset_differs job channel g slot none line is_channel is_g is_slot k d within s
     differs_last other.channel channel other.g g other.slot slot fails (same ∙ is_channel) (also ∙ is_g) (last ∙ is_slot)
 
 pub offset_told : (job : JobView) (number channel g slot : ℕ) (by : ℤ) → ListFacts job → rule.offset_rule job channel g slot ≡ None
-    → IsSettable g × (slot < 3) × IsInReach by → ListFacts (with_offset job (record { line = number; channel = channel; g = g; slot = slot; by = by }))
+    → IsSettable g × (slot < 3) × IsPosition by → ListFacts (with_offset job (record { line = number; channel = channel; g = g; slot = slot; by = by }))
 unfolding rule.offset_rule
 offset_told job number channel g slot by facts none sound =
     let line : OffsetLine = record { line = number; channel = channel; g = g; slot = slot; by = by } in
@@ -590,7 +591,7 @@ nothing_listed = record {
     starting = All-nil (λ (l : ChannelLine). l.starts ≡ true);
     named = All-nil (λ (l : ChannelLine). IsSome l.program);
   };
-  axes = record { few = omega arith; names = no_pairs HaveOtherNames; positions = All-nil (λ (l : AxisLine). IsInReach l.at) };
+  axes = record { few = omega arith; names = no_pairs HaveOtherNames; positions = All-nil (λ (l : AxisLine). IsPosition l.at) };
   slots = record { numbers = no_pairs HaveOtherSlots; axes = All-nil (λ (g : GeoLine). g.axis < 0) };
   places = no_pairs HaveOtherPlaces;
   zones = record { numbers = no_pairs (λ (z other : ZoneLine). z.zone ≢ other.zone); holders = no_pairs HaveOtherHolders };

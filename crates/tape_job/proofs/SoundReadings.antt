@@ -30,7 +30,8 @@ use Rattle.job_types.specs.Built.{is_built}
 use Rattle.tape_job.specs.Lines.{words, is_visible, begins_with_percent, text_of, before_comment}
 use Rattle.tape_job.specs.Reading as reading
 use Rattle.tape_job.specs.Reading.{ReadingView, DeclarationLine, Header, BlockLine}
-use Rattle.job_types.specs.SoundJob.{IsInReach, IsSettable, IsSoundRange, IsSoundMargin}
+use Rattle.micro_units.specs.Position.{IsPosition}
+use Rattle.job_types.specs.SoundJob.{IsSettable, IsSoundRange, IsSoundMargin}
 
 -- what holds of each result of a reading holds of the next reading's
 then_ok : {A B : Type 0} (P : A → Type 0) (Q : B → Type 0) (read : Result A Code) (next : A → Result B Code)
@@ -77,20 +78,20 @@ unfolding declaration.zone_of
 zone_sound word = or_ok (IsWithin 1 32) OutOfRange (number_within 1 32 word) (number_sound 1 32 word)
 
 -- lengths
-reach_by : (near : Bool) (z : ℤ) → nat_le (unsigned_abs z) 10000000 ≡ near → IfSome (if near then Some z else None) IsInReach
+reach_by : (near : Bool) (z : ℤ) → nat_le (unsigned_abs z) 10000000 ≡ near → IfSome (if near then Some z else None) IsPosition
 reach_by true z near = leb-true (unsigned_abs z) 10000000 near
 reach_by false z near = tt
 
-reach_of : (millionths : Option ℤ) → IfSome (option_and_then (λ m. in_reach (half_away m 1000)) millionths) IsInReach
+reach_of : (millionths : Option ℤ) → IfSome (option_and_then (λ m. in_reach (half_away m 1000)) millionths) IsPosition
 unfolding in_reach
 reach_of None = tt
 reach_of (Some m) = reach_by (nat_le (unsigned_abs (half_away m 1000)) 10000000) (half_away m 1000) refl
 
-size_by : (size : Bool) (text : List ℕ) → IfSome (if size then option_and_then (λ m. in_reach (half_away m 1000)) (number_of text) else None) IsInReach
+size_by : (size : Bool) (text : List ℕ) → IfSome (if size then option_and_then (λ m. in_reach (half_away m 1000)) (number_of text) else None) IsPosition
 size_by true text = reach_of (number_of text)
 size_by false text = tt
 
-size_sound : (text : List ℕ) → IfSome (size_of text) IsInReach
+size_sound : (text : List ℕ) → IfSome (size_of text) IsPosition
 unfolding size_of
 size_sound text = size_by (is_size text) text
 
@@ -99,24 +100,24 @@ abs_neg (pos zero) = refl
 abs_neg (pos (suc n)) = refl
 abs_neg (negsuc n) = refl
 
-negative_sound : (size : Option ℤ) → IfSome size IsInReach → IfSome (option_map neg_ℤ size) IsInReach
+negative_sound : (size : Option ℤ) → IfSome size IsPosition → IfSome (option_map neg_ℤ size) IsPosition
 negative_sound None near = tt
 negative_sound (Some z) near = rw (abs_neg z) near
 
 signed_by : (minus plus : Bool) (sign : ℕ) (text : List ℕ)
-    → IfSome (if minus then option_map neg_ℤ (size_of text) else if plus then size_of text else size_of (sign ∷ text)) IsInReach
+    → IfSome (if minus then option_map neg_ℤ (size_of text) else if plus then size_of text else size_of (sign ∷ text)) IsPosition
 signed_by true plus sign text = negative_sound (size_of text) (size_sound text)
 signed_by false true sign text = size_sound text
 signed_by false false sign text = size_sound (sign ∷ text)
 
-signed_sound : (word : List ℕ) → IfSome (signed_size_of word) IsInReach
+signed_sound : (word : List ℕ) → IfSome (signed_size_of word) IsPosition
 unfolding signed_size_of
 signed_sound [] = size_sound []
 signed_sound (sign ∷ text) = signed_by (sign == 45) (sign == 43) sign text
 
-length_sound : (word : List ℕ) → IfOk (length_of word) IsInReach
+length_sound : (word : List ℕ) → IfOk (length_of word) IsPosition
 unfolding length_of
-length_sound word = or_ok IsInReach OutOfRange (signed_size_of word) (signed_sound word)
+length_sound word = or_ok IsPosition OutOfRange (signed_size_of word) (signed_sound word)
 
 -- G words, slots
 settable_by : (low high : Bool) (number : ℕ) → nat_le number 57 ≡ low → nat_le 505 number ≡ high → IsWithin 54 599 number
@@ -147,7 +148,7 @@ slot_sound word =
 abbrev pub IsSoundSide : NamedSide → Type 0
 IsSoundSide side = IsSoundRange side.lo side.hi
 
-range_by : (ordered : Bool) (carrier : Option (AxisName × Bool)) (lo hi : ℤ) → int_le lo hi ≡ ordered → IsInReach lo → IsInReach hi
+range_by : (ordered : Bool) (carrier : Option (AxisName × Bool)) (lo hi : ℤ) → int_le lo hi ≡ ordered → IsPosition lo → IsPosition hi
     → IfOk (if ordered then Ok (record { carrier = carrier; lo = lo; hi = hi }) else Err OutOfRange) IsSoundSide
 range_by true carrier lo hi ordered low high = record { ordered = search (rules, ordered); low = low; high = high }
 range_by false carrier lo hi ordered low high = tt
@@ -156,14 +157,14 @@ side_sound : (carrier lo hi : List ℕ) → IfOk (declaration.named_side_of carr
 unfolding declaration.named_side_of
 side_sound carrier lo hi =
     then_any IsSoundSide (declaration.carrier_of carrier) _ (λ c.
-    then_ok IsInReach IsSoundSide (length_of lo) _ (length_sound lo) (λ l low.
-    then_ok IsInReach IsSoundSide (length_of hi) _ (length_sound hi) (λ h high. range_by (int_le l h) c l h refl low high)))
+    then_ok IsPosition IsSoundSide (length_of lo) _ (length_sound lo) (λ l low.
+    then_ok IsPosition IsSoundSide (length_of hi) _ (length_sound hi) (λ h high. range_by (int_le l h) c l h refl low high)))
 
 -- what holds of a job line
 abbrev pub IsSoundDeclaration : Declaration → Type 0
 IsSoundDeclaration (Channel channel program starts) = IsWithin 1 8 channel × (starts ≡ true → IsSome program)
-IsSoundDeclaration (Axis name owner at) = IsInReach at
-IsSoundDeclaration (Offset channel g slot by) = IsSettable g × (slot < 3) × IsInReach by
+IsSoundDeclaration (Axis name owner at) = IsPosition at
+IsSoundDeclaration (Offset channel g slot by) = IsSettable g × (slot < 3) × IsPosition by
 IsSoundDeclaration (Zone zone) = IsWithin 1 32 zone.zone × IsWithin 1 32 zone.group × IsSoundSide zone.x × IsSoundSide zone.y × IsSoundSide zone.z
 IsSoundDeclaration (Margin margin) = IsSoundMargin margin
 IsSoundDeclaration (Depth depth) = depth ≤ 4
@@ -191,7 +192,7 @@ axis_declaration_sound : (name owner at : List ℕ) → IfOk (declaration.axis_d
 unfolding declaration.axis_declaration_of
 axis_declaration_sound name owner at =
     then_any IsSoundDeclaration (declaration.axis_name_of name) _ (λ n. then_any IsSoundDeclaration (declaration.owner_of owner) _ (λ o.
-    then_ok IsInReach IsSoundDeclaration (length_of at) _ (length_sound at) (λ z near. near)))
+    then_ok IsPosition IsSoundDeclaration (length_of at) _ (length_sound at) (λ z near. near)))
 
 axis_line_sound : (args : List (List ℕ)) → IfOk (declaration.axis_line args) IsSoundDeclaration
 unfolding declaration.axis_line
@@ -215,7 +216,7 @@ offset_declaration_sound channel g slot by =
     then_any IsSoundDeclaration (declaration.channel_of channel) _ (λ c.
     then_ok IsSettable IsSoundDeclaration (declaration.g_of g) _ (g_sound g) (λ w settable.
     then_ok (λ n. n < 3) IsSoundDeclaration (declaration.slot_of slot) _ (slot_sound slot) (λ s low.
-    then_ok IsInReach IsSoundDeclaration (length_of by) _ (length_sound by) (λ l near. (settable, low, near)))))
+    then_ok IsPosition IsSoundDeclaration (length_of by) _ (length_sound by) (λ l near. (settable, low, near)))))
 
 offset_line_sound : (args : List (List ℕ)) → IfOk (declaration.offset_line args) IsSoundDeclaration
 unfolding declaration.offset_line

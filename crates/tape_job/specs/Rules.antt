@@ -22,6 +22,8 @@ use Rattle.job_types.specs.Job.{JobView, ProgramView}
 use Rattle.tape_job.specs.Reading.{ReadingView, Blank, First, DeclarationLine, Header, BlockLine}
 use Rattle.job_types.specs.Zones.{is_carrier}
 use Rattle.job_types.specs.Axes.{axis_at}
+use Rattle.axis_sets.specs.declared.limits.TheConstants.{AXIS_LIMIT}
+use Rattle.job_lines.specs.declared.limits.TheConstants.{PROGRAM_LIMIT}
 
 -- the refusal of a line by a rule
 unfoldable pub refusal : Code → ℕ → Refusal
@@ -81,7 +83,7 @@ unfoldable pub axis_rule : JobView → AxisName → Option ℕ → Option Code
 axis_rule job name owner =
     if not (has_owner job owner) then Some NotDeclared
     else if has_axis job name then Some DeclaredTwice
-    else if nat_le 16 (length job.axes) then Some TooMany
+    else if nat_le AXIS_LIMIT (length job.axes) then Some TooMany
     else None
 
 -- an axis may stand in slots of channels that do not own it
@@ -224,7 +226,7 @@ structure_rule programs block = option_and_then (λ program. structure_fault pro
 unfoldable pub header_rule : JobView → List ℕ → Option Code
 header_rule job name =
     if has_program job.programs name then Some NameRepeated
-    else if nat_le 256 (length job.programs) then Some TooMany
+    else if nat_le PROGRAM_LIMIT (length job.programs) then Some TooMany
     else None
 
 -- what a line breaks

@@ -5,9 +5,11 @@ ghost use Rattle.nc_blocks.specs.Statement.{view_of};
 ghost use Rattle.tape_job.specs.Reading.{FaultIsListed};
 ghost use Rattle.tape_job.specs.Rules.{has_program};
 ghost use Rattle.tape_job.specs.Steps.{is_last, last_fault, last_with, Adds};
+ghost use Rattle.job_lines.specs.declared.limits.TheConstants.{PROGRAM_LIMIT};
 
 use crate::reading::LineFault;
 use indexmap::IndexMap;
+use job_lines::PROGRAM_LIMIT;
 use job_types::Program;
 use nc_blocks::{Block, NameText};
 use nc_control_flow::{Nest, resolve};
@@ -209,11 +211,11 @@ impl Library {
 
     /// Whether it has room for no more.
     pub(crate) fn is_full(&self) -> bool
-        ensures { result ≡ nat_le 256 (length self.now) }
+        ensures { result ≡ nat_le PROGRAM_LIMIT (length self.now) }
     {
         match &self.last {
-            Some(_) => self.resolved.len() + 1 >= 256,
-            None => self.resolved.len() >= 256,
+            Some(_) => self.resolved.len() + 1 >= PROGRAM_LIMIT,
+            None => self.resolved.len() >= PROGRAM_LIMIT,
         }
     }
 

@@ -4,7 +4,7 @@ ghost use Rattle.std.specs.Option.{option_copied};
 ghost use Rattle.tape_job.specs.Rules.{is_named, is_same_owner, is_owned_line, side_with, same_axis, option_rule, unless_built};
 
 use crate::draft::Draft;
-use axis_sets::{AxisId, ChannelId, ZoneId};
+use axis_sets::{AXIS_LIMIT, AxisId, ChannelId, ZoneId};
 use job_lines::{AxisName, Code, Declaration, NamedSide, NamedZone};
 use job_types::{AxisLine, Side, axis_at};
 
@@ -215,7 +215,7 @@ impl Draft {
             Some(Code::NotDeclared)
         } else if self.has_axis(name) {
             Some(Code::DeclaredTwice)
-        } else if self.job.axes.len() >= 16 {
+        } else if self.job.axes.len() >= AXIS_LIMIT {
             Some(Code::TooMany)
         } else {
             None
