@@ -8,12 +8,13 @@ use Rattle.path_geometry.specs.declared.motion.Motion.TheVariants.{Line, Rapid}
 use Rattle.path_geometry.specs.declared.motion.Motion.TheVariants as Kind
 use Rattle.job_types.specs.declared.job.ZoneLine.{ZoneLine}
 use Rattle.path_geometry.proofs.PathEnds.{start_on_path, end_on_path}
-use Rattle.job_verdict.proofs.PositionLemmas.{Joins, AllJoin, after_is, left_at-nil, left_at-cons}
+use Rattle.job_verdict.proofs.PositionLemmas.{Joins, AllJoin, after_is, left_at-cons}
 use Rattle.number_laws.proofs.Lists.{SomeOf}
 use Rattle.path_geometry.specs.Path.{Point, IsOnPath}
 use Rattle.sync_types.specs.Items.{end_in, left_at, motion_of}
+use Rattle.sync_types.proofs.Positions.{left_at-nil}
 use Rattle.job_verdict.specs.SmallSteps.{StandsAt, IsAlong, IsAtPlace}
-use Rattle.path_geometry.specs.Motions.{axes_of, IsSound}
+use Rattle.path_geometry.specs.Motions.{axes_of, IsSound, axis_end}
 use Rattle.job_verdict.specs.ZoneBoxes.{after, moves_zone, PlaceBox, Opened, Waiting, Moving, close, closed, next_open, walk, boxes_of}
 use Rattle.sync_types.specs.declared.Item.{Item}
 use Rattle.job_types.specs.Zones.{has_axis}

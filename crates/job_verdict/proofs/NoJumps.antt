@@ -8,16 +8,17 @@ use Rattle.path_geometry.specs.Path.{Point}
 use Rattle.job_types.specs.Job.{JobView}
 use Rattle.job_types.specs.SoundJob.{IsSoundJob}
 use Rattle.job_types.specs.declared.job.ChannelLine.{ChannelLine}
-use Rattle.job_verdict.proofs.PositionLemmas.{begins_at_left, after_is, left_at-nil, left_at-cons}
+use Rattle.job_verdict.proofs.PositionLemmas.{begins_at_left, after_is, left_at-cons}
 use Rattle.number_laws.proofs.Lists.{found_passes, All-found}
 use Rattle.job_verdict.proofs.Runs.{motions_join}
 use Rattle.job_verdict.proofs.StateLemmas.{WellPlaced, WellPlaced-step, well_placed, WellPlaced-opening, not_ended, run_place, board_last, end_place, one_under}
 use Rattle.job_verdict.specs.Channels.{items_of}
 use Rattle.job_verdict.specs.Safety.{axis_owner, axis_position, fraction_of, NoJump}
 use Rattle.sync_types.specs.Items.{end_in, left_at, motion_of}
+use Rattle.sync_types.proofs.Positions.{left_at-nil}
 use Rattle.job_verdict.specs.SmallSteps.{StandsAt, IsAlong, IsEndOf, IsAtPlace, IsAtEnd, Spot, State, opening, span_of, has_ended, motions_of, board_position, beginning, present, Act, after_step, IsLawful, reached}
 use Rattle.job_verdict.specs.Stretches.{channel_line}
-use Rattle.path_geometry.specs.Motions.{axes_of}
+use Rattle.path_geometry.specs.Motions.{axes_of, axis_end}
 use Rattle.job_verdict.specs.ZoneBoxes.{after}
 use Rattle.sync_types.specs.declared.Item.{Item}
 use Rattle.job_types.specs.Axes.{start_position}

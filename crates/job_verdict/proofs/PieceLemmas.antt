@@ -22,7 +22,7 @@ use Rattle.number_laws.proofs.Lists.{SomeOf, SomeOf-weaker, SomeOf-map, found_pa
 use Rattle.path_geometry.specs.Path.{Point}
 use Rattle.sync_types.specs.Items.{end_in, motion_of}
 use Rattle.job_verdict.specs.SmallSteps.{StandsAt, IsAlong}
-use Rattle.path_geometry.specs.Motions.{axes_of, IsSound}
+use Rattle.path_geometry.specs.Motions.{axes_of, IsSound, axis_end}
 use Rattle.job_verdict.specs.ZoneBoxes.{PlaceBox, zone_box, low_in, high_in, piece_boxes}
 use Rattle.sync_types.specs.declared.Item.{Item}
 use Rattle.job_types.specs.Zones.{has_axis}

@@ -7,7 +7,8 @@ use Rattle.std.specs.Prelude.{⊤}
 use Rattle.std.specs.List.{last_or, cons_option}
 use Rattle.std.specs.Option.{option_map_or}
 use Rattle.sync_types.specs.Items.{end_in, left_at, motion_of}
-use Rattle.path_geometry.specs.Motions.{axes_of, IsSound}
+use Rattle.sync_types.proofs.Positions.{left_at-nil}
+use Rattle.path_geometry.specs.Motions.{axes_of, IsSound, axis_end}
 use Rattle.job_verdict.specs.ZoneBoxes.{after}
 use Rattle.sync_types.specs.declared.Item.{Item}
 
@@ -35,10 +36,6 @@ after_is item at axis = by_found (find (λ e. e.0 == axis) (axes_of (motion_of i
     by_found : (o : Option (ℕ × ℤ × ℤ)) → option_map_or (λ e. e.2) o (at axis) ≡ unwrap_or (option_map (λ e. e.2) o) (at axis)
     by_found None = refl
     by_found (Some e) = refl
-
-pub left_at-nil : (at : ℕ → ℤ) (axis : ℕ) → left_at [] at axis ≡ at axis
-unfolding left_at
-left_at-nil at axis = refl
 
 pub left_at-cons : (item : Item) (items : List Item) (at : ℕ → ℤ) (axis : ℕ) → left_at (item ∷ items) at axis ≡ left_at items (after item at) axis
 unfolding left_at

@@ -9,6 +9,7 @@ use Rattle.std.proofs.lemmas.Option.{slice_get-get_or, slice_get_within, get_or_
 use Rattle.axis_sets.specs.Sets.{has}
 use Rattle.block_motions.proofs.MotionLaws.{ends_found}
 use Rattle.sync_types.specs.Items.{left_at, motion_of}
+use Rattle.sync_types.proofs.Positions.{left_at-nil}
 use Rattle.block_motions.specs.Motions.{IsMotionOf}
 use Rattle.channel_machine.proofs.RunLaws.{all_follow, few_items, items_sound, end_listed}
 use Rattle.channel_machine.specs.Run.{IsListedAction}
@@ -20,7 +21,7 @@ use Rattle.job_types.specs.Job.{JobView}
 use Rattle.job_types.specs.SoundJob.{IsSoundJob, IsRunnable}
 use Rattle.job_types.specs.declared.job.ChannelLine.{ChannelLine}
 use Rattle.job_verdict.proofs.GrantLemmas.{granted_in_range, granted_own}
-use Rattle.job_verdict.proofs.PositionLemmas.{Joins, AllJoin, after_is, left_at-nil, left_at-cons}
+use Rattle.job_verdict.proofs.PositionLemmas.{Joins, AllJoin, after_is, left_at-cons}
 use Rattle.job_verdict.proofs.Positions.{le_or_lt}
 use Rattle.job_verdict.specs.ChannelRun.{IsListedEnd}
 use Rattle.job_verdict.specs.Channels.{owned_axes, start_grant, setting_at, granted_position, program_run, items_of, end_by, end_of}
