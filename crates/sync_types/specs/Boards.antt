@@ -101,12 +101,9 @@ grant_with b c at = record {
 unfoldable pub start_grant : Board → ℕ → Grant
 start_grant b c = grant_with b c (positions_where (owns b c) (first_position b.start))
 
-abbrev pub first_ownership : StartView → ℕ → Ownership
-first_ownership start x = ownership (first_owner start x)
-  where
-    ownership : Option ℕ → Ownership
-    ownership (Some c) = OwnedBy c
-    ownership None = FreeAt (first_position start x)
+abbrev pub ownership_of : Option ℕ → ℤ → Ownership
+ownership_of (Some c) position = OwnedBy c
+ownership_of None position = FreeAt position
 
 -- the board on which nobody runs yet
 abbrev pub board_at_rest : StartView → Board
@@ -115,7 +112,7 @@ board_at_rest start = record {
   marks = λ c m. false;
   state = λ c. IsIdle;
   program = first_program start;
-  axis = first_ownership start;
+  axis = λ x. ownership_of (first_owner start x) (first_position start x);
   holder = first_holder start;
   is_on = is_on_at_first start;
 }

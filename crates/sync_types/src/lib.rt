@@ -1,12 +1,14 @@
 //! Plain types of a run: what a channel did, how it stopped, and what it may go on with.
 #![tactic(auto)]
 
+mod laws;
 mod runs;
 mod start;
 mod threads;
 mod verdicts;
 
 use axis_sets::{AxisSet, ChannelId, ChannelSet, MarkSet, Positions, ZoneSet};
+pub use laws::axes_stay_together;
 use nc_faults::Alarm;
 use path_geometry::Motion;
 pub use runs::{Entry, EventId, Go, Race, Run};

@@ -1,0 +1,2 @@
+pub mod BoardTests
+pub mod Together
