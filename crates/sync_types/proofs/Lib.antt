@@ -1,2 +1,4 @@
 pub mod BoardTests
+pub mod Links
+pub mod Replays
 pub mod Together
