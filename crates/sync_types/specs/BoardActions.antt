@@ -57,7 +57,7 @@ carries b axes z = list_any (has (axes_of_zone b.start z)) axes
 unfoldable pub is_on_after : Board → ℕ → Step → ℕ → Bool
 is_on_after b c step z = if is_this (b.holder z) c then has step.on z else b.is_on z
 
--- after an alarm the channel is alarmed, and nothing else changes
+-- after an alarm the channel is alarmed; nothing else changes but what the step tells of its zones
 unfoldable pub state_after_alarm : Board → ℕ → Step → ℕ → ℕ → State
 state_after_alarm b c step code d = if d == c then HasAlarmed code step.line else b.state d
 

@@ -1,0 +1,4 @@
+pub mod AxisRows
+pub mod MarkRows
+pub mod Play
+pub mod StartRows
