@@ -6,11 +6,13 @@ use Rattle.nc_faults.specs.declared.Alarm.{Alarm}
 use Rattle.sync_types.specs.BoardEnds.{ends_of}
 use Rattle.sync_types.specs.Boards.{Ownership, Board, among, no_positions}
 use Rattle.sync_types.specs.Runs.{Script, Stage, first_stage, after_turn, moves_of, stage_after, lowest_running}
-use Rattle.sync_types.specs.Turns.{entries_of}
+use Rattle.sync_types.specs.Turns.{Move, entries_of}
+use Rattle.sync_types.specs.Turns.{Move}
 use Rattle.sync_types.specs.Views.{StartView, EntryView}
 use Rattle.sync_types.specs.declared.Action.{Action}
 use Rattle.sync_types.specs.declared.Action.TheVariants.{End}
 use Rattle.sync_types.specs.declared.ChannelEnd.{ChannelEnd}
+use Rattle.sync_types.specs.declared.Grant.{Grant}
 use Rattle.sync_types.specs.declared.Step.{Step}
 use Rattle.sync_types.specs.declared.runs.Go.{Go}
 
@@ -51,6 +53,14 @@ turns_from rest script stage (Some c) = c ∷ rest (after_turn script stage c)
 abbrev pub turns : ℕ → Script → Stage → List ℕ
 turns zero script stage = []
 turns (suc n) script stage = turns_from (turns n script) script stage (lowest_running stage.board)
+
+-- the steps of the sequential run
+abbrev pub moves_in_order : StartView → List (List Step) → List Move
+moves_in_order start steps = moves_of (script_of steps) (first_stage start) (turns 30 (script_of steps) (first_stage start))
+
+-- all grants of a channel in it
+abbrev pub grants_of : StartView → List (List Step) → ℕ → List Grant
+grants_of start steps = (stage_after (script_of steps) (first_stage start) (turns 30 (script_of steps) (first_stage start))).grants
 
 -- who acts, and who goes on in that step
 pub record Act : Type 0 where

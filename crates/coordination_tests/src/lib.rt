@@ -6,6 +6,8 @@
 ghost use Rattle.coordination_tests.specs.MarkRows.{ThreeMeetFiveTimes, LoweredTooSoon, LoweredLater, TwoOfThreeMeet, OwnMarkStands, OwnMarkAlone, SomeMarksLowered, EveryMarkLowered, MarkOutOfRange, ChannelUnknown, OneOfTwoGoes};
 ghost use Rattle.coordination_tests.specs.AxisRows.{TurretAndSlide, AxisIsHandedOn, AxisIsTakenBack, AxisStaysFree, TwoAxesInTwoSteps, LowerTakesFirst, OwnAxesAreTaken, NotOwned, ZoneIsSplit};
 ghost use Rattle.coordination_tests.specs.StartRows.{StartedAndAwaited, StartedTwice, AwaitedInVain, NoneStarts, AwakeBeforeProgram, BothStart, AwaitsItself};
+ghost use Rattle.coordination_tests.specs.GrantRows.{WhoLetsGo, WhoTakes, WhoIsStarted, ZoneGoesOff};
+ghost use Rattle.coordination_tests.specs.EventRows.{OneByTheThird, TwoInOneStep};
 
 /// Channels meet at marks.
 pub fn channels_meet_at_marks()
@@ -44,4 +46,18 @@ pub fn channels_start_one_another()
     ensures awake_before_program { AwakeBeforeProgram }
     ensures both_start { BothStart }
     ensures awaits_itself { AwaitsItself }
+{}
+
+/// What channels go on with.
+pub fn channels_go_on_with_grants()
+    ensures who_lets_go { WhoLetsGo }
+    ensures who_takes { WhoTakes }
+    ensures who_is_started { WhoIsStarted }
+    ensures zone_goes_off { ZoneGoesOff }
+{}
+
+/// Which events are one.
+pub fn events_are_one_or_apart()
+    ensures one_by_the_third { OneByTheThird }
+    ensures two_in_one_step { TwoInOneStep }
 {}
