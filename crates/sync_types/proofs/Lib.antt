@@ -1,4 +1,5 @@
 pub mod BoardTests
 pub mod Links
 pub mod Replays
+pub mod Settling
 pub mod Together

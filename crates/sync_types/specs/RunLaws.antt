@@ -1,14 +1,26 @@
 -- Law. What is so of all runs and events.
-use Rattle.std.specs.Prelude.{◌≡◌, ℕ, true, List, map, filter, Some}
+use Rattle.std.specs.Prelude.{◌≡◌, ℕ, true, List, [], map, filter, Some, None, is_some}
 use Rattle.sync_types.specs.BoardEnds.{end_of, ends_of}
+use Rattle.sync_types.specs.BoardAlarms.{alarm_of}
+use Rattle.sync_types.specs.GoingOn.{goers_at_once, next_taker}
+use Rattle.sync_types.specs.declared.Step.{Step}
 use Rattle.sync_types.specs.Boards.{Board, channel_numbers, first_board}
 use Rattle.sync_types.specs.Events.{IsEvent, AreOne, IsLowestName}
 use Rattle.sync_types.specs.Runs.{Script, Stage, IsMaximal, IsSequential, ComesFrom, first_stage, stage_after, moves_of, is_over}
 use Rattle.sync_types.specs.Starts.{IsSound, has_channel}
-use Rattle.sync_types.specs.Turns.{Move, after_moves, after_entries, entries_of, AreOfRunning, AreEntries}
+use Rattle.sync_types.specs.Turns.{goings_in_step, Move, after_moves, after_entries, entries_of, AreOfRunning, AreEntries}
 use Rattle.sync_types.specs.Views.{StartView}
 use Rattle.sync_types.specs.declared.Item.{Item}
 use Rattle.sync_types.specs.declared.runs.EventId.{EventId}
+
+-- nobody whose wait has its end still waits
+pub record NobodyCanGo (b : Board) : Type 0 where
+  pub no_goer : goers_at_once b ≡ []
+  pub no_taker : next_taker b ≡ None
+
+-- an alarm lets nobody go
+abbrev pub AlarmLetsNobodyGo : Board → ℕ → Step → Type 0
+AlarmLetsNobodyGo b c step = NobodyCanGo b → is_some (alarm_of b c step.action) ≡ true → goings_in_step b c step ≡ []
 
 -- the steps of a run are of running channels, and leave the run's board
 pub record RunIsReplay (script : Script) (stage : Stage) (cs : List ℕ) : Type 0 where

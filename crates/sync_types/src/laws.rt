@@ -1,11 +1,12 @@
 //! What is true of every board.
 ghost use Rattle.std.specs.Prelude.{ℕ, List};
 ghost use Rattle.sync_types.specs.Boards.{Board};
-ghost use Rattle.sync_types.specs.RunLaws.{RunIsReplay, EntriesAreReplay, SequentialIsOne, AllHaveEnds, MaximalRunsComeFrom, AreOneAlike, HasOneLowestName};
+ghost use Rattle.sync_types.specs.RunLaws.{NobodyCanGo, AlarmLetsNobodyGo, RunIsReplay, EntriesAreReplay, SequentialIsOne, AllHaveEnds, MaximalRunsComeFrom, AreOneAlike, HasOneLowestName};
 ghost use Rattle.sync_types.specs.Runs.{Script, Stage, IsRun, IsSequential};
 ghost use Rattle.sync_types.specs.Togetherness.{StaysTogether};
-ghost use Rattle.sync_types.specs.Turns.{Move, AreOfRunning};
+ghost use Rattle.sync_types.specs.Turns.{Move, AreOfRunning, after_step};
 ghost use Rattle.sync_types.specs.Views.{StartView};
+ghost use Rattle.sync_types.specs.declared.Step.{Step};
 ghost use Rattle.sync_types.specs.declared.Item.{Item};
 ghost use Rattle.sync_types.specs.declared.runs.EventId.{EventId};
 
@@ -37,4 +38,10 @@ pub fn a_run_that_is_over_has_all_ends()
 pub fn events_are_one_alike()
     ensures alike { (b : Board) (moves : List Move) (e f g : EventId) → AreOneAlike b moves e f g }
     ensures lowest { (b : Board) (moves : List Move) (e f : EventId) → HasOneLowestName b moves e f }
+{}
+
+/// A law: after a step nobody still waits whose wait has its end, so nobody goes on in a step that alarms.
+pub fn after_a_step_nobody_can_go()
+    ensures settled { (b : Board) (c : ℕ) (step : Step) → NobodyCanGo (after_step b c step) }
+    ensures alarms { (b : Board) (c : ℕ) (step : Step) → AlarmLetsNobodyGo b c step }
 {}
