@@ -1,4 +1,5 @@
 pub mod BoardTests
+pub mod GoingCounts
 pub mod Links
 pub mod Replays
 pub mod Settling

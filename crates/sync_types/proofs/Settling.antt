@@ -79,7 +79,7 @@ none_kept p (y ∷ ys) none = rw (none y (here y)) (none_kept p ys (λ x on. non
 abbrev pub waiters : Board → List ℕ
 waiters b = filter (λ c. waits_for_axes (b.state c)) channel_numbers
 
-fewer : (p q : ℕ → Bool) (xs : List ℕ) → ((x : ℕ) → q x ≡ true → p x ≡ true) → length (filter q xs) ≤ length (filter p xs)
+pub fewer : (p q : ℕ → Bool) (xs : List ℕ) → ((x : ℕ) → q x ≡ true → p x ≡ true) → length (filter q xs) ≤ length (filter p xs)
 fewer p q [] weaker = omega arith
 fewer p q (x ∷ xs) weaker = elim (cases_Bool (q x)) [
   | inl on ↦ rw (on, weaker x on) (omega (arith, fewer p q xs weaker))
@@ -117,7 +117,7 @@ first_listed p (y ∷ ys) x e = elim (cases_Bool (p y)) [
     later true u on = refl
     later false u on = on
 
-fewer_after_taking : (b : Board) (c : ℕ) → next_taker b ≡ Some c → length (waiters (after_taking b c)) < length (waiters b)
+pub fewer_after_taking : (b : Board) (c : ℕ) → next_taker b ≡ Some c → length (waiters (after_taking b c)) < length (waiters b)
 unfolding state_after_taking
 fewer_after_taking b c takes = one_fewer (λ d. waits_for_axes (b.state d)) (λ d. waits_for_axes ((after_taking b c).state d)) channel_numbers c
     (first_listed (can_take b) channel_numbers c takes)

@@ -1,6 +1,9 @@
 -- Law. What is so of all runs and events.
-use Rattle.std.specs.Prelude.{◌≡◌, ℕ, true, List, [], map, filter, Some, None, is_some}
+use Rattle.std.specs.Prelude.{◌≡◌, ℕ, ◌≤◌, true, false, List, [], length, map, filter, Some, None, is_some}
 use Rattle.sync_types.specs.BoardEnds.{end_of, ends_of}
+use Rattle.axis_sets.specs.Sets.{has}
+use Rattle.sync_types.specs.declared.Action.{Action}
+use Rattle.sync_types.specs.declared.Action.TheVariants.{Start}
 use Rattle.sync_types.specs.BoardAlarms.{alarm_of}
 use Rattle.sync_types.specs.GoingOn.{goers_at_once, next_taker}
 use Rattle.sync_types.specs.declared.Step.{Step}
@@ -21,6 +24,15 @@ pub record NobodyCanGo (b : Board) : Type 0 where
 -- an alarm lets nobody go
 abbrev pub AlarmLetsNobodyGo : Board → ℕ → Step → Type 0
 AlarmLetsNobodyGo b c step = NobodyCanGo b → is_some (alarm_of b c step.action) ≡ true → goings_in_step b c step ≡ []
+
+-- START names channels, by their numbers 1 to 8
+abbrev pub StartsChannels : Action → Type 0
+StartsChannels (Start named) = (length named ≡ 9) × (has named 0 ≡ false)
+StartsChannels other = Unit {0}
+
+-- at most eight channels go on in a step
+abbrev pub AtMostEightGo : Board → ℕ → Step → Type 0
+AtMostEightGo b c step = StartsChannels step.action → length (goings_in_step b c step) ≤ 8
 
 -- the steps of a run are of running channels, and leave the run's board
 pub record RunIsReplay (script : Script) (stage : Stage) (cs : List ℕ) : Type 0 where

@@ -9,8 +9,8 @@ mod verdicts;
 
 use axis_sets::{AxisSet, ChannelId, ChannelSet, MarkSet, Positions, ZoneSet};
 pub use laws::{
-    a_run_that_is_over_has_all_ends, after_a_step_nobody_can_go, axes_stay_together,
-    events_are_one_alike, runs_are_replays, the_sequential_run_is_one,
+    a_run_that_is_over_has_all_ends, after_a_step_nobody_can_go, at_most_eight_go_on,
+    axes_stay_together, events_are_one_alike, runs_are_replays, the_sequential_run_is_one,
 };
 use nc_faults::Alarm;
 use path_geometry::Motion;
