@@ -8,6 +8,8 @@ ghost use Rattle.coordination_tests.specs.AxisRows.{TurretAndSlide, AxisIsHanded
 ghost use Rattle.coordination_tests.specs.StartRows.{StartedAndAwaited, StartedTwice, AwaitedInVain, NoneStarts, AwakeBeforeProgram, BothStart, AwaitsItself};
 ghost use Rattle.coordination_tests.specs.GrantRows.{WhoLetsGo, WhoTakes, WhoIsStarted, ZoneGoesOff};
 ghost use Rattle.coordination_tests.specs.EventRows.{OneByTheThird, TwoInOneStep};
+ghost use Rattle.sync_types.specs.Starts.{IsSound};
+ghost use Rattle.coordination_tests.specs.AxisRows.{one_slide};
 
 /// Channels meet at marks.
 pub fn channels_meet_at_marks()
@@ -60,4 +62,9 @@ pub fn channels_go_on_with_grants()
 pub fn events_are_one_or_apart()
     ensures one_by_the_third { OneByTheThird }
     ensures two_in_one_step { TwoInOneStep }
+{}
+
+/// A start state that is sound.
+pub fn a_start_is_sound()
+    ensures { IsSound one_slide }
 {}

@@ -7,7 +7,7 @@ use Rattle.axis_sets.specs.Sets.{has, members_of}
 use Rattle.axis_sets.proofs.SetLaws.{list_any-members_of}
 use Rattle.sync_types.proofs.BoardTests.{no_truth, by_test}
 use Rattle.sync_types.proofs.Settling.{waiters, fewer, fewer_after_taking}
-use Rattle.sync_types.specs.BoardActions.{after_part, after_action, after_effects, started_by, channels_to_start, state_of_actor, state_after_action}
+use Rattle.sync_types.specs.BoardActions.{after_part, after_action, after_effects, channels_started, channels_to_start, state_of_actor, state_after_action}
 use Rattle.sync_types.specs.BoardAlarms.{alarm_of}
 use Rattle.sync_types.specs.Boards.{AtAxes, State, IsRunning, IsHolding, Board, among, channel_numbers, is_running}
 use Rattle.sync_types.specs.GoingOn.{Going, goes_at_once, goers_at_once, state_after_goes, after_goes, waits_for_axes, next_taker, after_taking, takings, takings_from, all_takings, going_of_start, going_at_once, goings_on}
@@ -100,7 +100,7 @@ starts_within (Start named) sized =
     omega (arith, by_length, without_none, same)
 starts_within other sized = omega arith
 
-goings_of_part : (b : Board) (c : ℕ) (step : Step) (alarm : Option ℕ) → StartsChannels step.action → length (goings_on (after_part b c step alarm) (started_by alarm step.action)) ≤ 8
+goings_of_part : (b : Board) (c : ℕ) (step : Step) (alarm : Option ℕ) → StartsChannels step.action → length (goings_on (after_part b c step alarm) (channels_started alarm step.action)) ≤ 8
 goings_of_part b c step (Some code) sized = goings_within (after_part b c step (Some code)) [] (λ x. false) (omega arith) (λ x on. no_truth false on refl)
 goings_of_part b c step None sized =
     goings_within (after_action b c step) (channels_to_start step.action) (among (channels_to_start step.action)) (starts_within step.action sized) (started_run b c step)

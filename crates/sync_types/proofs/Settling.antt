@@ -4,7 +4,7 @@ use Rattle.std.specs.Prelude.{is_some}
 use Rattle.std.proofs.lemmas.Bool.{cases_Bool, and_parts, false_from_ne_true}
 use Rattle.std.specs.List.{list_all}
 use Rattle.sync_types.proofs.BoardTests.{no_truth, among_kept, by_test, first_passes}
-use Rattle.sync_types.specs.BoardActions.{after_own_part, after_part, after_alarm, state_after_alarm, started_by}
+use Rattle.sync_types.specs.BoardActions.{after_own_part, after_part, after_alarm, state_after_alarm, channels_started}
 use Rattle.sync_types.specs.BoardAlarms.{alarm_of}
 use Rattle.sync_types.specs.Boards.{AtMarks, AtEnds, AtAxes, State, IsIdle, IsRunning, IsHolding, HasEnded, HasAlarmed, Board, among, channel_numbers, has_ended, is_free, owns}
 use Rattle.sync_types.specs.GoingOn.{Going, goes_at_once, goers_at_once, marks_after_goes, state_after_goes, after_goes, waits_for_axes, axes_asked, can_take, first_of, next_taker, state_after_taking, after_taking, takings, takings_from, goings_on, going_at_once}
@@ -183,7 +183,7 @@ no_taker_after_alarm b c step code rest = ap first_of (none_kept (can_take (afte
     by_test (λ s. takes_in b d s ≡ false) (among (goers_at_once (after_alarm b c step code)) d) _ _ (λ goes. refl) (λ stays.
     by_test (λ s. takes_in b d s ≡ false) (d == c) _ _ (λ here. refl) (λ other. takes_none b rest d in_it))))
 
-alarmed_goings : (b : Board) (c : ℕ) (step : Step) (alarm : Option ℕ) → NobodyCanGo b → is_some alarm ≡ true → goings_on (after_part b c step alarm) (started_by alarm step.action) ≡ []
+alarmed_goings : (b : Board) (c : ℕ) (step : Step) (alarm : Option ℕ) → NobodyCanGo b → is_some alarm ≡ true → goings_on (after_part b c step alarm) (channels_started alarm step.action) ≡ []
 alarmed_goings b c step None rest alarms = no_truth false alarms refl
 alarmed_goings b c step (Some code) rest alarms =
     let a : Board = after_alarm b c step code in

@@ -110,6 +110,6 @@ abbrev pub after_own_part : Board → ℕ → Step → Board
 after_own_part b c step = after_part b c step (alarm_of b c step.action)
 
 -- the channels that the step has started
-abbrev pub started_by : Option ℕ → Action → List ℕ
-started_by (Some code) action = []
-started_by None action = channels_to_start action
+abbrev pub channels_started : Option ℕ → Action → List ℕ
+channels_started (Some code) action = []
+channels_started None action = channels_to_start action

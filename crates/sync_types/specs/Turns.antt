@@ -1,6 +1,6 @@
 -- Meaning. One step of a channel on the board, and the replay of many.
 use Rattle.std.specs.Prelude.{◌≡◌, ℕ, ◌∷◌, [], true, List, map}
-use Rattle.sync_types.specs.BoardActions.{after_own_part, started_by}
+use Rattle.sync_types.specs.BoardActions.{after_own_part, channels_started}
 use Rattle.sync_types.specs.BoardAlarms.{alarm_of}
 use Rattle.sync_types.specs.Boards.{Board, is_running}
 use Rattle.sync_types.specs.GoingOn.{Going, go_of, goings_on, after_goings}
@@ -9,7 +9,7 @@ use Rattle.sync_types.specs.declared.Step.{Step}
 
 -- who goes on in the step, and the board after it
 abbrev pub goings_in_step : Board → ℕ → Step → List Going
-goings_in_step b c step = goings_on (after_own_part b c step) (started_by (alarm_of b c step.action) step.action)
+goings_in_step b c step = goings_on (after_own_part b c step) (channels_started (alarm_of b c step.action) step.action)
 
 abbrev pub after_step : Board → ℕ → Step → Board
 after_step b c step = after_goings (after_own_part b c step)
