@@ -1,1 +1,7 @@
 pub mod Positions
+pub mod BoardTests
+pub mod GoingCounts
+pub mod Links
+pub mod Replays
+pub mod Settling
+pub mod Together

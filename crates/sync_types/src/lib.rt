@@ -1,12 +1,17 @@
 //! Plain types of a run: what a channel did, how it stopped, and what it may go on with.
 #![tactic(auto)]
 
+mod laws;
 mod runs;
 mod start;
 mod threads;
 mod verdicts;
 
-use axis_sets::{AxisSet, Positions, ZoneSet};
+use axis_sets::{AxisSet, ChannelId, ChannelSet, MarkSet, Positions, ZoneSet};
+pub use laws::{
+    a_run_that_is_over_has_all_ends, after_a_step_nobody_can_go, at_most_eight_go_on,
+    axes_stay_together, events_are_one_alike, runs_are_replays, the_sequential_run_is_one,
+};
 use nc_faults::Alarm;
 use path_geometry::Motion;
 pub use runs::{Entry, EventId, Go, Race, Run};
@@ -43,9 +48,25 @@ impl Item {
     }
 }
 
-/// With what a segment of a channel ends.
+/// With what a segment of a channel ends: what the channel asks of the others.
 #[derive(Clone, Copy, Debug, PartialEq, Eq)]
 pub enum Action {
+    /// Raise the own mark of this number, and wait until those of these other channels stand.
+    WaitM(u8, ChannelSet),
+    /// Raise these own marks.
+    SetM(MarkSet),
+    /// Lower these own marks; with no mark, lower all of them.
+    ClearM(MarkSet),
+    /// Select this program, by its place among the programs of the job, for this channel.
+    Init(ChannelId, u16),
+    /// Let these channels run.
+    Start(ChannelSet),
+    /// Wait until these channels are at the ends of their programs.
+    WaitE(ChannelSet),
+    /// Let these axes go.
+    Release(AxisSet),
+    /// Take these axes once all of them are free.
+    Get(AxisSet),
     /// The program ends.
     End,
     /// An alarm with this code stops the channel.
@@ -81,8 +102,23 @@ pub struct Grant {
 /// How a channel has stopped.
 #[derive(Clone, Copy, Debug, PartialEq, Eq)]
 pub enum ChannelEnd {
+    /// It has not started.
+    Idle,
     /// At a program end, on this line.
     Ended(u32),
+    /// On this line, where it waits for other channels or for axes.
+    Holding(u32),
     /// With an alarm.
     Alarmed(Alarm),
+}
+
+impl Default for ChannelEnd {
+    ghost use Rattle.std.specs.Prelude.{◌≡◌};
+    ghost use Rattle.sync_types.specs.declared.ChannelEnd.TheVariants.{Idle};
+
+    ghost is_default = { λ end. end ≡ Idle };
+
+    fn default() -> ChannelEnd {
+        ChannelEnd::Idle
+    }
 }

@@ -1,0 +1,50 @@
+use Rattle.std.proofs.Common.{refl}
+use Rattle.sync_types.specs.Boards.{first_state, grant_with, start_grant}
+use Rattle.sync_types.specs.BoardActions.{is_on_after, state_after_alarm, marks_of_all, ownership_after, holder_after, state_after_action}
+use Rattle.sync_types.specs.BoardAlarms.{alarm_of}
+use Rattle.sync_types.specs.GoingOn.{marks_after_goes, state_after_goes, ownership_after_taking, holder_after_taking, grant_of_taker, state_after_taking}
+use Rattle.coordination_tests.proofs.channels_meet_at_marks.Goals as goal
+
+pub returns-clause-three_meet_five_times : goal.returns-clause-three_meet_five_times
+unfolding first_state grant_with start_grant is_on_after state_after_alarm marks_of_all ownership_after holder_after state_after_action alarm_of marks_after_goes state_after_goes ownership_after_taking holder_after_taking grant_of_taker state_after_taking
+returns-clause-three_meet_five_times c = refl
+
+pub returns-clause-lowered_too_soon : goal.returns-clause-lowered_too_soon
+unfolding first_state grant_with start_grant is_on_after state_after_alarm marks_of_all ownership_after holder_after state_after_action alarm_of marks_after_goes state_after_goes ownership_after_taking holder_after_taking grant_of_taker state_after_taking
+returns-clause-lowered_too_soon c = refl
+
+pub returns-clause-lowered_later : goal.returns-clause-lowered_later
+unfolding first_state grant_with start_grant is_on_after state_after_alarm marks_of_all ownership_after holder_after state_after_action alarm_of marks_after_goes state_after_goes ownership_after_taking holder_after_taking grant_of_taker state_after_taking
+returns-clause-lowered_later c = refl
+
+pub returns-clause-two_of_three_meet : goal.returns-clause-two_of_three_meet
+unfolding first_state grant_with start_grant is_on_after state_after_alarm marks_of_all ownership_after holder_after state_after_action alarm_of marks_after_goes state_after_goes ownership_after_taking holder_after_taking grant_of_taker state_after_taking
+returns-clause-two_of_three_meet c = refl
+
+pub returns-clause-own_mark_stands : goal.returns-clause-own_mark_stands
+unfolding first_state grant_with start_grant is_on_after state_after_alarm marks_of_all ownership_after holder_after state_after_action alarm_of marks_after_goes state_after_goes ownership_after_taking holder_after_taking grant_of_taker state_after_taking
+returns-clause-own_mark_stands c = refl
+
+pub returns-clause-own_mark_alone : goal.returns-clause-own_mark_alone
+unfolding first_state grant_with start_grant is_on_after state_after_alarm marks_of_all ownership_after holder_after state_after_action alarm_of marks_after_goes state_after_goes ownership_after_taking holder_after_taking grant_of_taker state_after_taking
+returns-clause-own_mark_alone c = refl
+
+pub returns-clause-some_marks_lowered : goal.returns-clause-some_marks_lowered
+unfolding first_state grant_with start_grant is_on_after state_after_alarm marks_of_all ownership_after holder_after state_after_action alarm_of marks_after_goes state_after_goes ownership_after_taking holder_after_taking grant_of_taker state_after_taking
+returns-clause-some_marks_lowered c = refl
+
+pub returns-clause-every_mark_lowered : goal.returns-clause-every_mark_lowered
+unfolding first_state grant_with start_grant is_on_after state_after_alarm marks_of_all ownership_after holder_after state_after_action alarm_of marks_after_goes state_after_goes ownership_after_taking holder_after_taking grant_of_taker state_after_taking
+returns-clause-every_mark_lowered c = refl
+
+pub returns-clause-mark_out_of_range : goal.returns-clause-mark_out_of_range
+unfolding first_state grant_with start_grant is_on_after state_after_alarm marks_of_all ownership_after holder_after state_after_action alarm_of marks_after_goes state_after_goes ownership_after_taking holder_after_taking grant_of_taker state_after_taking
+returns-clause-mark_out_of_range c = refl
+
+pub returns-clause-channel_unknown : goal.returns-clause-channel_unknown
+unfolding first_state grant_with start_grant is_on_after state_after_alarm marks_of_all ownership_after holder_after state_after_action alarm_of marks_after_goes state_after_goes ownership_after_taking holder_after_taking grant_of_taker state_after_taking
+returns-clause-channel_unknown c = refl
+
+pub returns-clause-one_of_two_goes : goal.returns-clause-one_of_two_goes
+unfolding first_state grant_with start_grant is_on_after state_after_alarm marks_of_all ownership_after holder_after state_after_action alarm_of marks_after_goes state_after_goes ownership_after_taking holder_after_taking grant_of_taker state_after_taking
+returns-clause-one_of_two_goes c = refl

@@ -1,0 +1,42 @@
+use Rattle.std.proofs.Common.{refl}
+use Rattle.sync_types.specs.Boards.{first_state, grant_with, start_grant}
+use Rattle.sync_types.specs.BoardActions.{is_on_after, state_after_alarm, marks_of_all, ownership_after, holder_after, state_after_action}
+use Rattle.sync_types.specs.BoardAlarms.{alarm_of}
+use Rattle.sync_types.specs.GoingOn.{marks_after_goes, state_after_goes, ownership_after_taking, holder_after_taking, grant_of_taker, state_after_taking}
+use Rattle.coordination_tests.proofs.channels_take_axes.Goals as goal
+
+pub returns-clause-turret_and_slide : goal.returns-clause-turret_and_slide
+unfolding first_state grant_with start_grant is_on_after state_after_alarm marks_of_all ownership_after holder_after state_after_action alarm_of marks_after_goes state_after_goes ownership_after_taking holder_after_taking grant_of_taker state_after_taking
+returns-clause-turret_and_slide c = refl
+
+pub returns-clause-axis_is_handed_on : goal.returns-clause-axis_is_handed_on
+unfolding first_state grant_with start_grant is_on_after state_after_alarm marks_of_all ownership_after holder_after state_after_action alarm_of marks_after_goes state_after_goes ownership_after_taking holder_after_taking grant_of_taker state_after_taking
+returns-clause-axis_is_handed_on c = refl
+
+pub returns-clause-axis_is_taken_back : goal.returns-clause-axis_is_taken_back
+unfolding first_state grant_with start_grant is_on_after state_after_alarm marks_of_all ownership_after holder_after state_after_action alarm_of marks_after_goes state_after_goes ownership_after_taking holder_after_taking grant_of_taker state_after_taking
+returns-clause-axis_is_taken_back c = refl
+
+pub returns-clause-axis_stays_free : goal.returns-clause-axis_stays_free
+unfolding first_state grant_with start_grant is_on_after state_after_alarm marks_of_all ownership_after holder_after state_after_action alarm_of marks_after_goes state_after_goes ownership_after_taking holder_after_taking grant_of_taker state_after_taking
+returns-clause-axis_stays_free c = refl
+
+pub returns-clause-two_axes_in_two_steps : goal.returns-clause-two_axes_in_two_steps
+unfolding first_state grant_with start_grant is_on_after state_after_alarm marks_of_all ownership_after holder_after state_after_action alarm_of marks_after_goes state_after_goes ownership_after_taking holder_after_taking grant_of_taker state_after_taking
+returns-clause-two_axes_in_two_steps c = refl
+
+pub returns-clause-lower_takes_first : goal.returns-clause-lower_takes_first
+unfolding first_state grant_with start_grant is_on_after state_after_alarm marks_of_all ownership_after holder_after state_after_action alarm_of marks_after_goes state_after_goes ownership_after_taking holder_after_taking grant_of_taker state_after_taking
+returns-clause-lower_takes_first c = refl
+
+pub returns-clause-own_axes_are_taken : goal.returns-clause-own_axes_are_taken
+unfolding first_state grant_with start_grant is_on_after state_after_alarm marks_of_all ownership_after holder_after state_after_action alarm_of marks_after_goes state_after_goes ownership_after_taking holder_after_taking grant_of_taker state_after_taking
+returns-clause-own_axes_are_taken c = refl
+
+pub returns-clause-not_owned : goal.returns-clause-not_owned
+unfolding first_state grant_with start_grant is_on_after state_after_alarm marks_of_all ownership_after holder_after state_after_action alarm_of marks_after_goes state_after_goes ownership_after_taking holder_after_taking grant_of_taker state_after_taking
+returns-clause-not_owned c = refl
+
+pub returns-clause-zone_is_split : goal.returns-clause-zone_is_split
+unfolding first_state grant_with start_grant is_on_after state_after_alarm marks_of_all ownership_after holder_after state_after_action alarm_of marks_after_goes state_after_goes ownership_after_taking holder_after_taking grant_of_taker state_after_taking
+returns-clause-zone_is_split c = refl

@@ -1,0 +1,6 @@
+pub mod AxisRows
+pub mod EventRows
+pub mod GrantRows
+pub mod MarkRows
+pub mod Play
+pub mod StartRows
