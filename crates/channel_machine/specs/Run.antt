@@ -221,3 +221,4 @@ channel_at_start setting = record { past = []; levels = option_and_then (first_l
 abbrev pub IsListedAction : Action → Type 0
 IsListedAction End = ⊤
 IsListedAction (Alarm code) = IsAlarmCode code
+IsListedAction other = ⊤

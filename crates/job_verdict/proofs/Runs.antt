@@ -146,6 +146,7 @@ pub record IsGoodRun (job : JobView) (line : ChannelLine) : Type 0 where
 listed_end : (line : ℕ) (asked : Action) → IsListedAction asked → IsListedEnd (end_by line asked)
 listed_end line action.End listed = tt
 listed_end line (action.Alarm code) listed = listed
+listed_end line other listed = tt
 
 pub good_run : (job : JobView) → IsRunnable job → (line : ChannelLine) → IsGoodRun job line
 unfolding program_run

@@ -2,7 +2,7 @@
 use Rattle.std.specs.Prelude.{⊤, ℕ, ◌==◌, List, map, find, Option, None, Some}
 use Rattle.sync_types.specs.declared.Item.{Item}
 use Rattle.sync_types.specs.declared.ChannelEnd.{ChannelEnd}
-use Rattle.sync_types.specs.declared.ChannelEnd.TheVariants.{Ended, Alarmed}
+use Rattle.sync_types.specs.declared.ChannelEnd.TheVariants.{Idle, Ended, Holding, Alarmed}
 use Rattle.nc_faults.specs.Texts.{IsAlarmCode}
 use Rattle.nc_faults.specs.declared.Alarm.{Alarm}
 use Rattle.job_types.specs.Job.{JobView}
@@ -27,17 +27,19 @@ runs_of job = map (run_of job) job.channels
 unfoldable pub run_in : List RunView → ℕ → Option RunView
 run_in runs channel = find (λ run. run.channel == channel) runs
 
--- the line of the block that ends the program or alarms
+-- the line of the block that ends the program, holds the channel or alarms; 0 where the channel has not started
 abbrev pub line_of_end : ChannelEnd → ℕ
+line_of_end Idle = 0
 line_of_end (Ended line) = line
+line_of_end (Holding line) = line
 line_of_end (Alarmed alarm) = alarm.line
 
 -- the alarm that stops the channel, if one does
 abbrev pub alarm_in : ChannelEnd → Option Alarm
-alarm_in (Ended line) = None
 alarm_in (Alarmed alarm) = Some alarm
+alarm_in other = None
 
 -- the alarm of an end, where it is one, is in the table of alarms
 abbrev pub IsListedEnd : ChannelEnd → Type 0
-IsListedEnd (Ended line) = ⊤
 IsListedEnd (Alarmed alarm) = IsAlarmCode alarm.code
+IsListedEnd other = ⊤

@@ -8,7 +8,7 @@ use Rattle.channel_machine.specs.Run.{SurroundingsView, SegmentView, surrounding
 use Rattle.sync_types.specs.declared.Action.{Action}
 use Rattle.sync_types.specs.declared.Action.TheVariants as action
 use Rattle.sync_types.specs.declared.ChannelEnd.{ChannelEnd}
-use Rattle.sync_types.specs.declared.ChannelEnd.TheVariants.{Ended, Alarmed}
+use Rattle.sync_types.specs.declared.ChannelEnd.TheVariants.{Ended, Holding, Alarmed}
 use Rattle.sync_types.specs.declared.Grant.{Grant}
 use Rattle.sync_types.specs.declared.Item.{Item}
 use Rattle.sync_types.specs.declared.Step.{Step}
@@ -83,10 +83,11 @@ granted_position job line = stands_at_start (start_grant job line)
 unfoldable pub program_run : JobView → ChannelLine → SegmentView
 program_run job line = segment_of (setting_at job line) (channel_at_start (setting_at job line))
 
--- how a run ends whose last block, on this line, asks for this
+-- how a run ends whose last block, on this line, asks for this; one that asks for anything of other channels waits for them
 abbrev pub end_by : ℕ → Action → ChannelEnd
 end_by line action.End = Ended line
 end_by line (action.Alarm code) = Alarmed (record { code = code; line = line })
+end_by line other = Holding line
 
 abbrev pub end_of_step : Step → ChannelEnd
 end_of_step step = end_by step.line step.action

@@ -14,7 +14,7 @@ use Rattle.job_types.specs.Axes.{axis_name}
 use Rattle.job_types.specs.Job.{JobView}
 use Rattle.job_verdict.specs.ChannelRun.{RunView, run_in}
 use Rattle.sync_types.specs.declared.ChannelEnd.{ChannelEnd}
-use Rattle.sync_types.specs.declared.ChannelEnd.TheVariants.{Ended, Alarmed}
+use Rattle.sync_types.specs.declared.ChannelEnd.TheVariants.{Idle, Ended, Holding, Alarmed}
 use Rattle.sync_types.specs.declared.Item.{Item}
 use Rattle.job_verdict.specs.declared.stretches.PlaceName.{PlaceName}
 use Rattle.job_verdict.specs.declared.stretches.StretchKind.{StretchKind}
@@ -68,9 +68,11 @@ motion_line job item = decimal item.line ++ (codes " " ++ (motion_text job (moti
 unfoldable pub alarm_line : Alarm → List ℕ
 alarm_line alarm = codes "STATE ALARM " ++ (decimal alarm.line ++ (codes " " ++ (decimal alarm.code ++ (codes " " ++ (alarm_text_of alarm.code ++ codes "\n")))))
 
--- the trace line of the program end and the state of its channel, or the state of a channel that an alarm stopped
+-- the trace line of the program end and the state of its channel, or the state of a channel that did not start, that holds, or that an alarm stopped
 unfoldable pub end_lines : ChannelEnd → List ℕ
+end_lines Idle = codes "STATE IDLE 0\n"
 end_lines (Ended line) = decimal line ++ (codes " END\nSTATE ENDED " ++ (decimal line ++ codes "\n"))
+end_lines (Holding line) = codes "STATE HOLDING " ++ (decimal line ++ codes "\n")
 end_lines (Alarmed alarm) = alarm_line alarm
 
 -- the lines of a channel

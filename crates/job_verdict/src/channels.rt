@@ -169,17 +169,18 @@ pub fn alarm_in(end: &ChannelEnd) -> Option<Alarm>
     ensures { result ≡ alarm_in end.now }
 {
     match end {
-        ChannelEnd::Ended(_) => None,
         ChannelEnd::Alarmed(alarm) => Some(*alarm),
+        ChannelEnd::Idle | ChannelEnd::Ended(_) | ChannelEnd::Holding(_) => None,
     }
 }
 
-/// The line of the block that ends the program or alarms.
+/// The line of the block that ends the program, holds the channel or alarms; 0 where the channel has not started.
 pub fn line_of_end(end: &ChannelEnd) -> u32
     ensures { result ≡ line_of_end end.now }
 {
     match end {
-        ChannelEnd::Ended(line) => *line,
+        ChannelEnd::Idle => 0,
+        ChannelEnd::Ended(line) | ChannelEnd::Holding(line) => *line,
         ChannelEnd::Alarmed(alarm) => alarm.line,
     }
 }
@@ -194,6 +195,7 @@ fn end_of_step(step: &Step) -> ChannelEnd
             code,
             line: step.line,
         }),
+        _ => ChannelEnd::Holding(step.line),
     }
 }
 

@@ -161,14 +161,16 @@ fn push_alarm_line(out: &mut String, alarm: &Alarm) -> Result<(), AllocError>
 }
 
 /// Writes the trace line of the program end and the state of its channel, or the state of a channel that
-/// an alarm stopped.
+/// did not start, that holds, or that an alarm stopped.
 #[tactic(auto, unfolding(crate::specs::Report::end_lines))]
 fn push_end_lines(out: &mut String, end: &ChannelEnd) -> Result<(), AllocError>
     requires { IsListedEnd end.now }
     ensures { OnOk result (string_bytes out.new ≡ string_bytes out.old ++ model.end_lines end.now) }
 {
     match end {
+        ChannelEnd::Idle => write!(out, "STATE IDLE 0\n"),
         ChannelEnd::Ended(line) => write!(out, "{line} END\nSTATE ENDED {line}\n"),
+        ChannelEnd::Holding(line) => write!(out, "STATE HOLDING {line}\n"),
         ChannelEnd::Alarmed(alarm) => push_alarm_line(out, alarm),
     }
 }
