@@ -5,7 +5,7 @@ ghost use Rattle.std.specs.Str.{bytes_eq};
 ghost use Rattle.tape_job.specs.Rules.{axis_at};
 ghost use Rattle.channel_machine.specs.Run as model;
 
-use axis_sets::{AxisId, ChannelId};
+use axis_sets::{AXIS_LIMIT, AxisId, ChannelId};
 use block_effects::Setup;
 use micro_units::Um;
 use nc_blocks::NameText;
@@ -40,11 +40,11 @@ fn place_of(lines: &[AxisLine], name: &[u8]) -> Option<usize>
     lines.iter().position(|line| has_name(line, name))
 }
 
-/// The axis at a place among the AXIS lines, of which there are 16 at most.
+/// The axis at a place among the AXIS lines, of which there are `AXIS_LIMIT` at most.
 fn axis_at(place: usize) -> Option<AxisId>
     ensures { result ≡ axis_at place }
 {
-    if place < 16 {
+    if place < AXIS_LIMIT {
         Some(AxisId { index: place as u8 })
     } else {
         None
