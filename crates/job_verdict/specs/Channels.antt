@@ -17,6 +17,8 @@ use Rattle.tape_job.specs.SoundJob.{BlocksFit, first_owner}
 use Rattle.tape_job.specs.declared.job.ChannelLine.{ChannelLine}
 use Rattle.tape_job.specs.declared.job.ZoneLine.{ZoneLine}
 use Rattle.micro_units.specs.Position.{IsPosition}
+use Rattle.axis_sets.specs.declared.limits.TheConstants.{AXIS_LIMIT, ZONE_PLACES}
+use Rattle.job_lines.specs.declared.limits.TheConstants.{PROGRAM_LIMIT, DEPTH_LIMIT}
 
 -- ---- where the job puts axes
 
@@ -26,7 +28,7 @@ start_position job axis = option_map_or (λ line. line.at) (slice_get job.axes a
 
 -- the row of these positions, filled up to 16
 unfoldable pub start_row : JobView → List ℤ
-start_row job = map (λ line. line.at) job.axes ++ replicate (16 - length job.axes) (pos 0)
+start_row job = map (λ line. line.at) job.axes ++ replicate (AXIS_LIMIT - length job.axes) (pos 0)
 
 -- a row of positions says where each axis is; beyond the row it is at 0
 abbrev pub positions_in : List ℤ → ℕ → ℤ
@@ -45,14 +47,14 @@ owns job channel axis = is_of channel (first_owner job axis)
 
 -- all axes of a channel
 unfoldable pub owned_axes : JobView → ℕ → List Bool
-owned_axes job channel = map (owns job channel) (range_with_len 0 16)
+owned_axes job channel = map (owns job channel) (range_with_len 0 AXIS_LIMIT)
 
 -- where these stand
 abbrev pub owned_position : JobView → ℕ → ℕ → Option ℤ
 owned_position job channel axis = if owns job channel axis then Some (start_position job axis) else None
 
 unfoldable pub owned_positions : JobView → ℕ → List (Option ℤ)
-owned_positions job channel = map (owned_position job channel) (range_with_len 0 16)
+owned_positions job channel = map (owned_position job channel) (range_with_len 0 AXIS_LIMIT)
 
 -- the channel holds the zone, and it is on
 abbrev pub holds : ℕ → ZoneLine → Bool
@@ -63,7 +65,7 @@ holds_number zones channel number = list_any (λ zone. holds channel zone && (nu
 
 -- the zones that a channel holds and that are on
 unfoldable pub zones_on : JobView → ℕ → List Bool
-zones_on job channel = map (holds_number job.zones channel) (range_with_len 0 33)
+zones_on job channel = map (holds_number job.zones channel) (range_with_len 0 ZONE_PLACES)
 
 -- the place of the program of this name among the programs of the job
 abbrev pub place_named : JobView → List ℕ → Option ℕ
@@ -117,8 +119,8 @@ end_of job line = end_of_step (program_run job line).step
 -- the job can be run and judged: it has few axes, they start in range, its motions are cut at most four times, its programs can be numbered,
 -- and its blocks name parameters that there are
 pub record IsRunnable (job : JobView) : Type 0 where
-  pub axes : length job.axes ≤ 16
+  pub axes : length job.axes ≤ AXIS_LIMIT
   pub starts : All (λ line. IsPosition line.at) job.axes
-  pub depth : job.depth ≤ 4
-  pub programs : length job.programs ≤ 256
+  pub depth : job.depth ≤ DEPTH_LIMIT
+  pub programs : length job.programs ≤ PROGRAM_LIMIT
   pub blocks : BlocksFit job

@@ -17,6 +17,7 @@ use Rattle.job_verdict.specs.declared.stretches.PlaceName.{PlaceName}
 use Rattle.job_verdict.specs.declared.stretches.Verdict.{Verdict}
 use Rattle.job_verdict.specs.declared.stretches.Verdict.TheVariants.{Yes, No, Undecided}
 use Rattle.job_verdict.specs.declared.stretches.Verdict.TheVariants as verdicts
+use Rattle.axis_sets.specs.declared.limits.TheConstants.{CHANNEL_LIMIT, ZONE_LIMIT}
 
 -- how many events of the other channel are this event or before it, by channel, place and other channel
 abbrev pub Clock : Type 0
@@ -38,7 +39,7 @@ may_overlap clock left right = is_open_at clock left.last right.first && is_open
 
 -- the zones in ascending order of their numbers
 unfoldable pub zones_in_order : JobView → List ZoneLine
-zones_in_order job = filter_map (λ number. find (λ zone. zone.zone == number) job.zones) (range_with_len 1 32)
+zones_in_order job = filter_map (λ number. find (λ zone. zone.zone == number) job.zones) (range_with_len 1 ZONE_LIMIT)
 
 -- each zone with each later one of another group
 abbrev pub pairs_by_group : List ZoneLine → List (ZoneLine × ZoneLine)
@@ -106,7 +107,7 @@ stop_of runs channel = option_map (λ alarm. (channel, alarm)) (alarm_of runs ch
 
 -- the lowest channel that an alarm stops, with the alarm
 unfoldable pub first_alarm : List RunView → Option (ℕ × Alarm)
-first_alarm runs = first_some (stop_of runs) (range_with_len 1 8)
+first_alarm runs = first_some (stop_of runs) (range_with_len 1 CHANNEL_LIMIT)
 
 -- NO with the first compared pair that meets, or YES
 unfoldable pub pairs_verdict : JobView → Verdict
