@@ -64,7 +64,7 @@ past_end skip programs number passes (place ∷ places) =
 abbrev pub come : Bool → List (List ℕ × ProgramView) → Place → List Place → Option Levels
 come skip programs here returns = arrived programs here returns (past_end skip programs here.program here.passes returns)
 
--- where control is behind a block that goes on in its program by this outcome; alarms 5 and 32
+-- where control is behind a block that goes on in its program by this outcome, or an alarm
 abbrev pub going_on : Bool → List (List ℕ × ProgramView) → Levels → OutcomeView → Result (Option Levels) ℕ
 going_on skip programs levels outcome =
     next_going skip levels.here.pc (program_blocks programs levels.here.program) levels.here.repeats outcome >>= λ going.
