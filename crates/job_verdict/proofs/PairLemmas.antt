@@ -1,16 +1,13 @@
 -- Which pairs of boxes are compared, and when a pair meets.
 use Rattle.std.proofs.Common.{◌≡◌, ◌≢◌, ◌⊎◌, ◌∙◌, ℕ, zero, suc, ◌+◌, ◌≤◌, ◌<◌, true, cond, not, ◌==◌, List, [], ◌∷◌, map, length, get_or, filter, find, filter_map, flat_map, Option, None, Some, IfSome, AllPairs, Contains, inl, inr, refl, sym, ap, subst, arith}
 use Rattle.std.proofs.lemmas.Bool.{eq-eqb, ne_eqb, lt-ltb, cases_eq}
-use Rattle.std.proofs.lemmas.Int.{ints}
 use Rattle.std.specs.List.{cons_option, range_with_len, list_any}
 use Rattle.swept_boxes.proofs.MeetTests.{meet_passes}
-use Rattle.swept_boxes.specs.Boxes.{SpacePoint, IsInBox, DoMeet, TouchIn}
-use Rattle.swept_boxes.specs.declared.Box3.{Box3}
+use Rattle.swept_boxes.specs.Boxes.{SpacePoint, IsInBox, boxes_meet}
 use Rattle.job_types.specs.Job.{JobView}
 use Rattle.job_types.specs.declared.job.ZoneLine.{ZoneLine}
 use Rattle.job_verdict.specs.Clash.{Clock, own_clock, is_open_at, may_overlap, pairs_by_group, BoxPlace, box_pairs, stretch_pairs, pairs_of_zones, depth_of, pair_meets}
 use Rattle.number_laws.proofs.Lists.{SomeOf, SomeOf-weaker, SomeOf-append_left, SomeOf-append_right, SomeOf-map, SomeOf-flat_map, SomeOf-filter, list_any-some}
-use Rattle.swept_boxes.specs.Boxes.{do_touch, boxes_meet}
 use Rattle.job_verdict.specs.Stretches.{Event, Stretch, stretches_of}
 use Rattle.job_verdict.specs.ZoneBoxes.{PlaceBox, piece_boxes}
 use Rattle.job_types.specs.Zones.{zones_in_order}

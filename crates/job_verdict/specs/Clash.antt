@@ -4,7 +4,6 @@ use Rattle.std.specs.List.{flat_map, range_with_len, list_any}
 use Rattle.std.specs.Option.{option_map, option_map_or, option_and_then}
 use Rattle.nc_faults.specs.declared.Alarm.{Alarm}
 use Rattle.swept_boxes.specs.Boxes.{boxes_meet}
-use Rattle.swept_boxes.specs.declared.Box3.{Box3}
 use Rattle.job_types.specs.Job.{JobView}
 use Rattle.job_types.specs.declared.job.ZoneLine.{ZoneLine}
 use Rattle.job_verdict.specs.ZoneBoxes.{PlaceBox, piece_boxes}

@@ -1,10 +1,9 @@
 //! The boxes of the pieces of two motions, held against one another.
 ghost use Rattle.std.specs.Prelude.{◌≡◌, ◌<◌, ◌≤◌, ◌&&◌, [], ◌∷◌, map};
 ghost use Rattle.std.specs.List.{list_any};
-ghost use Rattle.swept_boxes.specs.Boxes.{boxes_meet};
+ghost use Rattle.swept_boxes.specs.Boxes.{boxes_meet, low_of, high_of};
 ghost use Rattle.job_verdict.specs.PieceTests as model;
 ghost use Rattle.path_geometry.specs.Motions.{IsSound};
-ghost use Rattle.swept_boxes.specs.Boxes.{low_of, high_of};
 ghost use Rattle.swept_boxes.specs.Pieces.{pieces_at};
 ghost use Rattle.sync_types.specs.Items.{motion_of};
 ghost use Rattle.job_lines.specs.declared.limits.TheConstants.{DEPTH_LIMIT};
