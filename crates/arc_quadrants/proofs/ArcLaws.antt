@@ -12,7 +12,7 @@ use Rattle.path_geometry.specs.Vectors.{cross}
 use Rattle.path_geometry.specs.declared.motion.Arc.{Arc}
 use Rattle.arc_quadrants.specs.Bounds.{bounds_between, IsBound}
 use Rattle.arc_quadrants.specs.Quadrants.{turned_back, begin_quadrant, end_quadrant}
-use Rattle.arc_quadrants.specs.Quarters.{entered, quarter_count, quarter_at, quarters_of, IsFit}
+use Rattle.arc_quadrants.specs.Quarters.{quadrant_count, quarter_count, quarter_at, quarters_of, IsFit}
 use Rattle.arc_quadrants.specs.declared.walk.Quarter.{Quarter}
 use Rattle.arc_quadrants.proofs.BoundLaws.{IsHeld, sector_held}
 use Rattle.arc_quadrants.proofs.QuarterLaws.{from_near, to_near, below_four}
@@ -65,12 +65,12 @@ quarters_fit arc sound =
     All-map IsFit (quarter_at arc.outer (start_seen arc) (end_seen arc)) (range_with_len 0 n)
     (λ i d h. quarter_fits arc (get_or (range_with_len 0 n) i d) sound)
 
-some_entered : (k : ℕ) (b : Bool) → 0 < entered k b
+some_entered : (k : ℕ) (b : Bool) → 0 < quadrant_count k b
 some_entered zero true = omega arith
 some_entered zero false = omega arith
 some_entered (suc k) b = omega arith
 
-few_entered : (k : ℕ) (b : Bool) → k < 4 → entered k b ≤ 5
+few_entered : (k : ℕ) (b : Bool) → k < 4 → quadrant_count k b ≤ 5
 few_entered zero true h = omega arith
 few_entered zero false h = omega arith
 few_entered (suc k) b h = omega arith

@@ -11,7 +11,7 @@ use Rattle.arc_quadrants.specs.Bounds.{length_square, Bounds, bounds_between, Is
 use Rattle.arc_quadrants.specs.Halves.{halves}
 use Rattle.arc_quadrants.specs.Quadrants.{turned_back}
 use Rattle.arc_quadrants.specs.Quarters.{sizes, quarter_count, quarter_at}
-use Rattle.arc_quadrants.proofs.HalfLaws.{IsAmong, IsMix, some_half, halves_within, mix_ahead, mix_behind}
+use Rattle.arc_quadrants.proofs.HalfLaws.{IsAmong, IsMix, some_half, halves_within, mix_ahead, mix_after}
 use Rattle.arc_quadrants.proofs.QuarterLaws.{direction, direction_sizes, LiesIn, RunsAhead, sector_covered, from_near, to_near}
 use Rattle.arc_quadrants.proofs.ReachLaws.{reach_down_is, reach_up_is}
 use Rattle.arc_quadrants.proofs.Reaches.{upper, lower, slope, up_mono, down_mono}
@@ -35,14 +35,14 @@ bounded inner outer n d x y among some_a some_b beyond within =
     let b = d.1 in
     let bounds = bounds_between inner outer a b in
     let u_low : bounds.u_low * n ≤ x =
-    lower b.0 b.1 x y inner bounds.u_low n among.behind (omega arith) (reach_down_is inner b.0 (length_square b) some_b).at_most some_b in
+    lower b.0 b.1 x y inner bounds.u_low n among.following (omega arith) (reach_down_is inner b.0 (length_square b) some_b).at_most some_b in
     let u_high : x ≤ bounds.u_high * n =
     upper a.0 a.1 x y outer bounds.u_high n among.ahead (omega arith) (reach_up_is outer a.0 (length_square a) some_a).at_least some_a in
     let v_low : bounds.v_low * n ≤ y =
     lower a.1 a.0 y x inner bounds.v_low n (omega (arith, among.ahead)) (omega arith)
     (sides_at_most bounds.v_low a.0 a.1 ((inner * inner) * (a.1 * a.1)) (reach_down_is inner a.1 (length_square a) some_a).at_most) (omega arith) in
     let v_high : y ≤ bounds.v_high * n =
-    upper b.1 b.0 y x outer bounds.v_high n (omega (arith, among.behind)) (omega arith)
+    upper b.1 b.0 y x outer bounds.v_high n (omega (arith, among.following)) (omega arith)
     (sides_at_least bounds.v_high b.0 b.1 ((outer * outer) * (b.1 * b.1)) (reach_up_is outer b.1 (length_square b) some_b).at_least) (omega arith) in
     record {
       on_u = record { above = omega (arith, ints); below = omega (arith, ints) };
@@ -53,8 +53,8 @@ bounded inner outer n d x y among some_a some_b beyond within =
 among_from : (a b : ℕ × ℕ) (x y : ℕ) → IsWithin (direction a) (direction b) (direction (x, y)) → IsAmong x y (a, b)
 among_from a b x y within =
     let l : pos 0 ≤ℤ cross (direction a) (direction (x, y)) = within.ahead in
-    let r : pos 0 ≤ℤ cross (direction (x, y)) (direction b) = within.behind in
-    record { ahead = omega (arith, ints); behind = omega (arith, ints) }
+    let r : pos 0 ≤ℤ cross (direction (x, y)) (direction b) = within.following in
+    record { ahead = omega (arith, ints); following = omega (arith, ints) }
 
 size_of_neg : (z : ℤ) → unsigned_abs (neg_ℤ z) ≡ unsigned_abs z
 size_of_neg z = omega (arith, ints)
@@ -165,4 +165,4 @@ halves_nest depth inner outer a b some_a some_b ahead k d less =
     let mixed : IsMix a b h.0 × IsMix a b h.1 = halves_within depth a b k d less in
     bounds_nest inner outer a b h.0 h.1 (some_length a some_a) (some_length b some_b)
     (some_length h.0 (mix_some a b h.0 some_a some_b mixed.0)) (some_length h.1 (mix_some a b h.1 some_a some_b mixed.1))
-    (mix_ahead a b h.0 ahead mixed.0) (mix_behind a b h.1 ahead mixed.1)
+    (mix_ahead a b h.0 ahead mixed.0) (mix_after a b h.1 ahead mixed.1)

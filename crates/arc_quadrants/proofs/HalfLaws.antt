@@ -12,7 +12,7 @@ use Rattle.arc_quadrants.specs.Quarters.{IsNear}
 -- (x, y) lies between two directions
 pub record IsAmong (x y : ℕ) (d : (ℕ × ℕ) × (ℕ × ℕ)) : Type 0 where
   pub ahead : d.0.1 * x ≤ d.0.0 * y
-  pub behind : y * d.1.0 ≤ x * d.1.1
+  pub following : y * d.1.0 ≤ x * d.1.1
 
 pub any_left : {X : Type 0} (P : X → Type 0) (xs ys : List X) → Any P xs → Any P (xs ++ ys)
 any_left P xs ys (k, x, within, at, holds) =
@@ -28,10 +28,10 @@ either_half : (depth : ℕ) (a b : ℕ × ℕ) (x y : ℕ) → IsAmong x y (a, b
     → (IsAmong x y (middle a b, b) → Any (IsAmong x y) (halves depth (middle a b) b))
     → ((middle a b).1 * x ≤ (middle a b).0 * y) ⊎ ((middle a b).0 * y < (middle a b).1 * x) → Any (IsAmong x y) (halves (suc depth) a b)
 either_half depth a b x y among left right (inl ahead) =
-    any_right (IsAmong x y) (halves depth a (middle a b)) (halves depth (middle a b) b) (right (record { ahead = ahead; behind = among.behind }))
+    any_right (IsAmong x y) (halves depth a (middle a b)) (halves depth (middle a b) b) (right (record { ahead = ahead; following = among.following }))
 either_half depth a b x y among left right (inr before) =
     any_left (IsAmong x y) (halves depth a (middle a b)) (halves depth (middle a b) b)
-    (left (record { ahead = among.ahead; behind = omega arith }))
+    (left (record { ahead = among.ahead; following = omega arith }))
 
 pub some_half : (depth : ℕ) (a b : ℕ × ℕ) (x y : ℕ) → IsAmong x y (a, b) → Any (IsAmong x y) (halves depth a b)
 some_half zero a b x y among = (0, (a, b), omega arith, refl, among)
@@ -68,8 +68,8 @@ halves_within depth a b =
 pub mix_ahead : (a b c : ℕ × ℕ) → a.1 * b.0 ≤ a.0 * b.1 → IsMix a b c → a.1 * c.0 ≤ a.0 * c.1
 mix_ahead a b c h m = rw (m.first, m.second) (omega (arith, mul-le-mul_left m.j h))
 
-pub mix_behind : (a b c : ℕ × ℕ) → a.1 * b.0 ≤ a.0 * b.1 → IsMix a b c → c.1 * b.0 ≤ c.0 * b.1
-mix_behind a b c h m = rw (m.first, m.second) (omega (arith, mul-le-mul_left m.i h))
+pub mix_after : (a b c : ℕ × ℕ) → a.1 * b.0 ≤ a.0 * b.1 → IsMix a b c → c.1 * b.0 ≤ c.0 * b.1
+mix_after a b c h m = rw (m.first, m.second) (omega (arith, mul-le-mul_left m.i h))
 
 pub length-halves : (depth : ℕ) (a b : ℕ × ℕ) → length (halves depth a b) ≡ 2 ^ depth
 length-halves zero a b = refl

@@ -6,7 +6,7 @@ use Rattle.std.specs.Int.RustNames.{int_lt, unsigned_abs}
 use Rattle.std.specs.Prelude.{ℤ, pos, negsuc, ◌-ℤ◌, ◌*ℤ◌, ◌≤ℤ◌, ◌<ℤ◌, if◌then◌else◌}
 use Rattle.path_geometry.specs.Vectors.{Vector, cross, square}
 use Rattle.arc_quadrants.specs.Quadrants.{turned_back, begin_quadrant, end_quadrant}
-use Rattle.arc_quadrants.specs.Quarters.{entered, quarter_count, sizes, quarter_at, IsNear}
+use Rattle.arc_quadrants.specs.Quarters.{quadrant_count, quarter_count, sizes, quarter_at, IsNear}
 use Rattle.arc_quadrants.proofs.Turns.{cross_turned, turned_twice, begin_is, end_is}
 use Rattle.arc_quadrants.proofs.Sectors.{IsWithin, IsReached, IsAtPlace, IsSomewhere, first_axis, second_axis, walked}
 
@@ -102,13 +102,13 @@ sector_covered outer s e p some_s some_e reached = found somewhere
         let k = (end_quadrant e + 4 - begin_quadrant s) % 4 in
         let to = turned_to e (begin_quadrant s) b.quadrant n.quadrant in
         let far : IsSomewhere outer (turned_back (begin_quadrant s) s) k (turned_back (begin_quadrant s) e) (turned_back (begin_quadrant s) p)
-        (entered k (int_lt (pos 0) (cross (turned_back (begin_quadrant s) s) (turned_back (begin_quadrant s) e)))) =
+        (quadrant_count k (int_lt (pos 0) (cross (turned_back (begin_quadrant s) s) (turned_back (begin_quadrant s) e)))) =
         walked outer k (turned_back (begin_quadrant s) s) (turned_back (begin_quadrant s) e) (turned_back (begin_quadrant s) p)
         (below_four (end_quadrant e + 4 - begin_quadrant s)) b.right b.up
         (subst (λ (t : Vector). pos 0 ≤ℤ t.u) (sym to) n.right) (subst (λ (t : Vector). pos 1 ≤ℤ t.v) (sym to) n.up)
         (turned_reached (begin_quadrant s) s e p reached) in
         subst
-        (λ (z : ℤ). IsSomewhere outer (turned_back (begin_quadrant s) s) k (turned_back (begin_quadrant s) e) (turned_back (begin_quadrant s) p) (entered k (int_lt (pos 0) z)))
+        (λ (z : ℤ). IsSomewhere outer (turned_back (begin_quadrant s) s) k (turned_back (begin_quadrant s) e) (turned_back (begin_quadrant s) p) (quadrant_count k (int_lt (pos 0) z)))
         (cross_turned (begin_quadrant s) s e) far
 
 -- ---- the two directions of a quarter
@@ -144,7 +144,7 @@ to_near outer far s e place some_e some_outer near eu ev =
     at_least_one u v h = omega (arith, ints)
 
 -- with one quarter the end is ahead of the start in its quadrant
-entered_one : (k : ℕ) (b : Bool) → entered k b ≡ 1 → (k ≡ 0) × (b ≡ true)
+entered_one : (k : ℕ) (b : Bool) → quadrant_count k b ≡ 1 → (k ≡ 0) × (b ≡ true)
 entered_one zero true h = (refl, refl)
 entered_one zero false h = absurd (omega arith)
 entered_one (suc k) b h = absurd (omega arith)
@@ -152,7 +152,7 @@ entered_one (suc k) b h = absurd (omega arith)
 quadrants_same : (q e : ℕ) → q < 4 → e < 4 → (e + 4 - q) % 4 ≡ 0 → e ≡ q
 quadrants_same q e h k z = omega arith
 
--- b is not behind a
+-- b is not after a
 abbrev pub RunsAhead : ℕ × ℕ → ℕ × ℕ → Type 0
 RunsAhead a b = a.1 * b.0 ≤ a.0 * b.1
 

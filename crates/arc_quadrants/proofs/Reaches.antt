@@ -38,10 +38,10 @@ upper au av x y outer hi n ahead within reach above =
     (f1, (f2, (f3, (f4, (nonneg-pos au, (nonneg-pos av, (nonneg-pos x, (nonneg-pos y, (nonneg-pos hi, (nonneg-pos n, tt)))))))))) tt tt in
     le-pos le
 
--- p is behind the direction (bu, bv) and not within the inner radius: not before lo
+-- p is after the direction (bu, bv) and not within the inner radius: not before lo
 pub lower : (bu bv x y inner lo n : ℕ) → y * bu ≤ x * bv → (inner * inner) * (n * n) ≤ x * x + y * y
     → (lo * lo) * (bu * bu + bv * bv) ≤ (inner * inner) * (bu * bu) → 0 < bu * bu + bv * bv → lo * n ≤ x
-lower bu bv x y inner lo n behind beyond reach above =
+lower bu bv x y inner lo n following beyond reach above =
     let f1 : pos 0 ≤ℤ ((pos x *ℤ pos bv) -ℤ (pos y *ℤ pos bu)) = omega (arith, ints) in
     let f2 : pos 0 ≤ℤ (((pos x *ℤ pos x) +ℤ (pos y *ℤ pos y)) -ℤ ((pos inner *ℤ pos inner) *ℤ (pos n *ℤ pos n))) = omega (arith, ints) in
     let f3 : pos 0 ≤ℤ (((pos inner *ℤ pos inner) *ℤ (pos bu *ℤ pos bu)) -ℤ ((pos lo *ℤ pos lo) *ℤ ((pos bu *ℤ pos bu) +ℤ (pos bv *ℤ pos bv)))) = omega (arith, ints) in

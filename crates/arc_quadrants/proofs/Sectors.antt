@@ -6,10 +6,10 @@ use Rattle.std.specs.Prelude.{ℤ, pos, neg_ℤ, ◌-ℤ◌, ◌*ℤ◌, ◌≤�
 use Rattle.number_laws.proofs.Integers.{sign_of, nonneg-*ℤ, nonneg-pos}
 use Rattle.number_laws.proofs.Ring.{var, minus, times, negate, ring}
 use Rattle.arc_quadrants.specs.Quadrants.{turned_back}
-use Rattle.arc_quadrants.specs.Quarters.{entered}
+use Rattle.arc_quadrants.specs.Quarters.{quadrant_count}
 use Rattle.path_geometry.specs.Path.{IsSwept}
 use Rattle.path_geometry.specs.Vectors.{Vector, cross}
-use Rattle.arc_quadrants.proofs.SectorSigns.{not_below, not_below_left, ahead_above, behind_below, not_right, not_above, right_within, above_within}
+use Rattle.arc_quadrants.proofs.SectorSigns.{not_below, not_below_left, ahead_above, after_below, not_right, not_above, right_within, above_within}
 use Rattle.arc_quadrants.proofs.Turns.{cross_turned}
 
 -- p lies in quadrant 0 between two directions
@@ -17,7 +17,7 @@ pub record IsWithin (from to p : Vector) : Type 0 where
   pub right : pos 0 ≤ℤ p.u
   pub up : pos 0 ≤ℤ p.v
   pub ahead : pos 0 ≤ℤ cross from p
-  pub behind : pos 0 ≤ℤ cross p to
+  pub following : pos 0 ≤ℤ cross p to
 
 -- the two axes of quadrant 0 as directions
 abbrev pub first_axis : ℕ → Vector
@@ -31,25 +31,25 @@ first_ahead outer p h =
     let e : cross (first_axis outer) p ≡ pos outer *ℤ p.v = omega (arith, ints) in
     subst (λ (z : ℤ). pos 0 ≤ℤ z) (sym e) (nonneg-*ℤ (pos outer) p.v (nonneg-pos outer) h)
 
-second_behind : (outer : ℕ) (p : Vector) → pos 0 ≤ℤ p.u → pos 0 ≤ℤ cross p (second_axis outer)
-second_behind outer p h =
+second_after : (outer : ℕ) (p : Vector) → pos 0 ≤ℤ p.u → pos 0 ≤ℤ cross p (second_axis outer)
+second_after outer p h =
     let e : cross p (second_axis outer) ≡ p.u *ℤ pos outer = omega (arith, ints) in
     subst (λ (z : ℤ). pos 0 ≤ℤ z) (sym e) (nonneg-*ℤ p.u (pos outer) h (nonneg-pos outer))
 
 whole_quarter : (outer : ℕ) (p : Vector) → pos 0 ≤ℤ p.u → pos 0 ≤ℤ p.v → IsWithin (first_axis outer) (second_axis outer) p
-whole_quarter outer p r u = record { right = r; up = u; ahead = first_ahead outer p u; behind = second_behind outer p r }
+whole_quarter outer p r u = record { right = r; up = u; ahead = first_ahead outer p u; following = second_after outer p r }
 
 from_start : (outer : ℕ) (s p : Vector) → pos 0 ≤ℤ p.u → pos 0 ≤ℤ p.v → pos 0 ≤ℤ cross s p → IsWithin s (second_axis outer) p
-from_start outer s p r u ahead = record { right = r; up = u; ahead = ahead; behind = second_behind outer p r }
+from_start outer s p r u ahead = record { right = r; up = u; ahead = ahead; following = second_after outer p r }
 
 to_end : (outer k : ℕ) (e p : Vector) → pos 0 ≤ℤ (turned_back k p).u → pos 0 ≤ℤ (turned_back k p).v → pos 0 ≤ℤ cross p e
     → IsWithin (first_axis outer) (turned_back k e) (turned_back k p)
-to_end outer k e p r u behind =
+to_end outer k e p r u following =
     record {
       right = r;
       up = u;
       ahead = first_ahead outer (turned_back k p) u;
-      behind = subst (λ (z : ℤ). pos 0 ≤ℤ z) (sym (cross_turned k p e)) behind;
+      following = subst (λ (z : ℤ). pos 0 ≤ℤ z) (sym (cross_turned k p e)) following;
     }
 
 -- ---- the walk that begins in quadrant 0 and ends in quadrant k
@@ -72,7 +72,7 @@ cross_swap s p h =
     (negate (minus (times (var 0) (var 3)) (times (var 1) (var 2)))) tt in
     subst (λ (z : ℤ). pos 0 ≤ℤ z) (sym e) (omega (arith, ints))
 
--- in each case p is ahead of s or behind e
+-- in each case p is ahead of s or after e
 one_of : (s e p : Vector) → IsReached s e p → (pos 0 ≤ℤ cross s p) ⊎ (pos 0 ≤ℤ cross p e)
 one_of s e p (inl swept) = by_turn (sign_of (cross s e))
   where
@@ -98,7 +98,7 @@ one_quarter outer s e p su sv eu ev turn (inl swept) =
         right = right_within s.u s.v e.u e.v p.u p.v su eu more b.0 b.1;
         up = above_within s.u s.v e.u e.v p.u p.v sv ev more b.0 b.1;
         ahead = b.0;
-        behind = b.1;
+        following = b.1;
       },
     )
 one_quarter outer s e p su sv eu ev turn (inr same) =
@@ -113,7 +113,7 @@ five_quarters outer s e p reached = by_signs reached (sign_of p.u) (sign_of p.v)
     by_signs : (pos 0 ≤ℤ cross s p) ⊎ (pos 0 ≤ℤ cross p e) → (pos 0 ≤ℤ p.u) ⊎ (p.u <ℤ pos 0) → (pos 0 ≤ℤ p.v) ⊎ (p.v <ℤ pos 0)
         → IsSomewhere outer s 0 e p 5
     by_signs (inl ahead) (inl r) (inl u) = (0, omega arith, from_start outer s p r u ahead)
-    by_signs (inr behind) (inl r) (inl u) = (4, omega arith, to_end outer 0 e p r u behind)
+    by_signs (inr following) (inl r) (inl u) = (4, omega arith, to_end outer 0 e p r u following)
     by_signs w (inr l) (inl u) = (1, omega arith, whole_quarter outer (turned_back 1 p) u (omega (arith, ints)))
     by_signs w (inr l) (inr d) = (2, omega arith, whole_quarter outer (turned_back 2 p) (omega (arith, ints)) (omega (arith, ints)))
     by_signs w (inl r) (inr d) = (3, omega arith, whole_quarter outer (turned_back 3 p) (omega (arith, ints)) r)
@@ -141,10 +141,10 @@ three_quarters outer s e p su sv eu ev swept = by_turn (sign_of (cross s e))
       where
         by_signs : pos 0 ≤ℤ cross s p → pos 0 ≤ℤ cross p e → (pos 0 ≤ℤ p.u) ⊎ (p.u <ℤ pos 0) → (pos 0 ≤ℤ p.v) ⊎ (p.v <ℤ pos 0)
             → IsSomewhere outer s 2 e p 3
-        by_signs ahead behind (inl r) (inl u) = (0, omega arith, from_start outer s p r u ahead)
-        by_signs ahead behind (inr l) (inl u) = (1, omega arith, whole_quarter outer (turned_back 1 p) u (omega (arith, ints)))
-        by_signs ahead behind (inr l) (inr d) = (2, omega arith, to_end outer 2 e p (omega (arith, ints)) (omega (arith, ints)) behind)
-        by_signs ahead behind (inl r) (inr d) =
+        by_signs ahead following (inl r) (inl u) = (0, omega arith, from_start outer s p r u ahead)
+        by_signs ahead following (inr l) (inl u) = (1, omega arith, whole_quarter outer (turned_back 1 p) u (omega (arith, ints)))
+        by_signs ahead following (inr l) (inr d) = (2, omega arith, to_end outer 2 e p (omega (arith, ints)) (omega (arith, ints)) following)
+        by_signs ahead following (inl r) (inr d) =
             let u : pos 0 ≤ℤ p.v = not_below s.u s.v p.u p.v su sv r ahead in absurd (omega (arith, ints))
     by_turn (inr h) = by_signs (swept.long h) (sign_of p.u) (sign_of p.v)
       where
@@ -154,21 +154,21 @@ three_quarters outer s e p su sv eu ev swept = by_turn (sign_of (cross s e))
         by_signs : (pos 0 ≤ℤ cross s p) ⊎ (pos 0 ≤ℤ cross p e) → (pos 0 ≤ℤ p.u) ⊎ (p.u <ℤ pos 0) → (pos 0 ≤ℤ p.v) ⊎ (p.v <ℤ pos 0)
             → IsSomewhere outer s 2 e p 3
         by_signs (inl ahead) (inl r) (inl u) = (0, omega arith, from_start outer s p r u ahead)
-        by_signs (inr behind) (inl r) (inl u) =
-            (0, omega arith, from_start outer s p r u (ahead_above s.u s.v e.u e.v p.u p.v sv ev u turn behind))
+        by_signs (inr following) (inl r) (inl u) =
+            (0, omega arith, from_start outer s p r u (ahead_above s.u s.v e.u e.v p.u p.v sv ev u turn following))
         by_signs w (inr l) (inl u) = (1, omega arith, whole_quarter outer (turned_back 1 p) u (omega (arith, ints)))
         by_signs (inl ahead) (inr l) (inr d) = (
           2,
           omega arith,
           to_end outer 2 e p (omega (arith, ints)) (omega (arith, ints))
-              (behind_below s.u s.v e.u e.v p.u p.v su eu (omega (arith, ints)) turn ahead),
+              (after_below s.u s.v e.u e.v p.u p.v su eu (omega (arith, ints)) turn ahead),
         )
-        by_signs (inr behind) (inr l) (inr d) = (2, omega arith, to_end outer 2 e p (omega (arith, ints)) (omega (arith, ints)) behind)
+        by_signs (inr following) (inr l) (inr d) = (2, omega arith, to_end outer 2 e p (omega (arith, ints)) (omega (arith, ints)) following)
         by_signs (inl ahead) (inl r) (inr d) =
             let u : pos 0 ≤ℤ p.v = not_below s.u s.v p.u p.v su sv r ahead in absurd (omega (arith, ints))
-        by_signs (inr behind) (inl r) (inr d) =
-            let l : p.u ≤ℤ pos 0 = not_right e.u e.v p.u p.v eu ev (omega (arith, ints)) behind in
-            (2, omega arith, to_end outer 2 e p (omega (arith, ints)) (omega (arith, ints)) behind)
+        by_signs (inr following) (inl r) (inr d) =
+            let l : p.u ≤ℤ pos 0 = not_right e.u e.v p.u p.v eu ev (omega (arith, ints)) following in
+            (2, omega arith, to_end outer 2 e p (omega (arith, ints)) (omega (arith, ints)) following)
 
 -- ---- to the fourth quadrant
 four_quarters : (outer : ℕ) (s e p : Vector) → pos 1 ≤ℤ s.u → pos 0 ≤ℤ s.v → pos 0 ≤ℤ neg_ℤ e.v → pos 1 ≤ℤ e.u
@@ -178,14 +178,14 @@ four_quarters outer s e p su sv ev eu reached = by_signs reached (sign_of p.u) (
     by_signs : (pos 0 ≤ℤ cross s p) ⊎ (pos 0 ≤ℤ cross p e) → (pos 0 ≤ℤ p.u) ⊎ (p.u <ℤ pos 0) → (pos 0 ≤ℤ p.v) ⊎ (p.v <ℤ pos 0)
         → IsSomewhere outer s 3 e p 4
     by_signs (inl ahead) (inl r) (inl u) = (0, omega arith, from_start outer s p r u ahead)
-    by_signs (inr behind) (inl r) (inl u) =
-        let d : p.v ≤ℤ pos 0 = not_above e.u e.v p.u p.v eu ev r behind in
-        (3, omega arith, to_end outer 3 e p (omega (arith, ints)) r behind)
+    by_signs (inr following) (inl r) (inl u) =
+        let d : p.v ≤ℤ pos 0 = not_above e.u e.v p.u p.v eu ev r following in
+        (3, omega arith, to_end outer 3 e p (omega (arith, ints)) r following)
     by_signs w (inr l) (inl u) = (1, omega arith, whole_quarter outer (turned_back 1 p) u (omega (arith, ints)))
     by_signs w (inr l) (inr d) = (2, omega arith, whole_quarter outer (turned_back 2 p) (omega (arith, ints)) (omega (arith, ints)))
     by_signs (inl ahead) (inl r) (inr d) =
         let u : pos 0 ≤ℤ p.v = not_below s.u s.v p.u p.v su sv r ahead in absurd (omega (arith, ints))
-    by_signs (inr behind) (inl r) (inr d) = (3, omega arith, to_end outer 3 e p (omega (arith, ints)) r behind)
+    by_signs (inr following) (inl r) (inr d) = (3, omega arith, to_end outer 3 e p (omega (arith, ints)) r following)
 
 -- ---- all of them
 -- with an end in the second or third quadrant the sector is not everything
@@ -202,7 +202,7 @@ ahead_of_start a b c d ha hb hd hc =
     omega (arith, ints)
 
 pub walked : (outer k : ℕ) (s e p : Vector) → k < 4 → pos 1 ≤ℤ s.u → pos 0 ≤ℤ s.v → pos 0 ≤ℤ (turned_back k e).u → pos 1 ≤ℤ (turned_back k e).v
-    → IsReached s e p → IsSomewhere outer s k e p (entered k (int_lt (pos 0) (cross s e)))
+    → IsReached s e p → IsSomewhere outer s k e p (quadrant_count k (int_lt (pos 0) (cross s e)))
 walked outer zero s e p h su sv eu ev reached = by_test (int_lt (pos 0) (cross s e)) refl
   where
     by_test : (b : Bool) → int_lt (pos 0) (cross s e) ≡ b → IsSomewhere outer s 0 e p (if b then 1 else 5)

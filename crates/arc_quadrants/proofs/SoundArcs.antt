@@ -5,7 +5,7 @@ use Rattle.std.proofs.lemmas.Bool.Decides.{nat_tests}
 use Rattle.std.specs.Int.RustNames.{unsigned_abs}
 use Rattle.std.specs.Prelude.{ℤ, ◌&&◌, not, if◌then◌else◌}
 use Rattle.number_laws.proofs.Naturals.{le_or_lt}
-use Rattle.path_geometry.specs.Arcs.{start_about, end_about, start_seen, end_seen, way_of, arc_with, unless, radius_alarm, centre_of, place_alarm, arc_placed, arc_of_radius}
+use Rattle.path_geometry.specs.Arcs.{start_about, end_about, start_seen, end_seen, way_of, arc_with, unless_alarm, radius_alarm, centre_of, place_alarm, arc_placed, arc_of_radius}
 use Rattle.path_geometry.specs.Ends.{EndsView}
 use Rattle.path_geometry.specs.Motions.{IsAbout, IsOfRadius, IsSoundArc}
 use Rattle.path_geometry.specs.Path.{Point, IsOnArc, point_seen}
@@ -17,7 +17,7 @@ use Rattle.arc_quadrants.proofs.Sectors.{IsReached}
 use Rattle.micro_units.specs.Position.{is_position, IsPosition}
 
 -- ---- its centre
-both_none : (o p : Option ℕ) (a b : Arc) → unless o (unless p (Ok (Kind.Arc a))) ≡ Ok (Kind.Arc b) → (p ≡ None) × (a ≡ b)
+both_none : (o p : Option ℕ) (a b : Arc) → unless_alarm o (unless_alarm p (Ok (Kind.Arc a))) ≡ Ok (Kind.Arc b) → (p ≡ None) × (a ≡ b)
 both_none None None a b h = (refl, cc)
 both_none None (Some alarm) a b h = absurd (cc)
 both_none (Some alarm) p a b h = absurd (cc)

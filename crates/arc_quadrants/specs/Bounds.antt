@@ -48,8 +48,8 @@ bounds_between inner outer from to = record {
 }
 
 -- the same in a row
-abbrev pub listed : Bounds → List ℕ
-listed bounds = bounds.u_low ∷ bounds.u_high ∷ bounds.v_low ∷ bounds.v_high ∷ []
+abbrev pub bounds_in_order : Bounds → List ℕ
+bounds_in_order bounds = bounds.u_low ∷ bounds.u_high ∷ bounds.v_low ∷ bounds.v_high ∷ []
 
 -- the vector p over n lies within the bounds
 pub record IsBound (bounds : Bounds) (p : Vector) (n : ℕ) : Type 0 where

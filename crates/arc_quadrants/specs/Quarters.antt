@@ -9,13 +9,13 @@ use Rattle.path_geometry.specs.declared.motion.Arc.{Arc}
 use Rattle.arc_quadrants.specs.declared.walk.Quarter.{Quarter}
 
 -- how many quadrants are entered, by how far the last lies ahead of the first, and by whether the end is ahead of the start
-abbrev pub entered : ℕ → Bool → ℕ
-entered zero ahead = if ahead then 1 else 5
-entered (suc k) ahead = suc k + 1
+abbrev pub quadrant_count : ℕ → Bool → ℕ
+quadrant_count zero ahead = if ahead then 1 else 5
+quadrant_count (suc k) ahead = suc k + 1
 
 -- one quarter for each quadrant on the way from s to e
 abbrev pub quarter_count : Vector → Vector → ℕ
-quarter_count s e = entered ((end_quadrant e + 4 - begin_quadrant s) % 4) (int_lt (pos 0) (cross s e))
+quarter_count s e = quadrant_count ((end_quadrant e + 4 - begin_quadrant s) % 4) (int_lt (pos 0) (cross s e))
 
 -- a direction of quadrant 0 by the sizes of its parts
 abbrev pub sizes : Vector → ℕ × ℕ

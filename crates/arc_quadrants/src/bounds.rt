@@ -2,7 +2,7 @@
 ghost use Rattle.std.specs.Prelude.{◌≡◌, ◌<◌, ◌≤◌, ◌+◌, ◌-◌, ◌*◌, ◌/◌, ◌^◌, [], ◌∷◌, slice_index};
 ghost use Rattle.std.specs.List.{All};
 ghost use Rattle.arc_quadrants.specs.Bounds as spec;
-ghost use Rattle.arc_quadrants.specs.Bounds.{IsDirection, IsReachDown, IsReachUp, listed, bounds_between};
+ghost use Rattle.arc_quadrants.specs.Bounds.{IsDirection, IsReachDown, IsReachUp, bounds_in_order, bounds_between};
 
 use micro_units::{isqrt_ceil, isqrt_floor};
 
@@ -74,7 +74,7 @@ pub fn quarter_box(inner: u32, outer: u32, from: (u64, u64), to: (u64, u64)) -> 
     requires outer { outer < 33554432 }
     requires from { IsDirection from }
     requires to { IsDirection to }
-    ensures bounds { result ≡ listed (bounds_between inner outer from to) }
+    ensures bounds { result ≡ bounds_in_order (bounds_between inner outer from to) }
     ensures u_low { IsReachDown (slice_index result 0) inner to.0 (spec.length_square to) }
     ensures u_high { IsReachUp (slice_index result 1) outer from.0 (spec.length_square from) }
     ensures v_low { IsReachDown (slice_index result 2) inner from.1 (spec.length_square from) }

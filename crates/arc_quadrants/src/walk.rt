@@ -48,7 +48,7 @@ pub fn quarters(arc: &Arc) -> ArrayVec<Quarter, 5>
 /// How many quadrants the way goes through, where so many follow the first at the least.
 fn entered(further: u8, ahead: bool) -> u8
     requires { further < 4 }
-    ensures value { result ≡ parts.entered further ahead }
+    ensures value { result ≡ parts.quadrant_count further ahead }
     ensures few { (0 < result) × (result ≤ 5) }
 {
     if further > 0 {

@@ -7,7 +7,7 @@ use Rattle.block_motions.specs.Arcs.{arc_motion}
 use Rattle.block_motions.specs.declared.words.ArcWords.{ArcWords}
 use Rattle.block_motions.specs.declared.goals.Programmed.{Programmed}
 use Rattle.block_motions.specs.declared.goals.Targets.{Targets}
-use Rattle.block_motions.specs.Goals.{InForce}
+use Rattle.block_motions.specs.Goals.{ConditionsView}
 use Rattle.block_motions.specs.Motions.{straight_motion}
 use Rattle.block_motions.proofs.AlarmLaws.{arc_alarm_listed, straight_alarm_listed, listed_13, listed_14, listed_18}
 use Rattle.frames.specs.Composition.{shifts, scales, mirrors, turns}
@@ -24,15 +24,15 @@ use Rattle.nc_expressions.specs.declared.trees.BinaryOp.{BinaryOp}
 use Rattle.nc_expressions.specs.declared.trees.BinaryOp.TheVariants.{Add, Sub, Mul, Div, WholeDiv, Modulo, And, Or, Xor, Equal, NotEqual, Greater, Less, GreaterEqual, LessEqual}
 use Rattle.nc_expressions.specs.Symbols.{index_of}
 use Rattle.nc_expressions.specs.Tree.{Tree, Number, Parameter, Indexed, Unary, Binary}
-use Rattle.nc_expressions.specs.Value.{◌>>=◌, checked, divided, rooted, unary_value, binary_value, at_index, value_of}
+use Rattle.nc_expressions.specs.Value.{◌>>=◌, in_range_or_alarm, quotient_or_alarm, root_or_alarm, unary_value, binary_value, at_index, value_of}
 use Rattle.nc_faults.specs.Texts.{IsAlarmCode, alarm_texts}
 use Rattle.nc_blocks.specs.declared.blocks.FrameWord.{FrameWord}
 use Rattle.nc_blocks.specs.declared.blocks.FrameWord.TheVariants.{Trans, Atrans, Scale, Ascale, Mirror, Amirror}
 use Rattle.nc_blocks.specs.Statement.{OperandView, Value, Text, AxisName, WordView, Assign, AssignAt, G, Axis, Radius, Aux, End, Statement, WordBlock, IfJump, If, While, Until, For, EndFor, Case, RepeatFrom, RepeatBlock, Call, Shape, Turn}
 use Rattle.path_geometry.specs.declared.motion.Motion.{Motion}
-use Rattle.block_effects.specs.Words.{Equipment, Progress, parameter_in, value_in, index_in, begun, given, given_at, counted, assigned, aimed, meant, slot_named, is_in_slot, programmed_once, slot_programmed, named_programmed, programmed_by, centre_named, centred, rounded, curved, addressed, option_read, operand_read, aux_read, word_done, words_done}
-use Rattle.block_effects.specs.Shapes.{values_done, no_values, unless_alarmed, added, shaped, turned, plane_of, shaped_by, turned_by}
-use Rattle.block_effects.specs.Effects.{Found, word_in, in_force, is_arc, has_stray_words, stands_still, motion_made, moved_or_still, words_moved, words_run, words_effect, group_words, framed, bounded, for_continued, times_in, times_of, repeated, called, number_of, control_effect, effect_of}
+use Rattle.block_effects.specs.Words.{SetupView, Progress, parameter_in, value_in, index_in, first_progress, assignment, given_at, increment, with_parameters, with_targets, programmed_value, slot_named, is_in_slot, programmed_once, slot_programmed, named_programmed, programmed_by, centre_named, with_centre_word, with_radius, with_arc_words, word_progress, option_read, operand_read, aux_read, word_done, words_done}
+use Rattle.block_effects.specs.Shapes.{values_done, no_values, unless_alarmed, chain_with, shape_chain, turn_chain, plane_of, shaped_by, turned_by}
+use Rattle.block_effects.specs.Effects.{SituationView, word_in, in_force, is_arc, has_stray_words, stands_still, motion_made, moved_or_still, words_moved, words_run, words_effect, group_words, frame_effect, bound_course, for_continued, times_in, times_of, repetition_course, library_number, number_of, control_effect, effect_of}
 use Rattle.block_effects.proofs.EffectSteps.{left}
 
 -- the codes that a run can end with
@@ -103,20 +103,20 @@ unless false x code listed = listed
 
 -- ---- values
 
-checked_listed : (z : ℤ) → IsListed (checked z)
-unfolding checked
+checked_listed : (z : ℤ) → IsListed (in_range_or_alarm z)
+unfolding in_range_or_alarm
 checked_listed z = unless (nat_lt (unsigned_abs z) (10 ^ 14)) z 1 listed_1
 
-divided_listed : (divisor : ℤ) (value : Result ℤ ℕ) → IsListed value → IsListed (divided divisor value)
-unfolding divided
+divided_listed : (divisor : ℤ) (value : Result ℤ ℕ) → IsListed value → IsListed (quotient_or_alarm divisor value)
+unfolding quotient_or_alarm
 divided_listed divisor value listed = by_zero (int_eq divisor (pos 0))
   where
     by_zero : (b : Bool) → IsListed (cond b (Err 2) value)
     by_zero true = listed_2
     by_zero false = listed
 
-rooted_listed : (z : ℤ) → IsListed (rooted z)
-unfolding rooted
+rooted_listed : (z : ℤ) → IsListed (root_or_alarm z)
+unfolding root_or_alarm
 rooted_listed z = by_sign (int_lt z (pos 0))
   where
     by_sign : (b : Bool) → IsListed (cond b (Err 3) (Ok (square_root z)))
@@ -171,26 +171,26 @@ index_listed : (o : Option ℕ) → IsListed (index_in o)
 index_listed None = listed_4
 index_listed (Some i) = tt
 
-given_listed : (parameters : List ℤ) (index : ℕ) (tree : Tree) → IsListed (given parameters index tree)
+given_listed : (parameters : List ℤ) (index : ℕ) (tree : Tree) → IsListed (assignment parameters index tree)
 given_listed parameters index tree =
     bind_listed (value_in parameters tree) (λ value. Ok (set parameters index value)) (value_listed (parameter_in parameters) tree) (λ value. tt)
 
 given_at_listed : (parameters : List ℤ) (at tree : Tree) → IsListed (given_at parameters at tree)
 given_at_listed parameters at tree =
-    bind_listed (value_in parameters at) (λ z. index_in (index_of z) >>= λ index. given parameters index tree) (value_listed (parameter_in parameters) at)
-    (λ z. bind_listed (index_in (index_of z)) (λ index. given parameters index tree) (index_listed (index_of z)) (λ index. given_listed parameters index tree))
+    bind_listed (value_in parameters at) (λ z. index_in (index_of z) >>= λ index. assignment parameters index tree) (value_listed (parameter_in parameters) at)
+    (λ z. bind_listed (index_in (index_of z)) (λ index. assignment parameters index tree) (index_listed (index_of z)) (λ index. given_listed parameters index tree))
 
-counted_listed : (parameters : List ℤ) (index : ℕ) → IsListed (counted parameters index)
+counted_listed : (parameters : List ℤ) (index : ℕ) → IsListed (increment parameters index)
 counted_listed parameters index =
-    bind_listed (checked (parameter_in parameters index +ℤ pos 1000000)) (λ value. Ok (set parameters index value)) (checked_listed (parameter_in parameters index +ℤ pos 1000000)) (λ value. tt)
+    bind_listed (in_range_or_alarm (parameter_in parameters index +ℤ pos 1000000)) (λ value. Ok (set parameters index value)) (checked_listed (parameter_in parameters index +ℤ pos 1000000)) (λ value. tt)
 
-assigned_listed : (p : Progress) (values : Result (List ℤ) ℕ) → IsListed values → IsListed (assigned p values)
+assigned_listed : (p : Progress) (values : Result (List ℤ) ℕ) → IsListed values → IsListed (with_parameters p values)
 assigned_listed p values listed = bind_listed values (λ parameters. Ok (record p { parameters = parameters })) listed (λ parameters. tt)
 
-aimed_listed : (p : Progress) (targets : Result Targets ℕ) → IsListed targets → IsListed (aimed p targets)
+aimed_listed : (p : Progress) (targets : Result Targets ℕ) → IsListed targets → IsListed (with_targets p targets)
 aimed_listed p targets listed = bind_listed targets (λ new. Ok (record p { targets = new })) listed (λ new. tt)
 
-curved_listed : (p : Progress) (words : Result ArcWords ℕ) → IsListed words → IsListed (curved p words)
+curved_listed : (p : Progress) (words : Result ArcWords ℕ) → IsListed words → IsListed (with_arc_words p words)
 curved_listed p words listed = bind_listed words (λ new. Ok (record p { arc = new })) listed (λ new. tt)
 
 once_listed : (row : List (Option Programmed)) (place : ℕ) (value : Programmed) → IsListed (programmed_once row place value)
@@ -224,15 +224,15 @@ named_listed slots targets (Some axis) value = by_slot (is_in_slot slots axis)
     by_slot true = listed_16
     by_slot false = bind_listed (programmed_once targets.axes axis value) (λ row. Ok (record targets { axes = row })) (once_listed targets.axes axis value) (λ row. tt)
 
-programmed_listed : (equipment : Equipment) (targets : Targets) (name : List ℕ) (o : Option ℕ) (value : Programmed) → IsListed (programmed_by equipment targets name o value)
+programmed_listed : (equipment : SetupView) (targets : Targets) (name : List ℕ) (o : Option ℕ) (value : Programmed) → IsListed (programmed_by equipment targets name o value)
 programmed_listed equipment targets name (Some slot) value = slot_listed equipment.slots targets slot value
 programmed_listed equipment targets name None value = named_listed equipment.slots targets (equipment.axis_named name) value
 
-centred_listed : (words : ArcWords) (axis : ℕ) (value : Programmed) → IsListed (centred words axis value)
+centred_listed : (words : ArcWords) (axis : ℕ) (value : Programmed) → IsListed (with_centre_word words axis value)
 centred_listed words axis value =
     bind_listed (programmed_once words.centre axis value) (λ row. Ok (record words { centre = row })) (once_listed words.centre axis value) (λ row. tt)
 
-rounded_listed : (words : ArcWords) (value : ℤ) → IsListed (rounded words value)
+rounded_listed : (words : ArcWords) (value : ℤ) → IsListed (with_radius words value)
 rounded_listed words value = by_word (is_some words.radius)
   where
     by_word : (b : Bool) → IsListed (cond b (Err 17) (Ok (record words { radius = Some value })))
@@ -248,23 +248,23 @@ operand_listed parameters (Value tree) = bind_listed (value_in parameters tree) 
 operand_listed parameters (Text bytes) = tt
 operand_listed parameters (AxisName bytes) = tt
 
-module _ (equipment : Equipment) where
-  addressed_listed : (p : Progress) (name : List ℕ) (o : Option ℕ) (value : Programmed) → IsListed (addressed equipment p name o value)
-  addressed_listed p name (Some axis) value = curved_listed p (centred p.arc axis value) (centred_listed p.arc axis value)
+module _ (equipment : SetupView) where
+  addressed_listed : (p : Progress) (name : List ℕ) (o : Option ℕ) (value : Programmed) → IsListed (word_progress equipment p name o value)
+  addressed_listed p name (Some axis) value = curved_listed p (with_centre_word p.arc axis value) (centred_listed p.arc axis value)
   addressed_listed p name None value =
       aimed_listed p (programmed_by equipment p.targets name (slot_named name) value) (programmed_listed equipment p.targets name (slot_named name) value)
 
   word_listed : (p : Progress) (word : WordView) → IsListed (word_done equipment p word)
   unfolding word_done
-  word_listed p (Assign index tree) = assigned_listed p (given p.parameters index tree) (given_listed p.parameters index tree)
+  word_listed p (Assign index tree) = assigned_listed p (assignment p.parameters index tree) (given_listed p.parameters index tree)
   word_listed p (AssignAt at tree) = assigned_listed p (given_at p.parameters at tree) (given_at_listed p.parameters at tree)
   word_listed p (G group code) = tt
   word_listed p (Axis name measure tree) =
-      bind_listed (value_in p.parameters tree) (λ value. addressed equipment p name (centre_named name) (meant measure value))
-      (value_listed (parameter_in p.parameters) tree) (λ value. addressed_listed p name (centre_named name) (meant measure value))
+      bind_listed (value_in p.parameters tree) (λ value. word_progress equipment p name (centre_named name) (programmed_value measure value))
+      (value_listed (parameter_in p.parameters) tree) (λ value. addressed_listed p name (centre_named name) (programmed_value measure value))
   word_listed p (Radius tree) =
-      bind_listed (value_in p.parameters tree) (λ value. curved p (rounded p.arc value)) (value_listed (parameter_in p.parameters) tree)
-      (λ value. curved_listed p (rounded p.arc value) (rounded_listed p.arc value))
+      bind_listed (value_in p.parameters tree) (λ value. with_arc_words p (with_radius p.arc value)) (value_listed (parameter_in p.parameters) tree)
+      (λ value. curved_listed p (with_radius p.arc value) (rounded_listed p.arc value))
   word_listed p (Aux name index operand) =
       bind_listed (aux_read p.parameters index operand) (λ _. Ok p)
       (bind_listed (option_read p.parameters index) (λ _. operand_read p.parameters operand) (option_listed p.parameters index) (λ _. operand_listed p.parameters operand))
@@ -281,7 +281,7 @@ listed_of : {A : Type 0} (r : Result A ℕ) → ((code : ℕ) → r ≡ Err code
 listed_of (Ok x) each = tt
 listed_of (Err code) each = each code refl
 
-module _ (slots : List (Option ℕ)) (owned : List Bool) (h : InForce) (at : ℕ → ℤ) (targets : Targets) (arc : ArcWords) where
+module _ (slots : List (Option ℕ)) (owned : List Bool) (h : ConditionsView) (at : ℕ → ℤ) (targets : Targets) (arc : ArcWords) where
   made_listed : IsListed (motion_made slots owned h at targets arc)
   made_listed = by_kind (is_arc h)
     where
@@ -298,11 +298,11 @@ module _ (slots : List (Option ℕ)) (owned : List Bool) (h : InForce) (at : ℕ
       by_words false true = tt
       by_words false false = made_listed
 
-module _ (equipment : Equipment) (found : Found) (line : ℕ) (groups : List GWord) (words : List WordView) where
+module _ (equipment : SetupView) (found : SituationView) (line : ℕ) (groups : List GWord) (words : List WordView) where
   words_run_listed : IsListed (words_run equipment found line groups words)
   words_run_listed =
-      bind_listed (words_done equipment (begun found.parameters) words) (λ p. words_moved equipment found groups p.targets p.arc >>= λ motion. Ok (left line found p motion))
-      (words_listed equipment (begun found.parameters) words)
+      bind_listed (words_done equipment (first_progress found.parameters) words) (λ p. words_moved equipment found groups p.targets p.arc >>= λ motion. Ok (left line found p motion))
+      (words_listed equipment (first_progress found.parameters) words)
       (λ p. bind_listed (words_moved equipment found groups p.targets p.arc) (λ motion. Ok (left line found p motion))
       (still_listed equipment.slots equipment.owned (in_force equipment found groups) found.at p.targets p.arc groups) (λ motion. tt))
 
@@ -349,16 +349,16 @@ chain_listed ms =
     either_listed (image_fault (image_of ms 0)) (or_else (image_fault (image_of ms 1)) (image_fault (image_of ms 2))) (image_listed (image_of ms 0))
     (either_listed (image_fault (image_of ms 1)) (image_fault (image_of ms 2)) (image_listed (image_of ms 1)) (image_listed (image_of ms 2)))
 
-added_listed : (chain ms : List Map) → IsListed (added chain ms)
-unfolding added
+added_listed : (chain ms : List Map) → IsListed (chain_with chain ms)
+unfolding chain_with
 added_listed chain ms = by_fault (adding_fault chain ms) (either_listed (maps_fault ms) (chain_fault (chain ++ ms)) (maps_listed ms) (chain_listed (chain ++ ms)))
   where
     by_fault : (o : Option ℕ) → IsFaultListed o → IsListed (unless_alarmed o (chain ++ ms))
     by_fault None listed = tt
     by_fault (Some code) listed = listed
 
-shaped_listed : (chain : List Map) (word : FrameWord) (row : List (Option ℤ)) → IsListed (shaped chain word row)
-unfolding shaped
+shaped_listed : (chain : List Map) (word : FrameWord) (row : List (Option ℤ)) → IsListed (shape_chain chain word row)
+unfolding shape_chain
 shaped_listed chain Trans row = added_listed [] (shifts 0 row)
 shaped_listed chain Atrans row = added_listed chain (shifts 0 row)
 shaped_listed chain Scale row = added_listed [] (scales 0 row)
@@ -366,8 +366,8 @@ shaped_listed chain Ascale row = added_listed chain (scales 0 row)
 shaped_listed chain Mirror row = added_listed [] (mirrors 0 row)
 shaped_listed chain Amirror row = added_listed chain (mirrors 0 row)
 
-turned_listed : (chain : List Map) (plane : Plane) (additive : Bool) (angle : Option ℤ) → IsListed (turned chain plane additive angle)
-unfolding turned
+turned_listed : (chain : List Map) (plane : Plane) (additive : Bool) (angle : Option ℤ) → IsListed (turn_chain chain plane additive angle)
+unfolding turn_chain
 turned_listed chain plane false angle = added_listed [] (turns plane angle)
 turned_listed chain plane true angle = added_listed chain (turns plane angle)
 
@@ -377,7 +377,7 @@ values_listed parameters row ((axis, tree) ∷ more) =
     bind_listed (value_in parameters tree) (λ value. values_done parameters (set row axis (Some value)) more) (value_listed (parameter_in parameters) tree)
     (λ value. values_listed parameters (set row axis (Some value)) more)
 
-framed_listed : (found : Found) (made : Result (List Map) ℕ) → IsListed made → IsListed (framed found made)
+framed_listed : (found : SituationView) (made : Result (List Map) ℕ) → IsListed made → IsListed (frame_effect found made)
 framed_listed found made listed = bind_listed made _ listed (λ chain. tt)
 
 -- ---- control
@@ -386,12 +386,12 @@ framed_listed found made listed = bind_listed made _ listed (λ chain. tt)
 after_value : {A : Type 0} (parameters : List ℤ) (tree : Tree) (f : ℤ → Result A ℕ) → ((z : ℤ) → IsListed (f z)) → IsListed (value_in parameters tree >>= f)
 after_value parameters tree f each = bind_listed (value_in parameters tree) f (value_listed (parameter_in parameters) tree) each
 
-bounded_listed : (parameters : List ℤ) (index : ℕ) (bound : Tree) → IsListed (bounded parameters index bound)
+bounded_listed : (parameters : List ℤ) (index : ℕ) (bound : Tree) → IsListed (bound_course parameters index bound)
 bounded_listed parameters index bound = after_value parameters bound _ (λ value. tt)
 
 continued_listed : (parameters : List ℤ) (opener : Statement) → IsListed (for_continued parameters opener)
 continued_listed parameters (For index first bound) =
-    bind_listed (counted parameters index) (λ p. bounded p index bound) (counted_listed parameters index) (λ p. bounded_listed p index bound)
+    bind_listed (increment parameters index) (λ p. bound_course p index bound) (counted_listed parameters index) (λ p. bounded_listed p index bound)
 continued_listed parameters other = tt
 
 times_in_listed : (z : ℤ) → IsListed (times_in z)
@@ -403,10 +403,10 @@ times_listed : (parameters : List ℤ) (times : Option Tree) → IsListed (times
 times_listed parameters None = tt
 times_listed parameters (Some tree) = after_value parameters tree (λ value. times_in value) (λ value. times_in_listed value)
 
-repeated_listed : (parameters : List ℤ) (times : Option Tree) → IsListed (repeated parameters times)
+repeated_listed : (parameters : List ℤ) (times : Option Tree) → IsListed (repetition_course parameters times)
 repeated_listed parameters times = bind_listed (times_of parameters times) _ (times_listed parameters times) (λ n. tt)
 
-called_listed : (number : Option ℕ) → IsListed (called number)
+called_listed : (number : Option ℕ) → IsListed (library_number number)
 called_listed None = listed_7
 called_listed (Some number) = tt
 
@@ -418,24 +418,24 @@ module _ (names : List (List ℕ)) (parameters : List ℤ) (opener : Statement) 
   control_listed (While tree) = after_value parameters tree _ (λ value. tt)
   control_listed (Until tree) = after_value parameters tree _ (λ value. tt)
   control_listed (For index first bound) =
-      bind_listed (given parameters index first) (λ p. bounded p index bound) (given_listed parameters index first) (λ p. bounded_listed p index bound)
+      bind_listed (assignment parameters index first) (λ p. bound_course p index bound) (given_listed parameters index first) (λ p. bounded_listed p index bound)
   control_listed EndFor = continued_listed parameters opener
   control_listed (Case tree pairs default) = after_value parameters tree _ (λ value. tt)
   control_listed (RepeatFrom name times) = repeated_listed parameters times
   control_listed (RepeatBlock name times) = repeated_listed parameters times
-  control_listed (Call name passes) = bind_listed (called (number_of names name)) _ (called_listed (number_of names name)) (λ number. tt)
+  control_listed (Call name passes) = bind_listed (library_number (number_of names name)) _ (called_listed (number_of names name)) (λ number. tt)
   control_listed other = tt
 
-pub effect_listed : (equipment : Equipment) (found : Found) (line : ℕ) (opener statement : Statement) → IsListed (effect_of equipment found line opener statement)
+pub effect_listed : (equipment : SetupView) (found : SituationView) (line : ℕ) (opener statement : Statement) → IsListed (effect_of equipment found line opener statement)
 unfolding effect_of
 effect_listed equipment found line opener (WordBlock words) = words_effect_listed equipment found line (group_words (WordBlock words)) words
 effect_listed equipment found line opener (Shape word values) =
     framed_listed found (shaped_by found.parameters found.chain word values)
-    (bind_listed (values_done found.parameters no_values values) (λ row. shaped found.chain word row) (values_listed found.parameters no_values values)
+    (bind_listed (values_done found.parameters no_values values) (λ row. shape_chain found.chain word row) (values_listed found.parameters no_values values)
     (λ row. shaped_listed found.chain word row))
 effect_listed equipment found line opener (Turn additive angle) =
     framed_listed found (turned_by found.parameters found.chain (plane_of (word_in found [] 6)) additive angle)
-    (bind_listed (option_read found.parameters angle) (λ value. turned found.chain (plane_of (word_in found [] 6)) additive value) (option_listed found.parameters angle)
+    (bind_listed (option_read found.parameters angle) (λ value. turn_chain found.chain (plane_of (word_in found [] 6)) additive value) (option_listed found.parameters angle)
     (λ value. turned_listed found.chain (plane_of (word_in found [] 6)) additive value))
 effect_listed equipment found line opener statement =
     bind_listed (control_effect equipment.names found.parameters opener statement) _ (control_listed equipment.names found.parameters opener statement) (λ t. tt)

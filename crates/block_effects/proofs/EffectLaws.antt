@@ -4,7 +4,7 @@ use Rattle.block_motions.specs.Arcs.{arc_motion}
 use Rattle.block_motions.specs.declared.words.ArcWords.{ArcWords}
 use Rattle.block_motions.proofs.ArcLaws.{arc_is}
 use Rattle.block_motions.specs.declared.goals.Targets.{Targets}
-use Rattle.block_motions.specs.Goals.{InForce}
+use Rattle.block_motions.specs.Goals.{ConditionsView}
 use Rattle.block_motions.specs.Motions.{IsMotionOf, straight_motion}
 use Rattle.block_motions.proofs.MotionLaws.{straight_is}
 use Rattle.frames.specs.Maps.{Map}
@@ -15,12 +15,12 @@ use Rattle.nc_blocks.specs.Statement.{WordView, Statement, WordBlock, Shape, Tur
 use Rattle.path_geometry.specs.declared.motion.Motion.{Motion}
 use Rattle.sync_types.specs.declared.Item.{Item}
 use Rattle.sync_types.specs.Items.{motion_of}
-use Rattle.block_effects.specs.Words.{Equipment, begun, words_done}
+use Rattle.block_effects.specs.Words.{SetupView, first_progress, words_done}
 use Rattle.block_effects.specs.Shapes.{plane_of, shaped_by, turned_by}
-use Rattle.block_effects.specs.Effects.{Effect, Turning, Found, word_in, in_force, item_on, is_arc, has_stray_words, stands_still, motion_made, moved_or_still, words_moved, words_run, words_effect, group_words, framed, turned_only, control_effect, effect_of}
+use Rattle.block_effects.specs.Effects.{Effect, Turning, SituationView, word_in, in_force, item_on, is_arc, has_stray_words, stands_still, motion_made, moved_or_still, words_moved, words_run, words_effect, group_words, frame_effect, turned_only, control_effect, effect_of}
 use Rattle.block_effects.proofs.EffectSteps.{left}
 
-module _ (equipment : Equipment) (found : Found) (line : ℕ) where
+module _ (equipment : SetupView) (found : SituationView) (line : ℕ) where
   -- the motion that a block has, if it is done and has one, is one from where the axes stand
   abbrev Moves : Result Effect ℕ → Type 0
   Moves (Ok effect) = (item : Item) → effect.item ≡ Some item → IsMotionOf equipment.owned found.at (motion_of item)
@@ -30,7 +30,7 @@ module _ (equipment : Equipment) (found : Found) (line : ℕ) where
   moves_bind (Ok x) f each = each x refl
   moves_bind (Err code) f each = tt
 
-  made_from : (h : InForce) (targets : Targets) (arc : ArcWords) (motion : Motion)
+  made_from : (h : ConditionsView) (targets : Targets) (arc : ArcWords) (motion : Motion)
       → motion_made equipment.slots equipment.owned h found.at targets arc ≡ Ok (Some motion) → IsMotionOf equipment.owned found.at motion
   made_from h targets arc motion is = by_kind (is_arc h) is
     where
@@ -40,7 +40,7 @@ module _ (equipment : Equipment) (found : Found) (line : ℕ) where
       by_kind true is = (arc_is equipment.owned found.at arc motion h equipment.slots targets is).of
       by_kind false is = straight_is equipment.owned found.at equipment.slots h targets motion is
 
-  moved_from : (h : InForce) (groups : List GWord) (targets : Targets) (arc : ArcWords) (motion : Motion)
+  moved_from : (h : ConditionsView) (groups : List GWord) (targets : Targets) (arc : ArcWords) (motion : Motion)
       → moved_or_still equipment.slots equipment.owned h found.at groups targets arc ≡ Ok (Some motion) → IsMotionOf equipment.owned found.at motion
   unfolding moved_or_still
   moved_from h groups targets arc motion is = by_words (not (is_arc h) && has_stray_words h arc) (stands_still groups) is
@@ -59,7 +59,7 @@ module _ (equipment : Equipment) (found : Found) (line : ℕ) where
 
   run_moves : (groups : List GWord) (words : List WordView) → Moves (words_run equipment found line groups words)
   run_moves groups words =
-      moves_bind (words_done equipment (begun found.parameters) words) (λ p. words_moved equipment found groups p.targets p.arc >>= λ motion. Ok (left line found p motion))
+      moves_bind (words_done equipment (first_progress found.parameters) words) (λ p. words_moved equipment found groups p.targets p.arc >>= λ motion. Ok (left line found p motion))
       (λ p done. moves_bind (words_moved equipment found groups p.targets p.arc) (λ motion. Ok (left line found p motion))
       (λ o made item is. moved_from (in_force equipment found groups) groups p.targets p.arc (motion_of item) (made ∙ ap (λ (m : Option Motion). Ok m) (item_moves o item is))))
 
@@ -70,7 +70,7 @@ module _ (equipment : Equipment) (found : Found) (line : ℕ) where
       by_test true = tt
       by_test false = run_moves groups words
 
-  framed_still : (made : Result (List Map) ℕ) → Moves (framed found made)
+  framed_still : (made : Result (List Map) ℕ) → Moves (frame_effect found made)
   framed_still (Ok chain) = λ item is. absurd cc
   framed_still (Err code) = tt
 

@@ -1,7 +1,7 @@
 -- What comes of the steps of a block.
 use Rattle.std.proofs.Common.{◌≡◌, ◌∙◌, ℕ, ℤ, Bool, true, false, cond, List, ◌∷◌, Option, None, Some, option_map, Result, Ok, Err, sym, ap, subst, refl}
 use Rattle.std.specs.Prelude.{IsTrue, IsErrAnd, ⊤}
-use Rattle.block_motions.specs.Goals.{InForce}
+use Rattle.block_motions.specs.Goals.{ConditionsView}
 use Rattle.g_groups.specs.declared.GWord.{GWord}
 use Rattle.g_groups.specs.Modal.{has_group_twice}
 use Rattle.nc_expressions.specs.Value.{◌>>=◌}
@@ -12,12 +12,12 @@ use Rattle.sync_types.specs.Items.{StandsAtEnd}
 use Rattle.block_effects.specs.declared.course.Done.{Done}
 use Rattle.block_effects.specs.declared.situation.Situation.{Situation}
 use Rattle.block_effects.specs.Courses.{ActsAll, Does, IsLeft, Runs}
-use Rattle.block_effects.specs.Effects.{Effect, Found, acted, course_of, in_force, item_on, moved_or_still, words_moved, words_run, group_words, effect_of}
-use Rattle.block_effects.specs.Words.{Equipment, Progress, begun, no_arc, nothing_programmed, progress_of, word_done, words_done}
+use Rattle.block_effects.specs.Effects.{Effect, SituationView, words_then_motion, course_of, in_force, item_on, moved_or_still, words_moved, words_run, group_words, effect_of}
+use Rattle.block_effects.specs.Words.{SetupView, Progress, first_progress, no_arc, nothing_programmed, progress_of, word_done, words_done}
 use Rattle.block_effects.specs.declared.progress.WordsDone.{WordsDone}
 
 -- what a block of words leaves
-abbrev pub left : ℕ → Found → Progress → Option Motion → Effect
+abbrev pub left : ℕ → SituationView → Progress → Option Motion → Effect
 left line found p motion = record { parameters = p.parameters; chain = found.chain; item = option_map (item_on line) motion; course = course_of p.ends }
 
 -- where a motion takes the axes, there it takes them with its line
@@ -26,7 +26,7 @@ stands_with_line line None old new stand = stand
 stands_with_line line (Some motion) old new stand = stand
 
 -- before its first word a block has done nothing
-pub begun_is : (parameters : List ℤ) (done : WordsDone) → done.targets ≡ nothing_programmed → done.arc ≡ no_arc → done.ends ≡ false → progress_of parameters done ≡ begun parameters
+pub begun_is : (parameters : List ℤ) (done : WordsDone) → done.targets ≡ nothing_programmed → done.arc ≡ no_arc → done.ends ≡ false → progress_of parameters done ≡ first_progress parameters
 begun_is parameters done targets arc ends = rw (targets, arc, ends) refl
 
 -- a value with what comes of it
@@ -42,25 +42,25 @@ bind_pair {X} {Y} {Z} (Ok x) g f = by_next (g x)
     by_next (Err code) = refl
 bind_pair (Err code) g f = refl
 
-module _ (equipment : Equipment) (found : Found) (line : ℕ) (groups : List GWord) (words : List WordView) where
+module _ (equipment : SetupView) (found : SituationView) (line : ℕ) (groups : List GWord) (words : List WordView) where
   -- the words have acted and the axes have moved, or alarm
-  pub words_end : (r : Result (Progress × Option Motion) ℕ) → acted equipment (in_force equipment found groups) found.at groups (begun found.parameters) words ≡ r
+  pub words_end : (r : Result (Progress × Option Motion) ℕ) → words_then_motion equipment (in_force equipment found groups) found.at groups (first_progress found.parameters) words ≡ r
       → words_run equipment found line groups words ≡ (r >>= λ both. Ok (left line found both.0 both.1))
   words_end r is =
-      bind_pair (words_done equipment (begun found.parameters) words) (λ p. words_moved equipment found groups p.targets p.arc) (left line found)
+      bind_pair (words_done equipment (first_progress found.parameters) words) (λ p. words_moved equipment found groups p.targets p.arc) (left line found)
       ∙ ap (λ (q : Result (Progress × Option Motion) ℕ). q >>= λ both. Ok (left line found both.0 both.1)) is
 
-module _ (equipment : Equipment) (h : InForce) (at : ℕ → ℤ) (groups : List GWord) (p : Progress) (word : WordView) (words : List WordView) where
+module _ (equipment : SetupView) (h : ConditionsView) (at : ℕ → ℤ) (groups : List GWord) (p : Progress) (word : WordView) (words : List WordView) where
   -- a word has acted
   pub acts_more : (q : Progress) (result : Result ⊤ ℕ) (new : Progress) (motion : Option Motion) → word_done equipment p word ≡ Ok q
-      → ActsAll (acted equipment h at groups q words) result new motion → ActsAll (acted equipment h at groups p (word ∷ words)) result new motion
+      → ActsAll (words_then_motion equipment h at groups q words) result new motion → ActsAll (words_then_motion equipment h at groups p (word ∷ words)) result new motion
   acts_more q result new motion is all =
       subst (λ (r : Result (Progress × Option Motion) ℕ). ActsAll r result new motion)
       (sym (ap (λ (r : Result Progress ℕ). (r >>= λ o. words_done equipment o words) >>= λ o. moved_or_still equipment.slots equipment.owned h at groups o.targets o.arc >>= λ motion. Ok (o, motion)) is)) all
 
   -- or alarms
   pub acts_not : (code : ℕ) (result : Result ⊤ ℕ) (new : Progress) (motion : Option Motion) → word_done equipment p word ≡ Err code → IsErrAnd result (λ e. e ≡ code)
-      → ActsAll (acted equipment h at groups p (word ∷ words)) result new motion
+      → ActsAll (words_then_motion equipment h at groups p (word ∷ words)) result new motion
   acts_not code (Ok done) new motion is same = absurd same
   acts_not code (Err e) new motion is same =
       ap (λ (r : Result Progress ℕ). (r >>= λ o. words_done equipment o words) >>= λ o. moved_or_still equipment.slots equipment.owned h at groups o.targets o.arc >>= λ motion. Ok (o, motion)) is
@@ -76,7 +76,7 @@ fails_with made (Ok done) new code same is = absurd same
 fails_with made (Err e) new code same is = is ∙ ap (λ (k : ℕ). Err k) (sym same)
 
 -- alarm 10 comes before all others
-pub twice_alarms : (equipment : Equipment) (found : Found) (line : ℕ) (opener statement : Statement) → IsTrue (has_group_twice (group_words statement))
+pub twice_alarms : (equipment : SetupView) (found : SituationView) (line : ℕ) (opener statement : Statement) → IsTrue (has_group_twice (group_words statement))
     → effect_of equipment found line opener statement ≡ Err 10
 unfolding effect_of group_words
 twice_alarms equipment found line opener (WordBlock words) twice = by_test (has_group_twice (group_words (WordBlock words))) twice

@@ -3,7 +3,7 @@ use Rattle.std.proofs.Common.{◌≡◌, ℕ, zero, suc, ◌-◌, ◌<◌, ◌�
 use Rattle.std.proofs.lemmas.List.{take_all}
 use Rattle.std.proofs.lemmas.List.Elements.{All-head, All-tail}
 
--- what holds of all views holds of those behind the first
+-- what holds of all views holds of those after the first
 pub rest_fits : {X Y : Type 0} (P : Y → Type 0) (view : X → Y) (xs : List X) → All P (map view xs) → All P (map view (take (length xs - 1) (drop 1 xs)))
 rest_fits P view [] all = all
 rest_fits {X} P view (y ∷ ys) all =

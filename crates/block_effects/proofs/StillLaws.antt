@@ -6,9 +6,9 @@ use Rattle.g_groups.specs.declared.GWord.{GWord}
 use Rattle.nc_expressions.specs.Tree.{Tree}
 use Rattle.nc_expressions.specs.Value.{◌>>=◌}
 use Rattle.nc_blocks.specs.Statement.{WordView, Statement, WordBlock, Shape, Turn, Jump, IfJump, If, While, Until, For, EndFor, Case, RepeatFrom, RepeatBlock, Call}
-use Rattle.block_effects.specs.Words.{Equipment, begun, counted, given, value_in, words_done}
+use Rattle.block_effects.specs.Words.{SetupView, first_progress, increment, assignment, value_in, words_done}
 use Rattle.block_effects.specs.Shapes.{plane_of, shaped_by, turned_by}
-use Rattle.block_effects.specs.Effects.{Effect, Turning, Found, IsStill, searches, word_in, words_moved, words_run, words_effect, course_of, group_words, framed, turned_only, bounded, for_continued, times_of, called, number_of, control_effect, effect_of}
+use Rattle.block_effects.specs.Effects.{Effect, Turning, SituationView, IsStill, searches, word_in, words_moved, words_run, words_effect, course_of, group_words, frame_effect, turned_only, bound_course, for_continued, times_of, library_number, number_of, control_effect, effect_of}
 use Rattle.block_effects.proofs.EffectSteps.{left}
 
 module _ (parameters : List ℤ) where
@@ -21,11 +21,11 @@ module _ (parameters : List ℤ) where
   keeps_bind (Ok x) f each = each x
   keeps_bind (Err code) f each = tt
 
-  bounded_keeps : (ps : List ℤ) (index : ℕ) (bound : Tree) → Keeps (bounded ps index bound)
+  bounded_keeps : (ps : List ℤ) (index : ℕ) (bound : Tree) → Keeps (bound_course ps index bound)
   bounded_keeps ps index bound = keeps_bind (value_in ps bound) _ (λ value is. absurd cc)
 
   continued_keeps : (opener : Statement) → Keeps (for_continued parameters opener)
-  continued_keeps (For index first bound) = keeps_bind (counted parameters index) _ (λ ps. bounded_keeps ps index bound)
+  continued_keeps (For index first bound) = keeps_bind (increment parameters index) _ (λ ps. bounded_keeps ps index bound)
   continued_keeps other = λ is. refl
 
   control_keeps : (names : List (List ℕ)) (opener statement : Statement) → Keeps (control_effect names parameters opener statement)
@@ -35,15 +35,15 @@ module _ (parameters : List ℤ) where
   control_keeps names opener (If tree) = keeps_bind (value_in parameters tree) _ (λ value is. refl)
   control_keeps names opener (While tree) = keeps_bind (value_in parameters tree) _ (λ value is. refl)
   control_keeps names opener (Until tree) = keeps_bind (value_in parameters tree) _ (λ value is. refl)
-  control_keeps names opener (For index first bound) = keeps_bind (given parameters index first) _ (λ ps. bounded_keeps ps index bound)
+  control_keeps names opener (For index first bound) = keeps_bind (assignment parameters index first) _ (λ ps. bounded_keeps ps index bound)
   control_keeps names opener EndFor = continued_keeps opener
   control_keeps names opener (Case tree pairs default) = keeps_bind (value_in parameters tree) _ (λ value is. refl)
   control_keeps names opener (RepeatFrom name times) = keeps_bind (times_of parameters times) _ (λ n is. refl)
   control_keeps names opener (RepeatBlock name times) = keeps_bind (times_of parameters times) _ (λ n is. refl)
-  control_keeps names opener (Call name passes) = keeps_bind (called (number_of names name)) _ (λ number is. refl)
+  control_keeps names opener (Call name passes) = keeps_bind (library_number (number_of names name)) _ (λ number is. refl)
   control_keeps names opener other = λ is. refl
 
-module _ (equipment : Equipment) (found : Found) (line : ℕ) where
+module _ (equipment : SetupView) (found : SituationView) (line : ℕ) where
   abbrev Stays : Result Effect ℕ → Type 0
   Stays (Ok effect) = searches effect.course ≡ true → IsStill found effect
   Stays (Err code) = Unit {0}
@@ -54,7 +54,7 @@ module _ (equipment : Equipment) (found : Found) (line : ℕ) where
 
   run_stays : (groups : List GWord) (words : List WordView) → Stays (words_run equipment found line groups words)
   run_stays groups words =
-      stays_bind (words_done equipment (begun found.parameters) words) (λ p. words_moved equipment found groups p.targets p.arc >>= λ motion. Ok (left line found p motion))
+      stays_bind (words_done equipment (first_progress found.parameters) words) (λ p. words_moved equipment found groups p.targets p.arc >>= λ motion. Ok (left line found p motion))
       (λ p. stays_bind (words_moved equipment found groups p.targets p.arc) (λ motion. Ok (left line found p motion)) (λ o. by_end p.ends))
     where
       by_end : {Q : Type 0} (ends : Bool) → searches (course_of ends) ≡ true → Q
@@ -68,7 +68,7 @@ module _ (equipment : Equipment) (found : Found) (line : ℕ) where
       by_test true = tt
       by_test false = run_stays groups words
 
-  framed_stays : (made : Result (List Map) ℕ) → Stays (framed found made)
+  framed_stays : (made : Result (List Map) ℕ) → Stays (frame_effect found made)
   framed_stays (Ok chain) = λ is. absurd cc
   framed_stays (Err code) = tt
 

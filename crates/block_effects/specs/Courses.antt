@@ -16,8 +16,8 @@ use Rattle.block_effects.specs.declared.course.Course.TheVariants as course
 use Rattle.block_effects.specs.declared.course.Done.{Done}
 use Rattle.block_effects.specs.declared.situation.ChannelAxes.{ChannelAxes}
 use Rattle.block_effects.specs.declared.situation.Situation.{Situation}
-use Rattle.block_effects.specs.Effects.{Course, Goes, Ends, Calls, Effect, Turning, Found, effect_of, words_run}
-use Rattle.block_effects.specs.Words.{Equipment, Progress}
+use Rattle.block_effects.specs.Effects.{Course, Goes, Ends, Calls, Effect, Turning, SituationView, effect_of, words_run}
+use Rattle.block_effects.specs.Words.{SetupView, Progress}
 
 abbrev pub course_view : answer.Course → Course
 course_view (course.Goes outcome) = Goes (outcome_view outcome)
@@ -25,11 +25,11 @@ course_view course.Ends = Ends
 course_view (course.Calls number passes) = Calls number passes
 
 -- what the blocks of a channel with these axes find in their job
-abbrev pub equipment_of : List (List ℕ) → (List ℕ → Option ℕ) → (ℕ → ℕ → ℤ) → ChannelAxes → Equipment
+abbrev pub equipment_of : List (List ℕ) → (List ℕ → Option ℕ) → (ℕ → ℕ → ℤ) → ChannelAxes → SetupView
 equipment_of names axis_named offset axes = record { names = names; axis_named = axis_named; offset = offset; slots = axes.slots; owned = axes.owned }
 
--- what a block finds in a situation, behind blocks with these words of groups and with this frame
-abbrev pub found_in : List (List GWord) → List Map → Situation → Found
+-- what a block finds in a situation, after blocks with these words of groups and with this frame
+abbrev pub found_in : List (List GWord) → List Map → Situation → SituationView
 found_in words chain s = record { parameters = s.parameters; words = words; chain = chain; at = stands s.at }
 
 -- what a block leaves is what was done
@@ -78,27 +78,27 @@ Turns turning result parameters = MatchResult result (λ course. turning ≡ Ok 
 -- ---- what a block finds
 
 -- this holds of all that a block can find in a situation: of all blocks that may have come before it, and of each chain of maps that makes up its frame
-abbrev pub HoldsOfAllFound : Situation → (List (List GWord) → Type 0) → (Found → Type 0) → Type 0
+abbrev pub HoldsOfAllFound : Situation → (List (List GWord) → Type 0) → (SituationView → Type 0) → Type 0
 HoldsOfAllFound old MayComeBefore Holds =
     (blocks : List (List GWord)) (chain : List Map) → MayComeBefore blocks → IsComposed chain old.frame → Holds (found_in blocks chain old)
 
 -- the block does in a situation what is defined, or has the alarm that is defined; memory may want
-abbrev pub DoesAsDefined : Equipment → Situation → ℕ → Statement → Statement → Result Done BlockFault → Situation → Type 0
+abbrev pub DoesAsDefined : SetupView → Situation → ℕ → Statement → Statement → Result Done BlockFault → Situation → Type 0
 DoesAsDefined equipment old line opener statement result new =
     HoldsOfAllFound old (λ blocks. IsAfter blocks old.modal) (λ found. Leaves (effect_of equipment found line opener statement) result new)
 
 -- the block does in a situation what is defined, or has the alarm that is defined
-abbrev pub RunsAsDefined : Equipment → Situation → ℕ → Statement → Statement → Result Done ℕ → Situation → Type 0
+abbrev pub RunsAsDefined : SetupView → Situation → ℕ → Statement → Statement → Result Done ℕ → Situation → Type 0
 RunsAsDefined equipment old line opener statement result new =
     HoldsOfAllFound old (λ blocks. IsAfter blocks old.modal) (λ found. Runs (effect_of equipment found line opener statement) result new)
 
 -- the same under the modal words that hold with the words of the block
-abbrev pub RunsUnder : List ℕ → List GWord → Equipment → Situation → ℕ → Statement → Statement → Result Done ℕ → Situation → Type 0
+abbrev pub RunsUnder : List ℕ → List GWord → SetupView → Situation → ℕ → Statement → Statement → Result Done ℕ → Situation → Type 0
 RunsUnder modal words equipment old line opener statement result new =
     HoldsOfAllFound old (λ blocks. IsAfter (blocks ++ words ∷ []) modal) (λ found. Runs (effect_of equipment found line opener statement) result new)
 
 -- the same of a block of words
-abbrev pub WordsRunUnder : List ℕ → List GWord → Equipment → Situation → ℕ → List WordView → Result Done ℕ → Situation → Type 0
+abbrev pub WordsRunUnder : List ℕ → List GWord → SetupView → Situation → ℕ → List WordView → Result Done ℕ → Situation → Type 0
 WordsRunUnder modal groups equipment old line words result new =
     HoldsOfAllFound old (λ blocks. IsAfter (blocks ++ groups ∷ []) modal) (λ found. Runs (words_run equipment found line groups words) result new)
 

@@ -6,7 +6,7 @@ use Rattle.std.specs.Ordering.{int_eq}
 use Rattle.std.specs.Str.{bytes_eq}
 use Rattle.block_motions.specs.Arcs.{is_any, arc_motion}
 use Rattle.block_motions.specs.declared.words.ArcWords.{ArcWords}
-use Rattle.block_motions.specs.Goals.{InForce}
+use Rattle.block_motions.specs.Goals.{ConditionsView}
 use Rattle.block_motions.specs.Motions.{straight_motion}
 use Rattle.block_motions.specs.declared.goals.Targets.{Targets}
 use Rattle.frames.specs.Maps.{Map}
@@ -22,12 +22,12 @@ use Rattle.path_geometry.specs.declared.motion.Motion.{Motion}
 use Rattle.sync_types.specs.declared.Item.{Item}
 use Rattle.sync_types.specs.declared.Part.TheVariants.{Move}
 use Rattle.block_effects.specs.Shapes.{shaped_by, turned_by, plane_of}
-use Rattle.block_effects.specs.Words.{Equipment, Progress, parameter_in, value_in, given, counted, begun, words_done}
+use Rattle.block_effects.specs.Words.{SetupView, Progress, parameter_in, value_in, assignment, increment, first_progress, words_done}
 use Rattle.nc_faults.specs.declared.alarms.TheConstants.{REPETITION_COUNT, NO_SUCH_PROGRAM, ARC_WORDS, GROUP_TWICE}
 use Rattle.g_groups.specs.declared.numbers.TheConstants.{MOTION_GROUP, DWELL_GROUP, AREA_GROUP, PLANE_GROUP, OFFSET_GROUP}
 use Rattle.nc_blocks.specs.declared.limits.TheConstants.{PASS_LIMIT}
 
--- what becomes of control behind a block: it goes on in its program by this outcome; or the program ends, which is a return on a lower level; or the program of this number runs, so many times
+-- what becomes of control after a block: it goes on in its program by this outcome; or the program ends, which is a return on a lower level; or the program of this number runs, so many times
 pub data Course : Type 0 where
   Goes : OutcomeView → Course
   Ends : Course
@@ -46,21 +46,21 @@ pub record Turning : Type 0 where
   pub course : Course
 
 -- with these parameters control goes on by this outcome
-abbrev pub goes : List ℤ → OutcomeView → Turning
-goes parameters outcome = record { parameters = parameters; course = Goes outcome }
+abbrev pub course_by : List ℤ → OutcomeView → Turning
+course_by parameters outcome = record { parameters = parameters; course = Goes outcome }
 
 -- ---- jumps
 
-abbrev pub jumped : JumpTo → OutcomeView
-jumped j = outcome.Jump j.way j.target
+abbrev pub jump_outcome : JumpTo → OutcomeView
+jump_outcome j = outcome.Jump j.way j.target
 
 abbrev pub jumped_if : Bool → JumpTo → OutcomeView
-jumped_if true j = jumped j
+jumped_if true j = jump_outcome j
 jumped_if false j = outcome.Plain
 
 -- a jump, if there is one
 abbrev pub jumped_some : Option JumpTo → OutcomeView
-jumped_some (Some j) = jumped j
+jumped_some (Some j) = jump_outcome j
 jumped_some None = outcome.Plain
 
 -- the jump of the first number that equals the value
@@ -68,37 +68,37 @@ abbrev pub first_equal : ℤ → List (ℤ × JumpTo) → Option JumpTo
 first_equal value pairs = option_map (λ pair. pair.1) (find (λ pair. int_eq value pair.0) pairs)
 
 -- and where there is none, that of DEFAULT
-abbrev pub chosen : ℤ → List (ℤ × JumpTo) → Option JumpTo → OutcomeView
-chosen value pairs default = jumped_some (option_or (first_equal value pairs) default)
+abbrev pub case_outcome : ℤ → List (ℤ × JumpTo) → Option JumpTo → OutcomeView
+case_outcome value pairs default = jumped_some (option_or (first_equal value pairs) default)
 
-abbrev pub leap : List ℤ → Tree → JumpTo → Result Turning ℕ
-leap parameters tree j = value_in parameters tree >>= λ value. Ok (goes parameters (jumped_if (is_true value) j))
+abbrev pub jump_course : List ℤ → Tree → JumpTo → Result Turning ℕ
+jump_course parameters tree j = value_in parameters tree >>= λ value. Ok (course_by parameters (jumped_if (is_true value) j))
 
 abbrev pub choice : List ℤ → Tree → List (ℤ × JumpTo) → Option JumpTo → Result Turning ℕ
-choice parameters tree pairs default = value_in parameters tree >>= λ value. Ok (goes parameters (chosen value pairs default))
+choice parameters tree pairs default = value_in parameters tree >>= λ value. Ok (course_by parameters (case_outcome value pairs default))
 
 -- ---- conditions
 
 -- a condition holds where its value is not 0
-abbrev pub conditional : List ℤ → Tree → Result Turning ℕ
-conditional parameters tree = value_in parameters tree >>= λ value. Ok (goes parameters (outcome.Truth (is_true value)))
+abbrev pub condition_course : List ℤ → Tree → Result Turning ℕ
+condition_course parameters tree = value_in parameters tree >>= λ value. Ok (course_by parameters (outcome.Truth (is_true value)))
 
 -- once more round a FOR, where its parameter is not above the bound
-abbrev pub bounded : List ℤ → ℕ → Tree → Result Turning ℕ
-bounded parameters index bound =
-    value_in parameters bound >>= λ value. Ok (goes parameters (outcome.Truth (not (int_lt value (parameter_in parameters index)))))
+abbrev pub bound_course : List ℤ → ℕ → Tree → Result Turning ℕ
+bound_course parameters index bound =
+    value_in parameters bound >>= λ value. Ok (course_by parameters (outcome.Truth (not (int_lt value (parameter_in parameters index)))))
 
 -- FOR sets its parameter and then looks at its bound
 abbrev pub for_begun : List ℤ → ℕ → Tree → Tree → Result Turning ℕ
-for_begun parameters index first bound = given parameters index first >>= λ p. bounded p index bound
+for_begun parameters index first bound = assignment parameters index first >>= λ p. bound_course p index bound
 
 -- ENDFOR adds 1 to the parameter of its FOR and then looks at the bound
 abbrev pub once_more : List ℤ → ℕ → Tree → Result Turning ℕ
-once_more parameters index bound = counted parameters index >>= λ p. bounded p index bound
+once_more parameters index bound = increment parameters index >>= λ p. bound_course p index bound
 
 abbrev pub for_continued : List ℤ → Statement → Result Turning ℕ
 for_continued parameters (For index first bound) = once_more parameters index bound
-for_continued parameters other = Ok (goes parameters outcome.Plain)
+for_continued parameters other = Ok (course_by parameters outcome.Plain)
 
 -- ---- repetitions
 
@@ -112,8 +112,8 @@ abbrev pub times_of : List ℤ → Option Tree → Result ℕ ℕ
 times_of parameters None = Ok 1
 times_of parameters (Some tree) = value_in parameters tree >>= λ value. times_in value
 
-abbrev pub repeated : List ℤ → Option Tree → Result Turning ℕ
-repeated parameters times = times_of parameters times >>= λ n. Ok (goes parameters (outcome.Again n))
+abbrev pub repetition_course : List ℤ → Option Tree → Result Turning ℕ
+repetition_course parameters times = times_of parameters times >>= λ n. Ok (course_by parameters (outcome.Again n))
 
 -- ---- calls
 
@@ -122,32 +122,32 @@ abbrev pub number_of : List (List ℕ) → List ℕ → Option ℕ
 number_of names name = position (λ n. bytes_eq n name) names
 
 -- an alarm where the library has none
-abbrev pub called : Option ℕ → Result ℕ ℕ
-called (Some number) = Ok number
-called None = Err NO_SUCH_PROGRAM
+abbrev pub library_number : Option ℕ → Result ℕ ℕ
+library_number (Some number) = Ok number
+library_number None = Err NO_SUCH_PROGRAM
 
 -- the program of this name runs so many times
-abbrev pub calling : List (List ℕ) → List ℤ → List ℕ → ℕ → Result Turning ℕ
-calling names parameters name passes =
-    called (number_of names name) >>= λ number. Ok (record { parameters = parameters; course = Calls number passes })
+abbrev pub call_course : List (List ℕ) → List ℤ → List ℕ → ℕ → Result Turning ℕ
+call_course names parameters name passes =
+    library_number (number_of names name) >>= λ number. Ok (record { parameters = parameters; course = Calls number passes })
 
 -- ---- blocks
 
 -- what a block does that moves no axis and shapes no frame, or its first alarm
 unfoldable pub control_effect : List (List ℕ) → List ℤ → Statement → Statement → Result Turning ℕ
-control_effect names parameters opener (Jump j) = Ok (goes parameters (jumped j))
-control_effect names parameters opener (IfJump tree j) = leap parameters tree j
-control_effect names parameters opener (If tree) = conditional parameters tree
-control_effect names parameters opener (While tree) = conditional parameters tree
-control_effect names parameters opener (Until tree) = conditional parameters tree
+control_effect names parameters opener (Jump j) = Ok (course_by parameters (jump_outcome j))
+control_effect names parameters opener (IfJump tree j) = jump_course parameters tree j
+control_effect names parameters opener (If tree) = condition_course parameters tree
+control_effect names parameters opener (While tree) = condition_course parameters tree
+control_effect names parameters opener (Until tree) = condition_course parameters tree
 control_effect names parameters opener (For index first bound) = for_begun parameters index first bound
 control_effect names parameters opener EndFor = for_continued parameters opener
 control_effect names parameters opener (Case tree pairs default) = choice parameters tree pairs default
-control_effect names parameters opener (RepeatFrom name times) = repeated parameters times
-control_effect names parameters opener (RepeatBlock name times) = repeated parameters times
-control_effect names parameters opener (Call name passes) = calling names parameters name passes
+control_effect names parameters opener (RepeatFrom name times) = repetition_course parameters times
+control_effect names parameters opener (RepeatBlock name times) = repetition_course parameters times
+control_effect names parameters opener (Call name passes) = call_course names parameters name passes
 control_effect names parameters opener Return = Ok (record { parameters = parameters; course = Ends })
-control_effect names parameters opener other = Ok (goes parameters outcome.Plain)
+control_effect names parameters opener other = Ok (course_by parameters outcome.Plain)
 
 -- the words of groups in a block; only word blocks have some
 abbrev pub group_word : WordView → Option GWord
@@ -163,43 +163,43 @@ unfoldable pub stands_still : List GWord → Bool
 stands_still words = list_any (λ word. word.group == DWELL_GROUP || word.group == AREA_GROUP) words
 
 -- what a block finds: the parameters, the words of groups in each block before it, the frame, and where the axes stand
-pub record Found : Type 0 where
+pub record SituationView : Type 0 where
   pub parameters : List ℤ
   pub words : List (List GWord)
   pub chain : List Map
   pub at : ℕ → ℤ
 
 -- the word of a group that holds in a block with these words of groups
-abbrev pub word_in : Found → List GWord → ℕ → ℕ
+abbrev pub word_in : SituationView → List GWord → ℕ → ℕ
 word_in found words group = modal_word (found.words ++ words ∷ []) group
 
--- what holds behind blocks with these words of groups, under this frame and with these offsets
-abbrev pub held_behind : (ℕ → ℕ → ℤ) → List (List GWord) → List Map → InForce
-held_behind offset blocks chain = record { word = modal_word blocks; chain = chain; offset = λ slot. offset (modal_word blocks OFFSET_GROUP) slot }
+-- what holds after blocks with these words of groups, under this frame and with these offsets
+abbrev pub held_after : (ℕ → ℕ → ℤ) → List (List GWord) → List Map → ConditionsView
+held_after offset blocks chain = record { word = modal_word blocks; chain = chain; offset = λ slot. offset (modal_word blocks OFFSET_GROUP) slot }
 
-abbrev pub in_force : Equipment → Found → List GWord → InForce
-in_force equipment found words = held_behind equipment.offset (found.words ++ words ∷ []) found.chain
+abbrev pub in_force : SetupView → SituationView → List GWord → ConditionsView
+in_force equipment found words = held_after equipment.offset (found.words ++ words ∷ []) found.chain
 
 -- G2 and G3 make arcs
-abbrev pub is_arc : InForce → Bool
+abbrev pub is_arc : ConditionsView → Bool
 is_arc h = h.word MOTION_GROUP == 2 || h.word MOTION_GROUP == 3
 
 -- words of an arc that may not stand where no arc is made: a radius, and a centre but under G33, where I, J and K are pitches
-abbrev pub has_stray_words : InForce → ArcWords → Bool
+abbrev pub has_stray_words : ConditionsView → ArcWords → Bool
 has_stray_words h words = is_some words.radius || (not (h.word MOTION_GROUP == 33) && is_any words.centre)
 
 -- an arc, or else a straight line or a rapid
-abbrev pub motion_made : List (Option ℕ) → List Bool → InForce → (ℕ → ℤ) → Targets → ArcWords → Result (Option Motion) ℕ
+abbrev pub motion_made : List (Option ℕ) → List Bool → ConditionsView → (ℕ → ℤ) → Targets → ArcWords → Result (Option Motion) ℕ
 motion_made slots owned h at targets arc = if is_arc h then arc_motion slots owned h at targets arc else straight_motion slots owned h at targets
 
 -- the motion of a block with these words of groups that programs these values and these words of an arc; none where it stands still. An alarm, before the others of a motion and also where it stands still, where it makes no arc and has words of one that may not stand there
-unfoldable pub moved_or_still : List (Option ℕ) → List Bool → InForce → (ℕ → ℤ) → List GWord → Targets → ArcWords → Result (Option Motion) ℕ
+unfoldable pub moved_or_still : List (Option ℕ) → List Bool → ConditionsView → (ℕ → ℤ) → List GWord → Targets → ArcWords → Result (Option Motion) ℕ
 moved_or_still slots owned h at words targets arc =
     if not (is_arc h) && has_stray_words h arc then Err ARC_WORDS
     else if stands_still words then Ok None
     else motion_made slots owned h at targets arc
 
-abbrev pub words_moved : Equipment → Found → List GWord → Targets → ArcWords → Result (Option Motion) ℕ
+abbrev pub words_moved : SetupView → SituationView → List GWord → Targets → ArcWords → Result (Option Motion) ℕ
 words_moved equipment found words targets arc =
     moved_or_still equipment.slots equipment.owned (in_force equipment found words) found.at words targets arc
 
@@ -210,39 +210,39 @@ item_on line motion = record { line = line; part = Move motion }
 abbrev pub course_of : Bool → Course
 course_of ends = if ends then Ends else Goes outcome.Plain
 
--- what words do behind others that have come so far, and the motion of the block behind its last word, or the first alarm
-abbrev pub acted : Equipment → InForce → (ℕ → ℤ) → List GWord → Progress → List WordView → Result (Progress × Option Motion) ℕ
-acted equipment h at groups p words =
+-- what words do after others that have come so far, and the motion of the block after its last word, or the first alarm
+abbrev pub words_then_motion : SetupView → ConditionsView → (ℕ → ℤ) → List GWord → Progress → List WordView → Result (Progress × Option Motion) ℕ
+words_then_motion equipment h at groups p words =
     words_done equipment p words >>= λ q.
     moved_or_still equipment.slots equipment.owned h at groups q.targets q.arc >>= λ motion.
     Ok (q, motion)
 
 -- the words act from left to right, and then the axes move
-abbrev pub words_run : Equipment → Found → ℕ → List GWord → List WordView → Result Effect ℕ
+abbrev pub words_run : SetupView → SituationView → ℕ → List GWord → List WordView → Result Effect ℕ
 words_run equipment found line groups words =
-    words_done equipment (begun found.parameters) words >>= λ p.
+    words_done equipment (first_progress found.parameters) words >>= λ p.
     words_moved equipment found groups p.targets p.arc >>= λ motion.
     Ok (record { parameters = p.parameters; chain = found.chain; item = option_map (item_on line) motion; course = course_of p.ends })
 
 -- an alarm, before all others, where two words of one group stand in the block
-abbrev pub words_effect : Equipment → Found → ℕ → List GWord → List WordView → Result Effect ℕ
+abbrev pub words_effect : SetupView → SituationView → ℕ → List GWord → List WordView → Result Effect ℕ
 words_effect equipment found line groups words = if has_group_twice groups then Err GROUP_TWICE else words_run equipment found line groups words
 
 -- a block of a frame leaves all but the frame
-abbrev pub framed : Found → Result (List Map) ℕ → Result Effect ℕ
-framed found made = made >>= λ chain. Ok (record { parameters = found.parameters; chain = chain; item = None; course = Goes outcome.Plain })
+abbrev pub frame_effect : SituationView → Result (List Map) ℕ → Result Effect ℕ
+frame_effect found made = made >>= λ chain. Ok (record { parameters = found.parameters; chain = chain; item = None; course = Goes outcome.Plain })
 
-abbrev pub turned_only : Found → Result Turning ℕ → Result Effect ℕ
+abbrev pub turned_only : SituationView → Result Turning ℕ → Result Effect ℕ
 turned_only found turning =
     turning >>= λ t. Ok (record { parameters = t.parameters; chain = found.chain; item = None; course = t.course })
 
 -- what a block on this line does, or its first alarm; `opener` is the block that begins the structure round it. A turn is in the plane that holds before the block
-unfoldable pub effect_of : Equipment → Found → ℕ → Statement → Statement → Result Effect ℕ
+unfoldable pub effect_of : SetupView → SituationView → ℕ → Statement → Statement → Result Effect ℕ
 effect_of equipment found line opener (WordBlock words) = words_effect equipment found line (group_words (WordBlock words)) words
 effect_of equipment found line opener (Shape word values) =
-    framed found (shaped_by found.parameters found.chain word values)
+    frame_effect found (shaped_by found.parameters found.chain word values)
 effect_of equipment found line opener (Turn additive angle) =
-    framed found (turned_by found.parameters found.chain (plane_of (word_in found [] PLANE_GROUP)) additive angle)
+    frame_effect found (turned_by found.parameters found.chain (plane_of (word_in found [] PLANE_GROUP)) additive angle)
 effect_of equipment found line opener other = turned_only found (control_effect equipment.names found.parameters opener other)
 
 -- whether a block with this course looks for where it leads, and may find nothing: it jumps, repeats or calls
@@ -254,7 +254,7 @@ searches Ends = false
 searches (Calls number passes) = true
 
 -- a block leaves the parameters and the frame as it finds them, and has no motion
-pub record IsStill (found : Found) (effect : Effect) : Type 0 where
+pub record IsStill (found : SituationView) (effect : Effect) : Type 0 where
   pub parameters : effect.parameters ≡ found.parameters
   pub chain : effect.chain ≡ found.chain
   pub item : effect.item ≡ None

@@ -25,30 +25,30 @@ unless_alarmed None chain = Ok chain
 unless_alarmed (Some code) chain = Err code
 
 -- a chain with maps at its end, or the alarm of that
-unfoldable pub added : List Map → List Map → Result (List Map) ℕ
-added chain maps = unless_alarmed (adding_fault chain maps) (chain ++ maps)
+unfoldable pub chain_with : List Map → List Map → Result (List Map) ℕ
+chain_with chain maps = unless_alarmed (adding_fault chain maps) (chain ++ maps)
 
 -- TRANS, SCALE and MIRROR begin a new chain; the others add to the one that is there
-unfoldable pub shaped : List Map → FrameWord → List (Option ℤ) → Result (List Map) ℕ
-shaped chain Trans values = added [] (shifts 0 values)
-shaped chain Atrans values = added chain (shifts 0 values)
-shaped chain Scale values = added [] (scales 0 values)
-shaped chain Ascale values = added chain (scales 0 values)
-shaped chain Mirror values = added [] (mirrors 0 values)
-shaped chain Amirror values = added chain (mirrors 0 values)
+unfoldable pub shape_chain : List Map → FrameWord → List (Option ℤ) → Result (List Map) ℕ
+shape_chain chain Trans values = chain_with [] (shifts 0 values)
+shape_chain chain Atrans values = chain_with chain (shifts 0 values)
+shape_chain chain Scale values = chain_with [] (scales 0 values)
+shape_chain chain Ascale values = chain_with chain (scales 0 values)
+shape_chain chain Mirror values = chain_with [] (mirrors 0 values)
+shape_chain chain Amirror values = chain_with chain (mirrors 0 values)
 
 -- ROT begins a new chain, AROT adds to the one that is there
-unfoldable pub turned : List Map → Plane → Bool → Option ℤ → Result (List Map) ℕ
-turned chain plane false angle = added [] (turns plane angle)
-turned chain plane true angle = added chain (turns plane angle)
+unfoldable pub turn_chain : List Map → Plane → Bool → Option ℤ → Result (List Map) ℕ
+turn_chain chain plane false angle = chain_with [] (turns plane angle)
+turn_chain chain plane true angle = chain_with chain (turns plane angle)
 
--- what a block makes of the chain that is a frame word and the words X, Y and Z behind it: all values are found before the maps are added
+-- what a block makes of the chain that is a frame word and the words X, Y and Z after it: all values are found before the maps are added
 abbrev pub shaped_by : List ℤ → List Map → FrameWord → List (ℕ × Tree) → Result (List Map) ℕ
-shaped_by parameters chain word words = values_done parameters no_values words >>= λ row. shaped chain word row
+shaped_by parameters chain word words = values_done parameters no_values words >>= λ row. shape_chain chain word row
 
 -- and one that is ROT or AROT with this angle
 abbrev pub turned_by : List ℤ → List Map → Plane → Bool → Option Tree → Result (List Map) ℕ
-turned_by parameters chain plane additive angle = option_read parameters angle >>= λ value. turned chain plane additive value
+turned_by parameters chain plane additive angle = option_read parameters angle >>= λ value. turn_chain chain plane additive value
 
 -- the plane of a word of its group
 unfoldable pub plane_of : ℕ → Plane

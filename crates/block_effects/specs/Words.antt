@@ -8,7 +8,7 @@ use Rattle.block_motions.specs.declared.goals.Targets.{Targets}
 use Rattle.nc_blocks.specs.declared.blocks.Measure.{Measure}
 use Rattle.nc_expressions.specs.Symbols.{index_of}
 use Rattle.nc_expressions.specs.Tree.{Tree}
-use Rattle.nc_expressions.specs.Value.{◌>>=◌, checked, value_of}
+use Rattle.nc_expressions.specs.Value.{◌>>=◌, in_range_or_alarm, value_of}
 use Rattle.nc_blocks.specs.Statement.{OperandView, Value, Text, AxisName, WordView, Assign, AssignAt, G, Axis, Radius, Aux, End}
 use Rattle.block_effects.specs.declared.parameters.Change.{Change}
 use Rattle.block_effects.specs.declared.progress.WordsDone.{WordsDone}
@@ -31,12 +31,12 @@ abbrev pub value_in : List ℤ → Tree → Result ℤ ℕ
 value_in parameters tree = value_of (parameter_in parameters) tree
 
 -- a parameter gets the value of an expression
-abbrev pub given : List ℤ → ℕ → Tree → Result (List ℤ) ℕ
-given parameters index tree = value_in parameters tree >>= λ value. Ok (slice_set parameters index value)
+abbrev pub assignment : List ℤ → ℕ → Tree → Result (List ℤ) ℕ
+assignment parameters index tree = value_in parameters tree >>= λ value. Ok (slice_set parameters index value)
 
 -- a parameter becomes 1 more; an alarm where it leaves the range
-abbrev pub counted : List ℤ → ℕ → Result (List ℤ) ℕ
-counted parameters index = checked (parameter_in parameters index +ℤ pos 1000000) >>= λ value. Ok (slice_set parameters index value)
+abbrev pub increment : List ℤ → ℕ → Result (List ℤ) ℕ
+increment parameters index = in_range_or_alarm (parameter_in parameters index +ℤ pos 1000000) >>= λ value. Ok (slice_set parameters index value)
 
 -- an alarm where an index is no number of a parameter
 abbrev pub index_in : Option ℕ → Result ℕ ℕ
@@ -46,7 +46,7 @@ index_in None = Err PARAMETER_INDEX
 -- ---- axes
 
 -- what the programs of a channel find in their job and in the channel: the names of the programs in the order of their numbers, the axis with a name, the settable offset of a slot under a word of its group in micrometres; the axes in the slots X, Y and Z, and whether the channel owns an axis
-pub record Equipment : Type 0 where
+pub record SetupView : Type 0 where
   pub names : List (List ℕ)
   pub axis_named : List ℕ → Option ℕ
   pub offset : ℕ → ℕ → ℤ
@@ -86,7 +86,7 @@ named_programmed slots targets (Some axis) value =
     if is_in_slot slots axis then Err GEOMETRY_AXIS_BY_NAME
     else programmed_once targets.axes axis value >>= λ row. Ok (record targets { axes = row })
 
-abbrev pub programmed_by : Equipment → Targets → List ℕ → Option ℕ → Programmed → Result Targets ℕ
+abbrev pub programmed_by : SetupView → Targets → List ℕ → Option ℕ → Programmed → Result Targets ℕ
 programmed_by equipment targets name (Some slot) value = slot_programmed equipment.slots targets slot value
 programmed_by equipment targets name None value = named_programmed equipment.slots targets (equipment.axis_named name) value
 
@@ -105,16 +105,16 @@ unfoldable pub no_arc : ArcWords
 no_arc = record { centre = replicate 3 None; radius = None }
 
 -- a word of the centre more; an alarm where a word before has programmed it
-abbrev pub centred : ArcWords → ℕ → Programmed → Result ArcWords ℕ
-centred words axis value = programmed_once words.centre axis value >>= λ row. Ok (record words { centre = row })
+abbrev pub with_centre_word : ArcWords → ℕ → Programmed → Result ArcWords ℕ
+with_centre_word words axis value = programmed_once words.centre axis value >>= λ row. Ok (record words { centre = row })
 
 -- the radius; an alarm where a word before has programmed it
-abbrev pub rounded : ArcWords → ℤ → Result ArcWords ℕ
-rounded words value = if is_some words.radius then Err ADDRESS_TWICE else Ok (record words { radius = Some value })
+abbrev pub with_radius : ArcWords → ℤ → Result ArcWords ℕ
+with_radius words value = if is_some words.radius then Err ADDRESS_TWICE else Ok (record words { radius = Some value })
 
 -- ---- words
 
--- how far the words of a block have come: the parameters, the values that are programmed, the words of an arc, and whether the program ends behind the block
+-- how far the words of a block have come: the parameters, the values that are programmed, the words of an arc, and whether the program ends after the block
 pub record Progress : Type 0 where
   pub parameters : List ℤ
   pub targets : Targets
@@ -125,27 +125,27 @@ pub record Progress : Type 0 where
 unfoldable pub nothing_programmed : Targets
 nothing_programmed = record { slots = replicate 3 None; axes = replicate AXIS_LIMIT None }
 
-abbrev pub begun : List ℤ → Progress
-begun parameters = record { parameters = parameters; targets = nothing_programmed; arc = no_arc; ends = false }
+abbrev pub first_progress : List ℤ → Progress
+first_progress parameters = record { parameters = parameters; targets = nothing_programmed; arc = no_arc; ends = false }
 
 -- the index comes before the value
 abbrev pub given_at : List ℤ → Tree → Tree → Result (List ℤ) ℕ
-given_at parameters at tree = value_in parameters at >>= λ z. index_in (index_of z) >>= λ index. given parameters index tree
+given_at parameters at tree = value_in parameters at >>= λ z. index_in (index_of z) >>= λ index. assignment parameters index tree
 
 -- a word changes the parameters alone
-abbrev pub assigned : Progress → Result (List ℤ) ℕ → Result Progress ℕ
-assigned p values = values >>= λ parameters. Ok (record p { parameters = parameters })
+abbrev pub with_parameters : Progress → Result (List ℤ) ℕ → Result Progress ℕ
+with_parameters p values = values >>= λ parameters. Ok (record p { parameters = parameters })
 
 -- a word programs an axis alone
-abbrev pub aimed : Progress → Result Targets ℕ → Result Progress ℕ
-aimed p targets = targets >>= λ new. Ok (record p { targets = new })
+abbrev pub with_targets : Progress → Result Targets ℕ → Result Progress ℕ
+with_targets p targets = targets >>= λ new. Ok (record p { targets = new })
 
 -- a word programs a centre or a radius alone
-abbrev pub curved : Progress → Result ArcWords ℕ → Result Progress ℕ
-curved p words = words >>= λ new. Ok (record p { arc = new })
+abbrev pub with_arc_words : Progress → Result ArcWords ℕ → Result Progress ℕ
+with_arc_words p words = words >>= λ new. Ok (record p { arc = new })
 
-abbrev pub meant : Measure → ℤ → Programmed
-meant measure value = record { measure = measure; value = value }
+abbrev pub programmed_value : Measure → ℤ → Programmed
+programmed_value measure value = record { measure = measure; value = value }
 
 -- a value that is found and not used
 abbrev pub option_read : List ℤ → Option Tree → Result (Option ℤ) ℕ
@@ -162,23 +162,23 @@ abbrev pub aux_read : List ℤ → Option Tree → OperandView → Result (Optio
 aux_read parameters index operand = option_read parameters index >>= λ _. operand_read parameters operand
 
 -- I, J and K are words of the centre, and all others program axes
-abbrev pub addressed : Equipment → Progress → List ℕ → Option ℕ → Programmed → Result Progress ℕ
-addressed equipment p name (Some axis) value = curved p (centred p.arc axis value)
-addressed equipment p name None value = aimed p (programmed_by equipment p.targets name (slot_named name) value)
+abbrev pub word_progress : SetupView → Progress → List ℕ → Option ℕ → Programmed → Result Progress ℕ
+word_progress equipment p name (Some axis) value = with_arc_words p (with_centre_word p.arc axis value)
+word_progress equipment p name None value = with_targets p (programmed_by equipment p.targets name (slot_named name) value)
 
 -- what a word does, or its first alarm: words of groups hold for the whole block
-unfoldable pub word_done : Equipment → Progress → WordView → Result Progress ℕ
-word_done equipment p (Assign index tree) = assigned p (given p.parameters index tree)
-word_done equipment p (AssignAt at tree) = assigned p (given_at p.parameters at tree)
+unfoldable pub word_done : SetupView → Progress → WordView → Result Progress ℕ
+word_done equipment p (Assign index tree) = with_parameters p (assignment p.parameters index tree)
+word_done equipment p (AssignAt at tree) = with_parameters p (given_at p.parameters at tree)
 word_done equipment p (G group code) = Ok p
 word_done equipment p (Axis name measure tree) =
-    value_in p.parameters tree >>= λ value. addressed equipment p name (centre_named name) (meant measure value)
-word_done equipment p (Radius tree) = value_in p.parameters tree >>= λ value. curved p (rounded p.arc value)
+    value_in p.parameters tree >>= λ value. word_progress equipment p name (centre_named name) (programmed_value measure value)
+word_done equipment p (Radius tree) = value_in p.parameters tree >>= λ value. with_arc_words p (with_radius p.arc value)
 word_done equipment p (Aux name index operand) = aux_read p.parameters index operand >>= λ _. Ok p
 word_done equipment p End = Ok (record p { ends = true })
 
 -- one word after another; the first alarm counts
-abbrev pub words_done : Equipment → Progress → List WordView → Result Progress ℕ
+abbrev pub words_done : SetupView → Progress → List WordView → Result Progress ℕ
 words_done equipment p [] = Ok p
 words_done equipment p (word ∷ words) = word_done equipment p word >>= λ q. words_done equipment q words
 
@@ -197,30 +197,30 @@ Acts done result new = MatchResult result (λ _. done ≡ Ok new) (λ code. done
 
 -- a word of an arc is programmed, or alarms
 abbrev pub Curves : Result ArcWords ℕ → Result ⊤ ℕ → ArcWords → Type 0
-Curves curved result new = MatchResult result (λ _. curved ≡ Ok new) (λ code. curved ≡ Err code)
+Curves with_arc_words result new = MatchResult result (λ _. with_arc_words ≡ Ok new) (λ code. with_arc_words ≡ Err code)
 
 -- an axis is programmed, or alarms
 abbrev pub Aims : Result Targets ℕ → Result ⊤ ℕ → Targets → Type 0
-Aims aimed result new = MatchResult result (λ _. aimed ≡ Ok new) (λ code. aimed ≡ Err code)
+Aims with_targets result new = MatchResult result (λ _. with_targets ≡ Ok new) (λ code. with_targets ≡ Err code)
 
 -- a value is in its place, or alarms
 abbrev pub IsPut : Result (List (Option Programmed)) ℕ → Result ⊤ ℕ → List (Option Programmed) → Type 0
 IsPut put result new = MatchResult result (λ _. put ≡ Ok new) (λ code. put ≡ Err code)
 
 abbrev pub IsGiven : Result (List ℤ) ℕ → Result Change ℕ → List ℤ → Type 0
-IsGiven given result new = MatchResult result (λ _. given ≡ Ok new) (λ code. given ≡ Err code)
+IsGiven assignment result new = MatchResult result (λ _. assignment ≡ Ok new) (λ code. assignment ≡ Err code)
 
 -- the parameters as they were before a change of one of them
-abbrev pub undone : List ℤ → Change → List ℤ
-undone parameters change = slice_set parameters change.index change.before
+abbrev pub parameters_before : List ℤ → Change → List ℤ
+parameters_before parameters change = slice_set parameters change.index change.before
 
 -- a change of a parameter that there is leads back to the parameters before it; after an alarm there is none
 abbrev pub IsUndone : Result Change ℕ → List ℤ → List ℤ → Type 0
-IsUndone result old new = MatchResult result (λ change. (change.index ≤ LAST_PARAMETER) × (undone new change ≡ old)) (λ _. new ≡ old)
+IsUndone result old new = MatchResult result (λ change. (change.index ≤ LAST_PARAMETER) × (parameters_before new change ≡ old)) (λ _. new ≡ old)
 
 -- the same, where a word may change none
 abbrev pub IsUndoneSome : Result (Option Change) ℕ → List ℤ → List ℤ → Type 0
-IsUndoneSome result old new = MatchResult result (λ o. MatchOption o (new ≡ old) (λ change. (change.index ≤ LAST_PARAMETER) × (undone new change ≡ old))) (λ _. new ≡ old)
+IsUndoneSome result old new = MatchResult result (λ o. MatchOption o (new ≡ old) (λ change. (change.index ≤ LAST_PARAMETER) × (parameters_before new change ≡ old))) (λ _. new ≡ old)
 
 abbrev pub IsRead : Result (Option ℤ) ℕ → Result ⊤ ℕ → Type 0
 IsRead read result = MatchResult result (λ _. IsOk read) (λ code. read ≡ Err code)

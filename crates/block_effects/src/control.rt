@@ -31,7 +31,7 @@ fn is_true(value: Num) -> bool
 
 /// A jump.
 pub(crate) fn jumped(jump: &JumpTo) -> Outcome<'_>
-    ensures { outcome_view result ≡ model.jumped jump.now }
+    ensures { outcome_view result ≡ model.jump_outcome jump.now }
 {
     Outcome::Jump(jump.way, &jump.target)
 }
@@ -67,7 +67,7 @@ fn first_equal(value: Num, pairs: &[(Num, JumpTo)]) -> Option<&JumpTo>
 
 /// The jump of the first number that equals a value, or else that of DEFAULT.
 fn chosen<'a>(value: Num, pairs: &'a [(Num, JumpTo)], default: &'a Option<JumpTo>) -> Outcome<'a>
-    ensures { outcome_view result ≡ model.chosen value pairs.now default.now }
+    ensures { outcome_view result ≡ model.case_outcome value pairs.now default.now }
 {
     match first_equal(value, pairs) {
         Some(jump) => jumped(jump),
@@ -82,7 +82,7 @@ pub(crate) fn leap<'a>(
     jump: &'a JumpTo,
 ) -> Result<Course<'a>, u16>
     requires { IndicesFit (tree_of condition.now) }
-    ensures { Turns (model.leap parameters.now (tree_of condition.now) jump.now) result parameters.now }
+    ensures { Turns (model.jump_course parameters.now (tree_of condition.now) jump.now) result parameters.now }
 {
     let value = eval(condition, parameters)?;
     Ok(Course::Goes(jumped_if(is_true(value), jump)))
@@ -107,7 +107,7 @@ pub(crate) fn choice<'a>(
 /// A block with a condition.
 pub(crate) fn conditional<'a>(parameters: &Parameters, condition: &Expr) -> Result<Course<'a>, u16>
     requires { IndicesFit (tree_of condition.now) }
-    ensures { Turns (model.conditional parameters.now (tree_of condition.now)) result parameters.now }
+    ensures { Turns (model.condition_course parameters.now (tree_of condition.now)) result parameters.now }
 {
     let value = eval(condition, parameters)?;
     Ok(Course::Goes(Outcome::Truth(is_true(value))))
@@ -117,15 +117,15 @@ pub(crate) fn conditional<'a>(parameters: &Parameters, condition: &Expr) -> Resu
 fn bounded<'a>(parameters: &Parameters, index: u16, bound: &Expr) -> Result<Course<'a>, u16>
     requires index { index ≤ LAST_PARAMETER }
     requires fits { IndicesFit (tree_of bound.now) }
-    ensures { Turns (model.bounded parameters.now index (tree_of bound.now)) result parameters.now }
+    ensures { Turns (model.bound_course parameters.now index (tree_of bound.now)) result parameters.now }
 {
     let bound = eval(bound, parameters)?;
     let value = parameters.parameter(index);
     Ok(Course::Goes(Outcome::Truth(value.millionths <= bound.millionths)))
 }
 
-/// The same behind a change of a parameter, which an alarm takes back.
-fn bounded_behind<'a>(
+/// The same after a change of a parameter, which an alarm takes back.
+fn bounded_after<'a>(
     parameters: &mut Parameters,
     change: Change,
     index: u16,
@@ -134,8 +134,8 @@ fn bounded_behind<'a>(
     requires index { index ≤ LAST_PARAMETER }
     requires change { change.index ≤ LAST_PARAMETER }
     requires fits { IndicesFit (tree_of bound.now) }
-    ensures turns { Turns (model.bounded parameters.old index (tree_of bound.now)) result parameters.new }
-    ensures undone { OnErr result (parameters.new ≡ words.undone parameters.old change) }
+    ensures turns { Turns (model.bound_course parameters.old index (tree_of bound.now)) result parameters.new }
+    ensures undone { OnErr result (parameters.new ≡ words.parameters_before parameters.old change) }
 {
     match bounded(parameters, index, bound) {
         Ok(course) => Ok(course),
@@ -160,7 +160,7 @@ pub(crate) fn begin_for<'a>(
     ensures unchanged { OnErr result (parameters.new ≡ parameters.old) }
 {
     let change = parameters.give(index, first)?;
-    bounded_behind(parameters, change, index, bound)
+    bounded_after(parameters, change, index, bound)
 }
 
 /// ENDFOR of a FOR with this parameter and bound.
@@ -171,7 +171,7 @@ fn once_more<'a>(parameters: &mut Parameters, index: u16, bound: &Expr) -> Resul
     ensures unchanged { OnErr result (parameters.new ≡ parameters.old) }
 {
     let change = parameters.count(index)?;
-    bounded_behind(parameters, change, index, bound)
+    bounded_after(parameters, change, index, bound)
 }
 
 /// ENDFOR, where this block begins the structure round it.
@@ -221,7 +221,7 @@ fn times_of(parameters: &Parameters, times: &Option<Expr>) -> Result<u16, u16>
 /// A repetition.
 pub(crate) fn repeat<'a>(parameters: &Parameters, times: &Option<Expr>) -> Result<Course<'a>, u16>
     requires { OptionFits (tree_option times.now) }
-    ensures { Turns (model.repeated parameters.now (tree_option times.now)) result parameters.now }
+    ensures { Turns (model.repetition_course parameters.now (tree_option times.now)) result parameters.now }
 {
     let times = times_of(parameters, times)?;
     Ok(Course::Goes(Outcome::Again(times)))
@@ -231,7 +231,7 @@ pub(crate) fn repeat<'a>(parameters: &Parameters, times: &Option<Expr>) -> Resul
 
 /// The number of the program of this name, or alarm 7.
 pub(crate) fn called<S: Setup>(setup: &S, name: &NameText) -> Result<u16, u16>
-    ensures { result ≡ model.called (model.number_of (S.names setup.now) name.now) }
+    ensures { result ≡ model.library_number (model.number_of (S.names setup.now) name.now) }
 {
     match setup.number_of(name) {
         Some(number) => Ok(number),

@@ -1,4 +1,4 @@
-//! What becomes of control behind a block.
+//! What becomes of control after a block.
 
 use axis_sets::AxisId;
 use micro_units::Um;
@@ -8,7 +8,7 @@ use nc_faults::NoMemory;
 use sync_types::Item;
 use thiserror::Error;
 
-/// What becomes of control behind a block.
+/// What becomes of control after a block.
 #[derive(Clone, Copy, Debug)]
 pub enum Course<'a> {
     /// It goes on in its program, by what came of the block.

@@ -1,7 +1,7 @@
 //! What a block does.
 
 ghost use Rattle.std.specs.Prelude.{◌≡◌, All, IsTrue, IfOk, OnErr, None, map, not, option_map};
-ghost use Rattle.block_motions.specs.Goals.{InForce, AreInForce};
+ghost use Rattle.block_motions.specs.Goals.{ConditionsView, AreInForce};
 ghost use Rattle.axis_sets.specs.Positions.{stands};
 ghost use Rattle.block_motions.specs.Motions.{StandsAtEndOf};
 ghost use Rattle.sync_types.specs.Items.{StandsAtEnd};
@@ -55,7 +55,7 @@ fn framed<'a>() -> Done<'a>
 /// Whether a block makes an arc.
 #[tactic(auto, using(block_motions::proofs::HeldWords::has_motion_word))]
 fn is_arc(conditions: &Conditions) -> bool
-    ensures { (h : InForce) → AreInForce h conditions.now → result ≡ model.is_arc h }
+    ensures { (h : ConditionsView) → AreInForce h conditions.now → result ≡ model.is_arc h }
 {
     let code = word(conditions, MOTION_GROUP);
     code == 2 || code == 3
@@ -64,7 +64,7 @@ fn is_arc(conditions: &Conditions) -> bool
 /// Whether there are words of an arc that may not stand where there is none.
 #[tactic(auto, using(block_motions::proofs::HeldWords::has_motion_word))]
 fn has_stray_words(conditions: &Conditions, arc: &ArcWords) -> bool
-    ensures { (h : InForce) → AreInForce h conditions.now → result ≡ model.has_stray_words h arc.now }
+    ensures { (h : ConditionsView) → AreInForce h conditions.now → result ≡ model.has_stray_words h arc.now }
 {
     arc.radius.is_some() || (word(conditions, MOTION_GROUP) != 33 && is_any(&arc.centre))
 }
@@ -77,7 +77,7 @@ fn make_motion(
     arc: &ArcWords,
     at: &mut Positions,
 ) -> Result<Option<Motion>, u16>
-    ensures made { (h : InForce) → AreInForce h conditions.now
+    ensures made { (h : ConditionsView) → AreInForce h conditions.now
         → result ≡ model.motion_made axes.now.slots axes.now.owned h (stands at.old) targets.now arc.now }
     ensures stand { IfOk result (λ motion. StandsAtEndOf motion at.old at.new) }
     ensures unmoved { OnErr result (at.new ≡ at.old) }
@@ -98,7 +98,7 @@ fn move_axes(
     done: &WordsDone,
     at: &mut Positions,
 ) -> Result<Option<Motion>, u16>
-    ensures made { (h : InForce) → AreInForce h conditions.now
+    ensures made { (h : ConditionsView) → AreInForce h conditions.now
         → result ≡ model.moved_or_still axes.now.slots axes.now.owned h (stands at.old) groups.now done.now.targets done.now.arc }
     ensures stand { IfOk result (λ motion. StandsAtEndOf motion at.old at.new) }
     ensures unmoved { OnErr result (at.new ≡ at.old) }
@@ -125,8 +125,8 @@ fn run_from<S: Setup>(
     done: &mut WordsDone,
 ) -> Result<(), u16>
     requires { All WordFits (map word_view words.now) }
-    ensures acts { (h : InForce) → AreInForce h conditions.now
-        → ActsAll (model.acted (equipment_of (S.names setup.now) (S.axis_named setup.now) (S.offset setup.now) axes.now)
+    ensures acts { (h : ConditionsView) → AreInForce h conditions.now
+        → ActsAll (model.words_then_motion (equipment_of (S.names setup.now) (S.axis_named setup.now) (S.offset setup.now) axes.now)
         h (stands at.old) groups.now (progress_of parameters.old done.old) (map word_view words.now)) result (progress_of parameters.new done.new) done.new.motion }
     ensures stand { IfOk result (λ _. StandsAtEndOf done.new.motion at.old at.new) }
     ensures parameters { OnErr result (parameters.new ≡ parameters.old) }

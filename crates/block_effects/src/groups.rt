@@ -78,7 +78,7 @@ pub(crate) fn plane_in(modal: &Modal) -> Plane
 #[tactic(auto, unfolding(g_groups::specs::Groups::holding_of))]
 pub(crate) fn conditions<S: Setup>(setup: &S, modal: &Modal, frame: &Frame) -> Conditions
     ensures { (blocks : List (List GWord)) (chain : List Map) → IsAfter blocks modal.now → IsComposed chain frame.now
-        → AreInForce (model.held_behind (S.offset setup.now) blocks chain) result }
+        → AreInForce (model.held_after (S.offset setup.now) blocks chain) result }
 {
     let word = modal.word(OFFSET_GROUP);
     Conditions {

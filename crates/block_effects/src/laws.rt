@@ -6,13 +6,13 @@ ghost use Rattle.nc_blocks.specs.Statement.{Statement};
 ghost use Rattle.nc_faults.specs.Texts.{IsAlarmCode};
 ghost use Rattle.sync_types.specs.declared.Item.{Item};
 ghost use Rattle.sync_types.specs.Items.{motion_of};
-ghost use Rattle.block_effects.specs.Effects.{Effect, Found, effect_of};
-ghost use Rattle.block_effects.specs.Words.{Equipment};
+ghost use Rattle.block_effects.specs.Effects.{Effect, SituationView, effect_of};
+ghost use Rattle.block_effects.specs.Words.{SetupView};
 
 /// A law: the motion of a block is one of axes that the channel owns, each once, from where it stands
 /// to an end in range. It is sound where the axes stand in range.
 pub fn motions_begin_where_axes_stand()
-    ensures { (equipment : Equipment) (found : Found) (line : ℕ) (opener statement : Statement) (effect : Effect) (item : Item)
+    ensures { (equipment : SetupView) (found : SituationView) (line : ℕ) (opener statement : Statement) (effect : Effect) (item : Item)
         → effect_of equipment found line opener statement ≡ Ok effect
         → effect.item ≡ Some item
         → IsMotionOf equipment.owned found.at (motion_of item) }
@@ -20,7 +20,7 @@ pub fn motions_begin_where_axes_stand()
 
 /// A law: the alarm of a block is in the table of alarms.
 pub fn alarms_are_listed()
-    ensures { (equipment : Equipment) (found : Found) (line : ℕ) (opener statement : Statement) (code : ℕ)
+    ensures { (equipment : SetupView) (found : SituationView) (line : ℕ) (opener statement : Statement) (code : ℕ)
         → effect_of equipment found line opener statement ≡ Err code
         → IsAlarmCode code }
 {}

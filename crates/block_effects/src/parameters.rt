@@ -2,9 +2,9 @@
 
 ghost use Rattle.std.specs.Prelude.{◌≡◌, ◌≤◌, pos, ◌+ℤ◌, slice_set, IfOk, IfSome, MatchOption};
 ghost use Rattle.nc_expressions.specs.Tree.{tree_of, IndicesFit};
-ghost use Rattle.nc_expressions.specs.Value.{checked};
+ghost use Rattle.nc_expressions.specs.Value.{in_range_or_alarm};
 ghost use Rattle.block_effects.specs.Words as model;
-ghost use Rattle.block_effects.specs.Words.{undone, zeros, IsGiven, IsUndone};
+ghost use Rattle.block_effects.specs.Words.{parameters_before, zeros, IsGiven, IsUndone};
 ghost use Rattle.nc_expressions.specs.declared.limits.TheConstants.{LAST_PARAMETER};
 
 use micro_units::Num;
@@ -81,7 +81,7 @@ impl Parameters {
         requires { index ≤ LAST_PARAMETER }
         ensures set { self.new ≡ slice_set self.old index value }
         ensures index { result.index ≡ index }
-        ensures undone { undone self.new result ≡ self.old }
+        ensures parameters_before { parameters_before self.new result ≡ self.old }
     {
         let before = self.parameter(index);
         self.set(index, value);
@@ -91,7 +91,7 @@ impl Parameters {
     /// Takes a change back.
     pub(crate) fn undo(&mut self, change: Change)
         requires { change.index ≤ LAST_PARAMETER }
-        ensures { self.new ≡ undone self.old change }
+        ensures { self.new ≡ parameters_before self.old change }
     {
         self.set(change.index, change.before);
     }
@@ -99,7 +99,7 @@ impl Parameters {
     /// Takes a change back, if there is one.
     pub(crate) fn undo_some(&mut self, change: Option<Change>)
         requires { IfSome change (λ made. made.index ≤ LAST_PARAMETER) }
-        ensures { MatchOption change (self.new ≡ self.old) (λ made. self.new ≡ undone self.old made) }
+        ensures { MatchOption change (self.new ≡ self.old) (λ made. self.new ≡ parameters_before self.old made) }
     {
         if let Some(change) = change {
             self.undo(change);
@@ -110,8 +110,8 @@ impl Parameters {
     pub(crate) fn give(&mut self, index: u16, value: &Expr) -> Result<Change, u16>
         requires index { index ≤ LAST_PARAMETER }
         requires fits { IndicesFit (tree_of value.now) }
-        ensures given { IsGiven (model.given self.old index (tree_of value.now)) result self.new }
-        ensures undone { IsUndone result self.old self.new }
+        ensures given { IsGiven (model.assignment self.old index (tree_of value.now)) result self.new }
+        ensures parameters_before { IsUndone result self.old self.new }
     {
         let value = eval(value, self)?;
         Ok(self.replace(index, value))
@@ -122,7 +122,7 @@ impl Parameters {
         requires index { IndicesFit (tree_of index.now) }
         requires fits { IndicesFit (tree_of value.now) }
         ensures given { IsGiven (model.given_at self.old (tree_of index.now) (tree_of value.now)) result self.new }
-        ensures undone { IsUndone result self.old self.new }
+        ensures parameters_before { IsUndone result self.old self.new }
     {
         let index = eval(index, self)?;
         match index_of(index) {
@@ -134,8 +134,8 @@ impl Parameters {
     /// Adds 1 to the parameter of this number and answers how it was before, or alarm 1 where it leaves the range.
     pub(crate) fn count(&mut self, index: u16) -> Result<Change, u16>
         requires { index ≤ LAST_PARAMETER }
-        ensures given { IsGiven (model.counted self.old index) result self.new }
-        ensures undone { IsUndone result self.old self.new }
+        ensures given { IsGiven (model.increment self.old index) result self.new }
+        ensures parameters_before { IsUndone result self.old self.new }
     {
         let value = one_more(self.parameter(index))?;
         Ok(self.replace(index, value))
@@ -145,7 +145,7 @@ impl Parameters {
 /// The number that is 1 more, or alarm 1 where it is out of range.
 #[tactic(auto, using(crate::proofs::Counts::too_large, crate::proofs::Counts::in_range))]
 fn one_more(value: Num) -> Result<Num, u16>
-    ensures { result ≡ checked (value +ℤ pos 1000000) }
+    ensures { result ≡ in_range_or_alarm (value +ℤ pos 1000000) }
 {
     match value.add(Num {
         millionths: 1_000_000,

@@ -25,7 +25,7 @@ pub(crate) struct WordsDone {
     pub(crate) targets: Targets,
     /// The words of an arc.
     pub(crate) arc: ArcWords,
-    /// Whether the program ends behind the block.
+    /// Whether the program ends after the block.
     pub(crate) ends: bool,
     /// The motion of the block, once its last word has acted.
     pub(crate) motion: Option<Motion>,
@@ -133,14 +133,14 @@ fn program_named(
 /// Programs the centre of an arc.
 fn program_centre(arc: &mut ArcWords, axis: u8, value: Programmed) -> Result<(), u16>
     requires { axis < 3 }
-    ensures { Curves (model.centred arc.old axis value) result arc.new }
+    ensures { Curves (model.with_centre_word arc.old axis value) result arc.new }
 {
     put(&mut arc.centre, usize::from(axis), value)
 }
 
 /// Programs the radius of an arc.
 fn program_radius(arc: &mut ArcWords, value: Num) -> Result<(), u16>
-    ensures { Curves (model.rounded arc.old value) result arc.new }
+    ensures { Curves (model.with_radius arc.old value) result arc.new }
 {
     if arc.radius.is_some() {
         return Err(ADDRESS_TWICE);
@@ -231,7 +231,7 @@ impl WordsDone {
         value: Programmed,
     ) -> Result<(), u16>
         ensures { (parameters : List ℤ)
-            → Acts (model.addressed (equipment_of (S.names setup.now) (S.axis_named setup.now) (S.offset setup.now) axes.now)
+            → Acts (model.word_progress (equipment_of (S.names setup.now) (S.axis_named setup.now) (S.offset setup.now) axes.now)
             (progress_of parameters self.old) name.now (model.centre_named name.now) value) result (progress_of parameters self.new) }
     {
         match centre_named(name) {

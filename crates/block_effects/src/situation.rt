@@ -19,7 +19,7 @@ pub struct ChannelAxes {
 pub struct Situation {
     /// The parameters.
     pub parameters: Parameters,
-    /// The words of groups that hold behind the last block.
+    /// The words of groups that hold after the last block.
     pub modal: Modal,
     /// The programmable frame.
     pub frame: Frame,

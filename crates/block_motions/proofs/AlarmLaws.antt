@@ -3,14 +3,14 @@ use Rattle.std.proofs.Common.{◌≡◌, ℕ, ℤ, pos, Bool, true, false, not, 
 use Rattle.std.specs.Prelude.{int_lt, unsigned_abs}
 use Rattle.nc_faults.specs.Texts.{IsAlarmCode, alarm_texts}
 use Rattle.frames.specs.declared.Plane.{Plane}
-use Rattle.path_geometry.specs.Arcs.{arc_with, unless, centre_alarm, arc_about, radius_alarm, centre_of, place_alarm, arc_placed, arc_of_radius}
+use Rattle.path_geometry.specs.Arcs.{arc_with, unless_alarm, centre_alarm, arc_about, radius_alarm, centre_of, place_alarm, arc_placed, arc_of_radius}
 use Rattle.path_geometry.specs.Ends.{EndsView}
 use Rattle.path_geometry.specs.Vectors.{Vector}
 use Rattle.path_geometry.specs.declared.motion.Motion.{Motion}
 use Rattle.path_geometry.specs.declared.motion.Motion.TheVariants as Kind
 use Rattle.block_motions.specs.declared.goals.Goal.{Goal}
 use Rattle.block_motions.specs.declared.goals.Targets.{Targets}
-use Rattle.block_motions.specs.Goals.{InForce, have_axes, goals_of}
+use Rattle.block_motions.specs.Goals.{ConditionsView, have_axes, goals_of}
 use Rattle.block_motions.specs.Motions.{are_in_reach, are_own, ends_from, is_rapid, motion_if_any, straight_motion_to, straight_motion}
 use Rattle.block_motions.specs.Arcs.{place_from, goal_on, arc_about_places, arc_by_words, radius_of, arc_of_size, arc_by_size, arc_given, can_run, some_motion, arc_to, sides_in, have_one_factor, is_backward, in_turn, arc_goals, arc_between, arc_through, moves_arc, is_given, is_in_plane, plane_of, arc_motion}
 use Rattle.block_motions.specs.Sides.{SideView}
@@ -81,7 +81,7 @@ first_of : (b : Bool) (first : ℕ) (later : Option ℕ) → IsAlarmCode first �
 first_of true first later listed rest = some first listed
 first_of false first later listed rest = rest
 
-past_alarm : (o : Option ℕ) (answer : Result Motion ℕ) → IsNoneOr o → IsListed answer → IsListed (unless o answer)
+past_alarm : (o : Option ℕ) (answer : Result Motion ℕ) → IsNoneOr o → IsListed answer → IsListed (unless_alarm o answer)
 past_alarm None answer listed rest = rest
 past_alarm (Some code) answer listed rest = this_alarm code (listed.listed code refl)
 
@@ -121,7 +121,7 @@ module _ (sides : SideView × SideView) (ends : EndsView) where
   size_listed long None = this_alarm 13 listed_13
   size_listed long (Some size) = radius_listed ends sides.0.moved sides.1.moved (unsigned_abs size) long
 
-  given_listed : (h : InForce) (at : ℕ → ℤ) (words : ArcWords) (radius : Option ℤ) → IsListed (arc_given h at words radius sides ends)
+  given_listed : (h : ConditionsView) (at : ℕ → ℤ) (words : ArcWords) (radius : Option ℤ) → IsListed (arc_given h at words radius sides ends)
   unfolding arc_by_words arc_by_size
   given_listed h at words None =
       places_listed (place_from (at sides.0.moved) (goal_on h words sides.0)) (place_from (at sides.1.moved) (goal_on h words sides.1))
@@ -131,7 +131,7 @@ some_listed : (answer : Result Motion ℕ) → IsListed answer → IsListed (som
 some_listed (Ok motion) listed = no_alarm _
 some_listed (Err code) listed = this_alarm code (listed.listed code refl)
 
-module _ (owned : List Bool) (h : InForce) (at : ℕ → ℤ) (words : ArcWords) where
+module _ (owned : List Bool) (h : ConditionsView) (at : ℕ → ℤ) (words : ArcWords) where
   to_listed : (sides : SideView × SideView) (goals : List (Option Goal)) → IsListed (arc_to owned h at words sides goals)
   unfolding arc_to
   to_listed sides goals =
@@ -169,10 +169,10 @@ unfolding straight_motion_to
 straight_to_listed owned at rapid goals =
     either (are_in_reach owned at goals) 13 _ listed_13 (either (are_own owned goals) 15 _ listed_15 (no_alarm (motion_if_any rapid (ends_from at goals))))
 
-straight_listed : (slots : List (Option ℕ)) (owned : List Bool) (h : InForce) (at : ℕ → ℤ) (targets : Targets) → IsListed (straight_motion slots owned h at targets)
+straight_listed : (slots : List (Option ℕ)) (owned : List Bool) (h : ConditionsView) (at : ℕ → ℤ) (targets : Targets) → IsListed (straight_motion slots owned h at targets)
 unfolding straight_motion
 straight_listed slots owned h at targets = either (have_axes slots h targets.slots) 14 _ listed_14 (straight_to_listed owned at (is_rapid h) (goals_of slots h targets))
 
-pub straight_alarm_listed : (slots : List (Option ℕ)) (owned : List Bool) (h : InForce) (at : ℕ → ℤ) (targets : Targets) (code : ℕ)
+pub straight_alarm_listed : (slots : List (Option ℕ)) (owned : List Bool) (h : ConditionsView) (at : ℕ → ℤ) (targets : Targets) (code : ℕ)
     → straight_motion slots owned h at targets ≡ Err code → IsAlarmCode code
 straight_alarm_listed slots owned h at targets code is = (straight_listed slots owned h at targets).listed code is

@@ -7,7 +7,7 @@ use Rattle.axis_sets.specs.Sets.{has}
 use Rattle.block_motions.specs.declared.goals.Goal.{Goal}
 use Rattle.block_motions.specs.declared.goals.Goal.TheVariants.{To, By, TooFar}
 use Rattle.block_motions.specs.declared.goals.Targets.{Targets}
-use Rattle.block_motions.specs.Goals.{InForce, chain_in, change_by, have_axes}
+use Rattle.block_motions.specs.Goals.{ConditionsView, chain_in, change_by, have_axes}
 use Rattle.block_motions.specs.Motions.{are_in_reach, are_own, goal_at, end_for, ends_from, IsMotionOf}
 use Rattle.block_motions.proofs.MotionLaws.{end_own}
 use Rattle.block_motions.proofs.Ends.{ends_all, ends_once}
@@ -20,7 +20,7 @@ use Rattle.path_geometry.specs.Motions.{axes_of, AreSound, HavePlane, IsSound}
 use Rattle.micro_units.specs.Position.{IsPosition, is_position}
 use Rattle.path_geometry.specs.declared.motion.Motion.{Motion}
 use Rattle.path_geometry.proofs.ArcSoundness.{about_sound, radius_sound}
-use Rattle.block_motions.specs.Arcs.{placed, place_from, goal_on, arc_about_places, arc_by_words, size_of, radius_of, arc_of_size, arc_by_size, arc_given, can_run, some_motion, arc_to, sides_in, have_one_factor, is_backward, in_turn, arc_goals, arc_between, arc_through, moves_arc, is_given, is_in_plane, plane_of, arc_motion}
+use Rattle.block_motions.specs.Arcs.{place_in_range, place_from, goal_on, arc_about_places, arc_by_words, size_of, radius_of, arc_of_size, arc_by_size, arc_given, can_run, some_motion, arc_to, sides_in, have_one_factor, is_backward, in_turn, arc_goals, arc_between, arc_through, moves_arc, is_given, is_in_plane, plane_of, arc_motion}
 use Rattle.block_motions.specs.Sides.{SideView}
 use Rattle.block_motions.specs.declared.words.ArcWords.{ArcWords}
 use Rattle.block_motions.proofs.ArcAxes.{about_axes, radius_axes}
@@ -29,7 +29,7 @@ use Rattle.nc_faults.specs.declared.alarms.TheConstants.{ARC_SCALE, ARC_WORDS, A
 
 -- ---- the centre and the size are in range
 
-placed_near : (place : ℤ) → IfSome (placed place) IsPosition
+placed_near : (place : ℤ) → IfSome (place_in_range place) IsPosition
 placed_near place = by_test (is_position place) refl
   where
     by_test : (b : Bool) → is_position place ≡ b → IfSome (cond b (Some place) None) IsPosition
@@ -73,7 +73,7 @@ module _ (sides : SideView × SideView) (ends : EndsView) (are : AreSound ends) 
     axes = radius_axes ends sides.0.moved sides.1.moved (unsigned_abs size) long;
   }
 
-  pub given_for : (h : InForce) (at : ℕ → ℤ) (words : ArcWords) (radius : Option ℤ) → IsFor ends (arc_given h at words radius sides ends)
+  pub given_for : (h : ConditionsView) (at : ℕ → ℤ) (words : ArcWords) (radius : Option ℤ) → IsFor ends (arc_given h at words radius sides ends)
   unfolding arc_by_words arc_by_size
   given_for h at words None =
       places_for (place_from (at sides.0.moved) (goal_on h words sides.0)) (place_from (at sides.1.moved) (goal_on h words sides.1))
@@ -110,7 +110,7 @@ module _ (owned : List Bool) (at : ℕ → ℤ) (words : ArcWords) (motion : Mot
         sound = for.sound;
       })
 
-  module _ (h : InForce) where
+  module _ (h : ConditionsView) where
     to_is : (sides : SideView × SideView) (goals : List (Option Goal)) → arc_to owned h at words sides goals ≡ Ok (Some motion) → IsSoundMotionOf owned at motion
     unfolding arc_to
     to_is sides goals is = by_tests (are_in_reach owned at goals) (are_own owned goals) (can_run sides made) refl refl refl is

@@ -10,7 +10,7 @@ use Rattle.block_motions.specs.declared.goals.Goal.{Goal}
 use Rattle.block_motions.specs.declared.goals.Goal.TheVariants.{To, By, TooFar}
 use Rattle.block_motions.specs.declared.goals.Programmed.{Programmed}
 use Rattle.block_motions.specs.declared.goals.Targets.{Targets}
-use Rattle.block_motions.specs.Goals.{InForce, position_at, change_by, is_change, chain_in, twice_of, place_of, goal_through, goal_by_name, axis_in, value_at, put, with_goal, goals_of}
+use Rattle.block_motions.specs.Goals.{ConditionsView, position_at, change_by, is_change, chain_in, twice_of, place_of, goal_through, goal_by_name, axis_in, value_at, put, with_goal, goals_of}
 
 abbrev pub IsFit : Option Goal → Type 0
 IsFit None = ⊤
@@ -39,7 +39,7 @@ either_fit false change at = position_fit at
 abbrev pub AllFit : List (Option Goal) → Type 0
 AllFit goals = (axis : ℕ) → IsFit (get_or goals axis None)
 
-module _ (h : InForce) where
+module _ (h : ConditionsView) where
   through_fit : (axis : ℕ) (p : Programmed) → IsFit (Some (goal_through h axis p))
   through_fit axis p = either_fit (is_change h p.measure) (change_of (image_of (chain_in h) axis) (twice_of h axis p)) (place_of h axis (twice_of h axis p))
 

@@ -16,7 +16,7 @@ use Rattle.axis_sets.specs.Sets.{has}
 use Rattle.block_motions.specs.declared.goals.Goal.{Goal}
 use Rattle.block_motions.specs.declared.goals.Goal.TheVariants.{To, By, TooFar}
 use Rattle.block_motions.specs.declared.goals.Targets.{Targets}
-use Rattle.block_motions.specs.Goals.{InForce, have_axes, goals_of}
+use Rattle.block_motions.specs.Goals.{ConditionsView, have_axes, goals_of}
 use Rattle.path_geometry.specs.Motions.{axis_end}
 use Rattle.block_motions.specs.Motions.{end_from, is_in_reach, are_in_reach, is_own, are_own, goal_at, end_for, ends_from, is_rapid, motion_between, motion_if_any, straight_motion_to, straight_motion, IsMotionOf}
 use Rattle.block_motions.proofs.Ends.{le_or_lt, ends_all, Differ, ends_once}
@@ -81,7 +81,7 @@ module _ (owned : List Bool) (at : ℕ → ℤ) where
       by_tests true true reached mine is =
           let made : motion_if_any rapid (ends_from at goals) ≡ Some motion = cc in any_is rapid (ends_from at goals) motion (ends_are rapid goals fit reached mine) made
 
-  pub straight_is : (slots : List (Option ℕ)) (h : InForce) (targets : Targets) (motion : Motion) → straight_motion slots owned h at targets ≡ Ok (Some motion) → IsMotionOf owned at motion
+  pub straight_is : (slots : List (Option ℕ)) (h : ConditionsView) (targets : Targets) (motion : Motion) → straight_motion slots owned h at targets ≡ Ok (Some motion) → IsMotionOf owned at motion
   unfolding straight_motion
   straight_is slots h targets motion is = by_axes (have_axes slots h targets.slots) is
     where

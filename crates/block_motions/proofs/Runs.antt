@@ -4,7 +4,7 @@ use Rattle.std.proofs.lemmas.Bool.{and_parts, eq-eqb, leb-true, not-true}
 use Rattle.std.proofs.lemmas.List.Elements.{All-nil, All-cons, All-weaker}
 use Rattle.std.specs.List.{list_all}
 use Rattle.block_motions.specs.declared.goals.Goal.{Goal}
-use Rattle.block_motions.specs.Goals.{InForce}
+use Rattle.block_motions.specs.Goals.{ConditionsView}
 use Rattle.block_motions.specs.Motions.{are_in_reach, are_own, ends_from}
 use Rattle.path_geometry.specs.Ends.{EndsView}
 use Rattle.path_geometry.specs.Motions.{HavePlane}
@@ -49,7 +49,7 @@ past true true false answer x y z = absurd cc
 past true false c answer x y z = absurd cc
 past false b c answer x y z = absurd cc
 
-pub arc_gives : (owned : List Bool) (h : InForce) (at : ℕ → ℤ) (words : ArcWords) (sides : SideView × SideView) (goals : List (Option Goal))
+pub arc_gives : (owned : List Bool) (h : ConditionsView) (at : ℕ → ℤ) (words : ArcWords) (sides : SideView × SideView) (goals : List (Option Goal))
     → are_in_reach owned at goals ≡ true → are_own owned goals ≡ true → (ends : EndsView) → ends.axes ≡ ends_from at goals → can_run sides ends ≡ true
     → arc_to owned h at words sides goals ≡ some_motion (arc_given h at words words.radius sides ends)
 unfolding arc_to

@@ -8,7 +8,7 @@ use Rattle.block_motions.specs.declared.goals.Goal.{Goal}
 use Rattle.block_motions.specs.declared.goals.Goal.TheVariants.{To, By, TooFar}
 use Rattle.block_motions.specs.declared.goals.Programmed.{Programmed}
 use Rattle.block_motions.specs.declared.goals.Targets.{Targets}
-use Rattle.block_motions.specs.Goals.{InForce, chain_in, change_by, goal_through, axis_in, have_axes, goals_of}
+use Rattle.block_motions.specs.Goals.{ConditionsView, chain_in, change_by, goal_through, axis_in, have_axes, goals_of}
 use Rattle.block_motions.specs.Motions.{goal_at, are_in_reach, are_own, ends_from}
 use Rattle.frames.specs.Images.{image_of, other_sign}
 use Rattle.frames.specs.Maps.{first_axis, second_axis}
@@ -48,7 +48,7 @@ abbrev pub is_given : ArcWords → Bool
 is_given words = if is_any words.centre then is_none words.radius else is_radius words.radius
 
 -- the word of group 6 that holds; G18 where it is no other
-abbrev pub plane_of : InForce → Plane
+abbrev pub plane_of : ConditionsView → Plane
 plane_of h = if h.word PLANE_GROUP == 17 then G17 else if h.word PLANE_GROUP == 19 then G19 else G18
 
 -- the axis that is not of the plane
@@ -75,19 +75,19 @@ both None second = None
 both (Some first) None = None
 both (Some first) (Some second) = Some (first, second)
 
-abbrev pub sides_in : List (Option ℕ) → InForce → Plane → Option (SideView × SideView)
+abbrev pub sides_in : List (Option ℕ) → ConditionsView → Plane → Option (SideView × SideView)
 sides_in slots h plane =
     both (side (first_axis plane) (axis_in slots h (first_axis plane))) (side (second_axis plane) (axis_in slots h (second_axis plane)))
 
 -- the frame has one factor for both
-unfoldable pub have_one_factor : InForce → Plane → Bool
+unfoldable pub have_one_factor : ConditionsView → Plane → Bool
 have_one_factor h plane =
     let first = image_of (chain_in h) (first_axis plane) in
     let second = image_of (chain_in h) (second_axis plane) in
     int_eq (first.factor *ℤ pos second.under) (second.factor *ℤ pos first.under)
 
 -- the arc turns from the second to the first: under G2, or where the frame mirrors one of the two, but not where both is so
-abbrev pub is_backward : InForce → Plane → Bool
+abbrev pub is_backward : ConditionsView → Plane → Bool
 is_backward h plane =
     other_sign (h.word MOTION_GROUP == 2) (other_sign (image_of (chain_in h) (first_axis plane)).minus (image_of (chain_in h) (second_axis plane)).minus)
 
@@ -99,11 +99,11 @@ in_turn true sides = (sides.1, sides.0)
 -- ---- goals
 
 -- an axis of the plane without a goal stays
-abbrev pub staying : List (Option Goal) → ℕ → List (Option Goal)
-staying goals axis = if is_some (goal_at goals axis) then goals else slice_set goals axis (Some (By (pos 0)))
+abbrev pub goals_with_stay : List (Option Goal) → ℕ → List (Option Goal)
+goals_with_stay goals axis = if is_some (goal_at goals axis) then goals else slice_set goals axis (Some (By (pos 0)))
 
-abbrev pub arc_goals : List (Option ℕ) → InForce → Targets → SideView × SideView → List (Option Goal)
-arc_goals slots h targets sides = staying (staying (goals_of slots h targets) sides.0.moved) sides.1.moved
+abbrev pub arc_goals : List (Option ℕ) → ConditionsView → Targets → SideView × SideView → List (Option Goal)
+arc_goals slots h targets sides = goals_with_stay (goals_with_stay (goals_of slots h targets) sides.0.moved) sides.1.moved
 
 -- ---- the centre and the radius
 
@@ -113,26 +113,26 @@ is_absolute Absolute = true
 is_absolute Incremental = false
 
 -- a word of the centre is a change from the start, and never a diameter; with AC it is read as an end
-abbrev pub goal_of_word : InForce → ℕ → Programmed → Goal
+abbrev pub goal_of_word : ConditionsView → ℕ → Programmed → Goal
 goal_of_word h axis p =
     if is_absolute p.measure then goal_through h axis p else change_by (change_of (image_of (chain_in h) axis) (p.value *ℤ pos 2))
 
 -- where the centre goes from the start; nowhere without a word
-abbrev pub centre_goal : InForce → ℕ → Option Programmed → Goal
+abbrev pub centre_goal : ConditionsView → ℕ → Option Programmed → Goal
 centre_goal h axis None = By (pos 0)
 centre_goal h axis (Some p) = goal_of_word h axis p
 
-abbrev pub goal_on : InForce → ArcWords → SideView → Goal
+abbrev pub goal_on : ConditionsView → ArcWords → SideView → Goal
 goal_on h words side = centre_goal h side.axis (centre_word words side.axis)
 
 -- a place in range
-abbrev pub placed : ℤ → Option ℤ
-placed place = if is_position place then Some place else None
+abbrev pub place_in_range : ℤ → Option ℤ
+place_in_range place = if is_position place then Some place else None
 
 -- where a goal leads from the start, if that is in range
 abbrev pub place_from : ℤ → Goal → Option ℤ
-place_from start (To end) = placed end
-place_from start (By change) = placed (start +ℤ change)
+place_from start (To end) = place_in_range end
+place_from start (By change) = place_in_range (start +ℤ change)
 place_from start TooFar = None
 
 abbrev pub arc_about_places : EndsView → SideView × SideView → Option ℤ → Option ℤ → Result Motion ℕ
@@ -141,7 +141,7 @@ arc_about_places ends sides (Some first) None = Err OUT_OF_RANGE
 arc_about_places ends sides (Some first) (Some second) = arc_about ends sides.0.moved sides.1.moved (first, second)
 
 -- the arc about the centre; alarm 13 where the centre is out of range, then its own alarms
-unfoldable pub arc_by_words : InForce → (ℕ → ℤ) → ArcWords → SideView × SideView → EndsView → Result Motion ℕ
+unfoldable pub arc_by_words : ConditionsView → (ℕ → ℤ) → ArcWords → SideView × SideView → EndsView → Result Motion ℕ
 arc_by_words h at words sides ends =
     arc_about_places ends sides (place_from (at sides.0.moved) (goal_on h words sides.0)) (place_from (at sides.1.moved) (goal_on h words sides.1))
 
@@ -151,8 +151,8 @@ size_of (To end) = None
 size_of (By change) = if is_position change then Some (pos (unsigned_abs change)) else None
 size_of TooFar = None
 
--- a radius behind the frame, without its sign
-abbrev pub radius_of : InForce → ℕ → ℤ → Option ℤ
+-- a radius after the frame, without its sign
+abbrev pub radius_of : ConditionsView → ℕ → ℤ → Option ℤ
 radius_of h axis radius = size_of (change_by (change_of (image_of (chain_in h) axis) (pos (unsigned_abs radius) *ℤ pos 2)))
 
 abbrev pub arc_of_size : EndsView → SideView × SideView → Bool → Option ℤ → Result Motion ℕ
@@ -160,10 +160,10 @@ arc_of_size ends sides long None = Err OUT_OF_RANGE
 arc_of_size ends sides long (Some size) = arc_of_radius ends sides.0.moved sides.1.moved (unsigned_abs size) long
 
 -- the arc by its radius, the longer one where it is below 0; alarm 13 where it is out of range, then its own alarms
-unfoldable pub arc_by_size : InForce → ℤ → SideView × SideView → EndsView → Result Motion ℕ
+unfoldable pub arc_by_size : ConditionsView → ℤ → SideView × SideView → EndsView → Result Motion ℕ
 arc_by_size h radius sides ends = arc_of_size ends sides (int_lt radius (pos 0)) (radius_of h sides.0.axis radius)
 
-abbrev pub arc_given : InForce → (ℕ → ℤ) → ArcWords → Option ℤ → SideView × SideView → EndsView → Result Motion ℕ
+abbrev pub arc_given : ConditionsView → (ℕ → ℤ) → ArcWords → Option ℤ → SideView × SideView → EndsView → Result Motion ℕ
 arc_given h at words None sides ends = arc_by_words h at words sides ends
 arc_given h at words (Some radius) sides ends = arc_by_size h radius sides ends
 
@@ -186,7 +186,7 @@ some_motion (Ok motion) = Ok (Some motion)
 some_motion (Err alarm) = Err alarm
 
 -- the arc to these goals; alarm 13 where one is out of reach, 15 where an axis is not the channel's own; then the alarms of the arc
-unfoldable pub arc_to : List Bool → InForce → (ℕ → ℤ) → ArcWords → SideView × SideView → List (Option Goal) → Result (Option Motion) ℕ
+unfoldable pub arc_to : List Bool → ConditionsView → (ℕ → ℤ) → ArcWords → SideView × SideView → List (Option Goal) → Result (Option Motion) ℕ
 arc_to owned h at words sides goals =
     let ends : EndsView = record { axes = ends_from at goals } in
     if not (are_in_reach owned at goals) then Err OUT_OF_RANGE
@@ -195,20 +195,20 @@ arc_to owned h at words sides goals =
     else some_motion (arc_given h at words words.radius sides ends)
 
 -- the arc in a plane; alarm 23 where the frame has two factors in it
-abbrev pub arc_between : List (Option ℕ) → List Bool → InForce → (ℕ → ℤ) → Targets → ArcWords → Plane → Option (SideView × SideView) → Result (Option Motion) ℕ
+abbrev pub arc_between : List (Option ℕ) → List Bool → ConditionsView → (ℕ → ℤ) → Targets → ArcWords → Plane → Option (SideView × SideView) → Result (Option Motion) ℕ
 arc_between slots owned h at targets words plane None = Err NO_SUCH_AXIS
 arc_between slots owned h at targets words plane (Some sides) =
     if not (have_one_factor h plane) then Err ARC_SCALE
     else arc_to owned h at words (in_turn (is_backward h plane) sides) (arc_goals slots h targets sides)
 
 -- the arc of words that can be one; alarm 14 where the frame sends X, Y or Z, if it is programmed or of the plane, to a slot without axis
-unfoldable pub arc_through : List (Option ℕ) → List Bool → InForce → (ℕ → ℤ) → Targets → ArcWords → Plane → Result (Option Motion) ℕ
+unfoldable pub arc_through : List (Option ℕ) → List Bool → ConditionsView → (ℕ → ℤ) → Targets → ArcWords → Plane → Result (Option Motion) ℕ
 arc_through slots owned h at targets words plane =
     if not (have_axes slots h targets.slots) then Err NO_SUCH_AXIS
     else arc_between slots owned h at targets words plane (sides_in slots h plane)
 
 -- the motion of a block under G2, or else G3, that programs these values and words, of a channel with these slots and axes, where this holds and the axes stand so; none without an axis and a centre. Alarm 18, before all others, where there is neither or both of a centre and a radius, or a radius of 0; then 19 where the centre has a word of an axis that is not of the plane
-unfoldable pub arc_motion : List (Option ℕ) → List Bool → InForce → (ℕ → ℤ) → Targets → ArcWords → Result (Option Motion) ℕ
+unfoldable pub arc_motion : List (Option ℕ) → List Bool → ConditionsView → (ℕ → ℤ) → Targets → ArcWords → Result (Option Motion) ℕ
 arc_motion slots owned h at targets words =
     if not (moves_arc targets words) then Ok None
     else if not (is_given words) then Err ARC_WORDS

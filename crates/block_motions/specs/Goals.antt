@@ -4,7 +4,7 @@ use Rattle.std.specs.Int.RustNames.{unsigned_abs}
 use Rattle.frames.specs.Composition.{IsComposed}
 use Rattle.frames.specs.Images.{image_of}
 use Rattle.frames.specs.Maps.{Map, mapped_point}
-use Rattle.frames.specs.Places.{programmed, end_at, change_of}
+use Rattle.frames.specs.Places.{programmed_point, end_at, change_of}
 use Rattle.g_groups.specs.Groups.{HasModalValue}
 use Rattle.micro_units.specs.Rounding.{half_away}
 use Rattle.nc_blocks.specs.declared.blocks.Measure.{Measure}
@@ -23,30 +23,30 @@ use Rattle.micro_units.specs.Position.{is_position}
 -- ---- what holds in a block
 
 -- the code of the word of each group, the programmable frame, and the settable offset of each slot in micrometres
-pub record InForce : Type 0 where
+pub record ConditionsView : Type 0 where
   pub word : ℕ → ℕ
   pub chain : List Map
   pub offset : ℕ → ℤ
 
 -- G53, G153 and SUPA, the words of group 9, take the empty frame and no offset for their block
-abbrev pub chain_in : InForce → List Map
+abbrev pub chain_in : ConditionsView → List Map
 chain_in h = if h.word BLOCK_GROUP == 0 then h.chain else []
 
-abbrev pub offset_in : InForce → ℕ → ℤ
+abbrev pub offset_in : ConditionsView → ℕ → ℤ
 offset_in h slot = if h.word BLOCK_GROUP == 0 then h.offset slot else pos 0
 
 -- a value is a change with IC, and under G91 without AC
-abbrev pub is_change : InForce → Measure → Bool
+abbrev pub is_change : ConditionsView → Measure → Bool
 is_change h Modal = h.word DIMENSION_GROUP == 91
 is_change h Absolute = false
 is_change h Incremental = true
 
 -- a value of X is a diameter under DIAMON, and under DIAM90 where it is no change; these are the words 1 and 3 of group 29
-abbrev pub is_diameter : InForce → ℕ → Bool → Bool
+abbrev pub is_diameter : ConditionsView → ℕ → Bool → Bool
 is_diameter h axis change = axis == 0 && (h.word DIAMETER_GROUP == DIAMON || (h.word DIAMETER_GROUP == DIAM90 && not change))
 
 -- twice the value that goes through the frame, in millionths of a millimetre: of a diameter goes the half
-abbrev pub twice_of : InForce → ℕ → Programmed → ℤ
+abbrev pub twice_of : ConditionsView → ℕ → Programmed → ℤ
 twice_of h axis p = if is_diameter h axis (is_change h p.measure) then p.value else p.value *ℤ pos 2
 
 -- ---- goals
@@ -62,38 +62,38 @@ abbrev pub on_axis : ℕ → ℤ → ℕ → ℤ
 on_axis axis twice other = if other == axis then twice else pos 0
 
 -- the slot to which the frame sends X, Y or Z
-abbrev pub slot_of : InForce → ℕ → ℕ
+abbrev pub slot_of : ConditionsView → ℕ → ℕ
 slot_of h axis = (image_of (chain_in h) axis).slot
 
 -- where it goes: through the frame, and by the offset of its slot, rounded once
-abbrev pub place_of : InForce → ℕ → ℤ → ℤ
-place_of h axis twice = end_at (mapped_point (chain_in h) (programmed (on_axis axis twice))) (slot_of h axis) (offset_in h (slot_of h axis))
+abbrev pub place_of : ConditionsView → ℕ → ℤ → ℤ
+place_of h axis twice = end_at (mapped_point (chain_in h) (programmed_point (on_axis axis twice))) (slot_of h axis) (offset_in h (slot_of h axis))
 
 -- the goal of X, Y or Z with this value
-abbrev pub goal_through : InForce → ℕ → Programmed → Goal
+abbrev pub goal_through : ConditionsView → ℕ → Programmed → Goal
 goal_through h axis p =
     if is_change h p.measure then change_by (change_of (image_of (chain_in h) axis) (twice_of h axis p))
     else position_at (place_of h axis (twice_of h axis p))
 
 -- an axis by its own name goes without frame, offset and diameter
-abbrev pub goal_by_name : InForce → Programmed → Goal
+abbrev pub goal_by_name : ConditionsView → Programmed → Goal
 goal_by_name h p = if is_change h p.measure then change_by (half_away p.value 1000) else position_at (half_away p.value 1000)
 
 -- ---- the goals of a block
 
 -- the axis that X, Y or Z moves: the one in the slot to which the frame sends it
-abbrev pub axis_in : List (Option ℕ) → InForce → ℕ → Option ℕ
+abbrev pub axis_in : List (Option ℕ) → ConditionsView → ℕ → Option ℕ
 axis_in slots h axis = slice_index_or slots (slot_of h axis) None
 
 -- where X, Y or Z is programmed, there is an axis that it moves
-abbrev pub has_axis : List (Option ℕ) → InForce → ℕ → Option Programmed → Bool
+abbrev pub has_axis : List (Option ℕ) → ConditionsView → ℕ → Option Programmed → Bool
 has_axis slots h axis None = true
 has_axis slots h axis (Some p) = is_some (axis_in slots h axis)
 
 abbrev pub value_at : List (Option Programmed) → ℕ → Option Programmed
 value_at values axis = slice_index_or values axis None
 
-unfoldable pub have_axes : List (Option ℕ) → InForce → List (Option Programmed) → Bool
+unfoldable pub have_axes : List (Option ℕ) → ConditionsView → List (Option Programmed) → Bool
 have_axes slots h values = has_axis slots h 0 (value_at values 0) && (has_axis slots h 1 (value_at values 1) && has_axis slots h 2 (value_at values 2))
 
 -- the goals by the numbers of the axes, with one more
@@ -102,11 +102,11 @@ put goals None goal = goals
 put goals (Some axis) goal = slice_set goals axis (Some goal)
 
 -- with that of X, Y or Z, if it is programmed
-abbrev pub with_goal : List (Option ℕ) → InForce → ℕ → Option Programmed → List (Option Goal) → List (Option Goal)
+abbrev pub with_goal : List (Option ℕ) → ConditionsView → ℕ → Option Programmed → List (Option Goal) → List (Option Goal)
 with_goal slots h axis None goals = goals
 with_goal slots h axis (Some p) goals = put goals (axis_in slots h axis) (goal_through h axis p)
 
-unfoldable pub goals_of : List (Option ℕ) → InForce → Targets → List (Option Goal)
+unfoldable pub goals_of : List (Option ℕ) → ConditionsView → Targets → List (Option Goal)
 goals_of slots h targets =
     with_goal slots h 2 (value_at targets.slots 2) (with_goal slots h 1 (value_at targets.slots 1) (with_goal slots h 0 (value_at targets.slots 0)
     (map (λ value. option_map (goal_by_name h) value) targets.axes)))
@@ -114,7 +114,7 @@ goals_of slots h targets =
 -- ---- answers
 
 -- the code keeps what holds: the words by groups, the composition of the frame, and the offsets of the three slots
-pub record AreInForce (h : InForce) (kept : Conditions) : Type 0 where
+pub record AreInForce (h : ConditionsView) (kept : Conditions) : Type 0 where
   pub words : (group : ℕ) → HasModalValue group → slice_index kept.modal group ≡ h.word group
   pub frame : IsComposed h.chain kept.frame
   pub offsets : (slot : ℕ) → slot < 3 → slice_index_or kept.offsets slot (pos 0) ≡ h.offset slot

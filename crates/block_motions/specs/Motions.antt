@@ -11,7 +11,7 @@ use Rattle.path_geometry.specs.declared.motion.Motion.TheVariants.{Line, Rapid}
 use Rattle.block_motions.specs.declared.goals.Goal.{Goal}
 use Rattle.block_motions.specs.declared.goals.Goal.TheVariants.{To, By, TooFar}
 use Rattle.block_motions.specs.declared.goals.Targets.{Targets}
-use Rattle.block_motions.specs.Goals.{InForce, have_axes, goals_of}
+use Rattle.block_motions.specs.Goals.{ConditionsView, have_axes, goals_of}
 use Rattle.nc_faults.specs.declared.alarms.TheConstants.{AXIS_NOT_OWNED, NO_SUCH_AXIS, OUT_OF_RANGE}
 use Rattle.axis_sets.specs.declared.limits.TheConstants.{AXIS_LIMIT}
 use Rattle.g_groups.specs.declared.numbers.TheConstants.{MOTION_GROUP, RAPID_GROUP, RTLIOF}
@@ -62,7 +62,7 @@ abbrev pub ends_from : (ℕ → ℤ) → List (Option Goal) → List (ℕ × ℤ
 ends_from at goals = filter_map (λ axis. option_map (λ end. (axis, at axis, end)) (end_for at goals axis)) (range_with_len 0 AXIS_LIMIT)
 
 -- each axis goes by itself under G0 with RTLIOF, the words 0 of group 1 and 2 of group 0
-abbrev pub is_rapid : InForce → Bool
+abbrev pub is_rapid : ConditionsView → Bool
 is_rapid h = h.word MOTION_GROUP == 0 && h.word RAPID_GROUP == RTLIOF
 
 -- a rapid, or else a straight line
@@ -82,7 +82,7 @@ straight_motion_to owned at rapid goals =
     else Ok (motion_if_any rapid (ends_from at goals))
 
 -- the motion of a block, a line or a rapid, that programs these values, of a channel with these slots and axes, where this holds and the axes stand so; alarm 14, before the others, where the frame sends X, Y or Z to a slot without axis
-unfoldable pub straight_motion : List (Option ℕ) → List Bool → InForce → (ℕ → ℤ) → Targets → Result (Option Motion) ℕ
+unfoldable pub straight_motion : List (Option ℕ) → List Bool → ConditionsView → (ℕ → ℤ) → Targets → Result (Option Motion) ℕ
 straight_motion slots owned h at targets =
     if not (have_axes slots h targets.slots) then Err NO_SUCH_AXIS
     else straight_motion_to owned at (is_rapid h) (goals_of slots h targets)

@@ -2,7 +2,7 @@
 
 ghost use Rattle.std.specs.Prelude.{◌≡◌, pos, ◌<◌, ◌≤ℤ◌, ◌*ℤ◌, IfOk, IfSome, OnErr};
 ghost use Rattle.std.specs.Int.RustNames.{unsigned_abs};
-ghost use Rattle.block_motions.specs.Goals.{InForce, AreInForce, change_by as change_to, chain_in};
+ghost use Rattle.block_motions.specs.Goals.{ConditionsView, AreInForce, change_by as change_to, chain_in};
 ghost use Rattle.axis_sets.specs.Positions.{stands as stands_at};
 ghost use Rattle.block_motions.specs.Motions.{StandsAtEndOf};
 ghost use Rattle.frames.specs.Images.{image_of};
@@ -30,7 +30,7 @@ use path_geometry::{Ends, Motion, arc_by_centre, arc_by_radius};
 
 /// The goals, in which an axis without a goal stays.
 fn staying(mut goals: [Option<Goal>; AXIS_LIMIT], axis: AxisId) -> [Option<Goal>; AXIS_LIMIT]
-    ensures { result ≡ model.staying goals axis }
+    ensures { result ≡ model.goals_with_stay goals axis }
 {
     if goals[usize::from(axis.index)].is_none() {
         goals[usize::from(axis.index)] = Some(Goal::By(Um { micrometres: 0 }));
@@ -45,7 +45,7 @@ fn arc_goals(
     targets: &Targets,
     sides: &(Side, Side),
 ) -> [Option<Goal>; AXIS_LIMIT]
-    ensures { (h : InForce) → AreInForce h conditions.now
+    ensures { (h : ConditionsView) → AreInForce h conditions.now
         → result ≡ model.arc_goals slots.now h targets.now sides.now }
 {
     let goals = staying(goals_of(slots, conditions, targets), sides.0.moved);
@@ -71,7 +71,7 @@ fn unsigned(value: Num) -> Num
 /// By how much X, Y or Z goes through the frame of the block.
 fn change_in(conditions: &Conditions, axis: u8, twice: i64) -> Goal
     requires { axis < 3 }
-    ensures { (h : InForce) → AreInForce h conditions.now
+    ensures { (h : ConditionsView) → AreInForce h conditions.now
         → result ≡ change_to (change_of (image_of (chain_in h) axis) twice) }
 {
     change_through(&frame_in(conditions), axis, twice)
@@ -80,7 +80,7 @@ fn change_in(conditions: &Conditions, axis: u8, twice: i64) -> Goal
 /// Where a word sends the centre.
 fn goal_of_word(conditions: &Conditions, axis: u8, programmed: Programmed) -> Goal
     requires { axis < 3 }
-    ensures { (h : InForce) → AreInForce h conditions.now → result ≡ model.goal_of_word h axis programmed }
+    ensures { (h : ConditionsView) → AreInForce h conditions.now → result ≡ model.goal_of_word h axis programmed }
 {
     match programmed.measure {
         Measure::Absolute => goal_through(conditions, axis, programmed),
@@ -91,7 +91,7 @@ fn goal_of_word(conditions: &Conditions, axis: u8, programmed: Programmed) -> Go
 /// Where the centre goes from the start, on an axis with this word.
 fn centre_goal(conditions: &Conditions, axis: u8, programmed: Option<Programmed>) -> Goal
     requires { axis < 3 }
-    ensures { (h : InForce) → AreInForce h conditions.now → result ≡ model.centre_goal h axis programmed }
+    ensures { (h : ConditionsView) → AreInForce h conditions.now → result ≡ model.centre_goal h axis programmed }
 {
     match programmed {
         Some(programmed) => goal_of_word(conditions, axis, programmed),
@@ -101,14 +101,14 @@ fn centre_goal(conditions: &Conditions, axis: u8, programmed: Option<Programmed>
 
 /// Where the centre goes from the start, on an axis of the plane.
 fn goal_on(conditions: &Conditions, words: &ArcWords, side: &Side) -> Goal
-    ensures { (h : InForce) → AreInForce h conditions.now → result ≡ model.goal_on h words.now side.now }
+    ensures { (h : ConditionsView) → AreInForce h conditions.now → result ≡ model.goal_on h words.now side.now }
 {
     centre_goal(conditions, side.axis, centre_word(words, side.axis))
 }
 
 /// A place in range.
 fn placed(micrometres: i32) -> Option<Um>
-    ensures place { result ≡ model.placed micrometres }
+    ensures place { result ≡ model.place_in_range micrometres }
     ensures range { IfSome result IsPosition }
 {
     if is_position(micrometres) {
@@ -164,7 +164,7 @@ fn arc_by_words(
 ) -> Result<Motion, u16>
     requires ends { AreSound ends.now }
     requires plane { HavePlane ends.now sides.now.0.moved sides.now.1.moved }
-    ensures value { (h : InForce) → AreInForce h conditions.now
+    ensures value { (h : ConditionsView) → AreInForce h conditions.now
         → result ≡ model.arc_by_words h (stands_at at.now) words.now sides.now ends.now }
     ensures axes { IfOk result (λ motion. axes_of motion ≡ ends.now.axes) }
 {
@@ -191,10 +191,10 @@ fn size_of(goal: Goal) -> Option<Um>
     }
 }
 
-/// A radius behind the frame, without its sign.
+/// A radius after the frame, without its sign.
 fn radius_of(conditions: &Conditions, axis: u8, radius: Num) -> Option<Um>
     requires { axis < 3 }
-    ensures radius { (h : InForce) → AreInForce h conditions.now → result ≡ model.radius_of h axis radius }
+    ensures radius { (h : ConditionsView) → AreInForce h conditions.now → result ≡ model.radius_of h axis radius }
     ensures range { IfSome result (λ size. IsPosition size × (pos 0 ≤ℤ size)) }
 {
     size_of(change_in(conditions, axis, doubled(unsigned(radius))))
@@ -230,7 +230,7 @@ fn arc_by_size(
 ) -> Result<Motion, u16>
     requires ends { AreSound ends.now }
     requires plane { HavePlane ends.now sides.now.0.moved sides.now.1.moved }
-    ensures value { (h : InForce) → AreInForce h conditions.now
+    ensures value { (h : ConditionsView) → AreInForce h conditions.now
         → result ≡ model.arc_by_size h radius sides.now ends.now }
     ensures axes { IfOk result (λ motion. axes_of motion ≡ ends.now.axes) }
 {
@@ -253,7 +253,7 @@ fn arc_given(
 ) -> Result<Motion, u16>
     requires ends { AreSound ends.now }
     requires plane { HavePlane ends.now sides.now.0.moved sides.now.1.moved }
-    ensures value { (h : InForce) → AreInForce h conditions.now
+    ensures value { (h : ConditionsView) → AreInForce h conditions.now
         → result ≡ model.arc_given h (stands_at at.now) words.now words.now.radius sides.now ends.now }
     ensures axes { IfOk result (λ motion. axes_of motion ≡ ends.now.axes) }
 {
@@ -299,7 +299,7 @@ fn arc_to(
     goals: &[Option<Goal>; AXIS_LIMIT],
     at: &mut Positions,
 ) -> Result<Option<Motion>, u16>
-    ensures made { (h : InForce) → AreInForce h conditions.now
+    ensures made { (h : ConditionsView) → AreInForce h conditions.now
         → result ≡ model.arc_to owned h (stands_at at.old) words.now sides.now goals.now }
     ensures stand { IfOk result (λ motion. StandsAtEndOf motion at.old at.new) }
     ensures unmoved { OnErr result (at.new ≡ at.old) }
@@ -334,7 +334,7 @@ fn arc_between(
     plane: Plane,
     at: &mut Positions,
 ) -> Result<Option<Motion>, u16>
-    ensures made { (h : InForce) → AreInForce h conditions.now
+    ensures made { (h : ConditionsView) → AreInForce h conditions.now
         → result ≡ model.arc_between slots.now owned h (stands_at at.old) targets.now words.now plane (model.sides_in slots.now h plane) }
     ensures stand { IfOk result (λ motion. StandsAtEndOf motion at.old at.new) }
     ensures unmoved { OnErr result (at.new ≡ at.old) }
@@ -363,7 +363,7 @@ fn arc_through(
     plane: Plane,
     at: &mut Positions,
 ) -> Result<Option<Motion>, u16>
-    ensures made { (h : InForce) → AreInForce h conditions.now
+    ensures made { (h : ConditionsView) → AreInForce h conditions.now
         → result ≡ model.arc_through slots.now owned h (stands_at at.old) targets.now words.now plane }
     ensures stand { IfOk result (λ motion. StandsAtEndOf motion at.old at.new) }
     ensures unmoved { OnErr result (at.new ≡ at.old) }
@@ -402,7 +402,7 @@ pub fn arc_motion(
     words: &ArcWords,
     at: &mut Positions,
 ) -> Result<Option<Motion>, u16>
-    ensures made { (h : InForce) → AreInForce h conditions.now
+    ensures made { (h : ConditionsView) → AreInForce h conditions.now
         → result ≡ model.arc_motion slots.now owned h (stands_at at.old) targets.now words.now }
     ensures stand { IfOk result (λ motion. StandsAtEndOf motion at.old at.new) }
     ensures unmoved { OnErr result (at.new ≡ at.old) }

@@ -4,12 +4,12 @@ ghost use Rattle.std.specs.Prelude.{◌≡◌, ◌<◌, ◌==◌, List, map, opt
 ghost use Rattle.frames.specs.Composition.{IsComposed};
 ghost use Rattle.frames.specs.Images.{image_of};
 ghost use Rattle.frames.specs.Maps.{Map, mapped_point};
-ghost use Rattle.frames.specs.Places.{programmed, end_at, change_of};
+ghost use Rattle.frames.specs.Places.{programmed_point, end_at, change_of};
 ghost use Rattle.g_groups.specs.Groups.{HasModalValue};
 ghost use Rattle.g_groups.specs.declared.numbers.TheConstants.{BLOCK_GROUP};
 ghost use Rattle.micro_units.specs.Rounding.{half_away};
 ghost use Rattle.block_motions.specs.Goals as model;
-ghost use Rattle.block_motions.specs.Goals.{InForce, AreInForce};
+ghost use Rattle.block_motions.specs.Goals.{ConditionsView, AreInForce};
 
 use axis_sets::{AXIS_LIMIT, AxisId};
 use frames::Frame;
@@ -60,7 +60,7 @@ pub(crate) enum Goal {
 /// The code of the word of a group that holds in the block.
 pub fn word(conditions: &Conditions, group: u8) -> u16
     requires { HasModalValue group }
-    ensures { (h : InForce) → AreInForce h conditions.now → result ≡ h.word group }
+    ensures { (h : ConditionsView) → AreInForce h conditions.now → result ≡ h.word group }
 {
     conditions.modal.word(group)
 }
@@ -68,14 +68,14 @@ pub fn word(conditions: &Conditions, group: u8) -> u16
 /// Whether the frame and the offsets hold in the block.
 #[tactic(auto, using(crate::proofs::HeldWords::has_block_word))]
 fn is_in_frame(conditions: &Conditions) -> bool
-    ensures { (h : InForce) → AreInForce h conditions.now → result ≡ (h.word BLOCK_GROUP == 0) }
+    ensures { (h : ConditionsView) → AreInForce h conditions.now → result ≡ (h.word BLOCK_GROUP == 0) }
 {
     word(conditions, BLOCK_GROUP) == 0
 }
 
 /// The frame of the block.
 pub(crate) fn frame_in(conditions: &Conditions) -> Frame
-    ensures { (h : InForce) → AreInForce h conditions.now → IsComposed (model.chain_in h) result }
+    ensures { (h : ConditionsView) → AreInForce h conditions.now → IsComposed (model.chain_in h) result }
 {
     if is_in_frame(conditions) {
         conditions.frame
@@ -87,7 +87,7 @@ pub(crate) fn frame_in(conditions: &Conditions) -> Frame
 /// The offset of a slot in the block.
 fn offset_in(conditions: &Conditions, slot: u8) -> Um
     requires { slot < 3 }
-    ensures { (h : InForce) → AreInForce h conditions.now → result ≡ model.offset_in h slot }
+    ensures { (h : ConditionsView) → AreInForce h conditions.now → result ≡ model.offset_in h slot }
 {
     if !is_in_frame(conditions) {
         return Um { micrometres: 0 };
@@ -98,7 +98,7 @@ fn offset_in(conditions: &Conditions, slot: u8) -> Um
 /// Whether a value is a change of a position.
 #[tactic(auto, using(crate::proofs::HeldWords::has_measure_word))]
 fn is_change(conditions: &Conditions, measure: Measure) -> bool
-    ensures { (h : InForce) → AreInForce h conditions.now → result ≡ model.is_change h measure }
+    ensures { (h : ConditionsView) → AreInForce h conditions.now → result ≡ model.is_change h measure }
 {
     match measure {
         Measure::Modal => word(conditions, DIMENSION_GROUP) == 91,
@@ -110,7 +110,7 @@ fn is_change(conditions: &Conditions, measure: Measure) -> bool
 /// Whether a value of X, Y or Z, which is a change or not, is a diameter.
 #[tactic(auto, using(crate::proofs::HeldWords::has_diameter_word))]
 fn is_diameter(conditions: &Conditions, axis: u8, change: bool) -> bool
-    ensures { (h : InForce) → AreInForce h conditions.now → result ≡ model.is_diameter h axis change }
+    ensures { (h : ConditionsView) → AreInForce h conditions.now → result ≡ model.is_diameter h axis change }
 {
     let code = word(conditions, DIAMETER_GROUP);
     axis == 0 && (code == DIAMON || (code == DIAM90 && !change))
@@ -118,7 +118,7 @@ fn is_diameter(conditions: &Conditions, axis: u8, change: bool) -> bool
 
 /// Twice the value that goes through the frame, in millionths of a millimetre.
 fn twice_of(conditions: &Conditions, axis: u8, programmed: Programmed) -> i64
-    ensures { (h : InForce) → AreInForce h conditions.now → result ≡ model.twice_of h axis programmed }
+    ensures { (h : ConditionsView) → AreInForce h conditions.now → result ≡ model.twice_of h axis programmed_point }
 {
     let change = is_change(conditions, programmed.measure);
     let value = programmed.value.millionths;
@@ -155,7 +155,7 @@ pub(crate) fn change_through(frame: &Frame, axis: u8, twice: i64) -> Goal
 fn place_through(frame: &Frame, axis: u8, twice: i64, offset: Um) -> Goal
     requires { axis < 3 }
     ensures { (chain : List Map) → IsComposed chain frame.now
-        → let point = mapped_point chain (programmed (model.on_axis axis twice)) in
+        → let point = mapped_point chain (programmed_point (model.on_axis axis twice)) in
         result ≡ model.position_at (end_at point (image_of chain axis).slot offset) }
 {
     match frame.point(axis, twice, offset, false) {
@@ -187,7 +187,7 @@ fn position_at(value: Num) -> Goal
 /// The goal of X, Y or Z with this value, through the frame.
 pub(crate) fn goal_through(conditions: &Conditions, axis: u8, programmed: Programmed) -> Goal
     requires { axis < 3 }
-    ensures { (h : InForce) → AreInForce h conditions.now → result ≡ model.goal_through h axis programmed }
+    ensures { (h : ConditionsView) → AreInForce h conditions.now → result ≡ model.goal_through h axis programmed_point }
 {
     let frame = frame_in(conditions);
     let change = is_change(conditions, programmed.measure);
@@ -206,7 +206,7 @@ pub(crate) fn goal_through(conditions: &Conditions, axis: u8, programmed: Progra
 
 /// The goal of an axis by its own name.
 fn goal_by_name(conditions: &Conditions, programmed: Programmed) -> Goal
-    ensures { (h : InForce) → AreInForce h conditions.now → result ≡ model.goal_by_name h programmed }
+    ensures { (h : ConditionsView) → AreInForce h conditions.now → result ≡ model.goal_by_name h programmed_point }
 {
     if is_change(conditions, programmed.measure) {
         change_by(programmed.value)
@@ -222,7 +222,7 @@ pub(crate) fn axis_in(
     axis: u8,
 ) -> Option<AxisId>
     requires { axis < 3 }
-    ensures { (h : InForce) → AreInForce h conditions.now → result ≡ model.axis_in slots.now h axis }
+    ensures { (h : ConditionsView) → AreInForce h conditions.now → result ≡ model.axis_in slots.now h axis }
 {
     let frame = frame_in(conditions);
     slots[usize::from(slot_of(&frame, axis))]
@@ -236,7 +236,7 @@ fn has_axis(
     programmed: Option<Programmed>,
 ) -> bool
     requires { axis < 3 }
-    ensures { (h : InForce) → AreInForce h conditions.now → result ≡ model.has_axis slots.now h axis programmed }
+    ensures { (h : ConditionsView) → AreInForce h conditions.now → result ≡ model.has_axis slots.now h axis programmed_point }
 {
     programmed.is_none() || axis_in(slots, conditions, axis).is_some()
 }
@@ -248,7 +248,7 @@ pub(crate) fn have_axes(
     conditions: &Conditions,
     values: &[Option<Programmed>; 3],
 ) -> bool
-    ensures { (h : InForce) → AreInForce h conditions.now → result ≡ model.have_axes slots.now h values.now }
+    ensures { (h : ConditionsView) → AreInForce h conditions.now → result ≡ model.have_axes slots.now h values.now }
 {
     has_axis(slots, conditions, 0, values[0])
         && has_axis(slots, conditions, 1, values[1])
@@ -257,8 +257,8 @@ pub(crate) fn have_axes(
 
 /// The goal of an axis by its own name, if it is programmed.
 fn named_goal(conditions: &Conditions, programmed: Option<Programmed>) -> Option<Goal>
-    ensures { (h : InForce) → AreInForce h conditions.now
-        → result ≡ option_map (model.goal_by_name h) programmed }
+    ensures { (h : ConditionsView) → AreInForce h conditions.now
+        → result ≡ option_map (model.goal_by_name h) programmed_point }
 {
     match programmed {
         Some(programmed) => Some(goal_by_name(conditions, programmed)),
@@ -271,7 +271,7 @@ fn named_goals(
     conditions: &Conditions,
     axes: &[Option<Programmed>; AXIS_LIMIT],
 ) -> [Option<Goal>; AXIS_LIMIT]
-    ensures { (h : InForce) → AreInForce h conditions.now
+    ensures { (h : ConditionsView) → AreInForce h conditions.now
         → result ≡ map (λ value. option_map (model.goal_by_name h) value) axes.now }
 {
     let mut goals = [None; AXIS_LIMIT];
@@ -290,8 +290,8 @@ fn with_goal(
     programmed: Option<Programmed>,
 ) -> [Option<Goal>; AXIS_LIMIT]
     requires { axis < 3 }
-    ensures { (h : InForce) → AreInForce h conditions.now
-        → result ≡ model.with_goal slots.now h axis programmed goals }
+    ensures { (h : ConditionsView) → AreInForce h conditions.now
+        → result ≡ model.with_goal slots.now h axis programmed_point goals }
 {
     if let Some(programmed) = programmed {
         if let Some(moved) = axis_in(slots, conditions, axis) {
@@ -308,7 +308,7 @@ pub(crate) fn goals_of(
     conditions: &Conditions,
     targets: &Targets,
 ) -> [Option<Goal>; AXIS_LIMIT]
-    ensures { (h : InForce) → AreInForce h conditions.now → result ≡ model.goals_of slots.now h targets.now }
+    ensures { (h : ConditionsView) → AreInForce h conditions.now → result ≡ model.goals_of slots.now h targets.now }
 {
     let [x, y, z] = targets.slots;
     let named = named_goals(conditions, &targets.axes);

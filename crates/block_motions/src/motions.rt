@@ -2,7 +2,7 @@
 
 ghost use Rattle.std.specs.Prelude.{◌≡◌, true, IsTrue, IfOk, OnErr};
 ghost use Rattle.axis_sets.specs.Positions as positions;
-ghost use Rattle.block_motions.specs.Goals.{InForce, AreInForce};
+ghost use Rattle.block_motions.specs.Goals.{ConditionsView, AreInForce};
 ghost use Rattle.block_motions.specs.Motions as model;
 
 use crate::goals::{Conditions, Goal, Targets, goals_of, have_axes, word};
@@ -112,7 +112,7 @@ pub(crate) fn move_axes(goals: &[Option<Goal>; AXIS_LIMIT], at: &mut Positions) 
 /// Whether each axis goes by itself.
 #[tactic(auto, using(crate::proofs::HeldWords::has_rapid_word, crate::proofs::HeldWords::has_motion_word))]
 fn is_rapid(conditions: &Conditions) -> bool
-    ensures { (h : InForce) → AreInForce h conditions.now → result ≡ model.is_rapid h }
+    ensures { (h : ConditionsView) → AreInForce h conditions.now → result ≡ model.is_rapid h }
 {
     word(conditions, MOTION_GROUP) == 0 && word(conditions, RAPID_GROUP) == RTLIOF
 }
@@ -174,7 +174,7 @@ pub fn straight_motion(
     targets: &Targets,
     at: &mut Positions,
 ) -> Result<Option<Motion>, u16>
-    ensures made { (h : InForce) → AreInForce h conditions.now
+    ensures made { (h : ConditionsView) → AreInForce h conditions.now
         → result ≡ model.straight_motion slots.now owned h (positions.stands at.old) targets.now }
     ensures stand { IfOk result (λ motion. model.StandsAtEndOf motion at.old at.new) }
     ensures unmoved { OnErr result (at.new ≡ at.old) }

@@ -1,8 +1,8 @@
-//! The two axes of a plane, behind the frame.
+//! The two axes of a plane, after the frame.
 
 ghost use Rattle.std.specs.Prelude.{◌≡◌, ◌<◌};
 ghost use Rattle.std.specs.Ordering.{int_eq};
-ghost use Rattle.block_motions.specs.Goals.{InForce, AreInForce, chain_in, axis_in as axis_in_slot};
+ghost use Rattle.block_motions.specs.Goals.{ConditionsView, AreInForce, chain_in, axis_in as axis_in_slot};
 ghost use Rattle.frames.specs.Images.{image_of, other_sign};
 ghost use Rattle.frames.specs.Maps.{first_axis as first_axis_of, second_axis as second_axis_of};
 ghost use Rattle.block_motions.specs.Arcs as model;
@@ -17,7 +17,7 @@ use micro_units::Num;
 /// An axis of the plane, if there is one that it moves.
 fn side_of(slots: &[Option<AxisId>; 3], conditions: &Conditions, axis: u8) -> Option<Side>
     requires { axis < 3 }
-    ensures { (h : InForce) → AreInForce h conditions.now
+    ensures { (h : ConditionsView) → AreInForce h conditions.now
         → result ≡ model.side axis (axis_in_slot slots.now h axis) }
 {
     match axis_in(slots, conditions, axis) {
@@ -42,7 +42,7 @@ pub(crate) fn sides_in(
     conditions: &Conditions,
     plane: Plane,
 ) -> Option<(Side, Side)>
-    ensures { (h : InForce) → AreInForce h conditions.now → result ≡ model.sides_in slots.now h plane }
+    ensures { (h : ConditionsView) → AreInForce h conditions.now → result ≡ model.sides_in slots.now h plane }
 {
     both(
         side_of(slots, conditions, first_axis(plane)),
@@ -60,7 +60,7 @@ fn are_equal(first: Num, second: Num) -> bool
 /// Whether the frame has one factor for both axes of the plane.
 #[tactic(auto, unfolding(crate::specs::Arcs::have_one_factor))]
 pub(crate) fn have_one_factor(conditions: &Conditions, plane: Plane) -> bool
-    ensures { (h : InForce) → AreInForce h conditions.now → result ≡ model.have_one_factor h plane }
+    ensures { (h : ConditionsView) → AreInForce h conditions.now → result ≡ model.have_one_factor h plane }
 {
     let frame = frame_in(conditions);
     let (_, _, first) = frame.image(first_axis(plane));
@@ -70,7 +70,7 @@ pub(crate) fn have_one_factor(conditions: &Conditions, plane: Plane) -> bool
 
 /// Whether the frame mirrors one axis of the plane and not the other.
 fn is_mirrored(conditions: &Conditions, plane: Plane) -> bool
-    ensures { (h : InForce) → AreInForce h conditions.now
+    ensures { (h : ConditionsView) → AreInForce h conditions.now
         → result ≡ other_sign (image_of (chain_in h) (first_axis_of plane)).minus (image_of (chain_in h) (second_axis_of plane)).minus }
 {
     let frame = frame_in(conditions);
@@ -82,7 +82,7 @@ fn is_mirrored(conditions: &Conditions, plane: Plane) -> bool
 /// Whether an arc turns from the second axis of the plane to the first.
 #[tactic(auto, using(crate::proofs::HeldWords::has_motion_word))]
 pub(crate) fn is_backward(conditions: &Conditions, plane: Plane) -> bool
-    ensures { (h : InForce) → AreInForce h conditions.now → result ≡ model.is_backward h plane }
+    ensures { (h : ConditionsView) → AreInForce h conditions.now → result ≡ model.is_backward h plane }
 {
     let clockwise = word(conditions, MOTION_GROUP) == 2;
     clockwise != is_mirrored(conditions, plane)

@@ -1,7 +1,7 @@
 //! What a block programs of an arc besides its ends.
 
 ghost use Rattle.std.specs.Prelude.{◌≡◌, ◌<◌};
-ghost use Rattle.block_motions.specs.Goals.{InForce, AreInForce};
+ghost use Rattle.block_motions.specs.Goals.{ConditionsView, AreInForce};
 ghost use Rattle.block_motions.specs.Arcs as model;
 
 use crate::goals::{Conditions, Programmed, Targets, word};
@@ -56,7 +56,7 @@ pub(crate) fn is_given(words: &ArcWords) -> bool
 /// The plane that holds.
 #[tactic(auto, using(crate::proofs::HeldWords::has_plane_word))]
 pub(crate) fn plane_of(conditions: &Conditions) -> Plane
-    ensures { (h : InForce) → AreInForce h conditions.now → result ≡ model.plane_of h }
+    ensures { (h : ConditionsView) → AreInForce h conditions.now → result ≡ model.plane_of h }
 {
     match word(conditions, PLANE_GROUP) {
         17 => Plane::G17,

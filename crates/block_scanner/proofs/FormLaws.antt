@@ -20,7 +20,7 @@ use Rattle.block_scanner.proofs.Prefixes.{Cut, cut, stops_at, take-append-more, 
 abbrev pub IsOther : ℕ → Type 0
 IsOther byte = (not (is_blank byte) ≡ true) × (byte ≢ 59) × (byte ≢ 34)
 
--- what holds of a byte and those behind it
+-- what holds of a byte and those after it
 abbrev pub Sound : ℕ → List ℕ → Front → Type 0
 Sound b bs Blank = is_blank b ≡ true
 Sound b bs Comment = b ≡ 59
@@ -42,7 +42,7 @@ position_none bs at =
     ∙ ap (λ b. cond b (Some (length bs)) None) (le-ltb (length bs) (length bs) (omega arith))
 
 text_sound : (bs : List ℕ) → Sound 34 bs (text_front (position is_quote bs))
-text_sound bs = by (cut no_quote bs).behind (cut no_quote bs).joined (cut no_quote bs).stops
+text_sound bs = by (cut no_quote bs).following (cut no_quote bs).joined (cut no_quote bs).stops
   where
     c : Cut no_quote bs
     c = cut no_quote bs
@@ -87,12 +87,12 @@ word_sound b bs h other =
     cond_both (begins_with is_name_start bs) _ _ P (λ two. name_sound b bs h two)
     (λ one. cond_both (is_ascii_alphabetic b) _ _ P (λ letter. (omega arith, (b, refl, letter, refl))) (λ none. other))
 
--- how a number goes on behind its first digits
-abbrev pub more_behind : ℕ → List ℕ → ℕ
-more_behind w [] = w
-more_behind w (c ∷ cs) = cond (is_point c) (w + 1 + prefix_len is_ascii_digit cs) w
+-- how a number goes on after its first digits
+abbrev pub more_after : ℕ → List ℕ → ℕ
+more_after w [] = w
+more_after w (c ∷ cs) = cond (is_point c) (w + 1 + prefix_len is_ascii_digit cs) w
 
-pub number_more-append : (ws rest : List ℕ) → AreDigits ws → prefix_len is_ascii_digit rest ≡ 0 → number_more (ws ++ rest) ≡ more_behind (length ws) rest
+pub number_more-append : (ws rest : List ℕ) → AreDigits ws → prefix_len is_ascii_digit rest ≡ 0 → number_more (ws ++ rest) ≡ more_after (length ws) rest
 unfolding number_more
 number_more-append ws rest digits stops =
     let M : ℕ → ℕ = λ n. cond (begins_with is_point (drop n (ws ++ rest))) (n + 1 + prefix_len is_ascii_digit (drop (n + 1) (ws ++ rest))) n in
@@ -103,11 +103,11 @@ number_more-append ws rest digits stops =
     ∙ ap (λ l. cond (begins_with is_point rest) (w + 1 + prefix_len is_ascii_digit l) w) (drop-append-more ws rest 1)
     ∙ by rest
   where
-    by : (xs : List ℕ) → cond (begins_with is_point xs) (length ws + 1 + prefix_len is_ascii_digit (drop 1 xs)) (length ws) ≡ more_behind (length ws) xs
+    by : (xs : List ℕ) → cond (begins_with is_point xs) (length ws + 1 + prefix_len is_ascii_digit (drop 1 xs)) (length ws) ≡ more_after (length ws) xs
     by [] = refl
     by (x ∷ xs) = refl
 
-number_of_cut : (b : ℕ) (ws rest : List ℕ) → is_ascii_digit b ≡ true → AreDigits ws → Sound b (ws ++ rest) (Stands kind.Number (more_behind (length ws) rest))
+number_of_cut : (b : ℕ) (ws rest : List ℕ) → is_ascii_digit b ≡ true → AreDigits ws → Sound b (ws ++ rest) (Stands kind.Number (more_after (length ws) rest))
 number_of_cut b ws [] digit digits =
     let text : take (length ws) (ws ++ []) ≡ ws = take_at ws [] (length ws) refl in
     let fits : length ws ≤ length (ws ++ []) = omega (arith, length-append ws []) in
@@ -133,8 +133,8 @@ number_sound b bs digit =
     let c = cut is_ascii_digit bs in
     let P = λ (l : List ℕ). Sound b l (Stands kind.Number (number_more l)) in
     subst P (sym c.joined)
-    (subst (λ (n : ℕ). Sound b (c.front ++ c.behind) (Stands kind.Number n)) (sym (number_more-append c.front c.behind c.holds c.stops))
-    (number_of_cut b c.front c.behind digit c.holds))
+    (subst (λ (n : ℕ). Sound b (c.front ++ c.following) (Stands kind.Number n)) (sym (number_more-append c.front c.following c.holds c.stops))
+    (number_of_cut b c.front c.following digit c.holds))
 
 point_sound : (b : ℕ) (bs : List ℕ) → b ≡ 46 → begins_with is_ascii_digit bs ≡ true → Sound b bs (Stands kind.Number (prefix_len is_ascii_digit bs))
 point_sound b [] point digit = absurd (cc)

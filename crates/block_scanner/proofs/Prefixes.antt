@@ -31,19 +31,19 @@ module _ (p : ℕ → Bool) where
       (λ yes_. let one : suc (prefix_len p xs) ≡ 1 + prefix_len p xs = omega arith in subst P one (prefix_len-drop_prefix xs))
       (λ no_. ap (λ b. cond b (1 + prefix_len p xs) 0) no_)
 
-  -- the front for which a test holds, and what is behind it
+  -- the front for which a test holds, and what is after it
   pub record Cut (xs : List ℕ) : Type 0 where
     pub front : List ℕ
-    pub behind : List ℕ
-    pub joined : xs ≡ front ++ behind
+    pub following : List ℕ
+    pub joined : xs ≡ front ++ following
     pub holds : list_all p front ≡ true
     pub long : prefix_len p xs ≡ length front
-    pub stops : prefix_len p behind ≡ 0
+    pub stops : prefix_len p following ≡ 0
 
   pub cut : (xs : List ℕ) → Cut xs
   cut xs = record {
     front = take (prefix_len p xs) xs;
-    behind = drop (prefix_len p xs) xs;
+    following = drop (prefix_len p xs) xs;
     joined = sym (take-append-drop (prefix_len p xs) xs);
     holds = list_all-take_prefix xs;
     long = sym (length-take-le (prefix_len p xs) xs (prefix_len-le-length p xs));

@@ -138,7 +138,7 @@ pointed_reaches b ws ds tail whole decimals =
     let bs = (ws ++ 46 ∷ ds) ++ tail in
     let more : number_more bs ≡ length ws + 1 + prefix_len is_ascii_digit (ds ++ tail) =
     ap number_more (append_assoc ws (46 ∷ ds) tail) ∙ number_more-append ws (46 ∷ ds ++ tail) parts.1 refl in
-    let behind = prefix_len-append is_ascii_digit ds tail decimals in
+    let following = prefix_len-append is_ascii_digit ds tail decimals in
     let long = length-append ws (46 ∷ ds) in
     record { found = kind.Number; more = number_more bs; stands = front-digit b bs parts.0; long = omega arith; same = λ _. refl }
 

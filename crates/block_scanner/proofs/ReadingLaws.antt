@@ -45,8 +45,8 @@ stands_longest k n b bs stands fits kind [] tail whole form = omega arith
 stands_longest k n b bs stands fits kind (c ∷ txt) tail whole form =
     let r = reach kind c txt tail form in
     let first : b ≡ c = cc in
-    let behind : bs ≡ txt ++ tail = cc in
-    let same : Stands k n ≡ Stands r.found r.more = sym stands ∙ ap (λ x. front x bs) first ∙ ap (front c) behind ∙ r.stands in
+    let following : bs ≡ txt ++ tail = cc in
+    let same : Stands k n ≡ Stands r.found r.more = sym stands ∙ ap (λ x. front x bs) first ∙ ap (front c) following ∙ r.stands in
     let more : n ≡ r.more = cc in
     let taken : length (take n bs) ≡ n = length-take-le n bs fits in
     let long = r.long in
@@ -58,8 +58,8 @@ none_begins b bs none kind [] tail whole form = form_is_filled kind form
 none_begins b bs none kind (c ∷ txt) tail whole form =
     let r = reach kind c txt tail form in
     let first : b ≡ c = cc in
-    let behind : bs ≡ txt ++ tail = cc in
-    let same : Forbidden ≡ Stands r.found r.more = sym none ∙ ap (λ x. front x bs) first ∙ ap (front c) behind ∙ r.stands in
+    let following : bs ≡ txt ++ tail = cc in
+    let same : Forbidden ≡ Stands r.found r.more = sym none ∙ ap (λ x. front x bs) first ∙ ap (front c) following ∙ r.stands in
     cc
 
 none_stands : (b : ℕ) (bs : List ℕ) → not (is_blank b) ≡ true → b ≢ 59 → b ≢ 34 → BeginsNoToken (b ∷ bs) → front b bs ≡ Forbidden
@@ -100,8 +100,8 @@ Reads at bytes (Err NoMemory) = ⊥
 blank_leaves : (at b : ℕ) (bs : List ℕ) (ts : List Token) (place : ℕ) (rest : List ℕ) → is_blank b ≡ true → Leaves (at + 1) bs ts place rest → Leaves at (b ∷ bs) ts place rest
 blank_leaves at b bs [] place rest blank (gap, whole, blanks, there) =
     (b ∷ gap, ap (λ l. b ∷ l) whole, and_from (is_blank b) (list_all is_blank gap) blank blanks, omega arith)
-blank_leaves at b bs (t ∷ ts) place rest blank (gap, text, tail, whole, blanks, start, end, form, longest, behind) =
-    (b ∷ gap, text, tail, ap (λ l. b ∷ l) whole, and_from (is_blank b) (list_all is_blank gap) blank blanks, omega arith, end, form, longest, behind)
+blank_leaves at b bs (t ∷ ts) place rest blank (gap, text, tail, whole, blanks, start, end, form, longest, following) =
+    (b ∷ gap, text, tail, ap (λ l. b ∷ l) whole, and_from (is_blank b) (list_all is_blank gap) blank blanks, omega arith, end, form, longest, following)
 
 blank_reads : (at b : ℕ) (bs : List ℕ) (o : Result (List Token) ScanFault) → is_blank b ≡ true → Reads (at + 1) bs o → Reads at (b ∷ bs) o
 blank_reads at b bs (Ok ts) blank h = (h.0, h.1, blank_leaves at b bs ts h.0 h.1 blank h.2, h.3)
@@ -112,11 +112,11 @@ blank_reads at b bs (Err NoMemory) blank h = h
 -- one more token in front
 token_leaves : (at b : ℕ) (bs : List ℕ) (k : Kind) (n : ℕ) (ts : List Token) (place : ℕ) (rest : List ℕ) → front b bs ≡ Stands k n → n ≤ length bs → HasForm k (b ∷ take n bs)
     → Leaves (at + 1 + n) (drop n bs) ts place rest → Leaves at (b ∷ bs) (token_from k at n ∷ ts) place rest
-token_leaves at b bs k n ts place rest stands fits form behind =
+token_leaves at b bs k n ts place rest stands fits form following =
     let whole : b ∷ bs ≡ b ∷ take n bs ++ drop n bs = ap (λ l. b ∷ l) (sym (take-append-drop n bs)) in
     let taken : length (take n bs) ≡ n = length-take-le n bs fits in
     let longest = subst (λ (l : List ℕ). IsLongest (b ∷ take n bs) l) whole (stands_longest k n b bs stands fits) in
-    ([], b ∷ take n bs, drop n bs, whole, refl, omega arith, omega arith, form, longest, behind)
+    ([], b ∷ take n bs, drop n bs, whole, refl, omega arith, omega arith, form, longest, following)
 
 token_reads : (at b : ℕ) (bs : List ℕ) (k : Kind) (n : ℕ) (o : Result (List Token) ScanFault) → front b bs ≡ Stands k n → n ≤ length bs → HasForm k (b ∷ take n bs)
     → Reads (at + 1 + n) (drop n bs) o → Reads at (b ∷ bs) (before (token_from k at n) o)
@@ -196,10 +196,10 @@ passes : (ts : List Token) (at : ℕ) (bytes : List ℕ) (place : ℕ) (rest : L
     → tokens_from at bytes zero ≡ onto ts (tokens_from place rest zero)
 passes [] at bytes place rest (gap, whole, blanks, there) =
     ap (λ l. tokens_from at l zero) whole ∙ blanks_pass gap at rest blanks ∙ ap (λ n. tokens_from n rest zero) (sym there) ∙ onto-nil (tokens_from place rest zero)
-passes (t ∷ ts) at bytes place rest (gap, text, tail, whole, blanks, start, end, form, longest, behind) =
+passes (t ∷ ts) at bytes place rest (gap, text, tail, whole, blanks, start, end, form, longest, following) =
     ap (λ l. tokens_from at l zero) whole ∙ blanks_pass gap at (text ++ tail) blanks
     ∙ token_passes (at + length gap) t text tail form longest start end
-    ∙ ap (before t) (passes ts t.end tail place rest behind)
+    ∙ ap (before t) (passes ts t.end tail place rest following)
     ∙ onto-cons t ts (tokens_from place rest zero)
 
 ends : (place : ℕ) (rest : List ℕ) → EndsLine rest → tokens_from place rest zero ≡ Ok []
@@ -239,14 +239,14 @@ answers line (Err NoMemory) h = tt
 -- the slice of each token has the form of its kind
 formed_from : (ts : List Token) (at : ℕ) (line bytes : List ℕ) (place : ℕ) (rest : List ℕ) → drop at line ≡ bytes → Leaves at bytes ts place rest → AreFormed line ts
 formed_from [] at line bytes place rest from h k d within = absurd (omega arith)
-formed_from (t ∷ ts) at line bytes place rest from (gap, text, tail, whole, blanks, start, end, form, longest, behind) k d within =
+formed_from (t ∷ ts) at line bytes place rest from (gap, text, tail, whole, blanks, start, end, form, longest, following) k d within =
     let here : drop t.start line ≡ text ++ tail =
     ap (λ n. drop n line) start ∙ sym (drop-drop (length gap) at line) ∙ ap (drop (length gap)) (from ∙ whole) ∙ drop_at gap (text ++ tail) (length gap) refl in
     let next : drop t.end line ≡ tail =
     ap (λ n. drop n line) end ∙ sym (drop-drop (length text) t.start line) ∙ ap (drop (length text)) here ∙ drop_at text tail (length text) refl in
     let long : t.end - t.start ≡ length text = omega arith in
     let slice : text_of line t ≡ text = ap (λ n. take n (drop t.start line)) long ∙ ap (take (length text)) here ∙ take_at text tail (length text) refl in
-    by (subst (λ (l : List ℕ). HasForm t.kind l) (sym slice) form) (formed_from ts t.end line tail place rest next behind) k d within
+    by (subst (λ (l : List ℕ). HasForm t.kind l) (sym slice) form) (formed_from ts t.end line tail place rest next following) k d within
   where
     by : HasForm t.kind (text_of line t) → AreFormed line ts → AreFormed line (t ∷ ts)
     by first others zero d within = first

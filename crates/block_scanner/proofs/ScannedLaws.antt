@@ -8,7 +8,7 @@ use Rattle.block_scanner.specs.Scanned.{InOrder, IsScanned, IsTokenOf}
 pub order_ends : (ts : List Token) (from to : ℕ) → InOrder from ts to → from ≤ to
 order_ends [] from to h = h
 order_ends (t ∷ ts) from to h =
-    let behind = order_ends ts t.end to h.2 in let first = h.0 in let long = h.1 in omega arith
+    let following = order_ends ts t.end to h.2 in let first = h.0 in let long = h.1 in omega arith
 
 -- each of them is not empty, and stands between the places
 pub order_at : (ts : List Token) (from to i : ℕ) (d : Token) → InOrder from ts to → i < length ts
@@ -16,9 +16,9 @@ pub order_at : (ts : List Token) (from to i : ℕ) (d : Token) → InOrder from 
 order_at [] from to i d h within = absurd (omega arith)
 order_at (t ∷ ts) from to zero d h within = (h.0, h.1, order_ends ts t.end to h.2)
 order_at (t ∷ ts) from to (suc i) d h within =
-    let behind = order_at ts t.end to i d h.2 (omega arith) in
-    let first = h.0 in let long = h.1 in let begins = behind.0 in
-    (omega arith, behind.1, behind.2)
+    let following = order_at ts t.end to i d h.2 (omega arith) in
+    let first = h.0 in let long = h.1 in let begins = following.0 in
+    (omega arith, following.1, following.2)
 
 -- each token of a scanned line is one of this line
 pub scanned_at : (words : WordsView) (tokens : List Token) (i : ℕ) (d : Token) → IsScanned words → tokens ≡ words.tokens → i < length words.tokens

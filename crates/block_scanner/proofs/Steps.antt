@@ -70,7 +70,7 @@ token_step ts at xs b bs kind more h stands fits =
     ∙ onto-before ts token (tokens_from (at + 1) bs more)
     ∙ ap (onto (ts ++ token ∷ [])) (tokens_from-skip more (at + 1) bs fits)
 
--- one more token behind those that are in order
+-- one more token after those that are in order
 pub order_push : (ts : List Token) (t : Token) (from at : ℕ) → ((to : ℕ) → at ≤ to → InOrder from ts to) → at ≤ t.start → t.start < t.end
     → (to : ℕ) → t.end ≤ to → InOrder from (ts ++ t ∷ []) to
 order_push [] t from at ordered above long to within =
@@ -83,6 +83,6 @@ order_push (u ∷ us) t from at ordered above long to within =
 pub order_length : (ts : List Token) (from to : ℕ) → InOrder from ts to → length ts + from ≤ to
 order_length [] from to h = let first : from ≤ to = h in omega arith
 order_length (t ∷ ts) from to h =
-    let behind = order_length ts t.end to h.2 in let first = h.0 in let long = h.1 in omega arith
+    let following = order_length ts t.end to h.2 in let first = h.0 in let long = h.1 in omega arith
 
 pub ruleset scan_steps = (blank_step, comment_step, bad_step, open_step, token_step, end_step, order_push, order_length)

@@ -9,19 +9,19 @@ use Rattle.block_scanner.specs.declared.beginnings.Front.TheVariants.{Blank, Com
 use Rattle.block_scanner.specs.Bytes.{is_blank, is_semicolon, is_quote, is_point, is_name_start, is_name_part, begins_with}
 use Rattle.block_scanner.specs.Signs.{short_sign, long_sign}
 
--- a text, with the place of the first quote behind the one that opens it
+-- a text, with the place of the first quote after the one that opens it
 abbrev pub text_front : Option ℕ → Front
 text_front (Some place) = Stands kind.Text (place + 1)
 text_front None = Unclosed
 
 -- a name begins with two letters or underscores; a letter alone is one whose next byte is neither
 unfoldable pub word_front : ℕ → List ℕ → Front
-word_front byte behind =
-    if begins_with is_name_start behind then Stands kind.Name (prefix_len is_name_part behind)
+word_front byte following =
+    if begins_with is_name_start following then Stands kind.Name (prefix_len is_name_part following)
     else if is_ascii_alphabetic byte then Stands (kind.Letter (to_ascii_uppercase byte)) 0
     else Forbidden
 
--- how a number goes on behind its first digit: digits, and a point with the digits behind it
+-- how a number goes on after its first digit: digits, and a point with the digits after it
 unfoldable pub number_more : List ℕ → ℕ
 number_more bytes =
     if begins_with is_point (drop (prefix_len is_ascii_digit bytes) bytes)
@@ -40,20 +40,20 @@ two_or_one_sign None byte = one_sign (short_sign byte)
 -- the longer sign of two that fit
 unfoldable pub sign_front : ℕ → List ℕ → Front
 sign_front byte [] = one_sign (short_sign byte)
-sign_front byte (second ∷ behind) = two_or_one_sign (long_sign byte second) byte
+sign_front byte (second ∷ following) = two_or_one_sign (long_sign byte second) byte
 
--- what stands at a byte, with those behind it
+-- what stands at a byte, with those after it
 unfoldable pub front : ℕ → List ℕ → Front
-front byte behind =
+front byte following =
     if is_blank byte then Blank
     else if is_semicolon byte then Comment
-    else if is_quote byte then text_front (position is_quote behind)
-    else if is_name_start byte then word_front byte behind
-    else if is_ascii_digit byte then Stands kind.Number (number_more behind)
-    else if is_point byte && begins_with is_ascii_digit behind then Stands kind.Number (prefix_len is_ascii_digit behind)
-    else sign_front byte behind
+    else if is_quote byte then text_front (position is_quote following)
+    else if is_name_start byte then word_front byte following
+    else if is_ascii_digit byte then Stands kind.Number (number_more following)
+    else if is_point byte && begins_with is_ascii_digit following then Stands kind.Number (prefix_len is_ascii_digit following)
+    else sign_front byte following
 
--- a token ends within so many bytes behind its first
+-- a token ends within so many bytes after its first
 abbrev pub FitsIn : Front → ℕ → Type 0
 FitsIn (Stands _ more) room = more ≤ room
 FitsIn Blank room = Unit {0}

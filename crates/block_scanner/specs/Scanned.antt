@@ -4,7 +4,7 @@ use Rattle.block_scanner.specs.declared.Token.{Token}
 use Rattle.block_scanner.specs.WordsView.{WordsView}
 use Rattle.block_scanner.specs.Tokens.{tokens_of}
 
--- from one place to another, tokens stand one behind the other, and none is empty
+-- from one place to another, tokens stand one after the other, and none is empty
 abbrev pub InOrder : ℕ → List Token → ℕ → Type 0
 InOrder from [] to = from ≤ to
 InOrder from (token ∷ tokens) to = (from ≤ token.start) × (token.start < token.end) × InOrder token.end tokens to

@@ -25,7 +25,7 @@ IsNumber text = (AreDigits text × (0 < length text))
     ⊎ ((whole : List ℕ) × (decimals : List ℕ) × (text ≡ whole ++ 46 ∷ decimals) × AreDigits whole × AreDigits decimals
     × (0 < length whole + length decimals))
 
--- two letters or underscores, and behind them letters, digits and underscores
+-- two letters or underscores, and after them letters, digits and underscores
 abbrev pub IsName : List ℕ → Type 0
 IsName text = (first : ℕ) × (second : ℕ) × (more : List ℕ) × (text ≡ first ∷ second ∷ more)
     × IsTrue (is_name_start first) × IsTrue (is_name_start second) × IsTrue (list_all is_name_part more)

@@ -45,12 +45,12 @@ fn text_front(bytes: &[u8]) -> Front
 
 /// A name or a letter, from its first byte on.
 #[tactic(auto, unfolding(crate::specs::Front::word_front))]
-fn word_front(byte: u8, behind: &[u8]) -> Front
-    ensures value { result ≡ word_front byte behind.now }
-    ensures fits { FitsIn result (length behind.now) }
+fn word_front(byte: u8, following: &[u8]) -> Front
+    ensures value { result ≡ word_front byte following.now }
+    ensures fits { FitsIn result (length following.now) }
 {
-    if begins_with_name_start(behind) {
-        Front::Stands(Kind::Name, name_parts_at(behind))
+    if begins_with_name_start(following) {
+        Front::Stands(Kind::Name, name_parts_at(following))
     } else if byte.is_ascii_alphabetic() {
         Front::Stands(Kind::Letter(byte.to_ascii_uppercase()), 0)
     } else {
@@ -58,25 +58,25 @@ fn word_front(byte: u8, behind: &[u8]) -> Front
     }
 }
 
-/// What stands at a byte of a line, with those behind it.
+/// What stands at a byte of a line, with those after it.
 #[tactic(auto, unfolding(crate::specs::Front::front))]
-pub(crate) fn front_of(byte: u8, behind: &[u8]) -> Front
-    ensures value { result ≡ front byte behind.now }
-    ensures fits { FitsIn result (length behind.now) }
+pub(crate) fn front_of(byte: u8, following: &[u8]) -> Front
+    ensures value { result ≡ front byte following.now }
+    ensures fits { FitsIn result (length following.now) }
 {
     if is_blank(byte) {
         Front::Blank
     } else if byte == b';' {
         Front::Comment
     } else if byte == b'"' {
-        text_front(behind)
+        text_front(following)
     } else if is_name_start(byte) {
-        word_front(byte, behind)
+        word_front(byte, following)
     } else if byte.is_ascii_digit() {
-        Front::Stands(Kind::Number, number_more(behind))
-    } else if byte == b'.' && begins_with_digit(behind) {
-        Front::Stands(Kind::Number, digits_at(behind))
+        Front::Stands(Kind::Number, number_more(following))
+    } else if byte == b'.' && begins_with_digit(following) {
+        Front::Stands(Kind::Number, digits_at(following))
     } else {
-        sign_front(byte, behind)
+        sign_front(byte, following)
     }
 }

@@ -85,7 +85,7 @@ pub struct Token {
     pub kind: Kind,
     /// The place of its first byte, counted from 0.
     pub start: u16,
-    /// The place behind its last byte.
+    /// The place after its last byte.
     pub end: u16,
 }
 

@@ -35,15 +35,15 @@ pub(crate) fn name_parts_at(bytes: &[u8]) -> usize
 }
 
 /// How many bytes go on a number whose first digit stands before them: digits, and a point with
-/// the digits behind it.
+/// the digits after it.
 #[tactic(auto, unfolding(crate::specs::Front::number_more))]
 pub(crate) fn number_more(bytes: &[u8]) -> usize
     ensures value { result ≡ number_more bytes.now }
     ensures within { result ≤ length bytes.now }
 {
     let whole = digits_at(bytes);
-    let behind = &bytes[whole..];
-    if begins_with_point(behind) {
+    let following = &bytes[whole..];
+    if begins_with_point(following) {
         whole + 1 + digits_at(&bytes[whole + 1..])
     } else {
         whole

@@ -35,11 +35,11 @@ fn scan_from_left(alloc: Global, line: &[u8]) -> Result<Words<'_>, ScanFault>
     let mut tokens = SmallVec::new(alloc);
     let mut rest = line;
     let mut at: usize = 0;
-    while let Some((first, behind)) = rest.split_first() {
-        match front_of(*first, behind) {
+    while let Some((first, following)) = rest.split_first() {
+        match front_of(*first, following) {
             Front::Blank => {
                 at += 1;
-                rest = behind;
+                rest = following;
             }
             Front::Comment => return Ok(Words { line, tokens }),
             Front::Stands(kind, more) => {
@@ -50,7 +50,7 @@ fn scan_from_left(alloc: Global, line: &[u8]) -> Result<Words<'_>, ScanFault>
                     end: end as u16,
                 })?;
                 at = end;
-                rest = &behind[more..];
+                rest = &following[more..];
             }
             Front::Forbidden => return Err(ScanFault::BadByte(at as u16)),
             Front::Unclosed => return Err(ScanFault::OpenText(at as u16)),

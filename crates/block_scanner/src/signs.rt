@@ -69,13 +69,13 @@ fn two_or_one_sign(long: Option<Sign>, byte: u8) -> Front
     }
 }
 
-/// The sign that stands at a byte and those behind it: the longer one of two that fit.
+/// The sign that stands at a byte and those after it: the longer one of two that fit.
 #[tactic(auto, unfolding(crate::specs::Front::sign_front))]
-pub(crate) fn sign_front(byte: u8, behind: &[u8]) -> Front
-    ensures value { result ≡ sign_front byte behind.now }
-    ensures fits { FitsIn result (length behind.now) }
+pub(crate) fn sign_front(byte: u8, following: &[u8]) -> Front
+    ensures value { result ≡ sign_front byte following.now }
+    ensures fits { FitsIn result (length following.now) }
 {
-    match behind.split_first() {
+    match following.split_first() {
         Some((second, _)) => two_or_one_sign(long_sign(byte, *second), byte),
         None => one_sign(short_sign(byte)),
     }

@@ -7,19 +7,19 @@ use Rattle.block_effects.specs.Effects.{Course, Goes, Ends, Calls}
 use Rattle.nc_blocks.specs.Indices.{StatementFits}
 use Rattle.nc_blocks.specs.Statement.{BlockView, statement_view}
 use Rattle.nc_blocks.specs.declared.blocks.Block.{Block}
-use Rattle.nc_control_flow.specs.Counted.{counted, has_counting, first_going, up_to_counting, RepeatCounts, CountRepeats}
+use Rattle.nc_control_flow.specs.Counted.{going_to_counted, has_counting, first_going, up_to_counting, RepeatCounts, CountRepeats}
 use Rattle.nc_control_flow.specs.Flow.{next_block}
 use Rattle.nc_control_flow.specs.Moves.{OutcomeView}
 use Rattle.nc_control_flow.specs.Parts.{statement_at, views}
-use Rattle.nc_control_flow.specs.Repetitions.{Going, behind_block}
+use Rattle.nc_control_flow.specs.Repetitions.{Going, after_block}
 use Rattle.nc_control_flow.proofs.Leading.{first_counts, first_runs}
-use Rattle.nc_control_flow.proofs.Starting.{rests_at, behind_counts, next_counts}
+use Rattle.nc_control_flow.proofs.Starting.{rests_at, after_counts, next_counts}
 use Rattle.nc_expressions.specs.Value.{◌>>=◌}
 use Rattle.nc_subprograms.specs.declared.Place.{Place}
 use Rattle.job_types.specs.Job.{JobView, ProgramView, block_entry}
 use Rattle.job_types.specs.SoundJob.{BlocksFit}
 use Rattle.channel_machine.specs.declared.levels.Levels.{Levels}
-use Rattle.channel_machine.specs.Levels.{lines_of, program_blocks, first_place, gone_on, behind_call, has_block, arrived, next_pass, begun_or, past_end, come, followed, followed_from, Stands, LevelsFit}
+use Rattle.channel_machine.specs.Levels.{lines_of, program_blocks, first_place, gone_on, after_call, has_block, levels_at, next_pass, begun_or, past_end, levels_from, levels_after, followed_from, Stands, LevelsFit}
 
 -- ---- levels
 
@@ -28,12 +28,12 @@ module _ (skip : Bool) (programs : List (List ℕ × ProgramView)) where
   Fit o = IfSome o (LevelsFit skip programs)
 
   -- a level that comes to a block stands there
-  module _ (place : Place) (to : Going) (repeat : CountRepeats skip (program_blocks programs place.program) (counted skip (program_blocks programs place.program) to).running) where
-    comes_to : has_block programs (gone_on place (counted skip (program_blocks programs place.program) to)) ≡ true
-        → Stands skip programs (gone_on place (counted skip (program_blocks programs place.program) to))
+  module _ (place : Place) (to : Going) (repeat : CountRepeats skip (program_blocks programs place.program) (going_to_counted skip (program_blocks programs place.program) to).running) where
+    comes_to : has_block programs (gone_on place (going_to_counted skip (program_blocks programs place.program) to)) ≡ true
+        → Stands skip programs (gone_on place (going_to_counted skip (program_blocks programs place.program) to))
     comes_to comes =
         let long = length-map (lines_of programs place.program) (λ (line : ℕ × BlockView). line.1) in
-        let within : (counted skip (program_blocks programs place.program) to).place < length (lines_of programs place.program) = grind (arith, nat_tests) in
+        let within : (going_to_counted skip (program_blocks programs place.program) to).place < length (lines_of programs place.program) = grind (arith, nat_tests) in
         record { counts = rests_at skip (program_blocks programs place.program) to (omega (arith, within, long)); repeat = repeat }
 
   none_runs : (blocks : List BlockView) → CountRepeats skip blocks []
@@ -52,12 +52,12 @@ module _ (skip : Bool) (programs : List (List ℕ × ProgramView)) where
         repeat = subst (CountRepeats skip blocks) (sym (first_runs skip blocks)) (none_runs blocks);
       }
 
-  behind_stands : (place : Place) → Stands skip programs place → has_block programs (behind_call skip programs place) ≡ true → Stands skip programs (behind_call skip programs place)
-  behind_stands place stands =
-      comes_to place (behind_block place.pc place.repeats) (behind_counts skip (program_blocks programs place.program) place.pc place.repeats stands.repeat)
+  after_stands : (place : Place) → Stands skip programs place → has_block programs (after_call skip programs place) ≡ true → Stands skip programs (after_call skip programs place)
+  after_stands place stands =
+      comes_to place (after_block place.pc place.repeats) (after_counts skip (program_blocks programs place.program) place.pc place.repeats stands.repeat)
 
   arrived_fits : (here : Place) (returns : List Place) (past : Option Levels) → (has_block programs here ≡ true → Stands skip programs here) → All (Stands skip programs) returns → Fit past
-      → Fit (arrived programs here returns past)
+      → Fit (levels_at programs here returns past)
   arrived_fits here returns past stands all fits = by_test (has_block programs here) refl
     where
       by_test : (t : Bool) → has_block programs here ≡ t → Fit (cond t (Some (record { here = here; returns = returns })) past)
@@ -77,11 +77,11 @@ module _ (skip : Bool) (programs : List (List ℕ × ProgramView)) where
   past_fits number passes (p ∷ ps) all =
       let head : Stands skip programs p = All-head (Stands skip programs) p ps all in
       let tail : All (Stands skip programs) ps = All-tail (Stands skip programs) p ps all in
-      pass_fits number passes (p ∷ ps) (arrived programs (behind_call skip programs p) ps (past_end skip programs p.program p.passes ps)) all
-      (arrived_fits (behind_call skip programs p) ps (past_end skip programs p.program p.passes ps) (behind_stands p head) tail (past_fits p.program p.passes ps tail))
+      pass_fits number passes (p ∷ ps) (levels_at programs (after_call skip programs p) ps (past_end skip programs p.program p.passes ps)) all
+      (arrived_fits (after_call skip programs p) ps (past_end skip programs p.program p.passes ps) (after_stands p head) tail (past_fits p.program p.passes ps tail))
 
   -- at the start
-  pub begin_fits : (number : ℕ) → Fit (come skip programs (first_place skip programs number 0) [])
+  pub begin_fits : (number : ℕ) → Fit (levels_from skip programs (first_place skip programs number 0) [])
   begin_fits number =
       let blocks = program_blocks programs number in
       let none : CountRepeats skip blocks (first_going skip blocks).running = subst (CountRepeats skip blocks) (sym (first_runs skip blocks)) (none_runs blocks) in
@@ -90,18 +90,18 @@ module _ (skip : Bool) (programs : List (List ℕ × ProgramView)) where
       (All-nil (Stands skip programs)) (past_fits number 0 [] (All-nil (Stands skip programs)))
 
   module _ (levels : Levels) (fits : LevelsFit skip programs levels) where
-    come_fits : (to : Going) → CountRepeats skip (program_blocks programs levels.here.program) (counted skip (program_blocks programs levels.here.program) to).running
-        → Fit (come skip programs (gone_on levels.here (counted skip (program_blocks programs levels.here.program) to)) levels.returns)
+    come_fits : (to : Going) → CountRepeats skip (program_blocks programs levels.here.program) (going_to_counted skip (program_blocks programs levels.here.program) to).running
+        → Fit (levels_from skip programs (gone_on levels.here (going_to_counted skip (program_blocks programs levels.here.program) to)) levels.returns)
     come_fits to repeat =
-        arrived_fits (gone_on levels.here (counted skip (program_blocks programs levels.here.program) to)) levels.returns (past_end skip programs levels.here.program levels.here.passes levels.returns)
+        arrived_fits (gone_on levels.here (going_to_counted skip (program_blocks programs levels.here.program) to)) levels.returns (past_end skip programs levels.here.program levels.here.passes levels.returns)
         (comes_to levels.here to repeat) fits.returns (past_fits levels.here.program levels.here.passes levels.returns fits.returns)
 
     going_fits : (outcome : OutcomeView) (r : Result Going ℕ) (next : Option Levels) → next_block levels.here.pc (program_blocks programs levels.here.program) levels.here.repeats outcome ≡ r
-        → (up_to_counting skip (program_blocks programs levels.here.program) r >>= λ going. Ok (come skip programs (gone_on levels.here going) levels.returns)) ≡ Ok next → Fit next
+        → (up_to_counting skip (program_blocks programs levels.here.program) r >>= λ going. Ok (levels_from skip programs (gone_on levels.here going) levels.returns)) ≡ Ok next → Fit next
     going_fits outcome (Ok to) next is led =
         let blocks = program_blocks programs levels.here.program in
-        let same : come skip programs (gone_on levels.here (counted skip blocks to)) levels.returns ≡ next = cc in
-        subst Fit same (come_fits to (next_counts skip levels.here.pc blocks levels.here.repeats outcome (counted skip blocks to) fits.here.counts fits.here.repeat (ap (up_to_counting skip blocks) is)))
+        let same : levels_from skip programs (gone_on levels.here (going_to_counted skip blocks to)) levels.returns ≡ next = cc in
+        subst Fit same (come_fits to (next_counts skip levels.here.pc blocks levels.here.repeats outcome (going_to_counted skip blocks to) fits.here.counts fits.here.repeat (ap (up_to_counting skip blocks) is)))
     going_fits outcome (Err code) next is led = absurd cc
 
     calling_fits : (number passes : ℕ) (t : Bool) (next : Option Levels)
@@ -111,9 +111,9 @@ module _ (skip : Bool) (programs : List (List ℕ × ProgramView)) where
         let same : past_end skip programs number passes (levels.here ∷ levels.returns) ≡ next = cc in
         subst Fit same (past_fits number passes (levels.here ∷ levels.returns) (All-cons (Stands skip programs) levels.here levels.returns fits.here fits.returns))
 
-    -- behind a block each level stands at a block that counts again
-    pub followed_fits : (course : Course) (next : Option Levels) → followed skip programs levels course ≡ Ok next → Fit next
-    unfolding followed
+    -- after a block each level stands at a block that counts again
+    pub followed_fits : (course : Course) (next : Option Levels) → levels_after skip programs levels course ≡ Ok next → Fit next
+    unfolding levels_after
     followed_fits (Goes outcome) next is = going_fits outcome (next_block levels.here.pc (program_blocks programs levels.here.program) levels.here.repeats outcome) next refl is
     followed_fits Ends next is =
         let same : past_end skip programs levels.here.program levels.here.passes levels.returns ≡ next = cc in

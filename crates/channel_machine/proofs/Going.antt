@@ -9,7 +9,7 @@ use Rattle.nc_control_flow.specs.declared.flow.Next.{Next}
 use Rattle.nc_control_flow.specs.declared.flow.Next.TheVariants.{At, Past}
 use Rattle.nc_control_flow.specs.declared.repeats.Running.{Running}
 use Rattle.nc_control_flow.specs.Counted.{has_counting, first_going, next_going}
-use Rattle.nc_control_flow.specs.Flow.{next_block, next_at, going, Leads}
+use Rattle.nc_control_flow.specs.Flow.{next_block, next_at, going_by_move, Leads}
 use Rattle.nc_control_flow.specs.Moves.{OutcomeView, Skipped, move_of}
 use Rattle.nc_control_flow.specs.Nested.{blocks_of}
 use Rattle.nc_control_flow.specs.Parts.{views}
@@ -18,7 +18,7 @@ use Rattle.nc_control_flow.proofs.Leading.{first_at, first_counts, first_runs, c
 use Rattle.nc_subprograms.specs.declared.Place.{Place}
 use Rattle.job_types.specs.Job.{ProgramView, block_entry}
 use Rattle.channel_machine.specs.declared.levels.Levels.{Levels}
-use Rattle.channel_machine.specs.Levels.{lines_of, program_blocks, first_place, gone_on, behind_call, has_block, arrived, next_pass, begun_or, past_end, come, Stands, IsFirstPlace, Lands, GoesBehind, GoesOn}
+use Rattle.channel_machine.specs.Levels.{lines_of, program_blocks, first_place, gone_on, after_call, has_block, levels_at, next_pass, begun_or, past_end, levels_from, Stands, IsFirstPlace, Lands, GoesAfter, GoesOn}
 
 -- a flow's blocks, without their lines
 views_same : (flow : List (ℕ × Block)) → blocks_of (map block_entry flow) ≡ views flow
@@ -57,14 +57,14 @@ module _ (skip : Bool) (programs : List (List ℕ × ProgramView)) (number : ℕ
 
   -- the main program begins, or is done at once
   pub begins_at : (found : Option Place) (here : Place) → IsFirstPlace skip programs number 0 found → found ≡ Some here
-      → Some (record { here = here; returns = [] }) ≡ come skip programs (first_place skip programs number 0) []
+      → Some (record { here = here; returns = [] }) ≡ levels_from skip programs (first_place skip programs number 0) []
   begins_at None here is some = absurd cc
   begins_at (Some place) here is some =
       let same : place ≡ here = cc in
       let comes : has_block programs (first_place skip programs number 0) ≡ true = first_comes 0 ∙ is.0 in
       rw (sym same, is.1, comes) refl
 
-  pub begins_not : (found : Option Place) → IsFirstPlace skip programs number 0 found → found ≡ None → None ≡ come skip programs (first_place skip programs number 0) []
+  pub begins_not : (found : Option Place) → IsFirstPlace skip programs number 0 found → found ≡ None → None ≡ levels_from skip programs (first_place skip programs number 0) []
   begins_not (Some place) is none = absurd cc
   begins_not None is none = let comes : has_block programs (first_place skip programs number 0) ≡ false = first_comes 0 ∙ is in rw comes refl
 
@@ -76,13 +76,13 @@ module _ (skip : Bool) (programs : List (List ℕ × ProgramView)) (number : ℕ
 module _ (programs : List (List ℕ × ProgramView)) (old : Place) (flow : List (ℕ × Block)) (lines : lines_of programs old.program ≡ map block_entry flow) where
   -- it lands
   lands : (to : Going) (next : Next) (mid : List Running) (b : Bool) (new : Place) → next ≡ next_at (views flow) to.place → mid ≡ to.running
-      → Lands next (record old { repeats = mid }) b new → GoesBehind programs (gone_on old to) b new
+      → Lands next (record old { repeats = mid }) b new → GoesAfter programs (gone_on old to) b new
   lands to next mid b new is runs landed = by_test (nat_lt to.place (length (views flow))) refl
     where
       test : (t : Bool) → nat_lt to.place (length (views flow)) ≡ t → has_block programs (gone_on old to) ≡ t
       test t e = ap (nat_lt to.place) (long programs old.program flow lines) ∙ e
 
-      at_block : nat_lt to.place (length (views flow)) ≡ true → Lands (At to.place) (record old { repeats = mid }) b new → GoesBehind programs (gone_on old to) b new
+      at_block : nat_lt to.place (length (views flow)) ≡ true → Lands (At to.place) (record old { repeats = mid }) b new → GoesAfter programs (gone_on old to) b new
       at_block e (comes, stands) = record {
         comes = comes ∙ sym (test true e);
         arrives = λ _. stands ∙ ap (λ (rs : List Running). record old { pc = to.place; repeats = rs }) runs;
@@ -90,7 +90,7 @@ module _ (programs : List (List ℕ × ProgramView)) (old : Place) (flow : List 
         passes = ap (λ (p : Place). p.passes) stands;
       }
 
-      at_end : nat_lt to.place (length (views flow)) ≡ false → Lands Past (record old { repeats = mid }) b new → GoesBehind programs (gone_on old to) b new
+      at_end : nat_lt to.place (length (views flow)) ≡ false → Lands Past (record old { repeats = mid }) b new → GoesAfter programs (gone_on old to) b new
       at_end e (comes, stands) = record {
         comes = comes ∙ sym (test false e);
         arrives = λ yes_it. let never : false ≡ true = sym comes ∙ yes_it in absurd cc;
@@ -98,7 +98,7 @@ module _ (programs : List (List ℕ × ProgramView)) (old : Place) (flow : List 
         passes = ap (λ (p : Place). p.passes) stands;
       }
 
-      by_test : (t : Bool) → nat_lt to.place (length (views flow)) ≡ t → GoesBehind programs (gone_on old to) b new
+      by_test : (t : Bool) → nat_lt to.place (length (views flow)) ≡ t → GoesAfter programs (gone_on old to) b new
       by_test true e = at_block e (subst (λ (n : Next). Lands n (record old { repeats = mid }) b new) (is ∙ ap (λ (t : Bool). cond t (At to.place) Past) e) landed)
       by_test false e = at_end e (subst (λ (n : Next). Lands n (record old { repeats = mid }) b new) (is ∙ ap (λ (t : Bool). cond t (At to.place) Past) e) landed)
 
@@ -123,15 +123,15 @@ module _ (programs : List (List ℕ × ProgramView)) (old : Place) (flow : List 
   goes_not skip outcome code mid new leads =
       rw (views_are programs old.program flow lines) (led_not (next_going skip old.pc (views flow) old.repeats outcome) code mid new leads)
 
--- behind a call
+-- after a call
 module _ (skip : Bool) (programs : List (List ℕ × ProgramView)) (old new : Place) where
-  pub goes_behind : (b : Bool) → GoesOn programs (next_going skip old.pc (program_blocks programs old.program) old.repeats Skipped) old (Ok b) new
-      → GoesBehind programs (behind_call skip programs old) b new
-  unfolding next_block move_of going
-  goes_behind b is = is
+  pub goes_after : (b : Bool) → GoesOn programs (next_going skip old.pc (program_blocks programs old.program) old.repeats Skipped) old (Ok b) new
+      → GoesAfter programs (after_call skip programs old) b new
+  unfolding next_block move_of going_by_move
+  goes_after b is = is
 
   pub never_alarms : (code : ℕ) → GoesOn programs (next_going skip old.pc (program_blocks programs old.program) old.repeats Skipped) old (Err code) new → ⊥
-  unfolding next_block move_of going
+  unfolding next_block move_of going_by_move
   never_alarms code is = is
 
 -- ---- the level below
@@ -163,7 +163,7 @@ module _ (skip : Bool) (programs : List (List ℕ × ProgramView)) where
         → Some (record { here = here; returns = returns }) ≡ goal
     begins [] here goal some same = ap (λ (o : Option Place). begun_or o [] None) (sym some ∙ is) ∙ same
     begins (p ∷ ps) here goal some same =
-        ap (λ (o : Option Place). begun_or o (p ∷ ps) (arrived programs (behind_call skip programs p) ps (past_end skip programs p.program p.passes ps))) (sym some ∙ is) ∙ same
+        ap (λ (o : Option Place). begun_or o (p ∷ ps) (levels_at programs (after_call skip programs p) ps (past_end skip programs p.program p.passes ps))) (sym some ∙ is) ∙ same
 
     -- the main program ends
     pub at_main : (old new : List Place) (goal : Option Levels) → begun ≡ None → Returns old None new → past_end skip programs number passes old ≡ goal → None ≡ goal
@@ -171,25 +171,25 @@ module _ (skip : Bool) (programs : List (List ℕ × ProgramView)) where
         ap (λ (o : Option Place). begun_or o [] None) (sym none ∙ is) ∙ ap (past_end skip programs number passes) (sym (emptied old new ret)) ∙ same
 
     module _ (old new : List Place) (caller here : Place) (none : begun ≡ None) (ret : Returns old (Some caller) new) where
-      past_caller : past_end skip programs number passes old ≡ arrived programs (behind_call skip programs caller) new (past_end skip programs caller.program caller.passes new)
+      past_caller : past_end skip programs number passes old ≡ levels_at programs (after_call skip programs caller) new (past_end skip programs caller.program caller.passes new)
       past_caller =
           ap (past_end skip programs number passes) (popped old caller new ret)
-          ∙ ap (λ (o : Option Place). begun_or o (caller ∷ new) (arrived programs (behind_call skip programs caller) new (past_end skip programs caller.program caller.passes new))) (sym is ∙ none)
+          ∙ ap (λ (o : Option Place). begun_or o (caller ∷ new) (levels_at programs (after_call skip programs caller) new (past_end skip programs caller.program caller.passes new))) (sym is ∙ none)
 
-      -- behind the call of the level below a block comes
-      pub below_comes : (b : Bool) (goal : Option Levels) → b ≡ true → GoesBehind programs (behind_call skip programs caller) b here → past_end skip programs number passes old ≡ goal
+      -- after the call of the level below a block comes
+      pub below_comes : (b : Bool) (goal : Option Levels) → b ≡ true → GoesAfter programs (after_call skip programs caller) b here → past_end skip programs number passes old ≡ goal
           → Some (record { here = here; returns = new }) ≡ goal
       below_comes b goal yes_it goes same =
-          let comes : has_block programs (behind_call skip programs caller) ≡ true = sym goes.comes ∙ yes_it in
-          let there : arrived programs (behind_call skip programs caller) new (past_end skip programs caller.program caller.passes new) ≡ Some (record { here = behind_call skip programs caller; returns = new }) = rw comes refl in
+          let comes : has_block programs (after_call skip programs caller) ≡ true = sym goes.comes ∙ yes_it in
+          let there : levels_at programs (after_call skip programs caller) new (past_end skip programs caller.program caller.passes new) ≡ Some (record { here = after_call skip programs caller; returns = new }) = rw comes refl in
           rw (goes.arrives yes_it) (sym there ∙ sym past_caller ∙ same)
 
       -- or it is at its end too
-      pub below_ends : (b : Bool) (goal : Option Levels) → b ≡ false → GoesBehind programs (behind_call skip programs caller) b here → past_end skip programs number passes old ≡ goal
+      pub below_ends : (b : Bool) (goal : Option Levels) → b ≡ false → GoesAfter programs (after_call skip programs caller) b here → past_end skip programs number passes old ≡ goal
           → past_end skip programs here.program here.passes new ≡ goal
       below_ends b goal no_it goes same =
-          let ends : has_block programs (behind_call skip programs caller) ≡ false = sym goes.comes ∙ no_it in
-          let there : arrived programs (behind_call skip programs caller) new (past_end skip programs caller.program caller.passes new) ≡ past_end skip programs caller.program caller.passes new = rw ends refl in
+          let ends : has_block programs (after_call skip programs caller) ≡ false = sym goes.comes ∙ no_it in
+          let there : levels_at programs (after_call skip programs caller) new (past_end skip programs caller.program caller.passes new) ≡ past_end skip programs caller.program caller.passes new = rw ends refl in
           rw (goes.program, goes.passes) (sym there ∙ sym past_caller ∙ same)
 
   module _ (old new : List Place) (caller : Place) (ret : Returns old (Some caller) new) where

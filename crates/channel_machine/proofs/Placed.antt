@@ -4,8 +4,8 @@ use mathlib.Core.Path.{fun_ext}
 use Rattle.std.proofs.lemmas.Bool.Decides.{nat_tests}
 use Rattle.std.proofs.lemmas.List.{length-map}
 use Rattle.axis_sets.specs.Positions.{stands}
-use Rattle.block_effects.specs.Effects.{Course, Found, effect_of}
-use Rattle.block_effects.specs.Words.{Equipment}
+use Rattle.block_effects.specs.Effects.{Course, SituationView, effect_of}
+use Rattle.block_effects.specs.Words.{SetupView}
 use Rattle.frames.specs.Maps.{Map}
 use Rattle.g_groups.specs.declared.GWord.{GWord}
 use Rattle.nc_blocks.specs.Statement.{BlockView, Statement, statement_view, view_of}
@@ -15,15 +15,15 @@ use Rattle.nc_control_flow.specs.Parts.{statement_at, views}
 use Rattle.nc_control_flow.specs.Structures.{opening}
 use Rattle.nc_subprograms.specs.declared.Place.{Place}
 use Rattle.job_types.specs.Job.{JobView, ProgramView}
-use Rattle.channel_machine.specs.Kept.{Kept, IsSettingIn, Keeps}
+use Rattle.channel_machine.specs.Kept.{StateView, IsSettingIn, Keeps}
 use Rattle.channel_machine.specs.declared.levels.Levels.{Levels}
-use Rattle.channel_machine.specs.Levels.{lines_of, program_blocks, followed}
-use Rattle.channel_machine.specs.Run.{Setting, Channel, equipment, words_after, chain_after, stands_after, found_after, block_at, opener_at}
+use Rattle.channel_machine.specs.Levels.{lines_of, program_blocks, levels_after}
+use Rattle.channel_machine.specs.Run.{SurroundingsView, Channel, setup_of, words_after, chain_after, stands_after, found_after, block_at, opener_at}
 use Rattle.job_types.specs.Slots.{offset_of}
 use Rattle.job_types.specs.Axes.{axis_named}
 
 -- what the blocks find in a job, by what is kept
-abbrev pub equipment_in : JobView → Kept → Equipment
+abbrev pub equipment_in : JobView → StateView → SetupView
 equipment_in job k = record {
   names = map (λ p. p.0) job.programs;
   axis_named = axis_named job.axes;
@@ -32,7 +32,7 @@ equipment_in job k = record {
   owned = k.axes;
 }
 
-abbrev pub found_with : List (List GWord) → List Map → List ℤ → (ℕ → ℤ) → Found
+abbrev pub found_with : List (List GWord) → List Map → List ℤ → (ℕ → ℤ) → SituationView
 found_with words chain parameters at = record { parameters = parameters; words = words; chain = chain; at = at }
 
 pub viewed : {X Y : Type 0} (view : X → Y) (xs : List X) (k : ℕ) (x : X) → slice_get xs k ≡ Some x → slice_get (map view xs) k ≡ Some (view x)
@@ -60,7 +60,7 @@ opening_there flow pc k here is =
     let below : opening pc (views flow) < length (views flow) = opening_below pc (views flow) (omega (arith, here, long)) in
     omega (arith, below, long, is)
 
-module _ (s : Setting) (programs : List (List ℕ × ProgramView)) (same : s.programs ≡ programs) (here : Place) where
+module _ (s : SurroundingsView) (programs : List (List ℕ × ProgramView)) (same : s.programs ≡ programs) (here : Place) where
   -- the block that comes
   pub block_there : (o : Option (ℕ × BlockView)) → slice_get (lines_of programs here.program) here.pc ≡ o → block_at s here ≡ o
   block_there o is = ap (λ (ps : List (List ℕ × ProgramView)). slice_get (lines_of ps here.program) here.pc) same ∙ is
@@ -70,8 +70,8 @@ module _ (s : Setting) (programs : List (List ℕ × ProgramView)) (same : s.pro
       → opener_at s here ≡ opener
   opener_there opener is = ap (λ (ps : List (List ℕ × ProgramView)). statement_at (opening here.pc (program_blocks ps here.program)) (program_blocks ps here.program)) same ∙ sym is
 
-module _ (job : JobView) (s : Setting) (c : Channel) (k : Kept) (set : IsSettingIn job s k) (keeps : Keeps s c k) where
-  equipment_is : equipment s ≡ equipment_in job k
+module _ (job : JobView) (s : SurroundingsView) (c : Channel) (k : StateView) (set : IsSettingIn job s k) (keeps : Keeps s c k) where
+  equipment_is : setup_of s ≡ equipment_in job k
   equipment_is = rw (set.programs, set.axes, set.offset, keeps.slots, keeps.axes) refl
 
   found_is : found_after s c.past ≡ found_with (words_after c.past) (chain_after c.past) k.parameters (stands k.at)
@@ -82,16 +82,16 @@ module _ (job : JobView) (s : Setting) (c : Channel) (k : Kept) (set : IsSetting
   -- what the block does, by what is kept
   pub effect_there : (here : Place) (line : ℕ) (opener statement : Statement) → opener_at s here ≡ opener
       → effect_of (equipment_in job k) (found_with (words_after c.past) (chain_after c.past) k.parameters (stands k.at)) line opener statement
-      ≡ effect_of (equipment s) (found_after s c.past) line (opener_at s here) statement
+      ≡ effect_of (setup_of s) (found_after s c.past) line (opener_at s here) statement
   effect_there here line opener statement is =
-      ap (λ (e : Equipment). effect_of e (found_with (words_after c.past) (chain_after c.past) k.parameters (stands k.at)) line opener statement) (sym equipment_is)
-      ∙ ap (λ (f : Found). effect_of (equipment s) f line opener statement) (sym found_is) ∙ ap (λ (o : Statement). effect_of (equipment s) (found_after s c.past) line o statement) (sym is)
+      ap (λ (e : SetupView). effect_of e (found_with (words_after c.past) (chain_after c.past) k.parameters (stands k.at)) line opener statement) (sym equipment_is)
+      ∙ ap (λ (f : SituationView). effect_of (setup_of s) f line opener statement) (sym found_is) ∙ ap (λ (o : Statement). effect_of (setup_of s) (found_after s c.past) line o statement) (sym is)
 
 -- where a block leads, in the job of the setting
-pub followed_there : (s : Setting) (skip : Bool) (programs : List (List ℕ × ProgramView)) → s.skip ≡ skip → s.programs ≡ programs
-    → (levels : Levels) (course : Course) → followed skip programs levels course ≡ followed s.skip s.programs levels course
+pub followed_there : (s : SurroundingsView) (skip : Bool) (programs : List (List ℕ × ProgramView)) → s.skip ≡ skip → s.programs ≡ programs
+    → (levels : Levels) (course : Course) → levels_after skip programs levels course ≡ levels_after s.skip s.programs levels course
 followed_there s skip programs same_skip same levels course =
-    ap (λ (b : Bool). followed b programs levels course) (sym same_skip) ∙ ap (λ (ps : List (List ℕ × ProgramView)). followed s.skip ps levels course) (sym same)
+    ap (λ (b : Bool). levels_after b programs levels course) (sym same_skip) ∙ ap (λ (ps : List (List ℕ × ProgramView)). levels_after s.skip ps levels course) (sym same)
 
 -- a channel that has not executed all its blocks may execute one more
 pub room : (n : ℕ) → n ≤ 100000 → (n ≡ 100000 → ⊥) → n + suc (99999 - n) ≡ 100000

@@ -3,15 +3,15 @@ use Rattle.std.proofs.Common.{◌≡◌, ◌∙◌, ℕ, List, [], Option, None,
 use Rattle.sync_types.specs.declared.Item.{Item}
 use Rattle.sync_types.specs.declared.Step.{Step}
 use Rattle.job_types.specs.Job.{JobView}
-use Rattle.channel_machine.specs.Kept.{Kept, Keeps, GoesOn, Advances, IsSegment, IsSettingIn}
-use Rattle.channel_machine.specs.Run.{Setting, Channel, SegmentView, segment_of}
+use Rattle.channel_machine.specs.Kept.{StateView, Keeps, GoesOn, Advances, IsSegment, IsSettingIn}
+use Rattle.channel_machine.specs.Run.{SurroundingsView, Channel, SegmentView, segment_of}
 use Rattle.job_types.specs.Slots.{offset_of}
 
 pub if_ok : {A E : Type 0} {P Q : A → Type 0} (r : Result A E) → ((x : A) → P x → Q x) → IfOk r P → IfOk r Q
 if_ok (Ok x) each p = each x p
 if_ok (Err e) each p = tt
 
-module _ (s : Setting) (c : Channel) (mid after : List Item) (kept later : Kept) (was : GoesOn s c [] mid kept) where
+module _ (s : SurroundingsView) (c : Channel) (mid after : List Item) (kept later : StateView) (was : GoesOn s c [] mid kept) where
   -- the segment ends
   pub ends_so : (halt : Option Step) (step : Step) → halt ≡ Some step → Advances s was.next mid halt after later
       → IsSegment s (segment_of s c) (record { items = after; step = step; after = later })
@@ -28,7 +28,7 @@ module _ (s : Setting) (c : Channel) (mid after : List Item) (kept later : Kept)
   goes_so (Some step) is told = absurd cc
 
 -- a setting is one of the job for a channel, however far that has come
-pub setting_kept : (job : JobView) (s : Setting) (k later : Kept) → IsSettingIn job s k → later.channel ≡ k.channel → IsSettingIn job s later
+pub setting_kept : (job : JobView) (s : SurroundingsView) (k later : StateView) → IsSettingIn job s k → later.channel ≡ k.channel → IsSettingIn job s later
 setting_kept job s k later set same = record {
   programs = set.programs;
   axes = set.axes;

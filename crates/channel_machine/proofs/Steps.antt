@@ -22,22 +22,22 @@ use Rattle.sync_types.specs.declared.Action.TheVariants.{End, Alarm}
 use Rattle.sync_types.specs.declared.Item.{Item}
 use Rattle.sync_types.specs.declared.Step.{Step}
 use Rattle.channel_machine.specs.declared.levels.Levels.{Levels}
-use Rattle.channel_machine.specs.Levels.{followed}
-use Rattle.channel_machine.specs.Run.{Setting, Executed, Channel, SegmentView, equipment, items_of, header_of, words_after, found_after, stands_after, line_after, opener_at, block_at, executed, step_at, step_after, alarmed, onto, over, ends_main, behind, run_after, segment_of}
-use Rattle.channel_machine.specs.Kept.{Kept, Keeps, GoesOn, Advances, IsBehind, IsSegment}
+use Rattle.channel_machine.specs.Levels.{levels_after}
+use Rattle.channel_machine.specs.Run.{SurroundingsView, Executed, Channel, SegmentView, setup_of, items_of, header_of, words_after, found_after, stands_after, line_after, opener_at, block_at, executed_block, step_at, step_after, alarm_segment, with_items_before, channel_at_end, ends_main, segment_after_block, run_after, segment_of}
+use Rattle.channel_machine.specs.Kept.{StateView, Keeps, GoesOn, Advances, IsFollowing, IsSegment}
 use Rattle.channel_machine.proofs.Pasts.{fold-push, map-push, items_of-push}
 use Rattle.channel_machine.proofs.Searching.{alarms_by_search}
 
--- the segment ends with this step, behind these blocks
-abbrev pub ended : List Item → Kept → ℕ → Action → List Executed → SegmentView
-ended items k line action past = record { items = items; step = step_at k.axes k.on (stands k.at) line action; after = over past }
+-- the segment ends with this step, after these blocks
+abbrev pub ended : List Item → StateView → ℕ → Action → List Executed → SegmentView
+ended items k line action past = record { items = items; step = step_at k.axes k.on (stands k.at) line action; after = channel_at_end past }
 
 abbrev segment_view : List Item → Step → Channel → SegmentView
 segment_view items step after = record { items = items; step = step; after = after }
 
--- a segment that ends so, where this is kept of the channel behind it
-pub ends_at : (s : Setting) (segment : SegmentView) (items : List Item) (k later : Kept) (line : ℕ) (action : Action) (past : List Executed) (step : Step)
-    → segment ≡ ended items k line action past → step ≡ step_at k.axes k.on (stands k.at) line action → Keeps s (over past) later
+-- a segment that ends so, where this is kept of the channel after it
+pub ends_at : (s : SurroundingsView) (segment : SegmentView) (items : List Item) (k later : StateView) (line : ℕ) (action : Action) (past : List Executed) (step : Step)
+    → segment ≡ ended items k line action past → step ≡ step_at k.axes k.on (stands k.at) line action → Keeps s (channel_at_end past) later
     → IsSegment s segment (record { items = items; step = step; after = later })
 ends_at s segment items k later line action past step is at keeps = record {
   items = ap (λ (g : SegmentView). g.items) is;
@@ -51,10 +51,10 @@ effect_done (Ok effect) done new is = (effect, refl, is)
 effect_done (Err code) done new is = absurd is
 
 -- what is kept, in another situation
-abbrev pub in_situation : Kept → Option Levels → Situation → Kept
+abbrev pub in_situation : StateView → Option Levels → Situation → StateView
 in_situation k levels new = record k { levels = levels; parameters = new.parameters; modal = new.modal; frame = new.frame; at = new.at }
 
-module _ (s : Setting) (c : Channel) (k : Kept) (keeps : Keeps s c k) (before : List Item) where
+module _ (s : SurroundingsView) (c : Channel) (k : StateView) (keeps : Keeps s c k) (before : List Item) where
   same_at : stands k.at ≡ stands_after s c.past
   same_at = fun_ext keeps.at
 
@@ -64,8 +64,8 @@ module _ (s : Setting) (c : Channel) (k : Kept) (keeps : Keeps s c k) (before : 
       ∙ ap (λ (at : ℕ → ℤ). step_at s.grant.axes s.grant.on at line action) same_at ∙ ap (λ (n : ℕ). step_after s c.past n action) is
 
   -- where control is nowhere the rest is kept of a channel that is over
-  pub over_keeps : (later : Kept) → later ≡ record k { levels = None } → Keeps s (over c.past) later
-  over_keeps later is = subst (λ (l : Kept). Keeps s (over c.past) l) (sym is) (record {
+  pub over_keeps : (later : StateView) → later ≡ record k { levels = None } → Keeps s (channel_at_end c.past) later
+  over_keeps later is = subst (λ (l : StateView). Keeps s (channel_at_end c.past) l) (sym is) (record {
     levels = refl;
     count = keeps.count;
     last = keeps.last;
@@ -79,78 +79,78 @@ module _ (s : Setting) (c : Channel) (k : Kept) (keeps : Keeps s c k) (before : 
   })
 
   -- an alarm ends it
-  alarm_is : (line here code : ℕ) → line ≡ here → onto before (alarmed s c.past here code) ≡ ended before k line (Alarm code) c.past
+  alarm_is : (line here code : ℕ) → line ≡ here → with_items_before before (alarm_segment s c.past here code) ≡ ended before k line (Alarm code) c.past
   alarm_is line here code is =
-      ap (λ (items : List Item). segment_view items (step_after s c.past here (Alarm code)) (over c.past)) (append-nil before)
-      ∙ ap (λ (t : Step). segment_view before t (over c.past)) (sym (step_is line here (Alarm code) is))
+      ap (λ (items : List Item). segment_view items (step_after s c.past here (Alarm code)) (channel_at_end c.past)) (append-nil before)
+      ∙ ap (λ (t : Step). segment_view before t (channel_at_end c.past)) (sym (step_is line here (Alarm code) is))
 
   segment_is : (n : ℕ) → 100000 - length c.past ≡ n → segment_of s c ≡ run_after s n c
   unfolding segment_of
   segment_is n left = ap (λ (m : ℕ). run_after s m c) left
 
   -- control is nowhere
-  pub nowhere : k.levels ≡ None → onto before (segment_of s c) ≡ ended before k k.last (Alarm 9) c.past
+  pub nowhere : k.levels ≡ None → with_items_before before (segment_of s c) ≡ ended before k k.last (Alarm 9) c.past
   unfolding run_after
   nowhere none = by_left (100000 - length c.past) refl
     where
       gone : c.levels ≡ None
       gone = sym keeps.levels ∙ none
 
-      run_is : (n : ℕ) → run_after s n c ≡ alarmed s c.past (line_after s c.past) 9
+      run_is : (n : ℕ) → run_after s n c ≡ alarm_segment s c.past (line_after s c.past) 9
       run_is zero = rw gone refl
       run_is (suc more) = rw gone refl
 
-      by_left : (n : ℕ) → 100000 - length c.past ≡ n → onto before (segment_of s c) ≡ ended before k k.last (Alarm 9) c.past
-      by_left n left = ap (onto before) (segment_is n left ∙ run_is n) ∙ alarm_is k.last (line_after s c.past) 9 keeps.last
+      by_left : (n : ℕ) → 100000 - length c.past ≡ n → with_items_before before (segment_of s c) ≡ ended before k k.last (Alarm 9) c.past
+      by_left n left = ap (with_items_before before) (segment_is n left ∙ run_is n) ∙ alarm_is k.last (line_after s c.past) 9 keeps.last
 
   module _ (levels : Levels) (is : k.levels ≡ Some levels) where
     there : c.levels ≡ Some levels
     there = sym keeps.levels ∙ is
 
     -- no block stands there
-    pub no_block : block_at s levels.here ≡ None → onto before (segment_of s c) ≡ ended before k k.last (Alarm 9) c.past
+    pub no_block : block_at s levels.here ≡ None → with_items_before before (segment_of s c) ≡ ended before k k.last (Alarm 9) c.past
     unfolding run_after
     no_block none = by_left (100000 - length c.past) refl
       where
-        run_is : (n : ℕ) → run_after s n c ≡ alarmed s c.past (line_after s c.past) 9
+        run_is : (n : ℕ) → run_after s n c ≡ alarm_segment s c.past (line_after s c.past) 9
         run_is zero = rw (there, none) refl
         run_is (suc more) = rw (there, none) refl
 
-        by_left : (n : ℕ) → 100000 - length c.past ≡ n → onto before (segment_of s c) ≡ ended before k k.last (Alarm 9) c.past
-        by_left n left = ap (onto before) (segment_is n left ∙ run_is n) ∙ alarm_is k.last (line_after s c.past) 9 keeps.last
+        by_left : (n : ℕ) → 100000 - length c.past ≡ n → with_items_before before (segment_of s c) ≡ ended before k k.last (Alarm 9) c.past
+        by_left n left = ap (with_items_before before) (segment_is n left ∙ run_is n) ∙ alarm_is k.last (line_after s c.past) 9 keeps.last
 
     module _ (line : ℕ) (block : BlockView) (here : block_at s levels.here ≡ Some (line, block)) where
       -- no block may be executed
-      pub spent : k.count ≡ 100000 → onto before (segment_of s c) ≡ ended before k line (Alarm 8) c.past
+      pub spent : k.count ≡ 100000 → with_items_before before (segment_of s c) ≡ ended before k line (Alarm 8) c.past
       unfolding run_after
       spent full =
           let none : 100000 - length c.past ≡ 0 = omega (arith, full, keeps.count) in
-          ap (onto before) (segment_is 0 none ∙ run_is) ∙ alarm_is line line 8 refl
+          ap (with_items_before before) (segment_is 0 none ∙ run_is) ∙ alarm_is line line 8 refl
         where
-          run_is : run_after s 0 c ≡ alarmed s c.past line 8
+          run_is : run_after s 0 c ≡ alarm_segment s c.past line 8
           run_is = rw (there, here) refl
 
-      goes : (more : ℕ) → run_after s (suc more) c ≡ behind s c.past levels line (executed s c.past levels.here (line, block)) (λ after. run_after s more after)
+      goes : (more : ℕ) → run_after s (suc more) c ≡ segment_after_block s c.past levels line (executed_block s c.past levels.here (line, block)) (λ after. run_after s more after)
       unfolding run_after
       goes more = rw (there, here) refl
 
       abbrev effect_here : Result Effect ℕ
-      effect_here = effect_of (equipment s) (found_after s c.past) line (opener_at s levels.here) block.statement
+      effect_here = effect_of (setup_of s) (found_after s c.past) line (opener_at s levels.here) block.statement
 
       -- the block alarms
-      pub stops : (more code : ℕ) → k.count + suc more ≡ 100000 → effect_here ≡ Err code → onto before (segment_of s c) ≡ ended before k line (Alarm code) c.past
+      pub stops : (more code : ℕ) → k.count + suc more ≡ 100000 → effect_here ≡ Err code → with_items_before before (segment_of s c) ≡ ended before k line (Alarm code) c.past
       stops more code room e =
           let left : 100000 - length c.past ≡ suc more = omega (arith, room, keeps.count) in
-          ap (onto before) (segment_is (suc more) left ∙ goes more ∙ rw e refl) ∙ alarm_is line line code refl
+          ap (with_items_before before) (segment_is (suc more) left ∙ goes more ∙ rw e refl) ∙ alarm_is line line code refl
 
       module _ (more : ℕ) (room : k.count + suc more ≡ 100000) (effect : Effect) (done : effect_here ≡ Ok effect) where
-        executed_as : segment_of s c ≡ behind s c.past levels line (Ok (record { line = line; block = block; effect = effect })) (λ after. run_after s more after)
+        executed_as : segment_of s c ≡ segment_after_block s c.past levels line (Ok (record { line = line; block = block; effect = effect })) (λ after. run_after s more after)
         executed_as = let left : 100000 - length c.past ≡ suc more = omega (arith, room, keeps.count) in segment_is (suc more) left ∙ goes more ∙ rw done refl
 
         -- where it leads alarms
-        leads_not : (code : ℕ) → ends_main levels effect.course ≡ false → followed s.skip s.programs levels effect.course ≡ Err code
-            → onto before (segment_of s c) ≡ ended before k line (Alarm code) c.past
-        leads_not code on e = ap (onto before) (executed_as ∙ rw (on, e) refl) ∙ alarm_is line line code refl
+        leads_not : (code : ℕ) → ends_main levels effect.course ≡ false → levels_after s.skip s.programs levels effect.course ≡ Err code
+            → with_items_before before (segment_of s c) ≡ ended before k line (Alarm code) c.past
+        leads_not code on e = ap (with_items_before before) (executed_as ∙ rw (on, e) refl) ∙ alarm_is line line code refl
 
         abbrev this : Executed
         this = record { line = line; block = block; effect = effect }
@@ -161,7 +161,7 @@ module _ (s : Setting) (c : Channel) (k : Kept) (keeps : Keeps s c k) (before : 
         items_more : items_of past_more ≡ items_of c.past ++ option_to_list effect.item
         items_more = items_of-push c.past this
 
-        module _ (mid : Kept) (gone : mid.levels ≡ None) (counted : mid.count ≡ k.count) (last : mid.last ≡ k.last) (slots : mid.slots ≡ k.slots) (axes : mid.axes ≡ k.axes) (on : mid.on ≡ k.on)
+        module _ (mid : StateView) (gone : mid.levels ≡ None) (counted : mid.count ≡ k.count) (last : mid.last ≡ k.last) (slots : mid.slots ≡ k.slots) (axes : mid.axes ≡ k.axes) (on : mid.on ≡ k.on)
             (stand : StandsAtEnd effect.item k.at mid.at) where
           at_more : (axis : ℕ) → stands mid.at axis ≡ stands_after s past_more axis
           at_more axis =
@@ -169,10 +169,10 @@ module _ (s : Setting) (c : Channel) (k : Kept) (keeps : Keeps s c k) (before : 
               ∙ ap (λ (items : List Item). left_at items (stands s.grant.at) axis) (sym items_more)
 
           -- the main program ends
-          finishes : ends_main levels effect.course ≡ true → onto before (segment_of s c) ≡ ended (before ++ option_to_list effect.item) mid line End past_more
+          finishes : ends_main levels effect.course ≡ true → with_items_before before (segment_of s c) ≡ ended (before ++ option_to_list effect.item) mid line End past_more
           finishes ends =
-              ap (onto before) (executed_as ∙ rw ends refl)
-              ∙ ap (λ (t : Step). segment_view (before ++ option_to_list effect.item) t (over past_more))
+              ap (with_items_before before) (executed_as ∙ rw ends refl)
+              ∙ ap (λ (t : Step). segment_view (before ++ option_to_list effect.item) t (channel_at_end past_more))
               (sym (ap (λ (axes : List Bool). step_at axes mid.on (stands mid.at) line End) (axes ∙ keeps.axes)
               ∙ ap (λ (on : List Bool). step_at s.grant.axes on (stands mid.at) line End) (on ∙ keeps.on)
               ∙ ap (λ (f : ℕ → ℤ). step_at s.grant.axes s.grant.on f line End) (fun_ext at_more)))
@@ -187,11 +187,11 @@ module _ (s : Setting) (c : Channel) (k : Kept) (keeps : Keeps s c k) (before : 
           unfolding segment_of
           there_after next = let left : 100000 - length past_more ≡ more = omega (arith, room, keeps.count, longer) in ap (λ (m : ℕ). run_after s m (after next)) left
 
-          both : (segment : SegmentView) → onto before (onto (option_to_list effect.item) segment) ≡ onto (before ++ option_to_list effect.item) segment
+          both : (segment : SegmentView) → with_items_before before (with_items_before (option_to_list effect.item) segment) ≡ with_items_before (before ++ option_to_list effect.item) segment
           both segment = ap (λ (items : List Item). segment_view items segment.step segment.after) (sym (append_assoc before (option_to_list effect.item) segment.items))
 
           module _ (parameters : effect.parameters ≡ mid.parameters) (modal : IsAfter (words_after c.past ++ group_words block.statement ∷ []) mid.modal) (frame : IsComposed effect.chain mid.frame) where
-            abbrev kept_after : Option Levels → Kept
+            abbrev kept_after : Option Levels → StateView
             kept_after next = record mid { levels = next; count = mid.count + 1; last = line }
 
             keeps_after : (next : Option Levels) → Keeps s (after next) (kept_after next)
@@ -208,16 +208,16 @@ module _ (s : Setting) (c : Channel) (k : Kept) (keeps : Keeps s c k) (before : 
               on = on ∙ keeps.on;
             }
 
-            -- the channel is over behind the block
-            over_after : (new : Kept) → new ≡ record mid { count = mid.count + 1; last = line } → Keeps s (over past_more) new
+            -- the channel is over after the block
+            over_after : (new : StateView) → new ≡ record mid { count = mid.count + 1; last = line } → Keeps s (channel_at_end past_more) new
             over_after new is =
-                subst (λ (l : Kept). Keeps s (over past_more) l) (sym (is ∙ ap (λ (o : Option Levels). record mid { levels = o; count = mid.count + 1; last = line }) gone)) (keeps_after None)
+                subst (λ (l : StateView). Keeps s (channel_at_end past_more) l) (sym (is ∙ ap (λ (o : Option Levels). record mid { levels = o; count = mid.count + 1; last = line }) gone)) (keeps_after None)
 
             -- a block that leads nowhere leaves what was kept before it, but for the words of groups
-            module _ (code : ℕ) (alarms : followed s.skip s.programs levels effect.course ≡ Err code) where
+            module _ (code : ℕ) (alarms : levels_after s.skip s.programs levels effect.course ≡ Err code) where
               still : IsStill (found_after s c.past) effect
               still =
-                  searching_stays (equipment s) (found_after s c.past) line (opener_at s levels.here) block.statement effect done (alarms_by_search s.skip s.programs levels effect.course code alarms)
+                  searching_stays (setup_of s) (found_after s c.past) line (opener_at s levels.here) block.statement effect done (alarms_by_search s.skip s.programs levels effect.course code alarms)
 
               same_stand : (axis : ℕ) → stands mid.at axis ≡ stands k.at axis
               same_stand = subst (λ (o : Option Item). StandsAtEnd o k.at mid.at) still.item stand
@@ -227,8 +227,8 @@ module _ (s : Setting) (c : Channel) (k : Kept) (keeps : Keeps s c k) (before : 
                   ap (λ (row : List Bool). step_at row mid.on (stands mid.at) line (Alarm code)) axes ∙ ap (λ (row : List Bool). step_at k.axes row (stands mid.at) line (Alarm code)) on
                   ∙ ap (λ (f : ℕ → ℤ). step_at k.axes k.on f line (Alarm code)) (fun_ext same_stand)
 
-              over_before : (new : Kept) → new ≡ record mid { modal = k.modal } → Keeps s (over c.past) new
-              over_before new is = subst (λ (l : Kept). Keeps s (over c.past) l) (sym is) (record {
+              over_before : (new : StateView) → new ≡ record mid { modal = k.modal } → Keeps s (channel_at_end c.past) new
+              over_before new is = subst (λ (l : StateView). Keeps s (channel_at_end c.past) l) (sym is) (record {
                 levels = gone;
                 count = counted ∙ keeps.count;
                 last = last ∙ keeps.last;
@@ -242,40 +242,40 @@ module _ (s : Setting) (c : Channel) (k : Kept) (keeps : Keeps s c k) (before : 
               })
 
             -- control goes on
-            leads : (next : Option Levels) → ends_main levels effect.course ≡ false → followed s.skip s.programs levels effect.course ≡ Ok next
+            leads : (next : Option Levels) → ends_main levels effect.course ≡ false → levels_after s.skip s.programs levels effect.course ≡ Ok next
                 → GoesOn s c before (before ++ option_to_list effect.item) (kept_after next)
             leads next on led = record {
               next = after next;
               keeps = keeps_after next;
-              rest = ap (onto before) (executed_as ∙ rw (on, led) refl) ∙ both (run_after s more (after next)) ∙ ap (onto (before ++ option_to_list effect.item)) (sym (there_after next));
+              rest = ap (with_items_before before) (executed_as ∙ rw (on, led) refl) ∙ both (run_after s more (after next)) ∙ ap (with_items_before (before ++ option_to_list effect.item)) (sym (there_after next));
             }
 
-            led_so : (r : Result (Option Levels) ℕ) → ends_main levels effect.course ≡ false → followed s.skip s.programs levels effect.course ≡ r
-                → (halt : Option Step) (items : List Item) (new : Kept) → IsBehind mid k.modal before effect.item line false r halt items new → Advances s c before halt items new
+            led_so : (r : Result (Option Levels) ℕ) → ends_main levels effect.course ≡ false → levels_after s.skip s.programs levels effect.course ≡ r
+                → (halt : Option Step) (items : List Item) (new : StateView) → IsFollowing mid k.modal before effect.item line false r halt items new → Advances s c before halt items new
             led_so (Err code) goes e halt items new is =
-                rw (is.0, is.1) (ends_at s (onto before (segment_of s c)) before k new line (Alarm code) c.past (step_at mid.axes mid.on (stands mid.at) line (Alarm code))
+                rw (is.0, is.1) (ends_at s (with_items_before before (segment_of s c)) before k new line (Alarm code) c.past (step_at mid.axes mid.on (stands mid.at) line (Alarm code))
                 (leads_not code goes e) (same_step code e) (over_before code e new is.2))
             led_so (Ok next) goes e halt items new is = rw (is.0, is.1, is.2) (leads next goes e)
 
-            -- what comes behind the block
-            behind_so : (flag : Bool) → ends_main levels effect.course ≡ flag
-                → (halt : Option Step) (items : List Item) (new : Kept) → IsBehind mid k.modal before effect.item line flag (followed s.skip s.programs levels effect.course) halt items new
+            -- what comes after the block
+            after_so : (flag : Bool) → ends_main levels effect.course ≡ flag
+                → (halt : Option Step) (items : List Item) (new : StateView) → IsFollowing mid k.modal before effect.item line flag (levels_after s.skip s.programs levels effect.course) halt items new
                 → Advances s c before halt items new
-            behind_so true ends halt items new is =
-                rw (is.0, is.1) (ends_at s (onto before (segment_of s c)) (before ++ option_to_list effect.item) mid new line End past_more (step_at mid.axes mid.on (stands mid.at) line End)
+            after_so true ends halt items new is =
+                rw (is.0, is.1) (ends_at s (with_items_before before (segment_of s c)) (before ++ option_to_list effect.item) mid new line End past_more (step_at mid.axes mid.on (stands mid.at) line End)
                 (finishes ends) refl (over_after new is.2))
-            behind_so false goes halt items new is = led_so (followed s.skip s.programs levels effect.course) goes refl halt items new is
+            after_so false goes halt items new is = led_so (levels_after s.skip s.programs levels effect.course) goes refl halt items new is
 
-      -- what comes behind a block that has done this
+      -- what comes after a block that has done this
       pub performed : (more : ℕ) → k.count + suc more ≡ 100000 → (done : Done) (new : Situation) → Does effect_here done new
           → IsAfter (words_after c.past ++ group_words block.statement ∷ []) new.modal → StandsAtEnd done.item k.at new.at
-          → (next : Option Levels) → next ≡ None → (halt : Option Step) (items : List Item) (kept : Kept)
-          → IsBehind (in_situation k next new) k.modal before done.item line (ends_main levels (course_view done.course)) (followed s.skip s.programs levels (course_view done.course)) halt items kept
+          → (next : Option Levels) → next ≡ None → (halt : Option Step) (items : List Item) (kept : StateView)
+          → IsFollowing (in_situation k next new) k.modal before done.item line (ends_main levels (course_view done.course)) (levels_after s.skip s.programs levels (course_view done.course)) halt items kept
           → Advances s c before halt items kept
       performed more room done new does modal stand next gone halt items kept is =
           let (effect, made, left) = effect_done effect_here done new does in
           let mid = in_situation k next new in
-          behind_so more room effect made mid gone refl refl refl refl refl (subst (λ (o : Option Item). StandsAtEnd o k.at new.at) (sym left.item) stand)
+          after_so more room effect made mid gone refl refl refl refl refl (subst (λ (o : Option Item). StandsAtEnd o k.at new.at) (sym left.item) stand)
           left.parameters modal left.frame (ends_main levels effect.course) refl halt items kept
-          (subst (λ (o : Option Item). IsBehind mid k.modal before o line (ends_main levels effect.course) (followed s.skip s.programs levels effect.course) halt items kept) (sym left.item)
-          (subst (λ (course : Course). IsBehind mid k.modal before done.item line (ends_main levels course) (followed s.skip s.programs levels course) halt items kept) (sym left.course) is))
+          (subst (λ (o : Option Item). IsFollowing mid k.modal before o line (ends_main levels effect.course) (levels_after s.skip s.programs levels effect.course) halt items kept) (sym left.item)
+          (subst (λ (course : Course). IsFollowing mid k.modal before done.item line (ends_main levels course) (levels_after s.skip s.programs levels course) halt items kept) (sym left.course) is))

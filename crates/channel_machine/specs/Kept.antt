@@ -18,11 +18,11 @@ use Rattle.channel_machine.specs.declared.levels.Levels.{Levels}
 use Rattle.channel_machine.specs.declared.local.State.{State}
 use Rattle.job_types.specs.Job.{JobView, ProgramView}
 use Rattle.channel_machine.specs.Levels.{lines_of, program_blocks}
-use Rattle.channel_machine.specs.Run.{Setting, Channel, SegmentView, parameters_after, chain_after, words_after, stands_after, line_after, onto, segment_of, step_at}
+use Rattle.channel_machine.specs.Run.{SurroundingsView, Channel, SegmentView, parameters_after, chain_after, words_after, stands_after, line_after, with_items_before, segment_of, step_at}
 use Rattle.job_types.specs.Slots.{offset_of}
 
 -- where control is; how many blocks were executed, and the line of the last, or of the header; the parameters, the words of groups and the frame that hold; where the axes stand; and what does not change: the channel, the axes in its slots, the axes that it owns, and the zones that are on
-pub record Kept : Type 0 where
+pub record StateView : Type 0 where
   pub levels : Option Levels
   pub count : ℕ
   pub last : ℕ
@@ -36,14 +36,14 @@ pub record Kept : Type 0 where
   pub on : List Bool
 
 -- the setting is one of this job, for the channel of which this is kept
-pub record IsSettingIn (job : JobView) (setting : Setting) (kept : Kept) : Type 0 where
+pub record IsSettingIn (job : JobView) (setting : SurroundingsView) (kept : StateView) : Type 0 where
   pub programs : setting.programs ≡ job.programs
   pub axes : setting.axes ≡ job.axes
   pub offset : setting.offset ≡ offset_of job kept.channel
   pub skip : setting.skip ≡ job.skip
 
 -- this is kept of a channel
-pub record Keeps (setting : Setting) (channel : Channel) (kept : Kept) : Type 0 where
+pub record Keeps (setting : SurroundingsView) (channel : Channel) (kept : StateView) : Type 0 where
   pub levels : kept.levels ≡ channel.levels
   pub count : kept.count ≡ length channel.past
   pub last : kept.last ≡ line_after setting channel.past
@@ -56,32 +56,32 @@ pub record Keeps (setting : Setting) (channel : Channel) (kept : Kept) : Type 0 
   pub on : kept.on ≡ setting.grant.on
 
 -- a block on, with these items more, the channel goes on as this is kept of it
-pub record GoesOn (setting : Setting) (channel : Channel) (before after : List Item) (kept : Kept) : Type 0 where
+pub record GoesOn (setting : SurroundingsView) (channel : Channel) (before after : List Item) (kept : StateView) : Type 0 where
   pub next : Channel
   pub keeps : Keeps setting next kept
-  pub rest : onto before (segment_of setting channel) ≡ onto after (segment_of setting next)
+  pub rest : with_items_before before (segment_of setting channel) ≡ with_items_before after (segment_of setting next)
 
--- a segment with what is kept of the channel behind it
+-- a segment with what is kept of the channel after it
 pub record KeptSegment : Type 0 where
   pub items : List Item
   pub step : Step
-  pub after : Kept
+  pub after : StateView
 
--- a segment has these items and this step, and this is kept of the very channel behind it
-pub record IsSegment (setting : Setting) (segment : SegmentView) (kept : KeptSegment) : Type 0 where
+-- a segment has these items and this step, and this is kept of the very channel after it
+pub record IsSegment (setting : SurroundingsView) (segment : SegmentView) (kept : KeptSegment) : Type 0 where
   pub items : segment.items ≡ kept.items
   pub step : segment.step ≡ kept.step
   pub after : Keeps setting segment.after kept.after
 
 -- a block on, the segment ends with this step, or the channel goes on
-abbrev pub Advances : Setting → Channel → List Item → Option Step → List Item → Kept → Type 0
+abbrev pub Advances : SurroundingsView → Channel → List Item → Option Step → List Item → StateView → Type 0
 Advances setting channel before (Some step) after kept =
-    IsSegment setting (onto before (segment_of setting channel)) (record { items = after; step = step; after = kept })
+    IsSegment setting (with_items_before before (segment_of setting channel)) (record { items = after; step = step; after = kept })
 Advances setting channel before None after kept = GoesOn setting channel before after kept
 
 -- what a state keeps
-abbrev pub kept_by : State → Kept
-kept_by state = record {
+abbrev pub state_view : State → StateView
+state_view state = record {
   levels = state.levels;
   count = state.count;
   last = state.last;
@@ -105,17 +105,17 @@ pub record IsThere (programs : List (List ℕ × ProgramView)) (here : Place) (l
   pub opener_fits : StatementFits opener
 
 -- the segment ends on this line, where the axes stand
-abbrev pub Stops : Kept → ℕ → Action → Option Step → Type 0
+abbrev pub Stops : StateView → ℕ → Action → Option Step → Type 0
 Stops kept line action halt = halt ≡ Some (step_at kept.axes kept.on (stands kept.at) line action)
 
--- where a block on this line with this motion leads: behind an alarm of that the words of groups are those before the block
-abbrev pub IsLed : Kept → List ℕ → List Item → Option Item → ℕ → Result (Option Levels) ℕ → Option Step → List Item → Kept → Type 0
+-- where a block on this line with this motion leads: after an alarm of that the words of groups are those before the block
+abbrev pub IsLed : StateView → List ℕ → List Item → Option Item → ℕ → Result (Option Levels) ℕ → Option Step → List Item → StateView → Type 0
 IsLed old modal items item line (Err code) halt after new = Stops old line (Alarm code) halt × (after ≡ items) × (new ≡ record old { modal = modal })
 IsLed old modal items item line (Ok levels) halt after new =
     (halt ≡ None) × (after ≡ items ++ option_to_list item) × (new ≡ record old { levels = levels; count = old.count + 1; last = line })
 
--- behind a block: it ends the main program, or leads on
-abbrev pub IsBehind : Kept → List ℕ → List Item → Option Item → ℕ → Bool → Result (Option Levels) ℕ → Option Step → List Item → Kept → Type 0
-IsBehind old modal items item line true led halt after new =
+-- after a block: it ends the main program, or leads on
+abbrev pub IsFollowing : StateView → List ℕ → List Item → Option Item → ℕ → Bool → Result (Option Levels) ℕ → Option Step → List Item → StateView → Type 0
+IsFollowing old modal items item line true led halt after new =
     Stops old line End halt × (after ≡ items ++ option_to_list item) × (new ≡ record old { count = old.count + 1; last = line })
-IsBehind old modal items item line false led halt after new = IsLed old modal items item line led halt after new
+IsFollowing old modal items item line false led halt after new = IsLed old modal items item line led halt after new

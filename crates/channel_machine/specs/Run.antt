@@ -5,8 +5,8 @@ use Rattle.std.specs.Option.{option_map_or, option_to_list}
 use Rattle.axis_sets.specs.Sets.{has}
 use Rattle.axis_sets.specs.Positions.{stands}
 use Rattle.sync_types.specs.Items.{left_at}
-use Rattle.block_effects.specs.Effects.{Course, Goes, Ends, Calls, Effect, Found, group_words, effect_of}
-use Rattle.block_effects.specs.Words.{Equipment, zeros}
+use Rattle.block_effects.specs.Effects.{Course, Goes, Ends, Calls, Effect, SituationView, group_words, effect_of}
+use Rattle.block_effects.specs.Words.{SetupView, zeros}
 use Rattle.frames.specs.Maps.{Map}
 use Rattle.g_groups.specs.declared.GWord.{GWord}
 use Rattle.nc_blocks.specs.Statement.{BlockView, Statement}
@@ -23,7 +23,7 @@ use Rattle.sync_types.specs.declared.Step.{Step}
 use Rattle.job_types.specs.Job.{JobView, ProgramView}
 use Rattle.job_types.specs.declared.job.AxisLine.{AxisLine}
 use Rattle.channel_machine.specs.declared.levels.Levels.{Levels}
-use Rattle.channel_machine.specs.Levels.{lines_of, program_blocks, first_place, come, followed}
+use Rattle.channel_machine.specs.Levels.{lines_of, program_blocks, first_place, levels_from, levels_after}
 use Rattle.job_types.specs.Slots.{slot_axis, offset_of}
 use Rattle.job_types.specs.Axes.{axis_named}
 use Rattle.nc_faults.specs.declared.alarms.TheConstants.{TOO_MANY_BLOCKS, NO_PROGRAM_END}
@@ -33,7 +33,7 @@ use Rattle.channel_machine.specs.declared.limits.TheConstants.{BLOCK_LIMIT}
 -- ---- what a channel runs by
 
 -- the programs and the AXIS lines of the job, the axes in the channel's slots X, Y and Z, the settable offset of each slot under each word of its group, whether blocks with '/' are passed over, and what the channel was granted at its start
-pub record Setting : Type 0 where
+pub record SurroundingsView : Type 0 where
   pub programs : List (List ℕ × ProgramView)
   pub axes : List AxisLine
   pub slots : List (Option ℕ)
@@ -42,8 +42,8 @@ pub record Setting : Type 0 where
   pub grant : Grant
 
 -- what a channel of a job runs by
-abbrev pub setting_of : JobView → ℕ → Grant → Setting
-setting_of job channel grant = record {
+abbrev pub surroundings_of : JobView → ℕ → Grant → SurroundingsView
+surroundings_of job channel grant = record {
   programs = job.programs;
   axes = job.axes;
   slots = slot_axis job channel 0 ∷ slot_axis job channel 1 ∷ slot_axis job channel 2 ∷ [];
@@ -53,12 +53,12 @@ setting_of job channel grant = record {
 }
 
 -- the names of the programs, in the order of their numbers
-abbrev pub names : Setting → List (List ℕ)
+abbrev pub names : SurroundingsView → List (List ℕ)
 names setting = map (λ p. p.0) setting.programs
 
 -- what the blocks of the channel find in the job and in the channel
-abbrev pub equipment : Setting → Equipment
-equipment setting = record {
+abbrev pub setup_of : SurroundingsView → SetupView
+setup_of setting = record {
   names = names setting;
   axis_named = axis_named setting.axes;
   offset = setting.offset;
@@ -98,29 +98,29 @@ abbrev pub stands_at_start : Grant → ℕ → ℤ
 stands_at_start grant = stands grant.at
 
 -- where the motions of the executed blocks leave the axes
-abbrev pub stands_after : Setting → List Executed → ℕ → ℤ
+abbrev pub stands_after : SurroundingsView → List Executed → ℕ → ℤ
 stands_after setting past = left_at (items_of past) (stands_at_start setting.grant)
 
 -- the line of the main program's header; 0 where the grant names no program of the job
-abbrev pub header_of : Setting → ℕ
+abbrev pub header_of : SurroundingsView → ℕ
 header_of setting = option_map_or (λ p. p.1.line) (option_and_then (slice_get setting.programs) setting.grant.program) 0
 
 -- the line of the last executed block, or of the header
-abbrev pub line_after : Setting → List Executed → ℕ
+abbrev pub line_after : SurroundingsView → List Executed → ℕ
 line_after setting past = fold (λ _ e. e.line) (header_of setting) past
 
 -- ---- one block
 
 -- the block that comes, with its line
-abbrev pub block_at : Setting → Place → Option (ℕ × BlockView)
+abbrev pub block_at : SurroundingsView → Place → Option (ℕ × BlockView)
 block_at setting place = slice_get (lines_of setting.programs place.program) place.pc
 
 -- the beginning of the structure round a place
-abbrev pub opener_at : Setting → Place → Statement
+abbrev pub opener_at : SurroundingsView → Place → Statement
 opener_at setting place = statement_at (opening place.pc (program_blocks setting.programs place.program)) (program_blocks setting.programs place.program)
 
 -- what a block finds after these blocks
-abbrev pub found_after : Setting → List Executed → Found
+abbrev pub found_after : SurroundingsView → List Executed → SituationView
 found_after setting past = record {
   parameters = parameters_after past;
   words = words_after past;
@@ -129,22 +129,22 @@ found_after setting past = record {
 }
 
 -- a block with its line, executed after these blocks
-abbrev pub executed : Setting → List Executed → Place → ℕ × BlockView → Result Executed ℕ
-executed setting past place (line, block) =
-    effect_of (equipment setting) (found_after setting past) line (opener_at setting place) block.statement >>= λ effect.
+abbrev pub executed_block : SurroundingsView → List Executed → Place → ℕ × BlockView → Result Executed ℕ
+executed_block setting past place (line, block) =
+    effect_of (setup_of setting) (found_after setting past) line (opener_at setting place) block.statement >>= λ effect.
     Ok (record { line = line; block = block; effect = effect })
 
 -- ---- the segment
 
--- the motions of a segment, the step that ends it, and the channel behind it
+-- the motions of a segment, the step that ends it, and the channel after it
 pub record SegmentView : Type 0 where
   pub items : List Item
   pub step : Step
   pub after : Channel
 
 -- a channel that has executed these blocks and goes on no more: control is nowhere
-abbrev pub over : List Executed → Channel
-over past = record { past = past; levels = None }
+abbrev pub channel_at_end : List Executed → Channel
+channel_at_end past = record { past = past; levels = None }
 
 -- where the axes of a set stand
 abbrev pub owned_at : List Bool → (ℕ → ℤ) → List (Option ℤ)
@@ -154,17 +154,17 @@ owned_at axes at = map (λ axis. if has axes axis then Some (at axis) else None)
 abbrev pub step_at : List Bool → List Bool → (ℕ → ℤ) → ℕ → Action → Step
 step_at axes on at line action = record { line = line; action = action; at = owned_at axes at; on = on }
 
--- a step behind these blocks
-abbrev pub step_after : Setting → List Executed → ℕ → Action → Step
+-- a step after these blocks
+abbrev pub step_after : SurroundingsView → List Executed → ℕ → Action → Step
 step_after setting past line action = step_at setting.grant.axes setting.grant.on (stands_after setting past) line action
 
 -- the segment ends with an alarm, and with it the channel; nothing of the block on this line stands
-abbrev pub alarmed : Setting → List Executed → ℕ → ℕ → SegmentView
-alarmed setting past line code = record { items = []; step = step_after setting past line (Alarm code); after = over past }
+abbrev pub alarm_segment : SurroundingsView → List Executed → ℕ → ℕ → SegmentView
+alarm_segment setting past line code = record { items = []; step = step_after setting past line (Alarm code); after = channel_at_end past }
 
 -- a segment with a block in front of it
-abbrev pub onto : List Item → SegmentView → SegmentView
-onto items segment = record segment { items = items ++ segment.items }
+abbrev pub with_items_before : List Item → SegmentView → SegmentView
+with_items_before items segment = record segment { items = items ++ segment.items }
 
 -- whether a block ends the main program
 abbrev pub ends_main : Levels → Course → Bool
@@ -173,52 +173,52 @@ ends_main levels (Goes outcome) = false
 ends_main levels (Calls number passes) = false
 
 -- where no block comes: an alarm at the line of the last executed block, or of the header
-abbrev pub with_block : Setting → List Executed → Option (ℕ × BlockView) → (ℕ × BlockView → SegmentView) → SegmentView
-with_block setting past None go = alarmed setting past (line_after setting past) NO_PROGRAM_END
+abbrev pub with_block : SurroundingsView → List Executed → Option (ℕ × BlockView) → (ℕ × BlockView → SegmentView) → SegmentView
+with_block setting past None go = alarm_segment setting past (line_after setting past) NO_PROGRAM_END
 with_block setting past (Some block) go = go block
 
-abbrev pub with_levels : Setting → List Executed → Option Levels → (Levels → ℕ × BlockView → SegmentView) → SegmentView
-with_levels setting past None go = alarmed setting past (line_after setting past) NO_PROGRAM_END
+abbrev pub with_levels : SurroundingsView → List Executed → Option Levels → (Levels → ℕ × BlockView → SegmentView) → SegmentView
+with_levels setting past None go = alarm_segment setting past (line_after setting past) NO_PROGRAM_END
 with_levels setting past (Some levels) go = with_block setting past (block_at setting levels.here) (go levels)
 
--- behind an executed block: where control goes on, or an alarm of that
-abbrev pub led : Setting → List Executed → Executed → Result (Option Levels) ℕ → (Channel → SegmentView) → SegmentView
-led setting past done (Err code) go = alarmed setting past done.line code
-led setting past done (Ok levels) go = onto (option_to_list done.effect.item) (go (record { past = past ++ done ∷ []; levels = levels }))
+-- after an executed block: where control goes on, or an alarm of that
+abbrev pub segment_after_course : SurroundingsView → List Executed → Executed → Result (Option Levels) ℕ → (Channel → SegmentView) → SegmentView
+segment_after_course setting past done (Err code) go = alarm_segment setting past done.line code
+segment_after_course setting past done (Ok levels) go = with_items_before (option_to_list done.effect.item) (go (record { past = past ++ done ∷ []; levels = levels }))
 
 -- the end of the main program ends the segment, and the channel
-abbrev pub finished : Setting → List Executed → Executed → SegmentView
-finished setting past done = record {
+abbrev pub end_segment : SurroundingsView → List Executed → Executed → SegmentView
+end_segment setting past done = record {
   items = option_to_list done.effect.item;
   step = step_after setting (past ++ done ∷ []) done.line End;
-  after = over (past ++ done ∷ []);
+  after = channel_at_end (past ++ done ∷ []);
 }
 
--- behind a block: its alarm, the end of the main program, or where control goes on
-abbrev pub behind : Setting → List Executed → Levels → ℕ → Result Executed ℕ → (Channel → SegmentView) → SegmentView
-behind setting past levels line (Err code) go = alarmed setting past line code
-behind setting past levels line (Ok done) go =
-    if ends_main levels done.effect.course then finished setting past done
-    else led setting past done (followed setting.skip setting.programs levels done.effect.course) go
+-- after a block: its alarm, the end of the main program, or where control goes on
+abbrev pub segment_after_block : SurroundingsView → List Executed → Levels → ℕ → Result Executed ℕ → (Channel → SegmentView) → SegmentView
+segment_after_block setting past levels line (Err code) go = alarm_segment setting past line code
+segment_after_block setting past levels line (Ok done) go =
+    if ends_main levels done.effect.course then end_segment setting past done
+    else segment_after_course setting past done (levels_after setting.skip setting.programs levels done.effect.course) go
 
 -- the segment of a channel that may still execute so many blocks; one more is an alarm
-unfoldable pub run_after : Setting → ℕ → Channel → SegmentView
-run_after setting zero channel = with_levels setting channel.past channel.levels (λ levels block. alarmed setting channel.past block.0 TOO_MANY_BLOCKS)
+unfoldable pub run_after : SurroundingsView → ℕ → Channel → SegmentView
+run_after setting zero channel = with_levels setting channel.past channel.levels (λ levels block. alarm_segment setting channel.past block.0 TOO_MANY_BLOCKS)
 run_after setting (suc more) channel =
     with_levels setting channel.past channel.levels (λ levels block.
-    behind setting channel.past levels block.0 (executed setting channel.past levels.here block) (λ after. run_after setting more after))
+    segment_after_block setting channel.past levels block.0 (executed_block setting channel.past levels.here block) (λ after. run_after setting more after))
 
 -- the segment of a channel; in all it executes no more blocks than it may
-unfoldable pub segment_of : Setting → Channel → SegmentView
+unfoldable pub segment_of : SurroundingsView → Channel → SegmentView
 segment_of setting channel = run_after setting (BLOCK_LIMIT - length channel.past) channel
 
 -- a main program at its first block that counts
-abbrev pub begin : Bool → List (List ℕ × ProgramView) → ℕ → Option Levels
-begin skip programs number = come skip programs (first_place skip programs number 0) []
+abbrev pub first_levels : Bool → List (List ℕ × ProgramView) → ℕ → Option Levels
+first_levels skip programs number = levels_from skip programs (first_place skip programs number 0) []
 
 -- a channel at its start
-abbrev pub begun : Setting → Channel
-begun setting = record { past = []; levels = option_and_then (begin setting.skip setting.programs) setting.grant.program }
+abbrev pub channel_at_start : SurroundingsView → Channel
+channel_at_start setting = record { past = []; levels = option_and_then (first_levels setting.skip setting.programs) setting.grant.program }
 
 -- the alarm of a step, where it is one, is in the table of alarms
 abbrev pub IsListedAction : Action → Type 0

@@ -5,31 +5,31 @@ ghost use Rattle.path_geometry.specs.Motions.{IsSound};
 ghost use Rattle.sync_types.specs.Items.{left_at, motion_of};
 ghost use Rattle.block_motions.specs.Motions.{IsMotionOf};
 ghost use Rattle.sync_types.specs.declared.Item.{Item};
-ghost use Rattle.channel_machine.specs.Run.{Setting, begun, segment_of, stands_at_start, IsListedAction};
+ghost use Rattle.channel_machine.specs.Run.{SurroundingsView, channel_at_start, segment_of, stands_at_start, IsListedAction};
 ghost use Rattle.micro_units.specs.Position.{IsPosition};
 ghost use Rattle.channel_machine.specs.declared.limits.TheConstants.{BLOCK_LIMIT};
 
 /// A law: each motion of a channel's first segment is one of axes that the channel owns, each once, from where the motions
 /// before it left it to an end in range. It is sound where they left the axes in range.
 pub fn motions_follow_one_another()
-    ensures { (s : Setting) (place : ℕ) (item : Item)
-        → slice_get (segment_of s (begun s)).items place ≡ Some item
-        → IsMotionOf s.grant.axes (left_at (take place (segment_of s (begun s)).items) (stands_at_start s.grant)) (motion_of item) }
+    ensures { (s : SurroundingsView) (place : ℕ) (item : Item)
+        → slice_get (segment_of s (channel_at_start s)).items place ≡ Some item
+        → IsMotionOf s.grant.axes (left_at (take place (segment_of s (channel_at_start s)).items) (stands_at_start s.grant)) (motion_of item) }
 {}
 
 /// A law: the motions of a channel's first segment are sound, where its axes start in range.
 pub fn motions_are_sound()
-    ensures { (s : Setting)
+    ensures { (s : SurroundingsView)
         → ((axis : ℕ) → IsPosition (stands_at_start s.grant axis))
-        → All (λ item. IsSound (motion_of item)) (segment_of s (begun s)).items }
+        → All (λ item. IsSound (motion_of item)) (segment_of s (channel_at_start s)).items }
 {}
 
 /// A law: a channel's first segment has at most `BLOCK_LIMIT` motions.
 pub fn motions_are_few()
-    ensures { (s : Setting) → length (segment_of s (begun s)).items ≤ BLOCK_LIMIT }
+    ensures { (s : SurroundingsView) → length (segment_of s (channel_at_start s)).items ≤ BLOCK_LIMIT }
 {}
 
 /// A law: an alarm that ends a segment is in the table of alarms.
 pub fn alarms_are_listed()
-    ensures { (s : Setting) → IsListedAction (segment_of s (begun s)).step.action }
+    ensures { (s : SurroundingsView) → IsListedAction (segment_of s (channel_at_start s)).step.action }
 {}

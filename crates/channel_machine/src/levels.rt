@@ -6,7 +6,7 @@ ghost use Rattle.nc_control_flow.specs.Counted.{next_going};
 ghost use Rattle.nc_control_flow.specs.Moves.{outcome_view};
 ghost use Rattle.job_types.specs.Job.{block_entry};
 ghost use Rattle.channel_machine.specs.Levels as model;
-ghost use Rattle.channel_machine.specs.Levels.{behind_call, program_blocks, GoesOn, GoesBehind, Stands, LevelsFit};
+ghost use Rattle.channel_machine.specs.Levels.{after_call, program_blocks, GoesOn, GoesAfter, Stands, LevelsFit};
 
 use block_effects::Course;
 use job_types::Job;
@@ -44,7 +44,7 @@ pub(crate) fn flow_of(job: &Job, number: u16) -> Option<&Flow>
     }
 }
 
-/// A program at its first block that counts, with so many passes still to begin behind this one; None
+/// A program at its first block that counts, with so many passes still to begin after this one; None
 /// where no block counts.
 fn first_place(job: &Job, number: u16, passes: u16, skip: bool) -> Option<Place>
     ensures { model.IsFirstPlace skip job.now.programs number passes result }
@@ -102,10 +102,10 @@ fn go_on(job: &Job, here: &mut Place, outcome: Outcome, skip: bool) -> Result<bo
     }
 }
 
-/// Goes on behind the call at which a level stands, and answers whether a block comes.
-fn go_behind(job: &Job, here: &mut Place, skip: bool) -> bool
+/// Goes on after the call at which a level stands, and answers whether a block comes.
+fn go_after(job: &Job, here: &mut Place, skip: bool) -> bool
     requires { Stands skip job.now.programs here.old }
-    ensures { GoesBehind job.now.programs (behind_call skip job.now.programs here.old) result here.new }
+    ensures { GoesAfter job.now.programs (after_call skip job.now.programs here.old) result here.new }
 {
     match go_on(job, here, Outcome::Skipped, skip) {
         Ok(comes) => comes,
@@ -131,7 +131,7 @@ fn past_end(job: &Job, levels: &mut Levels, number: u16, passes: u16, skip: bool
         match levels.returns.ret() {
             Some(caller) => {
                 levels.here = caller;
-                if go_behind(job, &mut levels.here, skip) {
+                if go_after(job, &mut levels.here, skip) {
                     return true;
                 }
                 number = levels.here.program;
@@ -144,7 +144,7 @@ fn past_end(job: &Job, levels: &mut Levels, number: u16, passes: u16, skip: bool
 
 /// The main program at its first block that counts, or past its end.
 pub(crate) fn begin(job: &Job, number: u16, skip: bool) -> Option<Levels>
-    ensures { result ≡ model.come skip job.now.programs (model.first_place skip job.now.programs number 0) [] }
+    ensures { result ≡ model.levels_from skip job.now.programs (model.first_place skip job.now.programs number 0) [] }
 {
     match first_place(job, number, 0, skip) {
         Some(here) => Some(Levels {
@@ -161,21 +161,21 @@ pub(crate) fn begin(job: &Job, number: u16, skip: bool) -> Option<Levels>
 /// Alarm 6: it would run on a seventeenth level.
 fn call(job: &Job, levels: &mut Levels, number: u16, passes: u16, skip: bool) -> Result<bool, u16>
     requires { LevelsFit skip job.now.programs levels.old }
-    ensures { model.came_ok result levels.new ≡ model.calling skip job.now.programs levels.old number passes }
+    ensures { model.came_ok result levels.new ≡ model.levels_in_call skip job.now.programs levels.old number passes }
 {
     let here = levels.here.copied();
     levels.returns.call(here)?;
     Ok(past_end(job, levels, number, passes, skip))
 }
 
-/// Goes on behind a block with this course, and answers whether control comes anywhere.
+/// Goes on after a block with this course, and answers whether control comes anywhere.
 ///
 /// Alarm 5: a label or block number stands where none is found. Alarm 6: a program would run on a
 /// seventeenth level. Alarm 32: a seventeenth repetition would run.
-#[tactic(auto, unfolding(crate::specs::Levels::followed))]
+#[tactic(auto, unfolding(crate::specs::Levels::levels_after))]
 fn follow(job: &Job, levels: &mut Levels, course: Course, skip: bool) -> Result<bool, u16>
     requires { LevelsFit skip job.now.programs levels.old }
-    ensures { model.came_ok result levels.new ≡ model.followed skip job.now.programs levels.old (course_view course.entry) }
+    ensures { model.came_ok result levels.new ≡ model.levels_after skip job.now.programs levels.old (course_view course.entry) }
 {
     match course {
         Course::Goes(outcome) => leave(job, levels, outcome, skip),
@@ -187,7 +187,7 @@ fn follow(job: &Job, levels: &mut Levels, course: Course, skip: bool) -> Result<
     }
 }
 
-/// Goes on behind a block that goes on in its program by this outcome, and answers whether control
+/// Goes on after a block that goes on in its program by this outcome, and answers whether control
 /// comes anywhere.
 fn leave(job: &Job, levels: &mut Levels, outcome: Outcome, skip: bool) -> Result<bool, u16>
     requires { LevelsFit skip job.now.programs levels.old }
@@ -203,9 +203,9 @@ fn leave(job: &Job, levels: &mut Levels, outcome: Outcome, skip: bool) -> Result
     }
 }
 
-/// Goes on behind a block with this course, from where control is.
+/// Goes on after a block with this course, from where control is.
 ///
-/// The alarms are those of `follow`; nothing is said of where control is behind one.
+/// The alarms are those of `follow`; nothing is said of where control is after one.
 pub(crate) fn follow_on(
     job: &Job,
     levels: &mut Option<Levels>,

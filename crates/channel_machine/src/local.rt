@@ -2,7 +2,7 @@
 
 ghost use Rattle.std.specs.Prelude.{◌≡◌, option_and_then, slice_get, IfOk, IfSome};
 ghost use Rattle.std.specs.Option.{option_map_or};
-ghost use Rattle.channel_machine.specs.Kept.{IsSettingIn, Keeps, kept_by};
+ghost use Rattle.channel_machine.specs.Kept.{IsSettingIn, Keeps, state_view};
 ghost use Rattle.channel_machine.specs.Levels.{LevelsFit};
 ghost use Rattle.channel_machine.specs.Run as model;
 
@@ -62,7 +62,7 @@ fn copied_situation(situation: &Situation) -> Result<Situation, AllocError>
 impl State {
     /// The same state once more.
     pub(crate) fn copied(&self) -> Result<State, AllocError>
-        ensures { IfOk result (λ state. kept_by state ≡ kept_by self.now) }
+        ensures { IfOk result (λ state. state_view state ≡ state_view self.now) }
     {
         let situation = copied_situation(&self.situation)?;
         Ok(State {
@@ -84,11 +84,11 @@ pub struct Local {
 }
 
 impl Model for Local {
-    ghost use Rattle.channel_machine.specs.Kept.{Kept, kept_by};
+    ghost use Rattle.channel_machine.specs.Kept.{StateView, state_view};
 
-    ghost Value = { Kept };
+    ghost Value = { StateView };
 
-    ghost view = { λ l. kept_by l.state };
+    ghost view = { λ l. state_view l.state };
 }
 
 /// The line of a program's header, or 0.
@@ -106,7 +106,7 @@ fn header_of(job: &Job, program: Option<u16>) -> u32
 
 /// Where control is at the start.
 fn begin_some(job: &Job, program: Option<u16>) -> Option<Levels>
-    ensures begun { result ≡ option_and_then (model.begin job.now.skip job.now.programs) program }
+    ensures begun { result ≡ option_and_then (model.first_levels job.now.skip job.now.programs) program }
     ensures fit { IfSome result (LevelsFit job.now.skip job.now.programs) }
 {
     match program {
@@ -117,7 +117,7 @@ fn begin_some(job: &Job, program: Option<u16>) -> Option<Levels>
 
 /// The axes of a channel at its start.
 fn own_axes(job: &Job, channel: ChannelId, grant: &Grant) -> ChannelAxes
-    ensures slots { result.slots ≡ (model.setting_of job.now channel grant.now).slots }
+    ensures slots { result.slots ≡ (model.surroundings_of job.now channel grant.now).slots }
     ensures owned { result.owned ≡ grant.now.axes }
 {
     let x = slot_axis(job, channel, 0);
@@ -138,9 +138,9 @@ impl Local {
         channel: ChannelId,
         grant: &Grant,
     ) -> Result<Local, NoMemory>
-        ensures kept { IfOk result (λ local. Keeps (model.setting_of job.now channel grant.now) (model.begun (model.setting_of job.now channel grant.now)) local) }
+        ensures kept { IfOk result (λ local. Keeps (model.surroundings_of job.now channel grant.now) (model.channel_at_start (model.surroundings_of job.now channel grant.now)) local) }
         ensures fit { IfOk result (λ local. IfSome local.levels (LevelsFit job.now.skip job.now.programs)) }
-        ensures setting { IfOk result (λ local. IsSettingIn job.now (model.setting_of job.now channel grant.now) local) }
+        ensures setting { IfOk result (λ local. IsSettingIn job.now (model.surroundings_of job.now channel grant.now) local) }
     {
         let situation = Situation {
             parameters: Parameters::new(alloc)?,

@@ -8,10 +8,10 @@ ghost use Rattle.nc_blocks.specs.Statement.{statement_view, view_of};
 ghost use Rattle.nc_control_flow.specs.Parts.{statement_at, views};
 ghost use Rattle.nc_control_flow.specs.Structures.{opening};
 ghost use Rattle.job_types.specs.SoundJob.{BlocksFit};
-ghost use Rattle.channel_machine.specs.Kept.{Advances, IsBehind, IsSegment, IsSettingIn, IsThere, Keeps, kept_by};
-ghost use Rattle.channel_machine.specs.Levels.{LevelsFit, followed, lines_of};
+ghost use Rattle.channel_machine.specs.Kept.{Advances, IsFollowing, IsSegment, IsSettingIn, IsThere, Keeps, state_view};
+ghost use Rattle.channel_machine.specs.Levels.{LevelsFit, levels_after, lines_of};
 ghost use Rattle.channel_machine.specs.Run as model;
-ghost use Rattle.channel_machine.specs.Run.{Setting, Channel, segment_of};
+ghost use Rattle.channel_machine.specs.Run.{SurroundingsView, Channel, segment_of};
 
 use crate::levels::{Levels, flow_of, follow_on};
 use crate::limits::BLOCK_LIMIT;
@@ -38,7 +38,7 @@ pub struct Segment {
     pub items: Vec<Item>,
     /// The step that ends it.
     pub step: Step,
-    /// The channel behind it. Behind an alarm or the end of the program it goes on no more, and nothing of an alarmed
+    /// The channel after it. Following an alarm or the end of the program it goes on no more, and nothing of an alarmed
     /// block stands in it.
     pub after: Local,
 }
@@ -167,10 +167,10 @@ fn ends_here(levels: &Option<Levels>, course: &Course) -> bool
     }
 }
 
-/// Goes on behind a block on this line that has done this, and answers the step where the segment ends with it.
+/// Goes on after a block on this line that has done this, and answers the step where the segment ends with it.
 /// `modal` are the words of groups that held before the block.
 ///
-/// The alarms are those of where it leads. Behind one nothing of the block stands: it is a block that jumps, repeats or
+/// The alarms are those of where it leads. Following one nothing of the block stands: it is a block that jumps, repeats or
 /// calls, so it has changed no more than the words of groups, and those are put back.
 fn leave(
     job: &Job,
@@ -183,8 +183,8 @@ fn leave(
     requires fit { IfSome state.old.levels (LevelsFit job.now.skip job.now.programs) }
     requires few { state.old.count < BLOCK_LIMIT }
     ensures told { IfOk result (λ halt. (levels : Levels) → state.old.levels ≡ Some levels
-        → IsBehind (record (kept_by state.old) { levels = None }) modal items.old.items done.entry.item line (model.ends_main levels (course_view done.entry.course))
-        (followed job.now.skip job.now.programs levels (course_view done.entry.course)) halt items.new.items (kept_by state.new)) }
+        → IsFollowing (record (state_view state.old) { levels = None }) modal items.old.items done.entry.item line (model.ends_main levels (course_view done.entry.course))
+        (levels_after job.now.skip job.now.programs levels (course_view done.entry.course)) halt items.new.items (state_view state.new)) }
     ensures fit { IfOk result (λ _. IfSome state.new.levels (LevelsFit job.now.skip job.now.programs)) }
     ensures few { IfOk result (λ _. state.new.count ≤ BLOCK_LIMIT) }
     ensures count { IfOk result (λ halt. IfNone halt (state.new.count ≡ state.old.count + 1)) }
@@ -225,8 +225,8 @@ fn advance(
     requires programs { length job.now.programs ≤ 65536 }
     requires fit { IfSome state.old.levels (LevelsFit job.now.skip job.now.programs) }
     requires few { state.old.count ≤ BLOCK_LIMIT }
-    ensures told { IfOk result (λ halt. (s : Setting) (c : Channel) → IsSettingIn job.now s (kept_by state.old) → Keeps s c (kept_by state.old)
-        → Advances s c items.old.items halt items.new.items (kept_by state.new)) }
+    ensures told { IfOk result (λ halt. (s : SurroundingsView) (c : Channel) → IsSettingIn job.now s (state_view state.old) → Keeps s c (state_view state.old)
+        → Advances s c items.old.items halt items.new.items (state_view state.new)) }
     ensures fit { IfOk result (λ _. IfSome state.new.levels (LevelsFit job.now.skip job.now.programs)) }
     ensures few { IfOk result (λ _. state.new.count ≤ BLOCK_LIMIT) }
     ensures count { IfOk result (λ halt. IfNone halt (state.new.count ≡ state.old.count + 1)) }
@@ -271,14 +271,14 @@ fn advance(
 /// that comes, 6 where it calls a program on a seventeenth level, 5 where its label or block number is
 /// missing, and 32 where a seventeenth repetition would run; nothing of that block stands.
 ///
-/// The channel behind the segment may be handed to `run_segment` again. Behind an alarm or the end of the main program it
+/// The channel after the segment may be handed to `run_segment` again. Following an alarm or the end of the main program it
 /// is over: control is nowhere, and one more segment is alarm 9.
 pub fn run_segment(alloc: Global, job: &Job, local: &Local) -> Result<Segment, NoMemory>
     requires blocks { BlocksFit job.now }
     requires programs { length job.now.programs ≤ 65536 }
     requires fit { IfSome local.now.levels (LevelsFit job.now.skip job.now.programs) }
     requires few { local.now.count ≤ BLOCK_LIMIT }
-    ensures told { IfOk result (λ g. (s : Setting) (c : Channel) → IsSettingIn job.now s local.now → Keeps s c local.now
+    ensures told { IfOk result (λ g. (s : SurroundingsView) (c : Channel) → IsSettingIn job.now s local.now → Keeps s c local.now
         → IsSegment s (segment_of s c) g) }
     ensures fit { IfOk result (λ g. IfSome g.after.levels (LevelsFit job.now.skip job.now.programs)) }
     ensures few { IfOk result (λ g. g.after.count ≤ BLOCK_LIMIT) }

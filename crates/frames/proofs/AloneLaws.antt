@@ -1,11 +1,11 @@
--- What words of one block make of an axis, and what turns make of it: images with no other map behind them.
+-- What words of one block make of an axis, and what turns make of it: images with no other map after them.
 use Rattle.std.proofs.Common.{◌≡◌, ℕ, ◌+◌, Bool, true, false, cond, eqb, List, [], ◌∷◌, Option, Some, None, refl, sym, ap, ◌∙◌, subst, arith}
 use Rattle.std.proofs.lemmas.Int.{ints}
 use Rattle.std.proofs.lemmas.Bool.{false≢true, eq-eqb}
 use Rattle.std.specs.Prelude.{ℤ, pos, ◌+ℤ◌, ◌-ℤ◌, ◌*ℤ◌, unwrap_or, is_some}
 use Rattle.number_laws.proofs.Ring.{Expr, num, var, plus, minus, times}
 use Rattle.number_laws.proofs.Orders.{ring_from}
-use Rattle.frames.specs.Images.{Image, sign, other_sign, unmapped, placed, shifted_image, scaled_image, mirrored_image, image_of}
+use Rattle.frames.specs.Images.{Image, sign, other_sign, own_image, image_in_slot, shifted_image, scaled_image, mirrored_image, image_of}
 use Rattle.frames.specs.Composition.{shifts, scales, mirrors}
 
 -- the image has this slot and this sign, and this factor and this shift in millionths
@@ -15,7 +15,7 @@ pub record IsAlone (slot : ℕ) (minus : Bool) (factor shift : ℤ) (i : Image) 
   pub factor_is : i.factor *ℤ pos 1000000 ≡ factor *ℤ pos i.under
   pub shift_is : i.shift *ℤ pos 1000000 ≡ shift *ℤ pos i.under
 
-pub unmapped-alone : (axis : ℕ) → IsAlone axis false (pos 1000000) (pos 0) (unmapped axis)
+pub unmapped-alone : (axis : ℕ) → IsAlone axis false (pos 1000000) (pos 0) (own_image axis)
 unmapped-alone axis = record { slot_is = refl; minus_is = refl; factor_is = refl; shift_is = refl }
 
 -- ---- a shift, a factor and a mirror
@@ -113,7 +113,7 @@ scaled-here slot negative value i h =
     }
 
 pub placed-alone : (slot old : ℕ) (turned negative : Bool) (factor : ℤ) (i : Image)
-    → IsAlone old negative factor (pos 0) i → IsAlone slot (other_sign turned negative) factor (pos 0) (placed slot turned i)
+    → IsAlone old negative factor (pos 0) i → IsAlone slot (other_sign turned negative) factor (pos 0) (image_in_slot slot turned i)
 placed-alone slot old turned negative factor i h = record {
   slot_is = refl;
   minus_is = ap (other_sign turned) h.minus_is;

@@ -8,7 +8,7 @@ use Rattle.number_laws.proofs.Orders.{ring_from}
 use Rattle.frames.specs.declared.Plane.{Plane}
 use Rattle.frames.specs.declared.Plane.TheVariants.{G17, G18, G19}
 use Rattle.frames.specs.Maps.{Map, shifting, scaling, mirroring, turning, Point, mapped_point, quarter, quarters, quarters_in, first_axis, second_axis, IsSamePoint, total}
-use Rattle.frames.specs.Images.{Image, placed, quarter_image, quarters_image, sent_on, image_of}
+use Rattle.frames.specs.Images.{Image, image_in_slot, quarter_image, quarters_image, sent_on, image_of}
 use Rattle.frames.proofs.AloneLaws.{nothing_between}
 use Rattle.frames.proofs.PointLaws.{quarter_first, quarter_second}
 
@@ -107,7 +107,7 @@ exchanged : ℕ → ℕ → ℕ → ℕ
 exchanged f s x = cond (eqb x f) s (cond (eqb x s) f x)
 
 quarter-slot : (plane : Plane) (i : Image) (b c : Bool)
-    → (cond b (placed (second_axis plane) false i) (cond c (placed (first_axis plane) true i) i)).slot
+    → (cond b (image_in_slot (second_axis plane) false i) (cond c (image_in_slot (first_axis plane) true i) i)).slot
     ≡ cond b (second_axis plane) (cond c (first_axis plane) i.slot)
 quarter-slot plane i true c = refl
 quarter-slot plane i false true = refl
@@ -172,7 +172,7 @@ second-below G18 = omega arith
 second-below G19 = omega arith
 
 quarter-below : (plane : Plane) (i : Image) (b c : Bool) → i.slot < 3
-    → (cond b (placed (second_axis plane) false i) (cond c (placed (first_axis plane) true i) i)).slot < 3
+    → (cond b (image_in_slot (second_axis plane) false i) (cond c (image_in_slot (first_axis plane) true i) i)).slot < 3
 quarter-below plane i true c less = second-below plane
 quarter-below plane i false true less = first-below plane
 quarter-below plane i false false less = less

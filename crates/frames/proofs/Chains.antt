@@ -4,7 +4,7 @@ use Rattle.std.specs.Prelude.{ℤ, pos, ◌+ℤ◌, ◌*ℤ◌}
 use Rattle.number_laws.proofs.Ring.{num, var, plus, times, ring}
 use Rattle.frames.specs.declared.Plane.{Plane}
 use Rattle.frames.specs.Maps.{Map, shifting, scaling, mirroring, turning, quarters_in, first_axis, second_axis}
-use Rattle.frames.specs.Images.{Image, sign, other_sign, unmapped, placed, shifted_image, scaled_image, quarter_image, quarters_image, sent_on, image_of}
+use Rattle.frames.specs.Images.{Image, sign, other_sign, own_image, image_in_slot, shifted_image, scaled_image, quarter_image, quarters_image, sent_on, image_of}
 
 -- ---- one image after another
 abbrev pub image : ℕ → Bool → ℤ → ℤ → ℕ → Image
@@ -111,7 +111,7 @@ scaled_image-after axis value i j =
     (scaled-after_shift i.shift i.factor (sign i.minus) j.shift (pos j.under) (cond (eqb i.slot axis) value (pos 1000000)))
     (under-after i.under j.under 1000000)
 
-placed-after : (slot : ℕ) (turned : Bool) (i j : Image) → placed slot turned (after i j) ≡ after (placed slot turned i) j
+placed-after : (slot : ℕ) (turned : Bool) (i j : Image) → image_in_slot slot turned (after i j) ≡ after (image_in_slot slot turned i) j
 placed-after slot turned i j =
     same_image _ _ _ _ _ _ _ _ _ _ refl
     (other_sign_swaps turned j.minus i.minus)
@@ -121,8 +121,8 @@ placed-after slot turned i j =
     refl
 
 quarter_by : (b c : Bool) (first second : ℕ) (i j : Image)
-    → cond b (placed second false (after i j)) (cond c (placed first true (after i j)) (after i j))
-    ≡ after (cond b (placed second false i) (cond c (placed first true i) i)) j
+    → cond b (image_in_slot second false (after i j)) (cond c (image_in_slot first true (after i j)) (after i j))
+    ≡ after (cond b (image_in_slot second false i) (cond c (image_in_slot first true i) i)) j
 quarter_by true c first second i j = placed-after second false i j
 quarter_by false true first second i j = placed-after first true i j
 quarter_by false false first second i j = refl
@@ -142,7 +142,7 @@ sent_on-after (scaling axis value) i j = scaled_image-after axis value i j
 sent_on-after (mirroring axis) i j = placed-after i.slot (eqb i.slot axis) i j
 sent_on-after (turning plane angle) i j = quarters_image-after plane (quarters_in angle) i j
 
-after-unmapped : (j : Image) → j ≡ after (unmapped j.slot) j
+after-unmapped : (j : Image) → j ≡ after (own_image j.slot) j
 after-unmapped j =
     same_image _ _ _ _ _ _ _ _ _ _ refl
     (kept j.minus)
@@ -155,7 +155,7 @@ after-unmapped j =
     kept true = refl
     kept false = refl
 
--- of two chains one behind the other: the image by the second, and then what the first makes of its slot
+-- of two chains one after the other: the image by the second, and then what the first makes of its slot
 pub image_of-append : (ms ns : List Map) (axis : ℕ)
     → image_of (ms ++ ns) axis ≡ after (image_of ms (image_of ns axis).slot) (image_of ns axis)
 image_of-append [] ns axis = after-unmapped (image_of ns axis)
@@ -164,7 +164,7 @@ image_of-append (m ∷ ms) ns axis =
 
 -- ---- the numbers under an image are above 0
 quarter_under : (plane : Plane) (i : Image) (b c : Bool)
-    → (cond b (placed (second_axis plane) false i) (cond c (placed (first_axis plane) true i) i)).under ≡ i.under
+    → (cond b (image_in_slot (second_axis plane) false i) (cond c (image_in_slot (first_axis plane) true i) i)).under ≡ i.under
 quarter_under plane i true c = refl
 quarter_under plane i false true = refl
 quarter_under plane i false false = refl

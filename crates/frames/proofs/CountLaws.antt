@@ -11,7 +11,7 @@ use Rattle.number_laws.proofs.Orders.{ring_from}
 use Rattle.frames.specs.declared.axis_map.AxisMap.{AxisMap}
 use Rattle.frames.specs.Maps.{Map}
 use Rattle.frames.specs.Images.{Image, sign, other_sign, image_of}
-use Rattle.frames.specs.Counts.{moved, IsMoved, IsScaled, IsMirrored, is_product_allowed}
+use Rattle.frames.specs.Counts.{shift_when_moved, IsMoved, IsScaled, IsMirrored, is_product_allowed}
 use Rattle.frames.specs.Faults.{is_scale, is_factor_allowed, is_shift_allowed, image_fault}
 use Rattle.frames.specs.Composition.{IsImage}
 use Rattle.frames.proofs.AloneLaws.{IsAlone, nothing_between}
@@ -54,7 +54,7 @@ pub record Follows (e : AxisMap) (b : Bool) (c t : ℤ) (k : Image) : Type 0 whe
   pub slot_is : k.slot ≡ e.slot
   pub minus_is : k.minus ≡ other_sign b e.minus
   pub factor_is : (pos e.factor *ℤ c) *ℤ pos k.under ≡ k.factor *ℤ pos 1000000000000
-  pub shift_is : moved e t *ℤ pos k.under ≡ k.shift *ℤ pos 1000000000000
+  pub shift_is : shift_when_moved e t *ℤ pos k.under ≡ k.shift *ℤ pos 1000000000000
   pub positive : 0 < k.under
 
 after-follows : (e : AxisMap) (i j : Image) (slot : ℕ) (b : Bool) (c t : ℤ) → 0 < i.under → 0 < j.under
@@ -149,13 +149,13 @@ image-no_fault e k some h =
     ap (λ (b : Bool). cond b (cond (is_shift_allowed k) None (Some 13)) (Some 11)) factor
     ∙ ap (λ (b : Bool). cond b None (Some 13)) shift
 
-pub moved-fault : (e : AxisMap) (t : ℤ) (k : Image) → Follows e false (pos 1000000) t k → 10 ^ 16 < unsigned_abs (moved e t) → image_fault k ≡ Some 13
+pub moved-fault : (e : AxisMap) (t : ℤ) (k : Image) → Follows e false (pos 1000000) t k → 10 ^ 16 < unsigned_abs (shift_when_moved e t) → image_fault k ≡ Some 13
 moved-fault e t k h more =
     let plain = plain_factor (pos e.factor) (pos k.under) k.factor h.factor_is in
     let factor : is_factor_allowed k ≡ true =
     whole_factor (unsigned_abs k.factor) e.factor k.under h.positive (sizes (pos e.factor) k.factor k.under 1000000 plain) e.factor_bound in
     let shift : is_shift_allowed k ≡ false =
-    lt-leb _ _ (great_shift (unsigned_abs k.shift) (unsigned_abs (moved e t)) k.under h.positive (sizes (moved e t) k.shift k.under 1000000000000 h.shift_is) more) in
+    lt-leb _ _ (great_shift (unsigned_abs k.shift) (unsigned_abs (shift_when_moved e t)) k.under h.positive (sizes (shift_when_moved e t) k.shift k.under 1000000000000 h.shift_is) more) in
     ap (λ (b : Bool). cond b (cond (is_shift_allowed k) None (Some 13)) (Some 11)) factor
     ∙ ap (λ (b : Bool). cond b None (Some 13)) shift
 

@@ -7,7 +7,7 @@ use Rattle.frames.specs.declared.axis_map.AxisMap.{AxisMap}
 use Rattle.frames.specs.declared.Frame.{Frame}
 use Rattle.frames.specs.Maps.{Map}
 use Rattle.frames.specs.Images.{Image, image_of}
-use Rattle.frames.specs.Counts.{moved, IsMoved, IsScaled, IsMirrored, is_product_allowed, GivesMoved, GivesScaled}
+use Rattle.frames.specs.Counts.{shift_when_moved, IsMoved, IsScaled, IsMirrored, is_product_allowed, GivesMoved, GivesScaled}
 use Rattle.frames.specs.Faults.{or_else, is_scale, maps_fault, image_fault, chain_fault, adding_fault}
 use Rattle.frames.specs.Composition.{IsImage, IsComposed, IsExtended, GivesComposed, Joins, shifts, scales, mirrors, axis_of}
 use Rattle.frames.proofs.AloneLaws.{shifts-x, shifts-y, shifts-z, scales-x, scales-y, scales-z, mirrors-x, mirrors-y, mirrors-z}
@@ -75,20 +75,20 @@ module _ (chain : List Map) (frame : Frame) (x y z : Option ℤ) (h : IsComposed
       (moved-image frame.y new.y (unwrap_or y (pos 0)) _ shift-y b)
       (moved-image frame.z new.z (unwrap_or z (pos 0)) _ shift-z c)
 
-  pub shifts-fault_x : 10 ^ 16 < unsigned_abs (moved frame.x (unwrap_or x (pos 0))) → adding_fault chain (shifts 0 (x ∷ y ∷ z ∷ [])) ≡ Some 13
+  pub shifts-fault_x : 10 ^ 16 < unsigned_abs (shift_when_moved frame.x (unwrap_or x (pos 0))) → adding_fault chain (shifts 0 (x ∷ y ∷ z ∷ [])) ≡ Some 13
   shifts-fault_x more =
       past_none _ _ (shifts-no_fault 0 (x ∷ y ∷ z ∷ []))
       ∙ at_some _ _ 13 (moved-fault frame.x (unwrap_or x (pos 0)) _ shift-x more)
 
   pub shifts-fault_y : (new : AxisMap) → IsMoved frame.x (unwrap_or x (pos 0)) new
-      → 10 ^ 16 < unsigned_abs (moved frame.y (unwrap_or y (pos 0))) → adding_fault chain (shifts 0 (x ∷ y ∷ z ∷ [])) ≡ Some 13
+      → 10 ^ 16 < unsigned_abs (shift_when_moved frame.y (unwrap_or y (pos 0))) → adding_fault chain (shifts 0 (x ∷ y ∷ z ∷ [])) ≡ Some 13
   shifts-fault_y new a more =
       past_none _ _ (shifts-no_fault 0 (x ∷ y ∷ z ∷ []))
       ∙ past_none _ _ (no_moved_fault frame.x new (unwrap_or x (pos 0)) _ shift-x a)
       ∙ at_some _ _ 13 (moved-fault frame.y (unwrap_or y (pos 0)) _ shift-y more)
 
   pub shifts-fault_z : (new new' : AxisMap) → IsMoved frame.x (unwrap_or x (pos 0)) new → IsMoved frame.y (unwrap_or y (pos 0)) new'
-      → 10 ^ 16 < unsigned_abs (moved frame.z (unwrap_or z (pos 0))) → adding_fault chain (shifts 0 (x ∷ y ∷ z ∷ [])) ≡ Some 13
+      → 10 ^ 16 < unsigned_abs (shift_when_moved frame.z (unwrap_or z (pos 0))) → adding_fault chain (shifts 0 (x ∷ y ∷ z ∷ [])) ≡ Some 13
   shifts-fault_z new new' a b more =
       past_none _ _ (shifts-no_fault 0 (x ∷ y ∷ z ∷ []))
       ∙ past_none _ _ (no_moved_fault frame.x new (unwrap_or x (pos 0)) _ shift-x a)

@@ -11,7 +11,7 @@ use Rattle.frames.specs.declared.Frame.{Frame}
 use Rattle.frames.specs.Maps.{Map, Point, mapped_point}
 use Rattle.frames.specs.Images.{Image, IsSent, sign, image_of}
 use Rattle.frames.specs.Counts.{place_sum, change_sum}
-use Rattle.frames.specs.Places.{programmed, end_at, change_of, GivesPlace}
+use Rattle.frames.specs.Places.{programmed_point, end_at, change_of, GivesPlace}
 use Rattle.frames.specs.Composition.{IsImage, IsComposed, axis_of}
 use Rattle.frames.proofs.AloneLaws.{nothing_between}
 use Rattle.frames.proofs.Chains.{image_of-positive}
@@ -67,11 +67,11 @@ end-by_image e i twice offset p some h k =
 
 pub end-same : (chain : List Map) (axis : ℕ) (e : AxisMap) (values : ℕ → ℤ) (twice offset : ℤ) → IsImage e (image_of chain axis)
     → values axis ≡ twice
-    → half_away (place_sum e twice offset) 2000000000 ≡ end_at (mapped_point chain (programmed values)) (image_of chain axis).slot offset
+    → half_away (place_sum e twice offset) 2000000000 ≡ end_at (mapped_point chain (programmed_point values)) (image_of chain axis).slot offset
 end-same chain axis e values twice offset h same =
     ap (λ (z : ℤ). half_away (place_sum e z offset) 2000000000) (sym same)
-    ∙ end-by_image e (image_of chain axis) (values axis) offset (mapped_point chain (programmed values)) (image_of-positive chain axis) h
-    (chain-sent chain axis (programmed values))
+    ∙ end-by_image e (image_of chain axis) (values axis) offset (mapped_point chain (programmed_point values)) (image_of-positive chain axis) h
+    (chain-sent chain axis (programmed_point values))
 
 pub change-same : (chain : List Map) (axis : ℕ) (e : AxisMap) (twice : ℤ) → IsImage e (image_of chain axis)
     → half_away (change_sum e twice) 2000000000 ≡ change_of (image_of chain axis) twice
@@ -95,8 +95,8 @@ module _ (chain : List Map) (frame : Frame) (axis : ℕ) (map : AxisMap) (twice 
 
   pub end-answer : (values : ℕ → ℤ) (offset : ℤ) → values axis ≡ twice
       → GivesPlace map.slot (half_away (place_sum map twice offset) 2000000000) 10000000 answer
-      → GivesPlace (image_of chain axis).slot (end_at (mapped_point chain (programmed values)) (image_of chain axis).slot offset) 10000000 answer
+      → GivesPlace (image_of chain axis).slot (end_at (mapped_point chain (programmed_point values)) (image_of chain axis).slot offset) 10000000 answer
   end-answer values offset same given =
-      let place = end_at (mapped_point chain (programmed values)) (image_of chain axis).slot offset in
+      let place = end_at (mapped_point chain (programmed_point values)) (image_of chain axis).slot offset in
       subst (λ (slot : ℕ). GivesPlace slot place 10000000 answer) here.slot
       (subst (λ (p : ℤ). GivesPlace map.slot p 10000000 answer) (end-same chain axis map values twice offset here same) given)

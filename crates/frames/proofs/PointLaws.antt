@@ -6,8 +6,8 @@ use Rattle.std.specs.Prelude.{ℤ, pos, negsuc, neg_ℤ, ◌+ℤ◌, ◌*ℤ◌}
 use Rattle.number_laws.proofs.Ring.{num, var, plus, times, ring}
 use Rattle.frames.specs.declared.Plane.{Plane}
 use Rattle.frames.specs.declared.Plane.TheVariants.{G17, G18, G19}
-use Rattle.frames.specs.Maps.{Map, shifting, scaling, mirroring, turning, Point, shifted, scaled, mirrored, effect, mapped_point, quarter, quarters, quarters_in, first_axis, second_axis}
-use Rattle.frames.specs.Images.{Image, IsSent, sign, placed, shifted_image, scaled_image, mirrored_image, quarters_image, sent_on, image_of}
+use Rattle.frames.specs.Maps.{Map, shifting, scaling, mirroring, turning, Point, shift_point, scale_point, mirror_point, effect, mapped_point, quarter, quarters, quarters_in, first_axis, second_axis}
+use Rattle.frames.specs.Images.{Image, IsSent, sign, image_in_slot, shifted_image, scaled_image, mirrored_image, quarters_image, sent_on, image_of}
 use Rattle.frames.proofs.Chains.{shifting_part, shifted-after_shift, scaled-after_shift, placed-after_shift, sign-other_sign, under-after}
 
 pub quarter_second : (plane : Plane) (p : Point) → (quarter plane p).top (second_axis plane) ≡ p.top (first_axis plane)
@@ -21,7 +21,7 @@ quarter_first G18 p = refl
 quarter_first G19 p = refl
 
 module _ (value : ℤ) (u : ℕ) where
-  shifted-sent : (axis : ℕ) (by : ℤ) (i : Image) (p : Point) → IsSent i value u p → IsSent (shifted_image axis by i) value u (shifted axis by p)
+  shifted-sent : (axis : ℕ) (by : ℤ) (i : Image) (p : Point) → IsSent i value u p → IsSent (shifted_image axis by i) value u (shift_point axis by p)
   shifted-sent axis by i p h = record {
     top =
         ap (λ (z : ℤ). (z *ℤ pos 1000000) +ℤ cond (eqb i.slot axis) (by *ℤ pos p.under) (pos 0)) h.top
@@ -32,7 +32,7 @@ module _ (value : ℤ) (u : ℕ) where
     under_is = ap (λ (n : ℕ). n * 1000000) h.under_is ∙ under-after i.under u 1000000;
   }
 
-  scaled-sent : (axis : ℕ) (by : ℤ) (i : Image) (p : Point) → IsSent i value u p → IsSent (scaled_image axis by i) value u (scaled axis by p)
+  scaled-sent : (axis : ℕ) (by : ℤ) (i : Image) (p : Point) → IsSent i value u p → IsSent (scaled_image axis by i) value u (scale_point axis by p)
   scaled-sent axis by i p h = record {
     top =
         ap (λ (z : ℤ). z *ℤ cond (eqb i.slot axis) by (pos 1000000)) h.top
@@ -42,7 +42,7 @@ module _ (value : ℤ) (u : ℕ) where
 
   -- the point q has in a slot what p has in the slot of the image, with a sign
   placed-sent : (slot : ℕ) (turned : Bool) (i : Image) (p q : Point) → q.top slot ≡ sign turned *ℤ p.top i.slot → q.under ≡ p.under
-      → IsSent i value u p → IsSent (placed slot turned i) value u q
+      → IsSent i value u p → IsSent (image_in_slot slot turned i) value u q
   placed-sent slot turned i p q there same h = record {
     top =
         there ∙ ap (λ (z : ℤ). sign turned *ℤ z) h.top
@@ -55,8 +55,8 @@ module _ (value : ℤ) (u : ℕ) where
   signed_is true z = omega (arith, ints)
   signed_is false z = omega (arith, ints)
 
-  mirrored-sent : (axis : ℕ) (i : Image) (p : Point) → IsSent i value u p → IsSent (mirrored_image axis i) value u (mirrored axis p)
-  mirrored-sent axis i p h = placed-sent i.slot (eqb i.slot axis) i p (mirrored axis p) (signed_is (eqb i.slot axis) (p.top i.slot)) refl h
+  mirrored-sent : (axis : ℕ) (i : Image) (p : Point) → IsSent i value u p → IsSent (mirrored_image axis i) value u (mirror_point axis p)
+  mirrored-sent axis i p h = placed-sent i.slot (eqb i.slot axis) i p (mirror_point axis p) (signed_is (eqb i.slot axis) (p.top i.slot)) refl h
 
   plain : (z : ℤ) → z ≡ pos 1 *ℤ z
   plain z = omega (arith, ints)
@@ -66,7 +66,7 @@ module _ (value : ℤ) (u : ℕ) where
 
   quarter_cases : (plane : Plane) (i : Image) (p : Point) (b c : Bool)
       → eqb i.slot (first_axis plane) ≡ b → eqb i.slot (second_axis plane) ≡ c → IsSent i value u p
-      → IsSent (cond b (placed (second_axis plane) false i) (cond c (placed (first_axis plane) true i) i)) value u (quarter plane p)
+      → IsSent (cond b (image_in_slot (second_axis plane) false i) (cond c (image_in_slot (first_axis plane) true i) i)) value u (quarter plane p)
   quarter_cases plane i p true c is_first is_second h =
       placed-sent (second_axis plane) false i p (quarter plane p)
       (quarter_second plane p ∙ ap p.top (sym (eqb-true i.slot (first_axis plane) is_first)) ∙ plain (p.top i.slot)) refl h

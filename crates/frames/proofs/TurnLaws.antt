@@ -7,7 +7,7 @@ use Rattle.frames.specs.declared.Frame.{Frame}
 use Rattle.frames.specs.declared.Plane.{Plane}
 use Rattle.frames.specs.declared.Plane.TheVariants.{G17, G18, G19}
 use Rattle.frames.specs.Maps.{Map, turning, first_axis, second_axis, quarters_in}
-use Rattle.frames.specs.Images.{Image, unmapped, placed, quarters_image, image_of}
+use Rattle.frames.specs.Images.{Image, own_image, image_in_slot, quarters_image, image_of}
 use Rattle.frames.specs.Counts.{IsMirrored}
 use Rattle.frames.specs.Faults.{is_square_angle, or_else, adding_fault}
 use Rattle.frames.specs.Composition.{IsImage, IsComposed, IsExtended, axis_of}
@@ -27,7 +27,7 @@ record IsPlain (i : Image) : Type 0 where
   below : i.slot < 3
 
 quarter_cases : (plane : Plane) (i : Image) (b c : Bool) → IsPlain i
-    → IsPlain (cond b (placed (second_axis plane) false i) (cond c (placed (first_axis plane) true i) i))
+    → IsPlain (cond b (image_in_slot (second_axis plane) false i) (cond c (image_in_slot (first_axis plane) true i) i))
 quarter_cases plane i true c h = record {
   bare = placed-alone (second_axis plane) i.slot false i.minus (pos 1000000) i h.bare;
   below = second-below plane;
@@ -48,8 +48,8 @@ module _ (chain : List Map) (old new : Frame) (plane : Plane) (angle : ℤ) (h :
     (t : IsTurned old plane (quarters_in angle) new) where
   turned-image : (axis : ℕ) → axis < 3 → IsImage (axis_of new axis) (image_of (chain ++ turning plane angle ∷ []) axis)
   turned-image axis less =
-      let i = quarters_image plane (quarters_in angle) (unmapped axis) in
-      let p = quarters-plain plane (quarters_in angle) (unmapped axis) (record { bare = unmapped-alone axis; below = less }) in
+      let i = quarters_image plane (quarters_in angle) (own_image axis) in
+      let p = quarters-plain plane (quarters_in angle) (own_image axis) (record { bare = unmapped-alone axis; below = less }) in
       mirrored-image (axis_of old i.slot) (axis_of new axis) i.minus _
       (follows chain (turning plane angle ∷ []) axis i.slot (axis_of old i.slot) i.minus (pos 1000000) (pos 0)
       (composed-at chain old i.slot p.below h) p.bare)

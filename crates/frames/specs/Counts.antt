@@ -7,15 +7,15 @@ use Rattle.frames.specs.Images.{sign, other_sign}
 use Rattle.nc_faults.specs.declared.alarms.TheConstants.{OUT_OF_RANGE, SCALE_NOT_ALLOWED}
 
 -- the shift of an axis that is moved by so many millionths before it goes
-abbrev pub moved : AxisMap → ℤ → ℤ
-moved axis by = axis.shift +ℤ (sign axis.minus *ℤ (pos axis.factor *ℤ by))
+abbrev pub shift_when_moved : AxisMap → ℤ → ℤ
+shift_when_moved axis by = axis.shift +ℤ (sign axis.minus *ℤ (pos axis.factor *ℤ by))
 
 -- all but the shift, the factor or the sign is as it was
 pub record IsMoved (old : AxisMap) (by : ℤ) (new : AxisMap) : Type 0 where
   pub slot : new.slot ≡ old.slot
   pub minus : new.minus ≡ old.minus
   pub factor : new.factor ≡ old.factor
-  pub shift : new.shift ≡ moved old by
+  pub shift : new.shift ≡ shift_when_moved old by
 
 pub record IsScaled (old : AxisMap) (by : ℤ) (new : AxisMap) : Type 0 where
   pub slot : new.slot ≡ old.slot
@@ -35,7 +35,7 @@ is_product_allowed factor by = ((factor * by) % 1000000 == 0) && nat_le (factor 
 
 abbrev pub GivesMoved : AxisMap → ℤ → Result AxisMap ℕ → Type 0
 GivesMoved old by answer =
-    MatchResult answer (λ new. IsMoved old by new) (λ alarm. (alarm ≡ OUT_OF_RANGE) × (10 ^ 16 < unsigned_abs (moved old by)))
+    MatchResult answer (λ new. IsMoved old by new) (λ alarm. (alarm ≡ OUT_OF_RANGE) × (10 ^ 16 < unsigned_abs (shift_when_moved old by)))
 
 abbrev pub GivesScaled : AxisMap → ℤ → Result AxisMap ℕ → Type 0
 GivesScaled old by answer =

@@ -18,8 +18,8 @@ sign true = negsuc 0
 sign false = pos 1
 
 -- where no map is, an axis goes to its own slot unchanged
-abbrev pub unmapped : ℕ → Image
-unmapped axis = record { slot = axis; minus = false; factor = pos 1; shift = pos 0; under = 1 }
+abbrev pub own_image : ℕ → Image
+own_image axis = record { slot = axis; minus = false; factor = pos 1; shift = pos 0; under = 1 }
 
 -- the image where a map sends it on; maps of other axes leave it as it is
 abbrev pub shifted_image : ℕ → ℤ → Image → Image
@@ -46,8 +46,8 @@ other_sign true minus = not minus
 other_sign false minus = minus
 
 -- the image in a slot, with the other sign where that is asked for
-abbrev pub placed : ℕ → Bool → Image → Image
-placed slot turned i = record {
+abbrev pub image_in_slot : ℕ → Bool → Image → Image
+image_in_slot slot turned i = record {
   slot = slot;
   minus = other_sign turned i.minus;
   factor = i.factor;
@@ -56,14 +56,14 @@ placed slot turned i = record {
 }
 
 abbrev pub mirrored_image : ℕ → Image → Image
-mirrored_image axis i = placed i.slot (i.slot == axis) i
+mirrored_image axis i = image_in_slot i.slot (i.slot == axis) i
 
 -- by a turn of 90 degrees, what was in the first slot is in the second, and what was in the second is in the first with the other sign
 abbrev pub quarter_image : Plane → Image → Image
 quarter_image plane i =
     if i.slot == first_axis plane
-    then placed (second_axis plane) false i
-    else (if i.slot == second_axis plane then placed (first_axis plane) true i else i)
+    then image_in_slot (second_axis plane) false i
+    else (if i.slot == second_axis plane then image_in_slot (first_axis plane) true i else i)
 
 abbrev pub quarters_image : Plane → ℕ → Image → Image
 quarters_image plane zero i = i
@@ -77,7 +77,7 @@ sent_on (turning plane angle) i = quarters_image plane (quarters_in angle) i
 
 -- what a chain makes of an axis
 abbrev pub image_of : List Map → ℕ → Image
-image_of [] axis = unmapped axis
+image_of [] axis = own_image axis
 image_of (m ∷ ms) axis = sent_on m (image_of ms axis)
 
 -- a point has in the slot of an image what the image makes of value / under: shift + sign · factor · value

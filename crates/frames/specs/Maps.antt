@@ -27,20 +27,20 @@ pub record Point : Type 0 where
   pub top : ℕ → ℤ
   pub under : ℕ
 
-abbrev pub shifted : ℕ → ℤ → Point → Point
-shifted axis value p = record {
+abbrev pub shift_point : ℕ → ℤ → Point → Point
+shift_point axis value p = record {
   top = λ a. (p.top a *ℤ pos 1000000) +ℤ (if a == axis then value *ℤ pos p.under else pos 0);
   under = p.under * 1000000;
 }
 
-abbrev pub scaled : ℕ → ℤ → Point → Point
-scaled axis value p = record {
+abbrev pub scale_point : ℕ → ℤ → Point → Point
+scale_point axis value p = record {
   top = λ a. p.top a *ℤ (if a == axis then value else pos 1000000);
   under = p.under * 1000000;
 }
 
-abbrev pub mirrored : ℕ → Point → Point
-mirrored axis p = record {
+abbrev pub mirror_point : ℕ → Point → Point
+mirror_point axis p = record {
   top = λ a. if a == axis then neg_ℤ (p.top a) else p.top a;
   under = p.under;
 }
@@ -64,9 +64,9 @@ abbrev pub quarters_in : ℤ → ℕ
 quarters_in angle = unsigned_abs (int_rem_euclid angle (pos 360000000)) / 90000000
 
 abbrev pub effect : Map → Point → Point
-effect (shifting axis value) p = shifted axis value p
-effect (scaling axis value) p = scaled axis value p
-effect (mirroring axis) p = mirrored axis p
+effect (shifting axis value) p = shift_point axis value p
+effect (scaling axis value) p = scale_point axis value p
+effect (mirroring axis) p = mirror_point axis p
 effect (turning plane angle) p = quarters plane (quarters_in angle) p
 
 -- where a chain of maps sends a point, which goes through the last map first

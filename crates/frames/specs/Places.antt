@@ -8,8 +8,8 @@ use Rattle.frames.specs.Maps.{Point}
 use Rattle.nc_faults.specs.declared.alarms.TheConstants.{OUT_OF_RANGE}
 
 -- the point that is programmed by these numbers, twice each value in millionths of a millimetre
-abbrev pub programmed : (ℕ → ℤ) → Point
-programmed twice = record { top = twice; under = 2000000 }
+abbrev pub programmed_point : (ℕ → ℤ) → Point
+programmed_point twice = record { top = twice; under = 2000000 }
 
 -- where a slot ends: its place in millimetres and the settable offset in micrometres, rounded once
 abbrev pub end_at : Point → ℕ → ℤ → ℤ

@@ -4,14 +4,14 @@ use Rattle.frames.specs.declared.axis_map.AxisMap.{AxisMap}
 use Rattle.frames.specs.declared.Frame.{Frame}
 use Rattle.frames.specs.declared.Plane.{Plane}
 use Rattle.frames.specs.Counts.{IsMirrored}
-use Rattle.frames.specs.Images.{unmapped, quarters_image}
+use Rattle.frames.specs.Images.{own_image, quarters_image}
 use Rattle.frames.specs.Composition.{axis_of}
 
 -- each axis goes where the axis went to whose slot the turns bring it, with the sign that they give it
 abbrev pub IsTurned : Frame → Plane → ℕ → Frame → Type 0
 IsTurned old plane quarters new =
     (axis : ℕ) → axis < 3
-    → let image = quarters_image plane quarters (unmapped axis) in
+    → let image = quarters_image plane quarters (own_image axis) in
     IsMirrored (axis_of old image.slot) image.minus (axis_of new axis)
 
 -- the first and the second axis of a plane after turns

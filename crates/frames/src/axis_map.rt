@@ -28,7 +28,7 @@ impl AxisMap {
     ghost use Rattle.std.specs.Prelude.{◌≡◌, ◌*◌, ℤ, pos, ◌+ℤ◌, ◌*ℤ◌, false, unwrap_or};
     ghost use Rattle.micro_units.specs.Rounding.{half_away};
     ghost use Rattle.frames.specs.Places.{GivesPlace};
-    ghost use Rattle.frames.specs.Counts.{IsMoved, IsMirrored, GivesMoved, GivesScaled, place_sum, change_sum, moved as moved_count};
+    ghost use Rattle.frames.specs.Counts.{IsMoved, IsMirrored, GivesMoved, GivesScaled, place_sum, change_sum, shift_when_moved as moved_count};
 
     /// The axis goes to its own slot unchanged.
     pub(crate) fn unmapped(slot: u8) -> AxisMap

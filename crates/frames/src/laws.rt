@@ -15,7 +15,7 @@ pub fn image_is_of_the_chain()
         → (image_of chain axis).slot ≢ (image_of chain other).slot }
 {}
 
-/// A law: shifts of one axis, one behind the other, are the shift by their sum.
+/// A law: shifts of one axis, one after the other, are the shift by their sum.
 pub fn shifts_add_up()
     ensures { (axis : ℕ) (values : List ℤ) (p : Point)
         → IsSamePoint (mapped_point (map (shifting axis) values) p) (mapped_point (shifting axis (total values) ∷ []) p) }

@@ -9,7 +9,7 @@ ghost use Rattle.frames.specs.Maps.{Map, turning, mapped_point, quarters_in as q
 ghost use Rattle.frames.specs.Images.{image_of};
 ghost use Rattle.frames.specs.Faults.{is_square_angle};
 ghost use Rattle.frames.specs.Composition.{IsComposed, IsExtended, GivesComposed, Joins, Adds, shifts, scales, mirrors, turns, axis_of};
-ghost use Rattle.frames.specs.Places.{programmed, end_at, change_of, GivesPlace};
+ghost use Rattle.frames.specs.Places.{programmed_point, end_at, change_of, GivesPlace};
 ghost use Rattle.frames.specs.Turns.{IsTurned, IsTurnedFirst, IsTurnedSecond};
 ghost use Rattle.micro_units.specs.declared.limits.TheConstants.{POSITION_LIMIT, CHANGE_LIMIT};
 
@@ -164,7 +164,7 @@ impl Frame {
         ensures absolute { (chain : List Map) (values : ℕ → ℤ) → IsComposed chain self.now
             → incremental ≡ false → values axis ≡ twice
             → let slot = (image_of chain axis).slot in
-            GivesPlace slot (end_at (mapped_point chain (programmed values)) slot offset) POSITION_LIMIT result }
+            GivesPlace slot (end_at (mapped_point chain (programmed_point values)) slot offset) POSITION_LIMIT result }
         ensures change { (chain : List Map) → IsComposed chain self.now → incremental ≡ true
             → GivesPlace (image_of chain axis).slot (change_of (image_of chain axis) twice) CHANGE_LIMIT result }
     {

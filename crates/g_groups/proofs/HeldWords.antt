@@ -9,7 +9,7 @@ use Rattle.std.proofs.lemmas.List.Sums.{fold-append, fold_push}
 use Rattle.g_groups.specs.declared.GWord.{GWord}
 use Rattle.g_groups.specs.declared.TheConstants.{START}
 use Rattle.g_groups.specs.Groups.{Group, Holding, modal, in_block, none, groups, holding_in, holding_of, has_value, HasModalValue}
-use Rattle.g_groups.specs.Modal.{words_of, last_code, held, modal_word, IsAfter}
+use Rattle.g_groups.specs.Modal.{words_of, last_code, word_by_holding, modal_word, IsAfter}
 
 -- ---- the groups with a value are below 30
 numbered_below : ℕ → List Group → Bool
@@ -38,7 +38,7 @@ start_of (modal start) = start
 start_of in_block = 0
 start_of none = 0
 
-held-none : (holding : Holding) (group : ℕ) → held holding [] group ≡ start_of holding
+held-none : (holding : Holding) (group : ℕ) → word_by_holding holding [] group ≡ start_of holding
 unfolding start_of
 held-none (modal start) group = refl
 held-none in_block group = refl
@@ -80,8 +80,8 @@ last_code-more start group blocks codes =
     ∙ fold-append (λ _ word. word.code) start (words_of group (flat_map (λ block. block) blocks)) (words_of group codes)
 
 held-more : (holding : Holding) (ninth : Bool) (blocks : List (List GWord)) (codes : List GWord) (group old : ℕ)
-    → has_value holding ≡ true → is_in_block holding ≡ ninth → old ≡ held holding blocks group
-    → last_code (cond ninth 0 old) (words_of group codes) ≡ held holding (blocks ++ codes ∷ []) group
+    → has_value holding ≡ true → is_in_block holding ≡ ninth → old ≡ word_by_holding holding blocks group
+    → last_code (cond ninth 0 old) (words_of group codes) ≡ word_by_holding holding (blocks ++ codes ∷ []) group
 unfolding is_in_block
 held-more (modal start) false blocks codes group old h same was =
     ap (λ code. last_code code (words_of group codes)) was ∙ sym (last_code-more start group blocks codes)

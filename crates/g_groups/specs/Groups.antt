@@ -19,7 +19,7 @@ pub record Group : Type 0 where
   pub holding : Holding
   pub words : List Spelling
 
--- the code of the word at a place of its group, counted from 1: the number behind G, or the place of a name
+-- the code of the word at a place of its group, counted from 1: the number after G, or the place of a name
 abbrev pub code_of : ℕ → Spelling → ℕ
 code_of place (g number) = number
 code_of place (name text) = place

@@ -17,14 +17,14 @@ abbrev pub last_block : List (List GWord) → List GWord
 last_block blocks = fold (λ _ block. block) [] blocks
 
 -- the word that holds after some blocks
-abbrev pub held : Holding → List (List GWord) → ℕ → ℕ
-held (modal start) blocks group = last_code start (words_of group (flat_map (λ block. block) blocks))
-held in_block blocks group = last_code 0 (words_of group (last_block blocks))
-held none blocks group = 0
+abbrev pub word_by_holding : Holding → List (List GWord) → ℕ → ℕ
+word_by_holding (modal start) blocks group = last_code start (words_of group (flat_map (λ block. block) blocks))
+word_by_holding in_block blocks group = last_code 0 (words_of group (last_block blocks))
+word_by_holding none blocks group = 0
 
 -- the code of the word of this group that holds after these blocks, each of them its words; 0 where none holds
 unfoldable pub modal_word : List (List GWord) → ℕ → ℕ
-modal_word blocks group = held (holding_of group) blocks group
+modal_word blocks group = word_by_holding (holding_of group) blocks group
 
 -- these are, by groups, the words that hold after these blocks
 abbrev pub IsAfter : List (List GWord) → List ℕ → Type 0

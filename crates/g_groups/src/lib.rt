@@ -31,7 +31,7 @@ const START: [u16; GROUPS] = [
 pub struct GWord {
     /// The number of the group.
     pub group: u8,
-    /// The number behind G, or the place of a name among the words of its group, from 1.
+    /// The number after G, or the place of a name among the words of its group, from 1.
     pub code: u16,
 }
 

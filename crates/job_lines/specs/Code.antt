@@ -4,21 +4,21 @@ use Rattle.job_lines.specs.declared.code.Code.{Code}
 use Rattle.job_lines.specs.declared.code.Code.TheVariants.{NoJobLine, LineTooLong, BadByte, UnknownJobLine, OutOfRange, DeclaredTwice, NotDeclared, OwnerDiffers, NameRepeated, BadHeader, TooMany, NotInLibrary, OpenText, NotBuilt}
 
 -- what a refusal shows of a rule
-unfoldable pub shown : Code → ℕ
-shown NoJobLine = 1
-shown LineTooLong = 2
-shown BadByte = 3
-shown UnknownJobLine = 4
-shown OutOfRange = 5
-shown DeclaredTwice = 6
-shown NotDeclared = 7
-shown OwnerDiffers = 8
-shown NameRepeated = 9
-shown BadHeader = 10
-shown TooMany = 11
-shown NotInLibrary = 12
-shown OpenText = 20
-shown NotBuilt = 60
+unfoldable pub refusal_code : Code → ℕ
+refusal_code NoJobLine = 1
+refusal_code LineTooLong = 2
+refusal_code BadByte = 3
+refusal_code UnknownJobLine = 4
+refusal_code OutOfRange = 5
+refusal_code DeclaredTwice = 6
+refusal_code NotDeclared = 7
+refusal_code OwnerDiffers = 8
+refusal_code NameRepeated = 9
+refusal_code BadHeader = 10
+refusal_code TooMany = 11
+refusal_code NotInLibrary = 12
+refusal_code OpenText = 20
+refusal_code NotBuilt = 60
 
 -- one reading after the other: the first rule that is broken counts
 infixl 10 ◌>>=◌

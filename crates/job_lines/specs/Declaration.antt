@@ -44,14 +44,14 @@ slot_of word =
     else Err OutOfRange
 
 -- the G words of settable offsets that a line can give: G54 to G57 and G505 to G599
-abbrev pub settable : ℕ → Option ℕ
-settable number = if nat_le number 57 || nat_le 505 number then Some number else None
+abbrev pub settable_code : ℕ → Option ℕ
+settable_code number = if nat_le number 57 || nat_le 505 number then Some number else None
 
 unfoldable pub g_of : List ℕ → Result ℕ Code
 g_of [] = Err OutOfRange
-g_of (letter ∷ digits) = if letter == 71 then or_code OutOfRange (option_and_then settable (number_within 54 599 digits)) else Err OutOfRange
+g_of (letter ∷ digits) = if letter == 71 then or_code OutOfRange (option_and_then settable_code (number_within 54 599 digits)) else Err OutOfRange
 
--- the name behind a carrier's sign
+-- the name after a carrier's sign
 abbrev pub signed_name_of : Bool → List ℕ → Result (Option (AxisName × Bool)) Code
 signed_name_of minus name = axis_name_of name >>= (λ axis. Ok (Some (axis, minus)))
 
@@ -59,7 +59,7 @@ abbrev pub minus_carrier_of : List ℕ → Result (Option (AxisName × Bool)) Co
 minus_carrier_of [] = Ok None
 minus_carrier_of (byte ∷ name) = signed_name_of true (byte ∷ name)
 
--- a carrier: '-' alone, or an axis behind '+' or '-'
+-- a carrier: '-' alone, or an axis after '+' or '-'
 unfoldable pub carrier_of : List ℕ → Result (Option (AxisName × Bool)) Code
 carrier_of [] = Err OutOfRange
 carrier_of (sign ∷ name) =

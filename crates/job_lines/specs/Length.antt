@@ -9,7 +9,7 @@ use Rattle.job_lines.specs.Code.{or_code}
 use Rattle.job_lines.specs.Numbers.{is_digits}
 use Rattle.micro_units.specs.Position.{is_position}
 
--- one to five digits, and behind a point one to three
+-- one to five digits, and after a point one to three
 abbrev pub is_size_at : List ℕ → Option ℕ → Bool
 is_size_at text None = is_digits 1 5 text
 is_size_at text (Some place) = is_digits 1 5 (take place text) && is_digits 1 3 (drop (place + 1) text)

@@ -23,9 +23,9 @@ unfoldable pub whole_of : List ℕ → Option ℕ
 whole_of word = if is_whole word then Some (decimal word) else None
 
 -- a whole number from low to high
-abbrev pub within : ℕ → ℕ → ℕ → Option ℕ
-within low high number = if nat_le low number && nat_le number high then Some number else None
+abbrev pub number_in_range : ℕ → ℕ → ℕ → Option ℕ
+number_in_range low high number = if nat_le low number && nat_le number high then Some number else None
 
 -- the whole number from low to high that the word writes
 unfoldable pub number_within : ℕ → ℕ → List ℕ → Option ℕ
-number_within low high word = option_and_then (within low high) (whole_of word)
+number_within low high word = option_and_then (number_in_range low high) (whole_of word)

@@ -1,6 +1,6 @@
 //! The rules that a line can break.
 ghost use Rattle.std.specs.Prelude.{◌≡◌};
-ghost use Rattle.job_lines.specs.Code.{shown};
+ghost use Rattle.job_lines.specs.Code.{refusal_code};
 ghost use Rattle.nc_faults.specs.Texts.{IsRefusalCode};
 
 /// A rule that a line can break. The rules that a block breaks by itself have no name here.
@@ -38,9 +38,9 @@ pub enum Code {
 
 impl Code {
     /// The code that a refusal shows.
-    #[tactic(auto, unfolding(crate::specs::Code::shown, nc_faults::specs::Texts::IsRefusalCode, nc_faults::specs::Texts::refusal_texts))]
+    #[tactic(auto, unfolding(crate::specs::Code::refusal_code, nc_faults::specs::Texts::IsRefusalCode, nc_faults::specs::Texts::refusal_texts))]
     pub fn shown(self) -> u16
-        ensures value { result ≡ shown self }
+        ensures value { result ≡ refusal_code self }
         ensures listed { IsRefusalCode result }
     {
         match self {

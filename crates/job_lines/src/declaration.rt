@@ -433,7 +433,7 @@ fn zone_line_in(args: &[&[u8]]) -> Result<Declaration, Code>
     }
 }
 
-/// What follows JOB behind the first job line.
+/// What follows JOB after the first job line.
 #[tactic(auto, unfolding(crate::specs::Declaration::job_line))]
 fn job_line_in(args: &[&[u8]]) -> Result<Declaration, Code>
     ensures { result ≡ job_line (map (λ word. word.now) args.now) }

@@ -54,7 +54,7 @@ fn header_word_in(word: &[u8]) -> Result<NameText, Code>
     }
 }
 
-/// The name that a line with `%` gives to the program behind it, from the line's words in upper case.
+/// The name that a line with `%` gives to the program after it, from the line's words in upper case.
 #[tactic(auto, unfolding(crate::specs::Header::header_of))]
 pub fn header_in(words: &[&[u8]]) -> Result<NameText, Code>
     ensures { result ≡ header_of (map (λ word. word.now) words.now) }

@@ -15,7 +15,7 @@ fn point_in(text: &[u8]) -> Option<usize>
     text.iter().position(|byte| *byte == b'.')
 }
 
-/// Whether the text is one to five digits, and behind a point one to three.
+/// Whether the text is one to five digits, and after a point one to three.
 #[tactic(auto, unfolding(crate::specs::Length::is_size))]
 fn is_size(text: &[u8]) -> bool
     ensures { result ≡ is_size text.now }

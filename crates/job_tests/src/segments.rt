@@ -11,7 +11,7 @@ use sync_types::{Action, Grant};
 use tape_job::{Job, read_job};
 
 /// A job of two channels; channel 1 has the axes X1, Z1 and Z3, channel 2 has X10, which stands in the slot Y of channel 1
-/// too. The first block behind it stands on line 18.
+/// too. The first block after it stands on line 18.
 const START: &str = "JOB 1
 CHANNEL 1 A START
 CHANNEL 2 A START

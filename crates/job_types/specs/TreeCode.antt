@@ -33,15 +33,15 @@ abbrev pub top : List Tree → Tree
 top [] = Number (pos 0)
 top (t ∷ trees) = t
 
--- the tree that marks make behind trees that are made
-abbrev pub made : List Tree → List Mark → Tree
-made trees [] = top trees
-made trees (inl (inl millionths) ∷ rest) = made (Number millionths ∷ trees) rest
-made trees (inl (inr index) ∷ rest) = made (Parameter index ∷ trees) rest
-made trees (inr (inl op) ∷ rest) = made (with_unary op trees) rest
-made trees (inr (inr op) ∷ rest) = made (with_binary op trees) rest
+-- the tree that marks make after trees that are made
+abbrev pub tree_of_marks : List Tree → List Mark → Tree
+tree_of_marks trees [] = top trees
+tree_of_marks trees (inl (inl millionths) ∷ rest) = tree_of_marks (Number millionths ∷ trees) rest
+tree_of_marks trees (inl (inr index) ∷ rest) = tree_of_marks (Parameter index ∷ trees) rest
+tree_of_marks trees (inr (inl op) ∷ rest) = tree_of_marks (with_unary op trees) rest
+tree_of_marks trees (inr (inr op) ∷ rest) = tree_of_marks (with_binary op trees) rest
 
-pub made-marks : (t : Tree) (trees : List Tree) (rest : List Mark) → made trees (marks t rest) ≡ made (t ∷ trees) rest
+pub made-marks : (t : Tree) (trees : List Tree) (rest : List Mark) → tree_of_marks trees (marks t rest) ≡ tree_of_marks (t ∷ trees) rest
 made-marks (Number millionths) trees rest = refl
 made-marks (Parameter index) trees rest = refl
 made-marks (Indexed t) trees rest = made-marks t trees (inr (inl None) ∷ rest)
@@ -51,4 +51,4 @@ made-marks (Binary op a b) trees rest = made-marks a trees (marks b (inr (inr op
 abbrev pub tree_code : Coded Tree
 tree_code =
     code_by (List Mark) (coded_list (coded⊎ (coded⊎ coded_ℤ coded_ℕ) (coded⊎ (coded_option unary.the_row.coded) binary.the_row.coded)))
-    (λ t. marks t []) (made []) (λ t. made-marks t [] [])
+    (λ t. marks t []) (tree_of_marks []) (λ t. made-marks t [] [])

@@ -8,7 +8,7 @@ use Rattle.job_types.specs.declared.job.ZoneLine.{ZoneLine}
 use Rattle.job_verdict.specs.BoxView.{BoxView}
 use Rattle.job_verdict.specs.Channels.{positions_in}
 use Rattle.path_geometry.specs.Motions.{axes_of}
-use Rattle.job_verdict.specs.ZoneBoxes.{zone_box, low_in, high_in, after, moves_zone, walk, boxes_of, Waiting, Moving, PlaceBox, moving_box, standing_box, shown_box, boxes_during, moving_boxes}
+use Rattle.job_verdict.specs.ZoneBoxes.{zone_box, low_in, high_in, stand_after, moves_zone, walk, boxes_of, Waiting, Moving, PlaceBox, moving_box, standing_box, shown_box, boxes_during, moving_boxes}
 use Rattle.sync_types.specs.declared.Item.{Item}
 use Rattle.job_verdict.proofs.Positions.{le_or_lt}
 use Rattle.sync_types.specs.Items.{motion_of}
@@ -33,8 +33,8 @@ find_beyond (e ∷ ends) axis n within beyond = elim (eqb_tells e.0 axis) [
 
 -- where every axis of the row is put where a motion leaves it, so is every axis
 pub all_after : (item : Item) (old new : List ℤ) → All (λ e. e.0 < AXIS_LIMIT) (axes_of (motion_of item)) → length old ≡ AXIS_LIMIT → length new ≡ AXIS_LIMIT
-    → ((k : ℕ) → k < AXIS_LIMIT → positions_in new k ≡ after item (positions_in old) k) → (k : ℕ) → positions_in new k ≡ after item (positions_in old) k
-unfolding after
+    → ((k : ℕ) → k < AXIS_LIMIT → positions_in new k ≡ stand_after item (positions_in old) k) → (k : ℕ) → positions_in new k ≡ stand_after item (positions_in old) k
+unfolding stand_after
 all_after item old new within few many put k = elim (le_or_lt AXIS_LIMIT k) [
   | inl beyond ↦ rw (find_beyond (axes_of (motion_of item)) k AXIS_LIMIT within beyond) (get_or-eq_default new (pos 0) (omega arith) ∙ sym (get_or-eq_default old (pos 0) (omega arith)))
   | inr here ↦ put k here
@@ -62,18 +62,18 @@ shown_moving : (margin : ℤ) (zone : ZoneLine) (line place from : ℕ) (item : 
 unfolding shown_box boxes_during
 shown_moving margin zone line place from item began at [] = refl
 shown_moving margin zone line place from item began at (next ∷ items) =
-    after_moving (moves_zone zone next) (shown_box margin zone line) _ _ (moving_box margin zone item began) (moving_box margin zone next at) (moving_boxes margin zone (after next at) items)
-    (ap (λ (boxes : List BoxView). moving_box margin zone item began ∷ boxes) (shown_moving margin zone line (place + 1) place next at (after next at) items))
-    (shown_moving margin zone line (place + 1) from item began (after next at) items)
+    after_moving (moves_zone zone next) (shown_box margin zone line) _ _ (moving_box margin zone item began) (moving_box margin zone next at) (moving_boxes margin zone (stand_after next at) items)
+    (ap (λ (boxes : List BoxView). moving_box margin zone item began ∷ boxes) (shown_moving margin zone line (place + 1) place next at (stand_after next at) items))
+    (shown_moving margin zone line (place + 1) from item began (stand_after next at) items)
 
 shown_waiting : (margin : ℤ) (zone : ZoneLine) (line place from : ℕ) (began at : ℕ → ℤ) (items : List Item)
     → map (shown_box margin zone line) (walk zone place (Waiting from began) at items) ≡ or_standing (moving_boxes margin zone at items) (standing_box margin zone line began)
 unfolding shown_box boxes_during
 shown_waiting margin zone line place from began at [] = refl
 shown_waiting margin zone line place from began at (next ∷ items) =
-    after_waiting (moves_zone zone next) (shown_box margin zone line) _ _ (moving_box margin zone next at) (standing_box margin zone line began) (moving_boxes margin zone (after next at) items)
-    (shown_moving margin zone line (place + 1) from next at (after next at) items)
-    (shown_waiting margin zone line (place + 1) from began (after next at) items)
+    after_waiting (moves_zone zone next) (shown_box margin zone line) _ _ (moving_box margin zone next at) (standing_box margin zone line began) (moving_boxes margin zone (stand_after next at) items)
+    (shown_moving margin zone line (place + 1) from next at (stand_after next at) items)
+    (shown_waiting margin zone line (place + 1) from began (stand_after next at) items)
 
 -- a list that is not empty, and one that is
 pub filled : (xs : List BoxView) (box : BoxView) → (length xs == 0) ≡ false → xs ≡ or_standing xs box

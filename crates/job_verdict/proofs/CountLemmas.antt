@@ -19,7 +19,7 @@ use Rattle.job_verdict.specs.PairCounts.{count_in_stretches, count_against, coun
 use Rattle.job_verdict.specs.ShownStretches.{shown_stretch, held_zone, HeldView, do_overlap}
 use Rattle.job_verdict.specs.Stretches.{Stretch, spans_of, stretches_from, channel_line, free_stretch, stretches_of}
 use Rattle.job_verdict.specs.StretchView.{StretchView}
-use Rattle.job_verdict.specs.ZoneBoxes.{PlaceBox, Opened, Waiting, Moving, closed, next_open, walk, boxes_of, shown_box, after, moves_zone}
+use Rattle.job_verdict.specs.ZoneBoxes.{PlaceBox, Opened, Waiting, Moving, boxes_before, next_open, walk, boxes_of, shown_box, stand_after, moves_zone}
 use Rattle.sync_types.specs.declared.Item.{Item}
 use Rattle.job_types.specs.Zones.{zones_in_order, has_axis}
 use Rattle.job_types.specs.SoundJob.{IsRunnable}
@@ -126,15 +126,15 @@ count_is job runnable =
 walk_few : (zone : ZoneLine) (place : ℕ) (current : Opened) (at : ℕ → ℤ) (items : List Item) → length (walk zone place current at items) ≤ length items + 1
 walk_few zone place current at [] = omega arith
 walk_few zone place current at (item ∷ items) =
-    by_moves (moves_zone zone item) current (walk_few zone (place + 1) current (after item at) items)
-    (λ next. walk_few zone (place + 1) next (after item at) items)
+    by_moves (moves_zone zone item) current (walk_few zone (place + 1) current (stand_after item at) items)
+    (λ next. walk_few zone (place + 1) next (stand_after item at) items)
   where
     Few : List PlaceBox → Type 0
     Few boxes = length boxes ≤ length (item ∷ items) + 1
 
-    by_moves : (b : Bool) (current : Opened) → length (walk zone (place + 1) current (after item at) items) ≤ length items + 1
-        → ((next : Opened) → length (walk zone (place + 1) next (after item at) items) ≤ length items + 1)
-        → length (cond b (closed place current ++ walk zone (place + 1) (next_open place at current item) (after item at) items) (walk zone (place + 1) current (after item at) items)) ≤ length (item ∷ items) + 1
+    by_moves : (b : Bool) (current : Opened) → length (walk zone (place + 1) current (stand_after item at) items) ≤ length items + 1
+        → ((next : Opened) → length (walk zone (place + 1) next (stand_after item at) items) ≤ length items + 1)
+        → length (cond b (boxes_before place current ++ walk zone (place + 1) (next_open place at current item) (stand_after item at) items) (walk zone (place + 1) current (stand_after item at) items)) ≤ length (item ∷ items) + 1
     by_moves true (Waiting from began) same rest = let few = rest (Moving from item at) in omega arith
     by_moves true (Moving from before began) same rest = let few = rest (Moving place item at) in omega arith
     by_moves false current same rest = omega arith

@@ -15,7 +15,7 @@ use Rattle.sync_types.specs.Items.{end_in, left_at, motion_of}
 use Rattle.sync_types.proofs.Positions.{left_at-nil}
 use Rattle.job_verdict.specs.SmallSteps.{StandsAt, IsAlong, IsAtPlace}
 use Rattle.path_geometry.specs.Motions.{axes_of, IsSound, axis_end}
-use Rattle.job_verdict.specs.ZoneBoxes.{after, moves_zone, PlaceBox, Opened, Waiting, Moving, close, closed, next_open, walk, boxes_of}
+use Rattle.job_verdict.specs.ZoneBoxes.{stand_after, moves_zone, PlaceBox, Opened, Waiting, Moving, close, boxes_before, next_open, walk, boxes_of}
 use Rattle.sync_types.specs.declared.Item.{Item}
 use Rattle.job_types.specs.Zones.{has_axis}
 
@@ -26,7 +26,7 @@ abbrev pub standing : (ℕ → ℤ) → ℕ → Point
 standing positions under = record { top = λ axis. positions axis *ℤ pos under; under = under }
 
 -- an axis that a motion has not stays
-stays_there : (item : Item) (at : ℕ → ℤ) (axis : ℕ) → IsNone (end_in axis item) → after item at axis ≡ at axis
+stays_there : (item : Item) (at : ℕ → ℤ) (axis : ℕ) → IsNone (end_in axis item) → stand_after item at axis ≡ at axis
 stays_there item at axis none = after_is item at axis ∙ by_end (end_in axis item) none
   where
     by_end : (o : Option ℤ) → IsNone o → unwrap_or o (at axis) ≡ at axis
@@ -38,17 +38,17 @@ pub along_at_start : (at : ℕ → ℤ) (item : Item) (under : ℕ) → Joins at
 along_at_start at item under joins some = record { path = start_on_path (motion_of item) (standing at under) joins.0 some starts; others = λ axis none. refl }
   where
     starts : All (λ e. at e.0 *ℤ pos under ≡ e.1 *ℤ pos under) (axes_of (motion_of item))
-    starts = All-weaker (λ e. (e.1 ≡ at e.0) × (e.2 ≡ after item at e.0)) (λ e. at e.0 *ℤ pos under ≡ e.1 *ℤ pos under)
+    starts = All-weaker (λ e. (e.1 ≡ at e.0) × (e.2 ≡ stand_after item at e.0)) (λ e. at e.0 *ℤ pos under ≡ e.1 *ℤ pos under)
         (λ e joined. ap (λ x. x *ℤ pos under) (sym joined.0)) (axes_of (motion_of item)) joins.1
 
-pub along_at_end : (at : ℕ → ℤ) (item : Item) (under : ℕ) → Joins at item → 0 < under → IsAlong at item (standing (after item at) under)
+pub along_at_end : (at : ℕ → ℤ) (item : Item) (under : ℕ) → Joins at item → 0 < under → IsAlong at item (standing (stand_after item at) under)
 along_at_end at item under joins some = record {
-  path = end_on_path (motion_of item) (standing (after item at) under) joins.0 some ends_there;
+  path = end_on_path (motion_of item) (standing (stand_after item at) under) joins.0 some ends_there;
   others = λ axis none. ap (λ x. x *ℤ pos under) (stays_there item at axis none);
 }
   where
-    ends_there : All (λ e. after item at e.0 *ℤ pos under ≡ e.2 *ℤ pos under) (axes_of (motion_of item))
-    ends_there = All-weaker (λ e. (e.1 ≡ at e.0) × (e.2 ≡ after item at e.0)) (λ e. after item at e.0 *ℤ pos under ≡ e.2 *ℤ pos under)
+    ends_there : All (λ e. stand_after item at e.0 *ℤ pos under ≡ e.2 *ℤ pos under) (axes_of (motion_of item))
+    ends_there = All-weaker (λ e. (e.1 ≡ at e.0) × (e.2 ≡ stand_after item at e.0)) (λ e. stand_after item at e.0 *ℤ pos under ≡ e.2 *ℤ pos under)
         (λ e joined. ap (λ x. x *ℤ pos under) (sym joined.1)) (axes_of (motion_of item)) joins.1
 
 -- ---- boxes that cover a point
@@ -76,7 +76,7 @@ OpenCovers zone (Moving from item began) point = IsCovered zone began (Some item
 -- the zone's axes stand where the open box leaves them
 abbrev Fits : ZoneLine → Opened → (ℕ → ℤ) → Type 0
 Fits zone (Waiting from began) at = (axis : ℕ) → has_axis zone axis ≡ true → at axis ≡ began axis
-Fits zone (Moving from item began) at = Joins began item × ((axis : ℕ) → has_axis zone axis ≡ true → at axis ≡ after item began axis)
+Fits zone (Moving from item began) at = Joins began item × ((axis : ℕ) → has_axis zone axis ≡ true → at axis ≡ stand_after item began axis)
 
 closes : (zone : ZoneLine) (k : ℕ) (point : Point) (place : ℕ) (current : Opened) → from_of current ≤ k → k < place → OpenCovers zone current point
     → Covers zone k point (close place current)
@@ -89,7 +89,7 @@ stand_covered : (zone : ZoneLine) (current : Opened) (at : ℕ → ℤ) (point :
 stand_covered zone (Waiting from began) at point some fits stands = λ axis has. stands axis has ∙ ap (λ x. x *ℤ pos point.under) (fits axis has)
 stand_covered zone (Moving from item began) at point some fits stands = (
   fits.0.0,
-  standing (after item began) point.under,
+  standing (stand_after item began) point.under,
   along_at_end began item point.under fits.0 some,
   refl,
   λ axis has. sym (stands axis has ∙ ap (λ x. x *ℤ pos point.under) (fits.1 axis has)),
@@ -129,7 +129,7 @@ not_moved zone item axis none has =
     not_found (λ e. e.0 == axis) (axes_of (motion_of item)) (apart_axes zone axis has (axes_of (motion_of item)) none) in
     rw nothing refl
 
-fits_on : (zone : ZoneLine) (current : Opened) (at : ℕ → ℤ) (item : Item) → moves_zone zone item ≡ false → Fits zone current at → Fits zone current (after item at)
+fits_on : (zone : ZoneLine) (current : Opened) (at : ℕ → ℤ) (item : Item) → moves_zone zone item ≡ false → Fits zone current at → Fits zone current (stand_after item at)
 fits_on zone (Waiting from began) at item none fits = λ axis has. stays_there item at axis (not_moved zone item axis none has) ∙ fits axis has
 fits_on zone (Moving from before began) at item none fits = (fits.0, λ axis has. stays_there item at axis (not_moved zone item axis none has) ∙ fits.1 axis has)
 
@@ -142,14 +142,14 @@ kept : (zone : ZoneLine) (k : ℕ) (point : Point) → 0 < point.under → (plac
 kept zone k point some place current at [] joins fits low high covers = inl (closes zone k point place current low high covers)
 kept zone k point some place current at (item ∷ items) joins fits low high covers =
     by_moves (moves_zone zone item) refl current fits low covers
-    (λ current' fits' low' covers'. kept zone k point some (place + 1) current' (after item at) items joins.1 fits' low' (omega arith) covers')
+    (λ current' fits' low' covers'. kept zone k point some (place + 1) current' (stand_after item at) items joins.1 fits' low' (omega arith) covers')
   where
     Rest : Type 0
-    Rest = (current' : Opened) → Fits zone current' (after item at) → from_of current' ≤ k → OpenCovers zone current' point
-        → SomeOf (Covers zone k point) (walk zone (place + 1) current' (after item at) items)
+    Rest = (current' : Opened) → Fits zone current' (stand_after item at) → from_of current' ≤ k → OpenCovers zone current' point
+        → SomeOf (Covers zone k point) (walk zone (place + 1) current' (stand_after item at) items)
 
     by_moves : (b : Bool) → moves_zone zone item ≡ b → (current : Opened) → Fits zone current at → from_of current ≤ k → OpenCovers zone current point → Rest
-        → SomeOf (Covers zone k point) (cond b (closed place current ++ walk zone (place + 1) (next_open place at current item) (after item at) items) (walk zone (place + 1) current (after item at) items))
+        → SomeOf (Covers zone k point) (cond b (boxes_before place current ++ walk zone (place + 1) (next_open place at current item) (stand_after item at) items) (walk zone (place + 1) current (stand_after item at) items))
     by_moves true moves (Waiting from began) fits low covers rest =
         rest (Moving from item at) (joins.0, λ axis has. refl) low
         (start_covered zone item at point some joins.0 (λ axis has. covers axis has ∙ ap (λ x. x *ℤ pos point.under) (sym (fits axis has))))
@@ -170,24 +170,24 @@ at_motion zone point some place current at (first ∷ items) joins fits low zero
     by_moves (moves_zone zone first) refl current fits low here
   where
     by_moves : (b : Bool) → moves_zone zone first ≡ b → (current : Opened) → Fits zone current at → from_of current ≤ place → IsAlong at first point
-        → SomeOf (Covers zone k point) (cond b (closed place current ++ walk zone (place + 1) (next_open place at current first) (after first at) items) (walk zone (place + 1) current (after first at) items))
+        → SomeOf (Covers zone k point) (cond b (boxes_before place current ++ walk zone (place + 1) (next_open place at current first) (stand_after first at) items) (walk zone (place + 1) current (stand_after first at) items))
     by_moves true moves (Waiting from began) fits low here =
-        kept zone k point some (place + 1) (Moving from first at) (after first at) items joins.1 (joins.0, λ axis has. refl) (omega arith) (omega arith) (joins.0.0, point, here, refl, λ axis has. refl)
+        kept zone k point some (place + 1) (Moving from first at) (stand_after first at) items joins.1 (joins.0, λ axis has. refl) (omega arith) (omega arith) (joins.0.0, point, here, refl, λ axis has. refl)
     by_moves true moves (Moving from before began) fits low here =
-        inr (kept zone k point some (place + 1) (Moving place first at) (after first at) items joins.1 (joins.0, λ axis has. refl) (omega arith) (omega arith) (joins.0.0, point, here, refl, λ axis has. refl))
+        inr (kept zone k point some (place + 1) (Moving place first at) (stand_after first at) items joins.1 (joins.0, λ axis has. refl) (omega arith) (omega arith) (joins.0.0, point, here, refl, λ axis has. refl))
     by_moves false moves current fits low here =
-        kept zone k point some (place + 1) current (after first at) items joins.1 (fits_on zone current at first moves fits) (omega arith) (omega arith)
+        kept zone k point some (place + 1) current (stand_after first at) items joins.1 (fits_on zone current at first moves fits) (omega arith) (omega arith)
         (stand_covered zone current at point some fits (λ axis has. here.others axis (not_moved zone first axis moves has)))
 at_motion zone point some place current at (first ∷ items) joins fits low (suc m) k is item found on =
     by_moves (moves_zone zone first) refl current fits low
-    (λ current' fits' low'. at_motion zone point some (place + 1) current' (after first at) items joins.1 fits' low' m k (omega arith) item found
-    (IsAlong-same (left_at (first ∷ take m items) at) (left_at (take m items) (after first at)) (left_at-cons first (take m items) at) item point on))
+    (λ current' fits' low'. at_motion zone point some (place + 1) current' (stand_after first at) items joins.1 fits' low' m k (omega arith) item found
+    (IsAlong-same (left_at (first ∷ take m items) at) (left_at (take m items) (stand_after first at)) (left_at-cons first (take m items) at) item point on))
   where
     Rest : Type 0
-    Rest = (current' : Opened) → Fits zone current' (after first at) → from_of current' ≤ place + 1 → SomeOf (Covers zone k point) (walk zone (place + 1) current' (after first at) items)
+    Rest = (current' : Opened) → Fits zone current' (stand_after first at) → from_of current' ≤ place + 1 → SomeOf (Covers zone k point) (walk zone (place + 1) current' (stand_after first at) items)
 
     by_moves : (b : Bool) → moves_zone zone first ≡ b → (current : Opened) → Fits zone current at → from_of current ≤ place → Rest
-        → SomeOf (Covers zone k point) (cond b (closed place current ++ walk zone (place + 1) (next_open place at current first) (after first at) items) (walk zone (place + 1) current (after first at) items))
+        → SomeOf (Covers zone k point) (cond b (boxes_before place current ++ walk zone (place + 1) (next_open place at current first) (stand_after first at) items) (walk zone (place + 1) current (stand_after first at) items))
     by_moves true moves (Waiting from began) fits low rest = rest (Moving from first at) (joins.0, λ axis has. refl) (omega arith)
     by_moves true moves (Moving from before began) fits low rest = inr (rest (Moving place first at) (joins.0, λ axis has. refl) (omega arith))
     by_moves false moves current fits low rest = rest current (fits_on zone current at first moves fits) (omega arith)

@@ -16,10 +16,10 @@ use Rattle.job_verdict.proofs.ZoneLemmas.{some_at}
 use Rattle.job_verdict.specs.Channels.{items_of}
 use Rattle.job_verdict.specs.Safety.{CanEnd}
 use Rattle.sync_types.specs.Items.{left_at, motion_of}
-use Rattle.job_verdict.specs.SmallSteps.{IsAlong, IsEndOf, IsAtPlace, IsAtEnd, Spot, State, opening, span_of, has_ended, is_running, motions_of, board_position, present, SmallStep, Advance, Act, after_step, IsLawful, AreLawful, reached}
+use Rattle.job_verdict.specs.SmallSteps.{IsAlong, IsEndOf, IsAtPlace, IsAtEnd, Spot, State, opening, span_of, has_ended, is_running, motions_of, board_position, present_spot, SmallStep, Advance, Act, after_step, IsLawful, AreLawful, state_after_all}
 use Rattle.job_verdict.specs.Stretches.{channel_line}
 use Rattle.path_geometry.specs.Motions.{axes_of}
-use Rattle.job_verdict.specs.ZoneBoxes.{after}
+use Rattle.job_verdict.specs.ZoneBoxes.{stand_after}
 use Rattle.sync_types.specs.declared.Item.{Item}
 use Rattle.job_types.specs.Axes.{start_position}
 
@@ -52,12 +52,12 @@ last_end at items joins place long = of_item (some_at items place (omega arith))
         let before = left_at (take place items) at in
         let joined = joins_at at items joins place item is in
         let less : suc place - 1 ≡ place = omega arith in (
-          standing (after item before) 1,
-          subst (λ (o : Option Item). IsSomeAnd o (λ i. IsAlong before i (standing (after item before) 1))) (sym is) (along_at_end before item 1 joined (omega arith)),
+          standing (stand_after item before) 1,
+          subst (λ (o : Option Item). IsSomeAnd o (λ i. IsAlong before i (standing (stand_after item before) 1))) (sym is) (along_at_end before item 1 joined (omega arith)),
           (
             sym long,
-            subst (λ (o : Option Item). IfSome o (λ i. IsEndOf i (standing (after item before) 1))) (sym (ap (slice_get items) less ∙ is))
-                (All-weaker (λ e. (e.1 ≡ before e.0) × (e.2 ≡ after item before e.0)) (λ e. after item before e.0 *ℤ pos 1 ≡ e.2 *ℤ pos 1)
+            subst (λ (o : Option Item). IfSome o (λ i. IsEndOf i (standing (stand_after item before) 1))) (sym (ap (slice_get items) less ∙ is))
+                (All-weaker (λ e. (e.1 ≡ before e.0) × (e.2 ≡ stand_after item before e.0)) (λ e. stand_after item before e.0 *ℤ pos 1 ≡ e.2 *ℤ pos 1)
                 (λ e at_end. ap (λ x. x *ℤ pos 1) (sym at_end.1)) (axes_of (motion_of item)) joined.1),
           ),
         )
@@ -66,17 +66,17 @@ last_end at items joins place long = of_item (some_at items place (omega arith))
 
 -- at the end a channel acts
 CanEndFrom : JobView → State → ℕ → Type 0
-CanEndFrom job state channel = (more : List SmallStep) × AreLawful job state more × (has_ended (reached state more) channel ≡ true)
+CanEndFrom job state channel = (more : List SmallStep) × AreLawful job state more × (has_ended (state_after_all state more) channel ≡ true)
 
 acts : (job : JobView) (state : State) (channel : ℕ) → IsTrue (is_running job state channel)
-    → IsAtEnd (motions_of job channel) (present job state channel).place (present job state channel).point → CanEndFrom job state channel
+    → IsAtEnd (motions_of job channel) (present_spot job state channel).place (present_spot job state channel).point → CanEndFrom job state channel
 unfolding CanEndFrom IsLawful
 acts job state channel running end = (Act channel ∷ [], ((running, end), tt), has_acted state channel)
 
 -- it is where it has advanced to, and still runs
 is_there : (job : JobView) (state : State) (channel place : ℕ) (point : Point)
-    → present job (after_step state (Advance channel place point)) channel ≡ record { span = span_of state channel; place = place; point = point }
-unfolding present after_step span_of
+    → present_spot job (after_step state (Advance channel place point)) channel ≡ record { span = span_of state channel; place = place; point = point }
+unfolding present_spot after_step span_of
 is_there job state channel place point = rw (eq-eqb channel channel refl, eq-eqb (span_of state channel) (span_of state channel) refl) refl
 
 runs_on : (job : JobView) (state : State) (channel place : ℕ) (point : Point) → IsTrue (is_running job state channel)
@@ -86,7 +86,7 @@ runs_on job state channel place point running = running
 
 -- it advances to the end of its last motion and acts there
 advances : (job : JobView) (state : State) → WellPlaced job state → (channel : ℕ) → IsTrue (is_running job state channel)
-    → (place : ℕ) (point : Point) → (present job state channel).place ≤ place → IsAtPlace (start_position job) (motions_of job channel) place point
+    → (place : ℕ) (point : Point) → (present_spot job state channel).place ≤ place → IsAtPlace (start_position job) (motions_of job channel) place point
     → IsAtEnd (motions_of job channel) place point → CanEndFrom job state channel
 unfolding CanEndFrom IsLawful
 advances job state placed channel running place point on there end =
@@ -101,17 +101,17 @@ advances job state placed channel running place point on there end =
 goes_on : (job : JobView) → IsSoundJob job → (state : State) → WellPlaced job state → (channel : ℕ) → IsTrue (is_running job state channel) → CanEndFrom job state channel
 goes_on job sound state placed channel running = by_length (length (motions_of job channel)) refl
   where
-    here : IsAtPlace (start_position job) (motions_of job channel) (present job state channel).place (present job state channel).point
+    here : IsAtPlace (start_position job) (motions_of job channel) (present_spot job state channel).place (present_spot job state channel).point
     here = run_place job state channel placed (not_ended job state channel running)
 
-    within : (present job state channel).place ≤ length (motions_of job channel)
-    within = place_within (start_position job) (motions_of job channel) (present job state channel).place (present job state channel).point here
+    within : (present_spot job state channel).place ≤ length (motions_of job channel)
+    within = place_within (start_position job) (motions_of job channel) (present_spot job state channel).place (present_spot job state channel).point here
 
     by_length : (n : ℕ) → length (motions_of job channel) ≡ n → CanEndFrom job state channel
-    by_length zero none = advances job state placed channel running (present job state channel).place (present job state channel).point (omega arith) here
-        (omega (arith, within), no_last (motions_of job channel) none ((present job state channel).place - 1))
+    by_length zero none = advances job state placed channel running (present_spot job state channel).place (present_spot job state channel).point (omega arith) here
+        (omega (arith, within), no_last (motions_of job channel) none ((present_spot job state channel).place - 1))
       where
-        no_last : (items : List Item) → length items ≡ 0 → (k : ℕ) → IfSome (slice_get items k) (λ item. IsEndOf item (present job state channel).point)
+        no_last : (items : List Item) → length items ≡ 0 → (k : ℕ) → IfSome (slice_get items k) (λ item. IsEndOf item (present_spot job state channel).point)
         no_last [] long k = tt
         no_last (item ∷ items) long k = absurd cc
     by_length (suc n) long =
@@ -120,4 +120,4 @@ goes_on job sound state placed channel running = by_length (length (motions_of j
 
 pub can_end : (job : JobView) → IsSoundJob job → CanEnd job
 unfolding CanEnd CanEndFrom
-can_end job sound steps lawful channel running = goes_on job sound (reached opening steps) (well_placed job opening steps (WellPlaced-opening job) lawful) channel running
+can_end job sound steps lawful channel running = goes_on job sound (state_after_all opening steps) (well_placed job opening steps (WellPlaced-opening job) lawful) channel running

@@ -19,7 +19,7 @@ use Rattle.job_verdict.specs.FirstAnswer.{first_some}
 use Rattle.job_verdict.specs.Clash.{own_clock, is_open_at, may_overlap, pairs_by_group, zone_pairs, BoxPlace, box_pairs, stretch_pairs, pairs_of_zones, compared_pairs, pair_meets, name_of, pairs_verdict}
 use Rattle.sync_types.specs.Items.{left_at}
 use Rattle.job_verdict.specs.PieceTests.{do_meet}
-use Rattle.job_verdict.specs.ShownStretches.{measure_of, lines_of, run_stretch, end_stretch, shown_stretch, held_zone, share_channel, are_run_and_end, do_overlap, first_touched, first_lines, named, first_in_stretches, first_against, first_of_zones, first_meeting, verdict_by}
+use Rattle.job_verdict.specs.ShownStretches.{measure_of, lines_of, run_stretch, end_stretch, shown_stretch, held_zone, share_channel, are_run_and_end, do_overlap, first_touched, first_lines, place_name, first_in_stretches, first_against, first_of_zones, first_meeting, verdict_by}
 use Rattle.job_verdict.specs.Stretches.{Event, Stretch, spans_of, stretches_from, channel_line, free_stretch, stretches_of}
 use Rattle.job_verdict.specs.StretchView.{StretchView}
 use Rattle.job_verdict.specs.ZoneBoxes.{IsFit, PlaceBox, boxes_of, shown_box, moving_box, standing_box, moves_zone}
@@ -94,17 +94,17 @@ pair_by_pieces job zone other s t l r p q = meets_by_pieces (measure_of job) zon
 
 -- and named by the lines that they show
 name_by_line : (job : JobView) (zone : ZoneLine) (s : Stretch) (box : PlaceBox)
-    → name_of (record { zone = zone; stretch = s; box = box }) ≡ named zone (shown_stretch job zone s) (shown_box job.margin zone s.line box).line
+    → name_of (record { zone = zone; stretch = s; box = box }) ≡ place_name zone (shown_stretch job zone s) (shown_box job.margin zone s.line box).line
 unfolding name_of shown_stretch shown_box moving_box standing_box
 name_by_line job zone s box = go box.motion refl
   where
-    go : (m : Option Item) → box.motion ≡ m → name_of (record { zone = zone; stretch = s; box = box }) ≡ named zone (shown_stretch job zone s) (shown_box job.margin zone s.line box).line
+    go : (m : Option Item) → box.motion ≡ m → name_of (record { zone = zone; stretch = s; box = box }) ≡ place_name zone (shown_stretch job zone s) (shown_box job.margin zone s.line box).line
     go None k = rw k refl
     go (Some item) k = rw k refl
 
 -- the names of two boxes of these stretches with these lines
 abbrev named_by : JobView → ZoneLine → Stretch → ZoneLine → Stretch → ℕ × ℕ → PlaceName × PlaceName
-named_by job zone s other t lines = (named zone (shown_stretch job zone s) lines.0, named other (shown_stretch job other t) lines.1)
+named_by job zone s other t lines = (place_name zone (shown_stretch job zone s) lines.0, place_name other (shown_stretch job other t) lines.1)
 
 names_by_lines : (job : JobView) (zone other : ZoneLine) (s t : Stretch) (l r : PlaceBox)
     → names_of (pair_of zone s l other t r) ≡ named_by job zone s other t ((shown_box job.margin zone s.line l).line, (shown_box job.margin other t.line r).line)

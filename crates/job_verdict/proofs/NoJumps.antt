@@ -16,10 +16,10 @@ use Rattle.job_verdict.specs.Channels.{items_of}
 use Rattle.job_verdict.specs.Safety.{axis_owner, axis_position, fraction_of, NoJump}
 use Rattle.sync_types.specs.Items.{end_in, left_at, motion_of}
 use Rattle.sync_types.proofs.Positions.{left_at-nil}
-use Rattle.job_verdict.specs.SmallSteps.{StandsAt, IsAlong, IsEndOf, IsAtPlace, IsAtEnd, Spot, State, opening, span_of, has_ended, motions_of, board_position, beginning, present, Act, after_step, IsLawful, reached}
+use Rattle.job_verdict.specs.SmallSteps.{StandsAt, IsAlong, IsEndOf, IsAtPlace, IsAtEnd, Spot, State, opening, span_of, has_ended, motions_of, board_position, beginning, present_spot, Act, after_step, IsLawful, state_after_all}
 use Rattle.job_verdict.specs.Stretches.{channel_line}
 use Rattle.path_geometry.specs.Motions.{axes_of, axis_end}
-use Rattle.job_verdict.specs.ZoneBoxes.{after}
+use Rattle.job_verdict.specs.ZoneBoxes.{stand_after}
 use Rattle.sync_types.specs.declared.Item.{Item}
 use Rattle.job_types.specs.Axes.{start_position}
 
@@ -43,13 +43,13 @@ left_at-last : (items : List Item) (at : ℕ → ℤ) (n : ℕ) (item : Item) �
 left_at-last [] at n item long is axis = absurd cc
 left_at-last (first ∷ []) at zero item long is axis =
     let same : first ≡ item = cc in
-    left_at-cons first [] at axis ∙ left_at-nil (after first at) axis ∙ after_is first at axis
+    left_at-cons first [] at axis ∙ left_at-nil (stand_after first at) axis ∙ after_is first at axis
     ∙ ap (λ d. unwrap_or (end_in axis first) d) (sym (left_at-nil at axis)) ∙ ap (λ (i : Item). unwrap_or (end_in axis i) (left_at [] at axis)) same
 left_at-last (first ∷ []) at (suc n) item long is axis = absurd cc
 left_at-last (first ∷ next ∷ items) at zero item long is axis = absurd (omega arith)
 left_at-last (first ∷ next ∷ items) at (suc n) item long is axis =
     left_at-cons first (next ∷ items) at axis
-    ∙ left_at-last (next ∷ items) (after first at) n item (omega arith) is axis
+    ∙ left_at-last (next ∷ items) (stand_after first at) n item (omega arith) is axis
     ∙ ap (λ d. unwrap_or (end_in axis item) d) (sym (left_at-cons first (take n (next ∷ items)) at axis))
 
 -- at the end of a motion its axes are at its ends, and the others where they stood
@@ -113,25 +113,25 @@ place_by job channel spot n =
     option_map_or (λ s. cond (s.span == n) s start) spot start
 
 -- an act changes where no other channel is
-other_stays : (job : JobView) (state : State) (channel other : ℕ) → (other ≡ channel → ⊥) → present job (after_step state (Act channel)) other ≡ present job state other
-unfolding present beginning board_position has_ended after_step
+other_stays : (job : JobView) (state : State) (channel other : ℕ) → (other ≡ channel → ⊥) → present_spot job (after_step state (Act channel)) other ≡ present_spot job state other
+unfolding present_spot beginning board_position has_ended after_step
 other_stays job state channel other apart = ap (place_by job other (state.spots other)) (span_stays state channel other apart)
 
 -- it leaves the axes of its own channel where they are
 acts_in_place : (job : JobView) (state : State) → WellPlaced job state → (channel : ℕ) → IsLawful job state (Act channel) → (axis : ℕ)
-    → IsSame (fraction_of (present job state channel).point axis) (fraction_of (present job (after_step state (Act channel)) channel).point axis)
+    → IsSame (fraction_of (present_spot job state channel).point axis) (fraction_of (present_spot job (after_step state (Act channel)) channel).point axis)
 unfolding IsLawful beginning
 acts_in_place job state placed channel (running, end) axis =
-    let before : StandsAt (present job state channel).point axis (left_at (motions_of job channel) (start_position job) axis) =
-    stands_at_end (motions_of job channel) (start_position job) (present job state channel).place (present job state channel).point
+    let before : StandsAt (present_spot job state channel).point axis (left_at (motions_of job channel) (start_position job) axis) =
+    stands_at_end (motions_of job channel) (start_position job) (present_spot job state channel).place (present_spot job state channel).point
     (run_place job state channel placed (not_ended job state channel running)) end axis in
     let next = after_step state (Act channel) in
     let ended = has_acted state channel in
     let placed_next : WellPlaced job next = WellPlaced-step job state (Act channel) placed (running, end) in
-    let after : present job next channel ≡ beginning job next channel = end_place job next channel placed_next ended in
-    let u = (present job state channel).point.under in
-    subst (λ (s : Spot). IsSame (fraction_of (present job state channel).point axis) (fraction_of s.point axis)) (sym after)
-    (sym (one_under ((present job state channel).point.top axis)) ∙ before ∙ ap (λ (p : ℕ → ℤ). p axis *ℤ pos u) (sym (board_last job next channel ended)))
+    let stand_after : present_spot job next channel ≡ beginning job next channel = end_place job next channel placed_next ended in
+    let u = (present_spot job state channel).point.under in
+    subst (λ (s : Spot). IsSame (fraction_of (present_spot job state channel).point axis) (fraction_of s.point axis)) (sym stand_after)
+    (sym (one_under ((present_spot job state channel).point.top axis)) ∙ before ∙ ap (λ (p : ℕ → ℤ). p axis *ℤ pos u) (sym (board_last job next channel ended)))
 
 jumps_nowhere : (job : JobView) (state : State) → WellPlaced job state → (channel : ℕ) → IsLawful job state (Act channel) → (axis : ℕ)
     → IsSame (axis_position job state axis) (axis_position job (after_step state (Act channel)) axis)
@@ -139,20 +139,20 @@ unfolding axis_position axis_owner
 jumps_nowhere job state placed channel lawful axis = by_owner (axis_owner job state axis)
   where
     by_channel : (owner : ℕ) → (owner ≡ channel) ⊎ (owner ≡ channel → ⊥)
-        → IsSame (fraction_of (present job state owner).point axis) (fraction_of (present job (after_step state (Act channel)) owner).point axis)
+        → IsSame (fraction_of (present_spot job state owner).point axis) (fraction_of (present_spot job (after_step state (Act channel)) owner).point axis)
     by_channel owner (inl same) =
-        subst (λ c. IsSame (fraction_of (present job state c).point axis) (fraction_of (present job (after_step state (Act channel)) c).point axis)) (sym same)
+        subst (λ c. IsSame (fraction_of (present_spot job state c).point axis) (fraction_of (present_spot job (after_step state (Act channel)) c).point axis)) (sym same)
         (acts_in_place job state placed channel lawful axis)
     by_channel owner (inr apart) =
-        subst (λ (s : Spot). IsSame (fraction_of (present job state owner).point axis) (fraction_of s.point axis)) (sym (other_stays job state channel owner apart)) refl
+        subst (λ (s : Spot). IsSame (fraction_of (present_spot job state owner).point axis) (fraction_of s.point axis)) (sym (other_stays job state channel owner apart)) refl
 
-    by_owner : (o : Option ℕ) → IsSame (option_map_or (λ owner. fraction_of (present job state owner).point axis) o (whole (start_position job axis)))
-        (option_map_or (λ owner. fraction_of (present job (after_step state (Act channel)) owner).point axis) o (whole (start_position job axis)))
+    by_owner : (o : Option ℕ) → IsSame (option_map_or (λ owner. fraction_of (present_spot job state owner).point axis) o (whole (start_position job axis)))
+        (option_map_or (λ owner. fraction_of (present_spot job (after_step state (Act channel)) owner).point axis) o (whole (start_position job axis)))
     by_owner None = refl
     by_owner (Some owner) = by_channel owner (cases_eq owner channel)
 
 pub never_jumps : (job : JobView) → IsSoundJob job → NoJump job
 never_jumps job sound = record {
   between = begins_there job sound;
-  at_act = λ steps lawful channel act axis. jumps_nowhere job (reached opening steps) (well_placed job opening steps (WellPlaced-opening job) lawful) channel act axis;
+  at_act = λ steps lawful channel act axis. jumps_nowhere job (state_after_all opening steps) (well_placed job opening steps (WellPlaced-opening job) lawful) channel act axis;
 }

@@ -17,41 +17,41 @@ use Rattle.job_types.specs.declared.job.ZoneLine.{ZoneLine}
 use Rattle.swept_boxes.proofs.MeetTests.{touch_of, touch_passes}
 use Rattle.job_verdict.specs.BoxView.{BoxView, MovesSoundly}
 use Rattle.job_verdict.specs.PieceTests.{piece_low, piece_high, by_direction, piece_box, touches, do_meet}
-use Rattle.job_verdict.specs.ZoneBoxes.{carried, carried_low, carried_high, side_low, side_high, zone_box, box_of, low_in, high_in, PlaceBox, piece_boxes, moving_box, standing_box, shown_box}
+use Rattle.job_verdict.specs.ZoneBoxes.{carried_bound, carried_low, carried_high, side_low, side_high, zone_box, box_of, low_in, high_in, PlaceBox, piece_boxes, moving_box, standing_box, shown_box}
 use Rattle.job_verdict.specs.declared.pieces.Measure.{Measure}
 use Rattle.sync_types.specs.Items.{motion_of}
 use Rattle.sync_types.specs.declared.Item.{Item}
 
 -- ---- a side
 
-carried_low_is : (bound : ℤ) (axis : ℕ) (minus : Bool) (low high : ℕ → ℤ) → carried_low (Some (axis, minus)) bound low high ≡ carried bound (cond minus (high axis) (low axis)) minus
+carried_low_is : (bound : ℤ) (axis : ℕ) (minus : Bool) (low high : ℕ → ℤ) → carried_low (Some (axis, minus)) bound low high ≡ carried_bound bound (cond minus (high axis) (low axis)) minus
 carried_low_is bound axis true low high = refl
 carried_low_is bound axis false low high = refl
 
-carried_high_is : (bound : ℤ) (axis : ℕ) (minus : Bool) (low high : ℕ → ℤ) → carried_high (Some (axis, minus)) bound low high ≡ carried bound (cond minus (low axis) (high axis)) minus
+carried_high_is : (bound : ℤ) (axis : ℕ) (minus : Bool) (low high : ℕ → ℤ) → carried_high (Some (axis, minus)) bound low high ≡ carried_bound bound (cond minus (low axis) (high axis)) minus
 carried_high_is bound axis true low high = refl
 carried_high_is bound axis false low high = refl
 
 -- the bounds of a side that an axis carries, which is between these two positions
 pub side_low_is : (margin : ℤ) (side : Side) (low high : ℕ → ℤ) (axis : ℕ) (minus : Bool) (least most bound : ℤ) → side.carrier ≡ Some (axis, minus)
-    → least ≡ low axis → most ≡ high axis → bound ≡ carried (side.lo -ℤ margin) (cond minus most least) minus → bound ≡ side_low margin low high side
+    → least ≡ low axis → most ≡ high axis → bound ≡ carried_bound (side.lo -ℤ margin) (cond minus most least) minus → bound ≡ side_low margin low high side
 unfolding side_low
 side_low_is margin side low high axis minus least most bound carrier l h is = rw carrier (is ∙ rw (l, h) (sym (carried_low_is (side.lo -ℤ margin) axis minus low high)))
 
 pub side_high_is : (margin : ℤ) (side : Side) (low high : ℕ → ℤ) (axis : ℕ) (minus : Bool) (least most bound : ℤ) → side.carrier ≡ Some (axis, minus)
-    → least ≡ low axis → most ≡ high axis → bound ≡ carried (side.hi +ℤ margin) (cond minus least most) minus → bound ≡ side_high margin low high side
+    → least ≡ low axis → most ≡ high axis → bound ≡ carried_bound (side.hi +ℤ margin) (cond minus least most) minus → bound ≡ side_high margin low high side
 unfolding side_high
 side_high_is margin side low high axis minus least most bound carrier l h is = rw carrier (is ∙ rw (l, h) (sym (carried_high_is (side.hi +ℤ margin) axis minus low high)))
 
 -- the same of a side whose carrier is in the piece
 pub low_within : (margin : ℤ) (ranges : RangesView) (side : Side) (cover : ℤ) (axis : ℕ) (minus : Bool) (name : ℕ) (least most bound : ℤ) → side.carrier ≡ Some (axis, minus)
-    → Some (name, least, most) ≡ find (λ r. r.0 == axis) ranges.axes → bound ≡ carried (side.lo -ℤ margin) (cond minus most least) minus → bound ≡ piece_low margin ranges side cover
+    → Some (name, least, most) ≡ find (λ r. r.0 == axis) ranges.axes → bound ≡ carried_bound (side.lo -ℤ margin) (cond minus most least) minus → bound ≡ piece_low margin ranges side cover
 unfolding piece_low side_low
 low_within margin ranges side cover axis minus name least most bound carrier found is =
     rw (carrier, ← found) (is ∙ sym (carried_low_is (side.lo -ℤ margin) axis minus (λ a. least) (λ a. most)))
 
 pub high_within : (margin : ℤ) (ranges : RangesView) (side : Side) (cover : ℤ) (axis : ℕ) (minus : Bool) (name : ℕ) (least most bound : ℤ) → side.carrier ≡ Some (axis, minus)
-    → Some (name, least, most) ≡ find (λ r. r.0 == axis) ranges.axes → bound ≡ carried (side.hi +ℤ margin) (cond minus least most) minus → bound ≡ piece_high margin ranges side cover
+    → Some (name, least, most) ≡ find (λ r. r.0 == axis) ranges.axes → bound ≡ carried_bound (side.hi +ℤ margin) (cond minus least most) minus → bound ≡ piece_high margin ranges side cover
 unfolding piece_high side_high
 high_within margin ranges side cover axis minus name least most bound carrier found is =
     rw (carrier, ← found) (is ∙ sym (carried_high_is (side.hi +ℤ margin) axis minus (λ a. least) (λ a. most)))
@@ -109,10 +109,10 @@ piece_low_is margin ranges cover at lie side = by_carrier side.carrier refl
   where
     by_range : (axis : ℕ) (minus : Bool) (o : Option (ℕ × ℤ × ℤ)) → find (λ r. r.0 == axis) ranges.axes ≡ o → side.carrier ≡ Some (axis, minus)
         → piece_low margin ranges side (side_low margin (low_in cover at) (high_in cover at) side) ≡ side_low margin (low_in ranges at) (high_in ranges at) side
-    by_range axis true None is carried = let none : find (λ r. r.0 == axis) cover.axes ≡ None = absent ranges.axes cover.axes axis lie is in rw (carried, is, none) refl
-    by_range axis false None is carried = let none : find (λ r. r.0 == axis) cover.axes ≡ None = absent ranges.axes cover.axes axis lie is in rw (carried, is, none) refl
-    by_range axis true (Some r) is carried = rw (carried, is) refl
-    by_range axis false (Some r) is carried = rw (carried, is) refl
+    by_range axis true None is carried_bound = let none : find (λ r. r.0 == axis) cover.axes ≡ None = absent ranges.axes cover.axes axis lie is in rw (carried_bound, is, none) refl
+    by_range axis false None is carried_bound = let none : find (λ r. r.0 == axis) cover.axes ≡ None = absent ranges.axes cover.axes axis lie is in rw (carried_bound, is, none) refl
+    by_range axis true (Some r) is carried_bound = rw (carried_bound, is) refl
+    by_range axis false (Some r) is carried_bound = rw (carried_bound, is) refl
 
     by_carrier : (o : Option (ℕ × Bool)) → side.carrier ≡ o
         → piece_low margin ranges side (side_low margin (low_in cover at) (high_in cover at) side) ≡ side_low margin (low_in ranges at) (high_in ranges at) side
@@ -126,10 +126,10 @@ piece_high_is margin ranges cover at lie side = by_carrier side.carrier refl
   where
     by_range : (axis : ℕ) (minus : Bool) (o : Option (ℕ × ℤ × ℤ)) → find (λ r. r.0 == axis) ranges.axes ≡ o → side.carrier ≡ Some (axis, minus)
         → piece_high margin ranges side (side_high margin (low_in cover at) (high_in cover at) side) ≡ side_high margin (low_in ranges at) (high_in ranges at) side
-    by_range axis true None is carried = let none : find (λ r. r.0 == axis) cover.axes ≡ None = absent ranges.axes cover.axes axis lie is in rw (carried, is, none) refl
-    by_range axis false None is carried = let none : find (λ r. r.0 == axis) cover.axes ≡ None = absent ranges.axes cover.axes axis lie is in rw (carried, is, none) refl
-    by_range axis true (Some r) is carried = rw (carried, is) refl
-    by_range axis false (Some r) is carried = rw (carried, is) refl
+    by_range axis true None is carried_bound = let none : find (λ r. r.0 == axis) cover.axes ≡ None = absent ranges.axes cover.axes axis lie is in rw (carried_bound, is, none) refl
+    by_range axis false None is carried_bound = let none : find (λ r. r.0 == axis) cover.axes ≡ None = absent ranges.axes cover.axes axis lie is in rw (carried_bound, is, none) refl
+    by_range axis true (Some r) is carried_bound = rw (carried_bound, is) refl
+    by_range axis false (Some r) is carried_bound = rw (carried_bound, is) refl
 
     by_carrier : (o : Option (ℕ × Bool)) → side.carrier ≡ o
         → piece_high margin ranges side (side_high margin (low_in cover at) (high_in cover at) side) ≡ side_high margin (low_in ranges at) (high_in ranges at) side

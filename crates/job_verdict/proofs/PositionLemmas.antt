@@ -9,7 +9,7 @@ use Rattle.std.specs.Option.{option_map_or}
 use Rattle.sync_types.specs.Items.{end_in, left_at, motion_of}
 use Rattle.sync_types.proofs.Positions.{left_at-nil}
 use Rattle.path_geometry.specs.Motions.{axes_of, IsSound, axis_end}
-use Rattle.job_verdict.specs.ZoneBoxes.{after}
+use Rattle.job_verdict.specs.ZoneBoxes.{stand_after}
 use Rattle.sync_types.specs.declared.Item.{Item}
 
 -- ---- the last of a list
@@ -29,15 +29,15 @@ unwrap_or-last_or o (x ∷ xs) d = last_of_some x d (unwrap_or o d) xs
 
 -- ---- one motion after another
 
-pub after_is : (item : Item) (at : ℕ → ℤ) (axis : ℕ) → after item at axis ≡ unwrap_or (end_in axis item) (at axis)
-unfolding after axis_end
+pub after_is : (item : Item) (at : ℕ → ℤ) (axis : ℕ) → stand_after item at axis ≡ unwrap_or (end_in axis item) (at axis)
+unfolding stand_after axis_end
 after_is item at axis = by_found (find (λ e. e.0 == axis) (axes_of (motion_of item)))
   where
     by_found : (o : Option (ℕ × ℤ × ℤ)) → option_map_or (λ e. e.2) o (at axis) ≡ unwrap_or (option_map (λ e. e.2) o) (at axis)
     by_found None = refl
     by_found (Some e) = refl
 
-pub left_at-cons : (item : Item) (items : List Item) (at : ℕ → ℤ) (axis : ℕ) → left_at (item ∷ items) at axis ≡ left_at items (after item at) axis
+pub left_at-cons : (item : Item) (items : List Item) (at : ℕ → ℤ) (axis : ℕ) → left_at (item ∷ items) at axis ≡ left_at items (stand_after item at) axis
 unfolding left_at
 left_at-cons item items at axis =
     ap (λ o. unwrap_or o (at axis)) (last_or-cons_option None (end_in axis item) (filter_map (λ i. end_in axis i) items))
@@ -49,10 +49,10 @@ left_at-cons item items at axis =
     by_end (Some x) = refl
 
 -- the motions from the next on, from where it leaves the axes
-pub left_at_next : (items : List Item) (k : ℕ) (d : Item) → k < length items → (before next : ℕ → ℤ) → ((axis : ℕ) → next axis ≡ after (get_or items k d) before axis)
+pub left_at_next : (items : List Item) (k : ℕ) (d : Item) → k < length items → (before next : ℕ → ℤ) → ((axis : ℕ) → next axis ≡ stand_after (get_or items k d) before axis)
     → (axis : ℕ) → left_at (drop (k + 1) items) next axis ≡ left_at (drop k items) before axis
 left_at_next items k d within before next moved axis =
-    let same : next ≡ after (get_or items k d) before = fun_ext moved in
+    let same : next ≡ stand_after (get_or items k d) before = fun_ext moved in
     let rest : drop k items ≡ get_or items k d ∷ drop (k + 1) items = rw add-one (drop-cons items k d within) in
     ap (λ (p : ℕ → ℤ). left_at (drop (k + 1) items) p axis) same
     ∙ sym (left_at-cons (get_or items k d) (drop (k + 1) items) before axis)
@@ -66,17 +66,17 @@ left_at_done items k over before axis = ap (λ (xs : List Item). left_at xs befo
 
 -- a motion is sound, begins where its axes stand, and leaves them at its ends
 abbrev pub Joins : (ℕ → ℤ) → Item → Type 0
-Joins at item = IsSound (motion_of item) × All (λ e. (e.1 ≡ at e.0) × (e.2 ≡ after item at e.0)) (axes_of (motion_of item))
+Joins at item = IsSound (motion_of item) × All (λ e. (e.1 ≡ at e.0) × (e.2 ≡ stand_after item at e.0)) (axes_of (motion_of item))
 
 -- so does each of them, one after the other
 abbrev pub AllJoin : (ℕ → ℤ) → List Item → Type 0
 AllJoin at [] = ⊤
-AllJoin at (item ∷ items) = Joins at item × AllJoin (after item at) items
+AllJoin at (item ∷ items) = Joins at item × AllJoin (stand_after item at) items
 
 Joins-same : (p q : ℕ → ℤ) → ((axis : ℕ) → p axis ≡ q axis) → (item : Item) → Joins p item → Joins q item
 Joins-same p q same item joins = (
   joins.0,
-  All-weaker (λ e. (e.1 ≡ p e.0) × (e.2 ≡ after item p e.0)) (λ e. (e.1 ≡ q e.0) × (e.2 ≡ after item q e.0))
+  All-weaker (λ e. (e.1 ≡ p e.0) × (e.2 ≡ stand_after item p e.0)) (λ e. (e.1 ≡ q e.0) × (e.2 ≡ stand_after item q e.0))
       (λ e joined. (joined.0 ∙ same e.0, joined.1 ∙ after_is item p e.0 ∙ ap (unwrap_or (end_in e.0 item)) (same e.0) ∙ sym (after_is item q e.0)))
       (axes_of (motion_of item)) joins.1,
 )
@@ -89,12 +89,12 @@ joins_at at (first ∷ items) joins zero item is =
     let same : first ≡ item = cc in
     subst (λ i. Joins (left_at [] at) i) same (Joins-same at (left_at [] at) (λ axis. sym (left_at-nil at axis)) first joins.0)
 joins_at at (first ∷ items) joins (suc place) item is =
-    Joins-same (left_at (take place items) (after first at)) (left_at (first ∷ take place items) at)
-    (λ axis. sym (left_at-cons first (take place items) at axis)) item (joins_at (after first at) items joins.1 place item is)
+    Joins-same (left_at (take place items) (stand_after first at)) (left_at (first ∷ take place items) at)
+    (λ axis. sym (left_at-cons first (take place items) at axis)) item (joins_at (stand_after first at) items joins.1 place item is)
 
 -- and begins where they left the axes
 pub begins_at_left : (at : ℕ → ℤ) (items : List Item) → AllJoin at items → (place : ℕ) (item : Item) → slice_get items place ≡ Some item
     → All (λ e. e.1 ≡ left_at (take place items) at e.0) (axes_of (motion_of item))
 begins_at_left at items joins place item is =
-    All-weaker (λ e. (e.1 ≡ left_at (take place items) at e.0) × (e.2 ≡ after item (left_at (take place items) at) e.0))
+    All-weaker (λ e. (e.1 ≡ left_at (take place items) at e.0) × (e.2 ≡ stand_after item (left_at (take place items) at) e.0))
     (λ e. e.1 ≡ left_at (take place items) at e.0) (λ e joined. joined.0) (axes_of (motion_of item)) (joins_at at items joins place item is).1

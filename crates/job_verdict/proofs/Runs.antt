@@ -25,7 +25,7 @@ use Rattle.job_verdict.proofs.PositionLemmas.{Joins, AllJoin, after_is, left_at-
 use Rattle.job_verdict.proofs.Positions.{le_or_lt}
 use Rattle.job_verdict.specs.ChannelRun.{IsListedEnd}
 use Rattle.job_verdict.specs.Channels.{owned_axes, start_grant, setting_at, granted_position, program_run, items_of, end_by, end_of}
-use Rattle.job_verdict.specs.ZoneBoxes.{IsFit, after}
+use Rattle.job_verdict.specs.ZoneBoxes.{IsFit, stand_after}
 use Rattle.job_types.specs.Axes.{first_owner, start_position, is_of, owns}
 use Rattle.micro_units.specs.Position.{IsPosition}
 use Rattle.axis_sets.specs.declared.limits.TheConstants.{AXIS_LIMIT}
@@ -51,7 +51,7 @@ all_join axes at [] follow sound = tt
 all_join axes at (item ∷ items) follow sound = (
   motion_joins axes at item (subst (λ (p : ℕ → ℤ). IsMotionOf axes p (motion_of item)) (fun_ext (left_at-nil at)) (follow 0 item refl))
       (All-head (λ i. IsSound (motion_of i)) item items sound),
-  all_join axes (after item at) items
+  all_join axes (stand_after item at) items
       (λ place next is. subst (λ (p : ℕ → ℤ). IsMotionOf axes p (motion_of next)) (fun_ext (left_at-cons item (take place items) at)) (follow (suc place) next is))
       (All-tail (λ i. IsSound (motion_of i)) item items sound),
 )

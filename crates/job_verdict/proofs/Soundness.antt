@@ -23,7 +23,7 @@ use Rattle.job_verdict.specs.Clash.{own_clock, zone_pairs, pairs_of_zones, compa
 use Rattle.job_verdict.specs.Safety.{axis_owner, axis_position, fraction_of, IsInZone, ZonesMeet, NoneMeet, SafeAlways}
 use Rattle.sync_types.specs.Items.{left_at}
 use Rattle.path_geometry.specs.Path.{Point}
-use Rattle.job_verdict.specs.SmallSteps.{StandsAt, IsAtPlace, Spot, State, opening, span_of, has_ended, motions_of, board_position, beginning, present, reached}
+use Rattle.job_verdict.specs.SmallSteps.{StandsAt, IsAtPlace, Spot, State, opening, span_of, has_ended, motions_of, board_position, beginning, present_spot, state_after_all}
 use Rattle.job_types.specs.SoundJob.{IsDeclared, IsSoundZone, IsSoundJob}
 use Rattle.job_verdict.specs.Stretches.{Stretch, channel_line, spans_of, stretches_from, free_stretch, stretches_of}
 use Rattle.job_verdict.specs.ZoneBoxes.{PlaceBox, boxes_of, piece_boxes}
@@ -68,12 +68,12 @@ ended_position job state channel line is e axis =
 -- some box of a current stretch of the zone covers its axes where its holder is
 zone_has_box : (job : JobView) → IsSoundJob job → (state : State) → WellPlaced job state → (zone : ZoneLine) → IsSoundZone job zone → (channel : ℕ) → zone.holder ≡ Some channel
     → (line : ChannelLine) → channel_line job channel ≡ Some line
-    → (0 < (present job state channel).point.under) × HasBox job (span_of state) zone (Covers zone (present job state channel).place (present job state channel).point)
+    → (0 < (present_spot job state channel).point.under) × HasBox job (span_of state) zone (Covers zone (present_spot job state channel).place (present_spot job state channel).point)
 unfolding spans_of beginning
 zone_has_box job sound_job state placed zone sound channel held line is = by_ended (cases_Bool (has_ended state channel))
   where
     spot : Spot
-    spot = present job state channel
+    spot = present_spot job state channel
 
     Goal : List Stretch → Type 0
     Goal stretches = (0 < spot.point.under) × SomeOf (λ stretch. IsCurrent (span_of state) stretch × SomeOf (Covers zone spot.place spot.point) stretch.boxes) stretches
@@ -107,12 +107,12 @@ zone_has_box job sound_job state placed zone sound channel held line is = by_end
 
 -- ---- the zone and its pieces
 
-position_is : (job : JobView) (state : State) (axis channel : ℕ) → first_owner job axis ≡ Some channel → axis_position job state axis ≡ fraction_of (present job state channel).point axis
+position_is : (job : JobView) (state : State) (axis channel : ℕ) → first_owner job axis ≡ Some channel → axis_position job state axis ≡ fraction_of (present_spot job state channel).point axis
 unfolding axis_position axis_owner first_owner
 position_is job state axis channel owned = rw owned refl
 
-fractions_within : (job : JobView) (state : State) (zone : ZoneLine) → IsSoundZone job zone → (channel : ℕ) → zone.holder ≡ Some channel → 0 < (present job state channel).point.under
-    → (low high : ℕ → ℤ) → AxesWithin zone low high (present job state channel).point → FractionsWithin zone low high (axis_position job state)
+fractions_within : (job : JobView) (state : State) (zone : ZoneLine) → IsSoundZone job zone → (channel : ℕ) → zone.holder ≡ Some channel → 0 < (present_spot job state channel).point.under
+    → (low high : ℕ → ℤ) → AxesWithin zone low high (present_spot job state channel).point → FractionsWithin zone low high (axis_position job state)
 fractions_within job state zone sound channel held some low high within = λ axis has.
     subst (λ (f : Fraction). (0 < f.under) × IsIn (low axis) (high axis) f.top f.under)
     (sym (position_is job state axis channel (carrier_owned job zone sound axis has ∙ held)))
@@ -168,7 +168,7 @@ zone_in_pieces job sound_job state placed zone sound point in_zone = by_holder z
     of_line : (channel : ℕ) → zone.holder ≡ Some channel → (line : ChannelLine) × (channel_line job channel ≡ Some line) → HasBox job (span_of state) zone (InPieceOf job point zone)
     of_line channel held (line, is) =
         let has = zone_has_box job sound_job state placed zone sound channel held line is in
-        let spot = present job state channel in
+        let spot = present_spot job state channel in
         SomeOf-weaker (λ stretch. IsCurrent (span_of state) stretch × SomeOf (Covers zone spot.place spot.point) stretch.boxes)
         (λ stretch. IsCurrent (span_of state) stretch × SomeOf (InPieceOf job point zone) stretch.boxes)
         (λ stretch here. (
@@ -209,10 +209,10 @@ zones_meet_in_pair job sound state placed zone other in_job in_job' apart (point
 pub sound_at_all_speeds : (job : JobView) → IsSoundJob job → verdict_of job ≡ Yes → SafeAlways job
 unfolding NoneMeet
 sound_at_all_speeds job sound says = record {
-  one_owner = λ steps lawful. one_owner job sound (reached opening steps);
+  one_owner = λ steps lawful. one_owner job sound (state_after_all opening steps);
   none_meet = λ steps lawful zone other in_job in_job' apart on on' meet.
       none_found (pair_meets job) (compared_pairs job) (none_meets job says)
-      (zones_meet_in_pair job sound (reached opening steps) (well_placed job opening steps (WellPlaced-opening job) lawful) zone other in_job in_job' apart meet);
+      (zones_meet_in_pair job sound (state_after_all opening steps) (well_placed job opening steps (WellPlaced-opening job) lawful) zone other in_job in_job' apart meet);
 }
 
 -- the same of what is read of an input

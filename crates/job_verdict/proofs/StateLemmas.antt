@@ -6,7 +6,7 @@ use Rattle.std.specs.Option.{option_map_or}
 use Rattle.job_types.specs.Job.{JobView}
 use Rattle.job_types.specs.declared.job.ChannelLine.{ChannelLine}
 use Rattle.sync_types.specs.Items.{left_at}
-use Rattle.job_verdict.specs.SmallSteps.{IsAtPlace, Spot, State, opening, span_of, has_ended, is_running, motions_of, board_position, beginning, present, SmallStep, Advance, Act, after_step, IsLawful, AreLawful, reached}
+use Rattle.job_verdict.specs.SmallSteps.{IsAtPlace, Spot, State, opening, span_of, has_ended, is_running, motions_of, board_position, beginning, present_spot, SmallStep, Advance, Act, after_step, IsLawful, AreLawful, state_after_all}
 use Rattle.job_verdict.specs.Stretches.{channel_line}
 use Rattle.job_types.specs.Axes.{start_position}
 
@@ -69,7 +69,7 @@ WellPlaced-step job state (Advance channel place point) placed lawful = λ other
     by_channel other (inr apart) = rw (ne_eqb other channel apart) (placed other)
 
 -- every state that lawful steps reach is well placed
-pub well_placed : (job : JobView) (state : State) (steps : List SmallStep) → WellPlaced job state → AreLawful job state steps → WellPlaced job (reached state steps)
+pub well_placed : (job : JobView) (state : State) (steps : List SmallStep) → WellPlaced job state → AreLawful job state steps → WellPlaced job (state_after_all state steps)
 well_placed job state [] placed lawful = placed
 well_placed job state (step ∷ steps) placed lawful = well_placed job (after_step state step) steps (WellPlaced-step job state step placed lawful.0) lawful.1
 
@@ -84,8 +84,8 @@ one_under z = omega (arith, ints)
 
 -- a channel that has not ended is at a place of its run, and at a point there
 pub run_place : (job : JobView) (state : State) (channel : ℕ) → WellPlaced job state → has_ended state channel ≡ false
-    → IsAtPlace (start_position job) (motions_of job channel) (present job state channel).place (present job state channel).point
-unfolding present beginning
+    → IsAtPlace (start_position job) (motions_of job channel) (present_spot job state channel).place (present_spot job state channel).point
+unfolding present_spot beginning
 run_place job state channel placed e = by_spot (state.spots channel) (placed channel)
   where
     begins : IsAtPlace (start_position job) (motions_of job channel) 0 (record { top = board_position job state channel; under = 1 })
@@ -99,8 +99,8 @@ run_place job state channel placed e = by_spot (state.spots channel) (placed cha
 
 -- a channel that has ended is at place 0, where its motions left its axes
 pub end_place : (job : JobView) (state : State) (channel : ℕ) → WellPlaced job state → has_ended state channel ≡ true
-    → present job state channel ≡ beginning job state channel
-unfolding present
+    → present_spot job state channel ≡ beginning job state channel
+unfolding present_spot
 end_place job state channel placed e = by_spot (state.spots channel) (placed channel)
   where
     by_spot : (o : Option Spot) → IfSome o (IsPlaced job channel)

@@ -4,7 +4,7 @@ use Rattle.std.specs.List.{list_any, range_with_len}
 use Rattle.std.specs.Map.{keys_of}
 use Rattle.std.specs.Option.{option_and_then}
 use Rattle.std.specs.Str.{bytes_eq}
-use Rattle.channel_machine.specs.Run.{Setting, SegmentView, setting_of, begun, segment_of, stands_at_start}
+use Rattle.channel_machine.specs.Run.{SurroundingsView, SegmentView, surroundings_of, channel_at_start, segment_of, stands_at_start}
 use Rattle.sync_types.specs.declared.Action.{Action}
 use Rattle.sync_types.specs.declared.Action.TheVariants as action
 use Rattle.sync_types.specs.declared.ChannelEnd.{ChannelEnd}
@@ -74,8 +74,8 @@ start_grant job line = record {
 -- ---- the run
 
 -- what the channel of a CHANNEL line runs by
-abbrev pub setting_at : JobView → ChannelLine → Setting
-setting_at job line = setting_of job line.channel (start_grant job line)
+abbrev pub setting_at : JobView → ChannelLine → SurroundingsView
+setting_at job line = surroundings_of job line.channel (start_grant job line)
 
 -- where its axes stand at its start
 abbrev pub granted_position : JobView → ChannelLine → ℕ → ℤ
@@ -83,7 +83,7 @@ granted_position job line = stands_at_start (start_grant job line)
 
 -- the run of the program that a CHANNEL line selects, from its first block to its end
 unfoldable pub program_run : JobView → ChannelLine → SegmentView
-program_run job line = segment_of (setting_at job line) (begun (setting_at job line))
+program_run job line = segment_of (setting_at job line) (channel_at_start (setting_at job line))
 
 -- how a run ends whose last block, on this line, asks for this
 abbrev pub end_by : ℕ → Action → ChannelEnd

@@ -71,13 +71,13 @@ unfoldable pub first_lines : Measure → ZoneLine → ZoneLine → List BoxView 
 first_lines measure zone other left right = first_some (first_touched measure zone other right) left
 
 -- how a box of a stretch with this line is named
-abbrev pub named : ZoneLine → StretchView → ℕ → PlaceName
-named zone stretch line = record { zone = zone.zone; channel = stretch.channel; kind = stretch.kind; line = line }
+abbrev pub place_name : ZoneLine → StretchView → ℕ → PlaceName
+place_name zone stretch line = record { zone = zone.zone; channel = stretch.channel; kind = stretch.kind; line = line }
 
 -- the names of the first two boxes of two stretches that meet
 unfoldable pub first_in_stretches : Measure → ZoneLine → ZoneLine → StretchView → StretchView → Option (PlaceName × PlaceName)
 first_in_stretches measure zone other left right =
-    if do_overlap left right then option_map (λ lines. (named zone left lines.0, named other right lines.1)) (first_lines measure zone other left.boxes right.boxes) else None
+    if do_overlap left right then option_map (λ lines. (place_name zone left lines.0, place_name other right lines.1)) (first_lines measure zone other left.boxes right.boxes) else None
 
 unfoldable pub first_against : Measure → ZoneLine → HeldView → StretchView → Option (PlaceName × PlaceName)
 first_against measure zone other stretch = first_some (first_in_stretches measure zone other.zone stretch) other.stretches

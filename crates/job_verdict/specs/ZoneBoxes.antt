@@ -16,24 +16,24 @@ use Rattle.job_types.specs.Zones.{has_axis}
 use Rattle.axis_sets.specs.declared.limits.TheConstants.{AXIS_LIMIT}
 
 -- where the axes stand after a motion: at its ends, and elsewhere where they stood
-unfoldable pub after : Item → (ℕ → ℤ) → ℕ → ℤ
-after item at axis = option_map_or (λ e. e.2) (find (λ e. e.0 == axis) (axes_of (motion_of item))) (at axis)
+unfoldable pub stand_after : Item → (ℕ → ℤ) → ℕ → ℤ
+stand_after item at axis = option_map_or (λ e. e.2) (find (λ e. e.0 == axis) (axes_of (motion_of item))) (at axis)
 
 -- a bound that an axis carries: added to its position, or where the zone goes against the axis less its position
-abbrev pub carried : ℤ → ℤ → Bool → ℤ
-carried bound position false = bound +ℤ position
-carried bound position true = bound -ℤ position
+abbrev pub carried_bound : ℤ → ℤ → Bool → ℤ
+carried_bound bound position false = bound +ℤ position
+carried_bound bound position true = bound -ℤ position
 
 -- the low and the high bound of a direction whose axes are within low and high; where the zone goes against the axis the two change places
 abbrev pub carried_low : Option (ℕ × Bool) → ℤ → (ℕ → ℤ) → (ℕ → ℤ) → ℤ
 carried_low None lo low high = lo
-carried_low (Some (axis, false)) lo low high = carried lo (low axis) false
-carried_low (Some (axis, true)) lo low high = carried lo (high axis) true
+carried_low (Some (axis, false)) lo low high = carried_bound lo (low axis) false
+carried_low (Some (axis, true)) lo low high = carried_bound lo (high axis) true
 
 abbrev pub carried_high : Option (ℕ × Bool) → ℤ → (ℕ → ℤ) → (ℕ → ℤ) → ℤ
 carried_high None hi low high = hi
-carried_high (Some (axis, false)) hi low high = carried hi (high axis) false
-carried_high (Some (axis, true)) hi low high = carried hi (low axis) true
+carried_high (Some (axis, false)) hi low high = carried_bound hi (high axis) false
+carried_high (Some (axis, true)) hi low high = carried_bound hi (low axis) true
 
 -- the bounds of a side: the margin grows it downwards and upwards
 unfoldable pub side_low : ℤ → (ℕ → ℤ) → (ℕ → ℤ) → Side → ℤ
@@ -72,9 +72,9 @@ close place (Waiting from at) = record { from = from; upto = place; motion = Non
 close place (Moving from item at) = record { from = from; upto = place; motion = Some item; at = at }
 
 -- a motion of the zone closes the box of the motion before it
-abbrev pub closed : ℕ → Opened → List PlaceBox
-closed place (Waiting from at) = []
-closed place (Moving from item at) = close place (Moving from item at) ∷ []
+abbrev pub boxes_before : ℕ → Opened → List PlaceBox
+boxes_before place (Waiting from at) = []
+boxes_before place (Moving from item at) = close place (Moving from item at) ∷ []
 
 -- the first motion takes over the box from its beginning, each other has a box of its own from its place on
 abbrev pub next_open : ℕ → (ℕ → ℤ) → Opened → Item → Opened
@@ -86,8 +86,8 @@ abbrev pub walk : ZoneLine → ℕ → Opened → (ℕ → ℤ) → List Item �
 walk zone place current at [] = close place current ∷ []
 walk zone place current at (item ∷ items) =
     if moves_zone zone item
-    then closed place current ++ walk zone (place + 1) (next_open place at current item) (after item at) items
-    else walk zone (place + 1) current (after item at) items
+    then boxes_before place current ++ walk zone (place + 1) (next_open place at current item) (stand_after item at) items
+    else walk zone (place + 1) current (stand_after item at) items
 
 -- the boxes of a zone that is on while its holder, whose axes stand at `at`, makes these motions: place 0 is before the first, and each motion has a place
 unfoldable pub boxes_of : ZoneLine → (ℕ → ℤ) → List Item → List PlaceBox
@@ -129,4 +129,4 @@ boxes_during margin zone item at = if moves_zone zone item then moving_box margi
 
 abbrev pub moving_boxes : ℤ → ZoneLine → (ℕ → ℤ) → List Item → List BoxView
 moving_boxes margin zone at [] = []
-moving_boxes margin zone at (item ∷ items) = boxes_during margin zone item at ++ moving_boxes margin zone (after item at) items
+moving_boxes margin zone at (item ∷ items) = boxes_during margin zone item at ++ moving_boxes margin zone (stand_after item at) items

@@ -120,7 +120,7 @@ fn first_lines(
 
 /// How a box of a stretch with this line is named.
 fn named(zone: &ZoneLine, stretch: &Stretch, line: u32) -> PlaceName
-    ensures { result ≡ shown.named zone.now stretch.now line }
+    ensures { result ≡ shown.place_name zone.now stretch.now line }
 {
     PlaceName {
         zone: zone.zone,

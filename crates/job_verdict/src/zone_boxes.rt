@@ -49,7 +49,7 @@ fn span_of(ranges: &Ranges, at: &Row, axis: AxisId) -> (Um, Um)
 /// A bound that an axis carries: the two added, or where the zone goes against the axis their difference.
 fn carried(bound: i32, position: Um, minus: bool) -> i32
     requires { unsigned_abs bound ≤ 100000000 }
-    ensures { result ≡ model.carried bound position minus }
+    ensures { result ≡ model.carried_bound bound position minus }
 {
     if minus {
         bound - position.micrometres
@@ -73,8 +73,8 @@ fn grown(margin: Um, side: &Side) -> (i32, i32)
 
 /// The bounds of a direction whose carrier is between two positions, grown by the margin.
 pub fn bounds_between(margin: Um, side: &Side, minus: bool, low: Um, high: Um) -> (i32, i32)
-    ensures low { result.0 ≡ model.carried (side.now.lo -ℤ margin) (if minus then high else low) minus }
-    ensures high { result.1 ≡ model.carried (side.now.hi +ℤ margin) (if minus then low else high) minus }
+    ensures low { result.0 ≡ model.carried_bound (side.now.lo -ℤ margin) (if minus then high else low) minus }
+    ensures high { result.1 ≡ model.carried_bound (side.now.hi +ℤ margin) (if minus then low else high) minus }
 {
     let (lo, hi) = grown(margin, side);
     if minus {
@@ -157,10 +157,10 @@ fn end_of(ends: &[(AxisId, Um, Um)], axis: AxisId) -> Option<(AxisId, Um, Um)>
 }
 
 /// Where a motion leaves an axis.
-#[tactic(auto, unfolding(crate::specs::ZoneBoxes::after))]
+#[tactic(auto, unfolding(crate::specs::ZoneBoxes::stand_after))]
 fn after(item: &Item, at: &Row, index: usize) -> Um
     requires { index < AXIS_LIMIT }
-    ensures { result ≡ model.after item.now (positions_in at.now) index }
+    ensures { result ≡ model.stand_after item.now (positions_in at.now) index }
 {
     let axis = AxisId { index: index as u8 };
     match end_of(&item.motion().ends().axes, axis) {
@@ -172,7 +172,7 @@ fn after(item: &Item, at: &Row, index: usize) -> Um
 /// Puts the axes where a motion leaves them.
 pub fn settle(item: &Item, at: &mut Row)
     requires { All (λ e. e.0 < AXIS_LIMIT) (axes_of (motion_of item.now)) }
-    ensures { (axis : ℕ) → positions_in at.new axis ≡ model.after item.now (positions_in at.old) axis }
+    ensures { (axis : ℕ) → positions_in at.new axis ≡ model.stand_after item.now (positions_in at.old) axis }
 {
     let before = *at;
     for index in 0..AXIS_LIMIT {

@@ -36,7 +36,7 @@ fn stmt(word: &str) -> Stmt {
     }
 }
 
-/// The program whose blocks stand between blanks, each behind its label or number; one that begins with
+/// The program whose blocks stand between blanks, each after its label or number; one that begins with
 /// `/` has it.
 fn program(rt: &impl Abort, alloc: Global, text: &str) -> Result<Flow, Fail> {
     let mut blocks = Vec::new(alloc);
@@ -71,7 +71,7 @@ fn number_of(rt: &impl Abort, text: &str) -> u32 {
     number.unwrap_or(0)
 }
 
-/// A label, or a block number behind `N`.
+/// A label, or a block number after `N`.
 fn target_of(name: &str) -> Target {
     match name.strip_prefix("N") {
         Some(number) => Target::Number(number.parse::<u32>().unwrap_or(0)),
@@ -79,7 +79,7 @@ fn target_of(name: &str) -> Target {
     }
 }
 
-/// What a step says comes of its block, with the number or the target behind the word.
+/// What a step says comes of its block, with the number or the target after the word.
 fn outcome_of<'a>(rt: &impl Abort, word: &str, number: u16, target: &'a Target) -> Outcome<'a> {
     match word {
         "plain" => Plain,

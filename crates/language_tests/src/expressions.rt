@@ -292,7 +292,7 @@ static ROWS: [(&str, Outcome); 211] = [
     ("1>2>(((((((((((((((((((((((((((((((((", Refused(22)),
     ("1>2 AND (((((((((((((((((((((((((((((((((", Refused(23)),
     ("((((((((((((((((((((((((((((((((((((((((*", Refused(26)),
-    // An exponent directly behind a number.
+    // An exponent directly after a number.
     ("5E3", Refused(22)),
     ("5EX3", Refused(22)),
     ("5ex", Refused(22)),
@@ -339,7 +339,7 @@ fn reads_the_deepest_lines(rt: HostRuntime) -> Result<(), Fail> {
     Ok(())
 }
 
-/// The constant at the second token of a line, in millionths, and the place behind it.
+/// The constant at the second token of a line, in millionths, and the place after it.
 fn constant(rt: &impl Abort, alloc: Global, line: &str) -> Result<Result<(i64, usize), u16>, Fail> {
     let line = line.as_bytes();
     assert!(rt; line.len() <= 512);

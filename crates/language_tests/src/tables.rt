@@ -110,7 +110,7 @@ fn text_of(alloc: Global, word: Option<GWord>) -> Result<String, Fail> {
     }
 }
 
-/// Names, and numbers behind G, with the group and the code of their word.
+/// Names, and numbers after G, with the group and the code of their word.
 const WORDS: &str = "\
 3 => 1 3
 033.0 => 1 33

@@ -5,8 +5,8 @@ use std::alloc::Global;
 use std::process::Abort;
 use std::test::Fail;
 
-/// Puts one token behind a text as it is written here: a letter by itself, a sign by its name, another by
-/// its kind, and then the places of its first byte and behind its last.
+/// Puts one token after a text as it is written here: a letter by itself, a sign by its name, another by
+/// its kind, and then the places of its first byte and after its last.
 fn put_token(text: &mut String, alloc: Global, token: &Token) -> Result<(), Fail> {
     match token.kind {
         Kind::Sign(sign) => text.push_str(format!(in alloc; "{sign:?}")?.as_str())?,
@@ -19,7 +19,7 @@ fn put_token(text: &mut String, alloc: Global, token: &Token) -> Result<(), Fail
     Ok(())
 }
 
-/// The tokens of a line, each with a comma behind it, or its fault.
+/// The tokens of a line, each with a comma after it, or its fault.
 fn tokens_of(rt: &impl Abort, alloc: Global, line: &str) -> Result<String, Fail> {
     assert!(rt; line.len() <= 512);
     let words = match scan(alloc, line.as_bytes()) {

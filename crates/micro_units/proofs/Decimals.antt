@@ -29,7 +29,7 @@ fold-cut a M (d ∷ ds) =
     ∙ ap (λ (n : ℕ). min (fold with_digit n ds) M) (cut_step a (d - 48) M)
     ∙ fold-cut (with_digit a d) M ds
 
--- digits behind a number: less than one more of it, and its digits moved to the left
+-- digits after a number: less than one more of it, and its digits moved to the left
 bound_step : (a d p f : ℕ) → d < 10 → f < (a * 10 + d + 1) * p → f < (a + 1) * (p * 10)
 bound_step a d p f h k = let e : (a * 10 + d + 1) * p ≤ (a * 10 + 10) * p = mul-le-mul_right p (omega arith) in omega (arith, e)
 
@@ -57,7 +57,7 @@ fold-shift a (d ∷ ds) =
 pub quotient_is : (q n d : ℕ) → 0 < d → q * d ≤ n → n < (q + 1) * d → n / d ≡ q
 quotient_is q n d p h k = omega (arith, le-div q n d p h, div_below n d (q + 1) p k)
 
--- the eighth decimal and those behind it do not matter
+-- the eighth decimal and those after it do not matter
 pub seventh_enough : (n r d : ℕ) → r < d → (2 * ((n * d + r) * 1000000) + 10000000 * d) / (2 * (10000000 * d)) ≡ (2 * (n * 1000000) + 10000000) / (2 * 10000000)
 seventh_enough n r d h =
     let q = (n + 5) / 10 in
@@ -166,12 +166,12 @@ reads_some text r n k form number few h =
     of_text text r (Some (half_away (pos (decimal (digits_of text) * 1000000)) (10 ^ length (decimals_of text)))) (number_of-some text form)
     (subst (λ (v : ℤ). GivesNum v r) (sym (kept_suffice (before_first is_point text) (decimals_of text) split.1)) there)
 
--- the digits before the point and the first seven behind it, read one after the other
+-- the digits before the point and the first seven after it, read one after the other
 pub kept_is : (text w ds : List ℕ) (a n M : ℕ) → w ≡ before_first is_point text → ds ≡ decimals_of text
     → a ≡ min (fold with_digit 0 w) M → n ≡ min (fold with_digit a (take (min (length ds) 7) ds)) M → n ≡ min (decimal (kept_digits text)) M
-kept_is text w ds a n M whole behind start all =
+kept_is text w ds a n M whole following start all =
     let some : take (min (length ds) 7) ds ≡ take 7 ds = ap (λ (k : ℕ). take k ds) (min_comm (length ds) 7) ∙ take_min 7 ds in
-    let parts : w ++ take 7 ds ≡ kept_digits text = rw (whole, behind) in
+    let parts : w ++ take 7 ds ≡ kept_digits text = rw (whole, following) in
     all
     ∙ ap (λ (xs : List ℕ). min (fold with_digit a xs) M) some
     ∙ ap (λ (m : ℕ). min (fold with_digit m (take 7 ds)) M) start

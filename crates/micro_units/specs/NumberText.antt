@@ -8,7 +8,7 @@ use Rattle.micro_units.specs.Rounding.{half_away}
 abbrev pub is_point : ℕ → Bool
 is_point byte = byte == 46
 
--- what a number becomes by one digit more behind it; 48 is '0'
+-- what a number becomes by one digit more after it; 48 is '0'
 abbrev pub with_digit : ℕ → ℕ → ℕ
 with_digit number digit = number * 10 + (digit - 48)
 
@@ -16,7 +16,7 @@ with_digit number digit = number * 10 + (digit - 48)
 abbrev pub decimal : List ℕ → ℕ
 decimal digits = fold with_digit 0 digits
 
--- what stands behind the first point, and the text without that point
+-- what stands after the first point, and the text without that point
 abbrev pub decimals_of : List ℕ → List ℕ
 decimals_of text = after_first is_point text
 
@@ -34,6 +34,6 @@ number_of text =
     then Some (half_away (pos (decimal (digits_of text) * 1000000)) (10 ^ length (decimals_of text)))
     else None
 
--- the digits that decide the rounding: those before the point and the first seven behind it
+-- the digits that decide the rounding: those before the point and the first seven after it
 abbrev pub kept_digits : List ℕ → List ℕ
 kept_digits text = before_first is_point text ++ take 7 (decimals_of text)

@@ -36,7 +36,7 @@ pub(crate) fn digits_in(text: &[u8]) -> Option<Digits>
     })
 }
 
-/// What stands before the first point of `text`, and what stands behind it.
+/// What stands before the first point of `text`, and what stands after it.
 fn split_at_point(text: &[u8]) -> (&[u8], &[u8])
     ensures whole { result.0.now ≡ before_first is_point text.now }
     ensures decimals { result.1.now ≡ after_first is_point text.now }
@@ -70,7 +70,7 @@ fn are_digits(bytes: &[u8]) -> bool
     bytes.iter().all(|byte| byte.is_ascii_digit())
 }
 
-/// `start` with these digits behind it, or the greatest `u64` where that is too large for one.
+/// `start` with these digits after it, or the greatest `u64` where that is too large for one.
 fn with_digits(start: u64, digits: &[u8]) -> u64
     requires { IsTrue (list_all is_ascii_digit digits.now) }
     ensures { result ≡ min (fold with_digit start digits.now) (2 ^ 64 - 1) }

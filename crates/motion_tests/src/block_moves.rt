@@ -92,7 +92,7 @@ pub(crate) fn after(modal: &Modal, text: &str) -> Result<Modal, Fail> {
     Ok(modal)
 }
 
-/// A value, as it stands behind the letter of its axis, with A for AC and I for IC; none of an empty text.
+/// A value, as it stands after the letter of its axis, with A for AC and I for IC; none of an empty text.
 pub(crate) fn value(text: &[u8]) -> Result<Option<Programmed>, Fail> {
     match text {
         [] => Ok(None),

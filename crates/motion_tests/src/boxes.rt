@@ -151,7 +151,7 @@ fn agree(rt: &impl Abort, motion: &Motion, depth: u8, areas: &str) -> Result<(),
         let want = ranges(piece).ok_or("no piece")?;
         assert!(rt; left.next() == Some(want), "at {piece} of {areas}");
     }
-    assert!(rt; left.next() == None, "behind {areas}");
+    assert!(rt; left.next() == None, "following {areas}");
     Ok(())
 }
 

@@ -76,7 +76,7 @@ fn place(alloc: Global, answer: Option<Result<(u8, Um), u16>>) -> Result<String,
     }
 }
 
-/// The slot of an axis behind its sign, and its factor, as text.
+/// The slot of an axis after its sign, and its factor, as text.
 fn image(alloc: Global, frame: &Frame, text: &str) -> Result<String, Fail> {
     let axis = text.parse::<u8>()?;
     if axis > 2 {
@@ -110,7 +110,7 @@ fn agree(rt: &impl Abort, alloc: Global, frame: &mut Frame, row: &str) -> Result
 }
 
 /// Steps of a frame, which is empty at first and where the text says so. A map has its values in thousandths, with a
-/// minus where there is none. The image of an axis is its slot behind its sign, and its factor in millionths. An end
+/// minus where there is none. The image of an axis is its slot after its sign, and its factor in millionths. An end
 /// and a change are at half of so many millionths, with an offset, and answer the slot and the micrometres.
 const STEPS: &str = "
 # Goes through the last map first.

@@ -11,7 +11,7 @@ use Rattle.block_scanner.specs.declared.Kind.TheVariants as kind
 use Rattle.block_scanner.specs.declared.Token.{Token}
 use Rattle.block_scanner.specs.WordsView.{WordsView}
 use Rattle.nc_expressions.specs.Value.{◌>>=◌}
-use Rattle.nc_blocks.specs.Lists.{Item, go_on, listed, list_at}
+use Rattle.nc_blocks.specs.Lists.{Item, go_on, list_from, list_at}
 
 pub any_of_views : {X Y : Type 0} (f : X → Y) (p : Y → Bool) (xs : List X) → list_any p (map f xs) ≡ list_any (λ x. p (f x)) xs
 any_of_views f p [] = refl
@@ -19,13 +19,13 @@ any_of_views f p (x ∷ xs) = ap (λ b. p (f x) || b) (any_of_views f p xs)
 
 -- the tokens of what was read are passed
 passed : {A : Type 0} (item : List A → ℕ → Result (Item A) ℕ) (before : List A) (more at : ℕ) (tokens : List Token) → more ≤ length tokens →
-    listed item before at tokens more ≡ listed item before (at + more) (drop more tokens) zero
-unfolding listed
-passed item before zero at tokens h = let same : at ≡ at + zero = omega arith in ap (λ n. listed item before n tokens zero) same
+    list_from item before at tokens more ≡ list_from item before (at + more) (drop more tokens) zero
+unfolding list_from
+passed item before zero at tokens h = let same : at ≡ at + zero = omega arith in ap (λ n. list_from item before n tokens zero) same
 passed item before (suc more) at [] h = absurd (omega arith)
 passed item before (suc more) at (t ∷ ts) h =
     let same : at + 1 + more ≡ at + suc more = omega arith in
-    passed item before more (at + 1) ts (omega arith) ∙ ap (λ n. listed item before n (drop more ts) zero) same
+    passed item before more (at + 1) ts (omega arith) ∙ ap (λ n. list_from item before n (drop more ts) zero) same
 
 skip_more : (at more : ℕ) (ts : List Token) → drop more (drop at ts) ≡ drop (at + more) ts
 skip_more zero more ts = let same : more ≡ zero + more = omega arith in ap (λ n. drop n ts) same
@@ -35,8 +35,8 @@ skip_more (suc at) more (t ∷ ts) =
 
 -- what is read at a place comes first
 step : {A : Type 0} (item : List A → ℕ → Result (Item A) ℕ) (before : List A) (at : ℕ) (tokens : List Token) → at < length tokens →
-    listed item before at (drop at tokens) zero ≡ (item before at >>= λ one. go_on before at one (λ xs more. listed item xs (at + 1) (drop (at + 1) tokens) more))
-unfolding listed
+    list_from item before at (drop at tokens) zero ≡ (item before at >>= λ one. go_on before at one (λ xs more. list_from item xs (at + 1) (drop (at + 1) tokens) more))
+unfolding list_from
 step item before at tokens h =
     let d : Token = record { kind = kind.Name; start = 0; end = 0 } in
     rw (drop_more tokens at d h) refl
@@ -44,40 +44,40 @@ step item before at tokens h =
 -- another thing follows
 pub list_goes_on : {A : Type 0} (item : List A → ℕ → Result (Item A) ℕ) (before : List A) (at : ℕ) (tokens : List Token) (x : A) (next : ℕ) →
     item before at ≡ Ok (x, true, next) → at < next → next ≤ length tokens →
-    listed item before at (drop at tokens) zero ≡ listed item (before ++ x ∷ []) next (drop next tokens) zero
+    list_from item before at (drop at tokens) zero ≡ list_from item (before ++ x ∷ []) next (drop next tokens) zero
 list_goes_on item before at tokens x next e above within =
     let more = next - (at + 1) in
     let place : at + 1 + more ≡ next = omega arith in
     let left : more ≤ length (drop (at + 1) tokens) = omega (arith, length-drop (at + 1) tokens) in
     let same : drop more (drop (at + 1) tokens) ≡ drop next tokens = skip_more (at + 1) more tokens ∙ ap (λ n. drop n tokens) place in
     step item before at tokens (omega arith)
-    ∙ ap (λ r. r >>= λ one. go_on before at one (λ xs more. listed item xs (at + 1) (drop (at + 1) tokens) more)) e
+    ∙ ap (λ r. r >>= λ one. go_on before at one (λ xs more. list_from item xs (at + 1) (drop (at + 1) tokens) more)) e
     ∙ passed item (before ++ x ∷ []) more (at + 1) (drop (at + 1) tokens) left
-    ∙ ap (λ n. listed item (before ++ x ∷ []) n (drop more (drop (at + 1) tokens)) zero) place
-    ∙ ap (λ ts. listed item (before ++ x ∷ []) next ts zero) same
+    ∙ ap (λ n. list_from item (before ++ x ∷ []) n (drop more (drop (at + 1) tokens)) zero) place
+    ∙ ap (λ ts. list_from item (before ++ x ∷ []) next ts zero) same
 
 -- this was the last
 pub list_ends : {A : Type 0} (item : List A → ℕ → Result (Item A) ℕ) (before : List A) (at : ℕ) (tokens : List Token) (x : A) (next : ℕ) →
     item before at ≡ Ok (x, false, next) → at < next → next ≤ length tokens →
-    listed item before at (drop at tokens) zero ≡ Ok (before ++ x ∷ [], next)
+    list_from item before at (drop at tokens) zero ≡ Ok (before ++ x ∷ [], next)
 list_ends item before at tokens x next e above within =
     step item before at tokens (omega arith)
-    ∙ ap (λ r. r >>= λ one. go_on before at one (λ xs more. listed item xs (at + 1) (drop (at + 1) tokens) more)) e
+    ∙ ap (λ r. r >>= λ one. go_on before at one (λ xs more. list_from item xs (at + 1) (drop (at + 1) tokens) more)) e
 
 -- nothing can be read there
 pub list_refused : {A : Type 0} (item : List A → ℕ → Result (Item A) ℕ) (before : List A) (at : ℕ) (tokens : List Token) (code : ℕ) →
-    item before at ≡ Err code → listed item before at (drop at tokens) zero ≡ Err code
-unfolding listed
+    item before at ≡ Err code → list_from item before at (drop at tokens) zero ≡ Err code
+unfolding list_from
 list_refused item before at tokens code e =
     elim (cases_lt at (length tokens)) [
       | inl h ↦ step item before at tokens h
-          ∙ ap (λ r. r >>= λ one. go_on before at one (λ xs more. listed item xs (at + 1) (drop (at + 1) tokens) more)) e
+          ∙ ap (λ r. r >>= λ one. go_on before at one (λ xs more. list_from item xs (at + 1) (drop (at + 1) tokens) more)) e
       | inr h ↦ rw (drop_all at tokens h) (ap (λ r. r >>= λ one. Err 22) e)
     ]
 
 -- a list begins with nothing before it
 pub list_begins : {A : Type 0} (item : List A → ℕ → Result (Item A) ℕ) (words : WordsView) (at : ℕ) →
-    listed item [] at (drop at words.tokens) zero ≡ list_at item words at
+    list_from item [] at (drop at words.tokens) zero ≡ list_at item words at
 unfolding list_at
 list_begins item words at = refl
 
@@ -88,19 +88,19 @@ pub ruleset list_steps = (list_goes_on, list_ends, list_refused, list_begins, ma
 
 -- the list so far and one thing more, where another one follows
 pub list_more : {X A : Type 0} (item : List A → ℕ → Result (Item A) ℕ) (view : X → A) (words : WordsView) (start at next : ℕ) (before after : List X) (x : X) (more : Bool) →
-    listed item (map view before) at (drop at words.tokens) zero ≡ list_at item words start →
+    list_from item (map view before) at (drop at words.tokens) zero ≡ list_at item words start →
     item (map view before) at ≡ Ok (view x, more, next) → more ≡ true → at < next → next ≤ length words.tokens → after ≡ before ++ x ∷ [] →
-    listed item (map view after) next (drop next words.tokens) zero ≡ list_at item words start
+    list_from item (map view after) next (drop next words.tokens) zero ≡ list_at item words start
 list_more item view words start at next before after x more so_far e is above within pushed =
     let e' = e ∙ ap (λ m. Ok (view x, m, next)) is in
     let grown : map view after ≡ map view before ++ view x ∷ [] = ap (map view) pushed ∙ map_push view before x in
-    ap (λ xs. listed item xs next (drop next words.tokens) zero) grown
+    ap (λ xs. list_from item xs next (drop next words.tokens) zero) grown
     ∙ sym (list_goes_on item (map view before) at words.tokens (view x) next e' above within)
     ∙ so_far
 
 -- the list so far and the last thing
 pub list_last : {X A : Type 0} (item : List A → ℕ → Result (Item A) ℕ) (view : X → A) (words : WordsView) (start at next : ℕ) (before after : List X) (x : X) (more : Bool) →
-    listed item (map view before) at (drop at words.tokens) zero ≡ list_at item words start →
+    list_from item (map view before) at (drop at words.tokens) zero ≡ list_at item words start →
     item (map view before) at ≡ Ok (view x, more, next) → more ≡ false → at < next → next ≤ length words.tokens → after ≡ before ++ x ∷ [] →
     list_at item words start ≡ Ok (map view after, next)
 list_last item view words start at next before after x more so_far e is above within pushed =
@@ -112,17 +112,17 @@ list_last item view words start at next before after x more so_far e is above wi
 
 -- the same of lists that the code holds as they are
 pub plain_more : {A : Type 0} (item : List A → ℕ → Result (Item A) ℕ) (words : WordsView) (start at next : ℕ) (before after : List A) (x : A) (more : Bool) →
-    listed item before at (drop at words.tokens) zero ≡ list_at item words start →
+    list_from item before at (drop at words.tokens) zero ≡ list_at item words start →
     item before at ≡ Ok (x, more, next) → more ≡ true → at < next → next ≤ length words.tokens → after ≡ before ++ x ∷ [] →
-    listed item after next (drop next words.tokens) zero ≡ list_at item words start
+    list_from item after next (drop next words.tokens) zero ≡ list_at item words start
 plain_more item words start at next before after x more so_far e is above within pushed =
     let e' = e ∙ ap (λ m. Ok (x, m, next)) is in
-    ap (λ xs. listed item xs next (drop next words.tokens) zero) pushed
+    ap (λ xs. list_from item xs next (drop next words.tokens) zero) pushed
     ∙ sym (list_goes_on item before at words.tokens x next e' above within)
     ∙ so_far
 
 pub plain_last : {A : Type 0} (item : List A → ℕ → Result (Item A) ℕ) (words : WordsView) (start at next : ℕ) (before after : List A) (x : A) (more : Bool) →
-    listed item before at (drop at words.tokens) zero ≡ list_at item words start →
+    list_from item before at (drop at words.tokens) zero ≡ list_at item words start →
     item before at ≡ Ok (x, more, next) → more ≡ false → at < next → next ≤ length words.tokens → after ≡ before ++ x ∷ [] →
     list_at item words start ≡ Ok (after, next)
 plain_last item words start at next before after x more so_far e is above within pushed =

@@ -1,4 +1,4 @@
--- A refusal passes through what would be read behind it.
+-- A refusal passes through what would be read after it.
 use Rattle.std.proofs.Common.{ℕ, ap, Result, Err}
 use Rattle.nc_expressions.specs.declared.faults.SyntaxFault.{SyntaxFault}
 use Rattle.nc_expressions.specs.declared.faults.SyntaxFault.TheVariants.{Refused, NoMemory}

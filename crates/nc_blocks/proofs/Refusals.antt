@@ -11,7 +11,7 @@ use Rattle.nc_expressions.specs.declared.symbols.Symbol.{Symbol}
 use Rattle.nc_expressions.specs.Fronts.{HasCode, Broken}
 use Rattle.nc_expressions.specs.Limits.{all_limits}
 use Rattle.nc_expressions.specs.Machine.{Reading, read}
-use Rattle.nc_expressions.specs.Parsing.{placed, expr_at}
+use Rattle.nc_expressions.specs.Parsing.{reading_with_place, expr_at}
 use Rattle.nc_expressions.specs.Symbols.{symbols_of}
 use Rattle.nc_expressions.specs.Stops.{stop_at}
 use Rattle.nc_expressions.specs.Tree.{Tree}
@@ -20,9 +20,9 @@ use Rattle.nc_expressions.proofs.Leftmost.{leftmost}
 use Rattle.nc_blocks.specs.declared.pieces.Piece.{Piece}
 use Rattle.nc_blocks.specs.declared.pieces.Piece.TheVariants as piece
 use Rattle.nc_blocks.specs.Pieces.{piece_at, text_at}
-use Rattle.nc_blocks.specs.Marks.{code_of, code_at, word_code_of, word_code, ended, end_at, assign_of, assign_at, open_of, open_at, close_of, close_at, close_bracket_of, close_bracket_at, comma_of, comma_at, keyword_at}
+use Rattle.nc_blocks.specs.Marks.{code_of, code_at, word_code_of, word_code, end_or_refusal, end_at, assign_of, assign_at, open_of, open_at, close_of, close_at, close_bracket_of, close_bracket_at, comma_of, comma_at, keyword_at}
 use Rattle.nc_blocks.specs.Reading.{Gives, expression_at, in_words, value_at, constant_of, constant_at, block_number, block_number_of, block_number_at, index_or, parameter_number, index_of_piece, index_at, label_of, label_at}
-use Rattle.nc_blocks.specs.Lists.{Item, go_on, listed, list_at}
+use Rattle.nc_blocks.specs.Lists.{Item, go_on, list_from, list_at}
 use Rattle.nc_blocks.specs.Refusals.{block_refusals, IsBlockRefusal, IsListed}
 
 -- what is refused has a code of a block
@@ -117,7 +117,7 @@ pub word_code_listed : (words : WordsView) (at : ℕ) → IsBlockRefusal (word_c
 unfolding word_code
 word_code_listed words at = piece_word_code (piece_at words at) (text_at words at)
 
-piece_ended : (p : Piece) → Listed (ended p)
+piece_ended : (p : Piece) → Listed (end_or_refusal p)
 piece_ended piece.End = found _
 piece_ended one = refuses (piece_code one 24 not_alone)
 
@@ -181,7 +181,7 @@ front_code symbols code h =
 broken_code : (symbols : List Symbol) (code : ℕ) → Broken symbols code → IsBlockRefusal code
 broken_code symbols code h = elim h [ inl at ↦ front_code _ code at.6 | inr end ↦ same_code code 22 end.2 unreadable ]
 
-placed_listed : (all : ℕ) (symbols : List Symbol) (r : Reading) → read all_limits symbols ≡ r → Listed (placed all r)
+placed_listed : (all : ℕ) (symbols : List Symbol) (r : Reading) → read all_limits symbols ≡ r → Listed (reading_with_place all r)
 placed_listed all symbols (Ok p) e = found _
 placed_listed all symbols (Err code) e = refuses (broken_code symbols code (leftmost symbols code e))
 
@@ -243,8 +243,8 @@ go_on_listed before at (x, true, next) rest h = h _ _
 go_on_listed before at (x, false, next) rest h = found _
 
 items_listed : {A : Type 0} (item : List A → ℕ → Result (Item A) ℕ) → ((before : List A) (at : ℕ) → Listed (item before at)) →
-    (before : List A) (at : ℕ) (tokens : List Token) (more : ℕ) → Listed (listed item before at tokens more)
-unfolding listed
+    (before : List A) (at : ℕ) (tokens : List Token) (more : ℕ) → Listed (list_from item before at tokens more)
+unfolding list_from
 items_listed item h before at [] more = bound _ _ (h before at) (λ one. refuses unreadable)
 items_listed item h before at (t ∷ tokens) zero = bound _ _ (h before at) (λ one. go_on_listed before at one _ (λ xs more. items_listed item h xs (at + 1) tokens more))
 items_listed item h before at (t ∷ tokens) (suc more) = items_listed item h before (at + 1) tokens more

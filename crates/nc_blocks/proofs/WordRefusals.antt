@@ -12,17 +12,17 @@ use Rattle.nc_blocks.specs.declared.pieces.Piece.TheVariants as piece
 use Rattle.nc_blocks.specs.Pieces.{piece_at, text_at, is_assign}
 use Rattle.nc_blocks.specs.Marks.{word_code}
 use Rattle.nc_blocks.specs.Statement.{WordView, Aux}
-use Rattle.nc_blocks.specs.Wording.{assigned_at, bracketed_at, assignment_at, group_word, g_of_piece, g_at, enclosed_value, measured, measured_at, measured_word, letter_word, axis_word_at, slot_word_at, other_axis_at, aux_value, numbered_aux, aux_of, aux_at, bracket_at, spindle_at, name_code, name_word, lettered_word, word_of_piece, word_at, word_item_at, words_form}
+use Rattle.nc_blocks.specs.Wording.{assigned_at, bracketed_at, assignment_at, group_word, g_of_piece, g_at, enclosed_value, measure_and_value, measured_at, measured_word, letter_word, axis_word_at, slot_word_at, other_axis_at, aux_value, numbered_aux, aux_of, aux_at, bracket_at, spindle_at, name_code, name_word, lettered_word, word_of_piece, word_at, word_item_at, words_form}
 use Rattle.nc_blocks.specs.Refusals.{IsBlockRefusal}
 use Rattle.nc_blocks.proofs.Refusals.{Listed, found, refuses, unreadable, not_alone, unknown, no_word, bound, chosen, chosen_code, word_code_listed, assign_listed, open_listed, close_listed, close_bracket_listed, value_listed, constant_listed, index_listed, list_listed}
 
 assigned_listed : (words : WordsView) (at : ℕ) → Listed (assigned_at words at)
 unfolding assigned_at
-assigned_listed words at = bound _ _ (assign_listed words at _ (word_code_listed words at)) (λ behind. value_listed words behind)
+assigned_listed words at = bound _ _ (assign_listed words at _ (word_code_listed words at)) (λ following. value_listed words following)
 
 bracketed_listed : (words : WordsView) (at : ℕ) → Listed (bracketed_at words at)
 unfolding bracketed_at
-bracketed_listed words at = bound _ _ (value_listed words (at + 1)) (λ p. bound _ _ (close_bracket_listed words p.1 _ (word_code_listed words p.1)) (λ behind. found _))
+bracketed_listed words at = bound _ _ (value_listed words (at + 1)) (λ p. bound _ _ (close_bracket_listed words p.1 _ (word_code_listed words p.1)) (λ following. found _))
 
 assignment_listed : (words : WordsView) (at : ℕ) → Listed (assignment_at words at)
 unfolding assignment_at
@@ -47,10 +47,10 @@ enclosed_listed : (words : WordsView) (at : ℕ) → Listed (enclosed_value word
 unfolding enclosed_value
 enclosed_listed words at =
     bound _ _ (open_listed words at _ (word_code_listed words at))
-    (λ first. bound _ _ (value_listed words first) (λ p. bound _ _ (close_listed words p.1 _ (word_code_listed words p.1)) (λ behind. found _)))
+    (λ first. bound _ _ (value_listed words first) (λ p. bound _ _ (close_listed words p.1 _ (word_code_listed words p.1)) (λ following. found _)))
 
-as_measured : (m : Measure) (r : Result (Tree × ℕ) ℕ) → Listed r → Listed (r >>= measured m)
-as_measured m r h = bound r (measured m) h (λ p. found (m, p.0, p.1))
+as_measured : (m : Measure) (r : Result (Tree × ℕ) ℕ) → Listed r → Listed (r >>= measure_and_value m)
+as_measured m r h = bound r (measure_and_value m) h (λ p. found (m, p.0, p.1))
 
 measured_listed : (words : WordsView) (at : ℕ) → Listed (measured_at words at)
 unfolding measured_at

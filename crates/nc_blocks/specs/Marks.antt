@@ -23,19 +23,19 @@ word_code_of one text = 22
 unfoldable pub word_code : WordsView → ℕ → ℕ
 word_code words at = word_code_of (piece_at words at) (text_at words at)
 
-abbrev pub ended : Piece → Result ℕ ℕ
-ended piece.End = Ok 0
-ended one = Err (code_of one 24)
+abbrev pub end_or_refusal : Piece → Result ℕ ℕ
+end_or_refusal piece.End = Ok 0
+end_or_refusal one = Err (code_of one 24)
 
--- a form is over, and nothing stands behind it
+-- a form is over, and nothing stands after it
 unfoldable pub end_at : WordsView → ℕ → Result ℕ ℕ
-end_at words at = ended (piece_at words at)
+end_at words at = end_or_refusal (piece_at words at)
 
 abbrev pub assign_of : Piece → ℕ → ℕ → Result ℕ ℕ
 assign_of piece.Assign next code = Ok next
 assign_of one next code = Err code
 
--- the place behind `=`, or this refusal
+-- the place after `=`, or this refusal
 unfoldable pub assign_at : WordsView → ℕ → ℕ → Result ℕ ℕ
 assign_at words at code = assign_of (piece_at words at) (at + 1) code
 
@@ -72,6 +72,6 @@ comma_at words at = comma_of (piece_at words at) (at + 1)
 unfoldable pub is_keyword : WordsView → ℕ → List ℕ → Bool
 is_keyword words at word = is_name (piece_at words at) && is_word (text_at words at) word
 
--- the place behind this name
+-- the place after this name
 unfoldable pub keyword_at : WordsView → ℕ → List ℕ → Result ℕ ℕ
 keyword_at words at word = if is_keyword words at word then Ok (at + 1) else Err 22

@@ -21,7 +21,7 @@ Gives view read (Ok x) = read ≡ Ok (view x)
 Gives view read (Err (Refused code)) = read ≡ Err code
 Gives view read (Err NoMemory) = Unit {0}
 
--- a tree and the place behind it
+-- a tree and the place after it
 abbrev pub placed_tree : Expr × ℕ → Tree × ℕ
 placed_tree p = (tree_of p.0, p.1)
 
@@ -42,19 +42,19 @@ after_sign_of piece.Plus at = at + 1
 after_sign_of piece.Minus at = at + 1
 after_sign_of one at = at
 
--- the place behind a sign, if one stands there
+-- the place after a sign, if one stands there
 unfoldable pub after_sign : WordsView → ℕ → ℕ
 after_sign words at = after_sign_of (piece_at words at) at
 
-abbrev pub signed : Piece → ℤ → ℤ
-signed piece.Minus z = neg_ℤ z
-signed one z = z
+abbrev pub with_sign : Piece → ℤ → ℤ
+with_sign piece.Minus z = neg_ℤ z
+with_sign one z = z
 
 abbrev pub constant_of : Piece → Piece → ℕ → ℕ → Result (ℤ × ℕ) ℕ
-constant_of first (piece.Number z) next code = Ok (signed first z, next)
+constant_of first (piece.Number z) next code = Ok (with_sign first z, next)
 constant_of first one next code = Err code
 
--- a number with its sign if it has one, and the place behind it; or this refusal
+-- a number with its sign if it has one, and the place after it; or this refusal
 unfoldable pub constant_at : WordsView → ℕ → ℕ → Result (ℤ × ℕ) ℕ
 constant_at words at code = constant_of (piece_at words at) (piece_at words (after_sign words at)) (after_sign words at + 1) code
 

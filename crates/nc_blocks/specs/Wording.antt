@@ -18,25 +18,25 @@ use Rattle.nc_expressions.specs.Value.{◌>>=◌}
 use Rattle.nc_blocks.specs.Reading.{value_at, after_sign, constant_at, index_at}
 use Rattle.nc_blocks.specs.Lists.{Item, list_at}
 use Rattle.nc_blocks.specs.AxisNames.{is_axis_letter, has_digits, has_axis_name, has_axis_word}
-use Rattle.nc_blocks.specs.Texts.{unquoted}
+use Rattle.nc_blocks.specs.Texts.{text_within_quotes}
 use Rattle.nc_blocks.specs.Statement.{Statement, WordBlock, WordView, Assign, AssignAt, G, Axis, Radius, Aux, End, OperandView, Value, Text}
 
 -- = and an expression
 unfoldable pub assigned_at : WordsView → ℕ → Result (Tree × ℕ) ℕ
-assigned_at words at = assign_at words at (word_code words at) >>= λ behind. value_at words behind
+assigned_at words at = assign_at words at (word_code words at) >>= λ following. value_at words following
 
 -- [ expr ]
 unfoldable pub bracketed_at : WordsView → ℕ → Result (Tree × ℕ) ℕ
 bracketed_at words at = do
   p ← value_at words (at + 1)
-  behind ← close_bracket_at words p.1 (word_code words p.1)
-  Ok (p.0, behind)
+  following ← close_bracket_at words p.1 (word_code words p.1)
+  Ok (p.0, following)
 
 abbrev pub is_open_bracket : Piece → Bool
 is_open_bracket piece.OpenBracket = true
 is_open_bracket one = false
 
--- an assignment to a parameter, behind its R
+-- an assignment to a parameter, after its R
 unfoldable pub assignment_at : WordsView → ℕ → Result (WordView × ℕ) ℕ
 assignment_at words at =
     if is_open_bracket (piece_at words at)
@@ -52,7 +52,7 @@ abbrev pub g_of_piece : Piece → ℕ → ℕ → Result (WordView × ℕ) ℕ
 g_of_piece (piece.Number z) next code = group_word (word_by_number z) next 57
 g_of_piece one next code = Err code
 
--- a word G, behind its letter
+-- a word G, after its letter
 unfoldable pub g_at : WordsView → ℕ → Result (WordView × ℕ) ℕ
 g_at words at = g_of_piece (piece_at words at) (at + 1) (word_code words at)
 
@@ -61,30 +61,30 @@ unfoldable pub enclosed_value : WordsView → ℕ → Result (Tree × ℕ) ℕ
 enclosed_value words at = do
   first ← open_at words at (word_code words at)
   p ← value_at words first
-  behind ← close_at words p.1 (word_code words p.1)
-  Ok (p.0, behind)
+  following ← close_at words p.1 (word_code words p.1)
+  Ok (p.0, following)
 
-abbrev pub measured : Measure → Tree × ℕ → Result (Measure × Tree × ℕ) ℕ
-measured m p = Ok (m, p.0, p.1)
+abbrev pub measure_and_value : Measure → Tree × ℕ → Result (Measure × Tree × ℕ) ℕ
+measure_and_value m p = Ok (m, p.0, p.1)
 
--- behind the = of an axis word: AC ( expr ), IC ( expr ) or an expression
+-- after the = of an axis word: AC ( expr ), IC ( expr ) or an expression
 unfoldable pub measured_at : WordsView → ℕ → Result (Measure × Tree × ℕ) ℕ
 measured_at words at =
-    if is_keyword words at (codes "AC") then (enclosed_value words (at + 1) >>= measured Absolute)
-    else if is_keyword words at (codes "IC") then (enclosed_value words (at + 1) >>= measured Incremental)
-    else (value_at words at >>= measured Modal)
+    if is_keyword words at (codes "AC") then (enclosed_value words (at + 1) >>= measure_and_value Absolute)
+    else if is_keyword words at (codes "IC") then (enclosed_value words (at + 1) >>= measure_and_value Incremental)
+    else (value_at words at >>= measure_and_value Modal)
 
 -- an axis word with =, of this address
 unfoldable pub measured_word : WordsView → List ℕ → ℕ → Result (WordView × ℕ) ℕ
 measured_word words address at = measured_at words at >>= λ p. Ok (Axis address p.0 p.1, p.2)
 
--- a letter of an axis or a centre, with its value behind it: = and so on, or a number with its sign
+-- a letter of an axis or a centre, with its value after it: = and so on, or a number with its sign
 unfoldable pub letter_word : WordsView → ℕ → ℕ → Result (WordView × ℕ) ℕ
 letter_word words letter at =
     if is_assign (piece_at words at) then measured_word words (letter ∷ []) (at + 1)
     else (constant_at words at (word_code words (after_sign words at)) >>= λ p. Ok (Axis (letter ∷ []) Modal (Number p.0), p.1))
 
--- an axis name and = behind it
+-- an axis name and = after it
 unfoldable pub axis_word_at : WordsView → ℕ → ℕ → Result (WordView × ℕ) ℕ
 axis_word_at words letter at = measured_word words (letter ∷ text_at words (at + 1)) (at + 3)
 
@@ -106,10 +106,10 @@ is_program_end letter z = (letter == 77) && (int_eq z (pos 2000000) || int_eq z 
 abbrev pub plain_aux : ℕ → ℤ → WordView
 plain_aux letter z = if is_program_end letter z then End else Aux (letter ∷ []) None (Value (Number z))
 
--- an expression or a text behind =
+-- an expression or a text after =
 unfoldable pub aux_value : WordsView → ℕ → Result (OperandView × ℕ) ℕ
 aux_value words at =
-    if is_text (piece_at words at) then Ok (Text (unquoted (text_at words at)), at + 1)
+    if is_text (piece_at words at) then Ok (Text (text_within_quotes (text_at words at)), at + 1)
     else (value_at words at >>= λ p. Ok (Value p.0, p.1))
 
 unfoldable pub has_digits_assign : WordsView → ℕ → Bool
@@ -127,16 +127,16 @@ aux_of words letter at (piece.Number z) = numbered_aux words letter z at
 aux_of words letter at one =
     if is_assign one then (aux_value words (at + 1) >>= λ p. Ok (Aux (letter ∷ []) None p.0, p.1)) else Err (word_code words at)
 
--- M, S, T, D, F or H, behind the letter
+-- M, S, T, D, F or H, after the letter
 unfoldable pub aux_at : WordsView → ℕ → ℕ → Result (WordView × ℕ) ℕ
 aux_at words letter at = aux_of words letter at (piece_at words at)
 
--- [ expr ], if it stands there, and the place behind
+-- [ expr ], if it stands there, and the place after
 unfoldable pub bracket_at : WordsView → ℕ → Result (Option Tree × ℕ) ℕ
 bracket_at words at =
     if is_open_bracket (piece_at words at) then (bracketed_at words at >>= λ p. Ok (Some p.0, p.1)) else Ok (None, at)
 
--- SPOS, SPOSA, LIMS and SF, behind the name
+-- SPOS, SPOSA, LIMS and SF, after the name
 unfoldable pub spindle_at : WordsView → List ℕ → ℕ → Result (WordView × ℕ) ℕ
 spindle_at words text at = bracket_at words at >>= λ i. assigned_at words i.1 >>= λ p. Ok (Aux (upper text) i.0 (Value p.0), p.1)
 
@@ -148,7 +148,7 @@ is_spindle_word text =
 abbrev pub name_code : List ℕ → ℕ
 name_code text = if is_first_name text then 24 else 27
 
--- a word that is a name of this text, behind it
+-- a word that is a name of this text, after it
 unfoldable pub name_word : WordsView → List ℕ → ℕ → Result (WordView × ℕ) ℕ
 name_word words text at =
     if is_word text (codes "CR") then (assigned_at words at >>= λ p. Ok (Radius p.0, p.1))
@@ -182,7 +182,7 @@ word_of_piece words at (piece.Letter b) = lettered_word words b at
 word_of_piece words at piece.Name = name_word words (text_at words at) (at + 1)
 word_of_piece words at one = Err 22
 
--- the word at a place, and the place behind it
+-- the word at a place, and the place after it
 unfoldable pub word_at : WordsView → ℕ → Result (WordView × ℕ) ℕ
 word_at words at = word_of_piece words at (piece_at words at)
 

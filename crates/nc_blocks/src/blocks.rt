@@ -20,11 +20,11 @@ pub struct Block {
 /// Where a jump searches for its target.
 #[derive(Clone, Copy, Debug, PartialEq, Eq)]
 pub enum Way {
-    /// GOTOF: behind the jump.
+    /// GOTOF: after the jump.
     Forward,
     /// GOTOB: before the jump.
     Backward,
-    /// GOTO: behind the jump, and then before it.
+    /// GOTO: after the jump, and then before it.
     Either,
     /// GOTOC: as GOTO; a missing target is no fault.
     Optional,
@@ -93,7 +93,7 @@ pub enum Stmt {
     Return,
     /// PROC with the name of the program.
     Proc(NameText),
-    /// A frame word with the workpiece axes that stand behind it, 0, 1 and 2 for X, Y and Z.
+    /// A frame word with the workpiece axes that stand after it, 0, 1 and 2 for X, Y and Z.
     Shape(FrameWord, Vec<(u8, Expr)>),
     /// ROT, or AROT where this is true, with the angle of RPL.
     Turn(bool, Option<Expr>),
@@ -116,7 +116,7 @@ pub enum Word {
     Axis(Vec<u8>, Measure, Expr),
     /// CR
     Radius(Expr),
-    /// A word that moves nothing: its letter and digits or its name, what stands in brackets behind
+    /// A word that moves nothing: its letter and digits or its name, what stands in brackets after
     /// it, and its value.
     Aux(Vec<u8>, Option<Expr>, Operand),
     /// M2, M30 or M17.

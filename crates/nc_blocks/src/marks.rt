@@ -62,7 +62,7 @@ pub fn end_at(words: &Words<'_>, at: usize) -> Result<usize, u16>
     }
 }
 
-/// The place behind `=`, or this refusal where it does not stand at the place.
+/// The place after `=`, or this refusal where it does not stand at the place.
 #[tactic(auto, unfolding(crate::specs::Marks::assign_at))]
 pub fn assign_at(words: &Words<'_>, at: usize, code: u16) -> Result<usize, u16>
     requires { IsScanned words.now }
@@ -75,7 +75,7 @@ pub fn assign_at(words: &Words<'_>, at: usize, code: u16) -> Result<usize, u16>
     }
 }
 
-/// The place behind `(`, or this refusal.
+/// The place after `(`, or this refusal.
 #[tactic(auto, unfolding(crate::specs::Marks::open_at))]
 pub fn open_at(words: &Words<'_>, at: usize, code: u16) -> Result<usize, u16>
     requires { IsScanned words.now }
@@ -88,7 +88,7 @@ pub fn open_at(words: &Words<'_>, at: usize, code: u16) -> Result<usize, u16>
     }
 }
 
-/// The place behind `)`, or this refusal.
+/// The place after `)`, or this refusal.
 #[tactic(auto, unfolding(crate::specs::Marks::close_at))]
 pub fn close_at(words: &Words<'_>, at: usize, code: u16) -> Result<usize, u16>
     requires { IsScanned words.now }
@@ -101,7 +101,7 @@ pub fn close_at(words: &Words<'_>, at: usize, code: u16) -> Result<usize, u16>
     }
 }
 
-/// The place behind `]`, or this refusal.
+/// The place after `]`, or this refusal.
 #[tactic(auto, unfolding(crate::specs::Marks::close_bracket_at))]
 pub(crate) fn close_bracket_at(words: &Words<'_>, at: usize, code: u16) -> Result<usize, u16>
     requires { IsScanned words.now }
@@ -114,7 +114,7 @@ pub(crate) fn close_bracket_at(words: &Words<'_>, at: usize, code: u16) -> Resul
     }
 }
 
-/// The place behind a comma, or the refusal 22.
+/// The place after a comma, or the refusal 22.
 #[tactic(auto, unfolding(crate::specs::Marks::comma_at))]
 pub fn comma_at(words: &Words<'_>, at: usize) -> Result<usize, u16>
     requires { IsScanned words.now }
@@ -140,7 +140,7 @@ pub fn is_keyword(words: &Words<'_>, at: usize, word: &[u8]) -> bool
     }
 }
 
-/// The place behind this name, or the refusal 22.
+/// The place after this name, or the refusal 22.
 #[tactic(auto, unfolding(crate::specs::Marks::keyword_at))]
 pub fn keyword_at(words: &Words<'_>, at: usize, word: &[u8]) -> Result<usize, u16>
     requires { IsScanned words.now }

@@ -5,7 +5,7 @@ ghost use Rattle.std.specs.Int.RustNames.{unsigned_abs};
 ghost use Rattle.block_scanner.specs.Scanned.{IsScanned};
 ghost use Rattle.nc_expressions.specs.Tree.{tree_of, IndicesFit};
 ghost use Rattle.nc_blocks.specs.declared.pieces.Piece.{Piece};
-ghost use Rattle.nc_blocks.specs.Reading.{Gives, placed_tree, expression_at, value_at, after_sign, signed, constant_at, block_number, block_number_at, parameter_number, index_at, label_at};
+ghost use Rattle.nc_blocks.specs.Reading.{Gives, placed_tree, expression_at, value_at, after_sign, with_sign, constant_at, block_number, block_number_at, parameter_number, index_at, label_at};
 ghost use Rattle.nc_expressions.specs.declared.limits.TheConstants.{LAST_PARAMETER};
 
 use crate::marks::word_code;
@@ -16,7 +16,7 @@ use micro_units::Num;
 use nc_expressions::{Expr, SyntaxFault, expr_stop, index_of, is_digits, parse_expr};
 use std::alloc::Global;
 
-/// The expression at a place, and the place behind it; or the refusal of the leftmost place at which
+/// The expression at a place, and the place after it; or the refusal of the leftmost place at which
 /// no expression goes on, 22, 23 or 26. `NoMemory` says nothing of the line.
 #[tactic(auto, unfolding(crate::specs::Reading::expression_at))]
 pub fn expression_at(
@@ -33,7 +33,7 @@ pub fn expression_at(
     parse_expr(alloc, words, at)
 }
 
-/// The expression at a place of a word block, and the place behind it.
+/// The expression at a place of a word block, and the place after it.
 #[tactic(auto, unfolding(crate::specs::Reading::value_at))]
 pub(crate) fn value_at(
     alloc: Global,
@@ -60,7 +60,7 @@ pub(crate) fn value_at(
     }
 }
 
-/// The place behind a sign, if one stands there.
+/// The place after a sign, if one stands there.
 #[tactic(auto, unfolding(crate::specs::Reading::after_sign))]
 pub(crate) fn after_sign(words: &Words<'_>, at: usize) -> usize
     requires scanned { IsScanned words.now }
@@ -74,9 +74,9 @@ pub(crate) fn after_sign(words: &Words<'_>, at: usize) -> usize
     }
 }
 
-/// The number behind what may be its sign.
+/// The number after what may be its sign.
 fn signed(first: Piece, number: Num) -> Num
-    ensures { result ≡ signed first number }
+    ensures { result ≡ with_sign first number }
 {
     match first {
         Piece::Minus => Num {
@@ -86,7 +86,7 @@ fn signed(first: Piece, number: Num) -> Num
     }
 }
 
-/// The number at a place, with its sign if it has one, and the place behind it; or this refusal.
+/// The number at a place, with its sign if it has one, and the place after it; or this refusal.
 #[tactic(auto, unfolding(crate::specs::Reading::constant_at))]
 pub fn constant_at(words: &Words<'_>, at: usize, code: u16) -> Result<(Num, usize), u16>
     requires scanned { IsScanned words.now }

@@ -2,17 +2,17 @@
 
 ghost use Rattle.std.specs.Prelude.{◌≡◌, ◌∷◌, IfOk};
 ghost use Rattle.nc_blocks.specs.Names.{upper};
-ghost use Rattle.nc_blocks.specs.Texts.{unquoted};
+ghost use Rattle.nc_blocks.specs.Texts.{text_within_quotes};
 
 use std::alloc::{AllocError, Global};
 
-/// The address of a letter and what stands behind it.
-pub fn address(alloc: Global, letter: u8, behind: &[u8]) -> Result<Vec<u8>, AllocError>
-    ensures { IfOk result (λ v. v.items ≡ letter ∷ behind.now) }
+/// The address of a letter and what stands after it.
+pub fn address(alloc: Global, letter: u8, following: &[u8]) -> Result<Vec<u8>, AllocError>
+    ensures { IfOk result (λ v. v.items ≡ letter ∷ following.now) }
 {
     let mut text = Vec::new(alloc);
     text.push(letter)?;
-    text.extend_from_slice(behind)?;
+    text.extend_from_slice(following)?;
     Ok(text)
 }
 
@@ -33,9 +33,9 @@ pub fn same_text(alloc: Global, text: &[u8]) -> Result<Vec<u8>, AllocError>
 }
 
 /// A text without its quotes.
-#[tactic(auto, unfolding(crate::specs::Texts::unquoted))]
+#[tactic(auto, unfolding(crate::specs::Texts::text_within_quotes))]
 pub fn unquoted(text: &[u8]) -> &[u8]
-    ensures { result.now ≡ unquoted text.now }
+    ensures { result.now ≡ text_within_quotes text.now }
 {
     if text.len() < 2 {
         &[]

@@ -25,7 +25,7 @@ use nc_expressions::{Expr, SyntaxFault};
 use std::alloc::{AllocError, Global};
 use word_tables::{group_word_by_name, group_word_by_number, is_first_name};
 
-/// `=` and an expression, and the place behind.
+/// `=` and an expression, and the place after.
 #[tactic(auto, using(crate::proofs::Passing::passing), unfolding(crate::specs::Wording::assigned_at))]
 fn assigned_at(alloc: Global, words: &Words<'_>, at: usize) -> Result<(Expr, usize), SyntaxFault>
     requires { IsScanned words.now }
@@ -34,12 +34,12 @@ fn assigned_at(alloc: Global, words: &Words<'_>, at: usize) -> Result<(Expr, usi
     ensures within { IfOk result (λ p. (at < p.1) × (p.1 ≤ length words.now.tokens)) }
 {
     match assign_at(words, at, word_code(words, at)) {
-        Ok(behind) => value_at(alloc, words, behind),
+        Ok(following) => value_at(alloc, words, following),
         Err(code) => Err(SyntaxFault::Refused(code)),
     }
 }
 
-/// The expression in the brackets that open at a place, and the place behind them.
+/// The expression in the brackets that open at a place, and the place after them.
 #[tactic(auto, using(crate::proofs::Passing::passing), unfolding(crate::specs::Wording::bracketed_at))]
 fn bracketed_at(alloc: Global, words: &Words<'_>, at: usize) -> Result<(Expr, usize), SyntaxFault>
     requires scanned { IsScanned words.now }
@@ -50,12 +50,12 @@ fn bracketed_at(alloc: Global, words: &Words<'_>, at: usize) -> Result<(Expr, us
 {
     let (index, end) = value_at(alloc, words, at + 1)?;
     match close_bracket_at(words, end, word_code(words, end)) {
-        Ok(behind) => Ok((index, behind)),
+        Ok(following) => Ok((index, following)),
         Err(code) => Err(SyntaxFault::Refused(code)),
     }
 }
 
-/// An assignment to a parameter, behind its R.
+/// An assignment to a parameter, after its R.
 #[tactic(auto, using(crate::proofs::Passing::passing), unfolding(crate::specs::Wording::assignment_at))]
 fn assignment_at(alloc: Global, words: &Words<'_>, at: usize) -> Result<(Word, usize), SyntaxFault>
     requires { IsScanned words.now }
@@ -66,13 +66,13 @@ fn assignment_at(alloc: Global, words: &Words<'_>, at: usize) -> Result<(Word, u
     match piece_at(words, at) {
         Piece::OpenBracket => {
             let (index, end) = bracketed_at(alloc, words, at)?;
-            let (value, behind) = assigned_at(alloc, words, end)?;
-            Ok((Word::AssignAt(index, value), behind))
+            let (value, following) = assigned_at(alloc, words, end)?;
+            Ok((Word::AssignAt(index, value), following))
         }
         _ => match index_at(words, at, word_code(words, at)) {
             Ok(index) => {
-                let (value, behind) = assigned_at(alloc, words, at + 1)?;
-                Ok((Word::Assign(index, value), behind))
+                let (value, following) = assigned_at(alloc, words, at + 1)?;
+                Ok((Word::Assign(index, value), following))
             }
             Err(code) => Err(SyntaxFault::Refused(code)),
         },
@@ -91,7 +91,7 @@ fn group_word(word: Option<GWord>, next: usize, code: u16) -> Result<(Word, usiz
     }
 }
 
-/// A word G, behind its letter.
+/// A word G, after its letter.
 #[tactic(auto, unfolding(crate::specs::Wording::g_at))]
 fn g_at(words: &Words<'_>, at: usize) -> Result<(Word, usize), SyntaxFault>
     requires { IsScanned words.now }
@@ -105,7 +105,7 @@ fn g_at(words: &Words<'_>, at: usize) -> Result<(Word, usize), SyntaxFault>
     }
 }
 
-/// An expression in parentheses, and the place behind them.
+/// An expression in parentheses, and the place after them.
 #[tactic(auto, using(crate::proofs::Passing::passing), unfolding(crate::specs::Wording::enclosed_value))]
 fn enclosed_value(alloc: Global, words: &Words<'_>, at: usize) -> Result<(Expr, usize), SyntaxFault>
     requires { IsScanned words.now }
@@ -117,7 +117,7 @@ fn enclosed_value(alloc: Global, words: &Words<'_>, at: usize) -> Result<(Expr, 
         Ok(first) => {
             let (value, end) = value_at(alloc, words, first)?;
             match close_at(words, end, word_code(words, end)) {
-                Ok(behind) => Ok((value, behind)),
+                Ok(following) => Ok((value, following)),
                 Err(code) => Err(SyntaxFault::Refused(code)),
             }
         }
@@ -125,7 +125,7 @@ fn enclosed_value(alloc: Global, words: &Words<'_>, at: usize) -> Result<(Expr, 
     }
 }
 
-/// The value behind the `=` of an axis word, and how it is meant.
+/// The value after the `=` of an axis word, and how it is meant.
 #[tactic(auto, using(crate::proofs::Passing::passing), unfolding(crate::specs::Wording::measured_at))]
 fn measured_at(
     alloc: Global,
@@ -150,7 +150,7 @@ fn measured_at(
     }
 }
 
-/// An axis word of this address, behind its `=`.
+/// An axis word of this address, after its `=`.
 #[tactic(auto, using(crate::proofs::Passing::passing), unfolding(crate::specs::Wording::measured_word))]
 fn measured_word(
     alloc: Global,
@@ -168,7 +168,7 @@ fn measured_word(
     Ok((Word::Axis(address, measure, value), end))
 }
 
-/// A letter of an axis or a centre, behind it.
+/// A letter of an axis or a centre, after it.
 #[tactic(auto, using(crate::proofs::Passing::passing), unfolding(crate::specs::Wording::letter_word))]
 fn letter_word(
     alloc: Global,
@@ -195,7 +195,7 @@ fn letter_word(
     }
 }
 
-/// An axis name of this letter with `=` behind it.
+/// An axis name of this letter with `=` after it.
 #[tactic(auto, using(crate::proofs::Passing::passing), unfolding(crate::specs::Wording::axis_word_at))]
 fn axis_word_at(
     alloc: Global,
@@ -278,7 +278,7 @@ fn plain_aux(alloc: Global, letter: u8, number: Num) -> Result<Word, AllocError>
     }
 }
 
-/// An expression or a text behind `=`.
+/// An expression or a text after `=`.
 #[tactic(auto, using(crate::proofs::Passing::passing), unfolding(crate::specs::Wording::aux_value))]
 fn aux_value(alloc: Global, words: &Words<'_>, at: usize) -> Result<(Operand, usize), SyntaxFault>
     requires scanned { IsScanned words.now }
@@ -337,7 +337,7 @@ fn numbered_aux(
     }
 }
 
-/// M, S, T, D, F or H, behind the letter.
+/// M, S, T, D, F or H, after the letter.
 #[tactic(auto, using(crate::proofs::Passing::passing), unfolding(crate::specs::Wording::aux_at))]
 fn aux_at(
     alloc: Global,
@@ -361,7 +361,7 @@ fn aux_at(
     }
 }
 
-/// An expression in brackets, if they stand there, and the place behind.
+/// An expression in brackets, if they stand there, and the place after.
 #[tactic(auto, using(crate::proofs::Passing::passing), unfolding(crate::specs::Wording::bracket_at))]
 fn bracket_at(
     alloc: Global,
@@ -382,7 +382,7 @@ fn bracket_at(
     }
 }
 
-/// SPOS, SPOSA, LIMS or SF, behind the name.
+/// SPOS, SPOSA, LIMS or SF, after the name.
 #[tactic(auto, using(crate::proofs::Passing::passing), unfolding(crate::specs::Wording::spindle_at))]
 fn spindle_at(
     alloc: Global,
@@ -397,8 +397,8 @@ fn spindle_at(
 {
     let name = upper_text(alloc, text)?;
     let (index, end) = bracket_at(alloc, words, at)?;
-    let (value, behind) = assigned_at(alloc, words, end)?;
-    Ok((Word::Aux(name, index, Operand::Value(value)), behind))
+    let (value, following) = assigned_at(alloc, words, end)?;
+    Ok((Word::Aux(name, index, Operand::Value(value)), following))
 }
 
 /// Whether a name is SPOS, SPOSA, LIMS or SF.
@@ -419,7 +419,7 @@ fn name_code(text: &[u8]) -> u16
     if is_first_name(text) { 24 } else { 27 }
 }
 
-/// A word that is a name of this text, behind it.
+/// A word that is a name of this text, after it.
 #[tactic(auto, using(crate::proofs::Passing::passing), unfolding(crate::specs::Wording::name_word))]
 fn name_word(
     alloc: Global,
@@ -468,7 +468,7 @@ fn lettered_word(
     }
 }
 
-/// The word at a place, and the place behind it.
+/// The word at a place, and the place after it.
 #[tactic(auto, unfolding(crate::specs::Wording::word_at))]
 fn word_at(alloc: Global, words: &Words<'_>, at: usize) -> Result<(Word, usize), SyntaxFault>
     requires { IsScanned words.now }
@@ -483,7 +483,7 @@ fn word_at(alloc: Global, words: &Words<'_>, at: usize) -> Result<(Word, usize),
     }
 }
 
-/// The word at a place, whether another one follows, and the place behind it.
+/// The word at a place, whether another one follows, and the place after it.
 #[tactic(auto, using(crate::proofs::Passing::passing), unfolding(crate::specs::Wording::word_item_at))]
 fn word_item_at(
     alloc: Global,
@@ -500,7 +500,7 @@ fn word_item_at(
     Ok((word, more, end))
 }
 
-/// The words that stand from a place on, one at least, and the place behind them.
+/// The words that stand from a place on, one at least, and the place after them.
 #[tactic(auto, using(crate::proofs::Listing::list_steps))]
 fn words_at(
     alloc: Global,

@@ -8,10 +8,10 @@ use Rattle.nc_control_flow.specs.declared.flow.Move.TheVariants.{Onward, Leap, S
 use Rattle.nc_control_flow.specs.declared.repeats.Running.{Running}
 use Rattle.nc_control_flow.specs.declared.repeats.Control.TheVariants.{Comes}
 use Rattle.nc_control_flow.specs.Counted.{up_to_counting, next_going}
-use Rattle.nc_control_flow.specs.Flow.{going, gone, next_block}
+use Rattle.nc_control_flow.specs.Flow.{going_by_move, going_or_alarm, next_block}
 use Rattle.nc_control_flow.specs.Moves.{OutcomeView, Plain, Truth, Jump, Again, Skipped, jump, range, single, repetition, move_of}
 use Rattle.nc_control_flow.specs.Parts.{statement_at}
-use Rattle.nc_control_flow.specs.Repetitions.{Going, settled}
+use Rattle.nc_control_flow.specs.Repetitions.{Going, going_after_passes}
 use Rattle.nc_control_flow.specs.Targets.{target_of, first_of_range, single_block}
 
 -- an alarm, where one comes, is 5 or 32
@@ -54,17 +54,17 @@ move_alarms pc blocks statement (Jump way target) = jump_alarms way (target_of w
 move_alarms pc blocks statement (Again times) = repetition_alarms pc blocks statement times
 move_alarms pc blocks statement Skipped = tt
 
-move_going_alarms : (pc : ℕ) (running : List Running) (move : Move) → Alarms (going pc running move)
-unfolding going
+move_going_alarms : (pc : ℕ) (running : List Running) (move : Move) → Alarms (going_by_move pc running move)
+unfolding going_by_move
 move_going_alarms pc running Onward = tt
 move_going_alarms pc running (Leap place) = tt
 move_going_alarms pc running (Start r) = by_room (length running == 16)
   where
-    by_room : (b : Bool) → Alarms (cond b (Err 32) (Ok (settled (Comes r.first) (r ∷ running))))
+    by_room : (b : Bool) → Alarms (cond b (Err 32) (Ok (going_after_passes (Comes r.first) (r ∷ running))))
     by_room true = inr refl
     by_room false = tt
 
-gone_alarms : (pc : ℕ) (running : List Running) (r : Result Move ℕ) → Alarms r → Alarms (gone pc running r)
+gone_alarms : (pc : ℕ) (running : List Running) (r : Result Move ℕ) → Alarms r → Alarms (going_or_alarm pc running r)
 gone_alarms pc running (Ok move) alarms = move_going_alarms pc running move
 gone_alarms pc running (Err code) alarms = alarms
 
@@ -73,7 +73,7 @@ unfolding next_block
 next_alarms pc blocks running outcome = gone_alarms pc running (move_of pc blocks (statement_at pc blocks) outcome) (move_alarms pc blocks (statement_at pc blocks) outcome)
 
 counted_alarms : (skip : Bool) (blocks : List BlockView) (r : Result Going ℕ) → Alarms r → Alarms (up_to_counting skip blocks r)
-counted_alarms skip blocks (Ok going) alarms = tt
+counted_alarms skip blocks (Ok going_by_move) alarms = tt
 counted_alarms skip blocks (Err code) alarms = alarms
 
 -- up to a block that counts too

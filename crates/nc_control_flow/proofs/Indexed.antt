@@ -11,7 +11,7 @@ use Rattle.nc_control_flow.proofs.Matched.{length-placed, placed_entry}
 use Rattle.std.proofs.lemmas.List.{reverse-append, take_more, take_all, map-append, get_or-map}
 use Rattle.std.proofs.lemmas.List.Folds.{find-append}
 use Rattle.std.proofs.lemmas.List.Elements.{All-cons, All-nil, filter-append}
-use Rattle.nc_control_flow.specs.Places.{placed, ahead, those_before}
+use Rattle.nc_control_flow.specs.Places.{with_places, those_after, those_before}
 use Rattle.nc_blocks.specs.declared.blocks.Block.{Block}
 use Rattle.nc_blocks.specs.Statement.{view_of}
 use Rattle.nc_control_flow.specs.Parts.{views}
@@ -68,7 +68,7 @@ among_ahead test pc at (suc n) (b ∷ bs) s =
     passed test pc at b (test b) (enumerate_from (at + 1) bs) refl (omega arith) ∙ among_ahead test pc (at + 1) n bs (omega arith)
 
 pub nearest_ahead_is : {B : Type 0} (test : B → Bool) (pc : ℕ) (bs : List B)
-    → find (λ p. nat_lt pc p) (places_by test (placed bs)) ≡ option_map (λ e. e.0) (find (λ e. test e.1) (ahead pc bs))
+    → find (λ p. nat_lt pc p) (places_by test (with_places bs)) ≡ option_map (λ e. e.0) (find (λ e. test e.1) (those_after pc bs))
 nearest_ahead_is test pc bs = among_ahead test pc 0 (pc + 1) bs (omega arith)
 
 option_map_or_both : {X Y : Type 0} (f : X → Y) (a b : Option X) → option_map f (option_or a b) ≡ option_or (option_map f a) (option_map f b)
@@ -79,7 +79,7 @@ option_or_none : {X : Type 0} (a : Option X) → option_or a None ≡ a
 option_or_none None = refl
 option_or_none (Some x) = refl
 
--- of one block and those behind it, the last before a place
+-- of one block and those after it, the last before a place
 last_of : {B : Type 0} (test : B → Bool) (pc at : ℕ) (b : B) (r : Bool) (es : List (ℕ × B)) → test b ≡ r
     → find (λ p. nat_lt p pc) (reverse (map (λ e. e.0) (cond r ((at, b) ∷ filter (λ e. test e.1) es) (filter (λ e. test e.1) es))))
     ≡ option_or (find (λ p. nat_lt p pc) (reverse (places_by test es))) (cond r (cond (nat_lt at pc) (Some at) None) None)
@@ -120,7 +120,7 @@ among_before test pc at (suc n) (b ∷ bs) s =
     ∙ sym (before_block test at b (take n (enumerate_from (at + 1) bs)))
 
 pub nearest_before_is : {B : Type 0} (test : B → Bool) (pc : ℕ) (bs : List B)
-    → find (λ p. nat_lt p pc) (reverse (places_by test (placed bs))) ≡ option_map (λ e. e.0) (find (λ e. test e.1) (those_before pc bs))
+    → find (λ p. nat_lt p pc) (reverse (places_by test (with_places bs))) ≡ option_map (λ e. e.0) (find (λ e. test e.1) (those_before pc bs))
 nearest_before_is test pc bs = among_before test pc 0 pc bs (omega arith)
 
 -- ---- places ascend
@@ -149,7 +149,7 @@ ascend : {B : Type 0} (test : B → Bool) (at : ℕ) (bs : List B) → AllPairs 
 ascend test at [] = λ i j d h within. absurd (omega arith)
 ascend test at (b ∷ bs) = ascend_from test at b (test b) (enumerate_from (at + 1) bs) (later test (at + 1) (at + 1) bs (omega arith)) (ascend test (at + 1) bs)
 
-pub places_ascend : {B : Type 0} (test : B → Bool) (bs : List B) (places : List ℕ) → places ≡ places_by test (placed bs) → AllPairs (λ a b. a < b) places
+pub places_ascend : {B : Type 0} (test : B → Bool) (bs : List B) (places : List ℕ) → places ≡ places_by test (with_places bs) → AllPairs (λ a b. a < b) places
 places_ascend test bs places e = let P : List ℕ → Type 0 = λ ps. AllPairs (λ a b. a < b) ps in subst P (sym e) (ascend test 0 bs)
 
 -- ---- one block more
@@ -158,25 +158,25 @@ if_more at true b = refl
 if_more at false b = refl
 
 pub places_more : {B : Type 0} (test : B → Bool) (bs : List B) (n : ℕ) (b : B) (old new : List ℕ) → n < length bs → get_or bs n b ≡ b
-    → old ≡ places_by test (take n (placed bs)) → new ≡ old ++ (if test b then n ∷ [] else [])
-    → new ≡ places_by test (take (n + 1) (placed bs))
+    → old ≡ places_by test (take n (with_places bs)) → new ≡ old ++ (if test b then n ∷ [] else [])
+    → new ≡ places_by test (take (n + 1) (with_places bs))
 places_more {B} test bs n b old new h same o e =
-    let long : length (placed bs) ≡ length bs = length-placed 0 bs in
+    let long : length (with_places bs) ≡ length bs = length-placed 0 bs in
     let start : 0 + n ≡ n = omega arith in
     let here : ℕ × B = (n, b) in
-    let entry : get_or (placed bs) n (0, b) ≡ here = placed_entry 0 n bs b h ∙ ap (λ k. (k, get_or bs n b)) start ∙ ap (λ x. (n, x)) same in
-    let kept : places_by test (take (n + 1) (placed bs)) ≡ places_by test (take n (placed bs)) ++ (if test b then n ∷ [] else []) =
-    ap (λ es. places_by test es) (take_more (placed bs) n (0, b) (omega arith) ∙ ap (λ e. take n (placed bs) ++ e ∷ []) entry)
-    ∙ ap (λ es. map (λ (e : ℕ × B). e.0) es) (filter-append (λ (e : ℕ × B). test e.1) (take n (placed bs)) (here ∷ []))
-    ∙ map-append (λ (e : ℕ × B). e.0) (filter (λ e. test e.1) (take n (placed bs))) (filter (λ e. test e.1) (here ∷ []))
-    ∙ ap (λ ps. places_by test (take n (placed bs)) ++ ps) (if_more n (test b) b) in
+    let entry : get_or (with_places bs) n (0, b) ≡ here = placed_entry 0 n bs b h ∙ ap (λ k. (k, get_or bs n b)) start ∙ ap (λ x. (n, x)) same in
+    let kept : places_by test (take (n + 1) (with_places bs)) ≡ places_by test (take n (with_places bs)) ++ (if test b then n ∷ [] else []) =
+    ap (λ es. places_by test es) (take_more (with_places bs) n (0, b) (omega arith) ∙ ap (λ e. take n (with_places bs) ++ e ∷ []) entry)
+    ∙ ap (λ es. map (λ (e : ℕ × B). e.0) es) (filter-append (λ (e : ℕ × B). test e.1) (take n (with_places bs)) (here ∷ []))
+    ∙ map-append (λ (e : ℕ × B). e.0) (filter (λ e. test e.1) (take n (with_places bs))) (filter (λ e. test e.1) (here ∷ []))
+    ∙ ap (λ ps. places_by test (take n (with_places bs)) ++ ps) (if_more n (test b) b) in
     e ∙ ap (λ ps. ps ++ (if test b then n ∷ [] else [])) o ∙ sym kept
 
 pub places_all : {B : Type 0} (test : B → Bool) (bs : List B) (n : ℕ) (places : List ℕ) → length bs ≤ n
-    → places ≡ places_by test (take n (placed bs)) → places ≡ places_by test (placed bs)
+    → places ≡ places_by test (take n (with_places bs)) → places ≡ places_by test (with_places bs)
 places_all test bs n places h e =
-    let long : length (placed bs) ≡ length bs = length-placed 0 bs in
-    e ∙ ap (λ es. places_by test es) (take_all n (placed bs) (omega arith))
+    let long : length (with_places bs) ≡ length bs = length-placed 0 bs in
+    e ∙ ap (λ es. places_by test es) (take_all n (with_places bs) (omega arith))
 
 -- ---- the view of one block
 pub view_at : (blocks : List (ℕ × Block)) (n : ℕ) (e : ℕ × Block) → n < length blocks → e ≡ get_or blocks n e → get_or (views blocks) n (view_of e.1) ≡ view_of e.1

@@ -14,12 +14,12 @@ use Rattle.nc_control_flow.specs.declared.flow.Next.{Next}
 use Rattle.nc_control_flow.specs.declared.flow.Next.TheVariants.{At, Past}
 use Rattle.nc_control_flow.specs.declared.repeats.Running.{Running}
 use Rattle.nc_control_flow.specs.declared.repeats.Control.TheVariants.{Comes}
-use Rattle.nc_control_flow.specs.Counted.{far, counts, has_counting, counted, first_going, plain_from, RepeatCounts}
+use Rattle.nc_control_flow.specs.Counted.{skipped_bound, counts, has_counting, going_to_counted, first_going, plain_from, RepeatCounts}
 use Rattle.nc_control_flow.specs.Flow.{next_at}
 use Rattle.nc_control_flow.specs.Parts.{views}
 use Rattle.nc_control_flow.specs.Resolved.{IsPlain}
-use Rattle.nc_control_flow.specs.Repetitions.{Level, Going, hop, times, settled}
-use Rattle.nc_control_flow.proofs.Counting.{plain_behind, plain_within, plain_here, plain_stops, plain_past, shorter, counted_rests, plain_walk}
+use Rattle.nc_control_flow.specs.Repetitions.{Level, Going, hop, times, going_after_passes}
+use Rattle.nc_control_flow.proofs.Counting.{plain_after, plain_within, plain_here, plain_stops, plain_past, shorter, counted_rests, plain_walk}
 use Rattle.nc_control_flow.proofs.Indexed.{view_at}
 use Rattle.nc_control_flow.proofs.Turning.{settled_takes, settled_none, settled_some, hop_comes}
 
@@ -69,7 +69,7 @@ module _ (blocks : List BlockView) where
   from_start true t =
       let rest : Going = record { place = plain_from blocks 0; running = [] } in
       plain_walk blocks [] 0 (plain_from blocks 0) (All-nil (RepeatCounts blocks)) refl (grind (arith, nat_tests))
-      ∙ ap (counted true blocks) (settled_none (Comes (plain_from blocks 0)) [] (hop_comes (plain_from blocks 0) [] refl)) ∙ counted_rests blocks rest (plain_stops blocks 0)
+      ∙ ap (going_to_counted true blocks) (settled_none (Comes (plain_from blocks 0)) [] (hop_comes (plain_from blocks 0) [] refl)) ∙ counted_rests blocks rest (plain_stops blocks 0)
   from_start false t =
       let here : 0 ≡ plain_from blocks 0 = grind (arith, nat_tests) in
       counted_rests blocks (record { place = 0; running = [] }) (plain_here blocks 0 here) ∙ ap (λ (n : ℕ). record { place = n; running = [] }) here
@@ -78,7 +78,7 @@ module _ (blocks : List BlockView) where
   first_is = from_start (nat_lt 0 (plain_from blocks 0)) refl
 
 pub first_runs : (skip : Bool) (blocks : List BlockView) → (first_going skip blocks).running ≡ []
-unfolding counted
+unfolding going_to_counted
 first_runs false blocks = refl
 first_runs true blocks = ap (λ (g : Going). g.running) (first_is blocks)
 
@@ -98,7 +98,7 @@ any_block [] = refl
 any_block (b ∷ bs) = grind (arith, nat_tests)
 
 pub first_counts : (skip : Bool) (blocks : List BlockView) → nat_lt (first_going skip blocks).place (length blocks) ≡ has_counting skip blocks
-unfolding counted plain_from
+unfolding going_to_counted plain_from
 first_counts false blocks = any_block blocks
 first_counts true blocks =
     let start : plain_from blocks 0 ≡ prefix_len (λ (b : BlockView). b.skip) blocks = omega arith in
@@ -131,16 +131,16 @@ first_at skip blocks pc e = by_test (nat_lt (first_going skip blocks).place (len
 -- ---- by the table
 
 pub going_same : (blocks : List BlockView) (to : Going) (at : ℕ) (new : List Running) → at ≡ to.place → new ≡ to.running
-    → counted true blocks (record { place = at; running = new }) ≡ counted true blocks to
+    → going_to_counted true blocks (record { place = at; running = new }) ≡ going_to_counted true blocks to
 going_same blocks to at new p q =
-    ap (λ (n : ℕ). counted true blocks (record { place = n; running = new })) p ∙ ap (λ (xs : List Running). counted true blocks (record { place = to.place; running = xs })) q
+    ap (λ (n : ℕ). going_to_counted true blocks (record { place = n; running = new })) p ∙ ap (λ (xs : List Running). going_to_counted true blocks (record { place = to.place; running = xs })) q
 
 module _ (blocks : List BlockView) (place there : ℕ) (rs : List Running) (e : there ≡ plain_from blocks place) where
   going : Going
   going = record { place = place; running = rs }
 
   ahead_of : (there ≡ place → ⊥) → place < there
-  ahead_of ne = let behind = plain_behind blocks place in omega (arith, ne, behind, e)
+  ahead_of ne = let following = plain_after blocks place in omega (arith, ne, following, e)
 
   is_place : (there ≡ place → ⊥) → there ≤ length blocks
   is_place ne = by_test (nat_lt place (length blocks)) refl
@@ -152,21 +152,21 @@ module _ (blocks : List BlockView) (place there : ℕ) (rs : List Running) (e : 
       by_test false t =
           let h : length blocks ≤ place = grind (arith, nat_tests) in absurd (ne (e ∙ plain_past blocks place h))
 
-  pub leads_on : (there ≡ place → ⊥) → All (RepeatCounts blocks) rs → (at : ℕ) (new : List Running) → at ≡ (settled (Comes there) rs).place → new ≡ (settled (Comes there) rs).running
-      → counted true blocks (record { place = at; running = new }) ≡ counted true blocks (record { place = place; running = rs })
+  pub leads_on : (there ≡ place → ⊥) → All (RepeatCounts blocks) rs → (at : ℕ) (new : List Running) → at ≡ (going_after_passes (Comes there) rs).place → new ≡ (going_after_passes (Comes there) rs).running
+      → going_to_counted true blocks (record { place = at; running = new }) ≡ going_to_counted true blocks (record { place = place; running = rs })
   leads_on ne all at new p q =
-      going_same blocks (settled (Comes there) rs) at new p q ∙ sym (plain_walk blocks rs place there all e (ahead_of ne))
+      going_same blocks (going_after_passes (Comes there) rs) at new p q ∙ sym (plain_walk blocks rs place there all e (ahead_of ne))
 
-  pub leads_nearer : (there ≡ place → ⊥) → (at : ℕ) (new : List Running) → at ≡ (settled (Comes there) rs).place → new ≡ (settled (Comes there) rs).running
-      → far blocks (record { place = at; running = new }) < far blocks (record { place = place; running = rs })
+  pub leads_nearer : (there ≡ place → ⊥) → (at : ℕ) (new : List Running) → at ≡ (going_after_passes (Comes there) rs).place → new ≡ (going_after_passes (Comes there) rs).running
+      → skipped_bound blocks (record { place = at; running = new }) < skipped_bound blocks (record { place = place; running = rs })
   leads_nearer ne at new p q = rw (p, q) (by_hop (hop (Comes there) rs) refl)
     where
-      by_hop : (o : Option Level) → hop (Comes there) rs ≡ o → far blocks (settled (Comes there) rs) < far blocks (record { place = place; running = rs })
+      by_hop : (o : Option Level) → hop (Comes there) rs ≡ o → skipped_bound blocks (going_after_passes (Comes there) rs) < skipped_bound blocks (record { place = place; running = rs })
       by_hop None h = rw (settled_none (Comes there) rs h) (omega (arith, ahead_of ne, is_place ne))
       by_hop (Some level) h =
           let turned = settled_some (Comes there) level.control rs level.running h in
           let takes = settled_takes level.control level.running in
-          rw (sym turned.0) (shorter blocks (times (settled level.control level.running).running) (times rs) (length blocks) (settled level.control level.running).place (length blocks - place) (omega (arith, turned.1, takes)))
+          rw (sym turned.0) (shorter blocks (times (going_after_passes level.control level.running).running) (times rs) (length blocks) (going_after_passes level.control level.running).place (length blocks - place) (omega (arith, turned.1, takes)))
 
-  pub leads_to : there ≡ place → counted true blocks (record { place = place; running = rs }) ≡ record { place = place; running = rs }
+  pub leads_to : there ≡ place → going_to_counted true blocks (record { place = place; running = rs }) ≡ record { place = place; running = rs }
   leads_to same = counted_rests blocks (record { place = place; running = rs }) (plain_here blocks place (sym same ∙ e))

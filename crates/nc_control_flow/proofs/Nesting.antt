@@ -14,14 +14,14 @@ use Rattle.nc_control_flow.specs.declared.nest.Structure.TheVariants as structur
 use Rattle.nc_control_flow.specs.declared.parts.Part.{Part}
 use Rattle.nc_control_flow.specs.declared.parts.Part.TheVariants.{Opens, Branches, Closes, Neither}
 use Rattle.nc_control_flow.specs.declared.parts.Sought.TheVariants.{End, Branch, Opener}
-use Rattle.nc_control_flow.specs.Parts.{part_of, parts, said, statement_at}
-use Rattle.nc_control_flow.specs.Places.{ahead, those_before}
-use Rattle.nc_control_flow.specs.Matching.{seen, count, matching}
-use Rattle.nc_control_flow.specs.Nest.{ends, opened, closed, with_else, branched, nested}
+use Rattle.nc_control_flow.specs.Parts.{part_of, parts, statement_or_empty, statement_at}
+use Rattle.nc_control_flow.specs.Places.{those_after, those_before}
+use Rattle.nc_control_flow.specs.Matching.{part_in_search, count, matching}
+use Rattle.nc_control_flow.specs.Nest.{ends, nest_with, nest_without, with_else, nest_with_else, nest_after}
 use Rattle.nc_control_flow.specs.Nested.{nested_on, nest_of, IsNested, blocks_of}
 use Rattle.nc_control_flow.proofs.Matched.{before_at}
 
--- ---- how many structures are open before and behind a part
+-- ---- how many structures are open before and after a part
 abbrev pub Steps : Part → ℕ → ℕ → Type 0
 Steps Opens before after = after ≡ before + 1
 Steps Closes before after = before ≡ after + 1
@@ -35,14 +35,14 @@ opened_by : (full : Bool) (all new : List Opened) (one : Opened) → ◌≡◌ {
 opened_by true all new one e = absurd (cc)
 opened_by false all new one e = let same = same_list (one ∷ all) new e in omega arith
 
-open_more : (all new : List Opened) (one : Structure) (line : ℕ) → opened all one line ≡ Ok new → length new ≡ length all + 1
+open_more : (all new : List Opened) (one : Structure) (line : ℕ) → nest_with all one line ≡ Ok new → length new ≡ length all + 1
 open_more all new one line e = opened_by (length all == 16) all new (record { structure = one; line = line }) e
 
 closed_by : (fits : Bool) (others new : List Opened) → ◌≡◌ {A = Result (List Opened) ℕ} (if fits then Ok others else Err 25) (Ok new) → length others + 1 ≡ length new + 1
 closed_by true others new e = let same = same_list others new e in omega arith
 closed_by false others new e = absurd (cc)
 
-close_one : (one : Structure) (all new : List Opened) → closed one all ≡ Ok new → length all ≡ length new + 1
+close_one : (one : Structure) (all new : List Opened) → nest_without one all ≡ Ok new → length all ≡ length new + 1
 close_one one [] new e = absurd (cc)
 close_one one (o ∷ os) new e = let less = closed_by (ends one o.structure) os new e in omega arith
 
@@ -50,13 +50,13 @@ branched_by : (one : Structure) (o : Opened) (os new : List Opened) → with_els
 branched_by structure.If o os new e = let same = same_list (record o { structure = structure.IfElse } ∷ os) new e in omega arith
 branched_by other o os new e = absurd (cc)
 
-branch_one : (all new : List Opened) → branched all ≡ Ok new → (length all ≡ length new) × (0 < length all)
+branch_one : (all new : List Opened) → nest_with_else all ≡ Ok new → (length all ≡ length new) × (0 < length all)
 branch_one [] new e = absurd (cc)
 branch_one (o ∷ os) new e = let same = branched_by o.structure o os new e in (omega arith, omega arith)
 
-pub nest_step : (all new : List Opened) (line : ℕ) (statement : Statement) → nested all line statement ≡ Ok new
+pub nest_step : (all new : List Opened) (line : ℕ) (statement : Statement) → nest_after all line statement ≡ Ok new
     → Steps (part_of statement) (length all) (length new)
-unfolding nested
+unfolding nest_after
 nest_step all new line (If c) e = open_more all new structure.If line e
 nest_step all new line (While c) e = open_more all new structure.While line e
 nest_step all new line Repeat e = open_more all new structure.Repeat line e
@@ -72,7 +72,7 @@ nest_step all new line other e = same_list all new e
 
 -- ---- a search over one part
 end_step : (part : Part) (place more before after : ℕ) (onward : ℕ → Option ℕ) → Steps part before after → more < before
-    → ((k : ℕ) → k < after → IsSome (onward k)) → IsSome (count (seen End part) place more onward)
+    → ((k : ℕ) → k < after → IsSome (onward k)) → IsSome (count (part_in_search End part) place more onward)
 end_step Opens place more before after onward s h rest = rest (suc more) (omega arith)
 end_step Closes place zero before after onward s h rest = refl
 end_step Closes place (suc more) before after onward s h rest = rest more (omega arith)
@@ -80,7 +80,7 @@ end_step Branches place more before after onward s h rest = rest more (omega (ar
 end_step Neither place more before after onward s h rest = rest more (omega arith)
 
 branch_step : (part : Part) (place more before after : ℕ) (onward : ℕ → Option ℕ) → Steps part before after → more < before
-    → ((k : ℕ) → k < after → IsSome (onward k)) → IsSome (count (seen Branch part) place more onward)
+    → ((k : ℕ) → k < after → IsSome (onward k)) → IsSome (count (part_in_search Branch part) place more onward)
 branch_step Opens place more before after onward s h rest = rest (suc more) (omega arith)
 branch_step Closes place zero before after onward s h rest = refl
 branch_step Closes place (suc more) before after onward s h rest = rest more (omega arith)
@@ -89,7 +89,7 @@ branch_step Branches place (suc more) before after onward s h rest = rest (suc m
 branch_step Neither place more before after onward s h rest = rest more (omega arith)
 
 opener_step : (part : Part) (place more before after : ℕ) (onward : ℕ → Option ℕ) → Steps part before after → more < after
-    → ((k : ℕ) → k < before → IsSome (onward k)) → IsSome (count (seen Opener part) place more onward)
+    → ((k : ℕ) → k < before → IsSome (onward k)) → IsSome (count (part_in_search Opener part) place more onward)
 opener_step Opens place zero before after onward s h rest = refl
 opener_step Opens place (suc more) before after onward s h rest = rest more (omega arith)
 opener_step Closes place more before after onward s h rest = rest (suc more) (omega arith)
@@ -103,7 +103,7 @@ fault_stays code (line ∷ lines) = fault_stays code lines
 
 -- ---- ahead
 end_from : (lines : List (ℕ × BlockView)) (line : ℕ × BlockView) (all : List Opened) (r : Result (List Opened) ℕ) (at more : ℕ)
-    → nested all line.0 line.1.statement ≡ r → fold nested_on r lines ≡ Ok [] → more < length all
+    → nest_after all line.0 line.1.statement ≡ r → fold nested_on r lines ≡ Ok [] → more < length all
     → ((new : List Opened) (k : ℕ) → fold nested_on (Ok new) lines ≡ Ok [] → k < length new → IsSome (matching End k (enumerate_from (at + 1) (parts (blocks_of lines)))))
     → IsSome (matching End more (enumerate_from at (parts (blocks_of (line ∷ lines)))))
 end_from lines line all (Err code) at more n f h rest = absurd (let stays = fault_stays code lines in cc)
@@ -115,10 +115,10 @@ end_found : (lines : List (ℕ × BlockView)) (all : List Opened) (at more : ℕ
     → IsSome (matching End more (enumerate_from at (parts (blocks_of lines))))
 end_found [] all at more f h = absurd (let same = same_list all [] f in omega arith)
 end_found (line ∷ lines) all at more f h =
-    end_from lines line all (nested all line.0 line.1.statement) at more refl f h (λ new k e below. end_found lines new (at + 1) k e below)
+    end_from lines line all (nest_after all line.0 line.1.statement) at more refl f h (λ new k e below. end_found lines new (at + 1) k e below)
 
 branch_from : (lines : List (ℕ × BlockView)) (line : ℕ × BlockView) (all : List Opened) (r : Result (List Opened) ℕ) (at more : ℕ)
-    → nested all line.0 line.1.statement ≡ r → fold nested_on r lines ≡ Ok [] → more < length all
+    → nest_after all line.0 line.1.statement ≡ r → fold nested_on r lines ≡ Ok [] → more < length all
     → ((new : List Opened) (k : ℕ) → fold nested_on (Ok new) lines ≡ Ok [] → k < length new → IsSome (matching Branch k (enumerate_from (at + 1) (parts (blocks_of lines)))))
     → IsSome (matching Branch more (enumerate_from at (parts (blocks_of (line ∷ lines)))))
 branch_from lines line all (Err code) at more n f h rest = absurd (let stays = fault_stays code lines in cc)
@@ -130,9 +130,9 @@ branch_found : (lines : List (ℕ × BlockView)) (all : List Opened) (at more : 
     → IsSome (matching Branch more (enumerate_from at (parts (blocks_of lines))))
 branch_found [] all at more f h = absurd (let same = same_list all [] f in omega arith)
 branch_found (line ∷ lines) all at more f h =
-    branch_from lines line all (nested all line.0 line.1.statement) at more refl f h (λ new k e below. branch_found lines new (at + 1) k e below)
+    branch_from lines line all (nest_after all line.0 line.1.statement) at more refl f h (λ new k e below. branch_found lines new (at + 1) k e below)
 
--- ---- behind
+-- ---- after
 nest_front : (lines : List (ℕ × BlockView)) (n : ℕ) (d : ℕ × BlockView) → n < length lines
     → nest_of (take (n + 1) lines) ≡ nested_on (nest_of (take n lines)) (get_or lines n d)
 nest_front lines n d h =
@@ -174,19 +174,19 @@ opener_found lines d (suc n) more all h e below =
 said_is : (lines : List (ℕ × BlockView)) (pc : ℕ) (d : ℕ × BlockView) → pc < length lines → statement_at pc (blocks_of lines) ≡ (get_or lines pc d).1.statement
 said_is lines pc d h =
     let long : length (blocks_of lines) ≡ length lines = length-map lines (λ line. line.1) in
-    ap (λ o. said o) (slice_get-get_or (blocks_of lines) pc d.1 (omega arith))
+    ap (λ o. statement_or_empty o) (slice_get-get_or (blocks_of lines) pc d.1 (omega arith))
     ∙ ap (λ (b : BlockView). b.statement) (get_or-map (λ (line : ℕ × BlockView). line.1) lines pc d d.1 h)
 
 said_past : (lines : List (ℕ × BlockView)) (pc : ℕ) → length lines ≤ pc → statement_at pc (blocks_of lines) ≡ Empty
 said_past lines pc h =
     let long : length (blocks_of lines) ≡ length lines = length-map lines (λ line. line.1) in
-    ap (λ o. said o) (slice_get_past (blocks_of lines) pc (omega arith))
+    ap (λ o. statement_or_empty o) (slice_get_past (blocks_of lines) pc (omega arith))
 
 -- ---- the law
 past_is_neither : (part : Part) (lines : List (ℕ × BlockView)) (pc : ℕ) → length lines ≤ pc → part_of (statement_at pc (blocks_of lines)) ≡ part → Neither ≡ part
 past_is_neither part lines pc h e = sym (ap (λ s. part_of s) (said_past lines pc h)) ∙ e
 
--- what stands open before and behind one line of a program whose structures match
+-- what stands open before and after one line of a program whose structures match
 record IsWithin (lines : List (ℕ × BlockView)) (pc : ℕ) : Type 0 where
   old : List Opened
   new : List Opened
@@ -195,7 +195,7 @@ record IsWithin (lines : List (ℕ × BlockView)) (pc : ℕ) : Type 0 where
   steps : Steps (part_of (statement_at pc (blocks_of lines))) (length old) (length new)
 
 within_new : (lines : List (ℕ × BlockView)) (pc : ℕ) (d : ℕ × BlockView) (old : List Opened) (r : Result (List Opened) ℕ) → pc < length lines
-    → nest_of (take pc lines) ≡ Ok old → nested old (get_or lines pc d).0 (get_or lines pc d).1.statement ≡ r → fold nested_on r (drop (pc + 1) lines) ≡ Ok []
+    → nest_of (take pc lines) ≡ Ok old → nest_after old (get_or lines pc d).0 (get_or lines pc d).1.statement ≡ r → fold nested_on r (drop (pc + 1) lines) ≡ Ok []
     → IsWithin lines pc
 within_new lines pc d old (Err code) h o n f = absurd (let stays = fault_stays code (drop (pc + 1) lines) in cc)
 within_new lines pc d old (Ok new) h o n f = record {
@@ -209,7 +209,7 @@ within_new lines pc d old (Ok new) h o n f = record {
 within_old : (lines : List (ℕ × BlockView)) (pc : ℕ) (d : ℕ × BlockView) (r : Result (List Opened) ℕ) → pc < length lines → nest_of (take pc lines) ≡ r
     → fold nested_on (nested_on r (get_or lines pc d)) (drop (pc + 1) lines) ≡ Ok [] → IsWithin lines pc
 within_old lines pc d (Err code) h o f = absurd (let stays = fault_stays code (drop (pc + 1) lines) in cc)
-within_old lines pc d (Ok old) h o f = within_new lines pc d old (nested old (get_or lines pc d).0 (get_or lines pc d).1.statement) h o refl f
+within_old lines pc d (Ok old) h o f = within_new lines pc d old (nest_after old (get_or lines pc d).0 (get_or lines pc d).1.statement) h o refl f
 
 within : (lines : List (ℕ × BlockView)) (pc : ℕ) (d : ℕ × BlockView) → IsNested lines → pc < length lines → IsWithin lines pc
 within lines pc d n h =
@@ -224,7 +224,7 @@ left_from at (suc n) [] = refl
 left_from at (suc n) (b ∷ bs) =
     let same : at + 1 + n ≡ at + suc n = omega arith in left_from (at + 1) n bs ∙ ap (λ k. enumerate_from k (drop n bs)) same
 
-ahead_is : (lines : List (ℕ × BlockView)) (pc : ℕ) → ahead pc (parts (blocks_of lines)) ≡ enumerate_from (pc + 1) (parts (blocks_of (drop (pc + 1) lines)))
+ahead_is : (lines : List (ℕ × BlockView)) (pc : ℕ) → those_after pc (parts (blocks_of lines)) ≡ enumerate_from (pc + 1) (parts (blocks_of (drop (pc + 1) lines)))
 ahead_is lines pc =
     let start : 0 + (pc + 1) ≡ pc + 1 = omega arith in
     left_from 0 (pc + 1) (parts (blocks_of lines))
@@ -236,11 +236,11 @@ ahead_is lines pc =
 no_line : ℕ × BlockView
 no_line = (0, record { skip = false; number = None; label = None; statement = Empty })
 
-end_behind : (lines : List (ℕ × BlockView)) (pc : ℕ) (w : IsWithin lines pc) → 0 < length w.new → IsSome (matching End 0 (ahead pc (parts (blocks_of lines))))
-end_behind lines pc w h = rw (ahead_is lines pc) (end_found (drop (pc + 1) lines) w.new (pc + 1) 0 w.after h)
+end_after : (lines : List (ℕ × BlockView)) (pc : ℕ) (w : IsWithin lines pc) → 0 < length w.new → IsSome (matching End 0 (those_after pc (parts (blocks_of lines))))
+end_after lines pc w h = rw (ahead_is lines pc) (end_found (drop (pc + 1) lines) w.new (pc + 1) 0 w.after h)
 
-branch_behind : (lines : List (ℕ × BlockView)) (pc : ℕ) (w : IsWithin lines pc) → 0 < length w.new → IsSome (matching Branch 0 (ahead pc (parts (blocks_of lines))))
-branch_behind lines pc w h = rw (ahead_is lines pc) (branch_found (drop (pc + 1) lines) w.new (pc + 1) 0 w.after h)
+branch_after : (lines : List (ℕ × BlockView)) (pc : ℕ) (w : IsWithin lines pc) → 0 < length w.new → IsSome (matching Branch 0 (those_after pc (parts (blocks_of lines))))
+branch_after lines pc w h = rw (ahead_is lines pc) (branch_found (drop (pc + 1) lines) w.new (pc + 1) 0 w.after h)
 
 opens_more : (part : Part) (before after : ℕ) → part ≡ Opens → Steps part before after → 0 < after
 opens_more Opens before after e s = omega arith
@@ -258,22 +258,22 @@ inside : (lines : List (ℕ × BlockView)) (pc : ℕ) (part : Part) → (Neither
 inside lines pc part ne e = ⊎_elim (λ h. h) (λ h. absurd (ne (past_is_neither part lines pc h e))) (cases_lt pc (length lines))
 
 pub end_of_opener : (lines : List (ℕ × BlockView)) (pc : ℕ) → IsNested lines → part_of (statement_at pc (blocks_of lines)) ≡ Opens
-    → IsSome (matching End 0 (ahead pc (parts (blocks_of lines))))
+    → IsSome (matching End 0 (those_after pc (parts (blocks_of lines))))
 end_of_opener lines pc n e =
     let w = within lines pc no_line n (inside lines pc Opens (λ x. cc) e) in
-    end_behind lines pc w (opens_more (part_of (statement_at pc (blocks_of lines))) (length w.old) (length w.new) e w.steps)
+    end_after lines pc w (opens_more (part_of (statement_at pc (blocks_of lines))) (length w.old) (length w.new) e w.steps)
 
 pub branch_of_opener : (lines : List (ℕ × BlockView)) (pc : ℕ) → IsNested lines → part_of (statement_at pc (blocks_of lines)) ≡ Opens
-    → IsSome (matching Branch 0 (ahead pc (parts (blocks_of lines))))
+    → IsSome (matching Branch 0 (those_after pc (parts (blocks_of lines))))
 branch_of_opener lines pc n e =
     let w = within lines pc no_line n (inside lines pc Opens (λ x. cc) e) in
-    branch_behind lines pc w (opens_more (part_of (statement_at pc (blocks_of lines))) (length w.old) (length w.new) e w.steps)
+    branch_after lines pc w (opens_more (part_of (statement_at pc (blocks_of lines))) (length w.old) (length w.new) e w.steps)
 
 pub end_of_else : (lines : List (ℕ × BlockView)) (pc : ℕ) → IsNested lines → part_of (statement_at pc (blocks_of lines)) ≡ Branches
-    → IsSome (matching End 0 (ahead pc (parts (blocks_of lines))))
+    → IsSome (matching End 0 (those_after pc (parts (blocks_of lines))))
 end_of_else lines pc n e =
     let w = within lines pc no_line n (inside lines pc Branches (λ x. cc) e) in
-    end_behind lines pc w (branches_within (part_of (statement_at pc (blocks_of lines))) (length w.old) (length w.new) e w.steps)
+    end_after lines pc w (branches_within (part_of (statement_at pc (blocks_of lines))) (length w.old) (length w.new) e w.steps)
 
 pub opener_of_end : (lines : List (ℕ × BlockView)) (pc : ℕ) → IsNested lines → part_of (statement_at pc (blocks_of lines)) ≡ Closes
     → IsSome (matching Opener 0 (those_before pc (parts (blocks_of lines))))

@@ -11,7 +11,7 @@ use Rattle.std.proofs.lemmas.Bool.Decides.{nat_tests}
 use Rattle.nc_control_flow.specs.declared.repeats.Running.{Running}
 use Rattle.nc_control_flow.specs.declared.repeats.Control.{Control}
 use Rattle.nc_control_flow.specs.declared.repeats.Control.TheVariants.{Done, Comes}
-use Rattle.nc_control_flow.specs.Repetitions.{Level, is_over, turned_at, turn, hop, past, after_hop, hops, times, settled, TurnsTo, OwnFits}
+use Rattle.nc_control_flow.specs.Repetitions.{Level, is_over, turned_at, turn, hop, place_past, after_hop, hops, times, going_after_passes, TurnsTo, OwnFits}
 
 -- ---- lists with one element less, or back in its place
 pub All-remove : {X : Type 0} (P : X → Type 0) (xs : List X) (at : ℕ) → All P xs → All P (remove xs at)
@@ -122,11 +122,11 @@ hop_takes (Comes pc) rs level e = turn_takes (Comes pc) rs level e
 hop_takes (Done pc) rs level e = either_takes pc rs level (turn (Done pc) rs) refl e
 
 hopped : (n : ℕ) (control : Control) (rs : List Running) (level : Level) → hop control rs ≡ Some level → n ≡ times level.running
-    → hops (suc n) control rs ≡ settled level.control level.running
-unfolding settled
+    → hops (suc n) control rs ≡ going_after_passes level.control level.running
+unfolding going_after_passes
 hopped n control rs level e t = ap (λ o. after_hop control rs o (λ c r. hops n c r)) e ∙ ap (λ k. hops k level.control level.running) t
 
-pub stopped : (n : ℕ) (control : Control) (rs : List Running) → hop control rs ≡ None → hops n control rs ≡ record { place = past control; running = rs }
+pub stopped : (n : ℕ) (control : Control) (rs : List Running) → hop control rs ≡ None → hops n control rs ≡ record { place = place_past control; running = rs }
 stopped zero control rs e = refl
 stopped (suc n) control rs e = ap (λ o. after_hop control rs o (λ c r. hops n c r)) e
 
@@ -141,8 +141,8 @@ hop_none None old new t = (refl, t.1)
 hop_none (Some level) old new t = absurd (let e = t.0 in cc)
 
 pub settled_hop : (control next : Control) (old new : List Running) → TurnsTo (hop control old) (Some next) old new
-    → (settled next new ≡ settled control old) × (times new + 1 ≡ times old)
-unfolding settled
+    → (going_after_passes next new ≡ going_after_passes control old) × (times new + 1 ≡ times old)
+unfolding going_after_passes
 settled_hop control next old new t =
     let level : Level = record { control = next; running = new } in
     let e : hop control old ≡ Some level = hop_level (hop control old) control next old new t in
@@ -151,8 +151,8 @@ settled_hop control next old new t =
     (sym (ap (λ n. hops n control old) more ∙ hopped (times new) control old level e refl), takes)
 
 pub settled_stop : (control : Control) (old new : List Running) → TurnsTo (hop control old) None old new
-    → settled control old ≡ record { place = past control; running = new }
-unfolding settled
+    → going_after_passes control old ≡ record { place = place_past control; running = new }
+unfolding going_after_passes
 settled_stop control old new t =
     let h = hop_none (hop control old) old new t in
-    stopped (times old) control old h.0 ∙ ap (λ rs. record { place = past control; running = rs }) (sym h.1)
+    stopped (times old) control old h.0 ∙ ap (λ rs. record { place = place_past control; running = rs }) (sym h.1)

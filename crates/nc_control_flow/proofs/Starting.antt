@@ -1,4 +1,4 @@
--- Repetitions that blocks begin, and what runs behind a block.
+-- Repetitions that blocks begin, and what runs after a block.
 use Rattle.std.proofs.Common.{◌≡◌, ℕ, zero, suc, ◌+◌, ◌-◌, ◌<◌, ◌≤◌, ◌==◌, nat_lt, nat_le, not, Bool, true, false, cond, List, [], ◌∷◌, length, reverse, refl, sym, ap, ◌∙◌, subst, arith, All, Option, Some, None, Result, Ok, Err}
 use Rattle.std.specs.Prelude.{find, filter, slice_get, option_map}
 use Rattle.std.specs.Option.{option_map_or}
@@ -13,13 +13,13 @@ use Rattle.nc_control_flow.specs.declared.flow.Move.{Move}
 use Rattle.nc_control_flow.specs.declared.flow.Move.TheVariants.{Onward, Leap, Start}
 use Rattle.nc_control_flow.specs.declared.repeats.Running.{Running}
 use Rattle.nc_control_flow.specs.declared.repeats.Control.TheVariants.{Done, Comes}
-use Rattle.nc_control_flow.specs.Counted.{counts, counts_at, is_skipped, counted, up_to_counting, next_going, plain_from, end_of, RepeatCounts, CountRepeats, MoveStarts}
-use Rattle.nc_control_flow.specs.Flow.{going, gone, next_block}
+use Rattle.nc_control_flow.specs.Counted.{counts, counts_at, is_skipped, going_to_counted, up_to_counting, next_going, plain_from, end_of, RepeatCounts, CountRepeats, MoveStarts}
+use Rattle.nc_control_flow.specs.Flow.{going_by_move, going_or_alarm, next_block}
 use Rattle.nc_control_flow.specs.Index.{places_by}
 use Rattle.nc_control_flow.specs.Moves.{OutcomeView, Plain, Truth, Jump, Again, Skipped, plain_move, choice, onward_if, leap_if, jump, range, single, repetition, move_of}
 use Rattle.nc_control_flow.specs.Parts.{statement_at, views}
-use Rattle.nc_control_flow.specs.Places.{placed}
-use Rattle.nc_control_flow.specs.Repetitions.{Going, is_within, settled, behind_block}
+use Rattle.nc_control_flow.specs.Places.{with_places}
+use Rattle.nc_control_flow.specs.Repetitions.{Going, is_within, going_after_passes, after_block}
 use Rattle.nc_control_flow.specs.Structures.{closing, branching, opening}
 use Rattle.nc_control_flow.specs.Targets.{has_label, target_of, first_of_range, single_block}
 use Rattle.nc_control_flow.proofs.Counting.{settled_counts, counted_counts, counted_ends, idle_passes}
@@ -40,7 +40,7 @@ first_before : (name : List ℕ) (pc : ℕ) (blocks : List BlockView) (first : �
 unfolding first_of_range
 first_before name pc blocks first e =
     let test : nat_lt first pc ≡ true =
-    found_passes (λ p. nat_lt p pc) (reverse (places_by (has_label name) (placed blocks))) first (nearest_before_is (has_label name) pc blocks ∙ e) in
+    found_passes (λ p. nat_lt p pc) (reverse (places_by (has_label name) (with_places blocks))) first (nearest_before_is (has_label name) pc blocks ∙ e) in
     grind (arith, nat_tests)
 
 -- ---- what a block asks for
@@ -113,7 +113,7 @@ pub asked_starts : (pc : ℕ) (blocks : List BlockView) (statement : Statement) 
     → r ≡ move_of pc blocks statement outcome → r ≡ Ok move → MoveStarts pc move
 asked_starts pc blocks statement outcome r move a e = subst (Starts pc) (sym a ∙ e) (move_starts pc blocks statement outcome)
 
--- ---- what runs behind a block
+-- ---- what runs after a block
 
 -- a block without `/` stands there
 pub plain_own : (blocks : List BlockView) (pc : ℕ) → counts_at true blocks pc ≡ true → is_skipped (slice_get blocks pc) ≡ false
@@ -141,29 +141,29 @@ begun_counts blocks pc r rs here own some all =
 
 module _ (blocks : List BlockView) (pc : ℕ) (rs : List Running) (here : counts_at true blocks pc ≡ true) (all : All (RepeatCounts blocks) rs) where
   abbrev Kept : Result Going ℕ → Type 0
-  Kept (Ok g) = All (RepeatCounts blocks) (counted true blocks g).running
+  Kept (Ok g) = All (RepeatCounts blocks) (going_to_counted true blocks g).running
   Kept (Err code) = Unit {0}
 
-  start_kept : (r : Running) → MoveStarts pc (Start r) → (b : Bool) → nat_lt (plain_from blocks r.first) (end_of r) ≡ b → All (RepeatCounts blocks) (counted true blocks (settled (Comes r.first) (r ∷ rs))).running
+  start_kept : (r : Running) → MoveStarts pc (Start r) → (b : Bool) → nat_lt (plain_from blocks r.first) (end_of r) ≡ b → All (RepeatCounts blocks) (going_to_counted true blocks (going_after_passes (Comes r.first) (r ∷ rs))).running
   start_kept r starts true t =
-      counted_counts blocks (settled (Comes r.first) (r ∷ rs)) (settled_counts blocks (Comes r.first) (r ∷ rs) (begun_counts blocks pc r rs here starts.0 (grind (arith, nat_tests)) all))
+      counted_counts blocks (going_after_passes (Comes r.first) (r ∷ rs)) (settled_counts blocks (Comes r.first) (r ∷ rs) (begun_counts blocks pc r rs here starts.0 (grind (arith, nat_tests)) all))
   start_kept r starts false t =
       let idle : end_of r ≤ plain_from blocks r.first = grind (arith, nat_tests) in
       subst (λ (g : Going). All (RepeatCounts blocks) g.running) (sym (idle_passes blocks rs all r starts.1 idle))
-      (counted_counts blocks (settled (Done r.own) rs) (settled_counts blocks (Done r.own) rs all))
+      (counted_counts blocks (going_after_passes (Done r.own) rs) (settled_counts blocks (Done r.own) rs all))
 
-  going_kept : (move : Move) → MoveStarts pc move → Kept (going pc rs move)
-  unfolding going
-  going_kept Onward starts = counted_counts blocks (settled (Done pc) rs) (settled_counts blocks (Done pc) rs all)
+  going_kept : (move : Move) → MoveStarts pc move → Kept (going_by_move pc rs move)
+  unfolding going_by_move
+  going_kept Onward starts = counted_counts blocks (going_after_passes (Done pc) rs) (settled_counts blocks (Done pc) rs all)
   going_kept (Leap place) starts =
-      counted_counts blocks (settled (Comes place) (filter (is_within place) rs)) (settled_counts blocks (Comes place) (filter (is_within place) rs) (All-filter (is_within place) (RepeatCounts blocks) rs all))
+      counted_counts blocks (going_after_passes (Comes place) (filter (is_within place) rs)) (settled_counts blocks (Comes place) (filter (is_within place) rs) (All-filter (is_within place) (RepeatCounts blocks) rs all))
   going_kept (Start r) starts = by_room (length rs == 16)
     where
-      by_room : (b : Bool) → Kept (cond b (Err 32) (Ok (settled (Comes r.first) (r ∷ rs))))
+      by_room : (b : Bool) → Kept (cond b (Err 32) (Ok (going_after_passes (Comes r.first) (r ∷ rs))))
       by_room true = tt
       by_room false = start_kept r starts (nat_lt (plain_from blocks r.first) (end_of r)) refl
 
-  gone_kept : (m : Result Move ℕ) → Starts pc m → Kept (gone pc rs m)
+  gone_kept : (m : Result Move ℕ) → Starts pc m → Kept (going_or_alarm pc rs m)
   gone_kept (Ok move) starts = going_kept move starts
   gone_kept (Err code) starts = tt
 
@@ -179,7 +179,7 @@ next_counts true pc blocks rs outcome g here all e = by_result (next_block pc bl
   where
     by_result : (r : Result Going ℕ) → next_block pc blocks rs outcome ≡ r → All (RepeatCounts blocks) g.running
     by_result (Ok to) n =
-        let same : counted true blocks to ≡ g = let is : Ok (counted true blocks to) ≡ Ok g = sym (ap (up_to_counting true blocks) n) ∙ e in cc in
+        let same : going_to_counted true blocks to ≡ g = let is : Ok (going_to_counted true blocks to) ≡ Ok g = sym (ap (up_to_counting true blocks) n) ∙ e in cc in
         subst (λ (h : Going). All (RepeatCounts blocks) h.running) same (subst (Kept blocks pc rs here all) n (next_kept blocks pc rs here all outcome))
     by_result (Err code) n = absurd (let is : Err code ≡ Ok g = sym (ap (up_to_counting true blocks) n) ∙ e in cc)
 
@@ -193,35 +193,35 @@ plain_counts [] place h e = absurd (omega arith)
 plain_counts (b ∷ bs) zero h e = ap not e
 plain_counts (b ∷ bs) (suc place) h e = plain_counts bs place (omega arith) e
 
-pub behind_counts : (skip : Bool) (blocks : List BlockView) (pc : ℕ) (rs : List Running) → CountRepeats skip blocks rs → CountRepeats skip blocks (counted skip blocks (behind_block pc rs)).running
-behind_counts false blocks pc rs all = tt
-behind_counts true blocks pc rs all = counted_counts blocks (settled (Done pc) rs) (settled_counts blocks (Done pc) rs all)
+pub after_counts : (skip : Bool) (blocks : List BlockView) (pc : ℕ) (rs : List Running) → CountRepeats skip blocks rs → CountRepeats skip blocks (going_to_counted skip blocks (after_block pc rs)).running
+after_counts false blocks pc rs all = tt
+after_counts true blocks pc rs all = counted_counts blocks (going_after_passes (Done pc) rs) (settled_counts blocks (Done pc) rs all)
 
 -- the block at which control rests counts
-pub rests_at : (skip : Bool) (blocks : List BlockView) (g : Going) → (counted skip blocks g).place < length blocks → counts_at skip blocks (counted skip blocks g).place ≡ true
-unfolding counted
+pub rests_at : (skip : Bool) (blocks : List BlockView) (g : Going) → (going_to_counted skip blocks g).place < length blocks → counts_at skip blocks (going_to_counted skip blocks g).place ≡ true
+unfolding going_to_counted
 rests_at false blocks g h = any_counts blocks g.place h
-rests_at true blocks g h = plain_counts blocks (counted true blocks g).place h (counted_ends blocks g)
+rests_at true blocks g h = plain_counts blocks (going_to_counted true blocks g).place h (counted_ends blocks g)
 
 -- ---- answers of the code
 
 -- where nothing is passed over
 pub none_over : (blocks : List BlockView) (r : Result Going ℕ) → up_to_counting false blocks r ≡ r
-unfolding counted
-none_over blocks (Ok going) = refl
+unfolding going_to_counted
+none_over blocks (Ok going_by_move) = refl
 none_over blocks (Err code) = refl
 
 -- a repetition of blocks with `/` alone is passed over
 pub idle_leads : (blocks : List BlockView) (pc : ℕ) (rs : List Running) (asked : Move) (r : Running) (full idle : Bool) → asked ≡ Start r → MoveStarts pc asked → All (RepeatCounts blocks) rs
     → full ≡ (length rs == 16) → full ≡ false → idle ≡ nat_le (end_of r) (plain_from blocks r.first) → idle ≡ true
-    → up_to_counting true blocks (going pc rs asked) ≡ Ok (counted true blocks (settled (Done pc) rs))
-unfolding going
+    → up_to_counting true blocks (going_by_move pc rs asked) ≡ Ok (going_to_counted true blocks (going_after_passes (Done pc) rs))
+unfolding going_by_move
 idle_leads blocks pc rs asked r full idle is starts all f not_full i is_idle =
     let own = subst (MoveStarts pc) is starts in
     let room : (length rs == 16) ≡ false = sym f ∙ not_full in
     let test : nat_le (end_of r) (plain_from blocks r.first) ≡ true = sym i ∙ is_idle in
-    let passes : counted true blocks (settled (Comes r.first) (r ∷ rs)) ≡ counted true blocks (settled (Done pc) rs) =
-    idle_passes blocks rs all r own.1 (grind (arith, nat_tests)) ∙ ap (λ (n : ℕ). counted true blocks (settled (Done n) rs)) own.0 in
+    let passes : going_to_counted true blocks (going_after_passes (Comes r.first) (r ∷ rs)) ≡ going_to_counted true blocks (going_after_passes (Done pc) rs) =
+    idle_passes blocks rs all r own.1 (grind (arith, nat_tests)) ∙ ap (λ (n : ℕ). going_to_counted true blocks (going_after_passes (Done n) rs)) own.0 in
     rw (is, room) (ap (λ (g : Going). Ok g) passes)
 
 -- a block without `/` counts

@@ -7,7 +7,7 @@ use Rattle.std.proofs.lemmas.Option.{slice_get_within, get_or_from_slice_get, sa
 use Rattle.nc_control_flow.specs.declared.repeats.Running.{Running}
 use Rattle.nc_control_flow.specs.declared.repeats.Control.{Control}
 use Rattle.nc_control_flow.specs.declared.repeats.Control.TheVariants.{Done, Comes}
-use Rattle.nc_control_flow.specs.Repetitions.{Level, Going, is_over, turned_at, turn, hop, past, after_hop, hops, times, settled, TurnsTo}
+use Rattle.nc_control_flow.specs.Repetitions.{Level, Going, is_over, turned_at, turn, hop, place_past, after_hop, hops, times, going_after_passes, TurnsTo}
 use Rattle.nc_control_flow.proofs.Repeating.{All-remove, hop_takes, stopped, settled_hop}
 
 -- ---- what does not depend on the passes that are left
@@ -55,16 +55,16 @@ module _ (Q : List Running → Type 0) (step : (control : Control) (rs : List Ru
   hops_keep zero control rs q = q
   hops_keep (suc n) control rs q = after_keeps control rs (hop control rs) (λ c xs. hops n c xs) refl q (λ c xs. hops_keep n c xs)
 
-  settled_keeps : (control : Control) (rs : List Running) → Q rs → Q (settled control rs).running
-  unfolding settled
+  settled_keeps : (control : Control) (rs : List Running) → Q rs → Q (going_after_passes control rs).running
+  unfolding going_after_passes
   settled_keeps control rs q = hops_keep (times rs) control rs q
 
 pub all_settled : (P : Running → Type 0) → ((r : Running) (n : ℕ) → P r → P (record r { left = n })) → (control : Control) (rs : List Running) → All P rs
-    → All P (settled control rs).running
+    → All P (going_after_passes control rs).running
 all_settled P same control rs all = settled_keeps (λ (xs : List Running). All P xs) (λ c xs level e q. hop_keeps P same xs q c level e) control rs all
 
 -- no pass is added
-pub settled_takes : (control : Control) (rs : List Running) → times (settled control rs).running ≤ times rs
+pub settled_takes : (control : Control) (rs : List Running) → times (going_after_passes control rs).running ≤ times rs
 settled_takes control rs =
     let fewer : (c : Control) (xs : List Running) (level : Level) → hop c xs ≡ Some level → times xs ≤ times rs → times level.running ≤ times rs =
     λ c xs level e q. let takes = hop_takes c xs level e in omega (arith, takes, q) in
@@ -73,12 +73,12 @@ settled_takes control rs =
 -- ---- by the first step
 
 -- control stays where no pass is over
-pub settled_none : (control : Control) (rs : List Running) → hop control rs ≡ None → settled control rs ≡ record { place = past control; running = rs }
-unfolding settled
+pub settled_none : (control : Control) (rs : List Running) → hop control rs ≡ None → going_after_passes control rs ≡ record { place = place_past control; running = rs }
+unfolding going_after_passes
 settled_none control rs e = stopped (times rs) control rs e
 
 pub settled_some : (control next : Control) (rs new : List Running) → hop control rs ≡ Some (record { control = next; running = new })
-    → (settled next new ≡ settled control rs) × (times new + 1 ≡ times rs)
+    → (going_after_passes next new ≡ going_after_passes control rs) × (times new + 1 ≡ times rs)
 settled_some control next rs new e = settled_hop control next rs new (subst (λ (o : Option Level). TurnsTo o (Some next) rs new) (sym e) (refl, refl))
 
 -- where its own pass is not over, what is done comes to the next block
@@ -96,8 +96,8 @@ hop_same : (pc : ℕ) (rs : List Running) → turn (Done pc) rs ≡ None → hop
 unfolding hop
 hop_same pc rs e = ap (λ (o : Option Level). option_or o (turn (Comes (pc + 1)) rs)) e
 
-pub settled_same : (pc : ℕ) (rs : List Running) → turn (Done pc) rs ≡ None → settled (Done pc) rs ≡ settled (Comes (pc + 1)) rs
-unfolding settled
+pub settled_same : (pc : ℕ) (rs : List Running) → turn (Done pc) rs ≡ None → going_after_passes (Done pc) rs ≡ going_after_passes (Comes (pc + 1)) rs
+unfolding going_after_passes
 settled_same pc rs e = hops_same (times rs) pc rs (hop_same pc rs e)
 
 pub hop_comes : (pc : ℕ) (rs : List Running) → turn (Comes pc) rs ≡ None → hop (Comes pc) rs ≡ None

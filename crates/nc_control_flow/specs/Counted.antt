@@ -8,7 +8,7 @@ use Rattle.nc_control_flow.specs.declared.flow.Move.{Move}
 use Rattle.nc_control_flow.specs.declared.flow.Move.TheVariants.{Start}
 use Rattle.nc_control_flow.specs.Flow.{next_block}
 use Rattle.nc_control_flow.specs.Moves.{OutcomeView}
-use Rattle.nc_control_flow.specs.Repetitions.{Going, times, behind_block}
+use Rattle.nc_control_flow.specs.Repetitions.{Going, times, after_block}
 
 -- whether a block counts
 abbrev pub counts : Bool → BlockView → Bool
@@ -27,34 +27,34 @@ abbrev pub is_skipped : Option BlockView → Bool
 is_skipped (Some block) = block.skip
 is_skipped None = false
 
--- a block with `/` starts nothing, and control goes on behind it
-abbrev pub over : List BlockView → Going → Option Going
-over blocks going = if is_skipped (slice_get blocks going.place) then Some (behind_block going.place going.running) else None
+-- a block with `/` starts nothing, and control goes on after it
+abbrev pub going_past_skipped : List BlockView → Going → Option Going
+going_past_skipped blocks going = if is_skipped (slice_get blocks going.place) then Some (after_block going.place going.running) else None
 
 abbrev pub after_over : Going → Option Going → (Going → Going) → Going
 after_over going None onward = going
 after_over going (Some next) onward = onward next
 
-abbrev pub walked : ℕ → List BlockView → Going → Going
-walked zero blocks going = going
-walked (suc n) blocks going = after_over going (over blocks going) (λ next. walked n blocks next)
+abbrev pub going_after : ℕ → List BlockView → Going → Going
+going_after zero blocks going = going
+going_after (suc n) blocks going = after_over going (going_past_skipped blocks going) (λ next. going_after n blocks next)
 
 -- each block that is passed over takes one of the passes that are left, or leads one block on
-abbrev pub far : List BlockView → Going → ℕ
-far blocks going = times going.running * (length blocks + 1) + (length blocks - going.place)
+abbrev pub skipped_bound : List BlockView → Going → ℕ
+skipped_bound blocks going = times going.running * (length blocks + 1) + (length blocks - going.place)
 
 -- control goes on to the next block that counts
-unfoldable pub counted : Bool → List BlockView → Going → Going
-counted false blocks going = going
-counted true blocks going = walked (far blocks going) blocks going
+unfoldable pub going_to_counted : Bool → List BlockView → Going → Going
+going_to_counted false blocks going = going
+going_to_counted true blocks going = going_after (skipped_bound blocks going) blocks going
 
 -- the first block that counts, where no repetition runs
 abbrev pub first_going : Bool → List BlockView → Going
-first_going skip blocks = counted skip blocks (record { place = 0; running = [] })
+first_going skip blocks = going_to_counted skip blocks (record { place = 0; running = [] })
 
 -- the same, unless it alarms
 abbrev pub up_to_counting : Bool → List BlockView → Result Going ℕ → Result Going ℕ
-up_to_counting skip blocks (Ok going) = Ok (counted skip blocks going)
+up_to_counting skip blocks (Ok going) = Ok (going_to_counted skip blocks going)
 up_to_counting skip blocks (Err code) = Err code
 
 -- where the block at a place goes on, up to a block that counts
@@ -63,11 +63,11 @@ next_going skip pc blocks running outcome = up_to_counting skip blocks (next_blo
 
 -- ---- at once
 
--- the place of the nearest block without `/` at or behind a place; without one that behind the last block
+-- the place of the nearest block without `/` at or after a place; without one that after the last block
 unfoldable pub plain_from : List BlockView → ℕ → ℕ
 plain_from blocks place = place + prefix_len (λ block. block.skip) (drop place blocks)
 
--- the place behind the blocks that a repetition repeats
+-- the place after the blocks that a repetition repeats
 abbrev pub end_of : Running → ℕ
 end_of r = if r.single then r.first + 1 else r.own
 

@@ -6,13 +6,13 @@ use Rattle.nc_control_flow.specs.declared.parts.Sought.{Sought}
 use Rattle.nc_control_flow.specs.declared.parts.Sought.TheVariants.{End, Branch, Opener}
 
 -- how a search sees a part: one for the end passes over an ELSE, and backwards an end opens
-abbrev pub seen : Sought → Part → Part
-seen End Branches = Neither
-seen End part = part
-seen Branch part = part
-seen Opener Opens = Closes
-seen Opener Closes = Opens
-seen Opener part = Neither
+abbrev pub part_in_search : Sought → Part → Part
+part_in_search End Branches = Neither
+part_in_search End part = part
+part_in_search Branch part = part
+part_in_search Opener Opens = Closes
+part_in_search Opener Closes = Opens
+part_in_search Opener part = Neither
 
 -- one part is met, while so many structures were opened on the way and have to end first
 abbrev pub count : Part → ℕ → ℕ → (ℕ → Option ℕ) → Option ℕ
@@ -26,4 +26,4 @@ count Neither place more onward = onward more
 -- the place of the first part that ends the structure round these
 abbrev pub matching : Sought → ℕ → List (ℕ × Part) → Option ℕ
 matching sought more [] = None
-matching sought more (e ∷ es) = count (seen sought e.1) e.0 more (λ others. matching sought others es)
+matching sought more (e ∷ es) = count (part_in_search sought e.1) e.0 more (λ others. matching sought others es)

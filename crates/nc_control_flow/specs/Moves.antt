@@ -28,7 +28,7 @@ outcome_view (outcome.Jump way target) = Jump way target.now
 outcome_view (outcome.Again times) = Again times
 outcome_view outcome.Skipped = Skipped
 
--- ELSE that is reached from above goes behind ENDIF; ENDWHILE and ENDLOOP go to the beginning
+-- ELSE that is reached from above goes after ENDIF; ENDWHILE and ENDLOOP go to the beginning
 unfoldable pub plain_move : ℕ → List BlockView → Statement → Move
 plain_move pc blocks Else = Leap (closing pc blocks + 1)
 plain_move pc blocks EndWhile = Leap (opening pc blocks)

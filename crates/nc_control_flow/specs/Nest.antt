@@ -16,36 +16,36 @@ ends structure.Loop structure.Loop = true
 ends structure.For structure.For = true
 ends one other = false
 
-abbrev pub opened : List Opened → Structure → ℕ → Result (List Opened) ℕ
-opened all one line = if length all == STRUCTURE_LIMIT then Err 26 else Ok (record { structure = one; line = line } ∷ all)
+abbrev pub nest_with : List Opened → Structure → ℕ → Result (List Opened) ℕ
+nest_with all one line = if length all == STRUCTURE_LIMIT then Err 26 else Ok (record { structure = one; line = line } ∷ all)
 
-abbrev pub closed : Structure → List Opened → Result (List Opened) ℕ
-closed one [] = Err 25
-closed one (innermost ∷ others) = if ends one innermost.structure then Ok others else Err 25
+abbrev pub nest_without : Structure → List Opened → Result (List Opened) ℕ
+nest_without one [] = Err 25
+nest_without one (innermost ∷ others) = if ends one innermost.structure then Ok others else Err 25
 
 abbrev pub with_else : Structure → Opened → List Opened → Result (List Opened) ℕ
 with_else structure.If innermost others = Ok (record innermost { structure = structure.IfElse } ∷ others)
 with_else other innermost others = Err 25
 
 -- an ELSE goes on with the innermost structure, which is an IF that has none yet
-abbrev pub branched : List Opened → Result (List Opened) ℕ
-branched [] = Err 25
-branched (innermost ∷ others) = with_else innermost.structure innermost others
+abbrev pub nest_with_else : List Opened → Result (List Opened) ℕ
+nest_with_else [] = Err 25
+nest_with_else (innermost ∷ others) = with_else innermost.structure innermost others
 
--- the open structures behind one more line
-unfoldable pub nested : List Opened → ℕ → Statement → Result (List Opened) ℕ
-nested all line (If c) = opened all structure.If line
-nested all line (While c) = opened all structure.While line
-nested all line Repeat = opened all structure.Repeat line
-nested all line Loop = opened all structure.Loop line
-nested all line (For i a b) = opened all structure.For line
-nested all line Else = branched all
-nested all line EndIf = closed structure.If all
-nested all line EndWhile = closed structure.While all
-nested all line (Until c) = closed structure.Repeat all
-nested all line EndLoop = closed structure.Loop all
-nested all line EndFor = closed structure.For all
-nested all line other = Ok all
+-- the open structures after one more line
+unfoldable pub nest_after : List Opened → ℕ → Statement → Result (List Opened) ℕ
+nest_after all line (If c) = nest_with all structure.If line
+nest_after all line (While c) = nest_with all structure.While line
+nest_after all line Repeat = nest_with all structure.Repeat line
+nest_after all line Loop = nest_with all structure.Loop line
+nest_after all line (For i a b) = nest_with all structure.For line
+nest_after all line Else = nest_with_else all
+nest_after all line EndIf = nest_without structure.If all
+nest_after all line EndWhile = nest_without structure.While all
+nest_after all line (Until c) = nest_without structure.Repeat all
+nest_after all line EndLoop = nest_without structure.Loop all
+nest_after all line EndFor = nest_without structure.For all
+nest_after all line other = Ok all
 
 -- after a fault the nest is unchanged
 abbrev pub Nests : Result (List Opened) ℕ → Result Unit ℕ → List Opened → List Opened → Type 0

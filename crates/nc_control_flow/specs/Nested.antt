@@ -2,14 +2,14 @@
 use Rattle.std.specs.Prelude.{◌≡◌, ℕ, List, [], fold, map, Result, Ok, Err}
 use Rattle.nc_blocks.specs.Statement.{BlockView}
 use Rattle.nc_control_flow.specs.declared.nest.Opened.{Opened}
-use Rattle.nc_control_flow.specs.Nest.{nested}
+use Rattle.nc_control_flow.specs.Nest.{nest_after}
 
--- the open structures behind one more line, unless a line before it has a fault
+-- the open structures after one more line, unless a line before it has a fault
 abbrev pub nested_on : Result (List Opened) ℕ → ℕ × BlockView → Result (List Opened) ℕ
-nested_on (Ok all) line = nested all line.0 line.1.statement
+nested_on (Ok all) line = nest_after all line.0 line.1.statement
 nested_on (Err code) line = Err code
 
--- the open structures behind some lines
+-- the open structures after some lines
 abbrev pub nest_of : List (ℕ × BlockView) → Result (List Opened) ℕ
 nest_of lines = fold nested_on (Ok []) lines
 

@@ -26,10 +26,10 @@ part_of other = Neither
 abbrev pub parts : List BlockView → List Part
 parts blocks = map (λ b. part_of b.statement) blocks
 
-abbrev pub said : Option BlockView → Statement
-said (Some b) = b.statement
-said None = Empty
+abbrev pub statement_or_empty : Option BlockView → Statement
+statement_or_empty (Some b) = b.statement
+statement_or_empty None = Empty
 
 -- what the block at a place says
 abbrev pub statement_at : ℕ → List BlockView → Statement
-statement_at pc blocks = said (slice_get blocks pc)
+statement_at pc blocks = statement_or_empty (slice_get blocks pc)

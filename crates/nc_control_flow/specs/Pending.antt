@@ -3,15 +3,15 @@ use Rattle.std.specs.Prelude.{ℕ, List, [], ◌∷◌, drop}
 use Rattle.nc_control_flow.specs.declared.parts.Part.{Part}
 use Rattle.nc_control_flow.specs.declared.parts.Part.TheVariants.{Opens, Branches, Closes, Neither}
 use Rattle.nc_control_flow.specs.declared.parts.Sought.{Sought}
-use Rattle.nc_control_flow.specs.Matching.{seen}
+use Rattle.nc_control_flow.specs.Matching.{part_in_search}
 
 -- with one more part in front, at a place
-abbrev pub stacked : Part → ℕ → List ℕ → List ℕ
-stacked Closes place places = place ∷ places
-stacked Branches place places = place ∷ drop 1 places
-stacked Opens place places = drop 1 places
-stacked Neither place places = places
+abbrev pub places_with_part : Part → ℕ → List ℕ → List ℕ
+places_with_part Closes place places = place ∷ places
+places_with_part Branches place places = place ∷ drop 1 places
+places_with_part Opens place places = drop 1 places
+places_with_part Neither place places = places
 
-abbrev pub pending : Sought → List (ℕ × Part) → List ℕ
-pending sought [] = []
-pending sought (e ∷ es) = stacked (seen sought e.1) e.0 (pending sought es)
+abbrev pub pending_places : Sought → List (ℕ × Part) → List ℕ
+pending_places sought [] = []
+pending_places sought (e ∷ es) = places_with_part (part_in_search sought e.1) e.0 (pending_places sought es)

@@ -40,16 +40,16 @@ unfoldable pub hop : Control → List Running → Option Level
 hop (Comes pc) running = turn (Comes pc) running
 hop (Done pc) running = option_or (turn (Done pc) running) (turn (Comes (pc + 1)) running)
 
-abbrev pub past : Control → ℕ
-past (Comes pc) = pc
-past (Done pc) = pc + 1
+abbrev pub place_past : Control → ℕ
+place_past (Comes pc) = pc
+place_past (Done pc) = pc + 1
 
 abbrev pub after_hop : Control → List Running → Option Level → (Control → List Running → Going) → Going
-after_hop control running None onward = record { place = past control; running = running }
+after_hop control running None onward = record { place = place_past control; running = running }
 after_hop control running (Some level) onward = onward level.control level.running
 
 abbrev pub hops : ℕ → Control → List Running → Going
-hops zero control running = record { place = past control; running = running }
+hops zero control running = record { place = place_past control; running = running }
 hops (suc n) control running = after_hop control running (hop control running) (λ c r. hops n c r)
 
 -- how many passes are left to begin or to end: each step takes one
@@ -57,14 +57,14 @@ abbrev pub times : List Running → ℕ
 times running = sum_by (λ r. r.left + 1) running
 
 -- control goes on until no pass is over
-unfoldable pub settled : Control → List Running → Going
-settled control running = hops (times running) control running
+unfoldable pub going_after_passes : Control → List Running → Going
+going_after_passes control running = hops (times running) control running
 
 abbrev pub TurnsTo : Option Level → Option Control → List Running → List Running → Type 0
 TurnsTo (Some level) result old new = (result ≡ Some level.control) × (new ≡ level.running)
 TurnsTo None result old new = (result ≡ None) × (new ≡ old)
 
--- the place behind a block is a number of 32 bits too
+-- the place after a block is a number of 32 bits too
 abbrev pub Fits : Control → Type 0
 Fits (Comes pc) = Unit {0}
 Fits (Done pc) = pc + 1 < 2 ^ 32
@@ -72,6 +72,6 @@ Fits (Done pc) = pc + 1 < 2 ^ 32
 abbrev pub OwnFits : Running → Type 0
 OwnFits r = r.own + 1 < 2 ^ 32
 
--- where control goes on behind a block that has done all that it asks for
-abbrev pub behind_block : ℕ → List Running → Going
-behind_block pc running = settled (Done pc) running
+-- where control goes on after a block that has done all that it asks for
+abbrev pub after_block : ℕ → List Running → Going
+after_block pc running = going_after_passes (Done pc) running

@@ -14,7 +14,7 @@ pub record AreStructures (blocks : List BlockView) (ends branches openers : List
   pub branch_at : (k : ℕ) → k < length blocks → slice_index branches k ≡ branching k blocks
   pub opener_at : (k : ℕ) → k < length blocks → slice_index openers k ≡ opening k blocks
 
--- these hold the place of the nearest block without `/` at or behind each place
+-- these hold the place of the nearest block without `/` at or after each place
 pub record IsPlain (blocks : List BlockView) (plain : List ℕ) : Type 0 where
   pub plain_length : length plain ≡ length blocks
   pub plain_at : (k : ℕ) → k < length blocks → slice_index plain k ≡ plain_from blocks k

@@ -7,7 +7,7 @@ use Rattle.nc_blocks.specs.declared.blocks.Way.TheVariants.{Forward, Backward, E
 use Rattle.nc_blocks.specs.declared.blocks.Target.{Target}
 use Rattle.nc_blocks.specs.declared.blocks.Target.TheVariants.{Label, Number}
 use Rattle.nc_blocks.specs.Statement.{BlockView}
-use Rattle.nc_control_flow.specs.Places.{ahead, those_before}
+use Rattle.nc_control_flow.specs.Places.{those_after, those_before}
 
 abbrev pub is_label : List ℕ → Option (List ℕ) → Bool
 is_label name label = option_map_or (λ own. bytes_eq own name) label false
@@ -31,7 +31,7 @@ abbrev pub nearest : (BlockView → Bool) → List (ℕ × BlockView) → Option
 nearest test es = option_map (λ e. e.0) (find (λ e. test e.1) es)
 
 abbrev pub nearest_ahead : (BlockView → Bool) → ℕ → List BlockView → Option ℕ
-nearest_ahead test pc blocks = nearest test (ahead pc blocks)
+nearest_ahead test pc blocks = nearest test (those_after pc blocks)
 
 abbrev pub nearest_before : (BlockView → Bool) → ℕ → List BlockView → Option ℕ
 nearest_before test pc blocks = nearest test (those_before pc blocks)

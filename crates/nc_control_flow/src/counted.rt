@@ -14,8 +14,8 @@ use nc_blocks::Block;
 use nc_faults::alarms::TOO_MANY_REPETITIONS;
 use std::alloc::{AllocError, Global};
 
-/// For each block the place of the nearest one without `/` at or behind it; without one the place
-/// behind the last block.
+/// For each block the place of the nearest one without `/` at or after it; without one the place
+/// after the last block.
 pub(crate) fn plain_places(alloc: Global, blocks: &[(u32, Block)]) -> Result<Vec<u32>, AllocError>
     requires { length blocks.now < 2 ^ 32 }
     ensures len { IfOk result (λ v. vec_len v ≡ length blocks.now) }
@@ -35,10 +35,10 @@ pub(crate) fn plain_places(alloc: Global, blocks: &[(u32, Block)]) -> Result<Vec
 }
 
 impl Flow {
-    ghost use Rattle.nc_control_flow.specs.Flow.{going, next_at, Leads};
+    ghost use Rattle.nc_control_flow.specs.Flow.{going_by_move, next_at, Leads};
     ghost use Rattle.nc_control_flow.specs.Moves.{MoveFits, outcome_view};
-    ghost use Rattle.nc_control_flow.specs.Repetitions.{settled, Fits};
-    ghost use Rattle.nc_control_flow.specs.Counted.{counted, counts_at, first_going, next_going, up_to_counting, has_counting as has_counting_block, CountRepeats, MoveStarts};
+    ghost use Rattle.nc_control_flow.specs.Repetitions.{going_after_passes, Fits};
+    ghost use Rattle.nc_control_flow.specs.Counted.{going_to_counted, counts_at, first_going, next_going, up_to_counting, has_counting as has_counting_block, CountRepeats, MoveStarts};
 
     /// Goes on from the block at a place by what came of it, as `next`, and then over the blocks with
     /// `/` where they are passed over. Those keep their labels, numbers and places in structures.
@@ -100,14 +100,14 @@ impl Flow {
 
     /// Does what a block asks for, and goes on over the blocks with `/`. A repetition of those alone is
     /// not begun.
-    #[tactic(auto, unfolding(crate::specs::Flow::going))]
+    #[tactic(auto, unfolding(crate::specs::Flow::going_by_move))]
     fn go_over(&self, pc: u32, repeats: &mut Repeats, asked: Move) -> Result<Next, u16>
         requires place { pc + 1 < 2 ^ 32 }
         requires fits { MoveFits asked }
         requires counts { counts_at true (views self.now) pc ≡ true }
         requires starts { MoveStarts pc asked }
         requires repeat { CountRepeats true (views self.now) repeats.old }
-        ensures leads { Leads (views self.now) (up_to_counting true (views self.now) (going pc repeats.old asked)) result repeats.old repeats.new }
+        ensures leads { Leads (views self.now) (up_to_counting true (views self.now) (going_by_move pc repeats.old asked)) result repeats.old repeats.new }
         ensures kept { CountRepeats true (views self.now) repeats.new }
     {
         match asked {
@@ -133,8 +133,8 @@ impl Flow {
     fn walk(&self, repeats: &mut Repeats, control: Control) -> Next
         requires fits { Fits control }
         requires repeat { CountRepeats true (views self.now) repeats.old }
-        ensures next { result ≡ next_at (views self.now) (counted true (views self.now) (settled control repeats.old)).place }
-        ensures running { repeats.new ≡ (counted true (views self.now) (settled control repeats.old)).running }
+        ensures next { result ≡ next_at (views self.now) (going_to_counted true (views self.now) (going_after_passes control repeats.old)).place }
+        ensures running { repeats.new ≡ (going_to_counted true (views self.now) (going_after_passes control repeats.old)).running }
         ensures kept { CountRepeats true (views self.now) repeats.new }
     {
         let mut place = repeats.settle(control);
@@ -159,7 +159,7 @@ impl Flow {
         }
     }
 
-    /// The place of the nearest block without `/` at or behind a place; without one a place behind the
+    /// The place of the nearest block without `/` at or after a place; without one a place after the
     /// last block.
     fn plain(&self, place: u32) -> u32
         ensures { result ≡ plain_from (views self.now) place }

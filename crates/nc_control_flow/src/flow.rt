@@ -42,7 +42,7 @@ pub enum Next {
 /// What a block asks for.
 #[derive(Clone, Copy)]
 pub(crate) enum Move {
-    /// To go on behind it.
+    /// To go on after it.
     Onward,
     /// To leave it for this place.
     Leap(u32),
@@ -103,7 +103,7 @@ pub fn resolve(alloc: Global, blocks: Vec<(u32, Block)>) -> Result<Flow, NoMemor
 }
 
 impl Flow {
-    ghost use Rattle.nc_control_flow.specs.Flow.{next_block, next_at, going, Leads};
+    ghost use Rattle.nc_control_flow.specs.Flow.{next_block, next_at, going_by_move, Leads};
     ghost use Rattle.nc_control_flow.specs.Moves.{MoveFits, outcome_view};
 
     /// The block at a place, with its line; None past the last block.
@@ -130,11 +130,11 @@ impl Flow {
     }
 
     /// Does what a block asks for.
-    #[tactic(auto, unfolding(crate::specs::Flow::going))]
+    #[tactic(auto, unfolding(crate::specs::Flow::going_by_move))]
     fn go(&self, pc: u32, repeats: &mut Repeats, asked: Move) -> Result<Next, u16>
         requires place { pc + 1 < 2 ^ 32 }
         requires fits { MoveFits asked }
-        ensures { Leads (views self.now) (going pc repeats.old asked) result repeats.old repeats.new }
+        ensures { Leads (views self.now) (going_by_move pc repeats.old asked) result repeats.old repeats.new }
     {
         match asked {
             Move::Onward => Ok(self.at(repeats.settle(Control::Done(pc)))),

@@ -4,7 +4,7 @@ ghost use Rattle.std.specs.Prelude.{◌≡◌, ◌≤◌, ◌<◌, ◌^◌, ℕ,
 ghost use Rattle.std.specs.Str.{bytes_eq};
 ghost use Rattle.nc_control_flow.specs.Parts.{views};
 ghost use Rattle.nc_control_flow.specs.Targets.{is_label, is_number};
-ghost use Rattle.nc_control_flow.specs.Index.{labelled, numbered, IsIndex};
+ghost use Rattle.nc_control_flow.specs.Index.{label_places, number_places, IsIndex};
 
 use arrayvec::ArrayVec;
 use nc_blocks::{Block, NAME_LIMIT, NameText};
@@ -34,8 +34,8 @@ fn note_label(
     place: u32,
 ) -> Result<(), AllocError>
     requires { length name.now ≤ NAME_LIMIT }
-    ensures { OnOk result ((q : List ℕ) → labelled labels.new q
-        ≡ (if bytes_eq name.now q then labelled labels.old name.now ++ place ∷ [] else labelled labels.old q)) }
+    ensures { OnOk result ((q : List ℕ) → label_places labels.new q
+        ≡ (if bytes_eq name.now q then label_places labels.old name.now ++ place ∷ [] else label_places labels.old q)) }
 {
     let key = name_of(name);
     let mut places = labels.remove(&key).unwrap_or(Vec::new(alloc));
@@ -51,8 +51,8 @@ fn note_number(
     number: u32,
     place: u32,
 ) -> Result<(), AllocError>
-    ensures { OnOk result ((q : ℕ) → numbered numbers.new q
-        ≡ (if number == q then numbered numbers.old number ++ place ∷ [] else numbered numbers.old q)) }
+    ensures { OnOk result ((q : ℕ) → number_places numbers.new q
+        ≡ (if number == q then number_places numbers.old number ++ place ∷ [] else number_places numbers.old q)) }
 {
     numbers
         .entry(number)?
@@ -64,7 +64,7 @@ fn note_number(
 /// The places of a label.
 pub(crate) fn places_of_label<'a>(labels: &'a HashMap<Name, Vec<u32>>, name: &[u8]) -> &'a [u32]
     requires { length name.now ≤ NAME_LIMIT }
-    ensures { result.now ≡ labelled labels.now name.now }
+    ensures { result.now ≡ label_places labels.now name.now }
 {
     match labels.get(&name_of(name)) {
         Some(places) => places.as_slice(),
@@ -74,7 +74,7 @@ pub(crate) fn places_of_label<'a>(labels: &'a HashMap<Name, Vec<u32>>, name: &[u
 
 /// The places of a block number.
 pub(crate) fn places_of_number(numbers: &HashMap<u32, Vec<u32>>, number: u32) -> &[u32]
-    ensures { result.now ≡ numbered numbers.now number }
+    ensures { result.now ≡ number_places numbers.now number }
 {
     match numbers.get(&number) {
         Some(places) => places.as_slice(),
@@ -114,8 +114,8 @@ fn note_label_of(
     label: &Option<NameText>,
     place: u32,
 ) -> Result<(), AllocError>
-    ensures { OnOk result ((q : List ℕ) → labelled labels.new q
-        ≡ labelled labels.old q ++ (if is_label q label.now then place ∷ [] else [])) }
+    ensures { OnOk result ((q : List ℕ) → label_places labels.new q
+        ≡ label_places labels.old q ++ (if is_label q label.now then place ∷ [] else [])) }
 {
     match label {
         Some(name) => note_label(alloc, labels, name.as_bytes(), place),
@@ -130,8 +130,8 @@ fn note_number_of(
     number: Option<u32>,
     place: u32,
 ) -> Result<(), AllocError>
-    ensures { OnOk result ((q : ℕ) → numbered numbers.new q
-        ≡ numbered numbers.old q ++ (if is_number q number then place ∷ [] else [])) }
+    ensures { OnOk result ((q : ℕ) → number_places numbers.new q
+        ≡ number_places numbers.old q ++ (if is_number q number then place ∷ [] else [])) }
 {
     match number {
         Some(number) => note_number(alloc, numbers, number, place),

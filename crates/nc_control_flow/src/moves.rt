@@ -14,7 +14,7 @@ use nc_faults::alarms::JUMP_TARGET_MISSING;
 
 impl Flow {
     ghost use Rattle.nc_control_flow.specs.Structures.{closing, branching, opening};
-    ghost use Rattle.nc_control_flow.specs.Places.{placed};
+    ghost use Rattle.nc_control_flow.specs.Places.{with_places};
     ghost use Rattle.nc_control_flow.specs.Index.{places_by};
     ghost use Rattle.nc_control_flow.specs.Targets.{has_label, is_target, nearest_ahead, nearest_before, target_of, first_of_range, single_block};
 
@@ -156,7 +156,7 @@ impl Flow {
 
     /// The places that a target means.
     fn targets(&self, target: &Target) -> &[u32]
-        ensures places { result.now ≡ places_by (is_target target.now) (placed (views self.now)) }
+        ensures places { result.now ≡ places_by (is_target target.now) (with_places (views self.now)) }
         ensures ascend { AllPairs (λ a b. a < b) result.now }
     {
         match target {
@@ -167,7 +167,7 @@ impl Flow {
 
     /// The places with a label.
     fn labelled(&self, name: &NameText) -> &[u32]
-        ensures places { result.now ≡ places_by (has_label name.now) (placed (views self.now)) }
+        ensures places { result.now ≡ places_by (has_label name.now) (with_places (views self.now)) }
         ensures ascend { AllPairs (λ a b. a < b) result.now }
     {
         places_of_label(&self.index.labels, name.as_bytes())

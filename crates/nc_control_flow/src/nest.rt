@@ -2,7 +2,7 @@
 
 ghost use Rattle.std.specs.Prelude.{◌≡◌, option_map, slice_get};
 ghost use Rattle.nc_blocks.specs.Statement.{statement_view};
-ghost use Rattle.nc_control_flow.specs.Nest.{ends as ends_of, opened, closed, branched, nested, Nests};
+ghost use Rattle.nc_control_flow.specs.Nest.{ends as ends_of, nest_with, nest_without, nest_with_else, nest_after, Nests};
 
 use crate::limits::STRUCTURE_LIMIT;
 use arrayvec::ArrayVec;
@@ -14,7 +14,7 @@ use std::marker::Model;
 pub(crate) enum Structure {
     /// IF
     If,
-    /// IF, behind its ELSE.
+    /// IF, after its ELSE.
     IfElse,
     /// WHILE
     While,
@@ -54,7 +54,7 @@ pub(crate) struct Opened {
 impl Default for Opened {
     ghost use Rattle.nc_control_flow.specs.declared.nest.Structure.TheVariants as structure;
 
-    ghost is_default = { λ opened. opened ≡ record { structure = structure.If; line = 0 } };
+    ghost is_default = { λ nest_with. nest_with ≡ record { structure = structure.If; line = 0 } };
 
     fn default() -> Opened {
         Opened {
@@ -106,9 +106,9 @@ impl Nest {
     ///
     /// Refusal 25: it ends or goes on with a structure that is not the innermost open one, or is a
     /// second ELSE of one IF. Refusal 26: it opens a seventeenth. The nest is then unchanged.
-    #[tactic(auto, unfolding(crate::specs::Nest::nested))]
+    #[tactic(auto, unfolding(crate::specs::Nest::nest_after))]
     pub fn step(&mut self, line: u32, stmt: &Stmt) -> Result<(), u16>
-        ensures { Nests (nested self.old line (statement_view stmt.now)) result self.old self.new }
+        ensures { Nests (nest_after self.old line (statement_view stmt.now)) result self.old self.new }
     {
         match stmt {
             Stmt::If(_) => self.enter(Structure::If, line),
@@ -138,7 +138,7 @@ impl Nest {
 
     /// Opens a structure.
     fn enter(&mut self, structure: Structure, line: u32) -> Result<(), u16>
-        ensures { Nests (opened self.old structure line) result self.old self.new }
+        ensures { Nests (nest_with self.old structure line) result self.old self.new }
     {
         if self.open.len() == STRUCTURE_LIMIT {
             return Err(26);
@@ -149,7 +149,7 @@ impl Nest {
 
     /// Ends the innermost structure.
     fn leave(&mut self, structure: Structure) -> Result<(), u16>
-        ensures { Nests (closed structure self.old) result self.old self.new }
+        ensures { Nests (nest_without structure self.old) result self.old self.new }
     {
         match self.open.as_slice() {
             [innermost, ..] if structure.ends(innermost.structure) => {
@@ -162,7 +162,7 @@ impl Nest {
 
     /// Goes on with the innermost structure, an IF, at its ELSE.
     fn branch(&mut self) -> Result<(), u16>
-        ensures { Nests (branched self.old) result self.old self.new }
+        ensures { Nests (nest_with_else self.old) result self.old self.new }
     {
         match self.open.as_slice() {
             [

@@ -3,7 +3,7 @@
 ghost use Rattle.std.specs.Prelude.{◌≡◌, map, IfOk};
 ghost use Rattle.nc_blocks.specs.Statement.{statement_view};
 ghost use Rattle.nc_control_flow.specs.Parts.{part_of, parts as parts_of, views};
-ghost use Rattle.nc_control_flow.specs.Matching.{seen};
+ghost use Rattle.nc_control_flow.specs.Matching.{part_in_search};
 
 use nc_blocks::{Block, Stmt};
 use std::alloc::{AllocError, Global};
@@ -49,7 +49,7 @@ impl Part {
 
     /// How a search sees the part.
     pub(crate) fn seen_by(self, sought: Sought) -> Part
-        ensures { result ≡ seen sought self }
+        ensures { result ≡ part_in_search sought self }
     {
         match (sought, self) {
             (Sought::End, Part::Branches) => Part::Neither,

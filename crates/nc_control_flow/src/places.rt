@@ -2,7 +2,7 @@
 
 ghost use Rattle.std.specs.Prelude.{◌≡◌, ℕ, ◌<◌, ◌≤◌, nat_lt, find, length, reverse, slice_index, AllPairs};
 
-/// The first of these ascending places that stands behind a place.
+/// The first of these ascending places that stands after a place.
 pub(crate) fn first_after(places: &[u32], pc: u32) -> Option<u32>
     requires { AllPairs (λ a b. a < b) places.now }
     ensures { result ≡ find (λ place. nat_lt pc place) places.now }

@@ -1,7 +1,7 @@
 //! The repetitions that run in a program.
 
 ghost use Rattle.std.specs.Prelude.{◌≡◌, ℕ, ◌+◌, ◌^◌, ◌<◌, ◌≤◌, ◌==◌, ◌∷◌, [], List, All, length, filter, position, IfSome};
-ghost use Rattle.nc_control_flow.specs.Repetitions.{hop, is_over, is_within as within, past as past_of, settled, turn, Fits, OwnFits, TurnsTo};
+ghost use Rattle.nc_control_flow.specs.Repetitions.{hop, is_over, is_within as within, place_past as past_of, going_after_passes, turn, Fits, OwnFits, TurnsTo};
 
 use crate::limits::REPETITION_LIMIT;
 use arrayvec::ArrayVec;
@@ -102,11 +102,11 @@ impl Repeats {
     }
 
     /// Goes on until no pass of a repetition is over, and gives the place of the next block.
-    #[tactic(auto, unfolding(crate::specs::Repetitions::settled))]
+    #[tactic(auto, unfolding(crate::specs::Repetitions::going_after_passes))]
     pub(crate) fn settle(&mut self, control: Control) -> u32
         requires { Fits control }
-        ensures place { result ≡ (settled control self.old).place }
-        ensures running { self.new ≡ (settled control self.old).running }
+        ensures place { result ≡ (going_after_passes control self.old).place }
+        ensures running { self.new ≡ (going_after_passes control self.old).running }
     {
         let mut control = control;
         loop {

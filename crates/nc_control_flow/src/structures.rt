@@ -4,9 +4,9 @@
 //! place of the structure round there, below it stand those of the structures round that one.
 
 ghost use Rattle.std.specs.Prelude.{◌≡◌, ℕ, ◌^◌, ◌<◌, length, vec_len, reverse, slice_get, slice_index, unwrap_or, OnOk, IfOk};
-ghost use Rattle.nc_control_flow.specs.Places.{ahead, those_before};
+ghost use Rattle.nc_control_flow.specs.Places.{those_after, those_before};
 ghost use Rattle.nc_control_flow.specs.Matching.{matching};
-ghost use Rattle.nc_control_flow.specs.Pending.{stacked};
+ghost use Rattle.nc_control_flow.specs.Pending.{places_with_part};
 
 use crate::parts::{Part, Sought};
 use std::alloc::{AllocError, Global};
@@ -20,7 +20,7 @@ pub(crate) fn found_ahead(
     requires { length parts.now < 2 ^ 32 }
     ensures len { IfOk result (λ v. vec_len v ≡ length parts.now) }
     ensures each { IfOk result (λ v. (k : ℕ) → k < length parts.now
-        → slice_index v.items k ≡ unwrap_or (matching sought 0 (ahead k parts.now)) 0) }
+        → slice_index v.items k ≡ unwrap_or (matching sought 0 (those_after k parts.now)) 0) }
 {
     let mut table = vec![in alloc; 0; parts.len()]?;
     let mut pending = Vec::new(alloc);
@@ -55,7 +55,7 @@ pub(crate) fn found_before(
 
 /// Takes one more block to a stack.
 fn stack(part: Part, place: u32, places: &mut Vec<u32>) -> Result<(), AllocError>
-    ensures { OnOk result (reverse places.new.items ≡ stacked part place (reverse places.old.items)) }
+    ensures { OnOk result (reverse places.new.items ≡ places_with_part part place (reverse places.old.items)) }
 {
     match part {
         Part::Closes => places.push(place)?,

@@ -7,7 +7,7 @@ use Rattle.std.proofs.lemmas.Option.{slice_get_read, slice_get_past}
 use Rattle.block_scanner.specs.declared.Token.{Token}
 use Rattle.block_scanner.specs.WordsView.{WordsView}
 use Rattle.nc_expressions.specs.declared.symbols.Symbol.{Symbol}
-use Rattle.nc_expressions.specs.Symbols.{symbol_of, symbols_behind, symbols_of, token_before}
+use Rattle.nc_expressions.specs.Symbols.{symbol_of, symbols_after, symbols_of, token_before}
 
 pub before_first : (tokens : List Token) → token_before None tokens 0 ≡ None
 before_first tokens = refl
@@ -27,24 +27,24 @@ before_later tokens (suc at) t h within is =
 
 pub ruleset befores = (before_first, before_later)
 
-symbol_behind : (line : List ℕ) (before : Option Token) (tokens : List Token) (at : ℕ) (t : Token) (d : Symbol) → at < length tokens → t ≡ get_or tokens at t →
-    get_or (symbols_behind line before tokens) at d ≡ symbol_of line (token_before before tokens at) t
-symbol_behind line before [] at t d h is = absurd (omega arith)
-symbol_behind line before (u ∷ us) zero t d h is = ap (λ (x : Token). symbol_of line before x) (sym is)
-symbol_behind line before (u ∷ us) (suc at) t d h is = symbol_behind line (Some u) us at t d (omega arith) is
+symbol_after : (line : List ℕ) (before : Option Token) (tokens : List Token) (at : ℕ) (t : Token) (d : Symbol) → at < length tokens → t ≡ get_or tokens at t →
+    get_or (symbols_after line before tokens) at d ≡ symbol_of line (token_before before tokens at) t
+symbol_after line before [] at t d h is = absurd (omega arith)
+symbol_after line before (u ∷ us) zero t d h is = ap (λ (x : Token). symbol_of line before x) (sym is)
+symbol_after line before (u ∷ us) (suc at) t d h is = symbol_after line (Some u) us at t d (omega arith) is
 
 pub symbol_read : (words : WordsView) (at : ℕ) (t : Token) (s : Symbol) → at < length words.tokens → t ≡ get_or words.tokens at t →
     s ≡ symbol_of words.line (token_before None words.tokens at) t → s ≡ get_or (symbols_of words) at s
 unfolding symbols_of
-symbol_read words at t s h is e = e ∙ sym (symbol_behind words.line None words.tokens at t s h is)
+symbol_read words at t s h is e = e ∙ sym (symbol_after words.line None words.tokens at t s h is)
 
-pub length-symbols_behind : (line : List ℕ) (before : Option Token) (tokens : List Token) → length (symbols_behind line before tokens) ≡ length tokens
-length-symbols_behind line before [] = refl
-length-symbols_behind line before (t ∷ ts) = ap suc (length-symbols_behind line (Some t) ts)
+pub length-symbols_after : (line : List ℕ) (before : Option Token) (tokens : List Token) → length (symbols_after line before tokens) ≡ length tokens
+length-symbols_after line before [] = refl
+length-symbols_after line before (t ∷ ts) = ap suc (length-symbols_after line (Some t) ts)
 
 pub length-symbols_of : (words : WordsView) → length (symbols_of words) ≡ length words.tokens
 unfolding symbols_of
-length-symbols_of words = length-symbols_behind words.line None words.tokens
+length-symbols_of words = length-symbols_after words.line None words.tokens
 
 -- the first two bytes of a text, or all of a shorter one
 pub take_min : (xs : List ℕ) (n : ℕ) → take (min (length xs) n) xs ≡ take n xs

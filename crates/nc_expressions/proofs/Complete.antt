@@ -11,11 +11,11 @@ use Rattle.nc_expressions.specs.declared.symbols.Symbol.TheVariants as symbol
 use Rattle.nc_expressions.specs.declared.stack.Bracket.{Bracket}
 use Rattle.nc_expressions.specs.declared.stack.Bracket.TheVariants.{Parentheses, Argument, Index}
 use Rattle.nc_expressions.specs.Tree.{Tree, Number, Indexed, Unary, Binary}
-use Rattle.nc_expressions.specs.Levels.{connecting, rank, kind, together, clash}
+use Rattle.nc_expressions.specs.Levels.{connecting, rank, kind, joint_level, clash}
 use Rattle.nc_expressions.specs.Limits.{Limits, has_room}
 use Rattle.nc_expressions.specs.Symbols.{truth, index_of}
 use Rattle.nc_expressions.specs.Syntax.{Syntax, Constant, Truth, Positive, Negative, Denied, Named, Indexing, Called, Grouped, Chained, spelling, parameter_of, tree, tightness, and_then, level, Fits, IsExpressionUnder, Follows}
-use Rattle.nc_expressions.specs.Machine.{Prefix, Left, Opened, Stack, Wants, Next, On, Refuse, depth, attach, join, ended, opened, with_left, with_prefix, with_parameter, close_parenthesis, close_bracket, stop, finish, at_last, on_sign, on_operand, on_index, on_argument, on_operator, on_close, on_close_bracket, on_other, on_ended, step, run, go_on, read}
+use Rattle.nc_expressions.specs.Machine.{Prefix, Left, Opened, Stack, Wants, Next, On, Refuse, depth, attach, join, state_with_tree, next_in_bracket, with_left, with_prefix, with_parameter, close_parenthesis, close_bracket, stop, finish, at_last, on_sign, on_operand, on_index, on_argument, on_operator, on_close, on_close_bracket, on_other, on_ended, step, run, go_on, read}
 use Rattle.nc_expressions.proofs.LevelLaws.{together_plain, plain_together, level_is, some_of, two_levels, three_levels, rank_small}
 
 -- nothing at the top of the stack binds so tightly
@@ -112,7 +112,7 @@ ready_above (Called f x) r st h l = tt
 ready_above (Grouped x) r st h l = tt
 ready_above (Chained op a b) r st h l = looser r (rank op) st h l
 
--- behind a sign stands no operator
+-- after a sign stands no operator
 ready_tight : (x : Syntax) (st : Stack) → tightness x ≡ 6 → Ready x st
 ready_tight (Constant z d) st h = tt
 ready_tight (Truth b) st h = tt
@@ -138,75 +138,75 @@ fed_tight (Grouped x) st h = refl
 fed_tight (Chained op a b) st h = absurd (omega (arith, h, rank_small op))
 
 -- single steps
-pub opens : (lim : Limits) → (b : Bracket) (st : Stack) (lv : Level) → IsTrue (has_room lim (depth st)) → opened lim b st lv ≡ On (Wants (Opened b lv ∷ st) Plain)
-unfolding opened
+pub opens : (lim : Limits) → (b : Bracket) (st : Stack) (lv : Level) → IsTrue (has_room lim (depth st)) → next_in_bracket lim b st lv ≡ On (Wants (Opened b lv ∷ st) Plain)
+unfolding next_in_bracket
 opens lim b st lv h = allowed (has_room lim (depth st)) (On (Wants (Opened b lv ∷ st) Plain)) (Refuse 26) h
 
-named : (o : Option ℕ) (st : Stack) (lv : Level) → IsSome o → with_parameter o st lv ≡ On (ended lv (attach (parameter_of o) st))
+named : (o : Option ℕ) (st : Stack) (lv : Level) → IsSome o → with_parameter o st lv ≡ On (state_with_tree lv (attach (parameter_of o) st))
 named None st lv h = cc
 named (Some i) st lv h = refl
 
-same_level : (lv out : Level) → together lv Plain ≡ Some out → lv ≡ out
-same_level lv out h = let e : together lv Plain ≡ Some lv = together_plain lv in cc
+same_level : (lv out : Level) → joint_level lv Plain ≡ Some out → lv ≡ out
+same_level lv out h = let e : joint_level lv Plain ≡ Some lv = together_plain lv in cc
 
 -- a closing parenthesis or bracket, where its opening one is on top once all is joined
 pub closes : (lim : Limits) → (p : Tree × Stack) (t : Tree) (lv inner : Level) (st : Stack) (ss : List Symbol) → join 0 p.0 p.1 ≡ (t, Opened Parentheses lv ∷ st) →
-    run lim (symbol.Close ∷ ss) (ended inner p) ≡ run lim ss (ended lv (attach t st))
+    run lim (symbol.Close ∷ ss) (state_with_tree inner p) ≡ run lim ss (state_with_tree lv (attach t st))
 unfolding run step on_ended on_close
 closes lim p t lv inner st ss e = ap (λ (q : Tree × Stack). go_on (close_parenthesis q.0 q.1) (symbol.Close ∷ ss) (run lim ss)) e
 
 pub closes_argument : (lim : Limits) → (p : Tree × Stack) (g : UnaryOp) (t : Tree) (lv inner : Level) (st : Stack) (ss : List Symbol) → join 0 p.0 p.1 ≡ (t, Opened (Argument g) lv ∷ st) →
-    run lim (symbol.Close ∷ ss) (ended inner p) ≡ run lim ss (ended lv (attach (Unary g t) st))
+    run lim (symbol.Close ∷ ss) (state_with_tree inner p) ≡ run lim ss (state_with_tree lv (attach (Unary g t) st))
 unfolding run step on_ended on_close
 closes_argument lim p g t lv inner st ss e = ap (λ (q : Tree × Stack). go_on (close_parenthesis q.0 q.1) (symbol.Close ∷ ss) (run lim ss)) e
 
 pub closes_index : (lim : Limits) → (p : Tree × Stack) (t : Tree) (lv inner : Level) (st : Stack) (ss : List Symbol) → join 0 p.0 p.1 ≡ (t, Opened Index lv ∷ st) →
-    run lim (symbol.CloseBracket ∷ ss) (ended inner p) ≡ run lim ss (ended lv (attach (Indexed t) st))
+    run lim (symbol.CloseBracket ∷ ss) (state_with_tree inner p) ≡ run lim ss (state_with_tree lv (attach (Indexed t) st))
 unfolding run step on_ended on_close_bracket
 closes_index lim p t lv inner st ss e = ap (λ (q : Tree × Stack). go_on (close_bracket q.0 q.1) (symbol.CloseBracket ∷ ss) (run lim ss)) e
 
--- an operator behind a left operand that nothing else takes
+-- an operator after a left operand that nothing else takes
 pub joins_operator : (lim : Limits) → (p : Tree × Stack) (t : Tree) (op : BinaryOp) (lv next : Level) (st : Stack) (ss : List Symbol) →
-    join (rank op) p.0 p.1 ≡ (t, st) → together lv (kind lim op) ≡ Some next →
-    run lim (symbol.Operator op ∷ ss) (ended lv p) ≡ run lim ss (Wants (Left t op ∷ st) next)
+    join (rank op) p.0 p.1 ≡ (t, st) → joint_level lv (kind lim op) ≡ Some next →
+    run lim (symbol.Operator op ∷ ss) (state_with_tree lv p) ≡ run lim ss (Wants (Left t op ∷ st) next)
 unfolding run step on_ended on_operator
 joins_operator lim p t op lv next st ss e h =
-    ap (λ (q : Tree × Stack). go_on (with_left (together lv (kind lim op)) (clash lv (kind lim op)) op q) (symbol.Operator op ∷ ss) (run lim ss)) e
+    ap (λ (q : Tree × Stack). go_on (with_left (joint_level lv (kind lim op)) (clash lv (kind lim op)) op q) (symbol.Operator op ∷ ss) (run lim ss)) e
     ∙ ap (λ (o : Option Level). go_on (with_left o (clash lv (kind lim op)) op (t, st)) (symbol.Operator op ∷ ss) (run lim ss)) h
 
-inside : (o : Option Level) (l : Level) → o ≡ Some l → and_then o (together Plain) ≡ Some l
-inside o l h = ap (λ (k : Option Level). and_then k (together Plain)) h ∙ plain_together l
+inside : (o : Option Level) (l : Level) → o ≡ Some l → and_then o (joint_level Plain) ≡ Some l
+inside o l h = ap (λ (k : Option Level). and_then k (joint_level Plain)) h ∙ plain_together l
 
 -- an expression is read, on a stack where it can stand, as far as it goes
-pub reads : (lim : Limits) → (x : Syntax) (st : Stack) (lv out : Level) (rest : List Symbol) → Fits lim (depth st) x → and_then (level lim x) (together lv) ≡ Some out → Ready x st →
-    run lim (spelling x ++ rest) (Wants st lv) ≡ run lim rest (ended out (fed x st))
+pub reads : (lim : Limits) → (x : Syntax) (st : Stack) (lv out : Level) (rest : List Symbol) → Fits lim (depth st) x → and_then (level lim x) (joint_level lv) ≡ Some out → Ready x st →
+    run lim (spelling x ++ rest) (Wants st lv) ≡ run lim rest (state_with_tree out (fed x st))
 unfolding run step on_operand on_sign on_index on_argument
-reads lim (Constant z d) st lv out rest f h r = ap (λ (l : Level). run lim rest (ended l (attach (Number z) st))) (same_level lv out h)
-reads lim (Truth b) st lv out rest f h r = ap (λ (l : Level). run lim rest (ended l (attach (Number (truth b)) st))) (same_level lv out h)
+reads lim (Constant z d) st lv out rest f h r = ap (λ (l : Level). run lim rest (state_with_tree l (attach (Number z) st))) (same_level lv out h)
+reads lim (Truth b) st lv out rest f h r = ap (λ (l : Level). run lim rest (state_with_tree l (attach (Number (truth b)) st))) (same_level lv out h)
 reads lim (Positive x) st lv out rest f h r =
-    reads lim x st lv out rest f.1 h (ready_tight x st f.0) ∙ ap (λ (p : Tree × Stack). run lim rest (ended out p)) (fed_tight x st f.0)
+    reads lim x st lv out rest f.1 h (ready_tight x st f.0) ∙ ap (λ (p : Tree × Stack). run lim rest (state_with_tree out p)) (fed_tight x st f.0)
 reads lim (Negative x) st lv out rest f h r =
     reads lim x (Prefix unary.Minus ∷ st) lv out rest f.1 h (ready_tight x (Prefix unary.Minus ∷ st) f.0)
-    ∙ ap (λ (p : Tree × Stack). run lim rest (ended out p)) (fed_tight x (Prefix unary.Minus ∷ st) f.0)
+    ∙ ap (λ (p : Tree × Stack). run lim rest (state_with_tree out p)) (fed_tight x (Prefix unary.Minus ∷ st) f.0)
 reads lim (Denied x) st lv out rest f h r =
-    let l = some_of (and_then (level lim x) (together (connecting lim))) (together lv) out h in
-    let m = some_of (level lim x) (together (connecting lim)) l.0 l.1 in
-    let e : and_then (together (connecting lim) m.0) (together lv) ≡ Some out = ap (λ (o : Option Level). and_then o (together lv)) m.2 ∙ l.2 in
+    let l = some_of (and_then (level lim x) (joint_level (connecting lim))) (joint_level lv) out h in
+    let m = some_of (level lim x) (joint_level (connecting lim)) l.0 l.1 in
+    let e : and_then (joint_level (connecting lim) m.0) (joint_level lv) ≡ Some out = ap (λ (o : Option Level). and_then o (joint_level lv)) m.2 ∙ l.2 in
     let k = two_levels lv (connecting lim) m.0 out e in
-    let inner : and_then (level lim x) (together k.0) ≡ Some out = ap (λ (o : Option Level). and_then o (together k.0)) m.1 ∙ k.2 in
+    let inner : and_then (level lim x) (joint_level k.0) ≡ Some out = ap (λ (o : Option Level). and_then o (joint_level k.0)) m.1 ∙ k.2 in
     ap (λ (o : Option Level). go_on (with_prefix o (clash lv (connecting lim)) unary.Not st) (symbol.Not ∷ (spelling x ++ rest)) (run lim (spelling x ++ rest))) k.1
     ∙ reads lim x (Prefix unary.Not ∷ st) k.0 out rest f.1 inner (ready_tight x (Prefix unary.Not ∷ st) f.0)
-    ∙ ap (λ (p : Tree × Stack). run lim rest (ended out p)) (fed_tight x (Prefix unary.Not ∷ st) f.0)
+    ∙ ap (λ (p : Tree × Stack). run lim rest (state_with_tree out p)) (fed_tight x (Prefix unary.Not ∷ st) f.0)
 reads lim (Named z) st lv out rest f h r =
     ap (λ (n : Next). go_on n (symbol.Number z true ∷ rest) (run lim rest)) (named (index_of z) st lv f)
-    ∙ ap (λ (l : Level). run lim rest (ended l (attach (parameter_of (index_of z)) st))) (same_level lv out h)
+    ∙ ap (λ (l : Level). run lim rest (state_with_tree l (attach (parameter_of (index_of z)) st))) (same_level lv out h)
 reads lim (Indexing x) st lv out rest f h r =
     let l = level_is (level lim x) f.0 in
     let st' : Stack = Opened Index lv ∷ st in
     ap (λ (ss : List Symbol). run lim ss (Wants st' Plain)) (append_assoc (spelling x) (symbol.CloseBracket ∷ []) rest)
     ∙ reads lim x st' Plain l.0 (symbol.CloseBracket ∷ rest) f.1 (inside (level lim x) l.0 l.1) (ready_above x 0 st' (omega arith) tt)
     ∙ closes_index lim (fed x st') (tree x) lv l.0 st rest (joins lim x (depth st') 0 0 st' f.1 (omega arith) tt)
-    ∙ ap (λ (k : Level). run lim rest (ended k (attach (Indexed (tree x)) st))) (same_level lv out h)
+    ∙ ap (λ (k : Level). run lim rest (state_with_tree k (attach (Indexed (tree x)) st))) (same_level lv out h)
 reads lim (Called g x) st lv out rest f h r =
     let l = level_is (level lim x) f.1 in
     let st' : Stack = Opened (Argument g) lv ∷ st in
@@ -214,7 +214,7 @@ reads lim (Called g x) st lv out rest f h r =
     ∙ ap (λ (ss : List Symbol). run lim ss (Wants st' Plain)) (append_assoc (spelling x) (symbol.Close ∷ []) rest)
     ∙ reads lim x st' Plain l.0 (symbol.Close ∷ rest) f.2 (inside (level lim x) l.0 l.1) (ready_above x 0 st' (omega arith) tt)
     ∙ closes_argument lim (fed x st') g (tree x) lv l.0 st rest (joins lim x (depth st') 0 0 st' f.2 (omega arith) tt)
-    ∙ ap (λ (k : Level). run lim rest (ended k (attach (Unary g (tree x)) st))) (same_level lv out h)
+    ∙ ap (λ (k : Level). run lim rest (state_with_tree k (attach (Unary g (tree x)) st))) (same_level lv out h)
 reads lim (Grouped x) st lv out rest f h r =
     let l = level_is (level lim x) f.1 in
     let st' : Stack = Opened Parentheses lv ∷ st in
@@ -222,16 +222,16 @@ reads lim (Grouped x) st lv out rest f h r =
     ∙ ap (λ (ss : List Symbol). run lim ss (Wants st' Plain)) (append_assoc (spelling x) (symbol.Close ∷ []) rest)
     ∙ reads lim x st' Plain l.0 (symbol.Close ∷ rest) f.2 (inside (level lim x) l.0 l.1) (ready_above x 0 st' (omega arith) tt)
     ∙ closes lim (fed x st') (tree x) lv l.0 st rest (joins lim x (depth st') 0 0 st' f.2 (omega arith) tt)
-    ∙ ap (λ (k : Level). run lim rest (ended k (attach (tree x) st))) (same_level lv out h)
+    ∙ ap (λ (k : Level). run lim rest (state_with_tree k (attach (tree x) st))) (same_level lv out h)
 reads lim (Chained op a b) st lv out rest f h r =
-    let o = some_of (level lim (Chained op a b)) (together lv) out h in
-    let la = some_of (level lim a) (λ (l : Level). and_then (level lim b) (λ (m : Level). and_then (together (kind lim op) m) (together l))) o.0 o.1 in
-    let lb = some_of (level lim b) (λ (m : Level). and_then (together (kind lim op) m) (together la.0)) o.0 la.2 in
-    let e : and_then (and_then (together (kind lim op) lb.0) (together la.0)) (together lv) ≡ Some out =
-    ap (λ (k : Option Level). and_then k (together lv)) lb.2 ∙ o.2 in
+    let o = some_of (level lim (Chained op a b)) (joint_level lv) out h in
+    let la = some_of (level lim a) (λ (l : Level). and_then (level lim b) (λ (m : Level). and_then (joint_level (kind lim op) m) (joint_level l))) o.0 o.1 in
+    let lb = some_of (level lim b) (λ (m : Level). and_then (joint_level (kind lim op) m) (joint_level la.0)) o.0 la.2 in
+    let e : and_then (and_then (joint_level (kind lim op) lb.0) (joint_level la.0)) (joint_level lv) ≡ Some out =
+    ap (λ (k : Option Level). and_then k (joint_level lv)) lb.2 ∙ o.2 in
     let cut = three_levels lv la.0 (kind lim op) lb.0 out e in
-    let ea : and_then (level lim a) (together lv) ≡ Some cut.0 = ap (λ (k : Option Level). and_then k (together lv)) la.1 ∙ cut.2 in
-    let eb : and_then (level lim b) (together cut.1) ≡ Some out = ap (λ (k : Option Level). and_then k (together cut.1)) lb.1 ∙ cut.4 in
+    let ea : and_then (level lim a) (joint_level lv) ≡ Some cut.0 = ap (λ (k : Option Level). and_then k (joint_level lv)) la.1 ∙ cut.2 in
+    let eb : and_then (level lim b) (joint_level cut.1) ≡ Some out = ap (λ (k : Option Level). and_then k (joint_level cut.1)) lb.1 ∙ cut.4 in
     ap (λ (ss : List Symbol). run lim ss (Wants st lv)) (append_assoc (spelling a) (symbol.Operator op ∷ spelling b) rest)
     ∙ reads lim a st lv cut.0 (symbol.Operator op ∷ (spelling b ++ rest)) f.2 ea (ready_above a (rank op) st f.0 r)
     ∙ joins_operator lim (fed a st) (tree a) op cut.0 cut.1 st (spelling b ++ rest)
@@ -239,7 +239,7 @@ reads lim (Chained op a b) st lv out rest f h r =
     ∙ reads lim b (Left (tree a) op ∷ st) cut.1 out rest f.3 eb (ready_above b (rank op + 1) (Left (tree a) op ∷ st) (omega (arith, f.1)) (omega arith))
 
 -- what is spelled as an expression is read as its tree, where what follows can follow it
-ends_here : (lim : Limits) → (p : Tree × Stack) (t : Tree) (lv : Level) (rest : List Symbol) → join 0 p.0 p.1 ≡ (t, []) → Follows rest → run lim rest (ended lv p) ≡ Ok (t, rest)
+ends_here : (lim : Limits) → (p : Tree × Stack) (t : Tree) (lv : Level) (rest : List Symbol) → join 0 p.0 p.1 ≡ (t, []) → Follows rest → run lim rest (state_with_tree lv p) ≡ Ok (t, rest)
 unfolding run step on_ended finish on_other on_close on_close_bracket
 ends_here lim p t lv [] e f = ap (λ (q : Tree × Stack). at_last (stop q.0 q.1)) e
 ends_here lim p t lv (symbol.Number z d ∷ ss) e f = ap (λ (q : Tree × Stack). go_on (stop q.0 q.1) (symbol.Number z d ∷ ss) (run lim ss)) e

@@ -44,7 +44,7 @@ takes_loose (NotBefore ∷ g) x l = absurd l
 takes_loose (LeftOf a op ∷ g) x l = l
 takes_loose (Within b lv ∷ g) x l = tt
 
--- what was written, with an operand behind it, begins an expression
+-- what was written, with an operand after it, begins an expression
 abbrev pub Closes : (lim : Limits) → Parts → Syntax → Type 0
 Closes lim g x = (y : Syntax) × (more : List Symbol) × IsExpressionUnder lim y × (written g ++ (spelling x ++ more) ≡ spelling y)
 
@@ -109,7 +109,7 @@ begins_index lim g lv good =
     let c = completes lim g x lv (plain_operand lim g x lv good refl zero_is_index) (takes_tight g x refl) in
     (c.0, (symbol.Number (pos 0) true ∷ []) ++ c.1, c.2, append_assoc (written g) (symbol.Letter ∷ []) ((symbol.Number (pos 0) true ∷ []) ++ c.1) ∙ c.3)
 
--- behind the name of a function, where any number of parentheses may be open
+-- after the name of a function, where any number of parentheses may be open
 begins_argument : (f : UnaryOp) (g : Parts) (lv : Level) → Good any_nesting g lv → BeginsExpressionUnder any_nesting (written g ++ (symbol.Function f ∷ []))
 begins_argument f g lv good =
     let inner : Parts = Within (Argument f) lv ∷ g in
@@ -136,9 +136,9 @@ may_go_on ss (Has t st lv) h n =
     let P : List Symbol → Type 0 = λ k. BeginsExpressionUnder all_limits k in
     inl (subst P h.7 (c.0, c.1, c.2, append_assoc (written h.0) (spelling h.1) c.1 ∙ c.3))
 
--- what was read so far leads here, whatever stands behind it
+-- what was read so far leads here, whatever stands after it
 abbrev pub Leads : (lim : Limits) → List Symbol → State → Type 0
-Leads lim ss state = (behind : List Symbol) → read lim (ss ++ behind) ≡ run lim behind state
+Leads lim ss state = (following : List Symbol) → read lim (ss ++ following) ≡ run lim following state
 
 -- a refusal does not come where an expression is spelled
 not_front : (lim : Limits) → (ss : List Symbol) (s : Symbol) (state : State) (code : ℕ) → Leads lim ss state → step lim state s ≡ Refuse code → ¬ (IsFrontUnder lim (ss ++ (s ∷ [])))
@@ -153,8 +153,8 @@ not_front lim ss s state code leads e front =
 
 leads_on : (lim : Limits) → (ss : List Symbol) (s : Symbol) (state next : State) → Leads lim ss state → step lim state s ≡ On next → Leads lim (ss ++ (s ∷ [])) next
 unfolding run
-leads_on lim ss s state next leads e behind =
-    ap (read lim) (append_assoc ss (s ∷ []) behind) ∙ leads (s ∷ behind) ∙ ap (λ (n : Next). go_on n (s ∷ behind) (run lim behind)) e
+leads_on lim ss s state next leads e following =
+    ap (read lim) (append_assoc ss (s ∷ []) following) ∙ leads (s ∷ following) ∙ ap (λ (n : Next). go_on n (s ∷ following) (run lim following)) e
 
 no_expression : (lim : Limits) → (ss : List Symbol) (state : State) (code : ℕ) → Leads lim ss state → run lim [] state ≡ Err code → (x : Syntax) → IsExpressionUnder lim x → ¬ (ss ++ [] ≡ spelling x)
 no_expression lim ss state code leads h x is e =
@@ -283,8 +283,8 @@ unfolding read
 leftmost symbols code h =
     let start : Runs [] (Wants [] Plain) = record {
       stands = starts all_limits;
-      leads = λ (behind : List Symbol). refl;
-      nesting = (starts any_nesting, λ (behind : List Symbol). refl);
-      mixture = (starts any_mixture, λ (behind : List Symbol). refl);
+      leads = λ (following : List Symbol). refl;
+      nesting = (starts any_nesting, λ (following : List Symbol). refl);
+      mixture = (starts any_mixture, λ (following : List Symbol). refl);
     } in
     broken symbols [] (Wants [] Plain) code start h

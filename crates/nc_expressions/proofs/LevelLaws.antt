@@ -4,20 +4,20 @@ use Rattle.nc_expressions.specs.declared.trees.BinaryOp.{BinaryOp}
 use Rattle.nc_expressions.specs.declared.trees.BinaryOp.TheVariants.{Add, Sub, Mul, Div, WholeDiv, Modulo, And, Or, Xor, Equal, NotEqual, Greater, Less, GreaterEqual, LessEqual}
 use Rattle.nc_expressions.specs.declared.levels.Level.{Level}
 use Rattle.nc_expressions.specs.declared.levels.Level.TheVariants.{Plain, Compares, Connects}
-use Rattle.nc_expressions.specs.Levels.{rank, together}
+use Rattle.nc_expressions.specs.Levels.{rank, joint_level}
 use Rattle.nc_expressions.specs.Syntax.{and_then}
 
-pub together_plain : (l : Level) → together l Plain ≡ Some l
+pub together_plain : (l : Level) → joint_level l Plain ≡ Some l
 together_plain Plain = refl
 together_plain Compares = refl
 together_plain Connects = refl
 
-pub plain_together : (l : Level) → together Plain l ≡ Some l
+pub plain_together : (l : Level) → joint_level Plain l ≡ Some l
 plain_together Plain = refl
 plain_together Compares = refl
 plain_together Connects = refl
 
-pub associates : (a b c : Level) → and_then (together a b) (λ x. together x c) ≡ and_then (together b c) (together a)
+pub associates : (a b c : Level) → and_then (joint_level a b) (λ x. joint_level x c) ≡ and_then (joint_level b c) (joint_level a)
 associates Plain Plain Plain = refl
 associates Plain Plain Compares = refl
 associates Plain Plain Connects = refl
@@ -58,19 +58,19 @@ pub some_is : (o : Option Level) (l : Level) → o ≡ Some l → IsSome o
 some_is None l h = cc
 some_is (Some m) l h = search rules
 
--- the levels before, at and behind a part whose level is allowed beside what stands before it
-pub two_levels : (lv a b out : Level) → and_then (together a b) (together lv) ≡ Some out →
-    (l : Level) × (together lv a ≡ Some l) × (together l b ≡ Some out)
-two_levels lv a b out h = some_of (together lv a) (λ x. together x b) out (associates lv a b ∙ h)
+-- the levels before, at and after a part whose level is allowed beside what stands before it
+pub two_levels : (lv a b out : Level) → and_then (joint_level a b) (joint_level lv) ≡ Some out →
+    (l : Level) × (joint_level lv a ≡ Some l) × (joint_level l b ≡ Some out)
+two_levels lv a b out h = some_of (joint_level lv a) (λ x. joint_level x b) out (associates lv a b ∙ h)
 
-pub three_levels : (lv a k b out : Level) → and_then (and_then (together k b) (together a)) (together lv) ≡ Some out →
-    (l : Level) × (m : Level) × (together lv a ≡ Some l) × (together l k ≡ Some m) × (together m b ≡ Some out)
+pub three_levels : (lv a k b out : Level) → and_then (and_then (joint_level k b) (joint_level a)) (joint_level lv) ≡ Some out →
+    (l : Level) × (m : Level) × (joint_level lv a ≡ Some l) × (joint_level l k ≡ Some m) × (joint_level m b ≡ Some out)
 three_levels lv a k b out h =
-    let x = some_of (and_then (together k b) (together a)) (together lv) out h in
-    let y = some_of (together k b) (together a) x.0 x.1 in
-    let e : and_then (together a y.0) (together lv) ≡ Some out = ap (λ (o : Option Level). and_then o (together lv)) y.2 ∙ x.2 in
+    let x = some_of (and_then (joint_level k b) (joint_level a)) (joint_level lv) out h in
+    let y = some_of (joint_level k b) (joint_level a) x.0 x.1 in
+    let e : and_then (joint_level a y.0) (joint_level lv) ≡ Some out = ap (λ (o : Option Level). and_then o (joint_level lv)) y.2 ∙ x.2 in
     let l = two_levels lv a y.0 out e in
-    let f : and_then (together k b) (together l.0) ≡ Some out = ap (λ (o : Option Level). and_then o (together l.0)) y.1 ∙ l.2 in
+    let f : and_then (joint_level k b) (joint_level l.0) ≡ Some out = ap (λ (o : Option Level). and_then o (joint_level l.0)) y.1 ∙ l.2 in
     let m = two_levels l.0 k b out f in
     (l.0, m.0, l.1, m.1, m.2)
 

@@ -7,7 +7,7 @@ use Rattle.nc_expressions.specs.declared.trees.Expr.{Expr}
 use Rattle.nc_expressions.specs.declared.faults.SyntaxFault.{SyntaxFault}
 use Rattle.nc_expressions.specs.declared.faults.SyntaxFault.TheVariants.{Refused, NoMemory}
 use Rattle.nc_expressions.specs.Limits.{all_limits}
-use Rattle.nc_expressions.specs.Parsing.{Reads, placed, expr_at, GivesExpr}
+use Rattle.nc_expressions.specs.Parsing.{Reads, reading_with_place, expr_at, GivesExpr}
 use Rattle.nc_expressions.specs.Tree.{Tree, tree_of}
 use Rattle.nc_expressions.specs.Machine.{State, Wants, Next, On, Ends, Refuse, step, finish, at_last, go_on, run, read}
 use Rattle.nc_expressions.proofs.Stacks.{stack_nil}
@@ -56,6 +56,6 @@ pub gives_read : (symbols : List Symbol) (start : ℕ) (r : Result (Expr × ℕ)
 unfolding expr_at
 gives_read symbols start (Ok p) h =
     let e : length symbols - length (drop p.1 symbols) ≡ p.1 = omega (arith, length-drop p.1 symbols, h.0) in
-    ap (placed (length symbols)) h.1 ∙ ap (λ (k : ℕ). Ok (tree_of p.0, k)) e
-gives_read symbols start (Err (Refused code)) h = ap (placed (length symbols)) h
+    ap (reading_with_place (length symbols)) h.1 ∙ ap (λ (k : ℕ). Ok (tree_of p.0, k)) e
+gives_read symbols start (Err (Refused code)) h = ap (reading_with_place (length symbols)) h
 gives_read symbols start (Err NoMemory) h = tt

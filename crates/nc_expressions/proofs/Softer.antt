@@ -11,10 +11,10 @@ use Rattle.nc_expressions.specs.declared.symbols.Symbol.TheVariants as symbol
 use Rattle.nc_expressions.specs.declared.stack.Bracket.{Bracket}
 use Rattle.nc_expressions.specs.declared.stack.Bracket.TheVariants.{Parentheses, Argument, Index}
 use Rattle.nc_expressions.specs.Tree.{Tree, Number, Parameter, Indexed, Unary, Binary}
-use Rattle.nc_expressions.specs.Levels.{connecting, rank, kind, together, clash}
+use Rattle.nc_expressions.specs.Levels.{connecting, rank, kind, joint_level, clash}
 use Rattle.nc_expressions.specs.Limits.{Limits, all_limits}
 use Rattle.nc_expressions.specs.Symbols.{truth, index_of}
-use Rattle.nc_expressions.specs.Machine.{Prefix, Left, Opened, Stack, State, Wants, WantsIndex, WantsArgument, Has, Next, On, Ends, Refuse, depth, attach, join, ended, opened, with_left, with_prefix, with_parameter, close_parenthesis, close_bracket, stop, finish, on_sign, on_operand, on_index, on_argument, on_operator, on_close, on_close_bracket, on_other, on_ended, step}
+use Rattle.nc_expressions.specs.Machine.{Prefix, Left, Opened, Stack, State, Wants, WantsIndex, WantsArgument, Has, Next, On, Ends, Refuse, depth, attach, join, state_with_tree, next_in_bracket, with_left, with_prefix, with_parameter, close_parenthesis, close_bracket, stop, finish, on_sign, on_operand, on_index, on_argument, on_operator, on_close, on_close_bracket, on_other, on_ended, step}
 
 abbrev pub limits_of : Bool → Bool → Limits
 limits_of n a = record { nested = n; apart = a }
@@ -94,12 +94,12 @@ Softened lim (Ends t) n = Unit {0}
 Softened lim (Refuse code) n = ((n ≡ Refuse code) × Stays lim code) ⊎ ((st : Stack) × (lv : Level) × (n ≡ On (Wants st lv)) × Gives lim code)
 
 abbrev pub Levels : Limits → Level → Level → Option Level → Type 0
-Levels lim lv k (Some l) = together (soft lim lv) (soft lim k) ≡ Some (soft lim l)
+Levels lim lv k (Some l) = joint_level (soft lim lv) (soft lim k) ≡ Some (soft lim l)
 Levels lim lv k None =
-    ((together (soft lim lv) (soft lim k) ≡ None) × (clash (soft lim lv) (soft lim k) ≡ clash lv k) × Stays lim (clash lv k))
-    ⊎ ((l : Level) × (together (soft lim lv) (soft lim k) ≡ Some l) × Gives lim (clash lv k))
+    ((joint_level (soft lim lv) (soft lim k) ≡ None) × (clash (soft lim lv) (soft lim k) ≡ clash lv k) × Stays lim (clash lv k))
+    ⊎ ((l : Level) × (joint_level (soft lim lv) (soft lim k) ≡ Some l) × Gives lim (clash lv k))
 
-soft_levels : (n a : Bool) (lv k : Level) → Levels (limits_of n a) lv k (together lv k)
+soft_levels : (n a : Bool) (lv k : Level) → Levels (limits_of n a) lv k (joint_level lv k)
 soft_levels n true Plain Plain = refl
 soft_levels n true Plain Compares = refl
 soft_levels n true Plain Connects = refl
@@ -120,7 +120,7 @@ soft_levels n false Connects Compares = inr (Compares, refl, inr (refl, refl))
 soft_levels n false Connects Connects = refl
 
 soft_prefix : (lim : Limits) (o : Option Level) (lv k : Level) (op : UnaryOp) (st : Stack) → Levels lim lv k o →
-    Softened lim (with_prefix o (clash lv k) op st) (with_prefix (together (soft lim lv) (soft lim k)) (clash (soft lim lv) (soft lim k)) op (soft_stack lim st))
+    Softened lim (with_prefix o (clash lv k) op st) (with_prefix (joint_level (soft lim lv) (soft lim k)) (clash (soft lim lv) (soft lim k)) op (soft_stack lim st))
 soft_prefix lim (Some l) lv k op st h = ap (λ (o : Option Level). with_prefix o (clash (soft lim lv) (soft lim k)) op (soft_stack lim st)) h
 soft_prefix lim None lv k op st (inl h) =
     inl (ap (λ (o : Option Level). with_prefix o (clash (soft lim lv) (soft lim k)) op (soft_stack lim st)) h.0 ∙ ap (λ (c : ℕ). Refuse c) h.1, h.2)
@@ -128,7 +128,7 @@ soft_prefix lim None lv k op st (inr h) =
     inr (Prefix op ∷ soft_stack lim st, h.0, ap (λ (o : Option Level). with_prefix o (clash (soft lim lv) (soft lim k)) op (soft_stack lim st)) h.1, h.2)
 
 soft_left : (lim : Limits) (o : Option Level) (lv k : Level) (op : BinaryOp) (p : Tree × Stack) → Levels lim lv k o →
-    Softened lim (with_left o (clash lv k) op p) (with_left (together (soft lim lv) (soft lim k)) (clash (soft lim lv) (soft lim k)) op (soft_pair lim p))
+    Softened lim (with_left o (clash lv k) op p) (with_left (joint_level (soft lim lv) (soft lim k)) (clash (soft lim lv) (soft lim k)) op (soft_pair lim p))
 soft_left lim (Some l) lv k op p h = ap (λ (o : Option Level). with_left o (clash (soft lim lv) (soft lim k)) op (soft_pair lim p)) h
 soft_left lim None lv k op p (inl h) =
     inl (ap (λ (o : Option Level). with_left o (clash (soft lim lv) (soft lim k)) op (soft_pair lim p)) h.0 ∙ ap (λ (c : ℕ). Refuse c) h.1, h.2)
@@ -144,8 +144,8 @@ soft_room true a false b st lv = inl (refl, inr (inl (refl, refl)))
 soft_room false a false b st lv = inr (Opened b (soft (limits_of false a) lv) ∷ soft_stack (limits_of false a) st, Plain, refl, inl (refl, refl))
 
 soft_open : (n a : Bool) (b : Bracket) (st : Stack) (lv : Level) →
-    Softened (limits_of n a) (opened all_limits b st lv) (opened (limits_of n a) b (soft_stack (limits_of n a) st) (soft (limits_of n a) lv))
-unfolding opened
+    Softened (limits_of n a) (next_in_bracket all_limits b st lv) (next_in_bracket (limits_of n a) b (soft_stack (limits_of n a) st) (soft (limits_of n a) lv))
+unfolding next_in_bracket
 soft_open n a b st lv =
     let lim : Limits = limits_of n a in
     let P : ℕ → Type 0 = λ d. Softened lim (cond (not true || nat_lt (depth st) 32) (On (Wants (Opened b lv ∷ st) Plain)) (Refuse 26))
@@ -171,8 +171,8 @@ soft_sign lim GreaterEqual st lv = inl (refl, inl refl)
 soft_sign lim LessEqual st lv = inl (refl, inl refl)
 
 soft_attached : (lim : Limits) (t : Tree) (st : Stack) (lv : Level) →
-    On (ended (soft lim lv) (attach t (soft_stack lim st))) ≡ On (soft_state lim (ended lv (attach t st)))
-soft_attached lim t st lv = ap (λ (p : Tree × Stack). On (ended (soft lim lv) p)) (soft_attach lim t st)
+    On (state_with_tree (soft lim lv) (attach t (soft_stack lim st))) ≡ On (soft_state lim (state_with_tree lv (attach t st)))
+soft_attached lim t st lv = ap (λ (p : Tree × Stack). On (state_with_tree (soft lim lv) p)) (soft_attach lim t st)
 
 soft_operand : (n a : Bool) (s : Symbol) (st : Stack) (lv : Level) →
     Softened (limits_of n a) (on_operand all_limits st lv s) (on_operand (limits_of n a) (soft_stack (limits_of n a) st) (soft (limits_of n a) lv) s)
@@ -180,7 +180,7 @@ unfolding on_operand
 soft_operand n a (symbol.Number z d) st lv = soft_attached (limits_of n a) (Number z) st lv
 soft_operand n a (symbol.Truth b) st lv = soft_attached (limits_of n a) (Number (truth b)) st lv
 soft_operand n a (symbol.Operator op) st lv = soft_sign (limits_of n a) op st lv
-soft_operand n a symbol.Not st lv = soft_prefix (limits_of n a) (together lv Connects) lv Connects unary.Not st (soft_levels n a lv Connects)
+soft_operand n a symbol.Not st lv = soft_prefix (limits_of n a) (joint_level lv Connects) lv Connects unary.Not st (soft_levels n a lv Connects)
 soft_operand n a (symbol.Function f) st lv = refl
 soft_operand n a symbol.Letter st lv = refl
 soft_operand n a symbol.Open st lv = soft_open n a Parentheses st lv
@@ -263,10 +263,10 @@ soft_operator n a op t st lv =
     let lim : Limits = limits_of n a in
     let k : Level = kind all_limits op in
     let p : Tree × Stack = join (rank op) t st in
-    let first = soft_left lim (together lv k) lv k op p (soft_levels n a lv k) in
-    let P : Tree × Stack → Type 0 = λ q. Softened lim (with_left (together lv k) (clash lv k) op p) (with_left (together (soft lim lv) (soft lim k)) (clash (soft lim lv) (soft lim k)) op q) in
-    let Q : Level → Type 0 = λ m. Softened lim (with_left (together lv k) (clash lv k) op p)
-    (with_left (together (soft lim lv) m) (clash (soft lim lv) m) op (join (rank op) t (soft_stack lim st))) in
+    let first = soft_left lim (joint_level lv k) lv k op p (soft_levels n a lv k) in
+    let P : Tree × Stack → Type 0 = λ q. Softened lim (with_left (joint_level lv k) (clash lv k) op p) (with_left (joint_level (soft lim lv) (soft lim k)) (clash (soft lim lv) (soft lim k)) op q) in
+    let Q : Level → Type 0 = λ m. Softened lim (with_left (joint_level lv k) (clash lv k) op p)
+    (with_left (joint_level (soft lim lv) m) (clash (soft lim lv) m) op (join (rank op) t (soft_stack lim st))) in
     subst Q (soft_kind lim op) (subst P (sym (soft_join lim (rank op) t st)) first)
 
 soft_ended : (n a : Bool) (s : Symbol) (t : Tree) (st : Stack) (lv : Level) →

@@ -12,11 +12,11 @@ use Rattle.nc_expressions.specs.declared.symbols.Symbol.TheVariants as symbol
 use Rattle.nc_expressions.specs.declared.stack.Bracket.{Bracket}
 use Rattle.nc_expressions.specs.declared.stack.Bracket.TheVariants.{Parentheses, Argument, Index}
 use Rattle.nc_expressions.specs.Tree.{Tree, Binary}
-use Rattle.nc_expressions.specs.Levels.{connecting, rank, kind, together, clash}
+use Rattle.nc_expressions.specs.Levels.{connecting, rank, kind, joint_level, clash}
 use Rattle.nc_expressions.specs.Limits.{Limits, all_limits, has_room}
 use Rattle.nc_expressions.specs.Symbols.{index_of}
 use Rattle.nc_expressions.specs.Syntax.{Syntax, Constant, Truth, Positive, Negative, Denied, Named, Indexing, Called, Grouped, Chained, spelling, parameter_of, tree, tightness, and_then, level, Fits, IsExpressionUnder, Follows}
-use Rattle.nc_expressions.specs.Machine.{Prefix, Left, Opened, Stack, State, Wants, WantsIndex, WantsArgument, Has, Next, On, Ends, Refuse, depth, attach, join, ended, opened, with_left, with_prefix, with_parameter, close_parenthesis, close_bracket, stop, finish, at_last, on_sign, on_operand, on_index, on_argument, on_operator, on_close, on_close_bracket, on_other, on_ended, step, run, go_on, read}
+use Rattle.nc_expressions.specs.Machine.{Prefix, Left, Opened, Stack, State, Wants, WantsIndex, WantsArgument, Has, Next, On, Ends, Refuse, depth, attach, join, state_with_tree, next_in_bracket, with_left, with_prefix, with_parameter, close_parenthesis, close_bracket, stop, finish, at_last, on_sign, on_operand, on_index, on_argument, on_operator, on_close, on_close_bracket, on_other, on_ended, step, run, go_on, read}
 use Rattle.nc_expressions.proofs.LevelLaws.{together_plain, some_is, some_of, associates, rank_small}
 use Rattle.nc_expressions.specs.Fronts.{Found}
 
@@ -73,19 +73,19 @@ abbrev pub Good : (lim : Limits) → Parts → Level → Type 0
 Good lim [] lv = lv ≡ Plain
 Good lim (PlusBefore ∷ g) lv = Good lim g lv
 Good lim (MinusBefore ∷ g) lv = Good lim g lv
-Good lim (NotBefore ∷ g) lv = (l : Level) × Good lim g l × (together l (connecting lim) ≡ Some lv)
+Good lim (NotBefore ∷ g) lv = (l : Level) × Good lim g l × (joint_level l (connecting lim) ≡ Some lv)
 Good lim (LeftOf a op ∷ g) lv =
-    (l : Level) × (la : Level) × (m : Level) × Good lim g l × (level lim a ≡ Some la) × (together l la ≡ Some m) × (together m (kind lim op) ≡ Some lv)
+    (l : Level) × (la : Level) × (m : Level) × Good lim g l × (level lim a ≡ Some la) × (joint_level l la ≡ Some m) × (joint_level m (kind lim op) ≡ Some lv)
     × Fits lim (depth (image g)) a × (rank op ≤ tightness a) × LooseThan (rank op) g
 Good lim (Within b outer ∷ g) lv = (lv ≡ Plain) × HasRoom lim b (depth (image g)) × Good lim g outer
 
--- an operand behind it, with which the level has this
+-- an operand after it, with which the level has this
 pub record Operand (lim : Limits) (g : Parts) (x : Syntax) (lv : Level) : Type 0 where
   pub before : Level
   pub own : Level
   pub good : Good lim g before
   pub has : level lim x ≡ Some own
-  pub levels : together before own ≡ Some lv
+  pub levels : joint_level before own ≡ Some lv
   pub fits : Fits lim (depth (image g)) x
 
 -- the state of the machine after these symbols
@@ -105,23 +105,23 @@ After lim ss s (Ends t) = IsSpelled lim ss t × Follows (s ∷ [])
 After lim ss s (Refuse code) = Unit {0}
 
 -- a NOT before an operand, as a level of the operand
-denied : (l c before own lv : Level) → together l c ≡ Some before → together before own ≡ Some lv →
-    (k : Level) × (together c own ≡ Some k) × (together l k ≡ Some lv)
+denied : (l c before own lv : Level) → joint_level l c ≡ Some before → joint_level before own ≡ Some lv →
+    (k : Level) × (joint_level c own ≡ Some k) × (joint_level l k ≡ Some lv)
 denied l c before own lv h e =
-    let f : and_then (together c own) (together l) ≡ Some lv = sym (associates l c own) ∙ ap (λ (o : Option Level). and_then o (λ x. together x own)) h ∙ e in
-    some_of (together c own) (together l) lv f
+    let f : and_then (joint_level c own) (joint_level l) ≡ Some lv = sym (associates l c own) ∙ ap (λ (o : Option Level). and_then o (λ x. joint_level x own)) h ∙ e in
+    some_of (joint_level c own) (joint_level l) lv f
 
 -- a left and a right operand, as a level of both
-pub chained : (l la m k before own lv : Level) → together l la ≡ Some m → together m k ≡ Some before → together before own ≡ Some lv →
-    (both : Level) × (and_then (together k own) (together la) ≡ Some both) × (together l both ≡ Some lv)
+pub chained : (l la m k before own lv : Level) → joint_level l la ≡ Some m → joint_level m k ≡ Some before → joint_level before own ≡ Some lv →
+    (both : Level) × (and_then (joint_level k own) (joint_level la) ≡ Some both) × (joint_level l both ≡ Some lv)
 chained l la m k before own lv h i e =
-    let f : and_then (together k own) (together m) ≡ Some lv =
-    sym (associates m k own) ∙ ap (λ (o : Option Level). and_then o (λ x. together x own)) i ∙ e in
-    let right = some_of (together k own) (together m) lv f in
-    let j : and_then (together la right.0) (together l) ≡ Some lv =
-    sym (associates l la right.0) ∙ ap (λ (o : Option Level). and_then o (λ x. together x right.0)) h ∙ right.2 in
-    let both = some_of (together la right.0) (together l) lv j in
-    (both.0, ap (λ (o : Option Level). and_then o (together la)) right.1 ∙ both.1, both.2)
+    let f : and_then (joint_level k own) (joint_level m) ≡ Some lv =
+    sym (associates m k own) ∙ ap (λ (o : Option Level). and_then o (λ x. joint_level x own)) i ∙ e in
+    let right = some_of (joint_level k own) (joint_level m) lv f in
+    let j : and_then (joint_level la right.0) (joint_level l) ≡ Some lv =
+    sym (associates l la right.0) ∙ ap (λ (o : Option Level). and_then o (λ x. joint_level x right.0)) h ∙ right.2 in
+    let both = some_of (joint_level la right.0) (joint_level l) lv j in
+    (both.0, ap (λ (o : Option Level). and_then o (joint_level la)) right.1 ∙ both.1, both.2)
 
 pub positive : (lim : Limits) → (g : Parts) (x : Syntax) (lv : Level) → tightness x ≡ 6 → Operand lim (PlusBefore ∷ g) x lv → Operand lim g (Positive x) lv
 positive lim g x lv h o = record { before = o.before; own = o.own; good = o.good; has = o.has; levels = o.levels; fits = (h, o.fits) }
@@ -136,7 +136,7 @@ not_of lim g x lv h o =
       before = o.good.0;
       own = k.0;
       good = o.good.1;
-      has = ap (λ (m : Option Level). and_then m (together (connecting lim))) o.has ∙ k.1;
+      has = ap (λ (m : Option Level). and_then m (joint_level (connecting lim))) o.has ∙ k.1;
       levels = k.2;
       fits = (h, o.fits);
     }
@@ -146,8 +146,8 @@ both_of lim g a x op lv h o =
     let w = o.good in
     let k = chained w.0 w.1 w.2 (kind lim op) o.before o.own lv w.5 w.6 o.levels in
     let e : level lim (Chained op a x) ≡ Some k.0 =
-    ap (λ (i : Option Level). and_then i (λ l. and_then (level lim x) (λ m. and_then (together (kind lim op) m) (together l)))) w.4
-    ∙ ap (λ (i : Option Level). and_then i (λ m. and_then (together (kind lim op) m) (together w.1))) o.has
+    ap (λ (i : Option Level). and_then i (λ l. and_then (level lim x) (λ m. and_then (joint_level (kind lim op) m) (joint_level l)))) w.4
+    ∙ ap (λ (i : Option Level). and_then i (λ m. and_then (joint_level (kind lim op) m) (joint_level w.1))) o.has
     ∙ k.1 in
     record { before = w.0; own = k.0; good = w.3; has = e; levels = k.2; fits = (w.8, h, w.7, o.fits) }
 
@@ -158,7 +158,7 @@ plain_operand lim g x lv good h f =
 
 -- an operand takes the signs before it
 attached : (lim : Limits) → (g : Parts) (x : Syntax) (lv : Level) (ss : List Symbol) → Operand lim g x lv → tightness x ≡ 6 → written g ++ spelling x ≡ ss →
-    Stands lim ss (ended lv (attach (tree x) (image g)))
+    Stands lim ss (state_with_tree lv (attach (tree x) (image g)))
 attached lim [] x lv ss o h w = ([], x, refl, refl, o, tt, h, w)
 attached lim (PlusBefore ∷ g) x lv ss o h w =
     attached lim g (Positive x) lv ss (positive lim g x lv h o) refl (sym (append_assoc (written g) (symbol.Operator Add ∷ []) (spelling x)) ∙ w)
@@ -217,7 +217,7 @@ after_sign lim Less g lv ss good w = tt
 after_sign lim GreaterEqual g lv ss good w = tt
 after_sign lim LessEqual g lv ss good w = tt
 
-after_not : (lim : Limits) → (o : Option Level) (code : ℕ) (g : Parts) (lv : Level) (ss : List Symbol) → together lv (connecting lim) ≡ o → Good lim g lv → written g ≡ ss →
+after_not : (lim : Limits) → (o : Option Level) (code : ℕ) (g : Parts) (lv : Level) (ss : List Symbol) → joint_level lv (connecting lim) ≡ o → Good lim g lv → written g ≡ ss →
     After lim ss symbol.Not (with_prefix o code unary.Not (image g))
 after_not lim None code g lv ss h good w = tt
 after_not lim (Some l) code g lv ss h good w = (NotBefore ∷ g, refl, (lv, good, h), more (written g) ss (symbol.Not ∷ []) w)
@@ -226,8 +226,8 @@ opened_cases : (b : Bool) (x y : Next) (P : Next → Type 0) → (IsTrue b → P
 opened_cases true x y P h i = h refl
 opened_cases false x y P h i = i
 
-after_open : (lim : Limits) → (g : Parts) (lv : Level) (ss : List Symbol) → Good lim g lv → written g ≡ ss → After lim ss symbol.Open (opened lim Parentheses (image g) lv)
-unfolding opened
+after_open : (lim : Limits) → (g : Parts) (lv : Level) (ss : List Symbol) → Good lim g lv → written g ≡ ss → After lim ss symbol.Open (next_in_bracket lim Parentheses (image g) lv)
+unfolding next_in_bracket
 after_open lim g lv ss good w =
     let P : Next → Type 0 = λ n. After lim ss symbol.Open n in
     opened_cases (has_room lim (depth (image g))) (On (Wants (Opened Parentheses lv ∷ image g) Plain)) (Refuse 26) P
@@ -235,8 +235,8 @@ after_open lim g lv ss good w =
     (Within Parentheses lv ∷ g, refl, (refl, e, good), more (written g) ss (symbol.Open ∷ []) w)) tt
 
 after_argument_open : (lim : Limits) → (f : UnaryOp) (g : Parts) (lv : Level) (ss : List Symbol) → Good lim g lv → written g ++ (symbol.Function f ∷ []) ≡ ss →
-    After lim ss symbol.Open (opened lim (Argument f) (image g) lv)
-unfolding opened
+    After lim ss symbol.Open (next_in_bracket lim (Argument f) (image g) lv)
+unfolding next_in_bracket
 after_argument_open lim f g lv ss good w =
     let P : Next → Type 0 = λ n. After lim ss symbol.Open n in
     opened_cases (has_room lim (depth (image g))) (On (Wants (Opened (Argument f) lv ∷ image g) Plain)) (Refuse 26) P
@@ -254,7 +254,7 @@ after_operand lim (symbol.Number z d) g lv ss good w =
 after_operand lim (symbol.Truth b) g lv ss good w =
     attached lim g (Truth b) lv (ss ++ (symbol.Truth b ∷ [])) (plain_operand lim g (Truth b) lv good refl tt) refl (more (written g) ss (symbol.Truth b ∷ []) w)
 after_operand lim (symbol.Operator op) g lv ss good w = after_sign lim op g lv ss good w
-after_operand lim symbol.Not g lv ss good w = after_not lim (together lv (connecting lim)) (clash lv (connecting lim)) g lv ss refl good w
+after_operand lim symbol.Not g lv ss good w = after_not lim (joint_level lv (connecting lim)) (clash lv (connecting lim)) g lv ss refl good w
 after_operand lim (symbol.Function f) g lv ss good w = (g, refl, good, more (written g) ss (symbol.Function f ∷ []) w)
 after_operand lim symbol.Letter g lv ss good w = (g, refl, good, more (written g) ss (symbol.Letter ∷ []) w)
 after_operand lim symbol.Open g lv ss good w = after_open lim g lv ss good w
@@ -271,7 +271,7 @@ after_number lim (Some i) z g lv ss h good w =
     let fits : IsSome (index_of z) = rw h (search rules) in
     let w' : written g ++ spelling (Named z) ≡ ss ++ (symbol.Number z true ∷ []) =
     sym (append_assoc (written g) (symbol.Letter ∷ []) (symbol.Number z true ∷ [])) ∙ more (written g ++ (symbol.Letter ∷ [])) ss (symbol.Number z true ∷ []) w in
-    let P : Option ℕ → Type 0 = λ k. Stands lim (ss ++ (symbol.Number z true ∷ [])) (ended lv (attach (parameter_of k) (image g))) in
+    let P : Option ℕ → Type 0 = λ k. Stands lim (ss ++ (symbol.Number z true ∷ [])) (state_with_tree lv (attach (parameter_of k) (image g))) in
     subst P h (attached lim g (Named z) lv (ss ++ (symbol.Number z true ∷ [])) (plain_operand lim g (Named z) lv good refl fits) refl w')
 
 after_index : (lim : Limits) → (s : Symbol) (g : Parts) (lv : Level) (ss : List Symbol) → Good lim g lv → written g ++ (symbol.Letter ∷ []) ≡ ss → After lim ss s (on_index (image g) lv s)
@@ -312,7 +312,7 @@ after_argument lim symbol.Exponent f g lv ss good w = tt
 after_argument lim symbol.Other f g lv ss good w = tt
 
 -- an operand that has ended, before an operator, a closing bracket and anything else
-after_left : (lim : Limits) → (o : Option Level) (code : ℕ) (op : BinaryOp) (lv : Level) (ss : List Symbol) (p : Tree × Stack) → together lv (kind lim op) ≡ o → Joins lim (rank op) lv ss p →
+after_left : (lim : Limits) → (o : Option Level) (code : ℕ) (op : BinaryOp) (lv : Level) (ss : List Symbol) (p : Tree × Stack) → joint_level lv (kind lim op) ≡ o → Joins lim (rank op) lv ss p →
     After lim ss (symbol.Operator op) (with_left o code op p)
 after_left lim None code op lv ss p h j = tt
 after_left lim (Some l) code op lv ss p h j =
@@ -398,7 +398,7 @@ after_ended : (lim : Limits) → (s : Symbol) (g : Parts) (x : Syntax) (lv : Lev
 unfolding on_ended on_operator on_close on_close_bracket on_other
 after_ended lim (symbol.Operator op) g x lv ss o l h w =
     let le : rank op ≤ tightness x = omega (arith, h, rank_small op) in
-    after_left lim (together lv (kind lim op)) (clash lv (kind lim op)) op lv ss (join (rank op) (tree x) (image g)) refl (joins_to lim (rank op) g x lv ss o l le w)
+    after_left lim (joint_level lv (kind lim op)) (clash lv (kind lim op)) op lv ss (join (rank op) (tree x) (image g)) refl (joins_to lim (rank op) g x lv ss o l le w)
 after_ended lim symbol.Close g x lv ss o l h w =
     let p : Tree × Stack = join 0 (tree x) (image g) in
     let j : Joins lim 0 lv ss p = joins_to lim 0 g x lv ss o l (omega arith) w in

@@ -16,8 +16,8 @@ one_step ss at s state h is =
     let e : drop at ss ≡ s ∷ drop (at + 1) ss = drop_more ss at s h ∙ ap (λ (x : Symbol). x ∷ drop (at + 1) ss) (sym is) in
     rw e refl
 
-left_behind : (ss : List Symbol) (at : ℕ) → at ≤ length ss → length ss - length (drop at ss) ≡ at
-left_behind ss at h = omega (arith, length-drop at ss)
+left_after : (ss : List Symbol) (at : ℕ) → at ≤ length ss → length ss - length (drop at ss) ≡ at
+left_after ss at h = omega (arith, length-drop at ss)
 
 pub stop_on : (ss : List Symbol) (at : ℕ) (s : Symbol) (state next : State) → at < length ss → s ≡ get_or ss at s → step all_limits state s ≡ On next →
     stop_from ss at state ≡ stop_from ss (at + 1) next
@@ -32,7 +32,7 @@ unfolding stop_from
 stop_ends ss at s state t h is e =
     ap (λ (l : List Symbol). length ss - length l)
     (one_step ss at s state h is ∙ ap (λ (n : Next). stop_here n (drop at ss) (not_taken (drop (at + 1) ss))) e)
-    ∙ left_behind ss at (omega arith)
+    ∙ left_after ss at (omega arith)
 
 pub stop_refused : (ss : List Symbol) (at : ℕ) (s : Symbol) (state : State) (code : ℕ) → at < length ss → s ≡ get_or ss at s → step all_limits state s ≡ Refuse code →
     stop_from ss at state ≡ at
@@ -40,7 +40,7 @@ unfolding stop_from
 stop_refused ss at s state code h is e =
     ap (λ (l : List Symbol). length ss - length l)
     (one_step ss at s state h is ∙ ap (λ (n : Next). stop_here n (drop at ss) (not_taken (drop (at + 1) ss))) e)
-    ∙ left_behind ss at (omega arith)
+    ∙ left_after ss at (omega arith)
 
 pub stop_past : (ss : List Symbol) (at : ℕ) (state : State) → length ss ≤ at → at ≤ length ss → stop_from ss at state ≡ at
 unfolding stop_from not_taken

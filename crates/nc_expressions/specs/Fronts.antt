@@ -7,7 +7,7 @@ use Rattle.nc_expressions.specs.Limits.{Limits, all_limits, any_nesting, any_mix
 use Rattle.nc_expressions.specs.Tree.{Tree}
 use Rattle.nc_expressions.specs.Syntax.{Syntax, spelling, tree, IsExpressionUnder, IsExpression, Follows}
 
--- the symbols begin with an expression of this tree, and these are behind it
+-- the symbols begin with an expression of this tree, and these are after it
 abbrev pub Found : List Symbol → Tree → List Symbol → Type 0
 Found symbols t rest =
     (x : Syntax) × IsExpression x × (tree x ≡ t) × Follows rest × (symbols ≡ spelling x ++ rest)
@@ -47,6 +47,6 @@ HasCode symbols code =
 -- could go on, with 22
 abbrev pub Broken : List Symbol → ℕ → Type 0
 Broken symbols code =
-    ((before : List Symbol) × (one : Symbol) × (behind : List Symbol) ×
-    (symbols ≡ before ++ (one ∷ behind)) × MayGoOn before × ¬ (IsFront (before ++ (one ∷ []))) × HasCode (before ++ (one ∷ [])) code)
+    ((before : List Symbol) × (one : Symbol) × (following : List Symbol) ×
+    (symbols ≡ before ++ (one ∷ following)) × MayGoOn before × ¬ (IsFront (before ++ (one ∷ []))) × HasCode (before ++ (one ∷ [])) code)
     ⊎ (MayGoOn symbols × ((x : Syntax) → IsExpression x → ¬ (symbols ≡ spelling x)) × (code ≡ 22))

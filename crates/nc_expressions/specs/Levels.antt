@@ -47,16 +47,16 @@ kind limits WholeDiv = Plain
 kind limits Modulo = Plain
 
 -- the level of two parts that stand beside one another; one comparison at most, and none beside AND, OR, XOR or NOT
-abbrev pub together : Level → Level → Option Level
-together Plain Plain = Some Plain
-together Plain Compares = Some Compares
-together Plain Connects = Some Connects
-together Compares Plain = Some Compares
-together Compares Compares = None
-together Compares Connects = None
-together Connects Plain = Some Connects
-together Connects Compares = None
-together Connects Connects = Some Connects
+abbrev pub joint_level : Level → Level → Option Level
+joint_level Plain Plain = Some Plain
+joint_level Plain Compares = Some Compares
+joint_level Plain Connects = Some Connects
+joint_level Compares Plain = Some Compares
+joint_level Compares Compares = None
+joint_level Compares Connects = None
+joint_level Connects Plain = Some Connects
+joint_level Connects Compares = None
+joint_level Connects Connects = Some Connects
 
 -- the refusal where two parts may not stand beside one another: a second comparison, or a comparison beside AND, OR, XOR or NOT
 abbrev pub clash : Level → Level → ℕ

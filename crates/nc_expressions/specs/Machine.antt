@@ -11,7 +11,7 @@ use Rattle.nc_expressions.specs.declared.symbols.Symbol.TheVariants as symbol
 use Rattle.nc_expressions.specs.declared.stack.Bracket.{Bracket}
 use Rattle.nc_expressions.specs.declared.stack.Bracket.TheVariants.{Parentheses, Argument, Index}
 use Rattle.nc_expressions.specs.Tree.{Tree, Number, Parameter, Indexed, Unary, Binary}
-use Rattle.nc_expressions.specs.Levels.{connecting, rank, kind, together, clash}
+use Rattle.nc_expressions.specs.Levels.{connecting, rank, kind, joint_level, clash}
 use Rattle.nc_expressions.specs.Limits.{Limits, has_room}
 use Rattle.nc_expressions.specs.Symbols.{truth, index_of}
 
@@ -25,7 +25,7 @@ pub data Pending : Type 0 where
 abbrev pub Stack : Type 0
 Stack = List Pending
 
--- an operand is wanted; so is what stands behind R, or behind a function's name; or an operand has ended
+-- an operand is wanted; so is what stands after R, or after a function's name; or an operand has ended
 pub data State : Type 0 where
   Wants : Stack → Level → State
   WantsIndex : Stack → Level → State
@@ -64,11 +64,11 @@ join r t (Prefix op ∷ st) = (t, Prefix op ∷ st)
 join r t (Left a op ∷ st) = if nat_le r (rank op) then join r (Binary op a t) st else (t, Left a op ∷ st)
 join r t (Opened b lv ∷ st) = (t, Opened b lv ∷ st)
 
-abbrev pub ended : Level → Tree × Stack → State
-ended lv p = Has p.0 p.1 lv
+abbrev pub state_with_tree : Level → Tree × Stack → State
+state_with_tree lv p = Has p.0 p.1 lv
 
-unfoldable pub opened : Limits → Bracket → Stack → Level → Next
-opened limits b st lv = if has_room limits (depth st) then On (Wants (Opened b lv ∷ st) Plain) else Refuse 26
+unfoldable pub next_in_bracket : Limits → Bracket → Stack → Level → Next
+next_in_bracket limits b st lv = if has_room limits (depth st) then On (Wants (Opened b lv ∷ st) Plain) else Refuse 26
 
 abbrev pub with_prefix : Option Level → ℕ → UnaryOp → Stack → Next
 with_prefix (Some lv) code op st = On (Wants (Prefix op ∷ st) lv)
@@ -79,7 +79,7 @@ with_left (Some lv) code op p = On (Wants (Left p.0 op ∷ p.1) lv)
 with_left None code op p = Refuse code
 
 abbrev pub with_parameter : Option ℕ → Stack → Level → Next
-with_parameter (Some i) st lv = On (ended lv (attach (Parameter i) st))
+with_parameter (Some i) st lv = On (state_with_tree lv (attach (Parameter i) st))
 with_parameter None st lv = Refuse 22
 
 unfoldable pub on_sign : BinaryOp → Stack → Level → Next
@@ -100,20 +100,20 @@ on_sign GreaterEqual st lv = Refuse 22
 on_sign LessEqual st lv = Refuse 22
 
 unfoldable pub on_operand : Limits → Stack → Level → Symbol → Next
-on_operand limits st lv (symbol.Number z digits) = On (ended lv (attach (Number z) st))
-on_operand limits st lv (symbol.Truth b) = On (ended lv (attach (Number (truth b)) st))
+on_operand limits st lv (symbol.Number z digits) = On (state_with_tree lv (attach (Number z) st))
+on_operand limits st lv (symbol.Truth b) = On (state_with_tree lv (attach (Number (truth b)) st))
 on_operand limits st lv (symbol.Operator op) = on_sign op st lv
-on_operand limits st lv symbol.Not = with_prefix (together lv (connecting limits)) (clash lv (connecting limits)) unary.Not st
+on_operand limits st lv symbol.Not = with_prefix (joint_level lv (connecting limits)) (clash lv (connecting limits)) unary.Not st
 on_operand limits st lv (symbol.Function f) = On (WantsArgument f st lv)
 on_operand limits st lv symbol.Letter = On (WantsIndex st lv)
-on_operand limits st lv symbol.Open = opened limits Parentheses st lv
+on_operand limits st lv symbol.Open = next_in_bracket limits Parentheses st lv
 on_operand limits st lv symbol.Close = Refuse 22
 on_operand limits st lv symbol.OpenBracket = Refuse 22
 on_operand limits st lv symbol.CloseBracket = Refuse 22
 on_operand limits st lv symbol.Exponent = Refuse 22
 on_operand limits st lv symbol.Other = Refuse 22
 
--- behind R; a number with a point is none of a parameter
+-- after R; a number with a point is none of a parameter
 unfoldable pub on_index : Stack → Level → Symbol → Next
 on_index st lv (symbol.Number z true) = with_parameter (index_of z) st lv
 on_index st lv (symbol.Number z false) = Refuse 22
@@ -129,7 +129,7 @@ on_index st lv symbol.CloseBracket = Refuse 22
 on_index st lv symbol.Exponent = Refuse 22
 on_index st lv symbol.Other = Refuse 22
 
--- behind a function's name
+-- after a function's name
 unfoldable pub on_argument : Limits → UnaryOp → Stack → Level → Symbol → Next
 on_argument limits f st lv (symbol.Number z digits) = Refuse 22
 on_argument limits f st lv (symbol.Truth b) = Refuse 22
@@ -137,7 +137,7 @@ on_argument limits f st lv (symbol.Operator op) = Refuse 22
 on_argument limits f st lv symbol.Not = Refuse 22
 on_argument limits f st lv (symbol.Function g) = Refuse 22
 on_argument limits f st lv symbol.Letter = Refuse 22
-on_argument limits f st lv symbol.Open = opened limits (Argument f) st lv
+on_argument limits f st lv symbol.Open = next_in_bracket limits (Argument f) st lv
 on_argument limits f st lv symbol.Close = Refuse 22
 on_argument limits f st lv symbol.OpenBracket = Refuse 22
 on_argument limits f st lv symbol.CloseBracket = Refuse 22
@@ -145,15 +145,15 @@ on_argument limits f st lv symbol.Exponent = Refuse 22
 on_argument limits f st lv symbol.Other = Refuse 22
 
 unfoldable pub on_operator : Limits → BinaryOp → Tree × Stack → Level → Next
-on_operator limits op p lv = with_left (together lv (kind limits op)) (clash lv (kind limits op)) op p
+on_operator limits op p lv = with_left (joint_level lv (kind limits op)) (clash lv (kind limits op)) op p
 
--- a closing parenthesis, or a closing bracket, behind an operand that nothing else waits for
+-- a closing parenthesis, or a closing bracket, after an operand that nothing else waits for
 abbrev pub close_parenthesis : Tree → Stack → Next
 close_parenthesis t [] = Ends t
 close_parenthesis t (Prefix op ∷ st) = Refuse 22
 close_parenthesis t (Left a op ∷ st) = Refuse 22
-close_parenthesis t (Opened Parentheses lv ∷ st) = On (ended lv (attach t st))
-close_parenthesis t (Opened (Argument f) lv ∷ st) = On (ended lv (attach (Unary f t) st))
+close_parenthesis t (Opened Parentheses lv ∷ st) = On (state_with_tree lv (attach t st))
+close_parenthesis t (Opened (Argument f) lv ∷ st) = On (state_with_tree lv (attach (Unary f t) st))
 close_parenthesis t (Opened Index lv ∷ st) = Refuse 22
 
 abbrev pub close_bracket : Tree → Stack → Next
@@ -162,7 +162,7 @@ close_bracket t (Prefix op ∷ st) = Refuse 22
 close_bracket t (Left a op ∷ st) = Refuse 22
 close_bracket t (Opened Parentheses lv ∷ st) = Refuse 22
 close_bracket t (Opened (Argument f) lv ∷ st) = Refuse 22
-close_bracket t (Opened Index lv ∷ st) = On (ended lv (attach (Indexed t) st))
+close_bracket t (Opened Index lv ∷ st) = On (state_with_tree lv (attach (Indexed t) st))
 
 -- what is no part of an expression ends it where no bracket is open
 abbrev pub stop : Tree → Stack → Next

@@ -6,9 +6,9 @@ use Rattle.nc_expressions.specs.Limits.{all_limits}
 use Rattle.nc_expressions.specs.Machine.{Next, On, Ends, Refuse, State, Wants, step}
 
 abbrev pub stop_here : Next → List Symbol → (State → List Symbol) → List Symbol
-stop_here (On state) symbols behind = behind state
-stop_here (Ends t) symbols behind = symbols
-stop_here (Refuse code) symbols behind = symbols
+stop_here (On state) symbols following = following state
+stop_here (Ends t) symbols following = symbols
+stop_here (Refuse code) symbols following = symbols
 
 -- what is not taken: from the first symbol on at which the expression ends or is refused
 unfoldable pub not_taken : List Symbol → State → List Symbol

@@ -92,7 +92,7 @@ kind_symbol kind.Number text = number_symbol (number_of text) (is_digits text)
 kind_symbol kind.Text text = Other
 kind_symbol (kind.Sign s) text = sign_symbol s
 
--- an E, or EX alone or with digits behind it; 69 is 'E'
+-- an E, or EX alone or with digits after it; 69 is 'E'
 unfoldable pub is_exponent : Kind → List ℕ → Bool
 is_exponent (kind.Letter b) text = b == 69
 is_exponent kind.Name text = is_word (take 2 text) (codes "EX") && is_digits (drop 2 text)
@@ -107,7 +107,7 @@ is_number_kind kind.Number = true
 is_number_kind kind.Text = false
 is_number_kind (kind.Sign s) = false
 
--- directly behind a number, with no blank between
+-- directly after a number, with no blank between
 abbrev pub touches_number : Option Token → Token → Bool
 touches_number None token = false
 touches_number (Some before) token = is_number_kind before.kind && before.end == token.start
@@ -119,13 +119,13 @@ symbol_of line before token =
     then Exponent
     else kind_symbol token.kind (text_of line token)
 
-abbrev pub symbols_behind : List ℕ → Option Token → List Token → List Symbol
-symbols_behind line before [] = []
-symbols_behind line before (token ∷ tokens) = symbol_of line before token ∷ symbols_behind line (Some token) tokens
+abbrev pub symbols_after : List ℕ → Option Token → List Token → List Symbol
+symbols_after line before [] = []
+symbols_after line before (token ∷ tokens) = symbol_of line before token ∷ symbols_after line (Some token) tokens
 
 -- the symbols of a line
 unfoldable pub symbols_of : WordsView → List Symbol
-symbols_of words = symbols_behind words.line None words.tokens
+symbols_of words = symbols_after words.line None words.tokens
 
 -- the token before a place
 abbrev pub token_before : Option Token → List Token → ℕ → Option Token

@@ -9,7 +9,7 @@ use Rattle.nc_expressions.specs.declared.levels.Level.TheVariants.{Plain}
 use Rattle.nc_expressions.specs.declared.symbols.Symbol.{Symbol}
 use Rattle.nc_expressions.specs.declared.symbols.Symbol.TheVariants as symbol
 use Rattle.nc_expressions.specs.Tree.{Tree, Number, Parameter, Indexed, Unary, Binary}
-use Rattle.nc_expressions.specs.Levels.{connecting, rank, kind, together}
+use Rattle.nc_expressions.specs.Levels.{connecting, rank, kind, joint_level}
 use Rattle.nc_expressions.specs.Limits.{Limits, all_limits, has_room}
 use Rattle.nc_expressions.specs.Symbols.{truth, index_of}
 
@@ -56,7 +56,7 @@ tree (Called f x) = Unary f (tree x)
 tree (Grouped x) = tree x
 tree (Chained op a b) = Binary op (tree a) (tree b)
 
--- how tightly it holds together: as its operator, or more than any where none stands outside brackets and behind signs
+-- how tightly it holds together: as its operator, or more than any where none stands outside brackets and after signs
 abbrev pub tightness : Syntax → ℕ
 tightness (Constant z digits) = 6
 tightness (Truth b) = 6
@@ -79,12 +79,12 @@ level limits (Constant z digits) = Some Plain
 level limits (Truth b) = Some Plain
 level limits (Positive x) = level limits x
 level limits (Negative x) = level limits x
-level limits (Denied x) = and_then (level limits x) (together (connecting limits))
+level limits (Denied x) = and_then (level limits x) (joint_level (connecting limits))
 level limits (Named z) = Some Plain
 level limits (Indexing x) = Some Plain
 level limits (Called f x) = Some Plain
 level limits (Grouped x) = Some Plain
-level limits (Chained op a b) = and_then (level limits a) (λ l. and_then (level limits b) (λ m. and_then (together (kind limits op) m) (together l)))
+level limits (Chained op a b) = and_then (level limits a) (λ l. and_then (level limits b) (λ m. and_then (joint_level (kind limits op) m) (joint_level l)))
 
 -- it is of the grammar, with so many parentheses open around it
 abbrev pub Fits : Limits → ℕ → Syntax → Type 0
@@ -106,7 +106,7 @@ IsExpressionUnder limits x = IsSome (level limits x) × Fits limits 0 x
 abbrev pub IsExpression : Syntax → Type 0
 IsExpression x = IsExpressionUnder all_limits x
 
--- what can stand behind an expression that has ended
+-- what can stand after an expression that has ended
 abbrev pub Follows : List Symbol → Type 0
 Follows [] = Unit {0}
 Follows (symbol.Number z digits ∷ ss) = Unit {0}

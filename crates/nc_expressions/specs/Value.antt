@@ -21,16 +21,16 @@ Ok x >>= f = f x
 Err alarm >>= f = Err alarm
 
 -- an alarm where a result is out of range
-unfoldable pub checked : ℤ → Result ℤ ℕ
-checked z = if nat_lt (unsigned_abs z) NUMBER_LIMIT then Ok z else Err NUMBER_TOO_LARGE
+unfoldable pub in_range_or_alarm : ℤ → Result ℤ ℕ
+in_range_or_alarm z = if nat_lt (unsigned_abs z) NUMBER_LIMIT then Ok z else Err NUMBER_TOO_LARGE
 
 -- an alarm where the divisor is 0
-unfoldable pub divided : ℤ → Result ℤ ℕ → Result ℤ ℕ
-divided divisor value = if int_eq divisor (pos 0) then Err DIVISION_BY_ZERO else value
+unfoldable pub quotient_or_alarm : ℤ → Result ℤ ℕ → Result ℤ ℕ
+quotient_or_alarm divisor value = if int_eq divisor (pos 0) then Err DIVISION_BY_ZERO else value
 
 -- an alarm where the root of a negative number is asked for
-unfoldable pub rooted : ℤ → Result ℤ ℕ
-rooted z = if int_lt z (pos 0) then Err NEGATIVE_ROOT else Ok (square_root z)
+unfoldable pub root_or_alarm : ℤ → Result ℤ ℕ
+root_or_alarm z = if int_lt z (pos 0) then Err NEGATIVE_ROOT else Ok (square_root z)
 
 -- a number other than 0 counts as true
 abbrev pub is_true : ℤ → Bool
@@ -45,18 +45,18 @@ unfoldable pub unary_value : UnaryOp → ℤ → Result ℤ ℕ
 unary_value Minus z = Ok (neg_ℤ z)
 unary_value Not z = Ok (truth (not (is_true z)))
 unary_value Abs z = Ok (pos (unsigned_abs z))
-unary_value Sqrt z = rooted z
-unary_value Pot z = checked (product z z)
+unary_value Sqrt z = root_or_alarm z
+unary_value Pot z = in_range_or_alarm (product z z)
 unary_value Trunc z = Ok (whole_part z)
-unary_value Round z = checked (nearest_whole z)
+unary_value Round z = in_range_or_alarm (nearest_whole z)
 
 unfoldable pub binary_value : BinaryOp → ℤ → ℤ → Result ℤ ℕ
-binary_value Add x y = checked (x +ℤ y)
-binary_value Sub x y = checked (x -ℤ y)
-binary_value Mul x y = checked (product x y)
-binary_value Div x y = divided y (checked (quotient x y))
-binary_value WholeDiv x y = divided y (checked (whole_quotient x y))
-binary_value Modulo x y = divided y (Ok (remainder x y))
+binary_value Add x y = in_range_or_alarm (x +ℤ y)
+binary_value Sub x y = in_range_or_alarm (x -ℤ y)
+binary_value Mul x y = in_range_or_alarm (product x y)
+binary_value Div x y = quotient_or_alarm y (in_range_or_alarm (quotient x y))
+binary_value WholeDiv x y = quotient_or_alarm y (in_range_or_alarm (whole_quotient x y))
+binary_value Modulo x y = quotient_or_alarm y (Ok (remainder x y))
 binary_value And x y = Ok (truth (is_true x && is_true y))
 binary_value Or x y = Ok (truth (is_true x || is_true y))
 binary_value Xor x y = Ok (truth (either (is_true x) (is_true y)))
@@ -82,9 +82,9 @@ value_of parameters (Binary op a b) =
     value_of parameters a >>= λ x. value_of parameters b >>= λ y. binary_value op x y
 
 -- a number, or the alarm in place of its fault
-abbrev pub alarmed : Result Num NumFault → Result ℤ ℕ
-alarmed (Ok n) = Ok n
-alarmed (Err DivideByZero) = Err DIVISION_BY_ZERO
-alarmed (Err NegativeRoot) = Err NEGATIVE_ROOT
-alarmed (Err TooLarge) = Err NUMBER_TOO_LARGE
-alarmed (Err NotANumber) = Err NUMBER_TOO_LARGE
+abbrev pub number_or_alarm : Result Num NumFault → Result ℤ ℕ
+number_or_alarm (Ok n) = Ok n
+number_or_alarm (Err DivideByZero) = Err DIVISION_BY_ZERO
+number_or_alarm (Err NegativeRoot) = Err NEGATIVE_ROOT
+number_or_alarm (Err TooLarge) = Err NUMBER_TOO_LARGE
+number_or_alarm (Err NotANumber) = Err NUMBER_TOO_LARGE

@@ -1,7 +1,7 @@
 //! How tightly operators bind, and what may stand at one level outside brackets.
 
 ghost use Rattle.std.specs.Prelude.{◌≡◌};
-ghost use Rattle.nc_expressions.specs.Levels.{rank, kind, together, clash};
+ghost use Rattle.nc_expressions.specs.Levels.{rank, kind, joint_level, clash};
 ghost use Rattle.nc_expressions.specs.Limits.{all_limits};
 
 use crate::trees::BinaryOp;
@@ -59,7 +59,7 @@ pub fn kind(op: BinaryOp) -> Level
 
 /// The level of two parts that stand beside one another, or `None` where they may not.
 pub fn together(level: Level, more: Level) -> Option<Level>
-    ensures { result ≡ together level more }
+    ensures { result ≡ joint_level level more }
 {
     match (level, more) {
         (Level::Plain, _) => Some(more),

@@ -53,7 +53,7 @@ fn parse_exactly(
 }
 
 /// Reads the expression that begins with the token at `start`, as far as it goes: its tree, and the
-/// place of the first token behind it.
+/// place of the first token after it.
 ///
 /// `Refused` comes where no expression begins there, or one begins that is not complete before the
 /// first token at which no expression goes on. Its code is that of this place: 26 where one would
@@ -116,13 +116,13 @@ fn is_exponent(symbol: Option<Symbol>) -> bool
     matches!(symbol, Some(Symbol::Exponent))
 }
 
-/// The number that a symbol is, before what stands behind it.
-fn plain_number(symbol: Symbol, behind: Option<Symbol>) -> Result<Num, u16>
-    ensures { result ≡ plain_number (Some symbol) behind }
+/// The number that a symbol is, before what stands after it.
+fn plain_number(symbol: Symbol, following: Option<Symbol>) -> Result<Num, u16>
+    ensures { result ≡ plain_number (Some symbol) following }
 {
     match symbol {
         Symbol::Number(number, _) => {
-            if is_exponent(behind) {
+            if is_exponent(following) {
                 Err(22)
             } else {
                 Ok(number)
@@ -132,7 +132,7 @@ fn plain_number(symbol: Symbol, behind: Option<Symbol>) -> Result<Num, u16>
     }
 }
 
-/// The number at a place, with no exponent behind it.
+/// The number at a place, with no exponent after it.
 #[tactic(auto, unfolding(crate::specs::Parsing::number_at))]
 fn number_at(words: &Words<'_>, at: usize) -> Result<Num, u16>
     requires scanned { IsScanned words.now }
@@ -146,7 +146,7 @@ fn number_at(words: &Words<'_>, at: usize) -> Result<Num, u16>
 }
 
 /// Reads the constant at `start`, as it stands after an address without `=`: a number with its sign
-/// if it has one, as a tree, and the place behind it. 22 where no number stands there, or one with
+/// if it has one, as a tree, and the place after it. 22 where no number stands there, or one with
 /// an exponent.
 #[tactic(auto, unfolding(crate::specs::Parsing::constant_at))]
 pub fn parse_constant(words: &Words<'_>, start: usize) -> Result<(Expr, usize), u16>

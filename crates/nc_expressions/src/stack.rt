@@ -16,7 +16,7 @@ pub enum Bracket {
     Parentheses,
     /// The parentheses of a function.
     Argument(UnaryOp),
-    /// The brackets behind R.
+    /// The brackets after R.
     Index,
 }
 

@@ -2,9 +2,9 @@
 
 ghost use Rattle.std.specs.Prelude.{◌≡◌};
 ghost use Rattle.nc_expressions.specs.Tree.{tree_of};
-ghost use Rattle.nc_expressions.specs.Levels.{rank, together, clash, kind};
+ghost use Rattle.nc_expressions.specs.Levels.{rank, joint_level, clash, kind};
 ghost use Rattle.nc_expressions.specs.Limits.{all_limits};
-ghost use Rattle.nc_expressions.specs.Machine.{On, ended, step, finish, opened, on_sign, on_operand, on_index, on_argument, on_operator, on_close, on_close_bracket, on_other, on_ended, with_parameter, with_prefix, join, attach};
+ghost use Rattle.nc_expressions.specs.Machine.{On, state_with_tree, step, finish, next_in_bracket, on_sign, on_operand, on_index, on_argument, on_operator, on_close, on_close_bracket, on_other, on_ended, with_parameter, with_prefix, join, attach};
 ghost use Rattle.nc_expressions.specs.Stack.{stack_of, state_of, Steps};
 
 use crate::faults::SyntaxFault;
@@ -20,11 +20,11 @@ use std::alloc::Global;
 pub enum Mode {
     /// The beginning of an operand.
     Wants,
-    /// What stands behind R.
+    /// What stands after R.
     WantsIndex,
-    /// What stands behind a function's name.
+    /// What stands after a function's name.
     WantsArgument(UnaryOp),
-    /// What stands behind an operand.
+    /// What stands after an operand.
     Has(Expr),
 }
 
@@ -94,14 +94,14 @@ fn on_operand(
     }
 }
 
-/// Goes on behind an operand that has ended.
+/// Goes on after an operand that has ended.
 fn ended(
     alloc: Global,
     pending: &mut Vec<Held>,
     level: Level,
     operand: Expr,
 ) -> Result<Step, SyntaxFault>
-    ensures { Steps (On (ended level (attach (tree_of operand) (stack_of pending.old.items)))) result (stack_of pending.new.items) }
+    ensures { Steps (On (state_with_tree level (attach (tree_of operand) (stack_of pending.old.items)))) result (stack_of pending.new.items) }
 {
     let operand = attach(alloc, pending, operand)?;
     Ok(Step::On(Mode::Has(operand), level))
@@ -124,7 +124,7 @@ fn on_sign(pending: &mut Vec<Held>, level: Level, op: BinaryOp) -> Result<Step, 
 
 /// Takes a NOT before an operand.
 fn on_not(pending: &mut Vec<Held>, level: Level) -> Result<Step, SyntaxFault>
-    ensures { Steps (with_prefix (together level Level.Connects) (clash level Level.Connects) UnaryOp.Not (stack_of pending.old.items)) result (stack_of pending.new.items) }
+    ensures { Steps (with_prefix (joint_level level Level.Connects) (clash level Level.Connects) UnaryOp.Not (stack_of pending.old.items)) result (stack_of pending.new.items) }
 {
     match together(level, Level::Connects) {
         Some(level) => {
@@ -136,9 +136,9 @@ fn on_not(pending: &mut Vec<Held>, level: Level) -> Result<Step, SyntaxFault>
 }
 
 /// Opens a bracket that counts as a parenthesis.
-#[tactic(auto, unfolding(crate::specs::Machine::opened))]
+#[tactic(auto, unfolding(crate::specs::Machine::next_in_bracket))]
 fn opened(pending: &mut Vec<Held>, level: Level, bracket: Bracket) -> Result<Step, SyntaxFault>
-    ensures { Steps (opened all_limits bracket (stack_of pending.old.items) level) result (stack_of pending.new.items) }
+    ensures { Steps (next_in_bracket all_limits bracket (stack_of pending.old.items) level) result (stack_of pending.new.items) }
 {
     if PARENTHESIS_LIMIT <= depth(pending) {
         return Err(SyntaxFault::Refused(26));
@@ -147,7 +147,7 @@ fn opened(pending: &mut Vec<Held>, level: Level, bracket: Bracket) -> Result<Ste
     Ok(Step::On(Mode::Wants, Level::Plain))
 }
 
-/// Takes a symbol behind R.
+/// Takes a symbol after R.
 #[tactic(auto, unfolding(crate::specs::Machine::on_index))]
 fn on_index(
     alloc: Global,
@@ -170,7 +170,7 @@ fn on_index(
     }
 }
 
-/// Takes a symbol behind a function's name.
+/// Takes a symbol after a function's name.
 #[tactic(auto, unfolding(crate::specs::Machine::on_argument))]
 fn on_argument(
     pending: &mut Vec<Held>,
@@ -186,7 +186,7 @@ fn on_argument(
     }
 }
 
-/// Takes a symbol behind an operand.
+/// Takes a symbol after an operand.
 #[tactic(auto, unfolding(crate::specs::Machine::on_ended))]
 fn on_ended(
     alloc: Global,
@@ -227,7 +227,7 @@ fn on_operator(
     }
 }
 
-/// Takes a closing parenthesis behind an operand.
+/// Takes a closing parenthesis after an operand.
 #[tactic(auto, unfolding(crate::specs::Machine::on_close))]
 fn on_close(alloc: Global, pending: &mut Vec<Held>, operand: Expr) -> Result<Step, SyntaxFault>
     ensures { Steps (on_close (join 0 (tree_of operand) (stack_of pending.old.items))) result (stack_of pending.new.items) }
@@ -244,7 +244,7 @@ fn on_close(alloc: Global, pending: &mut Vec<Held>, operand: Expr) -> Result<Ste
     }
 }
 
-/// Takes a closing bracket behind an operand.
+/// Takes a closing bracket after an operand.
 #[tactic(auto, unfolding(crate::specs::Machine::on_close_bracket))]
 fn on_close_bracket(
     alloc: Global,

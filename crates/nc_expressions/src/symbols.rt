@@ -35,7 +35,7 @@ pub enum Symbol {
     OpenBracket,
     /// `]`
     CloseBracket,
-    /// An E or EX directly behind a number: an exponent, which is not read.
+    /// An E or EX directly after a number: an exponent, which is not read.
     Exponent,
     /// What stands in no expression.
     Other,
@@ -176,7 +176,7 @@ fn kind_symbol(kind: Kind, text: &[u8]) -> Symbol
     }
 }
 
-/// Whether a name is EX alone or with digits behind it.
+/// Whether a name is EX alone or with digits after it.
 #[tactic(auto, using(crate::proofs::Beginnings::split_short), unfolding(crate::specs::Symbols::is_exponent))]
 fn is_exponent_name(text: &[u8]) -> bool
     ensures { result ≡ is_exponent Kind.Name text.now }
@@ -197,7 +197,7 @@ fn is_exponent(kind: Kind, text: &[u8]) -> bool
     }
 }
 
-/// Whether a token stands directly behind a number, with no blank between.
+/// Whether a token stands directly after a number, with no blank between.
 fn touches_number(before: Option<Token>, token: Token) -> bool
     ensures { result ≡ touches_number before token }
 {

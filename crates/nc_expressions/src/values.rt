@@ -5,7 +5,7 @@ ghost use Rattle.std.specs.Int.RustNames.{unsigned_abs};
 ghost use Rattle.micro_units.specs.Num.{FitsNum};
 ghost use Rattle.nc_expressions.specs.Symbols.{truth, index_of};
 ghost use Rattle.nc_expressions.specs.Tree.{tree_of, IndicesFit};
-ghost use Rattle.nc_expressions.specs.Value.{value_of, checked, divided, rooted, unary_value, binary_value, is_true, at_index, alarmed};
+ghost use Rattle.nc_expressions.specs.Value.{value_of, in_range_or_alarm, quotient_or_alarm, root_or_alarm, unary_value, binary_value, is_true, at_index, number_or_alarm};
 ghost use Rattle.nc_expressions.specs.declared.limits.TheConstants.{LAST_PARAMETER};
 
 use crate::symbols::{index_of, truth};
@@ -62,7 +62,7 @@ fn at_index<N: Names>(names: &N, index: Num) -> Result<Num, u16>
 
 /// The number, or the alarm in place of its fault.
 fn alarmed(number: Result<Num, NumFault>) -> Result<Num, u16>
-    ensures value { result ≡ alarmed number }
+    ensures value { result ≡ number_or_alarm number }
     ensures range { IfOk result (λ n. FitsNum n) }
 {
     match number {

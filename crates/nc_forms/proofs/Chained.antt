@@ -1,9 +1,9 @@
--- Lists: what is read one after the other stands one behind the other.
+-- Lists: what is read one after the other stands one after the other.
 use Rattle.std.proofs.Common.{◌≡◌, ℕ, zero, suc, ◌+◌, ◌-◌, ◌<◌, ◌≤◌, List, [], ◌∷◌, ◌++◌, length, drop, refl, ap, sym, ◌∙◌, subst, Result, Ok, Err, Bool, true, false, arith, append_assoc}
 use Rattle.std.specs.Prelude.{IsTrue}
 use Rattle.block_scanner.specs.declared.Token.{Token}
 use Rattle.block_scanner.specs.WordsView.{WordsView}
-use Rattle.nc_blocks.specs.Lists.{Item, go_on, listed, list_at}
+use Rattle.nc_blocks.specs.Lists.{Item, go_on, list_from, list_at}
 use Rattle.nc_blocks.proofs.Listing.{list_goes_on, list_ends}
 use Rattle.nc_forms.proofs.Marked.{bound, same_pair}
 
@@ -37,14 +37,14 @@ go_found item before at x false next rest xs end e h g f =
 
 pub listed_found : {A : Type 0} (item : List A → ℕ → Result (Item A) ℕ) →
     ((before : List A) (at : ℕ) (x : A) (more : Bool) (next : ℕ) → item before at ≡ Ok (x, more, next) → at < next) →
-    (tokens : List Token) (more : ℕ) (before : List A) (at : ℕ) (xs : List A) (end : ℕ) → listed item before at tokens more ≡ Ok (xs, end) →
+    (tokens : List Token) (more : ℕ) (before : List A) (at : ℕ) (xs : List A) (end : ℕ) → list_from item before at tokens more ≡ Ok (xs, end) →
     Listed item before (at + more) end xs
-unfolding listed
+unfolding list_from
 listed_found {A = A} item forward [] more before at xs end h =
     let b = bound (item before at) (λ one. Err 22) (xs, end) h in
     let no : ◌≡◌ {A = Result (List A × ℕ) ℕ} (Err 22) (Ok (xs, end)) = b.2 in cc
 listed_found {A = A} item forward (t ∷ ts) zero before at xs end h =
-    let rest = λ (ys : List A) (more : ℕ). listed item ys (at + 1) ts more in
+    let rest = λ (ys : List A) (more : ℕ). list_from item ys (at + 1) ts more in
     let b = bound (item before at) (λ one. go_on before at one rest) (xs, end) h in
     let same : at ≡ at + zero = omega arith in
     let P = λ (n : ℕ). Listed item before n end xs in
@@ -72,7 +72,7 @@ steps_forward item [] before at end h = omega arith
 steps_forward item (x ∷ xs) before at end h = omega (arith, h.1, steps_forward item xs (before ++ x ∷ []) h.0 end h.3)
 
 pub listed_only : {A : Type 0} (item : List A → ℕ → Result (Item A) ℕ) (tokens : List Token) (xs before : List A) (at end : ℕ) →
-    Steps item before at end xs → IsTrue (not_empty xs) → end ≤ length tokens → listed item before at (drop at tokens) zero ≡ Ok (before ++ xs, end)
+    Steps item before at end xs → IsTrue (not_empty xs) → end ≤ length tokens → list_from item before at (drop at tokens) zero ≡ Ok (before ++ xs, end)
 listed_only item tokens [] before at end h some within = cc
 listed_only item tokens (x ∷ []) before at end h some within =
     list_ends item before at tokens x h.0 h.2 h.1 (omega (arith, h.3)) ∙ ap (λ n. Ok (before ++ x ∷ [], n)) (sym h.3)

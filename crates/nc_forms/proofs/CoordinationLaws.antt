@@ -10,7 +10,7 @@ use Rattle.nc_blocks.specs.declared.blocks.CoordWord.TheVariants as coord
 use Rattle.nc_blocks.specs.declared.pieces.Piece.{Piece}
 use Rattle.nc_blocks.specs.declared.pieces.Piece.TheVariants as piece
 use Rattle.nc_blocks.specs.Pieces.{piece_at, text_at}
-use Rattle.nc_blocks.specs.Texts.{unquoted}
+use Rattle.nc_blocks.specs.Texts.{text_within_quotes}
 use Rattle.nc_blocks.specs.Marks.{open_at}
 use Rattle.nc_blocks.specs.AxisNames.{is_axis_start, has_digits, has_axis_name}
 use Rattle.nc_blocks.specs.Lists.{Item, list_at}
@@ -18,18 +18,18 @@ use Rattle.nc_blocks.specs.Statement.{OperandView, Value, Text, AxisName, Statem
 use Rattle.nc_forms.specs.declared.coordination.ArgumentKind.{ArgumentKind}
 use Rattle.nc_forms.specs.declared.coordination.ArgumentKind.TheVariants as argument
 use Rattle.nc_forms.specs.Frames.{axis_of}
-use Rattle.nc_forms.specs.LineEnds.{alone}
+use Rattle.nc_forms.specs.LineEnds.{statement_alone}
 use Rattle.nc_forms.specs.Parentheses.{is_close}
-use Rattle.nc_forms.specs.Coordination.{separator_of, separator_at, value_argument_at, argument_at, axis_of_piece, axis_at, axis_argument_at, arguments_form, clear_form, quoted_at, is_wait, wait_at, wait_behind, last_of_init, third, opened_value, init_form, cprot_form, coordination_form}
+use Rattle.nc_forms.specs.Coordination.{separator_of, separator_at, value_argument_at, argument_at, axis_of_piece, axis_at, axis_argument_at, arguments_form, clear_form, quoted_at, is_wait, wait_at, wait_after, last_of_init, third, opened_value, init_form, cprot_form, coordination_form}
 use Rattle.nc_forms.specs.Standing.{IsKeyword, IsExpressionText, IsAxisName, AreSeparated}
 use Rattle.nc_forms.specs.SpelledForms.{coordination_name, IsValue, IsAxis, IsText, IsInit, IsZoneState, AreArguments, IsCoordination}
 use Rattle.nc_forms.proofs.Standings.{piece_within, follows_piece, expression_within, expression_begins, expression_found, expression_only}
 use Rattle.nc_forms.proofs.Marked.{bound, taken, one_of, same_pair, open_found, open_only, close_found, close_only, comma_found, comma_only}
 use Rattle.nc_forms.proofs.Chained.{not_empty, Steps, list_found, list_only}
 use Rattle.nc_forms.proofs.PieceLaws.{moved, text_is, axis_name_found, false_of, or_cases, letter_case, last_false, no_digits, axis_name_only, close_piece}
-use Rattle.nc_forms.proofs.LineEnds.{at_line_end, alone_found, alone_only, behind_last}
+use Rattle.nc_forms.proofs.LineEnds.{at_line_end, alone_found, alone_only, after_last}
 
--- behind an argument stands a comma, where another one follows, or `)`
+-- after an argument stands a comma, where another one follows, or `)`
 abbrev Parted : WordsView → ℕ → Bool → Type 0
 Parted words at true = piece_at words at ≡ piece.Comma
 Parted words at false = piece_at words at ≡ piece.Close
@@ -211,9 +211,9 @@ listed_only words item R o w at close xs h e =
     list_only (λ ys. item) words xs at (close + 1) (list_steps words item R o w xs [] at close h e) (some_list words R at close xs h)
     (let k = piece_within words close piece.Close e tt in omega (arith, k))
 
--- the end of a form behind its parenthesis
+-- the end of a form after its parenthesis
 pub close_last : (words : WordsView) (close : ℕ) → piece_at words close ≡ piece.Close → piece_at words (close + 1) ≡ piece.End → length words.tokens ≡ close + 1
-close_last words close h e = behind_last words close (piece_within words close piece.Close h tt) e
+close_last words close h e = after_last words close (piece_within words close piece.Close h tt) e
 
 abbrev Listed : WordsView → (ℕ → ℕ → OperandView → Type 0) → ℕ → CoordWord → Statement → Type 0
 Listed words R at which s =
@@ -269,7 +269,7 @@ clear_found : (words : WordsView) (at : ℕ) (which : CoordWord) (s : Statement)
 unfolding clear_form
 clear_found words at which s h =
     one_of _ _ _ _ h
-    (λ c e. let a = bound (open_at words (at + 1) 22) (λ (n : ℕ). alone words (at + 1 + 2) (Coord which [])) s e in
+    (λ c e. let a = bound (open_at words (at + 1) 22) (λ (n : ℕ). statement_alone words (at + 1 + 2) (Coord which [])) s e in
     let o = open_found words (at + 1) 22 a.0 a.1 in
     let f = alone_found words (at + 1 + 2) (Coord which []) s a.2 in
     let place : at + 1 + 1 ≡ at + 2 = omega arith in
@@ -309,8 +309,8 @@ quoted_found : (words : WordsView) (at : ℕ) (text : List ℕ) → quoted_at wo
 unfolding quoted_at
 quoted_found words at text h =
     let t = taken _ _ _ _ h in
-    let e : ◌≡◌ {A = Result (List ℕ) ℕ} (Ok (unquoted (text_at words at))) (Ok text) = t.1 in
-    let same : unquoted (text_at words at) ≡ text = cc in
+    let e : ◌≡◌ {A = Result (List ℕ) ℕ} (Ok (text_within_quotes (text_at words at))) (Ok text) = t.1 in
+    let same : text_within_quotes (text_at words at) ≡ text = cc in
     (text_is (piece_at words at) t.0, sym same)
 
 quoted_only : (words : WordsView) (at : ℕ) (text : List ℕ) → IsText words at text → quoted_at words at ≡ Ok text
@@ -355,13 +355,13 @@ IsThird words at close None = (close ≡ at) × (piece_at words close ≡ piece.
 IsThird words at close (Some text) =
     (piece_at words at ≡ piece.Comma) × IsText words (at + 1) text × IsTrue (is_wait text) × (close ≡ at + 2) × (piece_at words close ≡ piece.Close)
 
-behind_found : (words : WordsView) (at end next : ℕ) (more : Bool) (o : Option (List ℕ)) → Parted words at more → next ≡ at + 1 → wait_behind words (more, next) ≡ Ok (o, end) →
+after_found : (words : WordsView) (at end next : ℕ) (more : Bool) (o : Option (List ℕ)) → Parted words at more → next ≡ at + 1 → wait_after words (more, next) ≡ Ok (o, end) →
     (close : ℕ) × IsThird words at close o × (end ≡ close + 1)
-behind_found words at end next false o p e h =
+after_found words at end next false o p e h =
     let s = same_pair None o next end h in
     let P = λ (x : Option (List ℕ)). IsThird words at at x in
     (at, subst P s.0 (refl, p), sym s.1 ∙ e)
-behind_found words at end next true o p e h =
+after_found words at end next true o p e h =
     let a = bound _ _ _ h in
     let b = bound _ _ _ a.2 in
     let w = wait_found words next a.0 a.1 in
@@ -378,7 +378,7 @@ unfolding last_of_init
 third_found words at end o h =
     let a = bound _ _ _ h in
     let p = separator_found words at a.0.1 a.0.0 a.1 in
-    behind_found words at end a.0.1 a.0.0 o p.0 p.1 a.2
+    after_found words at end a.0.1 a.0.0 o p.0 p.1 a.2
 
 third_only : (words : WordsView) (at close : ℕ) (o : Option (List ℕ)) → IsThird words at close o → last_of_init words at ≡ Ok (o, close + 1)
 unfolding last_of_init

@@ -13,15 +13,15 @@ use Rattle.nc_blocks.specs.Statement.{Statement}
 use Rattle.nc_blocks.proofs.Refusals.{Listed, found, refuses, unreadable, not_alone, transformed, bound, chosen, code_listed, end_listed, assign_listed, open_listed, close_listed, comma_listed, expression_listed, constant_listed, list_listed}
 use Rattle.nc_forms.specs.declared.coordination.ArgumentKind.{ArgumentKind}
 use Rattle.nc_forms.specs.declared.coordination.ArgumentKind.TheVariants as argument
-use Rattle.nc_forms.specs.LineEnds.{alone}
+use Rattle.nc_forms.specs.LineEnds.{statement_alone}
 use Rattle.nc_forms.specs.Frames.{axis_of, frame_value, frame_word, frame_word_at, shape_form, turn_end, angle_at, turn_form}
-use Rattle.nc_forms.specs.Coordination.{separator_of, separator_at, value_argument_at, argument_at, axis_of_piece, axis_at, axis_argument_at, arguments_form, clear_form, quoted_at, wait_at, wait_behind, last_of_init, opened_value, init_form, cprot_form, msg_form, enclosed_at, setms_form, after_text, behind_last, last_close, workpiece_form, coordination_form}
+use Rattle.nc_forms.specs.Coordination.{separator_of, separator_at, value_argument_at, argument_at, axis_of_piece, axis_at, axis_argument_at, arguments_form, clear_form, quoted_at, wait_at, wait_after, last_of_init, opened_value, init_form, cprot_form, msg_form, enclosed_at, setms_form, after_text, after_last, last_close, workpiece_form, coordination_form}
 use Rattle.nc_blocks.specs.declared.blocks.CoordWord.TheVariants as coord
 
 -- what stands alone, loops, repetitions and calls
 
-pub alone_listed : (words : WordsView) (at : ℕ) (s : Statement) → Listed (alone words at s)
-unfolding alone
+pub alone_listed : (words : WordsView) (at : ℕ) (s : Statement) → Listed (statement_alone words at s)
+unfolding statement_alone
 alone_listed words at s = bound _ _ (end_listed words at) (λ end. found _)
 
 -- frames
@@ -49,7 +49,7 @@ turn_end_listed words at = chosen _ _ _ (refuses transformed) (end_listed words 
 pub angle_listed : (words : WordsView) (at : ℕ) → Listed (angle_at words at)
 unfolding angle_at
 angle_listed words at =
-    chosen _ _ _ (bound _ _ (assign_listed words (at + 1) 22 unreadable) (λ behind. bound _ _ (expression_listed words behind) (λ p. found _))) (found _)
+    chosen _ _ _ (bound _ _ (assign_listed words (at + 1) 22 unreadable) (λ following. bound _ _ (expression_listed words following) (λ p. found _))) (found _)
 
 pub turn_listed : (words : WordsView) (more : Bool) (at : ℕ) → Listed (turn_form words more at)
 unfolding turn_form
@@ -101,18 +101,18 @@ pub wait_listed : (words : WordsView) (at : ℕ) → Listed (wait_at words at)
 unfolding wait_at
 wait_listed words at = bound _ _ (quoted_listed words at) (λ text. chosen _ _ _ (found _) (refuses unreadable))
 
-pub behind_wait : (words : WordsView) (q : Bool × ℕ) → Listed (wait_behind words q)
-behind_wait words (false, next) = found _
-behind_wait words (true, next) = bound _ _ (wait_listed words next) (λ text. bound _ _ (close_listed words (next + 1) 22 unreadable) (λ end. found _))
+pub after_wait : (words : WordsView) (q : Bool × ℕ) → Listed (wait_after words q)
+after_wait words (false, next) = found _
+after_wait words (true, next) = bound _ _ (wait_listed words next) (λ text. bound _ _ (close_listed words (next + 1) 22 unreadable) (λ end. found _))
 
 pub last_of_init_listed : (words : WordsView) (at : ℕ) → Listed (last_of_init words at)
 unfolding last_of_init
-last_of_init_listed words at = bound _ _ (separator_listed words at) (λ q. behind_wait words q)
+last_of_init_listed words at = bound _ _ (separator_listed words at) (λ q. after_wait words q)
 
 pub opened_listed : (words : WordsView) (at : ℕ) → Listed (opened_value words at)
 unfolding opened_value
 opened_listed words at =
-    bound _ _ (open_listed words at 22 unreadable) (λ first. bound _ _ (expression_listed words first) (λ p. bound _ _ (comma_listed words p.1) (λ behind. found _)))
+    bound _ _ (open_listed words at 22 unreadable) (λ first. bound _ _ (expression_listed words first) (λ p. bound _ _ (comma_listed words p.1) (λ following. found _)))
 
 pub init_listed : (words : WordsView) (which : CoordWord) (at : ℕ) → Listed (init_form words which at)
 unfolding init_form
@@ -140,13 +140,13 @@ pub setms_listed : (words : WordsView) (at : ℕ) → Listed (setms_form words a
 unfolding setms_form
 setms_listed words at = chosen _ _ _ (bound _ _ (enclosed_listed words at) (λ end. alone_listed words end _)) (alone_listed words at _)
 
-pub behind_last_listed : (all : ℕ) (back : Option ℕ) → Listed (behind_last all back)
-behind_last_listed all (Some back) = found _
-behind_last_listed all None = refuses unreadable
+pub after_last_listed : (all : ℕ) (back : Option ℕ) → Listed (after_last all back)
+after_last_listed all (Some back) = found _
+after_last_listed all None = refuses unreadable
 
 pub last_close_listed : (tokens : List Token) → Listed (last_close tokens)
 unfolding last_close
-last_close_listed tokens = behind_last_listed (length tokens) _
+last_close_listed tokens = after_last_listed (length tokens) _
 
 pub workpiece_listed : (words : WordsView) (at : ℕ) → Listed (workpiece_form words at)
 unfolding workpiece_form

@@ -22,7 +22,7 @@ use Rattle.nc_forms.proofs.Standings.{follows_letter, follows_end, expression_fo
 use Rattle.nc_forms.proofs.Marked.{bound, refused, one_of, same_pair, end_found, end_only, assign_found, assign_only, constant_found, constant_only}
 use Rattle.nc_forms.proofs.Chained.{not_empty, Steps, list_found, list_only}
 use Rattle.nc_forms.proofs.PieceLaws.{moved, assign_is, or_parts, or_both, false_of, signed_no_assign}
-use Rattle.nc_forms.proofs.LineEnds.{signed_within, assigned_within, line_end, at_line_end, end_is, keyword_within, behind_last}
+use Rattle.nc_forms.proofs.LineEnds.{signed_within, assigned_within, line_end, at_line_end, end_is, keyword_within, after_last}
 
 -- axes that come once
 abbrev keys : List (ℕ × Tree) → List ℕ
@@ -189,7 +189,7 @@ unfolding shape_form IsDistinct
 shape_form_found words at which s k h =
     one_of _ _ _ _ h
     (λ e f. let same : Shape which [] ≡ s = cc in
-    ([], sym same, (k, behind_last words at (keyword_within words at (frame_name which) k) (end_piece (piece_at words (at + 1)) e), tt)))
+    ([], sym same, (k, after_last words at (keyword_within words at (frame_name which) k) (end_piece (piece_at words (at + 1)) e), tt)))
     (λ e f. let b = bound _ _ _ f in
     let same : Shape which b.0.0 ≡ s = cc in
     let l = list_found (frame_word_at words) (λ ys n x more next g. (axis_within words n next x (item_found words ys n next x more g).0).0) words (at + 1) b.0.0 b.0.1 b.1 in

@@ -12,7 +12,7 @@ use Rattle.nc_forms.specs.Standing.{IsSignedNumber, IsAssigned, IsKeyword, IsAlo
 use Rattle.nc_forms.proofs.Standings.{piece_within, past_end, keyword_piece, expression_within}
 use Rattle.nc_forms.proofs.Marked.{bound, end_found, end_only}
 use Rattle.nc_blocks.specs.Marks.{end_at}
-use Rattle.nc_forms.specs.LineEnds.{alone}
+use Rattle.nc_forms.specs.LineEnds.{statement_alone}
 
 pub signed_within : (words : WordsView) (at end : ℕ) (z : ℤ) → IsSignedNumber words at end z → (at < end) × (end ≤ length words.tokens)
 signed_within words at end z h =
@@ -46,22 +46,22 @@ at_line_end words end h = sym (piece_past words end (omega (arith, h)))
 pub keyword_within : (words : WordsView) (at : ℕ) (word : List ℕ) → IsKeyword words at word → at < length words.tokens
 keyword_within words at word h = piece_within words at piece.Name (keyword_piece words at word h) tt
 
-pub alone_found : (words : WordsView) (at : ℕ) (s x : Statement) → alone words at s ≡ Ok x → (piece_at words at ≡ piece.End) × (s ≡ x)
-unfolding alone
+pub alone_found : (words : WordsView) (at : ℕ) (s x : Statement) → statement_alone words at s ≡ Ok x → (piece_at words at ≡ piece.End) × (s ≡ x)
+unfolding statement_alone
 alone_found words at s x h =
     let b = bound (end_at words at) (λ (n : ℕ). Ok s) x h in
     let same : s ≡ x = cc in (end_found words at b.0 b.1, same)
 
-pub alone_only : (words : WordsView) (at : ℕ) (s : Statement) → piece_at words at ≡ piece.End → alone words at s ≡ Ok s
-unfolding alone
+pub alone_only : (words : WordsView) (at : ℕ) (s : Statement) → piece_at words at ≡ piece.End → statement_alone words at s ≡ Ok s
+unfolding statement_alone
 alone_only words at s h = rw (end_only words at h) refl
 
--- the end of the line behind what stands there
-pub behind_last : (words : WordsView) (at : ℕ) → at < length words.tokens → piece_at words (at + 1) ≡ piece.End → length words.tokens ≡ at + 1
-behind_last words at w h = omega (arith, past_end words (at + 1) h, w)
+-- the end of the line after what stands there
+pub after_last : (words : WordsView) (at : ℕ) → at < length words.tokens → piece_at words (at + 1) ≡ piece.End → length words.tokens ≡ at + 1
+after_last words at w h = omega (arith, past_end words (at + 1) h, w)
 
 -- a name alone
-pub alone_form_found : (words : WordsView) (at : ℕ) (word : List ℕ) (s x : Statement) → IsKeyword words at word → alone words (at + 1) s ≡ Ok x →
+pub alone_form_found : (words : WordsView) (at : ℕ) (word : List ℕ) (s x : Statement) → IsKeyword words at word → statement_alone words (at + 1) s ≡ Ok x →
     IsAlone words at (length words.tokens) word × (s ≡ x)
 alone_form_found words at word s x k h =
-    let a = alone_found words (at + 1) s x h in ((k, behind_last words at (keyword_within words at word k) a.0), a.1)
+    let a = alone_found words (at + 1) s x h in ((k, after_last words at (keyword_within words at word k) a.0), a.1)

@@ -8,9 +8,9 @@ use Rattle.nc_expressions.specs.Symbols.{is_digits, index_of}
 use Rattle.nc_blocks.specs.declared.pieces.Piece.{Piece}
 use Rattle.nc_blocks.specs.declared.pieces.Piece.TheVariants as piece
 use Rattle.nc_blocks.specs.Pieces.{piece_at, text_at}
-use Rattle.nc_blocks.specs.Marks.{ended, end_at, assign_of, assign_at, open_of, open_at, close_of, close_at, close_bracket_of, close_bracket_at, comma_of, comma_at, is_keyword, keyword_at}
+use Rattle.nc_blocks.specs.Marks.{end_or_refusal, end_at, assign_of, assign_at, open_of, open_at, close_of, close_at, close_bracket_of, close_bracket_at, comma_of, comma_at, is_keyword, keyword_at}
 use Rattle.nc_expressions.specs.Value.{◌>>=◌}
-use Rattle.nc_blocks.specs.Reading.{after_sign_of, after_sign, signed, constant_of, constant_at, whole, block_number, block_number_of, block_number_at, index_or, parameter_number, index_of_piece, index_at, label_of, label_at}
+use Rattle.nc_blocks.specs.Reading.{after_sign_of, after_sign, with_sign, constant_of, constant_at, whole, block_number, block_number_of, block_number_at, index_or, parameter_number, index_of_piece, index_at, label_of, label_at}
 use Rattle.nc_blocks.specs.AxisNames.{is_digits_piece, has_digits}
 use Rattle.nc_forms.specs.Standing.{IsKeyword, IsSignedNumber, IsDigits, IsBlockNumber, IsIndex, IsNameOf}
 
@@ -54,7 +54,7 @@ same_pair {A = A} {B = B} a c b d h =
     (ap (λ (p : A × B). p.0) e, ap (λ (p : A × B). p.1) e)
 
 -- signs
-ended_found : (p : Piece) (n : ℕ) → ended p ≡ Ok n → p ≡ piece.End
+ended_found : (p : Piece) (n : ℕ) → end_or_refusal p ≡ Ok n → p ≡ piece.End
 ended_found piece.End n h = refl
 ended_found p n h = cc
 
@@ -64,7 +64,7 @@ end_found words at n h = ended_found (piece_at words at) n h
 
 pub end_only : (words : WordsView) (at : ℕ) → piece_at words at ≡ piece.End → end_at words at ≡ Ok 0
 unfolding end_at
-end_only words at h = ap (λ p. ended p) h
+end_only words at h = ap (λ p. end_or_refusal p) h
 
 assign_of_found : (p : Piece) (next code n : ℕ) → assign_of p next code ≡ Ok n → (p ≡ piece.Assign) × (n ≡ next)
 assign_of_found piece.Assign next code n h = (refl, (cc))
@@ -138,23 +138,23 @@ unfolding keyword_at
 keyword_only words at word h = yes_of (is_keyword words at word) (Ok (at + 1)) (Err 22) h
 
 -- numbers
-number_behind : (first second : Piece) (next code : ℕ) (z : ℤ) (end : ℕ) → constant_of first second next code ≡ Ok (z, end) →
-    (v : ℤ) × (second ≡ piece.Number v) × (z ≡ signed first v) × (end ≡ next)
-number_behind first (piece.Number v) next code z end h =
-    let p = same_pair (signed first v) z next end h in (v, refl, sym p.0, sym p.1)
-number_behind first second next code z end h = cc
+number_after : (first second : Piece) (next code : ℕ) (z : ℤ) (end : ℕ) → constant_of first second next code ≡ Ok (z, end) →
+    (v : ℤ) × (second ≡ piece.Number v) × (z ≡ with_sign first v) × (end ≡ next)
+number_after first (piece.Number v) next code z end h =
+    let p = same_pair (with_sign first v) z next end h in (v, refl, sym p.0, sym p.1)
+number_after first second next code z end h = cc
 
 constant_cases : (words : WordsView) (at code : ℕ) (z : ℤ) (end : ℕ) (first : Piece) → piece_at words at ≡ first →
     constant_of first (piece_at words (after_sign_of first at)) (after_sign_of first at + 1) code ≡ Ok (z, end) → IsSignedNumber words at end z
 constant_cases words at code z end piece.Plus e h =
-    let n = number_behind piece.Plus (piece_at words (at + 1)) (at + 1 + 1) code z end h in
+    let n = number_after piece.Plus (piece_at words (at + 1)) (at + 1 + 1) code z end h in
     let f = n.1 ∙ ap (λ v. piece.Number v) (sym n.2) in
     inr (inl (e, f, omega (arith, n.3)))
 constant_cases words at code z end piece.Minus e h =
-    let n = number_behind piece.Minus (piece_at words (at + 1)) (at + 1 + 1) code z end h in
+    let n = number_after piece.Minus (piece_at words (at + 1)) (at + 1 + 1) code z end h in
     inr (inr (n.0, e, n.1, n.2, omega (arith, n.3)))
 constant_cases words at code z end first e h =
-    let n = number_behind first (piece_at words at) (at + 1) code z end h in
+    let n = number_after first (piece_at words at) (at + 1) code z end h in
     inl (n.1 ∙ ap (λ v. piece.Number v) (sym n.2), n.3)
 
 pub constant_found : (words : WordsView) (at code : ℕ) (z : ℤ) (end : ℕ) → constant_at words at code ≡ Ok (z, end) → IsSignedNumber words at end z

@@ -20,9 +20,9 @@ use Rattle.nc_blocks.specs.declared.pieces.Piece.{Piece}
 use Rattle.nc_blocks.specs.declared.pieces.Piece.TheVariants as piece
 use Rattle.nc_blocks.specs.Pieces.{sign_piece, number_piece, plain_piece, piece_of, found_piece, piece_at, is_text}
 use Rattle.nc_blocks.specs.Statement.{Statement, Message}
-use Rattle.nc_forms.specs.LineEnds.{alone}
+use Rattle.nc_forms.specs.LineEnds.{statement_alone}
 use Rattle.nc_forms.specs.Parentheses.{is_close_kind, is_open}
-use Rattle.nc_forms.specs.Coordination.{after_text, msg_form, enclosed_at, setms_form, behind_last, last_close, is_broken, has_broken, workpiece_form}
+use Rattle.nc_forms.specs.Coordination.{after_text, msg_form, enclosed_at, setms_form, after_last, last_close, is_broken, has_broken, workpiece_form}
 use Rattle.nc_forms.specs.Standing.{IsKeyword, IsExpressionText, IsEnclosed}
 use Rattle.nc_forms.specs.SpelledForms.{IsMsg, IsSetms, IsWorkpiece}
 use Rattle.nc_forms.proofs.Standings.{symbol_there, piece_within, past_end, follows_piece, expression_found, expression_only}
@@ -99,8 +99,8 @@ enclosed_only words at end t h =
 pub setms_form_found : (words : WordsView) (at : ℕ) (s : Statement) → IsKeyword words at (codes "SETMS") → setms_form words (at + 1) ≡ Ok s → (s ≡ Message) × IsSetms words at (length words.tokens)
 unfolding setms_form
 setms_form_found words at s k h =
-    one_of (is_open (piece_at words (at + 1))) (◌>>=◌ {B = Statement} (enclosed_at words (at + 1)) (λ end. alone words end Message)) (alone words (at + 1) Message) s h
-    (λ o e. let a = bound (enclosed_at words (at + 1)) (λ (n : ℕ). alone words n Message) s e in
+    one_of (is_open (piece_at words (at + 1))) (◌>>=◌ {B = Statement} (enclosed_at words (at + 1)) (λ end. statement_alone words end Message)) (statement_alone words (at + 1) Message) s h
+    (λ o e. let a = bound (enclosed_at words (at + 1)) (λ (n : ℕ). statement_alone words n Message) s e in
     let b = alone_found words a.0 Message s a.2 in
     let x = enclosed_found words (at + 1) a.0 a.1 in
     let Q = λ (n : ℕ). piece_at words n ≡ piece.End in
@@ -195,16 +195,16 @@ close_token words i h = token_closes (slice_get words.tokens i) (slice_get (symb
 abbrev closes : Token → Bool
 closes t = is_close_kind t.kind
 
-behind_found : (all end : ℕ) (o : Option ℕ) → behind_last all o ≡ Ok end → (back : ℕ) × (o ≡ Some back) × (end ≡ all - back)
-behind_found all end (Some back) h = let e : all - back ≡ end = cc in (back, refl, sym e)
-behind_found all end None h = cc
+after_found : (all end : ℕ) (o : Option ℕ) → after_last all o ≡ Ok end → (back : ℕ) × (o ≡ Some back) × (end ≡ all - back)
+after_found all end (Some back) h = let e : all - back ≡ end = cc in (back, refl, sym e)
+after_found all end None h = cc
 
 last_found : (tokens : List Token) (end : ℕ) → 0 < length tokens → last_close tokens ≡ Ok end → length tokens ≤ end →
     (t : Token) × (i : ℕ) × (slice_get tokens i ≡ Some t) × (closes t ≡ true) × (i + 1 ≡ length tokens) × (end ≡ i + 1)
 unfolding last_close
 last_found tokens end some h all =
     let d : Token = record { kind = kind.Name; start = 0; end = 0 } in
-    let b = behind_found (length tokens) end (position closes (reverse tokens)) h in
+    let b = after_found (length tokens) end (position closes (reverse tokens)) h in
     let p = position-Some closes (reverse tokens) b.0 d b.1 in
     let none : b.0 ≡ 0 = omega (arith, b.2, all, some) in
     let i = length tokens - 1 - b.0 in
@@ -226,7 +226,7 @@ last_only tokens i t e h place =
     let same : get_or (reverse tokens) 0 t ≡ t = get_or-reverse tokens 0 t zero_first ∙ ap (λ n. get_or tokens n t) index ∙ get_or_from_slice_get tokens i t t e in
     let first = first_position (reverse tokens) t (omega (arith, length-reverse tokens, zero_first)) (ap closes same ∙ h) in
     let all : length tokens - 0 ≡ length tokens = omega arith in
-    ap (behind_last (length tokens)) first ∙ ap (λ n. Ok n) all
+    ap (after_last (length tokens)) first ∙ ap (λ n. Ok n) all
 
 -- what breaks no form
 broken_is : (p : Piece) → is_broken p ≡ true → p ≡ piece.Broken
@@ -276,7 +276,7 @@ workpiece_form_found words at s k h =
     let a = bound _ _ _ h in
     let o = open_found words (at + 1) 22 a.0 a.1 in
     let b = bound _ _ _ a.2 in
-    one_of (has_broken words a.0 (b.0 - a.0)) (Err 22) (alone words b.0 Message) s b.2
+    one_of (has_broken words a.0 (b.0 - a.0)) (Err 22) (statement_alone words b.0 Message) s b.2
     (λ c e. refused 22 s e)
     (λ c e. let f = alone_found words b.0 Message s e in
     let w = piece_within words (at + 1) piece.Open o.0 tt in

@@ -21,8 +21,8 @@ use Rattle.nc_expressions.specs.declared.symbols.Symbol.{Symbol}
 use Rattle.nc_expressions.specs.declared.symbols.Symbol.TheVariants as symbol
 use Rattle.nc_expressions.specs.Limits.{all_limits}
 use Rattle.nc_expressions.specs.Machine.{Reading, read}
-use Rattle.nc_expressions.specs.Parsing.{placed, expr_at}
-use Rattle.nc_expressions.specs.Symbols.{symbol_of, symbols_of, symbols_behind, kind_symbol, sign_symbol, name_symbol, value_symbol, is_digits, number_symbol, is_word, touches_number, is_exponent}
+use Rattle.nc_expressions.specs.Parsing.{reading_with_place, expr_at}
+use Rattle.nc_expressions.specs.Symbols.{symbol_of, symbols_of, symbols_after, kind_symbol, sign_symbol, name_symbol, value_symbol, is_digits, number_symbol, is_word, touches_number, is_exponent}
 use Rattle.nc_expressions.specs.Syntax.{Syntax, Constant, Truth, Positive, Negative, Denied, Named, Indexing, Called, Grouped, Chained, spelling, tree, Follows}
 use Rattle.nc_expressions.specs.Tree.{Tree}
 use Rattle.nc_expressions.proofs.Beginnings.{length-symbols_of}
@@ -210,7 +210,7 @@ unfolding symbol_of
 token_tells line before t h = token_tells' (touches_number before t && is_exponent t.kind (text_of line t)) t (text_of line t) h
 
 pub symbol_there : (line : List ℕ) (before : Option Token) (tokens : List Token) (at : ℕ) (t : Token) → slice_get tokens at ≡ Some t →
-    (last : Option Token) × (slice_get (symbols_behind line before tokens) at ≡ Some (symbol_of line last t))
+    (last : Option Token) × (slice_get (symbols_after line before tokens) at ≡ Some (symbol_of line last t))
 symbol_there line before [] at t h = cc
 symbol_there line before (u ∷ us) zero t h =
     let e : u ≡ t = cc in (before, ap (λ x. Some (symbol_of line before x)) e)
@@ -318,7 +318,7 @@ pub past_end : (words : WordsView) (at : ℕ) → piece_at words at ≡ piece.En
 unfolding piece_at
 past_end words at h = end_of words at (slice_get words.tokens at) (slice_get (symbols_of words) at) refl refl h
 
--- what can stand behind an expression
+-- what can stand after an expression
 follows_cons : (s : Symbol) (ss : List Symbol) → Follows (s ∷ []) → Follows (s ∷ ss)
 follows_cons (symbol.Operator op) ss h = absurd h
 follows_cons symbol.Exponent ss h = absurd h
@@ -436,7 +436,7 @@ expression_begins words at end t p h e tells =
     begins h.0 (drop end (symbols_of words)) _ (drop (at + 1) (symbols_of words)) (sym (expression_rest words at end t h) ∙ symbols_from words at p e tells)
 
 -- what is read as an expression is one
-placed_found : (all : ℕ) (r : Reading) (t : Tree) (end : ℕ) → placed all r ≡ Ok (t, end) → (left : List Symbol) × (r ≡ Ok (t, left)) × (end ≡ all - length left)
+placed_found : (all : ℕ) (r : Reading) (t : Tree) (end : ℕ) → reading_with_place all r ≡ Ok (t, end) → (left : List Symbol) × (r ≡ Ok (t, left)) × (end ≡ all - length left)
 placed_found all (Ok p) t end h =
     let e : (p.0, all - length p.1) ≡ (t, end) = cc in
     let tree_is : p.0 ≡ t = ap (λ (q : Tree × ℕ). q.0) e in
@@ -466,7 +466,7 @@ expression_only words at end t h f =
     let e : read all_limits (drop at ss) ≡ Ok (tree h.0, drop end ss) =
     ap (read all_limits) (expression_rest words at end t h) ∙ complete all_limits h.0 (drop end ss) h.1 f in
     let place : length ss - length (drop end ss) ≡ end = omega (arith, length-drop end ss, w.1, length-symbols_of words) in
-    ap (placed (length ss)) e ∙ ap (λ n. Ok (tree h.0, n)) place ∙ ap (λ x. Ok (x, end)) h.2
+    ap (reading_with_place (length ss)) e ∙ ap (λ n. Ok (tree h.0, n)) place ∙ ap (λ x. Ok (x, end)) h.2
 
 -- the same in a word block
 in_words_found : (words : WordsView) (stop : ℕ) (r : Result (Tree × ℕ) ℕ) (p : Tree × ℕ) → in_words words stop r ≡ Ok p → r ≡ Ok p

@@ -44,13 +44,13 @@ frame_word words before at (Some axis) =
 unfoldable pub frame_word_at : WordsView → List (ℕ × Tree) → ℕ → Result (Item (ℕ × Tree)) ℕ
 frame_word_at words before at = frame_word words before at (axis_of (piece_at words at))
 
--- a frame word, behind its name
+-- a frame word, after its name
 unfoldable pub shape_form : WordsView → FrameWord → ℕ → Result Statement ℕ
 shape_form words which at =
     if is_end (piece_at words at) then Ok (Shape which [])
     else (list_at (frame_word_at words) words at >>= λ p. Ok (Shape which p.0))
 
--- behind ROT and AROT: an axis word is 50, all else is 24
+-- after ROT and AROT: an axis word is 50, all else is 24
 unfoldable pub turn_end : WordsView → ℕ → Result ℕ ℕ
 turn_end words at =
     if is_slot (piece_at words at) || has_axis_word words at then Err 50 else end_at words at
@@ -59,10 +59,10 @@ turn_end words at =
 unfoldable pub angle_at : WordsView → ℕ → Result (Option Tree × ℕ) ℕ
 angle_at words at =
     if is_keyword words at (codes "RPL")
-    then (assign_at words (at + 1) 22 >>= λ behind. expression_at words behind >>= λ p. Ok (Some p.0, p.1))
+    then (assign_at words (at + 1) 22 >>= λ following. expression_at words following >>= λ p. Ok (Some p.0, p.1))
     else Ok (None, at)
 
--- ROT or AROT, behind its name
+-- ROT or AROT, after its name
 unfoldable pub turn_form : WordsView → Bool → ℕ → Result Statement ℕ
 turn_form words more at = do
   angle ← angle_at words at

@@ -10,7 +10,7 @@ use Rattle.nc_blocks.specs.declared.blocks.FrameWord.TheVariants as frame
 use Rattle.nc_blocks.specs.declared.pieces.Piece.TheVariants as piece
 use Rattle.nc_blocks.specs.Pieces.{piece_at, text_at}
 use Rattle.nc_forms.specs.Frames.{axis_of}
-use Rattle.nc_blocks.specs.Texts.{unquoted}
+use Rattle.nc_blocks.specs.Texts.{text_within_quotes}
 use Rattle.nc_forms.specs.Coordination.{is_wait}
 use Rattle.nc_forms.specs.Standing.{IsKeyword, IsExpressionText, IsSignedNumber, IsEnclosed, IsAssigned, IsAxisName, AreListed, AreSeparated, IsAlone}
 use Rattle.nc_blocks.specs.Statement.{OperandView, Value, Text, AxisName}
@@ -71,7 +71,7 @@ IsAxis words at end (AxisName name) =
 
 -- a text without its quotes
 abbrev pub IsText : WordsView → ℕ → List ℕ → Type 0
-IsText words at bytes = (piece_at words at ≡ piece.Text) × (bytes ≡ unquoted (text_at words at))
+IsText words at bytes = (piece_at words at ≡ piece.Text) × (bytes ≡ text_within_quotes (text_at words at))
 
 -- the arguments of INIT: an expression, a text, and "N" or "S" or nothing
 abbrev pub IsInit : WordsView → ℕ → ℕ → List OperandView → Type 0

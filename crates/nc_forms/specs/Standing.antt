@@ -62,21 +62,21 @@ IsAxisName words at name =
     (letter : ℕ) × (piece_at words at ≡ piece.Letter letter) × IsTrue (is_axis_letter letter) × IsDigits words (at + 1)
     × (name ≡ letter ∷ text_at words (at + 1))
 
--- things that stand one behind the other
+-- things that stand one after the other
 abbrev pub AreListed : {A : Type 0} → (ℕ → ℕ → A → Type 0) → ℕ → ℕ → List A → Type 0
 AreListed Item at end [] = end ≡ at
 AreListed Item at end (x ∷ xs) = (middle : ℕ) × Item at middle x × AreListed Item middle end xs
 
 -- a comma before each of them
-abbrev pub AreBehindCommas : {A : Type 0} → WordsView → (ℕ → ℕ → A → Type 0) → ℕ → ℕ → List A → Type 0
-AreBehindCommas words Item at end [] = end ≡ at
-AreBehindCommas words Item at end (x ∷ xs) =
-    (middle : ℕ) × (piece_at words at ≡ piece.Comma) × Item (at + 1) middle x × AreBehindCommas words Item middle end xs
+abbrev pub AreAfterCommas : {A : Type 0} → WordsView → (ℕ → ℕ → A → Type 0) → ℕ → ℕ → List A → Type 0
+AreAfterCommas words Item at end [] = end ≡ at
+AreAfterCommas words Item at end (x ∷ xs) =
+    (middle : ℕ) × (piece_at words at ≡ piece.Comma) × Item (at + 1) middle x × AreAfterCommas words Item middle end xs
 
 -- one at least, with commas between them
 abbrev pub AreSeparated : {A : Type 0} → WordsView → (ℕ → ℕ → A → Type 0) → ℕ → ℕ → List A → Type 0
 AreSeparated words Item at end [] = ⊥
-AreSeparated words Item at end (x ∷ xs) = (middle : ℕ) × Item at middle x × AreBehindCommas words Item middle end xs
+AreSeparated words Item at end (x ∷ xs) = (middle : ℕ) × Item at middle x × AreAfterCommas words Item middle end xs
 
 -- this name alone
 abbrev pub IsAlone : WordsView → ℕ → ℕ → List ℕ → Type 0

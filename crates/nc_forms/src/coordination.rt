@@ -26,7 +26,7 @@ pub enum ArgumentKind {
     Axis,
 }
 
-/// Whether another argument follows, and the place where it begins or behind `)`.
+/// Whether another argument follows, and the place where it begins or after `)`.
 #[tactic(auto, unfolding(crate::specs::Coordination::separator_at))]
 fn separator_at(words: &Words<'_>, at: usize) -> Result<(bool, usize), u16>
     requires { IsScanned words.now }
@@ -55,12 +55,12 @@ fn value_argument_at(
 {
     let (value, end) = expression_at(alloc, words, at)?;
     match separator_at(words, end) {
-        Ok((more, behind)) => Ok((Operand::Value(value), more, behind)),
+        Ok((more, following)) => Ok((Operand::Value(value), more, following)),
         Err(code) => Err(SyntaxFault::Refused(code)),
     }
 }
 
-/// An axis name or a slot letter, and the place behind it.
+/// An axis name or a slot letter, and the place after it.
 #[tactic(auto, unfolding(crate::specs::Coordination::axis_at))]
 fn axis_at(alloc: Global, words: &Words<'_>, at: usize) -> Result<(Vec<u8>, usize), SyntaxFault>
     requires { IsScanned words.now }
@@ -95,7 +95,7 @@ fn axis_argument_at(
 {
     let (axis, end) = axis_at(alloc, words, at)?;
     match separator_at(words, end) {
-        Ok((more, behind)) => Ok((Operand::Axis(axis), more, behind)),
+        Ok((more, following)) => Ok((Operand::Axis(axis), more, following)),
         Err(code) => Err(SyntaxFault::Refused(code)),
     }
 }
@@ -166,7 +166,7 @@ fn arguments_form(
     }
 }
 
-/// CLEARM, behind its name: its parentheses may be empty.
+/// CLEARM, after its name: its parentheses may be empty.
 #[tactic(auto, using(nc_blocks::proofs::Passing::passing), unfolding(crate::specs::Coordination::clear_form))]
 fn clear_form(
     alloc: Global,
@@ -223,7 +223,7 @@ fn wait_at(alloc: Global, words: &Words<'_>, at: usize) -> Result<Vec<u8>, Synta
     }
 }
 
-/// A third argument of INIT, if there is one, and the place behind `)`.
+/// A third argument of INIT, if there is one, and the place after `)`.
 #[tactic(auto, using(nc_blocks::proofs::Passing::passing), unfolding(crate::specs::Coordination::last_of_init))]
 fn last_of_init(
     alloc: Global,
@@ -246,7 +246,7 @@ fn last_of_init(
     }
 }
 
-/// `(`, an expression and a comma, and the place behind.
+/// `(`, an expression and a comma, and the place after.
 #[tactic(auto, using(nc_blocks::proofs::Passing::passing), unfolding(crate::specs::Coordination::opened_value))]
 fn opened_value(
     alloc: Global,
@@ -262,7 +262,7 @@ fn opened_value(
         Ok(first) => {
             let (value, end) = expression_at(alloc, words, first)?;
             match comma_at(words, end) {
-                Ok(behind) => Ok((Operand::Value(value), behind)),
+                Ok(following) => Ok((Operand::Value(value), following)),
                 Err(code) => Err(SyntaxFault::Refused(code)),
             }
         }
@@ -294,7 +294,7 @@ fn operands(
     }
 }
 
-/// INIT, behind its name.
+/// INIT, after its name.
 #[tactic(auto, using(nc_blocks::proofs::Passing::passing), unfolding(crate::specs::Coordination::init_form))]
 fn init_form(
     alloc: Global,
@@ -313,7 +313,7 @@ fn init_form(
     alone(words, end, Stmt::Coord(which, list))
 }
 
-/// CPROT, behind its name.
+/// CPROT, after its name.
 #[tactic(auto, using(nc_blocks::proofs::Passing::passing), unfolding(crate::specs::Coordination::cprot_form))]
 fn cprot_form(
     alloc: Global,
@@ -326,8 +326,8 @@ fn cprot_form(
     ensures indices { IfOk result (λ s. StatementFits (statement_view s)) }
 {
     let (zone, place) = opened_value(alloc, words, at)?;
-    let (state, behind) = expression_at(alloc, words, place)?;
-    match close_at(words, behind, 22) {
+    let (state, following) = expression_at(alloc, words, place)?;
+    match close_at(words, following, 22) {
         Ok(end) => {
             let list = operands(alloc, zone, Operand::Value(state), None)?;
             alone(words, end, Stmt::Coord(which, list))
@@ -336,7 +336,7 @@ fn cprot_form(
     }
 }
 
-/// The form of a coordination word, behind its name.
+/// The form of a coordination word, after its name.
 #[tactic(auto, unfolding(crate::specs::Coordination::coordination_form))]
 pub fn coordination_form(
     alloc: Global,

@@ -33,7 +33,7 @@ fn slot_at(words: &Words<'_>, at: usize) -> Option<u8>
     }
 }
 
-/// The value behind the letter of a frame word, and the place behind it.
+/// The value after the letter of a frame word, and the place after it.
 #[tactic(auto, using(nc_blocks::proofs::Passing::passing), unfolding(crate::specs::Frames::frame_value))]
 fn frame_value(alloc: Global, words: &Words<'_>, at: usize) -> Result<(Expr, usize), SyntaxFault>
     requires scanned { IsScanned words.now }
@@ -65,7 +65,7 @@ fn has_axis(before: &[(u8, Expr)], axis: u8) -> bool
     is_given(before, axis)
 }
 
-/// A frame word at a place, whether another one follows, and the place behind it.
+/// A frame word at a place, whether another one follows, and the place after it.
 #[tactic(auto, using(nc_blocks::proofs::Passing::passing), unfolding(crate::specs::Frames::frame_word_at))]
 fn frame_word_at(
     alloc: Global,
@@ -91,7 +91,7 @@ fn frame_word_at(
     }
 }
 
-/// The frame words that stand from a place on, one at least, and the place behind them.
+/// The frame words that stand from a place on, one at least, and the place after them.
 #[tactic(auto, using(nc_blocks::proofs::Listing::list_steps))]
 fn frame_words_at(
     alloc: Global,
@@ -115,7 +115,7 @@ fn frame_words_at(
     }
 }
 
-/// A frame word, behind its name.
+/// A frame word, after its name.
 #[tactic(auto, using(nc_blocks::proofs::Passing::passing), unfolding(crate::specs::Frames::shape_form))]
 pub fn shape_form(
     alloc: Global,
@@ -152,7 +152,7 @@ fn turn_end(words: &Words<'_>, at: usize) -> Result<usize, u16>
     }
 }
 
-/// RPL with its angle, if it stands there, and the place behind.
+/// RPL with its angle, if it stands there, and the place after.
 #[tactic(auto, using(nc_blocks::proofs::Passing::passing), unfolding(crate::specs::Frames::angle_at))]
 fn angle_at(
     alloc: Global,
@@ -165,8 +165,8 @@ fn angle_at(
 {
     if is_keyword(words, at, b"RPL") {
         match assign_at(words, at + 1, 22) {
-            Ok(behind) => {
-                let (angle, end) = expression_at(alloc, words, behind)?;
+            Ok(following) => {
+                let (angle, end) = expression_at(alloc, words, following)?;
                 Ok((Some(angle), end))
             }
             Err(code) => Err(SyntaxFault::Refused(code)),
@@ -176,7 +176,7 @@ fn angle_at(
     }
 }
 
-/// ROT or AROT, behind its name.
+/// ROT or AROT, after its name.
 #[tactic(auto, using(nc_blocks::proofs::Passing::passing), unfolding(crate::specs::Frames::turn_form))]
 pub fn turn_form(
     alloc: Global,

@@ -5,18 +5,18 @@ ghost use Rattle.block_scanner.specs.Scanned.{IsScanned};
 ghost use Rattle.nc_blocks.specs.Indices.{StatementFits};
 ghost use Rattle.nc_blocks.specs.Reading.{Gives};
 ghost use Rattle.nc_blocks.specs.Statement.{statement_view};
-ghost use Rattle.nc_forms.specs.LineEnds.{alone};
+ghost use Rattle.nc_forms.specs.LineEnds.{statement_alone};
 
 use block_scanner::Words;
 use nc_blocks::{Stmt, end_at};
 use nc_expressions::SyntaxFault;
 
-/// This statement, where nothing stands behind it.
-#[tactic(auto, unfolding(crate::specs::LineEnds::alone))]
+/// This statement, where nothing stands after it.
+#[tactic(auto, unfolding(crate::specs::LineEnds::statement_alone))]
 pub fn alone(words: &Words<'_>, at: usize, stmt: Stmt) -> Result<Stmt, SyntaxFault>
     requires scanned { IsScanned words.now }
     requires fits { StatementFits (statement_view stmt) }
-    ensures exact { Gives statement_view (alone words.now at (statement_view stmt)) result }
+    ensures exact { Gives statement_view (statement_alone words.now at (statement_view stmt)) result }
     ensures indices { IfOk result (λ s. StatementFits (statement_view s)) }
 {
     match end_at(words, at) {

@@ -14,7 +14,7 @@ use nc_blocks::{Piece, Stmt, close_at, expression_at, open_at, piece_at};
 use nc_expressions::SyntaxFault;
 use std::alloc::Global;
 
-/// The place behind the text of a message, if it has one.
+/// The place after the text of a message, if it has one.
 fn after_text(words: &Words<'_>, at: usize) -> usize
     requires scanned { IsScanned words.now }
     requires within { at ≤ length words.now.tokens }
@@ -26,7 +26,7 @@ fn after_text(words: &Words<'_>, at: usize) -> usize
     }
 }
 
-/// MSG, behind its name.
+/// MSG, after its name.
 #[tactic(auto, unfolding(crate::specs::Coordination::msg_form))]
 pub fn msg_form(words: &Words<'_>, at: usize) -> Result<Stmt, SyntaxFault>
     requires { IsScanned words.now }
@@ -42,7 +42,7 @@ pub fn msg_form(words: &Words<'_>, at: usize) -> Result<Stmt, SyntaxFault>
     }
 }
 
-/// An expression in parentheses: the place behind.
+/// An expression in parentheses: the place after.
 #[tactic(auto, using(nc_blocks::proofs::Passing::passing), unfolding(crate::specs::Coordination::enclosed_at))]
 fn enclosed_at(alloc: Global, words: &Words<'_>, at: usize) -> Result<usize, SyntaxFault>
     requires { IsScanned words.now }
@@ -52,7 +52,7 @@ fn enclosed_at(alloc: Global, words: &Words<'_>, at: usize) -> Result<usize, Syn
         Ok(first) => {
             let (_, end) = expression_at(alloc, words, first)?;
             match close_at(words, end, 22) {
-                Ok(behind) => Ok(behind),
+                Ok(following) => Ok(following),
                 Err(code) => Err(SyntaxFault::Refused(code)),
             }
         }
@@ -60,7 +60,7 @@ fn enclosed_at(alloc: Global, words: &Words<'_>, at: usize) -> Result<usize, Syn
     }
 }
 
-/// SETMS, behind its name.
+/// SETMS, after its name.
 #[tactic(auto, using(nc_blocks::proofs::Passing::passing), unfolding(crate::specs::Coordination::setms_form))]
 pub fn setms_form(alloc: Global, words: &Words<'_>, at: usize) -> Result<Stmt, SyntaxFault>
     requires { IsScanned words.now }
@@ -76,8 +76,8 @@ pub fn setms_form(alloc: Global, words: &Words<'_>, at: usize) -> Result<Stmt, S
     }
 }
 
-/// How many tokens stand behind the last `)` of a line.
-fn behind_close(words: &Words<'_>) -> Option<usize>
+/// How many tokens stand after the last `)` of a line.
+fn following_close(words: &Words<'_>) -> Option<usize>
     ensures value { result ≡ position (λ token. is_close_kind token.kind) (reverse words.now.tokens) }
     ensures within { IfSome result (λ back. back < length words.now.tokens) }
 {
@@ -87,13 +87,13 @@ fn behind_close(words: &Words<'_>) -> Option<usize>
     ))
 }
 
-/// The place behind the last `)` of a line.
+/// The place after the last `)` of a line.
 #[tactic(auto, unfolding(crate::specs::Coordination::last_close))]
 fn last_close(words: &Words<'_>) -> Result<usize, u16>
     ensures value { result ≡ last_close words.now.tokens }
     ensures within { IfOk result (λ p. p ≤ length words.now.tokens) }
 {
-    match behind_close(words) {
+    match following_close(words) {
         Some(back) => Ok(words.tokens.len() - back),
         None => Err(22),
     }
@@ -123,7 +123,7 @@ fn has_broken(words: &Words<'_>, start: usize, end: usize) -> bool
     false
 }
 
-/// WORKPIECE, behind its name: what stands in its parentheses means nothing.
+/// WORKPIECE, after its name: what stands in its parentheses means nothing.
 #[tactic(auto, unfolding(crate::specs::Coordination::workpiece_form))]
 pub fn workpiece_form(words: &Words<'_>, at: usize) -> Result<Stmt, SyntaxFault>
     requires { IsScanned words.now }

@@ -5,8 +5,8 @@ use Rattle.nc_faults.specs.declared.alarms.TheConstants.{TOO_MANY_LEVELS}
 use Rattle.nc_subprograms.specs.declared.limits.TheConstants.{CALL_LIMIT}
 
 -- the main program has the first level, and each call one more; one level too many is an alarm
-abbrev pub called : List Place → Place → Result (List Place) ℕ
-called stack place = if length stack == CALL_LIMIT then Err TOO_MANY_LEVELS else Ok (place ∷ stack)
+abbrev pub stack_after_call : List Place → Place → Result (List Place) ℕ
+stack_after_call stack place = if length stack == CALL_LIMIT then Err TOO_MANY_LEVELS else Ok (place ∷ stack)
 
 -- after a fault the stack is unchanged
 abbrev pub Calls : Result (List Place) ℕ → Result Unit ℕ → List Place → List Place → Type 0

@@ -2,7 +2,7 @@
 #![tactic(auto)]
 
 ghost use Rattle.std.specs.Prelude.{◌≡◌, ◌≤◌, length};
-ghost use Rattle.nc_subprograms.specs.Stack.{called, Calls, Returns};
+ghost use Rattle.nc_subprograms.specs.Stack.{stack_after_call, Calls, Returns};
 
 mod limits;
 mod threads;
@@ -90,7 +90,7 @@ impl CallStack {
     ///
     /// Alarm 6: the call would begin a seventeenth level. The stack is then unchanged.
     pub fn call(&mut self, place: Place) -> Result<(), u16>
-        ensures { Calls (called self.old place) result self.old self.new }
+        ensures { Calls (stack_after_call self.old place) result self.old self.new }
     {
         if self.places.len() == CALL_LIMIT {
             return Err(TOO_MANY_LEVELS);

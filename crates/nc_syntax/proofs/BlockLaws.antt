@@ -27,9 +27,9 @@ use Rattle.nc_forms.specs.SpelledForms.{IsFrameAxis, IsAngle, IsMessage}
 use Rattle.nc_forms.proofs.Standings.{piece_within, keyword_piece, expression_begins}
 use Rattle.nc_forms.proofs.Marked.{bound, one_of, refused, parts_true, same_pair, block_number_found, block_number_only}
 use Rattle.nc_syntax.proofs.WordLaws.{name_is}
-use Rattle.nc_syntax.proofs.WordsRead.{Behind, first_false}
+use Rattle.nc_syntax.proofs.WordsRead.{Following, first_false}
 use Rattle.nc_forms.proofs.PieceLaws.{false_of, last_false}
-use Rattle.nc_syntax.proofs.WordBlocks.{word_starts, behind_list}
+use Rattle.nc_syntax.proofs.WordBlocks.{word_starts, after_list}
 use Rattle.nc_forms.proofs.LineEnds.{at_line_end}
 use Rattle.nc_syntax.proofs.StructureLaws.{letter_piece}
 use Rattle.nc_forms.proofs.FrameLaws.{axis_letter}
@@ -66,8 +66,8 @@ target_no_colon : (words : WordsView) (at end : ℕ) (x : Target) → IsTarget w
 target_no_colon words at end (target.Label name) h = ap is_colon h.0.0
 target_no_colon words at end (target.Number n) h = ap is_colon h.0
 
-behind_no_colon : (words : WordsView) (at : ℕ) → Behind words at → is_colon (piece_at words at) ≡ false
-behind_no_colon words at h =
+after_no_colon : (words : WordsView) (at : ℕ) → Following words at → is_colon (piece_at words at) ≡ false
+after_no_colon words at h =
     elim h [
       | inl a ↦ ap is_colon a
       | inr b ↦ elim b [
@@ -110,13 +110,13 @@ aux_second words at end address bracket operand h n =
       ]
     ]
 
-word_second : (words : WordsView) (at end : ℕ) (x : WordView) → IsWord words at end x → Behind words end → piece_at words at ≡ piece.Name → is_colon (piece_at words (at + 1)) ≡ false
+word_second : (words : WordsView) (at end : ℕ) (x : WordView) → IsWord words at end x → Following words end → piece_at words at ≡ piece.Name → is_colon (piece_at words (at + 1)) ≡ false
 word_second words at end (Assign i t) h f n = letter_or_name words at 82 h.0 n
 word_second words at end (AssignAt i t) h f n = letter_or_name words at 82 h.1 n
 word_second words at end (G group code) h f n =
     elim h [
       | inl a ↦ letter_or_name words at 71 a.1 n
-      | inr a ↦ let P = λ (k : ℕ). is_colon (piece_at words k) ≡ false in subst P a.2 (behind_no_colon words end f)
+      | inr a ↦ let P = λ (k : ℕ). is_colon (piece_at words k) ≡ false in subst P a.2 (after_no_colon words end f)
     ]
 word_second words at end (Axis address m t) h f n = axis_second words at end address m t h n
 word_second words at end (Radius t) h f n = ap is_colon h.1.0
@@ -127,7 +127,7 @@ words_begin : (words : WordsView) (at : ℕ) (xs : List WordView) → AreWords w
 words_begin words at [] h = absurd h
 words_begin words at (x ∷ xs) h =
     let all = length words.tokens in
-    let f = behind_list words h.0 all xs h.2 (at_line_end words all refl) in
+    let f = after_list words h.0 all xs h.2 (at_line_end words all refl) in
     elim (word_starts words at h.0 x h.1) [
       | inl a ↦ inr (inl (a.0, a.1, a.3))
       | inr a ↦ inr (inr (a.0, word_second words at h.0 x h.1 f.0 a.0))
@@ -204,7 +204,7 @@ body_begins words at (Turn more o) h = named words at _ h.0 (angle_second words 
 body_begins words at (Coord which xs) h = named words at _ h.1 (ap is_colon h.2)
 body_begins words at Message h = message_begins words at h
 
--- what begins a label or a body, and what begins what stands behind `/`
+-- what begins a label or a body, and what begins what stands after `/`
 abbrev NoNumber : WordsView → ℕ → Type 0
 NoNumber words at = (is_letter (piece_at words at) 78 ≡ false) × (is_slash (piece_at words at) ≡ false) × (is_number (piece_at words at) ≡ false)
 

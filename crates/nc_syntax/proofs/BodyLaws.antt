@@ -15,7 +15,7 @@ use Rattle.nc_blocks.specs.Wording.{words_form}
 use Rattle.nc_syntax.specs.declared.bodies.Control.TheVariants as control
 use Rattle.nc_syntax.specs.declared.bodies.Form.{Form}
 use Rattle.nc_syntax.specs.declared.bodies.Form.TheVariants as form
-use Rattle.nc_forms.specs.LineEnds.{alone}
+use Rattle.nc_forms.specs.LineEnds.{statement_alone}
 use Rattle.nc_syntax.specs.Structures.{call_form, number_name, number_call_form}
 use Rattle.nc_syntax.specs.Bodies.{form_of, control_form, form_body, named_form, named_body, is_number, lettered_body, body_of, body_at}
 use Rattle.nc_forms.specs.Standing.{IsKeyword, IsAlone}
@@ -35,8 +35,8 @@ use Rattle.nc_forms.proofs.MessageLaws.{msg_form_found, msg_form_only, setms_for
 abbrev IsDone : WordsView → ℕ → Statement → Type 0
 IsDone words at s = IsSpelled words at (length words.tokens) s
 
--- forms behind their names
-alone_done : (words : WordsView) (at : ℕ) (word : List ℕ) (s x : Statement) → IsKeyword words at word → alone words (at + 1) s ≡ Ok x →
+-- forms after their names
+alone_done : (words : WordsView) (at : ℕ) (word : List ℕ) (s x : Statement) → IsKeyword words at word → statement_alone words (at + 1) s ≡ Ok x →
     (IsAlone words at (length words.tokens) word → IsDone words at s) → IsDone words at x
 alone_done words at word s x k h f =
     let a = alone_form_found words at word s x k h in

@@ -14,11 +14,11 @@ use Rattle.nc_syntax.specs.Blocks.{is_slash, is_colon, block_of}
 use Rattle.nc_syntax.specs.Spelled.{Spells}
 use Rattle.nc_syntax.specs.Places.{IsSameAt, BeginsAs, GoesOn}
 use Rattle.nc_syntax.proofs.BlockLaws.{block_only}
-use Rattle.nc_syntax.specs.Wanted.{Mark, mark_at, Wanted, Assigns, Opens, Closes, ClosesBracket, Constant, Value, Parameter, GNumber, Measured, AfterCentre, AfterSlot, AfterDigits, AfterAxis, AfterAux, AfterAuxDigits, ValueOrText, Bracket, AWord, MoreWords, Keyword, Commas, ATarget, BlockNumber, IfBehind, AJump, Signed, MorePairs, CounterLetter, Counter, Times, RepeatBehind, ALabel, Parentheses, CloseOfCall, Passes, Count, Displof, MoreAxes, FrameValue, Angle, TurnEnd, MoreValues, AxisArgument, AfterArgument, ArgumentDigits, MoreArguments, ClearArguments, Quoted, InitLast, Wait, TextOrNot, SetmsBehind, AfterL, Anything, Do, Push, Pass, No, want, call_close, turn_want, anything_want, on_stack, Stack, Next, On, Done, Refuse, line_end, on_mark}
+use Rattle.nc_syntax.specs.Wanted.{Mark, mark_at, Wanted, Assigns, Opens, Closes, ClosesBracket, Constant, Value, Parameter, GNumber, Measured, AfterCentre, AfterSlot, AfterDigits, AfterAxis, AfterAux, AfterAuxDigits, ValueOrText, Bracket, AWord, MoreWords, Keyword, Commas, ATarget, BlockNumber, IfAfter, AJump, Signed, MorePairs, CounterLetter, Counter, Times, RepeatAfter, ALabel, Parentheses, CloseOfCall, Passes, Count, Displof, MoreAxes, FrameValue, Angle, TurnEnd, MoreValues, AxisArgument, AfterArgument, ArgumentDigits, MoreArguments, ClearArguments, Quoted, InitLast, Wait, TextOrNot, SetmsAfter, AfterL, Anything, Do, Push, Pass, No, want, call_close, turn_want, anything_want, on_stack, Stack, Next, On, Done, Refuse, line_end, on_mark}
 use Rattle.nc_syntax.proofs.Wanted.{follow}
 use Rattle.nc_syntax.proofs.Stepping.{mark_past}
 use Rattle.nc_syntax.proofs.Workpieces.{workpieces}
-use Rattle.nc_syntax.specs.Forms.{Head, AtStart, BehindSlash, BehindN, AtLabel, Named, AtBody, Within, HeadNext, HeadOn, Over, Refused, Beginning, Goes, Stops, beginning, beginning_more, beginning_next, inside, letter_body, body_step, label_step, number_step, after_n, after_slash, start_step, named_step, head_step, state_at, state_next, state_of}
+use Rattle.nc_syntax.specs.Forms.{Head, AtStart, AfterSlash, AfterN, AtLabel, Named, AtBody, Within, HeadNext, HeadOn, Over, Refused, Beginning, Goes, Stops, beginning, beginning_more, beginning_next, body_next, letter_body, body_step, label_step, number_step, after_n, after_slash, start_step, named_step, head_step, state_at, state_next, state_of}
 use Rattle.nc_syntax.proofs.Heads.{head_at, head_after, head_last, head_past, HeadStays, head_stays, one_head, blocks}
 
 -- what the tokens themselves show; what stands elsewhere in the line changes the code of a refusal alone
@@ -86,14 +86,14 @@ want_alike (Keyword word) p text s c a l r d b k q = alike (want (Keyword word) 
 want_alike Commas p text s c a l r d b k q = alike (want Commas (seen p text s c a l r))
 want_alike ATarget p text s c a l r d b k q = alike (want ATarget (seen p text s c a l r))
 want_alike BlockNumber p text s c a l r d b k q = alike (want BlockNumber (seen p text s c a l r))
-want_alike IfBehind p text s c a l r d b k q = alike (want IfBehind (seen p text s c a l r))
+want_alike IfAfter p text s c a l r d b k q = alike (want IfAfter (seen p text s c a l r))
 want_alike AJump p text s c a l r d b k q = alike (want AJump (seen p text s c a l r))
 want_alike Signed p text s c a l r d b k q = alike (want Signed (seen p text s c a l r))
 want_alike MorePairs p text s c a l r d b k q = alike (want MorePairs (seen p text s c a l r))
 want_alike CounterLetter p text s c a l r d b k q = alike (want CounterLetter (seen p text s c a l r))
 want_alike Counter p text s c a l r d b k q = alike (want Counter (seen p text s c a l r))
 want_alike Times p text s c a l r d b k q = alike (want Times (seen p text s c a l r))
-want_alike RepeatBehind p text s c a l r d b k q = alike (want RepeatBehind (seen p text s c a l r))
+want_alike RepeatAfter p text s c a l r d b k q = alike (want RepeatAfter (seen p text s c a l r))
 want_alike ALabel p text s c a l r d b k q = alike (want ALabel (seen p text s c a l r))
 want_alike Parentheses p text s c a l r d b k q = alike (want Parentheses (seen p text s c a l r))
 want_alike CloseOfCall p text s c a l r d b k q = close_alike p c d
@@ -114,7 +114,7 @@ want_alike Quoted p text s c a l r d b k q = alike (want Quoted (seen p text s c
 want_alike InitLast p text s c a l r d b k q = alike (want InitLast (seen p text s c a l r))
 want_alike Wait p text s c a l r d b k q = alike (want Wait (seen p text s c a l r))
 want_alike TextOrNot p text s c a l r d b k q = alike (want TextOrNot (seen p text s c a l r))
-want_alike SetmsBehind p text s c a l r d b k q = alike (want SetmsBehind (seen p text s c a l r))
+want_alike SetmsAfter p text s c a l r d b k q = alike (want SetmsAfter (seen p text s c a l r))
 want_alike AfterL p text s c a l r d b k q = alike (want AfterL (seen p text s c a l r))
 want_alike (Anything closed) p text s c a l r d b k q = anything_alike closed p text s c a l r d b k q
 
@@ -168,7 +168,7 @@ same_head (HeadOn h) = refl
 same_head Over = tt
 same_head (Refused code) = tt
 
-inside_alike : (n m : Next) → AlikeNext n m → HeadAlike (inside n) (inside m)
+inside_alike : (n m : Next) → AlikeNext n m → HeadAlike (body_next n) (body_next m)
 inside_alike (On st) (On other) h = ap (λ (u : Stack). Within u) h
 inside_alike (On st) Done h = absurd h
 inside_alike (On st) (Refuse code) h = absurd h
@@ -180,7 +180,7 @@ inside_alike (Refuse code) Done h = absurd h
 inside_alike (Refuse code) (Refuse other) h = tt
 
 words_alike : (p : Piece) (text : List ℕ) (s : Option Symbol) (c a l : Bool) (r : ℕ) (d b k : Bool) (q : ℕ) →
-    HeadAlike (inside (on_mark (AWord ∷ MoreWords ∷ []) (seen p text s c a l r))) (inside (on_mark (AWord ∷ MoreWords ∷ []) (seen p text s d b k q)))
+    HeadAlike (body_next (on_mark (AWord ∷ MoreWords ∷ []) (seen p text s c a l r))) (body_next (on_mark (AWord ∷ MoreWords ∷ []) (seen p text s d b k q)))
 words_alike p text s c a l r d b k q =
     inside_alike (on_mark (AWord ∷ MoreWords ∷ []) (seen p text s c a l r)) (on_mark (AWord ∷ MoreWords ∷ []) (seen p text s d b k q)) (take_alike (AWord ∷ MoreWords ∷ []) p text s c a l r d b k q)
 
@@ -221,8 +221,8 @@ named_alike false name p text s c a l r d b k q = begun_alike (beginning name) p
 pub head_alike : (h : Head) (p : Piece) (text : List ℕ) (s : Option Symbol) (c a l : Bool) (r : ℕ) (d b k : Bool) (q : ℕ) → HeadAlike (head_step h (seen p text s c a l r)) (head_step h (seen p text s d b k q))
 unfolding head_step
 head_alike AtStart p text s c a l r d b k q = start_alike (is_slash p) p text s c a l r d b k q
-head_alike BehindSlash p text s c a l r d b k q = slash_alike (is_number p) p text s c a l r d b k q
-head_alike BehindN p text s c a l r d b k q = same_head (after_n p text)
+head_alike AfterSlash p text s c a l r d b k q = slash_alike (is_number p) p text s c a l r d b k q
+head_alike AfterN p text s c a l r d b k q = same_head (after_n p text)
 head_alike AtLabel p text s c a l r d b k q = label_alike p p text s c a l r d b k q
 head_alike (Named name) p text s c a l r d b k q = named_alike (is_colon p) name p text s c a l r d b k q
 head_alike AtBody p text s c a l r d b k q = body_alike p p text s c a l r d b k q

@@ -16,7 +16,7 @@ use Rattle.nc_expressions.specs.declared.symbols.Symbol.TheVariants as symbol
 use Rattle.nc_expressions.specs.declared.stack.Bracket.{Bracket}
 use Rattle.nc_expressions.specs.declared.stack.Bracket.TheVariants.{Parentheses, Argument, Index}
 use Rattle.nc_expressions.specs.Machine as machine
-use Rattle.nc_expressions.specs.Symbols.{symbols_of, symbols_behind, symbol_of, name_symbol, value_symbol, is_exponent, kind_symbol, number_symbol, sign_symbol}
+use Rattle.nc_expressions.specs.Symbols.{symbols_of, symbols_after, symbol_of, name_symbol, value_symbol, is_exponent, kind_symbol, number_symbol, sign_symbol}
 use Rattle.nc_blocks.specs.declared.pieces.Piece.{Piece}
 use Rattle.nc_blocks.specs.declared.pieces.Piece.TheVariants as piece
 use Rattle.nc_blocks.specs.Pieces.{found_piece, piece_of, plain_piece, number_piece, sign_piece, piece_at, found_text, text_at}
@@ -28,7 +28,7 @@ use Rattle.nc_syntax.specs.Wanted as wanted
 use Rattle.nc_syntax.specs.Wanted.{Mark, mark_at, Wanted, Stack}
 use Rattle.nc_syntax.proofs.Wanted.{follow}
 use Rattle.nc_syntax.proofs.Stepping.{mark_past}
-use Rattle.nc_syntax.specs.Forms.{Head, AtStart, BehindSlash, BehindN, AtLabel, Named, AtBody, Within, HeadNext, HeadOn, Over, Refused, head_step, state_of, state_next, state_at}
+use Rattle.nc_syntax.specs.Forms.{Head, AtStart, AfterSlash, AfterN, AtLabel, Named, AtBody, Within, HeadNext, HeadOn, Over, Refused, head_step, state_of, state_next, state_at}
 use Rattle.nc_syntax.proofs.Heads.{head_at, head_after, head_last, head_past, head_go, one_head}
 use Rattle.nc_syntax.proofs.Breaking.{seen, HeadAlike, head_alike, same_state, comes, reads}
 use Rattle.nc_syntax.proofs.Going.{number, name, assign, open_sign, close_sign, open_bracket, close_bracket, comma, quoted, letter_p, letter_x, letter_r, closer, closers, value_way, jump_way, way, ways, TidyItem, Tidy}
@@ -173,14 +173,14 @@ fit_way (wanted.Keyword word) st h = (fits_name word h.1 h.2 h.3, tt)
 fit_way wanted.Commas st h = (fits_comma, tt)
 fit_way wanted.ATarget st h = (fits_aa, tt)
 fit_way wanted.BlockNumber st h = (fits_number, tt)
-fit_way wanted.IfBehind st h = fit_jump
+fit_way wanted.IfAfter st h = fit_jump
 fit_way wanted.AJump st h = fit_jump
 fit_way wanted.Signed st h = (fits_number, tt)
 fit_way wanted.MorePairs st h = (fits_default, (fits_goto, (fits_aa, tt)))
 fit_way wanted.CounterLetter st h = (fits_r, tt)
 fit_way wanted.Counter st h = (fits_number, tt)
 fit_way wanted.Times st h = (fits_p, (fits_assign, (fits_number, tt)))
-fit_way wanted.RepeatBehind st h = (fits_aa, (fits_p, (fits_assign, (fits_number, tt))))
+fit_way wanted.RepeatAfter st h = (fits_aa, (fits_p, (fits_assign, (fits_number, tt))))
 fit_way wanted.ALabel st h = (fits_aa, tt)
 fit_way wanted.Parentheses st h = (fits_open, (fits_close, tt))
 fit_way wanted.CloseOfCall st h = (fits_close, tt)
@@ -201,7 +201,7 @@ fit_way wanted.Quoted st h = (fits_quoted, tt)
 fit_way wanted.InitLast st h = (fits_close, tt)
 fit_way wanted.Wait st h = (fits_quoted, tt)
 fit_way wanted.TextOrNot st h = (fits_quoted, tt)
-fit_way wanted.SetmsBehind st h = (fits_open, (fits_number, (fits_close, tt)))
+fit_way wanted.SetmsAfter st h = (fits_open, (fits_number, (fits_close, tt)))
 fit_way wanted.AfterL st h = (fits_number, (fits_open, (fits_close, (fits_p, (fits_number, tt)))))
 fit_way (wanted.Anything closed) st h = (fits_close, tt)
 
@@ -211,8 +211,8 @@ fit_ways (w ∷ st) h = all_append (way w) (ways st) (fit_way w st h.0) (fit_way
 
 fit_head : (h : Head) → TidyHead h → AllFit (head_way h)
 fit_head AtStart t = tt
-fit_head BehindSlash t = tt
-fit_head BehindN t = (fits_number, tt)
+fit_head AfterSlash t = tt
+fit_head AfterN t = (fits_number, tt)
 fit_head AtLabel t = tt
 fit_head (Named text) t = (fits_colon, tt)
 fit_head AtBody t = tt
@@ -340,7 +340,7 @@ get_taken [] (suc count) at h = refl
 get_taken (x ∷ xs) (suc count) zero h = refl
 get_taken (x ∷ xs) (suc count) (suc at) h = get_taken xs count at (omega (arith, h))
 
-symbols_taken : (line : List ℕ) (b : Option Token) (ts : List Token) (count : ℕ) → take count (symbols_behind line b ts) ≡ symbols_behind line b (take count ts)
+symbols_taken : (line : List ℕ) (b : Option Token) (ts : List Token) (count : ℕ) → take count (symbols_after line b ts) ≡ symbols_after line b (take count ts)
 symbols_taken line b ts zero = refl
 symbols_taken line b [] (suc count) = refl
 symbols_taken line b (t ∷ ts) (suc count) = ap (λ (ss : List Symbol). symbol_of line b t ∷ ss) (symbols_taken line (Some t) ts count)

@@ -7,7 +7,7 @@ use Rattle.nc_blocks.specs.declared.pieces.Piece.{Piece}
 use Rattle.nc_blocks.specs.declared.pieces.Piece.TheVariants as piece
 use Rattle.nc_blocks.specs.Pieces.{piece_at}
 use Rattle.nc_blocks.proofs.Refusals.{Listed, found, refuses, unreadable, with_arguments, bound, chosen, code_listed, end_listed, assign_listed, open_listed, close_listed, keyword_listed, expression_listed, constant_listed, block_number_listed, index_listed, label_listed, list_listed}
-use Rattle.nc_syntax.specs.Jumps.{way_at, target_of, target_at, jump_at, last_jump, if_behind, if_form, jump_form, case_names, case_value, jump_of, named_jump, pair_at, default_at, case_form}
+use Rattle.nc_syntax.specs.Jumps.{way_at, target_of, target_at, jump_at, last_jump, if_after, if_form, jump_form, case_names, case_value, jump_of, named_jump, pair_at, default_at, case_form}
 use Rattle.nc_syntax.specs.Structures.{last_expression, counter_at, first_value, for_form, times_at, repeat_form, repeat_block_form, parentheses_at, pass_count, count_of_piece, passes_at, call_passes, call_form, number_name, number_call_form, proc_form}
 use Rattle.nc_forms.proofs.FormRefusals.{alone_listed}
 
@@ -18,11 +18,11 @@ last_expression_listed words at = bound _ _ (expression_listed words at) (λ p. 
 counter_listed : (words : WordsView) (at : ℕ) → Listed (counter_at words at)
 unfolding counter_at
 counter_listed words at =
-    chosen _ _ _ (bound _ _ (index_listed words (at + 1) 22 unreadable) (λ i. bound _ _ (assign_listed words (at + 2) 22 unreadable) (λ behind. found _))) (refuses unreadable)
+    chosen _ _ _ (bound _ _ (index_listed words (at + 1) 22 unreadable) (λ i. bound _ _ (assign_listed words (at + 2) 22 unreadable) (λ following. found _))) (refuses unreadable)
 
 first_listed : (words : WordsView) (at : ℕ) → Listed (first_value words at)
 unfolding first_value
-first_listed words at = bound _ _ (expression_listed words at) (λ p. bound _ _ (keyword_listed words p.1 _) (λ behind. found _))
+first_listed words at = bound _ _ (expression_listed words at) (λ p. bound _ _ (keyword_listed words p.1 _) (λ following. found _))
 
 pub for_listed : (words : WordsView) (at : ℕ) → Listed (for_form words at)
 unfolding for_form
@@ -32,7 +32,7 @@ for_listed words at =
 times_listed : (words : WordsView) (at : ℕ) → Listed (times_at words at)
 unfolding times_at
 times_listed words at =
-    chosen _ _ _ (bound _ _ (assign_listed words (at + 1) 22 unreadable) (λ behind. bound _ _ (last_expression_listed words behind) (λ t. found _)))
+    chosen _ _ _ (bound _ _ (assign_listed words (at + 1) 22 unreadable) (λ following. bound _ _ (last_expression_listed words following) (λ t. found _)))
     (bound _ _ (end_listed words at) (λ end. found _))
 
 pub repeat_listed : (words : WordsView) (at : ℕ) → Listed (repeat_form words at)
@@ -64,7 +64,7 @@ passes_listed words at =
 
 pub call_listed : (words : WordsView) (name : List ℕ) (at : ℕ) → Listed (call_form words name at)
 unfolding call_form call_passes
-call_listed words name at = bound _ _ (bound _ _ (parentheses_listed words at) (λ behind. passes_listed words behind)) (λ passes. found _)
+call_listed words name at = bound _ _ (bound _ _ (parentheses_listed words at) (λ following. passes_listed words following)) (λ passes. found _)
 
 pub number_call_listed : (words : WordsView) (at : ℕ) → Listed (number_call_form words at)
 unfolding number_call_form number_name
@@ -89,13 +89,13 @@ last_jump_listed : (words : WordsView) (way : Way) (at : ℕ) → Listed (last_j
 unfolding last_jump
 last_jump_listed words way at = bound _ _ (jump_listed words way at) (λ p. bound _ _ (end_listed words p.1) (λ end. found _))
 
-behind_if : (words : WordsView) (t : Tree) (at : ℕ) (way : Option Way) → Listed (if_behind words t at way)
-behind_if words t at (Some way) = bound _ _ (last_jump_listed words way (at + 1)) (λ jump. found _)
-behind_if words t at None = bound _ _ (end_listed words at) (λ end. found _)
+after_if : (words : WordsView) (t : Tree) (at : ℕ) (way : Option Way) → Listed (if_after words t at way)
+after_if words t at (Some way) = bound _ _ (last_jump_listed words way (at + 1)) (λ jump. found _)
+after_if words t at None = bound _ _ (end_listed words at) (λ end. found _)
 
 pub if_listed : (words : WordsView) (at : ℕ) → Listed (if_form words at)
 unfolding if_form
-if_listed words at = bound _ _ (expression_listed words at) (λ p. behind_if words p.0 p.1 (way_at words p.1))
+if_listed words at = bound _ _ (expression_listed words at) (λ p. after_if words p.0 p.1 (way_at words p.1))
 
 pub jump_form_listed : (words : WordsView) (way : Way) (at : ℕ) → Listed (jump_form words way at)
 unfolding jump_form
@@ -106,7 +106,7 @@ unfolding case_value case_names
 case_value_listed words at =
     bound _ _ (open_listed words at 22 unreadable)
     (λ first. bound _ _ (expression_listed words first)
-    (λ p. bound _ _ (bound _ _ (close_listed words p.1 22 unreadable) (λ closed. keyword_listed words closed _)) (λ behind. found _)))
+    (λ p. bound _ _ (bound _ _ (close_listed words p.1 22 unreadable) (λ closed. keyword_listed words closed _)) (λ following. found _)))
 
 jump_of_listed : (words : WordsView) (way : Option Way) (at : ℕ) → Listed (jump_of words way at)
 jump_of_listed words (Some way) at = jump_listed words way at

@@ -18,22 +18,22 @@ use Rattle.nc_blocks.specs.Marks as marks
 use Rattle.nc_blocks.specs.Marks.{code_of, code_at, end_at, assign_at, comma_of, comma_at, is_keyword, keyword_at}
 use Rattle.nc_blocks.specs.Reading.{expression_at, whole, block_number, block_number_of, block_number_at, index_or, parameter_number, index_of_piece, index_at, label_of, label_at}
 use Rattle.nc_blocks.specs.Statement.{Statement, Jump, IfJump, If, For, RepeatFrom, RepeatBlock, Repeat, Call, Proc}
-use Rattle.nc_syntax.specs.Jumps.{way_of_piece, way_at, is_n, target_of, target_at, jump_at, last_jump, if_behind, if_form, jump_form, jump_of, named_jump}
-use Rattle.nc_forms.specs.LineEnds.{alone}
+use Rattle.nc_syntax.specs.Jumps.{way_of_piece, way_at, is_n, target_of, target_at, jump_at, last_jump, if_after, if_form, jump_form, jump_of, named_jump}
+use Rattle.nc_forms.specs.LineEnds.{statement_alone}
 use Rattle.nc_syntax.specs.Structures.{last_expression, is_letter, counter_at, first_value, for_form, times_at, repeat_form, repeat_block_form, has_close, parentheses_at, count_of_piece, passes_at, call_passes, call_form, proc_form}
 use Rattle.nc_forms.specs.Parentheses.{is_close, is_open}
-use Rattle.nc_syntax.specs.Wanted.{Assigns, Commas, Keyword, ATarget, BlockNumber, IfBehind, AJump, CounterLetter, Counter, Times, RepeatBehind, ALabel, Parentheses, CloseOfCall, Passes, Count, Displof, start, Push, No, want, only_if, perhaps, comma_want, block_number_want, target_want, if_want, jump_want, counter_index, counter_want, label_want, call_close, count_want, Stack, on_mark, line_end}
+use Rattle.nc_syntax.specs.Wanted.{Assigns, Commas, Keyword, ATarget, BlockNumber, IfAfter, AJump, CounterLetter, Counter, Times, RepeatAfter, ALabel, Parentheses, CloseOfCall, Passes, Count, Displof, start, Push, No, want, only_if, push_if, comma_want, block_number_want, target_want, if_want, jump_want, counter_index, counter_want, label_want, call_close, count_want, Stack, on_mark, line_end}
 use Rattle.nc_syntax.proofs.Wanted.{go, last, run_at, follow}
 use Rattle.nc_syntax.proofs.Stepping.{follow_bind, run_on, run_past, after, one_step}
 use Rattle.nc_syntax.proofs.Signs.{assigns, expressions}
-use Rattle.nc_syntax.proofs.Words.{chain, made, behind}
+use Rattle.nc_syntax.proofs.Words.{chain, made, following}
 
 -- the end of a form
-end_case : (p : Piece) (f : Stack → Option ℕ) → go (line_end p) f ≡ follow (marks.ended p) (λ n. None)
+end_case : (p : Piece) (f : Stack → Option ℕ) → go (line_end p) f ≡ follow (marks.end_or_refusal p) (λ n. None)
 end_case piece.End f = refl
 end_case p f = refl
 
-past_case : (p : Piece) → last (line_end p) ≡ follow (marks.ended p) (λ n. None)
+past_case : (p : Piece) → last (line_end p) ≡ follow (marks.end_or_refusal p) (λ n. None)
 past_case piece.End = refl
 past_case p = refl
 
@@ -48,8 +48,8 @@ ends words at =
 pub ends_with : {A : Type 0} (words : WordsView) (at : ℕ) (x : A) → run_at words at [] ≡ follow (end_at words at >>= λ n. Ok x) (λ y. None)
 ends_with {A = A} words at x = ends words at ∙ made {B = A} (end_at words at) (λ n. x) (λ y. None)
 
-pub alone_ends : (words : WordsView) (at : ℕ) (s : Statement) → run_at words at [] ≡ follow (alone words at s) (λ y. None)
-unfolding alone
+pub alone_ends : (words : WordsView) (at : ℕ) (s : Statement) → run_at words at [] ≡ follow (statement_alone words at s) (λ y. None)
+unfolding statement_alone
 alone_ends words at s = ends_with words at s
 
 -- names and signs
@@ -104,7 +104,7 @@ targets words at st = one_step words at ATarget st ∙ target_case words at st (
 
 pub jumps : (words : WordsView) (way : Way) (at : ℕ) (st : Stack) → run_at words at (ATarget ∷ st) ≡ follow (jump_at words way at) (λ p. run_at words p.1 st)
 unfolding jump_at
-jumps words way at st = targets words at st ∙ made {B = JumpTo × ℕ} (target_at words at) (λ p. (record { way = way; target = p.0 }, p.1)) (behind words st)
+jumps words way at st = targets words at st ∙ made {B = JumpTo × ℕ} (target_at words at) (λ p. (record { way = way; target = p.0 }, p.1)) (following words st)
 
 pub last_jumps : (words : WordsView) (way : Way) (at : ℕ) → run_at words at (ATarget ∷ []) ≡ follow (last_jump words way at) (λ j. None)
 unfolding last_jump
@@ -123,17 +123,17 @@ unfolding want named_jump way_at
 named_jumps words at st = one_step words at AJump st ∙ jump_case words at st (way_of_piece (piece_at words at) (text_at words at))
 
 -- IF
-if_case : (words : WordsView) (t : Tree) (at : ℕ) (o : Option Way) → after words at (if_want o) [] ≡ follow (if_behind words t at o) (λ s. None)
+if_case : (words : WordsView) (t : Tree) (at : ℕ) (o : Option Way) → after words at (if_want o) [] ≡ follow (if_after words t at o) (λ s. None)
 if_case words t at (Some way) = last_jumps words way (at + 1) ∙ made {B = Statement} (last_jump words way (at + 1)) (λ j. IfJump t j) (λ s. None)
 if_case words t at None = ends_with words at (If t)
 
-if_ends : (words : WordsView) (t : Tree) (at : ℕ) → run_at words at (IfBehind ∷ []) ≡ follow (if_behind words t at (way_at words at)) (λ s. None)
+if_ends : (words : WordsView) (t : Tree) (at : ℕ) → run_at words at (IfAfter ∷ []) ≡ follow (if_after words t at (way_at words at)) (λ s. None)
 unfolding want way_at
-if_ends words t at = one_step words at IfBehind [] ∙ if_case words t at (way_of_piece (piece_at words at) (text_at words at))
+if_ends words t at = one_step words at IfAfter [] ∙ if_case words t at (way_of_piece (piece_at words at) (text_at words at))
 
-pub if_forms : (words : WordsView) (at : ℕ) → run_at words at (start false ∷ IfBehind ∷ []) ≡ follow (if_form words at) (λ s. None)
+pub if_forms : (words : WordsView) (at : ℕ) → run_at words at (start false ∷ IfAfter ∷ []) ≡ follow (if_form words at) (λ s. None)
 unfolding if_form
-if_forms words at = expressions words at (IfBehind ∷ []) ∙ chain _ _ _ _ (λ (p : Tree × ℕ). if_ends words p.0 p.1)
+if_forms words at = expressions words at (IfAfter ∷ []) ∙ chain _ _ _ _ (λ (p : Tree × ℕ). if_ends words p.0 p.1)
 
 -- WHILE, UNTIL and FOR
 pub last_expressions : {A : Type 0} (words : WordsView) (at : ℕ) (e : Tree → A) → run_at words at (start false ∷ []) ≡ follow (last_expression words at >>= λ t. Ok (e t)) (λ s. None)
@@ -162,16 +162,16 @@ indices : (words : WordsView) (at : ℕ) (st : Stack) (f : ℕ → Option ℕ) �
 unfolding want index_at
 indices words at st f h = one_step words at Counter st ∙ index_case words at st (text_at words at) (piece_at words at) f h
 
-counter_behind : (words : WordsView) (at : ℕ) (st : Stack) (i : ℕ) → run_at words (at + 1 + 1) (Assigns false ∷ st) ≡ follow (◌>>=◌ {B = ℕ × ℕ} (assign_at words (at + 2) 22) (λ b. Ok (i, b))) (λ p. run_at words p.1 st)
-counter_behind words at st i =
+counter_after : (words : WordsView) (at : ℕ) (st : Stack) (i : ℕ) → run_at words (at + 1 + 1) (Assigns false ∷ st) ≡ follow (◌>>=◌ {B = ℕ × ℕ} (assign_at words (at + 2) 22) (λ b. Ok (i, b))) (λ p. run_at words p.1 st)
+counter_after words at st i =
     ap (λ (k : ℕ). run_at words k (Assigns false ∷ st)) (two at)
-    ∙ assigns words (at + 2) false st ∙ made {B = ℕ × ℕ} (assign_at words (at + 2) 22) (λ b. (i, b)) (behind words st)
+    ∙ assigns words (at + 2) false st ∙ made {B = ℕ × ℕ} (assign_at words (at + 2) 22) (λ b. (i, b)) (following words st)
 
 counter_letter : (words : WordsView) (at : ℕ) (st : Stack) (b : Bool) →
     after words at (only_if b) (Counter ∷ Assigns false ∷ st)
     ≡ follow (cond b (◌>>=◌ {B = ℕ × ℕ} (index_at words (at + 1) 22) (λ i. assign_at words (at + 2) 22 >>= λ b. Ok (i, b))) (Err 22)) (λ p. run_at words p.1 st)
 counter_letter words at st true =
-    indices words (at + 1) (Assigns false ∷ st) (λ i. follow (◌>>=◌ {B = ℕ × ℕ} (assign_at words (at + 2) 22) (λ b. Ok (i, b))) (λ p. run_at words p.1 st)) (λ (i : ℕ). counter_behind words at st i)
+    indices words (at + 1) (Assigns false ∷ st) (λ i. follow (◌>>=◌ {B = ℕ × ℕ} (assign_at words (at + 2) 22) (λ b. Ok (i, b))) (λ p. run_at words p.1 st)) (λ (i : ℕ). counter_after words at st i)
     ∙ sym (follow_bind (index_at words (at + 1) 22) (λ i. ◌>>=◌ {B = ℕ × ℕ} (assign_at words (at + 2) 22) (λ b. Ok (i, b))) (λ p. run_at words p.1 st))
 counter_letter words at st false = refl
 
@@ -183,7 +183,7 @@ pub first_values : (words : WordsView) (at : ℕ) (st : Stack) → run_at words 
 unfolding first_value
 first_values words at st =
     expressions words at (Keyword (codes "TO") ∷ st)
-    ∙ chain _ _ _ _ (λ (p : Tree × ℕ). keywords words p.1 (codes "TO") st ∙ made {B = Tree × ℕ} (keyword_at words p.1 (codes "TO")) (λ n. (p.0, n)) (behind words st))
+    ∙ chain _ _ _ _ (λ (p : Tree × ℕ). keywords words p.1 (codes "TO") st ∙ made {B = Tree × ℕ} (keyword_at words p.1 (codes "TO")) (λ n. (p.0, n)) (following words st))
 
 pub for_forms : (words : WordsView) (at : ℕ) →
     run_at words at (CounterLetter ∷ Counter ∷ Assigns false ∷ start false ∷ Keyword (codes "TO") ∷ start false ∷ []) ≡ follow (for_form words at) (λ s. None)
@@ -194,7 +194,7 @@ for_forms words at =
     ∙ chain _ _ _ _ (λ (v : Tree × ℕ). last_expressions {A = Statement} words v.1 (λ t. For c.0 v.0 t)))
 
 -- repetitions
-pub perhaps_case : (words : WordsView) (at : ℕ) (ws st : Stack) (b : Bool) → after words at (perhaps b ws) st ≡ cond b (run_at words (at + 1) (ws ++ st)) (run_at words at st)
+pub perhaps_case : (words : WordsView) (at : ℕ) (ws st : Stack) (b : Bool) → after words at (push_if b ws) st ≡ cond b (run_at words (at + 1) (ws ++ st)) (run_at words at st)
 perhaps_case words at ws st true = refl
 perhaps_case words at ws st false = refl
 
@@ -217,10 +217,10 @@ times words at =
 repeat_times : (words : WordsView) (at : ℕ) → run_at words (at + 1) (Times ∷ []) ≡ follow (times_at words (at + 1) >>= λ t. Ok (RepeatFrom (name_of (text_at words at)) t)) (λ s. None)
 repeat_times words at = times words (at + 1) ∙ made {B = Statement} (times_at words (at + 1)) (λ t. RepeatFrom (name_of (text_at words at)) t) (λ s. None)
 
-pub repeat_forms : (words : WordsView) (at : ℕ) → run_at words at (RepeatBehind ∷ []) ≡ follow (repeat_form words at) (λ s. None)
+pub repeat_forms : (words : WordsView) (at : ℕ) → run_at words at (RepeatAfter ∷ []) ≡ follow (repeat_form words at) (λ s. None)
 unfolding want repeat_form
 repeat_forms words at =
-    one_step words at RepeatBehind []
+    one_step words at RepeatAfter []
     ∙ perhaps_case words at (Times ∷ []) [] (is_name (piece_at words at))
     ∙ either_way (is_name (piece_at words at)) _ _ _ _ _ (repeat_times words at) (alone_ends words at Repeat)
 
@@ -242,12 +242,12 @@ repeat_block_forms words at =
 
 -- PROC
 displof_case : (words : WordsView) (at : ℕ) (name : List ℕ) (b : Bool) →
-    cond b (run_at words (at + 1 + 1) []) (run_at words (at + 1) []) ≡ follow (alone words (cond b (at + 2) (at + 1)) (Proc name)) (λ s. None)
+    cond b (run_at words (at + 1 + 1) []) (run_at words (at + 1) []) ≡ follow (statement_alone words (cond b (at + 2) (at + 1)) (Proc name)) (λ s. None)
 displof_case words at name true = ap (λ (n : ℕ). run_at words n []) (two at) ∙ alone_ends words (at + 2) (Proc name)
 displof_case words at name false = alone_ends words (at + 1) (Proc name)
 
 displof : (words : WordsView) (at : ℕ) (name : List ℕ) →
-    run_at words (at + 1) (Displof ∷ []) ≡ follow (alone words (cond (is_keyword words (at + 1) (codes "DISPLOF")) (at + 2) (at + 1)) (Proc name)) (λ s. None)
+    run_at words (at + 1) (Displof ∷ []) ≡ follow (statement_alone words (cond (is_keyword words (at + 1) (codes "DISPLOF")) (at + 2) (at + 1)) (Proc name)) (λ s. None)
 unfolding want is_keyword
 displof words at name =
     one_step words (at + 1) Displof []
@@ -257,8 +257,8 @@ displof words at name =
 pub proc_forms : (words : WordsView) (at : ℕ) → run_at words at (ALabel ∷ Displof ∷ []) ≡ follow (proc_form words at) (λ s. None)
 unfolding proc_form
 proc_forms words at =
-    labels words at (Displof ∷ []) (λ name. follow (alone words (cond (is_keyword words (at + 1) (codes "DISPLOF")) (at + 2) (at + 1)) (Proc name)) (λ s. None)) (λ (name : List ℕ). displof words at name)
-    ∙ sym (follow_bind (label_at words at) (λ name. alone words (cond (is_keyword words (at + 1) (codes "DISPLOF")) (at + 2) (at + 1)) (Proc name)) (λ s. None))
+    labels words at (Displof ∷ []) (λ name. follow (statement_alone words (cond (is_keyword words (at + 1) (codes "DISPLOF")) (at + 2) (at + 1)) (Proc name)) (λ s. None)) (λ (name : List ℕ). displof words at name)
+    ∙ sym (follow_bind (label_at words at) (λ name. statement_alone words (cond (is_keyword words (at + 1) (codes "DISPLOF")) (at + 2) (at + 1)) (Proc name)) (λ s. None))
 
 -- calls
 closed_code : {A : Type 0} (b : Bool) (code : ℕ) (f : A → Option ℕ) → Some (cond b code 22) ≡ follow (cond b (Err code) (Err 22)) f

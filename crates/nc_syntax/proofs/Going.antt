@@ -19,7 +19,7 @@ use Rattle.word_tables.specs.GroupWords.{word_by_number, small_whole, g_word}
 use Rattle.nc_blocks.specs.Wording.{is_spindle_word}
 use Rattle.nc_syntax.specs.Structures.{pass_count}
 use Rattle.nc_syntax.specs.Jumps.{way_of}
-use Rattle.nc_blocks.specs.Texts.{unquoted}
+use Rattle.nc_blocks.specs.Texts.{text_within_quotes}
 use Rattle.nc_blocks.specs.declared.pieces.Piece.{Piece}
 use Rattle.nc_blocks.specs.declared.pieces.Piece.TheVariants as piece
 use Rattle.nc_syntax.specs.Wanted as wanted
@@ -114,14 +114,14 @@ way (wanted.Keyword word) = name word ∷ []
 way wanted.Commas = comma ∷ []
 way wanted.ATarget = name (codes "AA") ∷ []
 way wanted.BlockNumber = number ∷ []
-way wanted.IfBehind = jump_way
+way wanted.IfAfter = jump_way
 way wanted.AJump = jump_way
 way wanted.Signed = number ∷ []
 way wanted.MorePairs = name (codes "DEFAULT") ∷ jump_way
 way wanted.CounterLetter = letter_r ∷ []
 way wanted.Counter = number ∷ []
 way wanted.Times = letter_p ∷ assign ∷ number ∷ []
-way wanted.RepeatBehind = name (codes "AA") ∷ letter_p ∷ assign ∷ number ∷ []
+way wanted.RepeatAfter = name (codes "AA") ∷ letter_p ∷ assign ∷ number ∷ []
 way wanted.ALabel = name (codes "AA") ∷ []
 way wanted.Parentheses = open_sign ∷ close_sign ∷ []
 way wanted.CloseOfCall = close_sign ∷ []
@@ -142,7 +142,7 @@ way wanted.Quoted = quoted ∷ []
 way wanted.InitLast = close_sign ∷ []
 way wanted.Wait = quoted ∷ []
 way wanted.TextOrNot = quoted ∷ []
-way wanted.SetmsBehind = open_sign ∷ number ∷ close_sign ∷ []
+way wanted.SetmsAfter = open_sign ∷ number ∷ close_sign ∷ []
 way wanted.AfterL = number ∷ open_sign ∷ close_sign ∷ letter_p ∷ number ∷ []
 way (wanted.Anything closed) = close_sign ∷ []
 
@@ -155,7 +155,7 @@ unfoldable pub ok : Stack → List Mark → Option ℕ
 ok st [] = last (on_mark st (end_mark [] false false false 22))
 ok st (m ∷ ms) = go (on_mark st m) (λ next. ok next ms)
 
--- tokens that can stand behind an expression
+-- tokens that can stand after an expression
 abbrev Clears : Option Symbol → Type 0
 Clears None = ⊥
 Clears (Some (symbol.Number z digits)) = Unit {0}
@@ -175,7 +175,7 @@ abbrev Clear : List Mark → Type 0
 Clear [] = Unit {0}
 Clear (m ∷ ms) = Clears m.symbol
 
--- an expression that has ended is left to what is wanted behind
+-- an expression that has ended is left to what is wanted after
 ended_next : (t : Tree) (lv : Level) (s : Symbol) → Clears (Some s) → machine.step all_limits (machine.Has t [] lv) s ≡ machine.Ends t
 unfolding machine.step machine.on_ended machine.on_other machine.on_close machine.on_close_bracket
 ended_next t lv (symbol.Number z digits) h = refl
@@ -309,7 +309,7 @@ attach_ends w t lv st rest ms h c =
 
 pub value_goes : (w : Bool) (state : machine.State) (rest : Stack) (ms : List Mark) → TidyState state → HasRoom state → Clear ms →
     ok (wanted.Value w state ∷ rest) (value_way state ++ ms) ≡ ok rest ms
-unfolding ok on_mark want machine.step machine.on_operand machine.on_index machine.on_argument machine.opened index_of
+unfolding ok on_mark want machine.step machine.on_operand machine.on_index machine.on_argument machine.next_in_bracket index_of
 value_goes w (machine.Wants st lv) rest ms h r c = attach_ends w (Number (pos 1000000)) lv st rest ms h c
 value_goes w (machine.WantsIndex st lv) rest ms h r c = attach_ends w (Parameter 1) lv st rest ms h c
 value_goes w (machine.WantsArgument f st lv) rest ms h r c =
@@ -349,14 +349,14 @@ TidyItem (wanted.Keyword word) st = IsKey word
 TidyItem wanted.Commas st = Unit {0}
 TidyItem wanted.ATarget st = Unit {0}
 TidyItem wanted.BlockNumber st = Unit {0}
-TidyItem wanted.IfBehind st = Unit {0}
+TidyItem wanted.IfAfter st = Unit {0}
 TidyItem wanted.AJump st = Unit {0}
 TidyItem wanted.Signed st = Unit {0}
 TidyItem wanted.MorePairs st = Unit {0}
 TidyItem wanted.CounterLetter st = Unit {0}
 TidyItem wanted.Counter st = Unit {0}
 TidyItem wanted.Times st = Unit {0}
-TidyItem wanted.RepeatBehind st = Unit {0}
+TidyItem wanted.RepeatAfter st = Unit {0}
 TidyItem wanted.ALabel st = Unit {0}
 TidyItem wanted.Parentheses st = Unit {0}
 TidyItem wanted.CloseOfCall st = Unit {0}
@@ -377,7 +377,7 @@ TidyItem wanted.Quoted st = Unit {0}
 TidyItem wanted.InitLast st = Unit {0}
 TidyItem wanted.Wait st = Unit {0}
 TidyItem wanted.TextOrNot st = Unit {0}
-TidyItem wanted.SetmsBehind st = Unit {0}
+TidyItem wanted.SetmsAfter st = Unit {0}
 TidyItem wanted.AfterL st = Unit {0}
 TidyItem (wanted.Anything closed) st = IsNil st
 
@@ -409,14 +409,14 @@ RoomItem (wanted.Keyword word) = Unit {0}
 RoomItem wanted.Commas = Unit {0}
 RoomItem wanted.ATarget = Unit {0}
 RoomItem wanted.BlockNumber = Unit {0}
-RoomItem wanted.IfBehind = Unit {0}
+RoomItem wanted.IfAfter = Unit {0}
 RoomItem wanted.AJump = Unit {0}
 RoomItem wanted.Signed = Unit {0}
 RoomItem wanted.MorePairs = Unit {0}
 RoomItem wanted.CounterLetter = Unit {0}
 RoomItem wanted.Counter = Unit {0}
 RoomItem wanted.Times = Unit {0}
-RoomItem wanted.RepeatBehind = Unit {0}
+RoomItem wanted.RepeatAfter = Unit {0}
 RoomItem wanted.ALabel = Unit {0}
 RoomItem wanted.Parentheses = Unit {0}
 RoomItem wanted.CloseOfCall = Unit {0}
@@ -437,7 +437,7 @@ RoomItem wanted.Quoted = Unit {0}
 RoomItem wanted.InitLast = Unit {0}
 RoomItem wanted.Wait = Unit {0}
 RoomItem wanted.TextOrNot = Unit {0}
-RoomItem wanted.SetmsBehind = Unit {0}
+RoomItem wanted.SetmsAfter = Unit {0}
 RoomItem wanted.AfterL = Unit {0}
 RoomItem (wanted.Anything closed) = Unit {0}
 
@@ -476,14 +476,14 @@ clear_ways (wanted.Keyword word ∷ st) = tt
 clear_ways (wanted.Commas ∷ st) = tt
 clear_ways (wanted.ATarget ∷ st) = tt
 clear_ways (wanted.BlockNumber ∷ st) = tt
-clear_ways (wanted.IfBehind ∷ st) = tt
+clear_ways (wanted.IfAfter ∷ st) = tt
 clear_ways (wanted.AJump ∷ st) = tt
 clear_ways (wanted.Signed ∷ st) = tt
 clear_ways (wanted.MorePairs ∷ st) = tt
 clear_ways (wanted.CounterLetter ∷ st) = tt
 clear_ways (wanted.Counter ∷ st) = tt
 clear_ways (wanted.Times ∷ st) = tt
-clear_ways (wanted.RepeatBehind ∷ st) = tt
+clear_ways (wanted.RepeatAfter ∷ st) = tt
 clear_ways (wanted.ALabel ∷ st) = tt
 clear_ways (wanted.Parentheses ∷ st) = tt
 clear_ways (wanted.CloseOfCall ∷ st) = tt
@@ -504,7 +504,7 @@ clear_ways (wanted.Quoted ∷ st) = tt
 clear_ways (wanted.InitLast ∷ st) = tt
 clear_ways (wanted.Wait ∷ st) = tt
 clear_ways (wanted.TextOrNot ∷ st) = tt
-clear_ways (wanted.SetmsBehind ∷ st) = tt
+clear_ways (wanted.SetmsAfter ∷ st) = tt
 clear_ways (wanted.AfterL ∷ st) = tt
 clear_ways (wanted.Anything closed ∷ st) = tt
 
@@ -522,7 +522,7 @@ name_given word st ms h = rw h refl
 
 -- each thing is completed by its tokens
 gives : (w : Wanted) (st : Stack) → TidyItem w st → RoomItem w → ok (w ∷ st) (way w ++ ways st) ≡ ok st (ways st)
-unfolding ok on_mark want machine.step machine.on_operand machine.finish machine.on_other machine.on_ended machine.on_close machine.on_close_bracket index_of pass_count is_spindle_word way_of unquoted
+unfolding ok on_mark want machine.step machine.on_operand machine.finish machine.on_other machine.on_ended machine.on_close machine.on_close_bracket index_of pass_count is_spindle_word way_of text_within_quotes
 gives (wanted.Assigns w) st h r = refl
 gives (wanted.Opens w) st h r = refl
 gives (wanted.Closes w) st h r = refl
@@ -547,14 +547,14 @@ gives (wanted.Keyword word) st h r = name_given word st (ways st) h.0
 gives wanted.Commas st h r = refl
 gives wanted.ATarget st h r = refl
 gives wanted.BlockNumber st h r = refl
-gives wanted.IfBehind st h r = refl
+gives wanted.IfAfter st h r = refl
 gives wanted.AJump st h r = refl
 gives wanted.Signed st h r = refl
 gives wanted.MorePairs st h r = refl
 gives wanted.CounterLetter st h r = refl
 gives wanted.Counter st h r = refl
 gives wanted.Times st h r = passes false (Number (pos 1000000)) Plain st (ways st) (clear_ways st)
-gives wanted.RepeatBehind st h r = passes false (Number (pos 1000000)) Plain st (ways st) (clear_ways st)
+gives wanted.RepeatAfter st h r = passes false (Number (pos 1000000)) Plain st (ways st) (clear_ways st)
 gives wanted.ALabel st h r = refl
 gives wanted.Parentheses st h r = refl
 gives wanted.CloseOfCall st h r = refl
@@ -577,7 +577,7 @@ gives wanted.Quoted st h r = refl
 gives wanted.InitLast st h r = refl
 gives wanted.Wait st h r = refl
 gives wanted.TextOrNot st h r = refl
-gives wanted.SetmsBehind st h r = refl
+gives wanted.SetmsAfter st h r = refl
 gives wanted.AfterL st h r = refl
 gives (wanted.Anything closed) [] h r = refl
 gives (wanted.Anything closed) (x ∷ st) h r = absurd h

@@ -33,7 +33,7 @@ use Rattle.nc_syntax.proofs.Words.{chain, made}
 use Rattle.nc_syntax.proofs.Forms.{two, alone_ends, last_expressions, jump_forms, if_forms, for_forms, repeat_forms, repeat_block_forms, proc_forms, call_forms}
 use Rattle.nc_syntax.proofs.Lists.{Moves, name_moves, word_blocks}
 use Rattle.nc_syntax.proofs.MoreForms.{case_forms, shape_forms, turn_forms, argument_forms, axes_forms, clear_forms, init_forms, cprot_forms, msg_forms, setms_forms}
-use Rattle.nc_syntax.specs.Forms.{AtBody, AtLabel, AtStart, Beginning, BehindN, BehindSlash, Goes, Head, HeadNext, HeadOn, Named, Over, Refused, Stops, Within, beginning, beginning_more, beginning_next, after_n, after_slash, block_number_step, body_step, control_stack, coordination_stack, form_beginning, form_stack, head_step, inside, label_step, letter_body, named_step, number_step, plain_beginning, start_step, word_beginning}
+use Rattle.nc_syntax.specs.Forms.{AtBody, AtLabel, AtStart, Beginning, AfterN, AfterSlash, Goes, Head, HeadNext, HeadOn, Named, Over, Refused, Stops, Within, beginning, beginning_more, beginning_next, after_n, after_slash, block_number_step, body_step, control_stack, coordination_stack, form_beginning, form_stack, head_step, body_next, label_step, letter_body, named_step, number_step, plain_beginning, start_step, word_beginning}
 
 control_go : (words : WordsView) (which : Control) (at : ℕ) → run_at words at (control_stack which) ≡ follow (control_form words which at) (λ s. None)
 unfolding control_form
@@ -142,7 +142,7 @@ pub l_go : (words : WordsView) (at : ℕ) → piece_at words at ≡ piece.Letter
 unfolding lettered_body
 l_go words at e = calls words (at + 1) ∙ l_or words at (is_number (piece_at words (at + 1))) e
 
--- nothing goes on behind the end of the line
+-- nothing goes on after the end of the line
 abbrev pub Stays : Next → Type 0
 Stays (On st) = ⊥
 Stays Done = Unit {0}
@@ -176,12 +176,12 @@ head_run words (token ∷ tokens) at h = head_go (head_step h (mark_at words at)
 unfoldable pub head_at : WordsView → ℕ → Head → Option ℕ
 head_at words at h = head_run words (drop at words.tokens) at h
 
-inside_last : (n : Next) → head_last (inside n) ≡ last n
+inside_last : (n : Next) → head_last (body_next n) ≡ last n
 inside_last (On st) = refl
 inside_last Done = refl
 inside_last (Refuse code) = refl
 
-inside_go : (n : Next) (f : Head → Option ℕ) (g : Stack → Option ℕ) → ((st : Stack) → f (Within st) ≡ g st) → head_go (inside n) f ≡ go n g
+inside_go : (n : Next) (f : Head → Option ℕ) (g : Stack → Option ℕ) → ((st : Stack) → f (Within st) ≡ g st) → head_go (body_next n) f ≡ go n g
 inside_go (On st) f g h = h st
 inside_go Done f g h = refl
 inside_go (Refuse code) f g h = refl
@@ -216,7 +216,7 @@ HeadStays (HeadOn h) = ⊥
 HeadStays Over = Unit {0}
 HeadStays (Refused code) = Unit {0}
 
-inside_stays : (n : Next) → Stays n → HeadStays (inside n)
+inside_stays : (n : Next) → Stays n → HeadStays (body_next n)
 inside_stays (On st) s = absurd s
 inside_stays Done s = tt
 inside_stays (Refuse code) s = tt
@@ -228,8 +228,8 @@ begun_stays (Stops code) text c a l r = tt
 pub head_stays : (text : List ℕ) (c a l : Bool) (r : ℕ) (h : Head) → HeadStays (head_step h (end_mark text c a l r))
 unfolding head_step
 head_stays text c a l r AtStart = tt
-head_stays text c a l r BehindSlash = tt
-head_stays text c a l r BehindN = tt
+head_stays text c a l r AfterSlash = tt
+head_stays text c a l r AfterN = tt
 head_stays text c a l r AtLabel = tt
 head_stays text c a l r (Named name) = begun_stays (beginning name) text c a l r
 head_stays text c a l r AtBody = tt
@@ -256,7 +256,7 @@ one_head words at h =
     ]
 
 -- the body
-inside_after : (words : WordsView) (at : ℕ) (st : Stack) → head_after words at (inside (on_mark st (mark_at words at))) ≡ run_at words at st
+inside_after : (words : WordsView) (at : ℕ) (st : Stack) → head_after words at (body_next (on_mark st (mark_at words at))) ≡ run_at words at st
 unfolding head_step
 inside_after words at st = sym (one_head words at (Within st)) ∙ within_at words at st
 
@@ -333,7 +333,7 @@ number_or : (words : WordsView) → IsWorked words → (at : ℕ) (b : Bool) →
 unfolding number_at has_number head_step
 number_or words w at true h =
     let e = letter_is (piece_at words at) 78 h in
-    one_head words (at + 1) BehindN ∙ n_case words w at (piece_at words (at + 1)) e refl
+    one_head words (at + 1) AfterN ∙ n_case words w at (piece_at words (at + 1)) e refl
 number_or words w at false h = label_case words w at (piece_at words at) refl ∙ rw h refl
 
 numbers : (words : WordsView) → IsWorked words → (at : ℕ) →
@@ -349,7 +349,7 @@ slash_or words w false h = numbers words w 1
 start_or : (words : WordsView) → IsWorked words → (b : Bool) → is_slash (piece_at words 0) ≡ b →
     head_after words 0 (start_step b (mark_at words 0)) ≡ follow (skip_of words) (λ k. follow (number_at words k.1) (λ q. follow (body_at words (label_at words q.1).1) (λ s. None)))
 unfolding skip_of head_step
-start_or words w true h = one_head words 1 BehindSlash ∙ slash_or words w (is_number (piece_at words 1)) refl ∙ rw h refl
+start_or words w true h = one_head words 1 AfterSlash ∙ slash_or words w (is_number (piece_at words 1)) refl ∙ rw h refl
 start_or words w false h = numbers words w 0 ∙ rw h refl
 
 tail : (words : WordsView) (skip : Bool) (at : ℕ) →

@@ -9,13 +9,13 @@ use Rattle.block_scanner.specs.declared.Token.{Token}
 use Rattle.block_scanner.specs.WordsView.{WordsView}
 use Rattle.nc_expressions.specs.declared.symbols.Symbol.{Symbol}
 use Rattle.nc_expressions.specs.declared.symbols.Symbol.TheVariants as symbol
-use Rattle.nc_expressions.specs.Symbols.{symbol_of, symbols_behind, symbols_of, touches_number, is_exponent, kind_symbol}
+use Rattle.nc_expressions.specs.Symbols.{symbol_of, symbols_after, symbols_of, touches_number, is_exponent, kind_symbol}
 use Rattle.nc_expressions.proofs.Beginnings.{length-symbols_of}
 use Rattle.nc_blocks.specs.Pieces.{found_piece, piece_of, piece_at, found_text, text_at}
 use Rattle.nc_syntax.specs.Places.{BeginsAs}
 use Rattle.nc_syntax.specs.Wanted.{Mark}
 
--- a token behind the line
+-- a token after the line
 abbrev pub new_token : WordsView → Kind → List ℕ → Token
 new_token words k text = record { kind = k; start = length words.line; end = length words.line + length text }
 
@@ -29,7 +29,7 @@ last_of before (t ∷ ts) = last_of (Some t) ts
 
 -- the symbols of the tokens before stay
 pub symbols_append : (line : List ℕ) (before : Option Token) (ts : List Token) (t : Token) →
-    symbols_behind line before (ts ++ t ∷ []) ≡ symbols_behind line before ts ++ symbol_of line (last_of before ts) t ∷ []
+    symbols_after line before (ts ++ t ∷ []) ≡ symbols_after line before ts ++ symbol_of line (last_of before ts) t ∷ []
 symbols_append line before [] t = refl
 symbols_append line before (x ∷ xs) t = ap (λ (ss : List Symbol). symbol_of line before x ∷ ss) (symbols_append line (Some x) xs t)
 
@@ -69,10 +69,10 @@ unfolding symbol_of
 symbol_kept line more before t h =
     ap (λ (text : List ℕ). cond (touches_number before t && is_exponent t.kind text) symbol.Exponent (kind_symbol t.kind text)) (slice_kept line more t.start t.end h)
 
-symbols_kept : (line more : List ℕ) (before : Option Token) (ts : List Token) → EndWithin (length line) ts → symbols_behind (line ++ more) before ts ≡ symbols_behind line before ts
+symbols_kept : (line more : List ℕ) (before : Option Token) (ts : List Token) → EndWithin (length line) ts → symbols_after (line ++ more) before ts ≡ symbols_after line before ts
 symbols_kept line more before [] w = refl
 symbols_kept line more before (t ∷ ts) w =
-    ap (λ (s : Symbol). s ∷ symbols_behind (line ++ more) (Some t) ts) (symbol_kept line more before t w.0)
+    ap (λ (s : Symbol). s ∷ symbols_after (line ++ more) (Some t) ts) (symbol_kept line more before t w.0)
     ∙ ap (λ (ss : List Symbol). symbol_of line before t ∷ ss) (symbols_kept line more (Some t) ts w.1)
 
 -- the symbol of the new token

@@ -20,7 +20,7 @@ use Rattle.nc_blocks.specs.Marks.{end_at, is_keyword}
 use Rattle.nc_blocks.specs.Reading.{block_number_at}
 use Rattle.nc_blocks.specs.Lists.{Item}
 use Rattle.nc_blocks.specs.Statement.{Statement, Jump, IfJump, If, Case}
-use Rattle.nc_syntax.specs.Jumps.{way_of_piece, way_at, is_n, target_of, target_at, jump_at, last_jump, if_behind, if_form, jump_form, case_names, case_value, begins_number, jump_of, named_jump, pair_at, default_at, case_form}
+use Rattle.nc_syntax.specs.Jumps.{way_of_piece, way_at, is_n, target_of, target_at, jump_at, last_jump, if_after, if_form, jump_form, case_names, case_value, begins_number, jump_of, named_jump, pair_at, default_at, case_form}
 use Rattle.nc_syntax.specs.Structures.{last_expression}
 use Rattle.nc_forms.specs.Standing.{IsKeyword, IsExpressionText, IsSignedNumber, IsEnclosed, AreListed}
 use Rattle.nc_syntax.specs.Spelled.{way_name, IsTarget, IsJump, IsPair, IsDefault, IsCase, IsSpelled}
@@ -133,7 +133,7 @@ jump_form_only words at j h = rw (last_jump_only words at j h) refl
 
 -- IF
 if_cases : (words : WordsView) (at middle : ℕ) (t : Tree) (o : Option Way) (s : Statement) → IsKeyword words at (codes "IF") → IsExpressionText words (at + 1) middle t →
-    way_at words middle ≡ o → if_behind words t middle o ≡ Ok s → IsSpelled words at (length words.tokens) s
+    way_at words middle ≡ o → if_after words t middle o ≡ Ok s → IsSpelled words at (length words.tokens) s
 unfolding IsSpelled
 if_cases words at middle t None s k x e h =
     let b = bound (end_at words middle) (λ (n : ℕ). Ok (If t)) s h in

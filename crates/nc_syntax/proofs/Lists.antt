@@ -10,7 +10,7 @@ use Rattle.nc_blocks.specs.declared.pieces.Piece.{Piece}
 use Rattle.nc_blocks.specs.declared.pieces.Piece.TheVariants as piece
 use Rattle.nc_blocks.specs.Pieces.{piece_at, text_at, is_end}
 use Rattle.nc_blocks.specs.Marks.{end_at}
-use Rattle.nc_blocks.specs.Lists.{Item, listed, list_at}
+use Rattle.nc_blocks.specs.Lists.{Item, list_from, list_at}
 use Rattle.nc_blocks.specs.Wording.{word_item_at, words_form, is_slot_letter, is_centre_letter, is_aux_letter, is_spindle_word, name_code}
 use Rattle.nc_blocks.specs.AxisNames.{is_axis_letter}
 use Rattle.nc_blocks.specs.Statement.{Statement, WordBlock, WordView}
@@ -26,7 +26,7 @@ use Rattle.nc_syntax.proofs.Words.{chain, made}
 use Rattle.nc_syntax.proofs.MoreOfWords.{a_word}
 use Rattle.nc_syntax.proofs.Forms.{ends}
 
--- behind a thing of a list another one follows, or what is behind the list
+-- after a thing of a list another one follows, or what is after the list
 abbrev pub onward : {A : Type 0} → WordsView → (List A → Stack) → (List A × ℕ → Option ℕ) → List A → Item A → Option ℕ
 onward words next k before (x, true, at) = run_at words at (next (before ++ x ∷ []))
 onward words next k before (x, false, at) = k (before ++ x ∷ [], at)
@@ -36,8 +36,8 @@ Within {A = A} item all = (before : List A) (at : ℕ) (x : A) (more : Bool) (ne
 
 item_case : {A : Type 0} (words : WordsView) (item : List A → ℕ → Result (Item A) ℕ) (next : List A → Stack) (k : List A × ℕ → Option ℕ) (before : List A) (at : ℕ) (r : Result (Item A) ℕ) →
     Within item (length words.tokens) → item before at ≡ r →
-    ((later : List A) (n : ℕ) → at < n → run_at words n (next later) ≡ follow (listed item later n (drop n words.tokens) 0) k) →
-    follow r (onward words next k before) ≡ follow (listed item before at (drop at words.tokens) 0) k
+    ((later : List A) (n : ℕ) → at < n → run_at words n (next later) ≡ follow (list_from item later n (drop n words.tokens) 0) k) →
+    follow r (onward words next k before) ≡ follow (list_from item before at (drop at words.tokens) 0) k
 item_case {A = A} words item next k before at (Ok (x, true, n)) w e again =
     let b = w before at x true n e in
     again (before ++ x ∷ []) n b.0 ∙ ap (λ (r : Result (List A × ℕ) ℕ). follow r k) (sym (list_goes_on item before at words.tokens x n e b.0 b.1))
@@ -48,7 +48,7 @@ item_case {A = A} words item next k before at (Err code) w e again =
     ap (λ (r : Result (List A × ℕ) ℕ). follow r k) (sym (list_refused item before at words.tokens code e))
 
 ended_line : {A : Type 0} (words : WordsView) (item : List A → ℕ → Result (Item A) ℕ) (k : List A × ℕ → Option ℕ) (f : Item A → Option ℕ) (before : List A) (at : ℕ) (r : Result (Item A) ℕ) →
-    Within item (length words.tokens) → length words.tokens ≤ at → item before at ≡ r → follow r f ≡ follow (listed item before at (drop at words.tokens) 0) k
+    Within item (length words.tokens) → length words.tokens ≤ at → item before at ≡ r → follow r f ≡ follow (list_from item before at (drop at words.tokens) 0) k
 ended_line words item k f before at (Ok (x, more, n)) w h e =
     let b = w before at x more n e in absurd (omega (arith, b.0, b.1, h))
 ended_line {A = A} words item k f before at (Err code) w h e =
@@ -56,7 +56,7 @@ ended_line {A = A} words item k f before at (Err code) w h e =
 
 listed_goes : {A : Type 0} (words : WordsView) (item : List A → ℕ → Result (Item A) ℕ) (next : List A → Stack) (k : List A × ℕ → Option ℕ) → Within item (length words.tokens) →
     ((before : List A) (at : ℕ) → run_at words at (next before) ≡ follow (item before at) (onward words next k before)) →
-    (n : ℕ) (before : List A) (at : ℕ) → length words.tokens ≤ at + n → run_at words at (next before) ≡ follow (listed item before at (drop at words.tokens) 0) k
+    (n : ℕ) (before : List A) (at : ℕ) → length words.tokens ≤ at + n → run_at words at (next before) ≡ follow (list_from item before at (drop at words.tokens) 0) k
 listed_goes words item next k w one zero before at h =
     one before at ∙ ended_line words item k (onward words next k before) before at (item before at) w (omega (arith, h)) refl
 listed_goes {A = A} words item next k w one (suc n) before at h =
@@ -157,8 +157,8 @@ end_of_line words at h =
 
 inside_case : {A : Type 0} (words : WordsView) (item : List A → ℕ → Result (Item A) ℕ) (next : List A → Stack) (k : List A × ℕ → Option ℕ) (before : List A) (at : ℕ) (r : Result (Item A) ℕ) →
     Within item (length words.tokens) → Inside words item → item before at ≡ r →
-    ((later : List A) (n : ℕ) → at < n → is_end (piece_at words n) ≡ false → run_at words n (next later) ≡ follow (listed item later n (drop n words.tokens) 0) k) →
-    follow r (onward words next k before) ≡ follow (listed item before at (drop at words.tokens) 0) k
+    ((later : List A) (n : ℕ) → at < n → is_end (piece_at words n) ≡ false → run_at words n (next later) ≡ follow (list_from item later n (drop n words.tokens) 0) k) →
+    follow r (onward words next k before) ≡ follow (list_from item before at (drop at words.tokens) 0) k
 inside_case {A = A} words item next k before at (Ok (x, true, n)) w i e again =
     let b = w before at x true n e in
     again (before ++ x ∷ []) n b.0 (i before at x n e) ∙ ap (λ (r : Result (List A × ℕ) ℕ). follow r k) (sym (list_goes_on item before at words.tokens x n e b.0 b.1))
@@ -171,7 +171,7 @@ inside_case {A = A} words item next k before at (Err code) w i e again =
 inside_goes : {A : Type 0} (words : WordsView) (item : List A → ℕ → Result (Item A) ℕ) (next : List A → Stack) (k : List A × ℕ → Option ℕ) →
     Within item (length words.tokens) → Inside words item →
     ((before : List A) (at : ℕ) → is_end (piece_at words at) ≡ false → run_at words at (next before) ≡ follow (item before at) (onward words next k before)) →
-    (n : ℕ) (before : List A) (at : ℕ) → is_end (piece_at words at) ≡ false → length words.tokens ≤ at + n → run_at words at (next before) ≡ follow (listed item before at (drop at words.tokens) 0) k
+    (n : ℕ) (before : List A) (at : ℕ) → is_end (piece_at words at) ≡ false → length words.tokens ≤ at + n → run_at words at (next before) ≡ follow (list_from item before at (drop at words.tokens) 0) k
 inside_goes words item next k w i one zero before at h l = absurd (omega (arith, end_of_line words at h, l))
 inside_goes {A = A} words item next k w i one (suc n) before at h l =
     one before at h ∙ inside_case words item next k before at (item before at) w i refl

@@ -19,7 +19,7 @@ use Rattle.nc_blocks.specs.declared.blocks.JumpTo.{JumpTo}
 use Rattle.nc_blocks.specs.declared.pieces.Piece.{Piece}
 use Rattle.nc_blocks.specs.declared.pieces.Piece.TheVariants as piece
 use Rattle.nc_blocks.specs.Pieces.{piece_at, text_at, is_end, is_assign, is_text}
-use Rattle.nc_blocks.specs.Texts.{unquoted}
+use Rattle.nc_blocks.specs.Texts.{text_within_quotes}
 use Rattle.nc_blocks.specs.Marks.{code_of, code_at, end_at, assign_at, open_of, open_at, close_at, comma_at, is_keyword}
 use Rattle.nc_blocks.specs.Reading.{expression_at, after_sign, constant_at}
 use Rattle.nc_blocks.specs.AxisNames.{is_axis_letter, is_digits_piece, has_digits, has_axis_name, has_axis_word}
@@ -29,19 +29,19 @@ use Rattle.nc_blocks.specs.Statement.{Statement, Case, Shape, Turn, Coord, Messa
 use Rattle.nc_blocks.proofs.Listing.{any_of_views}
 use Rattle.nc_syntax.specs.Jumps.{case_names, case_value, begins_number, named_jump, pair_at, default_at, case_form}
 use Rattle.nc_forms.specs.declared.coordination.ArgumentKind.TheVariants as argument
-use Rattle.nc_forms.specs.LineEnds.{alone}
+use Rattle.nc_forms.specs.LineEnds.{statement_alone}
 use Rattle.nc_forms.specs.Parentheses.{is_open, is_close}
 use Rattle.nc_forms.specs.Frames.{axis_of, is_slot, frame_value, has_axis, frame_word, frame_word_at, shape_form, turn_end, angle_at, turn_form}
-use Rattle.nc_forms.specs.Coordination.{separator_of, separator_at, value_argument_at, axis_of_piece, axis_at, axis_argument_at, arguments_form, clear_form, quoted_at, is_wait, wait_at, wait_behind, last_of_init, third, opened_value, init_form, cprot_form, after_text, msg_form, enclosed_at, setms_form}
+use Rattle.nc_forms.specs.Coordination.{separator_of, separator_at, value_argument_at, axis_of_piece, axis_at, axis_argument_at, arguments_form, clear_form, quoted_at, is_wait, wait_at, wait_after, last_of_init, third, opened_value, init_form, cprot_form, after_text, msg_form, enclosed_at, setms_form}
 use Rattle.nc_forms.proofs.Marked.{bound, constant_found}
 use Rattle.nc_forms.proofs.Standings.{expression_found, expression_within, piece_within}
 use Rattle.nc_forms.proofs.LineEnds.{signed_within}
 use Rattle.nc_syntax.proofs.JumpLaws.{named_jump_found, jump_within}
-use Rattle.nc_syntax.specs.Wanted.{Mark, mark_at, Wanted, Assigns, Opens, Closes, Commas, Keyword, AJump, Signed, MorePairs, MoreAxes, FrameValue, Angle, TurnEnd, MoreValues, AxisArgument, AfterArgument, ArgumentDigits, MoreArguments, ClearArguments, Quoted, InitLast, Wait, TextOrNot, SetmsBehind, start, Do, Push, Pass, No, want, only_if, more_pairs, axes_want, more_axes, signed_want, turn_want, separator_want, only_digits, axis_argument, and_then, clear_want, text_or_not, quoted_want, wait_want, setms_want, value_want, value_next, Stack}
+use Rattle.nc_syntax.specs.Wanted.{Mark, mark_at, Wanted, Assigns, Opens, Closes, Commas, Keyword, AJump, Signed, MorePairs, MoreAxes, FrameValue, Angle, TurnEnd, MoreValues, AxisArgument, AfterArgument, ArgumentDigits, MoreArguments, ClearArguments, Quoted, InitLast, Wait, TextOrNot, SetmsAfter, start, Do, Push, Pass, No, want, only_if, more_pairs, axes_want, more_axes, signed_want, turn_want, separator_want, only_digits, axis_argument, and_then, clear_want, text_or_not, quoted_want, wait_want, setms_want, value_want, value_next, Stack}
 use Rattle.nc_syntax.proofs.Wanted.{run_at, follow}
 use Rattle.nc_syntax.proofs.Stepping.{follow_bind, follow_same, after, one_step}
 use Rattle.nc_syntax.proofs.Signs.{assigns, opens, closes, signed_case, expressions}
-use Rattle.nc_syntax.proofs.Words.{chain, made, behind}
+use Rattle.nc_syntax.proofs.Words.{chain, made, following}
 use Rattle.nc_syntax.proofs.MoreOfWords.{slot_is_axis}
 use Rattle.nc_syntax.proofs.Forms.{two, ends, ends_with, alone_ends, keywords, commas, named_jumps, perhaps_case, either_way, sure_case}
 use Rattle.nc_syntax.proofs.Lists.{onward, Within, list_goes, Inside, list_inside}
@@ -104,9 +104,9 @@ pairs_within words before at x more next e =
     let w = jump_within words a.0.1 b.0.1 b.0.0 (named_jump_found words a.0.1 b.0.1 b.0.0 b.1) in
     (omega (arith, v.0, w.0, n), omega (arith, w.1, n))
 
-case_behind : (words : WordsView) (t : Tree) (at : ℕ) →
+case_after : (words : WordsView) (t : Tree) (at : ℕ) →
     run_at words at (Signed ∷ AJump ∷ MorePairs ∷ []) ≡ follow (list_at (λ before. pair_at words) words at >>= λ pairs. default_at words pairs.1 >>= λ other. Ok (Case t pairs.0 other)) (λ s. None)
-case_behind words t at =
+case_after words t at =
     list_goes {A = ℤ × JumpTo} words (λ before. pair_at words) (λ ys. Signed ∷ AJump ∷ MorePairs ∷ []) (λ p. follow (default_at words p.1) (λ o. None)) (pairs_within words)
     (λ (before : List (ℤ × JumpTo)) (n : ℕ). pair_one words before n) at
     ∙ chain _ _ _ _ (λ (p : List (ℤ × JumpTo) × ℕ). made {B = Statement} (default_at words p.1) (λ other. Case t p.0 other) (λ s. None))
@@ -121,19 +121,19 @@ unfolding case_value
 case_values words at st =
     opens words at false (start false ∷ Closes false ∷ Keyword (codes "OF") ∷ st)
     ∙ chain _ _ _ _ (λ (n : ℕ). expressions words n (Closes false ∷ Keyword (codes "OF") ∷ st)
-    ∙ chain _ _ _ _ (λ (p : Tree × ℕ). case_names_go words p.1 st ∙ made {B = Tree × ℕ} (case_names words p.1) (λ m. (p.0, m)) (behind words st)))
+    ∙ chain _ _ _ _ (λ (p : Tree × ℕ). case_names_go words p.1 st ∙ made {B = Tree × ℕ} (case_names words p.1) (λ m. (p.0, m)) (following words st)))
 
 pub case_forms : (words : WordsView) (at : ℕ) →
     run_at words at (Opens false ∷ start false ∷ Closes false ∷ Keyword (codes "OF") ∷ Signed ∷ AJump ∷ MorePairs ∷ []) ≡ follow (case_form words at) (λ s. None)
 unfolding case_form
-case_forms words at = case_values words at (Signed ∷ AJump ∷ MorePairs ∷ []) ∙ chain _ _ _ _ (λ (v : Tree × ℕ). case_behind words v.0 v.1)
+case_forms words at = case_values words at (Signed ∷ AJump ∷ MorePairs ∷ []) ∙ chain _ _ _ _ (λ (v : Tree × ℕ). case_after words v.0 v.1)
 
 -- frames
 frame_or : (words : WordsView) (at : ℕ) (st : Stack) (b : Bool) →
     after words at (cond b (Push (start false ∷ [])) (signed_want false (piece_at words at) 22)) st
     ≡ follow (cond b (expression_at words (at + 1)) (constant_at words at 22 >>= λ p. Ok (Number p.0, p.1))) (λ p. run_at words p.1 st)
 frame_or words at st true = expressions words (at + 1) st
-frame_or words at st false = signs words at st ∙ made {B = Tree × ℕ} (constant_at words at 22) (λ p. (Number p.0, p.1)) (behind words st)
+frame_or words at st false = signs words at st ∙ made {B = Tree × ℕ} (constant_at words at 22) (λ p. (Number p.0, p.1)) (following words st)
 
 pub frame_values : (words : WordsView) (at : ℕ) (st : Stack) → run_at words at (FrameValue ∷ st) ≡ follow (frame_value words at) (λ p. run_at words p.1 st)
 unfolding want frame_value
@@ -272,7 +272,7 @@ angle_value : (words : WordsView) (at : ℕ) (st : Stack) →
     run_at words at (Assigns false ∷ start false ∷ st) ≡ follow (◌>>=◌ {B = Option Tree × ℕ} (assign_at words at 22) (λ n. expression_at words n >>= λ p. Ok (Some p.0, p.1))) (λ p. run_at words p.1 st)
 angle_value words at st =
     assigns words at false (start false ∷ st)
-    ∙ chain _ _ _ _ (λ (n : ℕ). expressions words n st ∙ made {B = Option Tree × ℕ} (expression_at words n) (λ p. (Some p.0, p.1)) (behind words st))
+    ∙ chain _ _ _ _ (λ (n : ℕ). expressions words n st ∙ made {B = Option Tree × ℕ} (expression_at words n) (λ p. (Some p.0, p.1)) (following words st))
 
 angles : (words : WordsView) (at : ℕ) (st : Stack) → run_at words at (Angle ∷ st) ≡ follow (angle_at words at) (λ p. run_at words p.1 st)
 unfolding want angle_at is_keyword
@@ -342,13 +342,13 @@ value_list words at =
     list_goes {A = OperandView} words (λ before. value_argument_at words) (λ ys. start false ∷ MoreValues ∷ []) (λ p. run_at words p.1 []) (values_within words)
     (λ (before : List OperandView) (n : ℕ). value_one words before n) at
 
-arguments_behind : (words : WordsView) (which : CoordWord) (at : ℕ) →
-    run_at words at (start false ∷ MoreValues ∷ []) ≡ follow (list_at (λ before. value_argument_at words) words at >>= λ p. alone words p.1 (Coord which p.0)) (λ s. None)
-arguments_behind words which at = value_list words at ∙ chain _ _ _ _ (λ (p : List OperandView × ℕ). alone_ends words p.1 (Coord which p.0))
+arguments_after : (words : WordsView) (which : CoordWord) (at : ℕ) →
+    run_at words at (start false ∷ MoreValues ∷ []) ≡ follow (list_at (λ before. value_argument_at words) words at >>= λ p. statement_alone words p.1 (Coord which p.0)) (λ s. None)
+arguments_after words which at = value_list words at ∙ chain _ _ _ _ (λ (p : List OperandView × ℕ). alone_ends words p.1 (Coord which p.0))
 
 pub argument_forms : (words : WordsView) (which : CoordWord) (at : ℕ) → run_at words at (Opens false ∷ start false ∷ MoreValues ∷ []) ≡ follow (arguments_form words argument.Value which at) (λ s. None)
 unfolding arguments_form
-argument_forms words which at = opens words at false (start false ∷ MoreValues ∷ []) ∙ chain _ _ _ _ (λ (n : ℕ). arguments_behind words which n)
+argument_forms words which at = opens words at false (start false ∷ MoreValues ∷ []) ∙ chain _ _ _ _ (λ (n : ℕ). arguments_after words which n)
 
 -- axes as arguments
 digits_end : (words : WordsView) (at : ℕ) (st : Stack) →
@@ -452,7 +452,7 @@ unfolding opened_value
 opened_values words at st =
     opens words at false (start false ∷ Commas ∷ st)
     ∙ chain _ _ _ _ (λ (n : ℕ). expressions words n (Commas ∷ st)
-    ∙ chain _ _ _ _ (λ (p : Tree × ℕ). commas words p.1 st ∙ made {B = OperandView × ℕ} (comma_at words p.1) (λ m. (Value p.0, m)) (behind words st)))
+    ∙ chain _ _ _ _ (λ (p : Tree × ℕ). commas words p.1 st ∙ made {B = OperandView × ℕ} (comma_at words p.1) (λ m. (Value p.0, m)) (following words st)))
 
 pub cprot_forms : (words : WordsView) (which : CoordWord) (at : ℕ) →
     run_at words at (Opens false ∷ start false ∷ Commas ∷ start false ∷ Closes false ∷ []) ≡ follow (cprot_form words which at) (λ s. None)
@@ -464,8 +464,8 @@ cprot_forms words which at =
     ∙ chain _ _ _ _ (λ (n : ℕ). alone_ends words n (Coord which (z.0 ∷ Value s.0 ∷ [])))))
 
 quoted_case : (words : WordsView) (at : ℕ) (st : Stack) (p : Piece) (f : List ℕ → Option ℕ) → ((text : List ℕ) → run_at words (at + 1) st ≡ f text) →
-    after words at (quoted_want p) st ≡ follow (cond (is_text p) (Ok (unquoted (text_at words at))) (Err 22)) f
-quoted_case words at st piece.Text f h = h (unquoted (text_at words at))
+    after words at (quoted_want p) st ≡ follow (cond (is_text p) (Ok (text_within_quotes (text_at words at))) (Err 22)) f
+quoted_case words at st piece.Text f h = h (text_within_quotes (text_at words at))
 quoted_case words at st p f h = refl
 
 quotes : (words : WordsView) (at : ℕ) (st : Stack) (f : List ℕ → Option ℕ) → ((text : List ℕ) → run_at words (at + 1) st ≡ f text) → run_at words at (Quoted ∷ st) ≡ follow (quoted_at words at) f
@@ -474,8 +474,8 @@ quotes words at st f h = one_step words at Quoted st ∙ quoted_case words at st
 
 wait_case : (words : WordsView) (at : ℕ) (st : Stack) (p : Piece) (f : List ℕ → Option ℕ) → ((text : List ℕ) → run_at words (at + 1) st ≡ f text) →
     after words at (wait_want p (text_at words at)) st
-    ≡ follow (cond (is_text p) (Ok (unquoted (text_at words at))) (Err 22) >>= λ text. cond (is_wait text) (Ok text) (Err 22)) f
-wait_case words at st piece.Text f h = sure_case words at st (is_wait (unquoted (text_at words at))) (unquoted (text_at words at)) f (sym (h (unquoted (text_at words at))))
+    ≡ follow (cond (is_text p) (Ok (text_within_quotes (text_at words at))) (Err 22) >>= λ text. cond (is_wait text) (Ok text) (Err 22)) f
+wait_case words at st piece.Text f h = sure_case words at st (is_wait (text_within_quotes (text_at words at))) (text_within_quotes (text_at words at)) f (sym (h (text_within_quotes (text_at words at))))
 wait_case words at st p f h = refl
 
 waits : (words : WordsView) (at : ℕ) (st : Stack) (f : List ℕ → Option ℕ) → ((text : List ℕ) → run_at words (at + 1) st ≡ f text) → run_at words at (Wait ∷ st) ≡ follow (wait_at words at) f
@@ -483,7 +483,7 @@ unfolding want wait_at quoted_at
 waits words at st f h = one_step words at Wait st ∙ wait_case words at st (piece_at words at) f h
 
 wait_more : (words : WordsView) (q : Bool × ℕ) (b : Bool) →
-    cond b (run_at words q.1 (Wait ∷ Closes false ∷ [])) (run_at words q.1 []) ≡ follow (wait_behind words (b, q.1)) (λ p. run_at words p.1 [])
+    cond b (run_at words q.1 (Wait ∷ Closes false ∷ [])) (run_at words q.1 []) ≡ follow (wait_after words (b, q.1)) (λ p. run_at words p.1 [])
 wait_more words q true =
     waits words q.1 (Closes false ∷ []) (λ text. follow (◌>>=◌ {B = Option (List ℕ) × ℕ} (close_at words (q.1 + 1) 22) (λ n. Ok (Some text, n))) (λ p. run_at words p.1 []))
     (λ (text : List ℕ). closes words (q.1 + 1) false [] ∙ made {B = Option (List ℕ) × ℕ} (close_at words (q.1 + 1) 22) (λ n. (Some text, n)) (λ p. run_at words p.1 []))
@@ -500,9 +500,9 @@ lasts words at =
     separators words at InitLast (Wait ∷ Closes false ∷ []) (init_last words at)
     ∙ chain _ _ _ _ (λ (q : Bool × ℕ). wait_more words q q.0)
 
-init_behind : (words : WordsView) (which : CoordWord) (at : ℕ) (c : OperandView) (program : List ℕ) →
-    run_at words at (InitLast ∷ []) ≡ follow (last_of_init words at >>= λ more. alone words more.1 (Coord which (c ∷ Text program ∷ third more.0))) (λ s. None)
-init_behind words which at c program =
+init_after : (words : WordsView) (which : CoordWord) (at : ℕ) (c : OperandView) (program : List ℕ) →
+    run_at words at (InitLast ∷ []) ≡ follow (last_of_init words at >>= λ more. statement_alone words more.1 (Coord which (c ∷ Text program ∷ third more.0))) (λ s. None)
+init_after words which at c program =
     lasts words at ∙ chain _ _ _ _ (λ (m : Option (List ℕ) × ℕ). alone_ends words m.1 (Coord which (c ∷ Text program ∷ third m.0)))
 
 pub init_forms : (words : WordsView) (which : CoordWord) (at : ℕ) →
@@ -511,9 +511,9 @@ unfolding init_form
 init_forms words which at =
     opened_values words at (Quoted ∷ InitLast ∷ [])
     ∙ chain _ _ _ _ (λ (c : OperandView × ℕ).
-    quotes words c.1 (InitLast ∷ []) (λ program. follow (last_of_init words (c.1 + 1) >>= λ more. alone words more.1 (Coord which (c.0 ∷ Text program ∷ third more.0))) (λ s. None))
-    (λ (program : List ℕ). init_behind words which (c.1 + 1) c.0 program)
-    ∙ sym (follow_bind (quoted_at words c.1) (λ program. last_of_init words (c.1 + 1) >>= λ more. alone words more.1 (Coord which (c.0 ∷ Text program ∷ third more.0))) (λ s. None)))
+    quotes words c.1 (InitLast ∷ []) (λ program. follow (last_of_init words (c.1 + 1) >>= λ more. statement_alone words more.1 (Coord which (c.0 ∷ Text program ∷ third more.0))) (λ s. None))
+    (λ (program : List ℕ). init_after words which (c.1 + 1) c.0 program)
+    ∙ sym (follow_bind (quoted_at words c.1) (λ program. last_of_init words (c.1 + 1) >>= λ more. statement_alone words more.1 (Coord which (c.0 ∷ Text program ∷ third more.0))) (λ s. None)))
 
 -- messages
 text_case : (words : WordsView) (at : ℕ) (st : Stack) (p : Piece) → after words at (text_or_not p) st ≡ run_at words (cond (is_text p) (at + 1) at) st
@@ -541,19 +541,19 @@ open_found words at piece.Open e h = rw e refl
 open_found words at p e h = cc
 
 setms_or : (words : WordsView) (at : ℕ) (b : Bool) → is_open (piece_at words at) ≡ b →
-    cond b (run_at words (at + 1) (start false ∷ Closes false ∷ [])) (run_at words at []) ≡ follow (cond b (enclosed_at words at >>= λ end. alone words end Message) (alone words at Message)) (λ s. None)
+    cond b (run_at words (at + 1) (start false ∷ Closes false ∷ [])) (run_at words at []) ≡ follow (cond b (enclosed_at words at >>= λ end. statement_alone words end Message) (statement_alone words at Message)) (λ s. None)
 unfolding enclosed_at
 setms_or words at true h =
     rw (open_found words at (piece_at words at) refl h) (
     expressions words (at + 1) (Closes false ∷ [])
-    ∙ chain (expression_at words (at + 1)) (λ p. close_at words p.1 22) (λ n. follow (alone words n Message) (λ s. None)) _ (λ (p : Tree × ℕ). closes words p.1 false []
-    ∙ follow_same (close_at words p.1 22) (λ n. run_at words n []) (λ n. follow (alone words n Message) (λ s. None)) (λ (n : ℕ). alone_ends words n Message))
-    ∙ sym (follow_bind (expression_at words (at + 1) >>= λ p. close_at words p.1 22) (λ n. alone words n Message) (λ s. None)))
+    ∙ chain (expression_at words (at + 1)) (λ p. close_at words p.1 22) (λ n. follow (statement_alone words n Message) (λ s. None)) _ (λ (p : Tree × ℕ). closes words p.1 false []
+    ∙ follow_same (close_at words p.1 22) (λ n. run_at words n []) (λ n. follow (statement_alone words n Message) (λ s. None)) (λ (n : ℕ). alone_ends words n Message))
+    ∙ sym (follow_bind (expression_at words (at + 1) >>= λ p. close_at words p.1 22) (λ n. statement_alone words n Message) (λ s. None)))
 setms_or words at false h = alone_ends words at Message
 
-pub setms_forms : (words : WordsView) (at : ℕ) → run_at words at (SetmsBehind ∷ []) ≡ follow (setms_form words at) (λ s. None)
+pub setms_forms : (words : WordsView) (at : ℕ) → run_at words at (SetmsAfter ∷ []) ≡ follow (setms_form words at) (λ s. None)
 unfolding want setms_form
-setms_forms words at = one_step words at SetmsBehind [] ∙ setms_case words at (piece_at words at) ∙ setms_or words at (is_open (piece_at words at)) refl
+setms_forms words at = one_step words at SetmsAfter [] ∙ setms_case words at (piece_at words at) ∙ setms_or words at (is_open (piece_at words at)) refl
 
 abbrev GoesAhead : machine.Next → Type 0
 GoesAhead (machine.On state) = Unit {0}
@@ -579,7 +579,7 @@ sign_ahead binary.GreaterEqual = tt
 sign_ahead binary.LessEqual = tt
 
 begins_ahead : (s : Symbol) → GoesAhead (machine.step all_limits (machine.Wants [] Plain) s)
-unfolding machine.step machine.on_operand machine.opened
+unfolding machine.step machine.on_operand machine.next_in_bracket
 begins_ahead (symbol.Number z digits) = tt
 begins_ahead (symbol.Truth b) = tt
 begins_ahead (symbol.Operator op) = sign_ahead op
@@ -618,13 +618,13 @@ clears words at =
 
 clear_or : (words : WordsView) (which : CoordWord) (at : ℕ) (b : Bool) (r : Result ℕ ℕ) → ((n : ℕ) → r ≡ Ok n → n ≡ at + 1) → is_close (piece_at words (at + 1)) ≡ b →
     follow r (λ n. run_at words n (ClearArguments ∷ []))
-    ≡ follow (cond b (r >>= λ first. alone words (at + 2) (Coord which [])) (r >>= λ first. list_at (λ before. value_argument_at words) words first >>= λ p. alone words p.1 (Coord which p.0))) (λ s. None)
+    ≡ follow (cond b (r >>= λ first. statement_alone words (at + 2) (Coord which [])) (r >>= λ first. list_at (λ before. value_argument_at words) words first >>= λ p. statement_alone words p.1 (Coord which p.0))) (λ s. None)
 clear_or words which at true (Ok n) f h =
     let e : n ≡ at + 1 = f n refl in
     clears words n ∙ rw (e, h, two at) (alone_ends words (at + 2) (Coord which []))
 clear_or words which at false (Ok n) f h =
     let e : n ≡ at + 1 = f n refl in
-    clears words n ∙ rw (e, h) (arguments_behind words which (at + 1))
+    clears words n ∙ rw (e, h) (arguments_after words which (at + 1))
 clear_or words which at true (Err code) f h = refl
 clear_or words which at false (Err code) f h = refl
 

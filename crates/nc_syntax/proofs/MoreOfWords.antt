@@ -15,31 +15,31 @@ use Rattle.nc_blocks.specs.Pieces.{piece_at, text_at, is_assign, is_text}
 use Rattle.nc_blocks.specs.Marks.{word_code, assign_at}
 use Rattle.nc_blocks.specs.Reading.{value_at, after_sign, constant_at}
 use Rattle.nc_blocks.specs.AxisNames.{is_axis_letter, is_digits_piece, has_digits, has_axis_name, has_axis_word}
-use Rattle.nc_blocks.specs.Texts.{unquoted}
+use Rattle.nc_blocks.specs.Texts.{text_within_quotes}
 use Rattle.nc_blocks.specs.Wording.{assignment_at, g_at, assigned_at, bracketed_at, is_open_bracket, group_word, measured_word, letter_word, axis_word_at, slot_word_at, other_axis_at, plain_aux, aux_value, has_digits_assign, numbered_aux, aux_of, aux_at, bracket_at, spindle_at, is_spindle_word, name_code, name_word, is_slot_letter, is_centre_letter, is_aux_letter, lettered_word, word_of_piece, word_at}
 use Rattle.nc_blocks.specs.Statement.{WordView, Aux, Radius, OperandView, Value, Text}
 use Rattle.nc_syntax.specs.Wanted.{mark_at, Assigns, Parameter, GNumber, Measured, AfterCentre, AfterSlot, AfterDigits, AfterAxis, AfterAux, AfterAuxDigits, ValueOrText, Bracket, AWord, start, fail, Push, No, want, value_want, group_want, centre_want, slot_number, slot_want, then_assign, axis_digits, axis_want, aux_digits, aux_want, bracket_want, letter_want, name_want, word_want, Stack}
 use Rattle.nc_syntax.proofs.Wanted.{run_at, follow}
 use Rattle.nc_syntax.proofs.Stepping.{after, one_step}
 use Rattle.nc_syntax.proofs.Signs.{assigns, values}
-use Rattle.nc_syntax.proofs.Words.{chain, made, behind, assigned, bracketed, parameters, group_case, g_words, measured_words, centre_words, letter_words}
+use Rattle.nc_syntax.proofs.Words.{chain, made, following, assigned, bracketed, parameters, group_case, g_words, measured_words, centre_words, letter_words}
 
--- behind the digits of a slot letter: = or the next word
+-- after the digits of a slot letter: = or the next word
 digits_case : (words : WordsView) (address : List ℕ) (at : ℕ) (st : Stack) (p : Piece) →
     after words at (then_assign (Measured ∷ []) p) st ≡ cond (is_assign p) (follow (measured_word words address (at + 1)) (λ p. run_at words p.1 st)) (run_at words at st)
 digits_case words address at st piece.Assign = measured_words words address (at + 1) st
 digits_case words address at st p = refl
 
-behind_digits : (words : WordsView) (address : List ℕ) (at : ℕ) (st : Stack) →
+after_digits : (words : WordsView) (address : List ℕ) (at : ℕ) (st : Stack) →
     run_at words at (AfterDigits ∷ st) ≡ cond (is_assign (piece_at words at)) (follow (measured_word words address (at + 1)) (λ p. run_at words p.1 st)) (run_at words at st)
 unfolding want
-behind_digits words address at st = one_step words at AfterDigits st ∙ digits_case words address at st (piece_at words at)
+after_digits words address at st = one_step words at AfterDigits st ∙ digits_case words address at st (piece_at words at)
 
 follow_cond : {A : Type 0} (b : Bool) (r q : Result A ℕ) (f : A → Option ℕ) → follow (cond b r q) f ≡ cond b (follow r f) (follow q f)
 follow_cond true r q f = refl
 follow_cond false r q f = refl
 
--- behind X, Y and Z
+-- after X, Y and Z
 letter_number : (words : WordsView) (letter at : ℕ) (st : Stack) (z : ℤ) → piece_at words at ≡ piece.Number z →
     run_at words (at + 1) st ≡ follow (letter_word words letter at) (λ p. run_at words p.1 st)
 unfolding letter_word constant_at after_sign
@@ -51,7 +51,7 @@ slot_digits : (words : WordsView) (letter at : ℕ) (address : List ℕ) (st : S
 slot_digits words letter at address st true e =
     let a = is_assign (piece_at words (at + 1)) in
     let k : WordView × ℕ → Option ℕ = λ p. run_at words p.1 st in
-    behind_digits words address (at + 1) st
+    after_digits words address (at + 1) st
     ∙ ap (λ (o : Option ℕ). cond a (follow (measured_word words address (at + 1 + 1)) k) o) e
     ∙ sym (follow_cond a (measured_word words address (at + 1 + 1)) (letter_word words letter at) k)
 slot_digits words letter at address st false e = e
@@ -62,11 +62,11 @@ slot_case : (words : WordsView) (letter at : ℕ) (address : List ℕ) (st : Sta
 slot_case words letter at address st (piece.Number z) e = slot_digits words letter at address st (is_digits (text_at words at)) (letter_number words letter at st z e)
 slot_case words letter at address st p e = subst (λ (q : Piece). after words at (centre_want q (fail true (mark_at words at))) st ≡ follow (letter_word words letter at) (λ p. run_at words p.1 st)) e (centre_words words letter at st)
 
-slot_behind : (words : WordsView) (letter at : ℕ) (address : List ℕ) (st : Stack) →
+slot_after : (words : WordsView) (letter at : ℕ) (address : List ℕ) (st : Stack) →
     run_at words at (AfterSlot ∷ st)
     ≡ follow (cond (has_digits words at && is_assign (piece_at words (at + 1))) (measured_word words address (at + 1 + 1)) (letter_word words letter at)) (λ p. run_at words p.1 st)
 unfolding want has_digits
-slot_behind words letter at address st = one_step words at AfterSlot st ∙ slot_case words letter at address st (piece_at words at) refl
+slot_after words letter at address st = one_step words at AfterSlot st ∙ slot_case words letter at address st (piece_at words at) refl
 
 two : (at : ℕ) → at + 1 + 1 ≡ at + 2
 two at = omega arith
@@ -78,20 +78,20 @@ pub slot_words : (words : WordsView) (letter at : ℕ) (st : Stack) → piece_at
     run_at words (at + 1) (AfterSlot ∷ st) ≡ follow (slot_word_at words letter at) (λ p. run_at words p.1 st)
 unfolding slot_word_at has_axis_word has_axis_name axis_word_at
 slot_words words letter at st e axis =
-    slot_behind words letter (at + 1) (letter ∷ text_at words (at + 1)) st ∙ rw (e, axis, two at, three at) refl
+    slot_after words letter (at + 1) (letter ∷ text_at words (at + 1)) st ∙ rw (e, axis, two at, three at) refl
 
--- behind another letter of an axis
-axis_behind : (words : WordsView) (at : ℕ) (address : List ℕ) (st : Stack) (p : Piece) → is_assign p ≡ is_assign (piece_at words at) → piece_at words at ≡ p →
+-- after another letter of an axis
+axis_after : (words : WordsView) (at : ℕ) (address : List ℕ) (st : Stack) (p : Piece) → is_assign p ≡ is_assign (piece_at words at) → piece_at words at ≡ p →
     run_at words at (Assigns true ∷ Measured ∷ st)
     ≡ follow (cond (is_assign p) (measured_word words address (at + 1)) (Err (word_code words at))) (λ p. run_at words p.1 st)
 unfolding assign_at word_code
-axis_behind words at address st piece.Assign h e = assigns words at true (Measured ∷ st) ∙ rw e (measured_words words address (at + 1) st)
-axis_behind words at address st p h e = assigns words at true (Measured ∷ st) ∙ rw e refl
+axis_after words at address st piece.Assign h e = assigns words at true (Measured ∷ st) ∙ rw e (measured_words words address (at + 1) st)
+axis_after words at address st p h e = assigns words at true (Measured ∷ st) ∙ rw e refl
 
 axis_digits_case : (words : WordsView) (at : ℕ) (address : List ℕ) (st : Stack) (d : Bool) →
     after words at (axis_digits d) st
     ≡ follow (cond (d && is_assign (piece_at words (at + 1))) (measured_word words address (at + 1 + 1)) (cond d (Err (word_code words (at + 1))) (Err 27))) (λ p. run_at words p.1 st)
-axis_digits_case words at address st true = axis_behind words (at + 1) address st (piece_at words (at + 1)) refl refl
+axis_digits_case words at address st true = axis_after words (at + 1) address st (piece_at words (at + 1)) refl refl
 axis_digits_case words at address st false = refl
 
 axis_case : (words : WordsView) (at : ℕ) (address : List ℕ) (st : Stack) (p : Piece) →
@@ -122,9 +122,9 @@ start_value words at st = sym (one_step words at (start true) st) ∙ values wor
 
 text_or : (words : WordsView) (at : ℕ) (st : Stack) (b : Bool) →
     after words at (cond b (Push []) (value_want true (machine.Wants [] Plain) (mark_at words at) (mark_at words at).symbol)) st
-    ≡ follow {A = OperandView × ℕ} (cond b (Ok (Text (unquoted (text_at words at)), at + 1)) (value_at words at >>= λ p. Ok (Value p.0, p.1))) (λ p. run_at words p.1 st)
+    ≡ follow {A = OperandView × ℕ} (cond b (Ok (Text (text_within_quotes (text_at words at)), at + 1)) (value_at words at >>= λ p. Ok (Value p.0, p.1))) (λ p. run_at words p.1 st)
 text_or words at st true = refl
-text_or words at st false = start_value words at st ∙ made {B = OperandView × ℕ} (value_at words at) (λ p. (Value p.0, p.1)) (behind words st)
+text_or words at st false = start_value words at st ∙ made {B = OperandView × ℕ} (value_at words at) (λ p. (Value p.0, p.1)) (following words st)
 
 pub operands : (words : WordsView) (at : ℕ) (st : Stack) → run_at words at (ValueOrText ∷ st) ≡ follow (aux_value words at) (λ p. run_at words p.1 st)
 unfolding want aux_value
@@ -134,7 +134,7 @@ extended_case : (words : WordsView) (letter at : ℕ) (z : ℤ) (address : List 
     after words (at + 1) (then_assign (start true ∷ []) p) st
     ≡ follow {A = WordView × ℕ} (cond (is_assign p) (value_at words (at + 1 + 1) >>= λ p. Ok (Aux address None (Value p.0), p.1)) (Ok (plain_aux letter z, at + 1))) (λ p. run_at words p.1 st)
 extended_case words letter at z address st piece.Assign e =
-    values words (at + 1 + 1) st ∙ made {B = WordView × ℕ} (value_at words (at + 1 + 1)) (λ p. (Aux address None (Value p.0), p.1)) (behind words st)
+    values words (at + 1 + 1) st ∙ made {B = WordView × ℕ} (value_at words (at + 1 + 1)) (λ p. (Aux address None (Value p.0), p.1)) (following words st)
 extended_case words letter at z address st p e = refl
 
 aux_digits_case : (words : WordsView) (letter at : ℕ) (z : ℤ) (address : List ℕ) (st : Stack) (d : Bool) →
@@ -151,7 +151,7 @@ unfolding numbered_aux has_digits_assign has_digits word_code
 aux_case words letter at st (piece.Number z) e =
     aux_digits_case words letter at z (letter ∷ text_at words at) st (is_digits (text_at words at)) ∙ rw (e, two at) refl
 aux_case words letter at st piece.Assign e =
-    operands words (at + 1) st ∙ made {B = WordView × ℕ} (aux_value words (at + 1)) (λ p. (Aux (letter ∷ []) None p.0, p.1)) (behind words st)
+    operands words (at + 1) st ∙ made {B = WordView × ℕ} (aux_value words (at + 1)) (λ p. (Aux (letter ∷ []) None p.0, p.1)) (following words st)
 aux_case words letter at st p e = refl
 
 pub aux_words : (words : WordsView) (letter at : ℕ) (st : Stack) → run_at words at (AfterAux ∷ st) ≡ follow (aux_at words letter at) (λ p. run_at words p.1 st)
@@ -162,7 +162,7 @@ aux_words words letter at st = one_step words at AfterAux st ∙ aux_case words 
 bracket_case : (words : WordsView) (at : ℕ) (st : Stack) (p : Piece) →
     after words at (bracket_want p) st
     ≡ follow (cond (is_open_bracket p) (◌>>=◌ {B = Option Tree × ℕ} (bracketed_at words at) (λ q. Ok (Some q.0, q.1))) (Ok (None, at))) (λ p. run_at words p.1 st)
-bracket_case words at st piece.OpenBracket = bracketed words at st ∙ made {B = Option Tree × ℕ} (bracketed_at words at) (λ q. (Some q.0, q.1)) (behind words st)
+bracket_case words at st piece.OpenBracket = bracketed words at st ∙ made {B = Option Tree × ℕ} (bracketed_at words at) (λ q. (Some q.0, q.1)) (following words st)
 bracket_case words at st p = refl
 
 pub brackets : (words : WordsView) (at : ℕ) (st : Stack) → run_at words at (Bracket ∷ st) ≡ follow (bracket_at words at) (λ p. run_at words p.1 st)
@@ -175,13 +175,13 @@ unfolding spindle_at
 spindle_words words text at st =
     brackets words at (Assigns true ∷ start true ∷ st)
     ∙ chain _ _ _ _ (λ (i : Option Tree × ℕ). assigned words i.1 st
-    ∙ made {B = WordView × ℕ} (assigned_at words i.1) (λ p. (Aux (upper text) i.0 (Value p.0), p.1)) (behind words st))
+    ∙ made {B = WordView × ℕ} (assigned_at words i.1) (λ p. (Aux (upper text) i.0 (Value p.0), p.1)) (following words st))
 
 -- names
 name_case : (words : WordsView) (text : List ℕ) (at : ℕ) (st : Stack) (a b : Bool) →
     after words at (cond a (Push (Assigns true ∷ start true ∷ [])) (cond b (Push (Bracket ∷ Assigns true ∷ start true ∷ [])) (group_want (word_by_name text) (name_code text)))) st
     ≡ follow (cond a (assigned_at words (at + 1) >>= λ p. Ok (Radius p.0, p.1)) (cond b (spindle_at words text (at + 1)) (group_word (word_by_name text) (at + 1) (name_code text)))) (λ p. run_at words p.1 st)
-name_case words text at st true b = assigned words (at + 1) st ∙ made {B = WordView × ℕ} (assigned_at words (at + 1)) (λ p. (Radius p.0, p.1)) (behind words st)
+name_case words text at st true b = assigned words (at + 1) st ∙ made {B = WordView × ℕ} (assigned_at words (at + 1)) (λ p. (Radius p.0, p.1)) (following words st)
 name_case words text at st false true = spindle_words words text (at + 1) st
 name_case words text at st false false = group_case words at (name_code text) st (word_by_name text)
 

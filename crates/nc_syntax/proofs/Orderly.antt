@@ -13,7 +13,7 @@ use Rattle.nc_expressions.specs.declared.stack.Bracket.TheVariants.{Parentheses,
 use Rattle.nc_expressions.specs.declared.trees.BinaryOp.{BinaryOp}
 use Rattle.nc_expressions.specs.declared.trees.BinaryOp.TheVariants as binary
 use Rattle.nc_expressions.specs.declared.trees.UnaryOp.{UnaryOp}
-use Rattle.nc_expressions.specs.Levels.{rank, kind, together, clash}
+use Rattle.nc_expressions.specs.Levels.{rank, kind, joint_level, clash}
 use Rattle.nc_expressions.specs.Limits.{all_limits, has_room}
 use Rattle.nc_expressions.specs.Machine as machine
 use Rattle.nc_expressions.specs.Symbols.{truth, is_word, index_of, is_digits}
@@ -22,7 +22,7 @@ use Rattle.nc_blocks.specs.declared.blocks.Way.{Way}
 use Rattle.nc_blocks.specs.declared.pieces.Piece.{Piece}
 use Rattle.nc_blocks.specs.declared.pieces.Piece.TheVariants as piece
 use Rattle.nc_blocks.specs.Pieces.{is_name, is_text, is_assign}
-use Rattle.nc_blocks.specs.Texts.{unquoted}
+use Rattle.nc_blocks.specs.Texts.{text_within_quotes}
 use Rattle.nc_blocks.specs.AxisNames.{is_axis_letter, is_digits_piece}
 use Rattle.nc_blocks.specs.Wording.{is_open_bracket, is_slot_letter, is_centre_letter, is_aux_letter, is_spindle_word, name_code}
 use Rattle.nc_syntax.specs.Jumps.{way_of_piece, is_n}
@@ -59,14 +59,14 @@ FreeItem Free (wanted.Keyword word) = IsKey word
 FreeItem Free wanted.Commas = Unit {0}
 FreeItem Free wanted.ATarget = Unit {0}
 FreeItem Free wanted.BlockNumber = Unit {0}
-FreeItem Free wanted.IfBehind = Unit {0}
+FreeItem Free wanted.IfAfter = Unit {0}
 FreeItem Free wanted.AJump = Unit {0}
 FreeItem Free wanted.Signed = Unit {0}
 FreeItem Free wanted.MorePairs = Unit {0}
 FreeItem Free wanted.CounterLetter = Unit {0}
 FreeItem Free wanted.Counter = Unit {0}
 FreeItem Free wanted.Times = Unit {0}
-FreeItem Free wanted.RepeatBehind = Unit {0}
+FreeItem Free wanted.RepeatAfter = Unit {0}
 FreeItem Free wanted.ALabel = Unit {0}
 FreeItem Free wanted.Parentheses = Unit {0}
 FreeItem Free wanted.CloseOfCall = Unit {0}
@@ -87,7 +87,7 @@ FreeItem Free wanted.Quoted = Unit {0}
 FreeItem Free wanted.InitLast = Unit {0}
 FreeItem Free wanted.Wait = Unit {0}
 FreeItem Free wanted.TextOrNot = Unit {0}
-FreeItem Free wanted.SetmsBehind = Unit {0}
+FreeItem Free wanted.SetmsAfter = Unit {0}
 FreeItem Free wanted.AfterL = Unit {0}
 FreeItem Free (wanted.Anything closed) = ⊥
 
@@ -133,14 +133,14 @@ free_item s (wanted.Keyword word) st h = h
 free_item s wanted.Commas st h = h
 free_item s wanted.ATarget st h = h
 free_item s wanted.BlockNumber st h = h
-free_item s wanted.IfBehind st h = h
+free_item s wanted.IfAfter st h = h
 free_item s wanted.AJump st h = h
 free_item s wanted.Signed st h = h
 free_item s wanted.MorePairs st h = h
 free_item s wanted.CounterLetter st h = h
 free_item s wanted.Counter st h = h
 free_item s wanted.Times st h = h
-free_item s wanted.RepeatBehind st h = h
+free_item s wanted.RepeatAfter st h = h
 free_item s wanted.ALabel st h = h
 free_item s wanted.Parentheses st h = h
 free_item s wanted.CloseOfCall st h = h
@@ -161,7 +161,7 @@ free_item s wanted.Quoted st h = h
 free_item s wanted.InitLast st h = h
 free_item s wanted.Wait st h = h
 free_item s wanted.TextOrNot st h = h
-free_item s wanted.SetmsBehind st h = h
+free_item s wanted.SetmsAfter st h = h
 free_item s wanted.AfterL st h = h
 free_item s (wanted.Anything closed) st h = absurd h
 
@@ -194,7 +194,7 @@ joined r t (machine.Left a op ∷ st) n h =
     good_or (nat_le r (rank op)) (machine.join r (Binary op a t) st) (t, machine.Left a op ∷ st) (joined r (Binary op a t) st h.0 h.1) (tt, h)
 joined r t (machine.Opened b lv ∷ st) n h = (tt, h)
 
-ended : (t : Tree) (lv : Level) (st : machine.Stack) → TidyStack st → TidyState (machine.ended lv (machine.attach t st))
+ended : (t : Tree) (lv : Level) (st : machine.Stack) → TidyStack st → TidyState (machine.state_with_tree lv (machine.attach t st))
 ended t lv st h = let a = attached t st h in (a.0, a.1)
 
 with_left : (s : Option Symbol) (o : Option Level) (code : ℕ) (op : BinaryOp) (p : Tree × machine.Stack) → Good p → TidyNext s (machine.with_left o code op p)
@@ -213,8 +213,8 @@ opened_or : (s : Option Symbol) (b : Bool) (k : Bracket) (st : machine.Stack) (l
 opened_or s true k st lv h = h
 opened_or s false k st lv h = tt
 
-opened : (s : Option Symbol) (k : Bracket) (st : machine.Stack) (lv : Level) → TidyStack st → TidyNext s (machine.opened all_limits k st lv)
-unfolding machine.opened
+opened : (s : Option Symbol) (k : Bracket) (st : machine.Stack) (lv : Level) → TidyStack st → TidyNext s (machine.next_in_bracket all_limits k st lv)
+unfolding machine.next_in_bracket
 opened s k st lv h = opened_or s (has_room all_limits (machine.depth st)) k st lv h
 
 sign : (s : Option Symbol) (op : BinaryOp) (st : machine.Stack) (lv : Level) → TidyStack st → TidyNext s (machine.on_sign op st lv)
@@ -308,7 +308,7 @@ step_tidy (machine.WantsArgument f st lv) symbol.Exponent h = tt
 step_tidy (machine.WantsArgument f st lv) symbol.Other h = tt
 step_tidy (machine.Has t st lv) (symbol.Number z digits) h = stops (Some (symbol.Number z digits)) (machine.join 0 t st)
 step_tidy (machine.Has t st lv) (symbol.Truth b) h = stops (Some (symbol.Truth b)) (machine.join 0 t st)
-step_tidy (machine.Has t st lv) (symbol.Operator op) h = with_left (Some (symbol.Operator op)) (together lv (kind all_limits op)) (clash lv (kind all_limits op)) op (machine.join (rank op) t st) (joined (rank op) t st h.0 h.1)
+step_tidy (machine.Has t st lv) (symbol.Operator op) h = with_left (Some (symbol.Operator op)) (joint_level lv (kind all_limits op)) (clash lv (kind all_limits op)) op (machine.join (rank op) t st) (joined (rank op) t st h.0 h.1)
 step_tidy (machine.Has t st lv) symbol.Not h = stops (Some symbol.Not) (machine.join 0 t st)
 step_tidy (machine.Has t st lv) (symbol.Function f) h = stops (Some (symbol.Function f)) (machine.join 0 t st)
 step_tidy (machine.Has t st lv) symbol.Letter h = stops (Some symbol.Letter) (machine.join 0 t st)
@@ -468,7 +468,7 @@ sure_free : (s : Option Symbol) (b : Bool) → FreeDo s (wanted.only_if b)
 sure_free s true = tt
 sure_free s false = tt
 
-perhaps_free : (s : Option Symbol) (b : Bool) (ws : Stack) → Free s ws → FreeDo s (wanted.perhaps b ws)
+perhaps_free : (s : Option Symbol) (b : Bool) (ws : Stack) → Free s ws → FreeDo s (wanted.push_if b ws)
 perhaps_free s true ws h = h
 perhaps_free s false ws h = tt
 
@@ -557,7 +557,7 @@ quoted_free s piece.Text = tt
 quoted_free s p = tt
 
 wait_free : (s : Option Symbol) (p : Piece) (text : List ℕ) → FreeDo s (wanted.wait_want p text)
-wait_free s piece.Text text = sure_free s (is_wait (unquoted text))
+wait_free s piece.Text text = sure_free s (is_wait (text_within_quotes text))
 wait_free s p text = tt
 
 setms_free : (s : Option Symbol) (p : Piece) → FreeDo s (wanted.setms_want p)
@@ -597,14 +597,14 @@ want_free (wanted.Keyword word) m h = sure_free m.symbol (wanted.is_keyword_mark
 want_free wanted.Commas m h = comma_free m.symbol m.piece
 want_free wanted.ATarget m h = target_free m.symbol m.piece
 want_free wanted.BlockNumber m h = block_number_free m.symbol m.piece m.text
-want_free wanted.IfBehind m h = if_free m.symbol (way_of_piece m.piece m.text)
+want_free wanted.IfAfter m h = if_free m.symbol (way_of_piece m.piece m.text)
 want_free wanted.AJump m h = jump_free m.symbol (way_of_piece m.piece m.text)
 want_free wanted.Signed m h = signed_free m.symbol false m.piece 22
 want_free wanted.MorePairs m h = pairs_free m.symbol (wanted.is_keyword_mark m (codes "DEFAULT")) m.piece
 want_free wanted.CounterLetter m h = sure_free m.symbol (is_letter m.piece 82)
 want_free wanted.Counter m h = counter_free m.symbol m.piece m.text
 want_free wanted.Times m h = perhaps_free m.symbol (is_letter m.piece 80) (wanted.Assigns false ∷ wanted.start false ∷ []) (tt, (tt, tt))
-want_free wanted.RepeatBehind m h = perhaps_free m.symbol (is_name m.piece) (wanted.Times ∷ []) (tt, tt)
+want_free wanted.RepeatAfter m h = perhaps_free m.symbol (is_name m.piece) (wanted.Times ∷ []) (tt, tt)
 want_free wanted.ALabel m h = label_free m.symbol m.piece
 want_free wanted.Parentheses m h = perhaps_free m.symbol (is_open m.piece) (wanted.CloseOfCall ∷ []) (tt, tt)
 want_free wanted.CloseOfCall m h = call_close_free m.symbol m.piece m.closes
@@ -625,7 +625,7 @@ want_free wanted.Quoted m h = quoted_free m.symbol m.piece
 want_free wanted.InitLast m h = separator_free m.symbol (wanted.Wait ∷ wanted.Closes false ∷ []) m.piece (tt, (tt, tt))
 want_free wanted.Wait m h = wait_free m.symbol m.piece m.text
 want_free wanted.TextOrNot m h = text_or_free m.symbol m.piece
-want_free wanted.SetmsBehind m h = setms_free m.symbol m.piece
+want_free wanted.SetmsAfter m h = setms_free m.symbol m.piece
 want_free wanted.AfterL m h = call_free m.symbol m.piece m.text
 want_free (wanted.Anything closed) m h = absurd h
 
@@ -702,14 +702,14 @@ want_tidy (wanted.Keyword word) m st h t = free_do m.symbol (want (wanted.Keywor
 want_tidy wanted.Commas m st h t = free_do m.symbol (want wanted.Commas m) st (want_free wanted.Commas m h) t
 want_tidy wanted.ATarget m st h t = free_do m.symbol (want wanted.ATarget m) st (want_free wanted.ATarget m h) t
 want_tidy wanted.BlockNumber m st h t = free_do m.symbol (want wanted.BlockNumber m) st (want_free wanted.BlockNumber m h) t
-want_tidy wanted.IfBehind m st h t = free_do m.symbol (want wanted.IfBehind m) st (want_free wanted.IfBehind m h) t
+want_tidy wanted.IfAfter m st h t = free_do m.symbol (want wanted.IfAfter m) st (want_free wanted.IfAfter m h) t
 want_tidy wanted.AJump m st h t = free_do m.symbol (want wanted.AJump m) st (want_free wanted.AJump m h) t
 want_tidy wanted.Signed m st h t = free_do m.symbol (want wanted.Signed m) st (want_free wanted.Signed m h) t
 want_tidy wanted.MorePairs m st h t = free_do m.symbol (want wanted.MorePairs m) st (want_free wanted.MorePairs m h) t
 want_tidy wanted.CounterLetter m st h t = free_do m.symbol (want wanted.CounterLetter m) st (want_free wanted.CounterLetter m h) t
 want_tidy wanted.Counter m st h t = free_do m.symbol (want wanted.Counter m) st (want_free wanted.Counter m h) t
 want_tidy wanted.Times m st h t = free_do m.symbol (want wanted.Times m) st (want_free wanted.Times m h) t
-want_tidy wanted.RepeatBehind m st h t = free_do m.symbol (want wanted.RepeatBehind m) st (want_free wanted.RepeatBehind m h) t
+want_tidy wanted.RepeatAfter m st h t = free_do m.symbol (want wanted.RepeatAfter m) st (want_free wanted.RepeatAfter m h) t
 want_tidy wanted.ALabel m st h t = free_do m.symbol (want wanted.ALabel m) st (want_free wanted.ALabel m h) t
 want_tidy wanted.Parentheses m st h t = free_do m.symbol (want wanted.Parentheses m) st (want_free wanted.Parentheses m h) t
 want_tidy wanted.CloseOfCall m st h t = free_do m.symbol (want wanted.CloseOfCall m) st (want_free wanted.CloseOfCall m h) t
@@ -732,7 +732,7 @@ want_tidy wanted.Quoted m st h t = free_do m.symbol (want wanted.Quoted m) st (w
 want_tidy wanted.InitLast m st h t = free_do m.symbol (want wanted.InitLast m) st (want_free wanted.InitLast m h) t
 want_tidy wanted.Wait m st h t = free_do m.symbol (want wanted.Wait m) st (want_free wanted.Wait m h) t
 want_tidy wanted.TextOrNot m st h t = free_do m.symbol (want wanted.TextOrNot m) st (want_free wanted.TextOrNot m h) t
-want_tidy wanted.SetmsBehind m st h t = free_do m.symbol (want wanted.SetmsBehind m) st (want_free wanted.SetmsBehind m h) t
+want_tidy wanted.SetmsAfter m st h t = free_do m.symbol (want wanted.SetmsAfter m) st (want_free wanted.SetmsAfter m h) t
 want_tidy wanted.AfterL m st h t = free_do m.symbol (want wanted.AfterL m) st (want_free wanted.AfterL m h) t
 want_tidy (wanted.Anything closed) m [] h t = anything_do closed m m.piece
 want_tidy (wanted.Anything closed) m (x ∷ st) h t = absurd h

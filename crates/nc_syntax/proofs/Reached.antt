@@ -19,7 +19,7 @@ use Rattle.nc_syntax.specs.Structures.{is_letter}
 use Rattle.nc_syntax.specs.Bodies.{is_number, form_of}
 use Rattle.nc_syntax.specs.Blocks.{is_slash, is_colon}
 use Rattle.nc_syntax.specs.Wanted.{Mark, mark_at, Do, Push, Pass, No, AWord, MoreWords, Stack, Next, On, Done, Refuse, on_mark, name_want}
-use Rattle.nc_syntax.specs.Forms.{control_stack, coordination_stack, form_stack, Beginning, Goes, Stops, word_beginning, plain_beginning, form_beginning, beginning, Head, AtStart, BehindSlash, BehindN, AtLabel, Named, AtBody, Within, HeadNext, HeadOn, Over, Refused, inside, beginning_next, beginning_more, letter_body, body_step, label_step, number_step, block_number_step, after_n, after_slash, start_step, named_step, head_step, state_of, state_next, state_at}
+use Rattle.nc_syntax.specs.Forms.{control_stack, coordination_stack, form_stack, Beginning, Goes, Stops, word_beginning, plain_beginning, form_beginning, beginning, Head, AtStart, AfterSlash, AfterN, AtLabel, Named, AtBody, Within, HeadNext, HeadOn, Over, Refused, body_next, beginning_next, beginning_more, letter_body, body_step, label_step, number_step, block_number_step, after_n, after_slash, start_step, named_step, head_step, state_of, state_next, state_at}
 use Rattle.nc_syntax.proofs.Breaking.{state_is}
 use Rattle.nc_syntax.proofs.Going.{Tidy, Roomy}
 use Rattle.nc_syntax.proofs.Orderly.{FreeDo, name_free}
@@ -91,8 +91,8 @@ beginning_roomy text = option_roomy (form_of text) text
 -- what a token leaves of a line
 abbrev SettledHead : Head → Type 0
 SettledHead AtStart = Unit {0}
-SettledHead BehindSlash = Unit {0}
-SettledHead BehindN = Unit {0}
+SettledHead AfterSlash = Unit {0}
+SettledHead AfterN = Unit {0}
 SettledHead AtLabel = Unit {0}
 SettledHead (Named text) = Unit {0}
 SettledHead AtBody = Unit {0}
@@ -103,15 +103,15 @@ HeadLeaves s (HeadOn h) = SettledHead h × (RoomHead h ⊎ IsFunction s)
 HeadLeaves s Over = Unit {0}
 HeadLeaves s (Refused code) = Unit {0}
 
-inside_leaves : (s : Option Symbol) (n : Next) → StepLeaves s n → HeadLeaves s (inside n)
+inside_leaves : (s : Option Symbol) (n : Next) → StepLeaves s n → HeadLeaves s (body_next n)
 inside_leaves s (On st) h = h
 inside_leaves s Done h = tt
 inside_leaves s (Refuse code) h = tt
 
-stack_leaves : (st : Stack) (m : Mark) → Tidy st → Settled st → HeadLeaves m.symbol (inside (on_mark st m))
+stack_leaves : (st : Stack) (m : Mark) → Tidy st → Settled st → HeadLeaves m.symbol (body_next (on_mark st m))
 stack_leaves st m t h = inside_leaves m.symbol (on_mark st m) (mark_leaves st m t h)
 
-words_leave : (m : Mark) → HeadLeaves m.symbol (inside (on_mark (AWord ∷ MoreWords ∷ []) m))
+words_leave : (m : Mark) → HeadLeaves m.symbol (body_next (on_mark (AWord ∷ MoreWords ∷ []) m))
 words_leave m = stack_leaves (AWord ∷ MoreWords ∷ []) m (tt, (tt, tt)) (tt, tt)
 
 next_leaves : (s : Option Symbol) (b : Beginning) → RoomBeginning b → HeadLeaves s (beginning_next b)
@@ -163,8 +163,8 @@ named_leaves false text m = more_leaves (beginning text) m (begun_tidy text) (be
 head_leaves : (h : Head) (m : Mark) → TidyHead h → SettledHead h → HeadLeaves m.symbol (head_step h m)
 unfolding head_step
 head_leaves AtStart m t s = start_leaves (is_slash m.piece) m
-head_leaves BehindSlash m t s = slash_leaves (is_number m.piece) m
-head_leaves BehindN m t s = n_leaves m.symbol m.piece m.text
+head_leaves AfterSlash m t s = slash_leaves (is_number m.piece) m
+head_leaves AfterN m t s = n_leaves m.symbol m.piece m.text
 head_leaves AtLabel m t s = label_leaves m.piece m
 head_leaves (Named text) m t s = named_leaves (is_colon m.piece) text m
 head_leaves AtBody m t s = body_leaves m.piece m
@@ -188,7 +188,7 @@ reached_settled words zero = tt
 reached_settled words (suc at) = next_settled (state_at words at) (mark_at words at) (reached_tidy words at) (reached_settled words at)
 
 -- where a token goes on, what was wanted before could be given
-inside_lives : (n : Next) (h : Head) → inside n ≡ HeadOn h → Lives n
+inside_lives : (n : Next) (h : Head) → body_next n ≡ HeadOn h → Lives n
 inside_lives (On st) h e = tt
 inside_lives Done h e = cc
 inside_lives (Refuse code) h e = cc
@@ -196,8 +196,8 @@ inside_lives (Refuse code) h e = cc
 room_before : (h : Head) (m : Mark) (next : Head) → SettledHead h → head_step h m ≡ HeadOn next → RoomHead h
 unfolding head_step
 room_before AtStart m next s e = tt
-room_before BehindSlash m next s e = tt
-room_before BehindN m next s e = tt
+room_before AfterSlash m next s e = tt
+room_before AfterN m next s e = tt
 room_before AtLabel m next s e = tt
 room_before (Named text) m next s e = tt
 room_before AtBody m next s e = tt

@@ -9,7 +9,7 @@ use Rattle.block_scanner.specs.declared.Token.{Token}
 use Rattle.block_scanner.specs.Texts.{text_of}
 use Rattle.micro_units.specs.NumberText.{number_of}
 use Rattle.word_tables.specs.GroupWords.{small_whole}
-use Rattle.word_tables.specs.Refused.{refused_g, refused_whole, refused_value, refused_before, refused_behind, refused_kind, refused_word}
+use Rattle.word_tables.specs.Refused.{refused_g, refused_whole, refused_value, refused_before, refused_following, refused_kind, refused_word}
 use Rattle.word_tables.specs.RefusedNames.{refused_name}
 use Rattle.nc_blocks.specs.Refusals.{block_refusals, IsBlockRefusal}
 
@@ -54,16 +54,16 @@ unfolding refused_before
 before_named compensation Number text = value_named compensation (number_of text)
 before_named compensation one text = none
 
-behind_named : (compensation : Bool) (line : List ℕ) (tokens : List Token) → Named (refused_behind compensation line tokens)
-behind_named compensation line [] = none
-behind_named compensation line (token ∷ tokens) = before_named compensation token.kind (text_of line token)
+after_named : (compensation : Bool) (line : List ℕ) (tokens : List Token) → Named (refused_following compensation line tokens)
+after_named compensation line [] = none
+after_named compensation line (token ∷ tokens) = before_named compensation token.kind (text_of line token)
 
-kind_named : (compensation : Bool) (line : List ℕ) (kind : Kind) (text : List ℕ) (behind : List Token) → Named (refused_kind compensation line kind text behind)
+kind_named : (compensation : Bool) (line : List ℕ) (kind : Kind) (text : List ℕ) (following : List Token) → Named (refused_kind compensation line kind text following)
 unfolding refused_kind IsBlockRefusal block_refusals
-kind_named compensation line (Letter letter) text behind = either _ _ _ (behind_named compensation line behind) none
-kind_named compensation line Name text behind = name_named text
-kind_named compensation line (Sign Dollar) text behind = named refl
-kind_named compensation line one text behind = none
+kind_named compensation line (Letter letter) text following = either _ _ _ (after_named compensation line following) none
+kind_named compensation line Name text following = name_named text
+kind_named compensation line (Sign Dollar) text following = named refl
+kind_named compensation line one text following = none
 
 pub word_named : (compensation : Bool) (line : List ℕ) (tokens : List Token) → Named (refused_word compensation line tokens)
 word_named compensation line [] = none

@@ -164,7 +164,7 @@ room_or w m false state h = absurd h
 
 argument_room : (w : Bool) (m : Mark) (f : UnaryOp) (st : machine.Stack) (lv : Level) (o : Option Symbol) → Accepts (wanted.value_want w (machine.WantsArgument f st lv) m o) →
     has_room all_limits (machine.depth st) ≡ true
-unfolding machine.step machine.on_argument machine.opened machine.finish
+unfolding machine.step machine.on_argument machine.next_in_bracket machine.finish
 argument_room w m f st lv (Some (symbol.Number z digits)) h = absurd h
 argument_room w m f st lv (Some (symbol.Truth b)) h = absurd h
 argument_room w m f st lv (Some (symbol.Operator op)) h = absurd h

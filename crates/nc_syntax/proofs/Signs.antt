@@ -10,7 +10,7 @@ use Rattle.nc_expressions.specs.declared.symbols.Symbol.TheVariants as symbol
 use Rattle.nc_expressions.specs.declared.levels.Level.TheVariants.{Plain}
 use Rattle.nc_expressions.specs.Limits.{all_limits}
 use Rattle.nc_expressions.specs.Machine as machine
-use Rattle.nc_expressions.specs.Parsing.{placed, expr_at}
+use Rattle.nc_expressions.specs.Parsing.{reading_with_place, expr_at}
 use Rattle.nc_expressions.specs.Stops.{stop_from, not_taken}
 use Rattle.nc_expressions.specs.Symbols.{symbols_of}
 use Rattle.nc_expressions.specs.Tree.{Tree}
@@ -73,17 +73,17 @@ number_case : (words : WordsView) (at code : ℕ) (st : Stack) (sign p : Piece) 
 number_case words at code st sign (piece.Number z) = refl
 number_case words at code st sign p = refl
 
-behind_sign : (words : WordsView) (at : ℕ) (w : Bool) (st : Stack) (sign : Piece) →
+following_sign : (words : WordsView) (at : ℕ) (w : Bool) (st : Stack) (sign : Piece) →
     run_at words at (Constant w ∷ st) ≡ follow (constant_of sign (piece_at words at) (at + 1) (fail w (mark_at words at))) (λ x. run_at words x.1 st)
 unfolding want
-behind_sign words at w st sign = one_step words at (Constant w) st ∙ number_case words at (fail w (mark_at words at)) st sign (piece_at words at)
+following_sign words at w st sign = one_step words at (Constant w) st ∙ number_case words at (fail w (mark_at words at)) st sign (piece_at words at)
 
 pub signed_case : (words : WordsView) (at : ℕ) (w : Bool) (st : Stack) (p : Piece) → piece_at words at ≡ p →
     after words at (signed_want w p (fail w (mark_at words at))) st
     ≡ follow (constant_of p (piece_at words (after_sign_of p at)) (after_sign_of p at + 1) (fail w (mark_at words (after_sign_of p at)))) (λ x. run_at words x.1 st)
 signed_case words at w st (piece.Number z) e = rw e refl
-signed_case words at w st piece.Plus e = behind_sign words (at + 1) w st piece.Plus
-signed_case words at w st piece.Minus e = behind_sign words (at + 1) w st piece.Minus
+signed_case words at w st piece.Plus e = following_sign words (at + 1) w st piece.Plus
+signed_case words at w st piece.Minus e = following_sign words (at + 1) w st piece.Minus
 signed_case words at w st p e = rw e refl
 
 -- expressions
@@ -107,13 +107,13 @@ any_refused false words stop at code st k e = refl
 value_case : (words : WordsView) (at : ℕ) (w : Bool) (st : Stack) (state : machine.State) (s : Symbol) (n : machine.Next) →
     at < length (symbols_of words) → s ≡ get_or (symbols_of words) at s → machine.step all_limits state s ≡ n →
     ((next : machine.State) → run_at words (at + 1) (Value w next ∷ st) ≡
-    follow (any w words (stop_from (symbols_of words) (at + 1) next) (placed (length (symbols_of words)) (machine.run all_limits (drop (at + 1) (symbols_of words)) next))) (λ p. run_at words p.1 st)) →
+    follow (any w words (stop_from (symbols_of words) (at + 1) next) (reading_with_place (length (symbols_of words)) (machine.run all_limits (drop (at + 1) (symbols_of words)) next))) (λ p. run_at words p.1 st)) →
     after words at (value_next w (mark_at words at) n) st ≡
     follow (any w words (stop_from (symbols_of words) at state)
-    (placed (length (symbols_of words)) (machine.go_on n (drop at (symbols_of words)) (machine.run all_limits (drop (at + 1) (symbols_of words)))))) (λ p. run_at words p.1 st)
+    (reading_with_place (length (symbols_of words)) (machine.go_on n (drop at (symbols_of words)) (machine.run all_limits (drop (at + 1) (symbols_of words)))))) (λ p. run_at words p.1 st)
 value_case words at w st state s (machine.On next) h is e again =
     again next
-    ∙ ap (λ (k : ℕ). follow (any w words k (placed (length (symbols_of words)) (machine.run all_limits (drop (at + 1) (symbols_of words)) next))) (λ p. run_at words p.1 st))
+    ∙ ap (λ (k : ℕ). follow (any w words k (reading_with_place (length (symbols_of words)) (machine.run all_limits (drop (at + 1) (symbols_of words)) next))) (λ p. run_at words p.1 st))
     (sym (stop_on (symbols_of words) at s state next h is e))
 value_case words at w st state s (machine.Ends t) h is e again =
     let k : Tree × ℕ → Option ℕ = λ p. run_at words p.1 st in
@@ -141,7 +141,7 @@ any_end true words stop code k h = rw (end_code words stop h) (ap (λ (c : ℕ).
 any_end false words stop code k h = refl
 
 past_case : (words : WordsView) (at : ℕ) (w : Bool) (st : Stack) (n : machine.Next) → at ≡ length (symbols_of words) → (stop : ℕ) → length words.tokens ≤ stop →
-    after words at (end_next n) st ≡ follow (any w words stop (placed (length (symbols_of words)) (machine.at_last n))) (λ p. run_at words p.1 st)
+    after words at (end_next n) st ≡ follow (any w words stop (reading_with_place (length (symbols_of words)) (machine.at_last n))) (λ p. run_at words p.1 st)
 past_case words at w st (machine.On state) e stop h = any_end w words stop 22 (λ p. run_at words p.1 st) h
 past_case words at w st (machine.Ends t) e stop h =
     let k : Tree × ℕ → Option ℕ = λ p. run_at words p.1 st in
@@ -156,7 +156,7 @@ get_same (x ∷ xs) (suc at) d e h = get_same xs at d e (omega (arith, h))
 
 value_past : (words : WordsView) (at : ℕ) (w : Bool) (st : Stack) (state : machine.State) → at ≡ length (symbols_of words) →
     run_at words at (Value w state ∷ st) ≡
-    follow (any w words (stop_from (symbols_of words) at state) (placed (length (symbols_of words)) (machine.run all_limits (drop at (symbols_of words)) state))) (λ p. run_at words p.1 st)
+    follow (any w words (stop_from (symbols_of words) at state) (reading_with_place (length (symbols_of words)) (machine.run all_limits (drop at (symbols_of words)) state))) (λ p. run_at words p.1 st)
 unfolding want machine.run stop_from not_taken
 value_past words at w st state h =
     let past : length words.tokens ≤ at = omega (arith, h, length-symbols_of words) in
@@ -179,7 +179,7 @@ run_one ss at s state more =
 
 value_run : (n : ℕ) (words : WordsView) (at : ℕ) (w : Bool) (st : Stack) (state : machine.State) → at + n ≡ length (symbols_of words) →
     run_at words at (Value w state ∷ st) ≡
-    follow (any w words (stop_from (symbols_of words) at state) (placed (length (symbols_of words)) (machine.run all_limits (drop at (symbols_of words)) state))) (λ p. run_at words p.1 st)
+    follow (any w words (stop_from (symbols_of words) at state) (reading_with_place (length (symbols_of words)) (machine.run all_limits (drop at (symbols_of words)) state))) (λ p. run_at words p.1 st)
 value_run zero words at w st state h = value_past words at w st state (omega (arith, h))
 value_run (suc n) words at w st state h =
     let ss = symbols_of words in
@@ -191,7 +191,7 @@ value_run (suc n) words at w st state h =
     seen_step words at w st state s seen
     ∙ value_case words at w st state s (machine.step all_limits state s) within is refl
     (λ (next : machine.State). value_run n words (at + 1) w st next (omega (arith, h)))
-    ∙ ap (λ (r : machine.Reading). follow (any w words (stop_from ss at state) (placed (length ss) r)) (λ p. run_at words p.1 st)) (run_one ss at s state more)
+    ∙ ap (λ (r : machine.Reading). follow (any w words (stop_from ss at state) (reading_with_place (length ss) r)) (λ p. run_at words p.1 st)) (run_one ss at s state more)
 
 nothing_read : (words : WordsView) (at : ℕ) (w : Bool) (st : Stack) (k : Tree × ℕ → Option ℕ) → length words.tokens ≤ at →
     run_at words at (start w ∷ st) ≡ follow (any w words (stop_from (symbols_of words) at (machine.Wants [] Plain)) (expression_at words at)) k

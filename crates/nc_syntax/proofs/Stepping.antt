@@ -16,7 +16,7 @@ use Rattle.nc_blocks.proofs.Places.{piece_past}
 use Rattle.nc_blocks.specs.AxisNames.{has_axis_word}
 use Rattle.nc_syntax.specs.Structures.{has_close}
 use Rattle.nc_forms.specs.Coordination.{last_close}
-use Rattle.nc_syntax.specs.Wanted.{Mark, mark_at, Wanted, Assigns, Opens, Closes, ClosesBracket, Constant, Value, Parameter, GNumber, Measured, AfterCentre, AfterSlot, AfterDigits, AfterAxis, AfterAux, AfterAuxDigits, ValueOrText, Bracket, AWord, MoreWords, Keyword, Commas, ATarget, BlockNumber, IfBehind, AJump, Signed, MorePairs, CounterLetter, Counter, Times, RepeatBehind, ALabel, Parentheses, CloseOfCall, Passes, Count, Displof, MoreAxes, FrameValue, Angle, TurnEnd, MoreValues, AxisArgument, AfterArgument, ArgumentDigits, MoreArguments, ClearArguments, Quoted, InitLast, Wait, TextOrNot, SetmsBehind, Anything, AfterL, has_close_from, rest_of, Do, Push, Pass, No, want, Stack, on_stack, on_mark, end_next}
+use Rattle.nc_syntax.specs.Wanted.{Mark, mark_at, Wanted, Assigns, Opens, Closes, ClosesBracket, Constant, Value, Parameter, GNumber, Measured, AfterCentre, AfterSlot, AfterDigits, AfterAxis, AfterAux, AfterAuxDigits, ValueOrText, Bracket, AWord, MoreWords, Keyword, Commas, ATarget, BlockNumber, IfAfter, AJump, Signed, MorePairs, CounterLetter, Counter, Times, RepeatAfter, ALabel, Parentheses, CloseOfCall, Passes, Count, Displof, MoreAxes, FrameValue, Angle, TurnEnd, MoreValues, AxisArgument, AfterArgument, ArgumentDigits, MoreArguments, ClearArguments, Quoted, InitLast, Wait, TextOrNot, SetmsAfter, Anything, AfterL, has_close_from, rest_of, Do, Push, Pass, No, want, Stack, on_stack, on_mark, end_next}
 use Rattle.nc_syntax.proofs.Wanted.{last, go, run, run_at, follow}
 
 pub follow_bind : {A B : Type 0} (r : Result A ℕ) (f : A → Result B ℕ) (g : B → Option ℕ) → follow (r >>= f) g ≡ follow r (λ x. follow (f x) g)
@@ -80,14 +80,14 @@ at_end text c a l r (Keyword word) = tt
 at_end text c a l r Commas = tt
 at_end text c a l r ATarget = tt
 at_end text c a l r BlockNumber = tt
-at_end text c a l r IfBehind = tt
+at_end text c a l r IfAfter = tt
 at_end text c a l r AJump = tt
 at_end text c a l r Signed = tt
 at_end text c a l r MorePairs = tt
 at_end text c a l r CounterLetter = tt
 at_end text c a l r Counter = tt
 at_end text c a l r Times = tt
-at_end text c a l r RepeatBehind = tt
+at_end text c a l r RepeatAfter = tt
 at_end text c a l r ALabel = tt
 at_end text c a l r Parentheses = tt
 at_end text c a l r CloseOfCall = tt
@@ -108,7 +108,7 @@ at_end text c a l r Quoted = tt
 at_end text c a l r InitLast = tt
 at_end text c a l r Wait = tt
 at_end text c a l r TextOrNot = tt
-at_end text c a l r SetmsBehind = tt
+at_end text c a l r SetmsAfter = tt
 at_end text c a l r AfterL = tt
 at_end text c a l r (Anything closed) = closed_takes closed r
 

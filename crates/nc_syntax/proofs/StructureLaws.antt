@@ -12,7 +12,7 @@ use Rattle.nc_blocks.specs.Names.{name_of}
 use Rattle.nc_blocks.specs.Pieces.{piece_at, text_at}
 use Rattle.nc_blocks.specs.Marks.{end_at, is_keyword, code_at}
 use Rattle.nc_blocks.specs.Statement.{Statement, For, RepeatFrom, RepeatBlock, Repeat, Call, Proc}
-use Rattle.nc_forms.specs.LineEnds.{alone}
+use Rattle.nc_forms.specs.LineEnds.{statement_alone}
 use Rattle.nc_syntax.specs.Structures.{is_letter, counter_at, first_value, for_form, times_at, repeat_form, repeat_block_form, has_close, parentheses_at, pass_count, count_of_piece, passes_at, call_passes, call_form, number_name, number_call_form, proc_form}
 use Rattle.nc_forms.specs.Parentheses.{is_close, is_open}
 use Rattle.nc_forms.specs.Standing.{IsKeyword, IsExpressionText, IsIndex, IsNameOf, IsAlone}
@@ -24,7 +24,7 @@ use Rattle.nc_forms.proofs.PieceLaws.{both, close_piece}
 use Rattle.nc_forms.proofs.LineEnds.{line_end, at_line_end, keyword_within, alone_found, alone_only, alone_form_found}
 use Rattle.nc_syntax.proofs.JumpLaws.{last_found, last_only}
 
-pub alone_form_only : (words : WordsView) (at : ℕ) (word : List ℕ) (s : Statement) → IsAlone words at (length words.tokens) word → alone words (at + 1) s ≡ Ok s
+pub alone_form_only : (words : WordsView) (at : ℕ) (word : List ℕ) (s : Statement) → IsAlone words at (length words.tokens) word → statement_alone words (at + 1) s ≡ Ok s
 alone_form_only words at word s h = alone_only words (at + 1) s (at_line_end words (at + 1) (sym h.1))
 
 pub letter_piece : (p : Piece) (b : ℕ) → is_letter p b ≡ true → p ≡ piece.Letter b

@@ -20,7 +20,7 @@ use Rattle.nc_syntax.specs.Wanted as wanted
 use Rattle.nc_syntax.specs.Wanted.{Mark, mark_at, Do, Push, Pass, No, Stack, Next, On, Done, Refuse, on_mark, name_want}
 use Rattle.nc_syntax.proofs.Wanted.{last, go}
 use Rattle.nc_syntax.proofs.Stepping.{end_mark}
-use Rattle.nc_syntax.specs.Forms.{control_stack, coordination_stack, form_stack, Beginning, Goes, Stops, word_beginning, plain_beginning, form_beginning, beginning, Head, AtStart, BehindSlash, BehindN, AtLabel, Named, AtBody, Within, HeadNext, HeadOn, Over, Refused, inside, beginning_next, beginning_more, letter_body, body_step, label_step, number_step, block_number_step, after_n, after_slash, start_step, named_step, head_step, state_of, state_next, state_at}
+use Rattle.nc_syntax.specs.Forms.{control_stack, coordination_stack, form_stack, Beginning, Goes, Stops, word_beginning, plain_beginning, form_beginning, beginning, Head, AtStart, AfterSlash, AfterN, AtLabel, Named, AtBody, Within, HeadNext, HeadOn, Over, Refused, body_next, beginning_next, beginning_more, letter_body, body_step, label_step, number_step, block_number_step, after_n, after_slash, start_step, named_step, head_step, state_of, state_next, state_at}
 use Rattle.nc_syntax.proofs.Heads.{head_last, head_go}
 use Rattle.nc_syntax.proofs.Breaking.{seen}
 use Rattle.nc_syntax.proofs.Going.{number, ways, ok, IsKey, Tidy, Roomy, goes}
@@ -97,8 +97,8 @@ begun_tidy text = option_tidy (form_of text) text
 
 abbrev pub TidyHead : Head → Type 0
 TidyHead AtStart = Unit {0}
-TidyHead BehindSlash = Unit {0}
-TidyHead BehindN = Unit {0}
+TidyHead AfterSlash = Unit {0}
+TidyHead AfterN = Unit {0}
 TidyHead AtLabel = Unit {0}
 TidyHead (Named text) = Unit {0}
 TidyHead AtBody = Unit {0}
@@ -109,12 +109,12 @@ TidyNext (HeadOn h) = TidyHead h
 TidyNext Over = Unit {0}
 TidyNext (Refused code) = Unit {0}
 
-inside_tidy : (n : Next) → TidyStep n → TidyNext (inside n)
+inside_tidy : (n : Next) → TidyStep n → TidyNext (body_next n)
 inside_tidy (On st) h = h
 inside_tidy Done h = tt
 inside_tidy (Refuse code) h = tt
 
-stack_tidy : (st : Stack) (m : Mark) → Tidy st → TidyNext (inside (on_mark st m))
+stack_tidy : (st : Stack) (m : Mark) → Tidy st → TidyNext (body_next (on_mark st m))
 stack_tidy st m h = inside_tidy (on_mark st m) (take_tidy st m h)
 
 begun_next_tidy : (b : Beginning) → TidyBegun b → TidyNext (beginning_next b)
@@ -166,8 +166,8 @@ named_tidy false text m = begun_more_tidy (beginning text) m (begun_tidy text)
 pub head_tidy : (h : Head) (m : Mark) → TidyHead h → TidyNext (head_step h m)
 unfolding head_step
 head_tidy AtStart m t = begin_tidy (is_slash m.piece) m
-head_tidy BehindSlash m t = slash_tidy (is_number m.piece) m
-head_tidy BehindN m t = n_tidy m.piece m.text
+head_tidy AfterSlash m t = slash_tidy (is_number m.piece) m
+head_tidy AfterN m t = n_tidy m.piece m.text
 head_tidy AtLabel m t = label_tidy m.piece m
 head_tidy (Named text) m t = named_tidy (is_colon m.piece) text m
 head_tidy AtBody m t = body_tidy m.piece m
@@ -194,8 +194,8 @@ reached_tidy words (suc at) = next_tidy (state_at words at) (mark_at words at) (
 -- some tokens complete the block
 abbrev pub RoomHead : Head → Type 0
 RoomHead AtStart = Unit {0}
-RoomHead BehindSlash = Unit {0}
-RoomHead BehindN = Unit {0}
+RoomHead AfterSlash = Unit {0}
+RoomHead AfterN = Unit {0}
 RoomHead AtLabel = Unit {0}
 RoomHead (Named text) = Unit {0}
 RoomHead AtBody = Unit {0}
@@ -203,8 +203,8 @@ RoomHead (Within st) = Roomy st
 
 abbrev pub head_way : Head → List Mark
 head_way AtStart = []
-head_way BehindSlash = []
-head_way BehindN = number ∷ []
+head_way AfterSlash = []
+head_way AfterN = number ∷ []
 head_way AtLabel = []
 head_way (Named text) = seen piece.Colon (codes ":") (Some symbol.Other) false false false 22 ∷ []
 head_way AtBody = []
@@ -214,12 +214,12 @@ unfoldable pub head_ok : Head → List Mark → Option ℕ
 head_ok h [] = head_last (head_step h (end_mark [] false false false 22))
 head_ok h (m ∷ ms) = head_go (head_step h m) (λ next. head_ok next ms)
 
-inside_last : (n : Next) → head_last (inside n) ≡ last n
+inside_last : (n : Next) → head_last (body_next n) ≡ last n
 inside_last (On st) = refl
 inside_last Done = refl
 inside_last (Refuse code) = refl
 
-inside_go : (n : Next) (f : Head → Option ℕ) (g : Stack → Option ℕ) → ((st : Stack) → f (Within st) ≡ g st) → head_go (inside n) f ≡ go n g
+inside_go : (n : Next) (f : Head → Option ℕ) (g : Stack → Option ℕ) → ((st : Stack) → f (Within st) ≡ g st) → head_go (body_next n) f ≡ go n g
 inside_go (On st) f g h = h st
 inside_go Done f g h = refl
 inside_go (Refuse code) f g h = refl
@@ -232,8 +232,8 @@ within_ok (m ∷ ms) st = inside_go (on_mark st m) (λ h. head_ok h ms) (λ s. o
 pub head_goes : (h : Head) → TidyHead h → RoomHead h → head_ok h (head_way h) ≡ None
 unfolding head_ok head_step
 head_goes AtStart t r = refl
-head_goes BehindSlash t r = refl
-head_goes BehindN t r = refl
+head_goes AfterSlash t r = refl
+head_goes AfterN t r = refl
 head_goes AtLabel t r = refl
 head_goes (Named text) t r = refl
 head_goes AtBody t r = refl

@@ -27,7 +27,7 @@ use Rattle.nc_forms.proofs.Marked.{bound}
 use Rattle.nc_forms.proofs.Chained.{not_empty, Steps, list_found, list_only}
 use Rattle.nc_syntax.proofs.WordLaws.{word_found}
 use Rattle.nc_forms.proofs.PieceLaws.{false_of, or_cases}
-use Rattle.nc_syntax.proofs.WordsRead.{Behind, behind_follows, assigned_only, letter_read, name_read, assign_read, assign_at_read, axis_read, aux_only, program_end_read, plain_letters, axis_letters, aux_letters}
+use Rattle.nc_syntax.proofs.WordsRead.{Following, after_follows, assigned_only, letter_read, name_read, assign_read, assign_at_read, axis_read, aux_only, program_end_read, plain_letters, axis_letters, aux_letters}
 use Rattle.nc_forms.proofs.LineEnds.{assigned_within, at_line_end, end_is, line_end, nearer, signed_within}
 
 -- a name of a group is no other word
@@ -98,14 +98,14 @@ group_read words at end group code h =
           name_read words at a.0 ∙ rw (group_no_radius text w a.1, group_no_spindle text w a.1, a.1, a.2) refl
     ]
 
-radius_read : (words : WordsView) (at end : ℕ) (t : Tree) → IsWord words at end (Radius t) → Behind words end → word_at words at ≡ Ok (Radius t, end)
+radius_read : (words : WordsView) (at end : ℕ) (t : Tree) → IsWord words at end (Radius t) → Following words end → word_at words at ≡ Ok (Radius t, end)
 unfolding name_word
 radius_read words at end t h f =
     name_read words at (keyword_piece words at (codes "CR") h.0)
-    ∙ rw (keyword_text words at (codes "CR") h.0, assigned_only words (at + 1) end t h.1 (behind_follows words end f)) refl
+    ∙ rw (keyword_text words at (codes "CR") h.0, assigned_only words (at + 1) end t h.1 (after_follows words end f)) refl
 
 -- what is spelled as a word is read so
-pub word_only : (words : WordsView) (at end : ℕ) (x : WordView) → IsWord words at end x → Behind words end → word_at words at ≡ Ok (x, end)
+pub word_only : (words : WordsView) (at end : ℕ) (x : WordView) → IsWord words at end x → Following words end → word_at words at ≡ Ok (x, end)
 word_only words at end (Assign i t) h f = assign_read words at end i t h f
 word_only words at end (AssignAt i t) h f = assign_at_read words at end i t h f
 word_only words at end (G group code) h f = group_read words at end group code h
@@ -255,29 +255,29 @@ names_follow text h =
       ]
     ]
 
-starts_behind : (words : WordsView) (at : ℕ) → StartsWord words at → Behind words at × (is_end (piece_at words at) ≡ false)
-starts_behind words at h =
+starts_after : (words : WordsView) (at : ℕ) → StartsWord words at → Following words at × (is_end (piece_at words at) ≡ false)
+starts_after words at h =
     elim h [
       | inl a ↦ (inr (inl (a.0, a.1)), ap is_end a.1)
       | inr a ↦ (inr (inr (a.0, follows_piece words at piece.Name a.0 tt (names_follow (text_at words at) a.1))), ap is_end a.0)
     ]
 
 -- lists of words
-pub behind_list : (words : WordsView) (at end : ℕ) (xs : List WordView) → AreListed (IsWord words) at end xs → piece_at words end ≡ piece.End →
-    Behind words at × (not (is_end (piece_at words at)) ≡ not_empty xs)
-behind_list words at end [] h e =
+pub after_list : (words : WordsView) (at end : ℕ) (xs : List WordView) → AreListed (IsWord words) at end xs → piece_at words end ≡ piece.End →
+    Following words at × (not (is_end (piece_at words at)) ≡ not_empty xs)
+after_list words at end [] h e =
     let P = λ (n : ℕ). piece_at words n ≡ piece.End in
     let f = subst P h e in
     (inl f, ap (λ p. not (is_end p)) f)
-behind_list words at end (x ∷ xs) h e =
-    let s = starts_behind words at (word_starts words at h.0 x h.1) in (s.0, ap not s.1)
+after_list words at end (x ∷ xs) h e =
+    let s = starts_after words at (word_starts words at h.0 x h.1) in (s.0, ap not s.1)
 
 words_steps : (words : WordsView) (xs before : List WordView) (at end : ℕ) → AreListed (IsWord words) at end xs → piece_at words end ≡ piece.End →
     Steps (λ ys. word_item_at words) before at end xs
 unfolding word_item_at
 words_steps words [] before at end h e = h
 words_steps words (x ∷ xs) before at end h e =
-    let b = behind_list words h.0 end xs h.2 e in
+    let b = after_list words h.0 end xs h.2 e in
     let w = word_within words at h.0 x h.1 in
     (h.0, w.0, rw (word_only words at h.0 x h.1 b.0, b.1) refl, words_steps words xs (before ++ x ∷ []) h.0 end h.2 e)
 

@@ -13,7 +13,7 @@ use Rattle.nc_blocks.specs.declared.blocks.Measure.TheVariants.{Modal, Absolute,
 use Rattle.nc_blocks.specs.declared.pieces.Piece.{Piece}
 use Rattle.nc_blocks.specs.declared.pieces.Piece.TheVariants as piece
 use Rattle.nc_blocks.specs.Names.{upper}
-use Rattle.nc_blocks.specs.Texts.{unquoted}
+use Rattle.nc_blocks.specs.Texts.{text_within_quotes}
 use Rattle.nc_blocks.specs.Pieces.{piece_at, text_at, is_assign, is_name}
 use Rattle.nc_blocks.specs.Marks.{word_code, assign_at, close_bracket_at, is_keyword}
 use Rattle.nc_blocks.specs.Reading.{value_at, after_sign}
@@ -36,7 +36,7 @@ measured_moved P m k t u b d e h =
 pub assigned_found : (words : WordsView) (at end : ℕ) (t : Tree) → assigned_at words at ≡ Ok (t, end) → IsAssigned words at end t
 unfolding assigned_at
 assigned_found words at end t h =
-    let b = bound (assign_at words at (word_code words at)) (λ behind. value_at words behind) (t, end) h in
+    let b = bound (assign_at words at (word_code words at)) (λ following. value_at words following) (t, end) h in
     let a = assign_found words at (word_code words at) b.0 b.1 in
     let P = λ (n : ℕ). IsExpressionText words n end t in
     (a.0, subst P a.1 (value_found words b.0 end t b.2))
@@ -213,7 +213,7 @@ unfolding aux_value
 operand_found words at end o h =
     let P = λ (k : ℕ) (y : OperandView). IsOperand words at k y in
     one_of _ _ _ _ h
-    (λ is ae. moved P (Text (unquoted (text_at words at))) o (at + 1) end ae (text_is (piece_at words at) is, refl, refl))
+    (λ is ae. moved P (Text (text_within_quotes (text_at words at))) o (at + 1) end ae (text_is (piece_at words at) is, refl, refl))
     (λ is ae. let b = bound _ _ _ ae in moved P (Value b.0.0) o b.0.1 end b.2 (value_found words at b.0.1 b.0.0 b.1))
 
 aux_other : (words : WordsView) (at letter end : ℕ) (x : WordView) (p : Piece) → IsAuxLetter words at letter → piece_at words (at + 1) ≡ p →

@@ -16,14 +16,14 @@ use Rattle.nc_blocks.specs.declared.pieces.Piece.TheVariants as piece
 use Rattle.nc_blocks.specs.Pieces.{piece_at, is_assign, text_at}
 use Rattle.nc_blocks.specs.Marks.{word_code, is_keyword, close_at, close_bracket_at}
 use Rattle.nc_blocks.specs.Reading.{value_at, after_sign, constant_at, index_or, parameter_number, index_of_piece, index_at}
-use Rattle.nc_blocks.specs.Wording.{assigned_at, bracketed_at, is_open_bracket, assignment_at, group_word, g_of_piece, g_at, enclosed_value, measured, measured_at, measured_word, letter_word}
+use Rattle.nc_blocks.specs.Wording.{assigned_at, bracketed_at, is_open_bracket, assignment_at, group_word, g_of_piece, g_at, enclosed_value, measure_and_value, measured_at, measured_word, letter_word}
 use Rattle.nc_blocks.specs.Statement.{WordView, Assign, AssignAt, Axis}
 use Rattle.nc_syntax.specs.Wanted.{mark_at, Assigns, Opens, Closes, ClosesBracket, Parameter, GNumber, Measured, AfterCentre, start, fail, Push, want, value_want, assign_index, index_want, group_want, g_want, signed_want, in_parentheses, centre_want, Stack, No}
 use Rattle.nc_syntax.proofs.Wanted.{run_at, follow}
 use Rattle.nc_syntax.proofs.Stepping.{after, one_step}
 use Rattle.nc_syntax.proofs.Signs.{assigns, opens, closes, closes_bracket, signed_case, values}
 
--- what goes on behind a first part goes on behind the whole
+-- what goes on after a first part goes on after the whole
 pub chain : {A B : Type 0} (r : Result A ℕ) (f : A → Result B ℕ) (g : B → Option ℕ) (h : A → Option ℕ) → ((x : A) → h x ≡ follow (f x) g) → follow r h ≡ follow (r >>= f) g
 chain (Ok x) f g h e = e x
 chain (Err code) f g h e = refl
@@ -33,8 +33,8 @@ pub made : {A B : Type 0} (r : Result A ℕ) (e : A → B) (g : B → Option ℕ
 made (Ok x) e g = refl
 made (Err code) e g = refl
 
-abbrev pub behind : {A : Type 0} → WordsView → Stack → A × ℕ → Option ℕ
-behind words st p = run_at words p.1 st
+abbrev pub following : {A : Type 0} → WordsView → Stack → A × ℕ → Option ℕ
+following words st p = run_at words p.1 st
 
 pub assigned : (words : WordsView) (at : ℕ) (st : Stack) → run_at words at (Assigns true ∷ start true ∷ st) ≡ follow (assigned_at words at) (λ p. run_at words p.1 st)
 unfolding assigned_at word_code
@@ -45,13 +45,13 @@ unfolding bracketed_at
 bracketed words at st =
     values words (at + 1) (ClosesBracket ∷ st)
     ∙ chain _ _ _ _ (λ (p : Tree × ℕ). closes_bracket words p.1 st
-    ∙ made {B = Tree × ℕ} (close_bracket_at words p.1 (word_code words p.1)) (λ n. (p.0, n)) (behind words st))
+    ∙ made {B = Tree × ℕ} (close_bracket_at words p.1 (word_code words p.1)) (λ n. (p.0, n)) (following words st))
 
 -- parameters
 index_case : (words : WordsView) (at : ℕ) (st : Stack) (o : Option ℕ) →
     after words at (assign_index o) st ≡ follow (◌>>=◌ {B = WordView × ℕ} (index_or o 22) (λ i. assigned_at words (at + 1) >>= λ p. Ok (Assign i p.0, p.1))) (λ p. run_at words p.1 st)
 index_case words at st (Some i) =
-    assigned words (at + 1) st ∙ made {B = WordView × ℕ} (assigned_at words (at + 1)) (λ p. (Assign i p.0, p.1)) (behind words st)
+    assigned words (at + 1) st ∙ made {B = WordView × ℕ} (assigned_at words (at + 1)) (λ p. (Assign i p.0, p.1)) (following words st)
 index_case words at st None = refl
 
 digits_case : (words : WordsView) (at : ℕ) (st : Stack) (o : Option ℕ) (b : Bool) →
@@ -74,7 +74,7 @@ bracket_or : (words : WordsView) (at code : ℕ) (st : Stack) (text : List ℕ) 
 bracket_or words at code st text p true =
     bracketed words at (Assigns true ∷ start true ∷ st)
     ∙ chain _ _ _ _ (λ (i : Tree × ℕ). assigned words i.1 st
-    ∙ made {B = WordView × ℕ} (assigned_at words i.1) (λ p. (AssignAt i.0 p.0, p.1)) (behind words st))
+    ∙ made {B = WordView × ℕ} (assigned_at words i.1) (λ p. (AssignAt i.0 p.0, p.1)) (following words st))
 bracket_or words at code st text p false = parameter_case words at code st text p
 
 pub parameters : (words : WordsView) (at : ℕ) (st : Stack) → run_at words at (Parameter ∷ st) ≡ follow (assignment_at words at) (λ p. run_at words p.1 st)
@@ -103,7 +103,7 @@ enclosed_values words at st =
     opens words at true (start true ∷ Closes true ∷ st)
     ∙ chain _ _ _ _ (λ (n : ℕ). values words n (Closes true ∷ st)
     ∙ chain _ _ _ _ (λ (p : Tree × ℕ). closes words p.1 true st
-    ∙ made {B = Tree × ℕ} (close_at words p.1 (word_code words p.1)) (λ m. (p.0, m)) (behind words st)))
+    ∙ made {B = Tree × ℕ} (close_at words p.1 (word_code words p.1)) (λ m. (p.0, m)) (following words st)))
 
 start_value : (words : WordsView) (at : ℕ) (st : Stack) →
     after words at (value_want true (machine.Wants [] Plain) (mark_at words at) (mark_at words at).symbol) st ≡ follow (value_at words at) (λ p. run_at words p.1 st)
@@ -112,7 +112,7 @@ start_value words at st = sym (one_step words at (start true) st) ∙ values wor
 
 measured_case : (words : WordsView) (at : ℕ) (st : Stack) (a b : Bool) →
     after words at (cond a (Push in_parentheses) (cond b (Push in_parentheses) (value_want true (machine.Wants [] Plain) (mark_at words at) (mark_at words at).symbol))) st
-    ≡ follow (cond a (enclosed_value words (at + 1) >>= measured Absolute) (cond b (enclosed_value words (at + 1) >>= measured Incremental) (value_at words at >>= measured Modal))) (λ p. run_at words p.2 st)
+    ≡ follow (cond a (enclosed_value words (at + 1) >>= measure_and_value Absolute) (cond b (enclosed_value words (at + 1) >>= measure_and_value Incremental) (value_at words at >>= measure_and_value Modal))) (λ p. run_at words p.2 st)
 measured_case words at st true b = enclosed_values words (at + 1) st ∙ made {B = Measure × Tree × ℕ} (enclosed_value words (at + 1)) (λ p. (Absolute, p.0, p.1)) (λ p. run_at words p.2 st)
 measured_case words at st false true = enclosed_values words (at + 1) st ∙ made {B = Measure × Tree × ℕ} (enclosed_value words (at + 1)) (λ p. (Incremental, p.0, p.1)) (λ p. run_at words p.2 st)
 measured_case words at st false false = start_value words at st ∙ made {B = Measure × Tree × ℕ} (value_at words at) (λ p. (Modal, p.0, p.1)) (λ p. run_at words p.2 st)
@@ -123,7 +123,7 @@ measures words at st = one_step words at Measured st ∙ measured_case words at 
 
 pub measured_words : (words : WordsView) (address : List ℕ) (at : ℕ) (st : Stack) → run_at words at (Measured ∷ st) ≡ follow (measured_word words address at) (λ p. run_at words p.1 st)
 unfolding measured_word
-measured_words words address at st = measures words at st ∙ made {B = WordView × ℕ} (measured_at words at) (λ p. (Axis address p.0 p.1, p.2)) (behind words st)
+measured_words words address at st = measures words at st ∙ made {B = WordView × ℕ} (measured_at words at) (λ p. (Axis address p.0 p.1, p.2)) (following words st)
 
 -- letters of axes and centres
 centre_or : (words : WordsView) (letter at : ℕ) (st : Stack) (b : Bool) →
@@ -132,7 +132,7 @@ centre_or : (words : WordsView) (letter at : ℕ) (st : Stack) (b : Bool) →
 unfolding constant_at after_sign word_code
 centre_or words letter at st true = measured_words words (letter ∷ []) (at + 1) st
 centre_or words letter at st false = signed_case words at true st (piece_at words at) refl
-    ∙ made {B = WordView × ℕ} (constant_at words at (word_code words (after_sign words at))) (λ p. (Axis (letter ∷ []) Modal (Number p.0), p.1)) (behind words st)
+    ∙ made {B = WordView × ℕ} (constant_at words at (word_code words (after_sign words at))) (λ p. (Axis (letter ∷ []) Modal (Number p.0), p.1)) (following words st)
 
 pub centre_words : (words : WordsView) (letter at : ℕ) (st : Stack) →
     after words at (centre_want (piece_at words at) (fail true (mark_at words at))) st ≡ follow (letter_word words letter at) (λ p. run_at words p.1 st)

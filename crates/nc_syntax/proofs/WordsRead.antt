@@ -1,4 +1,4 @@
--- WordsView: what is spelled as a word is read so, where another word or the end of the line stands behind it.
+-- WordsView: what is spelled as a word is read so, where another word or the end of the line stands after it.
 use Rattle.std.proofs.Common.{◌≡◌, ℕ, ◌+◌, List, ◌∷◌, drop, refl, ap, sym, ◌∙◌, subst, inl, inr, Option, Some, None, Ok, Bool, true, false, arith}
 use Rattle.std.specs.Prelude.{ℤ, ◌⊎◌, ◌&&◌, ◌||◌, codes}
 use Rattle.std.specs.Str.{bytes_eq, str_to_ascii_lowercase}
@@ -50,15 +50,15 @@ pub no_text : (words : WordsView) (at end : ℕ) (t : Tree) → IsExpressionText
 no_text words at end t h = false_of (is_text (piece_at words at)) (λ k.
     expression_begins words at end t piece.Text h (text_is (piece_at words at) k) tt)
 
--- what can stand behind a word: the end, a letter, or a name that goes on with no expression
-abbrev pub Behind : WordsView → ℕ → Type 0
-Behind words at =
+-- what can stand after a word: the end, a letter, or a name that goes on with no expression
+abbrev pub Following : WordsView → ℕ → Type 0
+Following words at =
     (piece_at words at ≡ piece.End)
     ⊎ (((b : ℕ) × (piece_at words at ≡ piece.Letter b))
     ⊎ ((piece_at words at ≡ piece.Name) × Follows (drop at (symbols_of words))))
 
-pub behind_follows : (words : WordsView) (at : ℕ) → Behind words at → Follows (drop at (symbols_of words))
-behind_follows words at h =
+pub after_follows : (words : WordsView) (at : ℕ) → Following words at → Follows (drop at (symbols_of words))
+after_follows words at h =
     elim h [
       | inl a ↦ follows_end words at a
       | inr b ↦ elim b [
@@ -67,8 +67,8 @@ behind_follows words at h =
       ]
     ]
 
-pub behind_assign : (words : WordsView) (at : ℕ) → Behind words at → is_assign (piece_at words at) ≡ false
-behind_assign words at h =
+pub after_assign : (words : WordsView) (at : ℕ) → Following words at → is_assign (piece_at words at) ≡ false
+after_assign words at h =
     elim h [
       | inl a ↦ ap is_assign a
       | inr b ↦ elim b [
@@ -112,19 +112,19 @@ pub name_read : (words : WordsView) (at : ℕ) → piece_at words at ≡ piece.N
 unfolding word_at
 name_read words at h = ap (word_of_piece words at) h
 
-pub assign_read : (words : WordsView) (at end i : ℕ) (t : Tree) → IsWord words at end (Assign i t) → Behind words end → word_at words at ≡ Ok (Assign i t, end)
+pub assign_read : (words : WordsView) (at end i : ℕ) (t : Tree) → IsWord words at end (Assign i t) → Following words end → word_at words at ≡ Ok (Assign i t, end)
 unfolding lettered_word assignment_at
 assign_read words at end i t h f =
     let place : at + 1 + 1 ≡ at + 2 = omega arith in
     let P = λ (n : ℕ). IsAssigned words n end t in
     letter_read words at 82 h.0
-    ∙ rw (h.1.1, index_only words (at + 1) (word_code words (at + 1)) i h.1, assigned_only words (at + 1 + 1) end t (subst P (sym place) h.2) (behind_follows words end f)) refl
+    ∙ rw (h.1.1, index_only words (at + 1) (word_code words (at + 1)) i h.1, assigned_only words (at + 1 + 1) end t (subst P (sym place) h.2) (after_follows words end f)) refl
 
-pub assign_at_read : (words : WordsView) (at end : ℕ) (i t : Tree) → IsWord words at end (AssignAt i t) → Behind words end → word_at words at ≡ Ok (AssignAt i t, end)
+pub assign_at_read : (words : WordsView) (at end : ℕ) (i t : Tree) → IsWord words at end (AssignAt i t) → Following words end → word_at words at ≡ Ok (AssignAt i t, end)
 unfolding lettered_word assignment_at
 assign_at_read words at end i t h f =
     letter_read words at 82 h.1
-    ∙ rw (h.2.1, bracketed_only words (at + 1) h.0 i h.2, assigned_only words h.0 end t h.3 (behind_follows words end f)) refl
+    ∙ rw (h.2.1, bracketed_only words (at + 1) h.0 i h.2, assigned_only words h.0 end t h.3 (after_follows words end f)) refl
 
 -- axis names and plain axes
 pub axis_letters : (P : ℕ → Type 0) (b : ℕ) → is_axis_letter b ≡ true → P 65 → P 66 → P 67 → P 85 → P 86 → P 87 → P 88 → P 89 → P 90 → P b
@@ -149,13 +149,13 @@ axis_word_only : (words : WordsView) (at : ℕ) (address : List ℕ) → IsAxisN
 unfolding has_axis_word
 axis_word_only words at address h a = both (has_axis_name words at) (is_assign (piece_at words (at + 2))) (axis_name_only words at address h) (ap is_assign a)
 
-no_assign_behind : (words : WordsView) (at : ℕ) → is_assign (piece_at words (at + 2)) ≡ false → has_axis_word words at ≡ false
+no_assign_after : (words : WordsView) (at : ℕ) → is_assign (piece_at words (at + 2)) ≡ false → has_axis_word words at ≡ false
 unfolding has_axis_word
-no_assign_behind words at h = last_false (has_axis_name words at) (is_assign (piece_at words (at + 2))) h
+no_assign_after words at h = last_false (has_axis_name words at) (is_assign (piece_at words (at + 2))) h
 
-no_digits_behind : (words : WordsView) (at : ℕ) → has_digits words (at + 1) ≡ false → has_axis_word words at ≡ false
+no_digits_after : (words : WordsView) (at : ℕ) → has_digits words (at + 1) ≡ false → has_axis_word words at ≡ false
 unfolding has_axis_word has_axis_name
-no_digits_behind words at h =
+no_digits_after words at h =
     first_false (is_axis_start (piece_at words at) && has_digits words (at + 1)) (is_assign (piece_at words (at + 2)))
     (last_false (is_axis_start (piece_at words at)) (has_digits words (at + 1)) h)
 
@@ -174,20 +174,20 @@ plain_axis_read words at letter h t =
     let P : ℕ → Type 0 = λ b. lettered_word words b at ≡ letter_word words b (at + 1) in
     letter_read words at letter h.0 ∙ plain_letters P letter h.1 (rw t refl) (rw t refl) (rw t refl) refl refl refl
 
--- a number with its sign behind a plain axis
-signed_no_word : (words : WordsView) (at end : ℕ) (z : ℤ) → IsSignedNumber words (at + 1) end z → Behind words end → has_axis_word words at ≡ false
+-- a number with its sign after a plain axis
+signed_no_word : (words : WordsView) (at end : ℕ) (z : ℤ) → IsSignedNumber words (at + 1) end z → Following words end → has_axis_word words at ≡ false
 signed_no_word words at end z h f =
     elim h [
       | inl a ↦ let place : end ≡ at + 2 = omega (arith, a.1) in
           let P = λ (n : ℕ). is_assign (piece_at words n) ≡ false in
-          no_assign_behind words at (subst P place (behind_assign words end f))
+          no_assign_after words at (subst P place (after_assign words end f))
       | inr b ↦ elim b [
-        | inl c ↦ no_digits_behind words at (no_digits words (at + 1) piece.Plus c.0 (λ text. refl))
-        | inr c ↦ no_digits_behind words at (no_digits words (at + 1) piece.Minus c.1 (λ text. refl))
+        | inl c ↦ no_digits_after words at (no_digits words (at + 1) piece.Plus c.0 (λ text. refl))
+        | inr c ↦ no_digits_after words at (no_digits words (at + 1) piece.Minus c.1 (λ text. refl))
       ]
     ]
 
-pub axis_read : (words : WordsView) (at end : ℕ) (address : List ℕ) (m : Measure) (t : Tree) → IsAxisWord words at end address m t → Behind words end →
+pub axis_read : (words : WordsView) (at end : ℕ) (address : List ℕ) (m : Measure) (t : Tree) → IsAxisWord words at end address m t → Following words end →
     word_at words at ≡ Ok (Axis address m t, end)
 unfolding letter_word measured_word
 axis_read words at end address m t h f =
@@ -197,10 +197,10 @@ axis_read words at end address m t h f =
       | inr b ↦ elim b [
         | inl c ↦ let place : at + 1 + 1 ≡ at + 2 = omega arith in
             let P = λ (n : ℕ). IsMeasured words n end m t in
-            plain_axis_read words at c.0 c.1 (no_digits_behind words at (no_digits words (at + 1) piece.Assign c.2 (λ text. refl)))
-            ∙ rw (c.2, measured_only words (at + 1 + 1) end m t (subst P (sym place) c.3) (behind_follows words end f), c.4) refl
+            plain_axis_read words at c.0 c.1 (no_digits_after words at (no_digits words (at + 1) piece.Assign c.2 (λ text. refl)))
+            ∙ rw (c.2, measured_only words (at + 1 + 1) end m t (subst P (sym place) c.3) (after_follows words end f), c.4) refl
         | inr c ↦ named_axis_read words at address c.0 c.1
-            ∙ rw (measured_only words (at + 3) end m t c.2 (behind_follows words end f), c.0.4) refl
+            ∙ rw (measured_only words (at + 3) end m t c.2 (after_follows words end f), c.0.4) refl
       ]
     ]
 
@@ -211,13 +211,13 @@ aux_read words at letter p h e =
     let P : ℕ → Type 0 = λ b. lettered_word words b at ≡ aux_of words b (at + 1) (piece_at words (at + 1)) in
     letter_read words at letter h.0 ∙ aux_letters P letter h.1 refl refl refl refl refl refl ∙ ap (aux_of words letter (at + 1)) e
 
-numbered_read : (words : WordsView) (at end : ℕ) (address : List ℕ) (operand : OperandView) → IsNumberedAux words at end address operand → Behind words end →
+numbered_read : (words : WordsView) (at end : ℕ) (address : List ℕ) (operand : OperandView) → IsNumberedAux words at end address operand → Following words end →
     word_at words at ≡ Ok (Aux address None operand, end)
 unfolding numbered_aux has_digits_assign
 numbered_read words at end address operand h f =
     let place : end ≡ at + 1 + 1 = omega (arith, h.7) in
     let P = λ (n : ℕ). is_assign (piece_at words n) ≡ false in
-    let none = last_false (has_digits words (at + 1)) (is_assign (piece_at words (at + 1 + 1))) (subst P place (behind_assign words end f)) in
+    let none = last_false (has_digits words (at + 1)) (is_assign (piece_at words (at + 1 + 1))) (subst P place (after_assign words end f)) in
     aux_read words at h.0 (piece.Number h.1) h.2 h.3 ∙ rw (none, h.4, h.5, h.6, place) refl
 
 operand_only : (words : WordsView) (at end : ℕ) (o : OperandView) → IsOperand words at end o → Follows (drop end (symbols_of words)) → aux_value words at ≡ Ok (o, end)
@@ -227,15 +227,15 @@ operand_only words at end (Value t) h f =
 operand_only words at end (Text bytes) h f = rw (h.0, h.1, h.2) refl
 operand_only words at end (AxisName name) h f = absurd h
 
-assigned_aux_read : (words : WordsView) (at end : ℕ) (address : List ℕ) (operand : OperandView) → IsAssignedAux words at end address operand → Behind words end →
+assigned_aux_read : (words : WordsView) (at end : ℕ) (address : List ℕ) (operand : OperandView) → IsAssignedAux words at end address operand → Following words end →
     word_at words at ≡ Ok (Aux address None operand, end)
 assigned_aux_read words at end address operand h f =
     let place : at + 1 + 1 ≡ at + 2 = omega arith in
     let P = λ (n : ℕ). IsOperand words n end operand in
     aux_read words at h.0 piece.Assign h.1 h.2
-    ∙ rw (operand_only words (at + 1 + 1) end operand (subst P (sym place) h.3) (behind_follows words end f), h.4) refl
+    ∙ rw (operand_only words (at + 1 + 1) end operand (subst P (sym place) h.3) (after_follows words end f), h.4) refl
 
-extended_read : (words : WordsView) (at end : ℕ) (address : List ℕ) (operand : OperandView) → IsExtendedAux words at end address operand → Behind words end →
+extended_read : (words : WordsView) (at end : ℕ) (address : List ℕ) (operand : OperandView) → IsExtendedAux words at end address operand → Following words end →
     word_at words at ≡ Ok (Aux address None operand, end)
 unfolding numbered_aux has_digits_assign
 extended_read words at end address operand h f =
@@ -245,7 +245,7 @@ extended_read words at end address operand h f =
     let Q = λ (n : ℕ). IsExpressionText words n end h.1 in
     let all = both (has_digits words (at + 1)) (is_assign (piece_at words (at + 1 + 1))) (digits_only words (at + 1) h.3) (subst P place (ap is_assign h.4.0)) in
     aux_read words at h.0 (piece.Number h.3.0) h.2 h.3.1
-    ∙ rw (all, value_only words (at + 1 + 2) end h.1 (subst Q further h.4.1) (behind_follows words end f), h.5, h.6) refl
+    ∙ rw (all, value_only words (at + 1 + 2) end h.1 (subst Q further h.4.1) (after_follows words end f), h.5, h.6) refl
 
 spindle_no_radius : (text : List ℕ) → is_spindle_word text ≡ true → is_word text (codes "CR") ≡ false
 unfolding is_spindle_word
@@ -262,14 +262,14 @@ bracket_only words at end None h a =
 bracket_only words at end (Some t) h a = rw (h.1, bracketed_only words at end t h) refl
 
 spindle_read : (words : WordsView) (at end : ℕ) (address : List ℕ) (bracket : Option Tree) (operand : OperandView) → IsSpindleWord words at end address bracket operand →
-    Behind words end → word_at words at ≡ Ok (Aux address bracket operand, end)
+    Following words end → word_at words at ≡ Ok (Aux address bracket operand, end)
 unfolding name_word spindle_at
 spindle_read words at end address bracket operand h f =
     name_read words at h.2
-    ∙ rw (spindle_no_radius (text_at words at) h.3, h.3, bracket_only words (at + 1) h.0 bracket h.4 h.5.0, assigned_only words h.0 end h.1 h.5 (behind_follows words end f), h.6, h.7) refl
+    ∙ rw (spindle_no_radius (text_at words at) h.3, h.3, bracket_only words (at + 1) h.0 bracket h.4 h.5.0, assigned_only words h.0 end h.1 h.5 (after_follows words end f), h.6, h.7) refl
 
 pub aux_only : (words : WordsView) (at end : ℕ) (address : List ℕ) (bracket : Option Tree) (operand : OperandView) → IsAux words at end address bracket operand →
-    Behind words end → word_at words at ≡ Ok (Aux address bracket operand, end)
+    Following words end → word_at words at ≡ Ok (Aux address bracket operand, end)
 aux_only words at end address bracket operand h f =
     elim h [
       | inl a ↦ rw a.0 (numbered_read words at end address operand a.1 f)
@@ -282,10 +282,10 @@ aux_only words at end address bracket operand h f =
       ]
     ]
 
-pub program_end_read : (words : WordsView) (at end : ℕ) → IsProgramEnd words at end → Behind words end → word_at words at ≡ Ok (End, end)
+pub program_end_read : (words : WordsView) (at end : ℕ) → IsProgramEnd words at end → Following words end → word_at words at ≡ Ok (End, end)
 unfolding numbered_aux has_digits_assign
 program_end_read words at end h f =
     let place : end ≡ at + 1 + 1 = omega (arith, h.4) in
     let P = λ (n : ℕ). is_assign (piece_at words n) ≡ false in
-    let none = last_false (has_digits words (at + 1)) (is_assign (piece_at words (at + 1 + 1))) (subst P place (behind_assign words end f)) in
+    let none = last_false (has_digits words (at + 1)) (is_assign (piece_at words (at + 1 + 1))) (subst P place (after_assign words end f)) in
     aux_read words at 77 (piece.Number h.0) (h.1, refl) h.2 ∙ rw (none, h.3, place) refl

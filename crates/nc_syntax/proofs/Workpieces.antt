@@ -23,9 +23,9 @@ use Rattle.nc_syntax.proofs.Stepping.{after, one_step}
 use Rattle.nc_syntax.proofs.Signs.{opens}
 use Rattle.nc_syntax.proofs.Words.{made}
 use Rattle.nc_syntax.proofs.Forms.{ends}
-use Rattle.nc_forms.specs.LineEnds.{alone}
+use Rattle.nc_forms.specs.LineEnds.{statement_alone}
 use Rattle.nc_forms.specs.Parentheses.{is_close, is_close_kind}
-use Rattle.nc_forms.specs.Coordination.{behind_last, last_close, is_broken, has_broken, workpiece_form}
+use Rattle.nc_forms.specs.Coordination.{after_last, last_close, is_broken, has_broken, workpiece_form}
 
 -- the count of tokens up to the last ) of a list
 abbrev up : Bool → Option ℕ → Option ℕ
@@ -98,12 +98,12 @@ counts (t ∷ ts) =
     let R = λ (xs : List Token). Counts (up (closes t) (upto ts)) (prefix_len open_part xs) (length (t ∷ ts)) in
     subst R turned (subst Q next one)
 
-behind_case : (o : Option ℕ) (clear all : ℕ) → Counts o clear all → behind_last all (cond (nat_lt clear all) (Some clear) None) ≡ counted o
-behind_case (Some n) clear all h =
+after_case : (o : Option ℕ) (clear all : ℕ) → Counts o clear all → after_last all (cond (nat_lt clear all) (Some clear) None) ≡ counted o
+after_case (Some n) clear all h =
     let l : nat_lt clear all ≡ true = lt-ltb clear all (omega (arith, h.0, h.1)) in
     let e : all - clear ≡ n = omega (arith, h.0) in
     rw l (ap (λ (k : ℕ). Ok k) e)
-behind_case None clear all h =
+after_case None clear all h =
     let l : nat_lt clear all ≡ false = le-ltb clear all (omega (arith, h)) in rw l refl
 
 last_is : (tokens : List Token) → last_close tokens ≡ counted (upto tokens)
@@ -111,8 +111,8 @@ unfolding last_close
 last_is tokens =
     let same : length (reverse tokens) ≡ length tokens = length-reverse tokens in
     let clear = prefix_len open_part (reverse tokens) in
-    ap (λ (n : ℕ). behind_last (length tokens) (cond (nat_lt clear n) (Some clear) None)) same
-    ∙ behind_case (upto tokens) clear (length tokens) (counts tokens)
+    ap (λ (n : ℕ). after_last (length tokens) (cond (nat_lt clear n) (Some clear) None)) same
+    ∙ after_case (upto tokens) clear (length tokens) (counts tokens)
 
 -- the last ) of a line, seen from a place
 upto_drop : (tokens : List Token) (i k : ℕ) → upto (drop i tokens) ≡ Some k → upto tokens ≡ Some (i + k)
@@ -148,7 +148,7 @@ any_upto (t ∷ ts) = ap (λ (b : Bool). closes t || b) (any_upto ts) ∙ sym (u
 
 -- what becomes of the line
 abbrev result : WordsView → ℕ → Bool → Option ℕ → Option ℕ
-result words i c (Some k) = follow (cond (has_broken words i k) (Err 22) (alone words (i + k) Message)) (λ s. None)
+result words i c (Some k) = follow (cond (has_broken words i k) (Err 22) (statement_alone words (i + k) Message)) (λ s. None)
 result words i true None = follow (end_at words i) (λ n. None)
 result words i false None = Some (rest_of words (last_close words.tokens))
 
@@ -160,7 +160,7 @@ whole_one words i k p e b c d =
     rw (e, b, same) refl
 
 closed_one : (words : WordsView) (i : ℕ) (p : Piece) → piece_at words i ≡ p → is_broken p ≡ false → (c : Bool) → result words (i + 1) true None ≡ result words i c (Some 1)
-unfolding has_broken alone
+unfolding has_broken statement_alone
 closed_one words i p e b c = rw (e, b) (made {B = Statement} (end_at words (i + 1)) (λ n. Message) (λ s. None))
 
 shut_case : (words : WordsView) (i : ℕ) (c : Bool) (o : Option ℕ) → piece_at words i ≡ piece.Close → result words (i + 1) true o ≡ result words i c (up true o)
@@ -252,18 +252,18 @@ scan (suc n) words i c h f =
     let l : has_close_from words i ≡ some (up b o) = any_upto (drop i words.tokens) ∙ ap some all in
     let g : c ≡ true → up b o ≡ None → last_close words.tokens ≡ Ok i = λ (x : c ≡ true) (k : up b o ≡ None). f x (all ∙ k) in
     let place : i + 1 + n ≡ length words.tokens = omega (arith, h) in
-    let behind : b ≡ true → upto (drop (i + 1) words.tokens) ≡ None → last_close words.tokens ≡ Ok (i + 1) =
+    let following : b ≡ true → upto (drop (i + 1) words.tokens) ≡ None → last_close words.tokens ≡ Ok (i + 1) =
     λ (x : b ≡ true) (k : upto (drop (i + 1) words.tokens) ≡ None).
     last_is words.tokens ∙ ap counted (upto_drop words.tokens i 1 (all ∙ ap (λ (y : Bool). up y o) x ∙ ap (up true) k)) in
     one_step words i (Anything c) []
     ∙ step_case words i c b o (piece_at words i) refl (token_close words i t b there refl) (no_end words i within (is_end (piece_at words i)) refl) l g
-    (λ (x : b ≡ true). scan n words (i + 1) true place (λ (y : true ≡ true) (k : upto (drop (i + 1) words.tokens) ≡ None). behind x k))
+    (λ (x : b ≡ true). scan n words (i + 1) true place (λ (y : true ≡ true) (k : upto (drop (i + 1) words.tokens) ≡ None). following x k))
     (scan n words (i + 1) false place (λ (y : false ≡ true) (k : upto (drop (i + 1) words.tokens) ≡ None). absurd (not_true y)))
     ∙ ap (result words i c) (sym all)
 
 none_case : (words : WordsView) (at : ℕ) (o : Option ℕ) → ((e : ℕ) → o ≡ Some e → e < at + 1 × e < length words.tokens) → last_close words.tokens ≡ counted o →
-    Some (rest_of words (last_close words.tokens)) ≡ follow (last_close words.tokens >>= λ end. cond (has_broken words (at + 1) (end - (at + 1))) (Err 22) (alone words end Message)) (λ s. None)
-unfolding has_broken alone
+    Some (rest_of words (last_close words.tokens)) ≡ follow (last_close words.tokens >>= λ end. cond (has_broken words (at + 1) (end - (at + 1))) (Err 22) (statement_alone words end Message)) (λ s. None)
+unfolding has_broken statement_alone
 none_case words at None f e = rw e refl
 none_case words at (Some k) f e =
     let b = f k refl in
@@ -271,14 +271,14 @@ none_case words at (Some k) f e =
     rw (e, gone) (sym (open_end words k (piece_at words k) refl (no_end words k b.1 (is_end (piece_at words k)) refl)) ∙ made {B = Statement} (end_at words k) (λ n. Message) (λ s. None))
 
 some_case : (words : WordsView) (at k : ℕ) → last_close words.tokens ≡ Ok (at + 1 + k) →
-    result words (at + 1) false (Some k) ≡ follow (last_close words.tokens >>= λ end. cond (has_broken words (at + 1) (end - (at + 1))) (Err 22) (alone words end Message)) (λ s. None)
+    result words (at + 1) false (Some k) ≡ follow (last_close words.tokens >>= λ end. cond (has_broken words (at + 1) (end - (at + 1))) (Err 22) (statement_alone words end Message)) (λ s. None)
 some_case words at k e =
     let count : at + 1 + k - (at + 1) ≡ k = omega arith in rw (e, count) refl
 
-behind_open : (words : WordsView) (at : ℕ) → piece_at words at ≡ piece.Open → at < length words.tokens → (o : Option ℕ) → upto (drop (at + 1) words.tokens) ≡ o →
-    result words (at + 1) false o ≡ follow (last_close words.tokens >>= λ end. cond (has_broken words (at + 1) (end - (at + 1))) (Err 22) (alone words end Message)) (λ s. None)
-behind_open words at e within (Some k) h = some_case words at k (last_is words.tokens ∙ ap counted (upto_drop words.tokens (at + 1) k h))
-behind_open words at e within None h =
+following_open : (words : WordsView) (at : ℕ) → piece_at words at ≡ piece.Open → at < length words.tokens → (o : Option ℕ) → upto (drop (at + 1) words.tokens) ≡ o →
+    result words (at + 1) false o ≡ follow (last_close words.tokens >>= λ end. cond (has_broken words (at + 1) (end - (at + 1))) (Err 22) (statement_alone words end Message)) (λ s. None)
+following_open words at e within (Some k) h = some_case words at k (last_is words.tokens ∙ ap counted (upto_drop words.tokens (at + 1) k h))
+following_open words at e within None h =
     let d : Token = record { kind = kind.Name; start = 0; end = 0 } in
     let t = get_or words.tokens at d in
     let more : drop at words.tokens ≡ t ∷ drop (at + 1) words.tokens = drop_more words.tokens at d within in
@@ -289,13 +289,13 @@ behind_open words at e within None h =
 
 work_case : (words : WordsView) (at : ℕ) (p : Piece) → piece_at words at ≡ p →
     follow (open_of p (at + 1) 22) (λ n. run_at words n (Anything false ∷ []))
-    ≡ follow (open_of p (at + 1) 22 >>= λ first. last_close words.tokens >>= λ end. cond (has_broken words first (end - first)) (Err 22) (alone words end Message)) (λ s. None)
+    ≡ follow (open_of p (at + 1) 22 >>= λ first. last_close words.tokens >>= λ end. cond (has_broken words first (end - first)) (Err 22) (statement_alone words end Message)) (λ s. None)
 work_case words at piece.Open e =
     let within = piece_within words at piece.Open e tt in
     let n = length words.tokens - (at + 1) in
     let place : at + 1 + n ≡ length words.tokens = omega (arith, within) in
     scan n words (at + 1) false place (λ (y : false ≡ true) (k : upto (drop (at + 1) words.tokens) ≡ None). absurd (not_true y))
-    ∙ behind_open words at e within (upto (drop (at + 1) words.tokens)) refl
+    ∙ following_open words at e within (upto (drop (at + 1) words.tokens)) refl
 work_case words at p e = refl
 
 -- what WORKPIECE reads in its parentheses

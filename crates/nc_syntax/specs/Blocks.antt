@@ -21,7 +21,7 @@ abbrev pub is_colon : Piece → Bool
 is_colon piece.Colon = true
 is_colon one = false
 
--- whether `/` begins the line, and the place behind it; a number there is 59
+-- whether `/` begins the line, and the place after it; a number there is 59
 unfoldable pub skip_of : WordsView → Result (Bool × ℕ) ℕ
 skip_of words =
     if is_slash (piece_at words 0) then (if is_number (piece_at words 1) then Err 59 else Ok (true, 1)) else Ok (false, 0)
@@ -29,19 +29,19 @@ skip_of words =
 unfoldable pub has_number : WordsView → ℕ → Bool
 has_number words at = is_letter (piece_at words at) 78 && is_number (piece_at words (at + 1))
 
--- N with a number, if they stand there, and the place behind; 78 is 'N'
+-- N with a number, if they stand there, and the place after; 78 is 'N'
 unfoldable pub number_at : WordsView → ℕ → Result (Option ℕ × ℕ) ℕ
 number_at words at =
     if has_number words at
     then (block_number_at words (at + 1) >>= λ n. Ok (Some n, at + 2))
     else Ok (None, at)
 
--- a name and :, if they stand there, and the place behind
+-- a name and :, if they stand there, and the place after
 unfoldable pub label_at : WordsView → ℕ → Option (List ℕ) × ℕ
 label_at words at =
     if is_name (piece_at words at) && is_colon (piece_at words (at + 1)) then (Some (name_of (text_at words at)), at + 2) else (None, at)
 
--- what stands before the label, and the place behind it
+-- what stands before the label, and the place after it
 unfoldable pub head_of : WordsView → Result (Bool × Option ℕ × ℕ) ℕ
 head_of words = do
   skip ← skip_of words

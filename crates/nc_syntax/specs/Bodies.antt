@@ -17,7 +17,7 @@ use Rattle.nc_blocks.specs.Names.{name_of}
 use Rattle.nc_blocks.specs.Pieces.{piece_at, text_at}
 use Rattle.nc_expressions.specs.Value.{◌>>=◌}
 use Rattle.nc_syntax.specs.Jumps.{way_of, jump_form, if_form, case_form}
-use Rattle.nc_forms.specs.LineEnds.{alone}
+use Rattle.nc_forms.specs.LineEnds.{statement_alone}
 use Rattle.nc_syntax.specs.Structures.{last_expression, for_form, repeat_form, repeat_block_form, call_form, number_call_form, proc_form}
 use Rattle.nc_forms.specs.Frames.{shape_form, turn_form}
 use Rattle.nc_forms.specs.Coordination.{msg_form, setms_form, workpiece_form, coordination_form}
@@ -87,25 +87,25 @@ form_of text =
     option_or (jump_name (way_of text))
     (option_or (structure_name text) (option_or (control_name text) (option_or (frame_name text) (coordination_name text))))
 
--- the form of a control word, behind its name
+-- the form of a control word, after its name
 unfoldable pub control_form : WordsView → Control → ℕ → Result Statement ℕ
 control_form words control.If at = if_form words at
-control_form words control.Else at = alone words at Else
-control_form words control.EndIf at = alone words at EndIf
+control_form words control.Else at = statement_alone words at Else
+control_form words control.EndIf at = statement_alone words at EndIf
 control_form words control.While at = last_expression words at >>= λ t. Ok (While t)
-control_form words control.EndWhile at = alone words at EndWhile
+control_form words control.EndWhile at = statement_alone words at EndWhile
 control_form words control.Until at = last_expression words at >>= λ t. Ok (Until t)
-control_form words control.Loop at = alone words at Loop
-control_form words control.EndLoop at = alone words at EndLoop
+control_form words control.Loop at = statement_alone words at Loop
+control_form words control.EndLoop at = statement_alone words at EndLoop
 control_form words control.For at = for_form words at
-control_form words control.EndFor at = alone words at EndFor
+control_form words control.EndFor at = statement_alone words at EndFor
 control_form words control.Case at = case_form words at
 control_form words control.Repeat at = repeat_form words at
 control_form words control.RepeatBlock at = repeat_block_form words at
-control_form words control.Return at = alone words at Return
+control_form words control.Return at = statement_alone words at Return
 control_form words control.Proc at = proc_form words at
 
--- a form, behind its first name
+-- a form, after its first name
 unfoldable pub form_body : WordsView → Form → ℕ → Result Statement ℕ
 form_body words (form.Jump way) at = jump_form words way at
 form_body words (form.Control which) at = control_form words which at
@@ -113,7 +113,7 @@ form_body words (form.Shape which) at = shape_form words which at
 form_body words (form.Turn more) at = turn_form words more at
 form_body words (form.Coord which) at = coordination_form words which at
 form_body words form.Msg at = msg_form words at
-form_body words form.Stopre at = alone words at Message
+form_body words form.Stopre at = statement_alone words at Message
 form_body words form.Setms at = setms_form words at
 form_body words form.Workpiece at = workpiece_form words at
 

@@ -14,11 +14,11 @@ use Rattle.nc_syntax.specs.declared.bodies.Form.TheVariants as form
 use Rattle.nc_syntax.specs.Structures.{is_letter}
 use Rattle.nc_syntax.specs.Bodies.{form_of, is_number}
 use Rattle.nc_syntax.specs.Blocks.{is_slash, is_colon}
-use Rattle.nc_syntax.specs.Wanted.{Mark, mark_at, Opens, Closes, Commas, Assigns, Keyword, ATarget, IfBehind, AJump, Signed, MorePairs, CounterLetter, Counter, Times, RepeatBehind, ALabel, Parentheses, Passes, Displof, MoreAxes, Angle, TurnEnd, MoreValues, AxisArgument, MoreArguments, ClearArguments, Quoted, InitLast, TextOrNot, SetmsBehind, Anything, AfterL, AWord, MoreWords, start, Do, Push, Pass, No, name_want, Stack, Next, On, Done, Refuse, on_mark}
+use Rattle.nc_syntax.specs.Wanted.{Mark, mark_at, Opens, Closes, Commas, Assigns, Keyword, ATarget, IfAfter, AJump, Signed, MorePairs, CounterLetter, Counter, Times, RepeatAfter, ALabel, Parentheses, Passes, Displof, MoreAxes, Angle, TurnEnd, MoreValues, AxisArgument, MoreArguments, ClearArguments, Quoted, InitLast, TextOrNot, SetmsAfter, Anything, AfterL, AWord, MoreWords, start, Do, Push, Pass, No, name_want, Stack, Next, On, Done, Refuse, on_mark}
 
 -- what each form of control wants after its name, in order
 abbrev pub control_stack : Control → Stack
-control_stack control.If = start false ∷ IfBehind ∷ []
+control_stack control.If = start false ∷ IfAfter ∷ []
 control_stack control.Else = []
 control_stack control.EndIf = []
 control_stack control.While = start false ∷ []
@@ -29,7 +29,7 @@ control_stack control.EndLoop = []
 control_stack control.For = CounterLetter ∷ Counter ∷ Assigns false ∷ start false ∷ Keyword (codes "TO") ∷ start false ∷ []
 control_stack control.EndFor = []
 control_stack control.Case = Opens false ∷ start false ∷ Closes false ∷ Keyword (codes "OF") ∷ Signed ∷ AJump ∷ MorePairs ∷ []
-control_stack control.Repeat = RepeatBehind ∷ []
+control_stack control.Repeat = RepeatAfter ∷ []
 control_stack control.RepeatBlock = ALabel ∷ Times ∷ []
 control_stack control.Return = []
 control_stack control.Proc = ALabel ∷ Displof ∷ []
@@ -64,7 +64,7 @@ form_stack (form.Turn more) = Angle ∷ TurnEnd ∷ []
 form_stack (form.Coord which) = coordination_stack which
 form_stack form.Msg = Opens false ∷ TextOrNot ∷ Closes false ∷ []
 form_stack form.Stopre = []
-form_stack form.Setms = SetmsBehind ∷ []
+form_stack form.Setms = SetmsAfter ∷ []
 form_stack form.Workpiece = Opens false ∷ Anything false ∷ []
 
 -- what a name that begins a body leaves wanted, or its refusal
@@ -97,8 +97,8 @@ beginning text = form_beginning (form_of text) text
 -- body, where these are wanted
 pub data Head : Type 0 where
   AtStart : Head
-  BehindSlash : Head
-  BehindN : Head
+  AfterSlash : Head
+  AfterN : Head
   AtLabel : Head
   Named : List ℕ → Head
   AtBody : Head
@@ -111,10 +111,10 @@ pub data HeadNext : Type 0 where
   Refused : ℕ → HeadNext
 
 -- in the body: what is wanted after a token
-abbrev pub inside : Next → HeadNext
-inside (On st) = HeadOn (Within st)
-inside Done = Over
-inside (Refuse code) = Refused code
+abbrev pub body_next : Next → HeadNext
+body_next (On st) = HeadOn (Within st)
+body_next Done = Over
+body_next (Refuse code) = Refused code
 
 -- after the name of a body
 abbrev pub beginning_next : Beginning → HeadNext
@@ -123,20 +123,20 @@ beginning_next (Stops code) = Refused code
 
 -- the token after the name of a body
 abbrev pub beginning_more : Beginning → Mark → HeadNext
-beginning_more (Goes st) m = inside (on_mark st m)
+beginning_more (Goes st) m = body_next (on_mark st m)
 beginning_more (Stops code) m = Refused code
 
 -- a letter that begins a body: L begins a call, any other a word
 abbrev pub letter_body : Bool → Mark → HeadNext
 letter_body true m = HeadOn (Within (AfterL ∷ []))
-letter_body false m = inside (on_mark (AWord ∷ MoreWords ∷ []) m)
+letter_body false m = body_next (on_mark (AWord ∷ MoreWords ∷ []) m)
 
 -- what begins a body: a name, a letter, or nothing at the end of the line
 abbrev pub body_step : Piece → Mark → HeadNext
 body_step piece.End m = Over
 body_step piece.Name m = beginning_next (beginning m.text)
 body_step (piece.Letter b) m = letter_body (b == 76) m
-body_step one m = inside (on_mark (AWord ∷ MoreWords ∷ []) m)
+body_step one m = body_next (on_mark (AWord ∷ MoreWords ∷ []) m)
 
 -- a label may come first
 abbrev pub label_step : Piece → Mark → HeadNext
@@ -145,7 +145,7 @@ label_step one m = body_step one m
 
 -- N may come first
 abbrev pub number_step : Bool → Mark → HeadNext
-number_step true m = HeadOn BehindN
+number_step true m = HeadOn AfterN
 number_step false m = label_step m.piece m
 
 -- the number of a block, or 22
@@ -165,7 +165,7 @@ after_slash false m = number_step (is_letter m.piece 78) m
 
 -- / may come first
 abbrev pub start_step : Bool → Mark → HeadNext
-start_step true m = HeadOn BehindSlash
+start_step true m = HeadOn AfterSlash
 start_step false m = number_step (is_letter m.piece 78) m
 
 -- after a name: a colon makes it a label, else it begins the body
@@ -176,12 +176,12 @@ named_step false text m = beginning_more (beginning text) m
 -- what a token does to a line that is so far: in its body, what `want` says of the things that are wanted
 unfoldable pub head_step : Head → Mark → HeadNext
 head_step AtStart m = start_step (is_slash m.piece) m
-head_step BehindSlash m = after_slash (is_number m.piece) m
-head_step BehindN m = after_n m.piece m.text
+head_step AfterSlash m = after_slash (is_number m.piece) m
+head_step AfterN m = after_n m.piece m.text
 head_step AtLabel m = label_step m.piece m
 head_step (Named text) m = named_step (is_colon m.piece) text m
 head_step AtBody m = body_step m.piece m
-head_step (Within st) m = inside (on_mark st m)
+head_step (Within st) m = body_next (on_mark st m)
 
 -- how far the line is after a token, if it goes on
 abbrev pub state_of : HeadNext → Option Head

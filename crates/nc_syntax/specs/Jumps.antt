@@ -38,7 +38,7 @@ abbrev pub is_n : Piece → Bool
 is_n (piece.Letter b) = b == 78
 is_n one = false
 
--- a name, or N with one to eight digits, and the place behind it
+-- a name, or N with one to eight digits, and the place after it
 abbrev pub target_of : WordsView → ℕ → Piece → Result (Target × ℕ) ℕ
 target_of words at piece.Name = Ok (target.Label (name_of (text_at words at)), at + 1)
 target_of words at one = if is_n one then (block_number_at words (at + 1) >>= λ n. Ok (target.Number n, at + 2)) else Err 22
@@ -52,26 +52,26 @@ jump_at words way at = do
   p ← target_at words at
   Ok (record { way = way; target = p.0 }, p.1)
 
--- a jump with its target at a place, where nothing stands behind it
+-- a jump with its target at a place, where nothing stands after it
 unfoldable pub last_jump : WordsView → Way → ℕ → Result JumpTo ℕ
 last_jump words way at = do
   p ← jump_at words way at
   end ← end_at words p.1
   Ok p.0
 
-abbrev pub if_behind : WordsView → Tree → ℕ → Option Way → Result Statement ℕ
-if_behind words t at (Some way) = last_jump words way (at + 1) >>= λ jump. Ok (IfJump t jump)
-if_behind words t at None = end_at words at >>= λ end. Ok (If t)
+abbrev pub if_after : WordsView → Tree → ℕ → Option Way → Result Statement ℕ
+if_after words t at (Some way) = last_jump words way (at + 1) >>= λ jump. Ok (IfJump t jump)
+if_after words t at None = end_at words at >>= λ end. Ok (If t)
 
--- IF, behind its name: with a jump or without one
+-- IF, after its name: with a jump or without one
 unfoldable pub if_form : WordsView → ℕ → Result Statement ℕ
-if_form words at = expression_at words at >>= λ p. if_behind words p.0 p.1 (way_at words p.1)
+if_form words at = expression_at words at >>= λ p. if_after words p.0 p.1 (way_at words p.1)
 
--- a jump, behind its name
+-- a jump, after its name
 unfoldable pub jump_form : WordsView → Way → ℕ → Result Statement ℕ
 jump_form words way at = last_jump words way at >>= λ jump. Ok (Jump jump)
 
--- ) OF, and the place behind
+-- ) OF, and the place after
 unfoldable pub case_names : WordsView → ℕ → Result ℕ ℕ
 case_names words at = close_at words at 22 >>= λ closed. keyword_at words closed (codes "OF")
 
@@ -80,8 +80,8 @@ unfoldable pub case_value : WordsView → ℕ → Result (Tree × ℕ) ℕ
 case_value words at = do
   first ← open_at words at 22
   p ← expression_at words first
-  behind ← case_names words p.1
-  Ok (p.0, behind)
+  following ← case_names words p.1
+  Ok (p.0, following)
 
 abbrev pub begins_number : Piece → Bool
 begins_number (piece.Number z) = true
@@ -93,7 +93,7 @@ abbrev pub jump_of : WordsView → Option Way → ℕ → Result (JumpTo × ℕ)
 jump_of words (Some way) at = jump_at words way at
 jump_of words None at = Err 22
 
--- a jump from its name on, and the place behind it
+-- a jump from its name on, and the place after it
 unfoldable pub named_jump : WordsView → ℕ → Result (JumpTo × ℕ) ℕ
 named_jump words at = jump_of words (way_at words at) (at + 1)
 
@@ -104,14 +104,14 @@ pair_at words at = do
   jump ← named_jump words z.1
   Ok ((z.0, jump.0), begins_number (piece_at words jump.1), jump.1)
 
--- DEFAULT and its jump, if they stand there, behind which nothing stands
+-- DEFAULT and its jump, if they stand there, after which nothing stands
 unfoldable pub default_at : WordsView → ℕ → Result (Option JumpTo) ℕ
 default_at words at =
     if is_keyword words at (codes "DEFAULT")
     then (named_jump words (at + 1) >>= λ jump. end_at words jump.1 >>= λ end. Ok (Some jump.0))
     else (end_at words at >>= λ end. Ok None)
 
--- CASE, behind its name
+-- CASE, after its name
 unfoldable pub case_form : WordsView → ℕ → Result Statement ℕ
 case_form words at = do
   value ← case_value words at

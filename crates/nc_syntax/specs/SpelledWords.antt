@@ -8,7 +8,7 @@ use Rattle.nc_blocks.specs.declared.blocks.Measure.TheVariants.{Modal, Absolute,
 use Rattle.nc_blocks.specs.declared.pieces.Piece.TheVariants as piece
 use Rattle.nc_blocks.specs.Names.{upper}
 use Rattle.nc_blocks.specs.Pieces.{piece_at, text_at}
-use Rattle.nc_blocks.specs.Texts.{unquoted}
+use Rattle.nc_blocks.specs.Texts.{text_within_quotes}
 use Rattle.nc_blocks.specs.Wording.{is_slot_letter, is_centre_letter, is_aux_letter, is_program_end, is_spindle_word}
 use Rattle.nc_forms.specs.Standing.{IsKeyword, IsExpressionText, IsSignedNumber, IsDigits, IsIndex, IsEnclosed, IsBracketed, IsAssigned, IsAxisName}
 use Rattle.nc_blocks.specs.Statement.{OperandView, Value, Text, AxisName, WordView, Assign, AssignAt, G, Axis, Radius, Aux, End}
@@ -20,7 +20,7 @@ IsGroupWord words at end group code =
     × (word_by_number z ≡ Some (record { group = group; code = code })) × (end ≡ at + 2))
     ⊎ ((piece_at words at ≡ piece.Name) × (word_by_name (text_at words at) ≡ Some (record { group = group; code = code })) × (end ≡ at + 1))
 
--- what stands behind the = of an axis word: an expression, AC ( expr ) or IC ( expr )
+-- what stands after the = of an axis word: an expression, AC ( expr ) or IC ( expr )
 abbrev pub IsMeasured : WordsView → ℕ → ℕ → Measure → Tree → Type 0
 IsMeasured words at end Modal t = IsExpressionText words at end t
 IsMeasured words at end Absolute t = IsKeyword words at (codes "AC") × IsEnclosed words (at + 1) end t
@@ -52,7 +52,7 @@ IsNumberedAux words at end address operand =
 -- a value, or a text without its quotes
 abbrev pub IsOperand : WordsView → ℕ → ℕ → OperandView → Type 0
 IsOperand words at end (Value t) = IsExpressionText words at end t
-IsOperand words at end (Text bytes) = (piece_at words at ≡ piece.Text) × (bytes ≡ unquoted (text_at words at)) × (end ≡ at + 1)
+IsOperand words at end (Text bytes) = (piece_at words at ≡ piece.Text) × (bytes ≡ text_within_quotes (text_at words at)) × (end ≡ at + 1)
 IsOperand words at end (AxisName name) = ⊥
 
 -- with = and a value or a text

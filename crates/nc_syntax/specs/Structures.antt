@@ -12,10 +12,10 @@ use Rattle.nc_blocks.specs.Marks.{code_at, end_at, assign_at, is_keyword, keywor
 use Rattle.nc_expressions.specs.Value.{◌>>=◌}
 use Rattle.nc_blocks.specs.Reading.{expression_at, index_at, label_at}
 use Rattle.nc_blocks.specs.Statement.{Statement, For, RepeatFrom, RepeatBlock, Repeat, Call, Proc}
-use Rattle.nc_forms.specs.LineEnds.{alone}
+use Rattle.nc_forms.specs.LineEnds.{statement_alone}
 use Rattle.nc_forms.specs.Parentheses.{is_close, is_close_kind, is_open}
 
--- an expression behind which nothing stands
+-- an expression after which nothing stands
 unfoldable pub last_expression : WordsView → ℕ → Result Tree ℕ
 last_expression words at = do
   p ← expression_at words at
@@ -26,21 +26,21 @@ abbrev pub is_letter : Piece → ℕ → Bool
 is_letter (piece.Letter b) letter = b == letter
 is_letter one letter = false
 
--- R digits =, and the place behind it; 82 is 'R'
+-- R digits =, and the place after it; 82 is 'R'
 unfoldable pub counter_at : WordsView → ℕ → Result (ℕ × ℕ) ℕ
 counter_at words at =
     if is_letter (piece_at words at) 82
-    then (index_at words (at + 1) 22 >>= λ i. assign_at words (at + 2) 22 >>= λ behind. Ok (i, behind))
+    then (index_at words (at + 1) 22 >>= λ i. assign_at words (at + 2) 22 >>= λ following. Ok (i, following))
     else Err 22
 
--- an expression and TO, and the place behind
+-- an expression and TO, and the place after
 unfoldable pub first_value : WordsView → ℕ → Result (Tree × ℕ) ℕ
 first_value words at = do
   p ← expression_at words at
-  behind ← keyword_at words p.1 (codes "TO")
-  Ok (p.0, behind)
+  following ← keyword_at words p.1 (codes "TO")
+  Ok (p.0, following)
 
--- FOR, behind its name
+-- FOR, after its name
 unfoldable pub for_form : WordsView → ℕ → Result Statement ℕ
 for_form words at = do
   counter ← counter_at words at
@@ -48,21 +48,21 @@ for_form words at = do
   last ← last_expression words first.1
   Ok (For counter.0 first.0 last)
 
--- P=expr, or nothing, behind which nothing stands; 80 is 'P'
+-- P=expr, or nothing, after which nothing stands; 80 is 'P'
 unfoldable pub times_at : WordsView → ℕ → Result (Option Tree) ℕ
 times_at words at =
     if is_letter (piece_at words at) 80
-    then (assign_at words (at + 1) 22 >>= λ behind. last_expression words behind >>= λ t. Ok (Some t))
+    then (assign_at words (at + 1) 22 >>= λ following. last_expression words following >>= λ t. Ok (Some t))
     else end_at words at >>= λ end. Ok None
 
--- REPEAT, behind its name: with a label, or of a loop
+-- REPEAT, after its name: with a label, or of a loop
 unfoldable pub repeat_form : WordsView → ℕ → Result Statement ℕ
 repeat_form words at =
     if is_name (piece_at words at)
     then (times_at words (at + 1) >>= λ times. Ok (RepeatFrom (name_of (text_at words at)) times))
-    else alone words at Repeat
+    else statement_alone words at Repeat
 
--- REPEATB, behind its name
+-- REPEATB, after its name
 unfoldable pub repeat_block_form : WordsView → ℕ → Result Statement ℕ
 repeat_block_form words at = do
   label ← label_at words at
@@ -73,7 +73,7 @@ repeat_block_form words at = do
 unfoldable pub has_close : WordsView → Bool
 has_close words = list_any (λ token. is_close_kind token.kind) words.tokens
 
--- ( ) behind a call, if they stand there, and the place behind; anything between them is 58
+-- ( ) after a call, if they stand there, and the place after; anything between them is 58
 unfoldable pub parentheses_at : WordsView → ℕ → Result ℕ ℕ
 parentheses_at words at =
     if is_open (piece_at words at)
@@ -89,18 +89,18 @@ abbrev pub count_of_piece : Piece → Result ℕ ℕ
 count_of_piece (piece.Number z) = pass_count z
 count_of_piece one = Err 22
 
--- P with a number behind a call, or 1, behind which nothing stands
+-- P with a number after a call, or 1, after which nothing stands
 unfoldable pub passes_at : WordsView → ℕ → Result ℕ ℕ
 passes_at words at =
     if is_letter (piece_at words at) 80
     then (count_of_piece (piece_at words (at + 1)) >>= λ n. end_at words (at + 2) >>= λ end. Ok n)
     else end_at words at >>= λ end. Ok 1
 
--- how often a program is called, behind its name
+-- how often a program is called, after its name
 unfoldable pub call_passes : WordsView → ℕ → Result ℕ ℕ
-call_passes words at = parentheses_at words at >>= λ behind. passes_at words behind
+call_passes words at = parentheses_at words at >>= λ following. passes_at words following
 
--- a call, behind its name
+-- a call, after its name
 unfoldable pub call_form : WordsView → List ℕ → ℕ → Result Statement ℕ
 call_form words name at = call_passes words at >>= λ passes. Ok (Call name passes)
 
@@ -108,12 +108,12 @@ call_form words name at = call_passes words at >>= λ passes. Ok (Call name pass
 unfoldable pub number_name : List ℕ → Result (List ℕ) ℕ
 number_name digits = if is_digits digits && nat_le (length digits) 31 then Ok (76 ∷ digits) else Err 22
 
--- a call of L and digits, behind the L
+-- a call of L and digits, after the L
 unfoldable pub number_call_form : WordsView → ℕ → Result Statement ℕ
 number_call_form words at = number_name (text_at words at) >>= λ name. call_form words name (at + 1)
 
--- PROC, behind its name
+-- PROC, after its name
 unfoldable pub proc_form : WordsView → ℕ → Result Statement ℕ
 proc_form words at = do
   name ← label_at words at
-  alone words (if is_keyword words (at + 1) (codes "DISPLOF") then at + 2 else at + 1) (Proc name)
+  statement_alone words (if is_keyword words (at + 1) (codes "DISPLOF") then at + 2 else at + 1) (Proc name)

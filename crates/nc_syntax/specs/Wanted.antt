@@ -14,7 +14,7 @@ use Rattle.nc_blocks.specs.declared.pieces.Piece.TheVariants as piece
 use Rattle.nc_blocks.specs.Pieces.{piece_at, text_at, is_name, is_text, is_assign}
 use Rattle.nc_blocks.specs.Marks.{code_of, word_code_of}
 use Rattle.nc_blocks.specs.AxisNames.{is_axis_letter, is_digits_piece, has_axis_word}
-use Rattle.nc_blocks.specs.Texts.{unquoted}
+use Rattle.nc_blocks.specs.Texts.{text_within_quotes}
 use Rattle.nc_blocks.specs.declared.blocks.Way.{Way}
 use Rattle.nc_syntax.specs.Jumps.{way_of_piece, is_n}
 use Rattle.nc_syntax.specs.Structures.{is_letter, has_close, count_of_piece}
@@ -83,14 +83,14 @@ pub data Wanted : Type 0 where
   Commas : Wanted
   ATarget : Wanted
   BlockNumber : Wanted
-  IfBehind : Wanted
+  IfAfter : Wanted
   AJump : Wanted
   Signed : Wanted
   MorePairs : Wanted
   CounterLetter : Wanted
   Counter : Wanted
   Times : Wanted
-  RepeatBehind : Wanted
+  RepeatAfter : Wanted
   ALabel : Wanted
   Parentheses : Wanted
   CloseOfCall : Wanted
@@ -111,7 +111,7 @@ pub data Wanted : Type 0 where
   InitLast : Wanted
   Wait : Wanted
   TextOrNot : Wanted
-  SetmsBehind : Wanted
+  SetmsAfter : Wanted
   Anything : Bool → Wanted
   AfterL : Wanted
 
@@ -314,9 +314,9 @@ only_if true = Push []
 only_if false = No 22
 
 -- this, or nothing
-abbrev pub perhaps : Bool → List Wanted → Do
-perhaps true ws = Push ws
-perhaps false ws = Pass
+abbrev pub push_if : Bool → List Wanted → Do
+push_if true ws = Push ws
+push_if false ws = Pass
 
 -- , or 22
 abbrev pub comma_want : Piece → Do
@@ -348,7 +348,7 @@ abbrev pub more_pairs : Bool → Piece → Do
 more_pairs default (piece.Number z) = Push (AJump ∷ MorePairs ∷ [])
 more_pairs default piece.Plus = Push (Constant false ∷ AJump ∷ MorePairs ∷ [])
 more_pairs default piece.Minus = Push (Constant false ∷ AJump ∷ MorePairs ∷ [])
-more_pairs default one = perhaps default (AJump ∷ [])
+more_pairs default one = push_if default (AJump ∷ [])
 
 -- the number of a parameter, or 22
 abbrev pub counter_index : Option ℕ → Do
@@ -437,7 +437,7 @@ quoted_want one = No 22
 
 -- a text that is one of the ways to wait
 abbrev pub wait_want : Piece → List ℕ → Do
-wait_want piece.Text text = only_if (is_wait (unquoted text))
+wait_want piece.Text text = only_if (is_wait (text_within_quotes text))
 wait_want one text = No 22
 
 -- ( expr ), or nothing
@@ -488,27 +488,27 @@ want (Keyword word) m = only_if (is_keyword_mark m word)
 want Commas m = comma_want m.piece
 want ATarget m = target_want m.piece
 want BlockNumber m = block_number_want m.piece m.text
-want IfBehind m = if_want (way_of_piece m.piece m.text)
+want IfAfter m = if_want (way_of_piece m.piece m.text)
 want AJump m = jump_want (way_of_piece m.piece m.text)
 want Signed m = signed_want false m.piece 22
 want MorePairs m = more_pairs (is_keyword_mark m (codes "DEFAULT")) m.piece
 want CounterLetter m = only_if (is_letter m.piece 82)
 want Counter m = counter_want m.piece m.text
-want Times m = perhaps (is_letter m.piece 80) (Assigns false ∷ start false ∷ [])
-want RepeatBehind m = perhaps (is_name m.piece) (Times ∷ [])
+want Times m = push_if (is_letter m.piece 80) (Assigns false ∷ start false ∷ [])
+want RepeatAfter m = push_if (is_name m.piece) (Times ∷ [])
 want ALabel m = label_want m.piece
-want Parentheses m = perhaps (is_open m.piece) (CloseOfCall ∷ [])
+want Parentheses m = push_if (is_open m.piece) (CloseOfCall ∷ [])
 want CloseOfCall m = call_close m.piece m.closes
-want Passes m = perhaps (is_letter m.piece 80) (Count ∷ [])
+want Passes m = push_if (is_letter m.piece 80) (Count ∷ [])
 want Count m = count_want (count_of_piece m.piece)
-want Displof m = perhaps (is_keyword_mark m (codes "DISPLOF")) []
+want Displof m = push_if (is_keyword_mark m (codes "DISPLOF")) []
 want (MoreAxes used) m = more_axes used m.piece
 want FrameValue m = frame_value_want m.piece
-want Angle m = perhaps (is_keyword_mark m (codes "RPL")) (Assigns false ∷ start false ∷ [])
+want Angle m = push_if (is_keyword_mark m (codes "RPL")) (Assigns false ∷ start false ∷ [])
 want TurnEnd m = turn_want (is_slot m.piece || m.axis) m.piece
 want MoreValues m = separator_want (start false ∷ MoreValues ∷ []) m.piece
 want AxisArgument m = axis_argument m.piece
-want AfterArgument m = perhaps (is_digits_piece m.piece m.text) []
+want AfterArgument m = push_if (is_digits_piece m.piece m.text) []
 want ArgumentDigits m = only_if (is_digits_piece m.piece m.text)
 want MoreArguments m = separator_want (AxisArgument ∷ MoreArguments ∷ []) m.piece
 want ClearArguments m = clear_want m m.piece
@@ -516,7 +516,7 @@ want Quoted m = quoted_want m.piece
 want InitLast m = separator_want (Wait ∷ Closes false ∷ []) m.piece
 want Wait m = wait_want m.piece m.text
 want TextOrNot m = text_or_not m.piece
-want SetmsBehind m = setms_want m.piece
+want SetmsAfter m = setms_want m.piece
 want AfterL m = call_want m.piece m.text
 want (Anything closed) m = anything_want closed m m.piece
 

@@ -220,7 +220,7 @@ fn form_of(text: &[u8]) -> Option<Form>
     }
 }
 
-/// The form of a control word, behind its name.
+/// The form of a control word, after its name.
 #[tactic(auto, using(nc_blocks::proofs::Passing::passing), unfolding(crate::specs::Bodies::control_form))]
 fn control_form(
     alloc: Global,
@@ -252,7 +252,7 @@ fn control_form(
     }
 }
 
-/// A form, behind its first name.
+/// A form, after its first name.
 #[tactic(auto, unfolding(crate::specs::Bodies::form_body))]
 fn form_body(alloc: Global, words: &Words<'_>, form: Form, at: usize) -> Result<Stmt, SyntaxFault>
     requires scanned { IsScanned words.now }

@@ -49,7 +49,7 @@ fn way_at(words: &Words<'_>, at: usize) -> Option<Way>
     }
 }
 
-/// The target at a place, and the place behind it.
+/// The target at a place, and the place after it.
 #[tactic(auto, unfolding(crate::specs::Jumps::target_at))]
 fn target_at(words: &Words<'_>, at: usize) -> Result<(Target, usize), u16>
     requires { IsScanned words.now }
@@ -66,7 +66,7 @@ fn target_at(words: &Words<'_>, at: usize) -> Result<(Target, usize), u16>
     }
 }
 
-/// The jump with its target at a place, and the place behind it.
+/// The jump with its target at a place, and the place after it.
 #[tactic(auto, unfolding(crate::specs::Jumps::jump_at))]
 fn jump_at(words: &Words<'_>, way: Way, at: usize) -> Result<(JumpTo, usize), u16>
     requires { IsScanned words.now }
@@ -77,7 +77,7 @@ fn jump_at(words: &Words<'_>, way: Way, at: usize) -> Result<(JumpTo, usize), u1
     Ok((JumpTo { way, target }, end))
 }
 
-/// The jump with its target at a place, where nothing stands behind it.
+/// The jump with its target at a place, where nothing stands after it.
 #[tactic(auto, unfolding(crate::specs::Jumps::last_jump))]
 fn last_jump_at(words: &Words<'_>, way: Way, at: usize) -> Result<JumpTo, u16>
     requires { IsScanned words.now }
@@ -88,7 +88,7 @@ fn last_jump_at(words: &Words<'_>, way: Way, at: usize) -> Result<JumpTo, u16>
     Ok(jump)
 }
 
-/// IF, behind its name: with a jump or without one.
+/// IF, after its name: with a jump or without one.
 #[tactic(auto, using(nc_blocks::proofs::Passing::passing), unfolding(crate::specs::Jumps::if_form))]
 pub(crate) fn if_form(alloc: Global, words: &Words<'_>, at: usize) -> Result<Stmt, SyntaxFault>
     requires scanned { IsScanned words.now }
@@ -109,7 +109,7 @@ pub(crate) fn if_form(alloc: Global, words: &Words<'_>, at: usize) -> Result<Stm
     }
 }
 
-/// The value of CASE: an expression in parentheses and OF, and the place behind.
+/// The value of CASE: an expression in parentheses and OF, and the place after.
 #[tactic(auto, using(nc_blocks::proofs::Passing::passing), unfolding(crate::specs::Jumps::case_value))]
 fn case_value(alloc: Global, words: &Words<'_>, at: usize) -> Result<(Expr, usize), SyntaxFault>
     requires { IsScanned words.now }
@@ -121,7 +121,7 @@ fn case_value(alloc: Global, words: &Words<'_>, at: usize) -> Result<(Expr, usiz
         Ok(first) => {
             let (value, end) = expression_at(alloc, words, first)?;
             match case_names_at(words, end) {
-                Ok(behind) => Ok((value, behind)),
+                Ok(following) => Ok((value, following)),
                 Err(code) => Err(SyntaxFault::Refused(code)),
             }
         }
@@ -129,7 +129,7 @@ fn case_value(alloc: Global, words: &Words<'_>, at: usize) -> Result<(Expr, usiz
     }
 }
 
-/// `)` and OF: the place behind.
+/// `)` and OF: the place after.
 #[tactic(auto, unfolding(crate::specs::Jumps::case_names))]
 fn case_names_at(words: &Words<'_>, at: usize) -> Result<usize, u16>
     requires { IsScanned words.now }
@@ -147,7 +147,7 @@ fn begins_number(piece: Piece) -> bool
     matches!(piece, Piece::Number(_) | Piece::Plus | Piece::Minus)
 }
 
-/// The jump that begins at a place with its name, and the place behind it.
+/// The jump that begins at a place with its name, and the place after it.
 #[tactic(auto, unfolding(crate::specs::Jumps::named_jump))]
 fn named_jump(words: &Words<'_>, at: usize) -> Result<(JumpTo, usize), u16>
     requires { IsScanned words.now }
@@ -160,7 +160,7 @@ fn named_jump(words: &Words<'_>, at: usize) -> Result<(JumpTo, usize), u16>
     }
 }
 
-/// A number and a jump, whether another pair follows, and the place behind.
+/// A number and a jump, whether another pair follows, and the place after.
 #[tactic(auto, unfolding(crate::specs::Jumps::pair_at))]
 fn pair_at(words: &Words<'_>, at: usize) -> Result<((Num, JumpTo), bool, usize), u16>
     requires scanned { IsScanned words.now }
@@ -187,7 +187,7 @@ fn pair_item_at(words: &Words<'_>, at: usize) -> Result<((Num, JumpTo), bool, us
     }
 }
 
-/// The pairs of a CASE, one at least, and the place behind them.
+/// The pairs of a CASE, one at least, and the place after them.
 #[tactic(auto, using(nc_blocks::proofs::Listing::list_steps))]
 fn pairs_at(
     alloc: Global,
@@ -210,7 +210,7 @@ fn pairs_at(
     }
 }
 
-/// DEFAULT and its jump, if they stand there, behind which nothing stands.
+/// DEFAULT and its jump, if they stand there, after which nothing stands.
 #[tactic(auto, unfolding(crate::specs::Jumps::default_at))]
 fn default_at(words: &Words<'_>, at: usize) -> Result<Option<JumpTo>, u16>
     requires { IsScanned words.now }
@@ -226,7 +226,7 @@ fn default_at(words: &Words<'_>, at: usize) -> Result<Option<JumpTo>, u16>
     }
 }
 
-/// CASE, behind its name.
+/// CASE, after its name.
 #[tactic(auto, using(nc_blocks::proofs::Passing::passing), unfolding(crate::specs::Jumps::case_form))]
 pub(crate) fn case_form(alloc: Global, words: &Words<'_>, at: usize) -> Result<Stmt, SyntaxFault>
     requires { IsScanned words.now }
@@ -241,7 +241,7 @@ pub(crate) fn case_form(alloc: Global, words: &Words<'_>, at: usize) -> Result<S
     }
 }
 
-/// A jump, behind its name.
+/// A jump, after its name.
 #[tactic(auto, unfolding(crate::specs::Jumps::jump_form))]
 pub(crate) fn jump_form(words: &Words<'_>, way: Way, at: usize) -> Result<Stmt, SyntaxFault>
     requires { IsScanned words.now }

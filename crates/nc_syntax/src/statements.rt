@@ -18,7 +18,7 @@ use nc_expressions::SyntaxFault;
 use std::alloc::Global;
 use word_tables::{has_large_number, refused_word};
 
-/// Whether `/` begins the line, and the place behind it.
+/// Whether `/` begins the line, and the place after it.
 #[tactic(auto, unfolding(crate::specs::Blocks::skip_of))]
 fn skip_of(words: &Words<'_>) -> Result<(bool, usize), u16>
     requires { IsScanned words.now }
@@ -47,7 +47,7 @@ fn has_number(words: &Words<'_>, at: usize) -> bool
     }
 }
 
-/// The number of the block, if it stands at a place, and the place behind it.
+/// The number of the block, if it stands at a place, and the place after it.
 #[tactic(auto, unfolding(crate::specs::Blocks::number_at))]
 fn number_at(words: &Words<'_>, at: usize) -> Result<(Option<u32>, usize), u16>
     requires scanned { IsScanned words.now }
@@ -63,7 +63,7 @@ fn number_at(words: &Words<'_>, at: usize) -> Result<(Option<u32>, usize), u16>
     }
 }
 
-/// The label of the block, if it stands at a place, and the place behind it.
+/// The label of the block, if it stands at a place, and the place after it.
 #[tactic(auto, unfolding(crate::specs::Blocks::label_at))]
 fn label_at(words: &Words<'_>, at: usize) -> (Option<NameText>, usize)
     requires scanned { IsScanned words.now }
@@ -80,7 +80,7 @@ fn label_at(words: &Words<'_>, at: usize) -> (Option<NameText>, usize)
     }
 }
 
-/// Whether `/` begins the line and the number of the block, and the place behind them.
+/// Whether `/` begins the line and the number of the block, and the place after them.
 #[tactic(auto, unfolding(crate::specs::Blocks::head_of))]
 fn head_of(words: &Words<'_>) -> Result<(bool, Option<u32>, usize), u16>
     requires { IsScanned words.now }

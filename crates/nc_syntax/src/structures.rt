@@ -6,7 +6,7 @@ ghost use Rattle.block_scanner.specs.Scanned.{IsScanned};
 ghost use Rattle.nc_expressions.specs.Tree.{tree_of, IndicesFit};
 ghost use Rattle.nc_blocks.specs.Reading.{Gives, placed_tree};
 ghost use Rattle.nc_blocks.specs.Statement.{statement_view, tree_option};
-ghost use Rattle.nc_forms.specs.LineEnds.{alone};
+ghost use Rattle.nc_forms.specs.LineEnds.{statement_alone};
 ghost use Rattle.nc_syntax.specs.Structures.{last_expression, counter_at, first_value, for_form, times_at, repeat_form, repeat_block_form, has_close, parentheses_at, pass_count, passes_at, call_passes, call_form, number_name, number_call_form, proc_form};
 
 use block_scanner::{Kind, Sign, Words};
@@ -19,7 +19,7 @@ use nc_expressions::{Expr, SyntaxFault, is_digits};
 use nc_forms::alone;
 use std::alloc::Global;
 
-/// An expression behind which nothing stands.
+/// An expression after which nothing stands.
 #[tactic(auto, using(nc_blocks::proofs::Passing::passing), unfolding(crate::specs::Structures::last_expression))]
 pub(crate) fn last_expression(
     alloc: Global,
@@ -38,7 +38,7 @@ pub(crate) fn last_expression(
     }
 }
 
-/// The parameter of a FOR, and the place behind its `=`.
+/// The parameter of a FOR, and the place after its `=`.
 #[tactic(auto, unfolding(crate::specs::Structures::counter_at))]
 fn counter_at(words: &Words<'_>, at: usize) -> Result<(u16, usize), u16>
     requires { IsScanned words.now }
@@ -48,14 +48,14 @@ fn counter_at(words: &Words<'_>, at: usize) -> Result<(u16, usize), u16>
     match piece_at(words, at) {
         Piece::Letter(b'R') => {
             let index = index_at(words, at + 1, 22)?;
-            let behind = assign_at(words, at + 2, 22)?;
-            Ok((index, behind))
+            let following = assign_at(words, at + 2, 22)?;
+            Ok((index, following))
         }
         _ => Err(22),
     }
 }
 
-/// The first value of a FOR and the place behind TO.
+/// The first value of a FOR and the place after TO.
 #[tactic(auto, using(nc_blocks::proofs::Passing::passing), unfolding(crate::specs::Structures::first_value))]
 fn first_value(alloc: Global, words: &Words<'_>, at: usize) -> Result<(Expr, usize), SyntaxFault>
     requires scanned { IsScanned words.now }
@@ -66,12 +66,12 @@ fn first_value(alloc: Global, words: &Words<'_>, at: usize) -> Result<(Expr, usi
 {
     let (tree, end) = expression_at(alloc, words, at)?;
     match keyword_at(words, end, b"TO") {
-        Ok(behind) => Ok((tree, behind)),
+        Ok(following) => Ok((tree, following)),
         Err(code) => Err(SyntaxFault::Refused(code)),
     }
 }
 
-/// FOR, behind its name.
+/// FOR, after its name.
 #[tactic(auto, using(nc_blocks::proofs::Passing::passing), unfolding(crate::specs::Structures::for_form))]
 pub(crate) fn for_form(alloc: Global, words: &Words<'_>, at: usize) -> Result<Stmt, SyntaxFault>
     requires { IsScanned words.now }
@@ -79,8 +79,8 @@ pub(crate) fn for_form(alloc: Global, words: &Words<'_>, at: usize) -> Result<St
     ensures indices { IfOk result (λ s. StatementFits (statement_view s)) }
 {
     match counter_at(words, at) {
-        Ok((index, behind)) => {
-            let (first, second) = first_value(alloc, words, behind)?;
+        Ok((index, following)) => {
+            let (first, second) = first_value(alloc, words, following)?;
             let last = last_expression(alloc, words, second)?;
             Ok(Stmt::For(index, first, last))
         }
@@ -88,7 +88,7 @@ pub(crate) fn for_form(alloc: Global, words: &Words<'_>, at: usize) -> Result<St
     }
 }
 
-/// How often is repeated, behind which nothing stands.
+/// How often is repeated, after which nothing stands.
 #[tactic(auto, using(nc_blocks::proofs::Passing::passing), unfolding(crate::specs::Structures::times_at))]
 fn times_at(alloc: Global, words: &Words<'_>, at: usize) -> Result<Option<Expr>, SyntaxFault>
     requires { IsScanned words.now }
@@ -97,7 +97,7 @@ fn times_at(alloc: Global, words: &Words<'_>, at: usize) -> Result<Option<Expr>,
 {
     match piece_at(words, at) {
         Piece::Letter(b'P') => match assign_at(words, at + 1, 22) {
-            Ok(behind) => Ok(Some(last_expression(alloc, words, behind)?)),
+            Ok(following) => Ok(Some(last_expression(alloc, words, following)?)),
             Err(code) => Err(SyntaxFault::Refused(code)),
         },
         _ => match end_at(words, at) {
@@ -107,7 +107,7 @@ fn times_at(alloc: Global, words: &Words<'_>, at: usize) -> Result<Option<Expr>,
     }
 }
 
-/// REPEAT, behind its name: with a label, or of a loop.
+/// REPEAT, after its name: with a label, or of a loop.
 #[tactic(auto, using(nc_blocks::proofs::Passing::passing), unfolding(crate::specs::Structures::repeat_form))]
 pub(crate) fn repeat_form(alloc: Global, words: &Words<'_>, at: usize) -> Result<Stmt, SyntaxFault>
     requires { IsScanned words.now }
@@ -124,7 +124,7 @@ pub(crate) fn repeat_form(alloc: Global, words: &Words<'_>, at: usize) -> Result
     }
 }
 
-/// REPEATB, behind its name.
+/// REPEATB, after its name.
 #[tactic(auto, using(nc_blocks::proofs::Passing::passing), unfolding(crate::specs::Structures::repeat_block_form))]
 pub(crate) fn repeat_block_form(
     alloc: Global,
@@ -152,7 +152,7 @@ fn has_close(words: &Words<'_>) -> bool
     words.tokens.iter().any(|token| matches!(token.kind, Kind::Sign(Sign::CloseParenthesis)))
 }
 
-/// The place behind the empty parentheses of a call, if they stand there.
+/// The place after the empty parentheses of a call, if they stand there.
 #[tactic(auto, unfolding(crate::specs::Structures::parentheses_at))]
 fn parentheses_at(words: &Words<'_>, at: usize) -> Result<usize, u16>
     requires scanned { IsScanned words.now }
@@ -188,7 +188,7 @@ fn pass_count(number: Num) -> Result<u16, u16>
     }
 }
 
-/// How often a program is called, behind which nothing stands.
+/// How often a program is called, after which nothing stands.
 #[tactic(auto, unfolding(crate::specs::Structures::passes_at))]
 fn passes_at(words: &Words<'_>, at: usize) -> Result<u16, u16>
     requires { IsScanned words.now }
@@ -210,18 +210,18 @@ fn passes_at(words: &Words<'_>, at: usize) -> Result<u16, u16>
     }
 }
 
-/// How often a program is called, behind its name.
+/// How often a program is called, after its name.
 #[tactic(auto, unfolding(crate::specs::Structures::call_passes))]
 fn call_passes(words: &Words<'_>, at: usize) -> Result<u16, u16>
     requires scanned { IsScanned words.now }
     requires within { at ≤ length words.now.tokens }
     ensures { result ≡ call_passes words.now at }
 {
-    let behind = parentheses_at(words, at)?;
-    passes_at(words, behind)
+    let following = parentheses_at(words, at)?;
+    passes_at(words, following)
 }
 
-/// A call, behind its name.
+/// A call, after its name.
 #[tactic(auto, unfolding(crate::specs::Structures::call_form))]
 pub(crate) fn call_form(words: &Words<'_>, name: NameText, at: usize) -> Result<Stmt, SyntaxFault>
     requires scanned { IsScanned words.now }
@@ -247,7 +247,7 @@ fn number_name(digits: &[u8]) -> Result<NameText, u16>
     }
 }
 
-/// A call of L and digits, behind the L.
+/// A call of L and digits, after the L.
 #[tactic(auto, unfolding(crate::specs::Structures::number_call_form))]
 pub(crate) fn number_call_form(words: &Words<'_>, at: usize) -> Result<Stmt, SyntaxFault>
     requires scanned { IsScanned words.now }
@@ -261,7 +261,7 @@ pub(crate) fn number_call_form(words: &Words<'_>, at: usize) -> Result<Stmt, Syn
     }
 }
 
-/// PROC, behind its name.
+/// PROC, after its name.
 #[tactic(auto, unfolding(crate::specs::Structures::proc_form))]
 pub(crate) fn proc_form(words: &Words<'_>, at: usize) -> Result<Stmt, SyntaxFault>
     requires { IsScanned words.now }
@@ -270,12 +270,12 @@ pub(crate) fn proc_form(words: &Words<'_>, at: usize) -> Result<Stmt, SyntaxFaul
 {
     match label_at(words, at) {
         Ok(name) => {
-            let behind = if is_keyword(words, at + 1, b"DISPLOF") {
+            let following = if is_keyword(words, at + 1, b"DISPLOF") {
                 at + 2
             } else {
                 at + 1
             };
-            alone(words, behind, Stmt::Proc(name))
+            alone(words, following, Stmt::Proc(name))
         }
         Err(code) => Err(SyntaxFault::Refused(code)),
     }

@@ -83,7 +83,7 @@ seen_stretched : (arc : Arc) (point : Point) (first second : ℤ) → point.top 
 seen_stretched arc point first second one two =
     rw (one, two, seen_at first arc.centre.0 point.under, seen_at second arc.centre.1 point.under) refl
 
--- ahead of s and behind e lie s and e themselves
+-- ahead of s and after e lie s and e themselves
 cross_itself : (s : Vector) (n : ℕ) → cross s (stretched s n) ≡ pos 0
 cross_itself s n =
     ring (s.u ∷ s.v ∷ pos n ∷ []) (minus (times (var 0) (times (var 1) (var 2))) (times (var 1) (times (var 0) (var 2)))) (num (pos 0)) tt
@@ -114,7 +114,7 @@ start_swept s e n = record {
     not_negative (cross s (stretched s n)) (pos 0) (cross_itself s n) nothing,
     not_negative (cross (stretched s n) e) (cross s e *ℤ pos n) (stretched_cross s e n) (nonneg-*ℤ (cross s e) (pos n) ahead (nonneg-pos n)),
   );
-  long = λ behind. inl (not_negative (cross s (stretched s n)) (pos 0) (cross_itself s n) nothing);
+  long = λ following. inl (not_negative (cross s (stretched s n)) (pos 0) (cross_itself s n) nothing);
 }
 
 end_swept : (s e : Vector) (n : ℕ) → IsSwept s e (stretched e n)
@@ -123,7 +123,7 @@ end_swept s e n = record {
     not_negative (cross s (stretched e n)) (cross s e *ℤ pos n) (cross_stretched s e n) (nonneg-*ℤ (cross s e) (pos n) ahead (nonneg-pos n)),
     not_negative (cross (stretched e n) e) (pos 0) (itself_cross e n) nothing,
   );
-  long = λ behind. inr (not_negative (cross (stretched e n) e) (pos 0) (itself_cross e n) nothing);
+  long = λ following. inr (not_negative (cross (stretched e n) e) (pos 0) (itself_cross e n) nothing);
 }
 
 -- ---- arcs

@@ -5,11 +5,11 @@ use Rattle.std.specs.List.{All}
 use Rattle.std.specs.Prelude.{ℤ, pos, ◌*ℤ◌}
 use Rattle.number_laws.proofs.Ring.{num, var, plus, minus, times, ring}
 use Rattle.path_geometry.specs.Ends.{EndsView}
-use Rattle.path_geometry.specs.Path.{Point, along, IsOnLine}
+use Rattle.path_geometry.specs.Path.{Point, way_divided, IsOnLine}
 
 -- a point whose positions are this far along, over the number under the point itself
 pub on_line : (ends : EndsView) (point : Point) (part : ℕ) → 0 < point.under → part ≤ point.under
-    → All (λ e. point.top e.0 ≡ along e.1 e.2 point.under part) ends.axes → IsOnLine ends point
+    → All (λ e. point.top e.0 ≡ way_divided e.1 e.2 point.under part) ends.axes → IsOnLine ends point
 on_line ends point part some h at_part =
     record {
       whole = point.under;
@@ -20,11 +20,11 @@ on_line ends point part some h at_part =
       gone = λ i d k. ap (λ (z : ℤ). z *ℤ pos point.under) (at_part i d k);
     }
 
-start_along : (start end n : ℤ) → start *ℤ n ≡ along start end 1 0 *ℤ n
+start_along : (start end n : ℤ) → start *ℤ n ≡ way_divided start end 1 0 *ℤ n
 start_along start end n =
     ring (start ∷ end ∷ n ∷ []) (times (var 0) (var 2)) (times (plus (times (var 0) (minus (num (pos 1)) (num (pos 0)))) (times (var 1) (num (pos 0)))) (var 2)) tt
 
-end_along : (start end n : ℤ) → end *ℤ n ≡ along start end 1 1 *ℤ n
+end_along : (start end n : ℤ) → end *ℤ n ≡ way_divided start end 1 1 *ℤ n
 end_along start end n =
     ring (start ∷ end ∷ n ∷ []) (times (var 1) (var 2)) (times (plus (times (var 0) (minus (num (pos 1)) (num (pos 1)))) (times (var 1) (num (pos 1)))) (var 2)) tt
 
@@ -42,7 +42,7 @@ start_on_line ends point some at_start =
       no_further = omega arith;
       fraction = some;
       gone = λ i d k. let e = get_or ends.axes i d in
-          by_one (point.top e.0) (along e.1 e.2 1 0 *ℤ pos point.under) (at_start i d k ∙ start_along e.1 e.2 (pos point.under));
+          by_one (point.top e.0) (way_divided e.1 e.2 1 0 *ℤ pos point.under) (at_start i d k ∙ start_along e.1 e.2 (pos point.under));
     }
 
 -- the point at which every axis ends
@@ -56,5 +56,5 @@ end_on_line ends point some at_end =
       no_further = omega arith;
       fraction = some;
       gone = λ i d k. let e = get_or ends.axes i d in
-          by_one (point.top e.0) (along e.1 e.2 1 1 *ℤ pos point.under) (at_end i d k ∙ end_along e.1 e.2 (pos point.under));
+          by_one (point.top e.0) (way_divided e.1 e.2 1 1 *ℤ pos point.under) (at_end i d k ∙ end_along e.1 e.2 (pos point.under));
     }

@@ -4,7 +4,7 @@ use Rattle.number_laws.proofs.Naturals.{from_squares}
 use Rattle.std.proofs.lemmas.Int.{ints}
 use Rattle.std.proofs.Math.Nat.{mul-le-mul, le_trans}
 use Rattle.micro_units.specs.Root.{floor_root, ceil_root}
-use Rattle.path_geometry.specs.Arcs.{start_about, end_about, way_of, arc_with, unless, has_no_radius, centre_alarm, arc_about, centre_of, place_alarm, arc_placed, arc_of_radius}
+use Rattle.path_geometry.specs.Arcs.{start_about, end_about, way_of, arc_with, unless_alarm, has_no_radius, centre_alarm, arc_about, centre_of, place_alarm, arc_placed, arc_of_radius}
 use Rattle.path_geometry.specs.Ends.{EndsView, start_of, end_of}
 use Rattle.path_geometry.specs.Motions.{AreSound, IsSoundArc, IsAbout, IsOfRadius}
 use Rattle.path_geometry.specs.Rings.{IsInRing}
@@ -86,7 +86,7 @@ ring_with ends first second centre room sound near few radii =
     }
 
 -- an answer that is a motion had no alarm before it
-unless_ok : (o : Option ℕ) (arc other : Arc) → unless o (Ok (Kind.Arc arc)) ≡ Ok (Kind.Arc other) → (o ≡ None) × (arc ≡ other)
+unless_ok : (o : Option ℕ) (arc other : Arc) → unless_alarm o (Ok (Kind.Arc arc)) ≡ Ok (Kind.Arc other) → (o ≡ None) × (arc ≡ other)
 unless_ok None arc other e = let same : arc ≡ other = cc in (refl, same)
 unless_ok (Some alarm) arc other e = absurd cc
 
@@ -116,7 +116,7 @@ ring_about arc sound about =
     let made = unless_ok _ _ arc about.gives in
     subst IsInRing made.1 (ring_with arc.ends arc.first arc.second arc.centre 0 sound about.in_range (omega arith) (radii_about _ _ _ made.0))
 
-second_alarm : (o p : Option ℕ) (arc other : Arc) → unless o (unless p (Ok (Kind.Arc arc))) ≡ Ok (Kind.Arc other) → (p ≡ None) × (arc ≡ other)
+second_alarm : (o p : Option ℕ) (arc other : Arc) → unless_alarm o (unless_alarm p (Ok (Kind.Arc arc))) ≡ Ok (Kind.Arc other) → (p ≡ None) × (arc ≡ other)
 second_alarm None p arc other e = unless_ok p arc other e
 second_alarm (Some alarm) p arc other e = absurd cc
 

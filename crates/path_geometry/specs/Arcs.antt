@@ -41,9 +41,9 @@ arc_with ends first second centre room = record {
 }
 
 -- an answer, unless there is an alarm before it
-abbrev pub unless : Option ℕ → Result Motion ℕ → Result Motion ℕ
-unless None answer = answer
-unless (Some alarm) answer = Err alarm
+abbrev pub unless_alarm : Option ℕ → Result Motion ℕ → Result Motion ℕ
+unless_alarm None answer = answer
+unless_alarm (Some alarm) answer = Err alarm
 
 -- the start or the end is the centre
 abbrev pub has_no_radius : Vector → Vector → Bool
@@ -64,7 +64,7 @@ centre_alarm full s e =
 -- an arc by its centre
 unfoldable pub arc_about : EndsView → ℕ → ℕ → ℤ × ℤ → Result Motion ℕ
 arc_about ends first second centre =
-    unless
+    unless_alarm
     (centre_alarm (square (way_of ends first second) == 0) (start_about ends first second centre) (end_about ends first second centre))
     (Ok (Kind.Arc (arc_with ends first second centre 0)))
 
@@ -111,11 +111,11 @@ place_alarm centre s e =
 -- the arc about such a centre
 unfoldable pub arc_placed : EndsView → ℕ → ℕ → ℤ × ℤ → Result Motion ℕ
 arc_placed ends first second centre =
-    unless
+    unless_alarm
     (place_alarm centre (start_about ends first second centre) (end_about ends first second centre))
     (Ok (Kind.Arc (arc_with ends first second centre 2)))
 
 -- an arc by its radius, the longer one or not
 unfoldable pub arc_of_radius : EndsView → ℕ → ℕ → ℕ → Bool → Result Motion ℕ
 arc_of_radius ends first second radius long =
-    unless (radius_alarm (way_of ends first second) radius) (arc_placed ends first second (centre_of ends first second radius long))
+    unless_alarm (radius_alarm (way_of ends first second) radius) (arc_placed ends first second (centre_of ends first second radius long))

@@ -17,8 +17,8 @@ pub record Point : Type 0 where
   pub under : ℕ
 
 -- the position that divides the way from start to end as part divides whole, times whole
-abbrev pub along : ℤ → ℤ → ℕ → ℕ → ℤ
-along start end whole part = (start *ℤ (pos whole -ℤ pos part)) +ℤ (end *ℤ pos part)
+abbrev pub way_divided : ℤ → ℤ → ℕ → ℕ → ℤ
+way_divided start end whole part = (start *ℤ (pos whole -ℤ pos part)) +ℤ (end *ℤ pos part)
 
 -- the point is on the line: its axes have all gone the same part of their ways
 pub record IsOnLine (ends : EndsView) (point : Point) : Type 0 where
@@ -27,7 +27,7 @@ pub record IsOnLine (ends : EndsView) (point : Point) : Type 0 where
   pub above_none : 0 < whole
   pub no_further : part ≤ whole
   pub fraction : 0 < point.under
-  pub gone : All (λ e. point.top e.0 *ℤ pos whole ≡ along e.1 e.2 whole part *ℤ pos point.under) ends.axes
+  pub gone : All (λ e. point.top e.0 *ℤ pos whole ≡ way_divided e.1 e.2 whole part *ℤ pos point.under) ends.axes
 
 -- an axis is at the point somewhere from its start to its end
 abbrev pub IsBetween : Point → ℕ × ℤ × ℤ → Type 0
@@ -45,7 +45,7 @@ point_seen arc point = record {
   v = point.top arc.second -ℤ (arc.centre.1 *ℤ pos point.under);
 }
 
--- p lies in the sector that a turn from s to e sweeps: up to half a turn it is ahead of s and behind e, beyond that one of the two
+-- p lies in the sector that a turn from s to e sweeps: up to half a turn it is ahead of s and after e, beyond that one of the two
 pub record IsSwept (s e p : Vector) : Type 0 where
   pub short : pos 0 ≤ℤ cross s e → (pos 0 ≤ℤ cross s p) × (pos 0 ≤ℤ cross p e)
   pub long : cross s e <ℤ pos 0 → (pos 0 ≤ℤ cross s p) ⊎ (pos 0 ≤ℤ cross p e)

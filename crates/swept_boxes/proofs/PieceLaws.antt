@@ -29,7 +29,7 @@ use Rattle.arc_quadrants.proofs.ArcLaws.{quarters_fit}
 use Rattle.arc_quadrants.proofs.HalfLaws.{few_parts}
 use Rattle.path_geometry.specs.Ends.{EndsView}
 use Rattle.path_geometry.specs.Motions.{IsSound}
-use Rattle.path_geometry.specs.Path.{Point, along, IsOnLine, IsOnRapid, IsOnPath}
+use Rattle.path_geometry.specs.Path.{Point, way_divided, IsOnLine, IsOnRapid, IsOnPath}
 use Rattle.swept_boxes.specs.Pieces.{low_of_part, high_of_part, range_of_part, part_of_line, pieces_of_line, pieces_of_rapid, range_between, box_of_ends, quarters_in, pieces_at}
 use Rattle.swept_boxes.specs.Ranges.{RangesView, Hold, LieIn}
 use Rattle.swept_boxes.proofs.ArcPieceLaws.{arc_covered, arc_in_cover, arc_smallest, few_arc_pieces}
@@ -68,8 +68,8 @@ part_at parts whole part some_parts some_whole h = at_order (le_or_lt whole part
 
 -- ---- a position between two marks is between their bounds
 above : (start end low : ℤ) (parts whole part j : ℕ) → IsInPart parts whole part j → 0 < parts
-    → (low *ℤ pos parts) ≤ℤ along start end parts j → (low *ℤ pos parts) ≤ℤ along start end parts (j + 1)
-    → (low *ℤ pos whole) ≤ℤ along start end whole part
+    → (low *ℤ pos parts) ≤ℤ way_divided start end parts j → (low *ℤ pos parts) ≤ℤ way_divided start end parts (j + 1)
+    → (low *ℤ pos whole) ≤ℤ way_divided start end whole part
 above start end low parts whole part j is some_parts first second =
     let s = var 0 in
     let e = var 1 in
@@ -79,7 +79,7 @@ above start end low parts whole part j is some_parts first second =
     let k = var 5 in
     let i = var 6 in
     let one = num (pos 1) in
-    let h1 : pos 0 ≤ℤ (along start end parts j -ℤ (low *ℤ pos parts)) = omega (arith, ints) in
+    let h1 : pos 0 ≤ℤ (way_divided start end parts j -ℤ (low *ℤ pos parts)) = omega (arith, ints) in
     let h2 : pos 0 ≤ℤ (((start *ℤ (pos parts -ℤ (pos j +ℤ pos 1))) +ℤ (end *ℤ (pos j +ℤ pos 1))) -ℤ (low *ℤ pos parts)) = omega (arith, ints) in
     let h3 : pos 0 ≤ℤ (((pos j +ℤ pos 1) *ℤ pos whole) -ℤ (pos part *ℤ pos parts)) = omega (arith, ints, is.not_over) in
     let h4 : pos 0 ≤ℤ ((pos part *ℤ pos parts) -ℤ (pos j *ℤ pos whole)) = omega (arith, ints, is.begun) in
@@ -93,8 +93,8 @@ above start end low parts whole part j is some_parts first second =
     (times m n) (plus (times s (minus n k)) (times e k)) (h1, (h2, (h3, (h4, (h5, tt))))) tt tt
 
 below : (start end high : ℤ) (parts whole part j : ℕ) → IsInPart parts whole part j → 0 < parts
-    → along start end parts j ≤ℤ (high *ℤ pos parts) → along start end parts (j + 1) ≤ℤ (high *ℤ pos parts)
-    → along start end whole part ≤ℤ (high *ℤ pos whole)
+    → way_divided start end parts j ≤ℤ (high *ℤ pos parts) → way_divided start end parts (j + 1) ≤ℤ (high *ℤ pos parts)
+    → way_divided start end whole part ≤ℤ (high *ℤ pos whole)
 below start end high parts whole part j is some_parts first second =
     let s = var 0 in
     let e = var 1 in
@@ -104,7 +104,7 @@ below start end high parts whole part j is some_parts first second =
     let k = var 5 in
     let i = var 6 in
     let one = num (pos 1) in
-    let h1 : pos 0 ≤ℤ ((high *ℤ pos parts) -ℤ along start end parts j) = omega (arith, ints) in
+    let h1 : pos 0 ≤ℤ ((high *ℤ pos parts) -ℤ way_divided start end parts j) = omega (arith, ints) in
     let h2 : pos 0 ≤ℤ ((high *ℤ pos parts) -ℤ ((start *ℤ (pos parts -ℤ (pos j +ℤ pos 1))) +ℤ (end *ℤ (pos j +ℤ pos 1)))) = omega (arith, ints) in
     let h3 : pos 0 ≤ℤ (((pos j +ℤ pos 1) *ℤ pos whole) -ℤ (pos part *ℤ pos parts)) = omega (arith, ints, is.not_over) in
     let h4 : pos 0 ≤ℤ ((pos part *ℤ pos parts) -ℤ (pos j *ℤ pos whole)) = omega (arith, ints, is.begun) in
@@ -126,10 +126,10 @@ high_is_above high z parts some_parts h =
     ≤ℤ_trans (ceil_div-ge z parts some_parts) (times_mono parts (ceil_div z parts) high h)
 
 in_part : (start end : ℤ) (parts whole part j : ℕ) → IsInPart parts whole part j → 0 < parts
-    → IsIn (low_of_part start end parts j) (high_of_part start end parts j) (along start end whole part) whole
+    → IsIn (low_of_part start end parts j) (high_of_part start end parts j) (way_divided start end whole part) whole
 in_part start end parts whole part j is some_parts =
-    let first = along start end parts j in
-    let second = along start end parts (j + 1) in
+    let first = way_divided start end parts j in
+    let second = way_divided start end parts (j + 1) in
     record {
       above = above start end (low_of_part start end parts j) parts whole part j is some_parts
           (low_is_below (low_of_part start end parts j) first parts some_parts (min_left (floor_div first parts) (floor_div second parts)))
@@ -175,7 +175,7 @@ part_holds : (ends : EndsView) (point : Point) (l : IsOnLine ends point) (parts 
 part_holds ends point l parts j is some_parts =
     All-map (λ r. IsIn r.1 r.2 (point.top r.0) point.under) (range_of_part parts j) ends.axes
     (λ i d h. let e = get_or ends.axes i d in
-    in_from_same (low_of_part e.1 e.2 parts j) (high_of_part e.1 e.2 parts j) (along e.1 e.2 l.whole l.part) (point.top e.0) l.whole point.under l.above_none
+    in_from_same (low_of_part e.1 e.2 parts j) (high_of_part e.1 e.2 parts j) (way_divided e.1 e.2 l.whole l.part) (point.top e.0) l.whole point.under l.above_none
     (sym (l.gone i d h)) (in_part e.1 e.2 parts l.whole l.part j is some_parts))
 
 pub line_covered : (ends : EndsView) (depth : ℕ) (point : Point) → IsOnLine ends point
@@ -212,13 +212,13 @@ part_in_cover ends parts j h =
   where
     low : (start end : ℤ) → int_min start end ≤ℤ low_of_part start end parts j
     low start end =
-        min_greatest (int_min start end) (floor_div (along start end parts j) parts) (floor_div (along start end parts (j + 1)) parts)
+        min_greatest (int_min start end) (floor_div (way_divided start end parts j) parts) (floor_div (way_divided start end parts (j + 1)) parts)
         (floor-ge start end (int_min start end) parts j (omega arith) (omega arith) (min_left start end) (min_right start end))
         (floor-ge start end (int_min start end) parts (j + 1) (omega arith) (omega arith) (min_left start end) (min_right start end))
 
     high : (start end : ℤ) → high_of_part start end parts j ≤ℤ int_max start end
     high start end =
-        max_least (int_max start end) (ceil_div (along start end parts j) parts) (ceil_div (along start end parts (j + 1)) parts)
+        max_least (int_max start end) (ceil_div (way_divided start end parts j) parts) (ceil_div (way_divided start end parts (j + 1)) parts)
         (ceil-le start end (int_max start end) parts j (omega arith) (omega arith) (max_left start end) (max_right start end))
         (ceil-le start end (int_max start end) parts (j + 1) (omega arith) (omega arith) (max_left start end) (max_right start end))
 
@@ -245,21 +245,21 @@ in_cover (Rapid ends) depth sound =
 in_cover (Kind.Arc arc) depth sound = arc_in_cover arc depth sound
 
 -- at depth 0 the cover is the one piece
-start_is : (start end : ℤ) → along start end 1 0 ≡ start
+start_is : (start end : ℤ) → way_divided start end 1 0 ≡ start
 start_is start end = omega (arith, ints)
 
-end_is : (start end : ℤ) → along start end 1 (0 + 1) ≡ end
+end_is : (start end : ℤ) → way_divided start end 1 (0 + 1) ≡ end
 end_is start end = omega (arith, ints)
 
 whole_low : (start end : ℤ) → low_of_part start end 1 0 ≡ int_min start end
 whole_low start end =
-    ap (λ z. int_min z (floor_div (along start end 1 (0 + 1)) 1)) (floor_div-one (along start end 1 0) ∙ start_is start end)
-    ∙ ap (λ z. int_min start z) (floor_div-one (along start end 1 (0 + 1)) ∙ end_is start end)
+    ap (λ z. int_min z (floor_div (way_divided start end 1 (0 + 1)) 1)) (floor_div-one (way_divided start end 1 0) ∙ start_is start end)
+    ∙ ap (λ z. int_min start z) (floor_div-one (way_divided start end 1 (0 + 1)) ∙ end_is start end)
 
 whole_high : (start end : ℤ) → high_of_part start end 1 0 ≡ int_max start end
 whole_high start end =
-    ap (λ z. int_max z (ceil_div (along start end 1 (0 + 1)) 1)) (ceil_div-one (along start end 1 0) ∙ start_is start end)
-    ∙ ap (λ z. int_max start z) (ceil_div-one (along start end 1 (0 + 1)) ∙ end_is start end)
+    ap (λ z. int_max z (ceil_div (way_divided start end 1 (0 + 1)) 1)) (ceil_div-one (way_divided start end 1 0) ∙ start_is start end)
+    ∙ ap (λ z. int_max start z) (ceil_div-one (way_divided start end 1 (0 + 1)) ∙ end_is start end)
 
 whole_range : (e : AxisId × Um × Um) → range_of_part 1 0 e ≡ range_between e
 whole_range e =

@@ -17,7 +17,7 @@ use Rattle.path_geometry.specs.Path.{Point, IsBetween, point_seen}
 use Rattle.path_geometry.specs.Vectors.{Vector}
 use Rattle.path_geometry.specs.declared.motion.Arc.{Arc}
 use Rattle.swept_boxes.specs.Pieces.{range_between, range_over, ranges_over}
-use Rattle.swept_boxes.specs.PlaneBoxes.{BoxInPlane, turned_ahead, joined, joined_all}
+use Rattle.swept_boxes.specs.PlaneBoxes.{BoxInPlane, turned_ahead, smallest_box, joined_all}
 use Rattle.swept_boxes.specs.Ranges.{RangesView, LieIn}
 
 -- ---- a vector within bounds, turned ahead
@@ -92,28 +92,28 @@ within_trans a b c p q =
 within_self : (a : BoxInPlane) → AreWithin a a
 within_self a = record { u_low = omega (arith, ints); u_high = omega (arith, ints); v_low = omega (arith, ints); v_high = omega (arith, ints) }
 
-first_joined : (a b : BoxInPlane) → AreWithin a (joined a b)
+first_joined : (a b : BoxInPlane) → AreWithin a (smallest_box a b)
 first_joined a b =
     record { u_low = min_left a.u_low b.u_low; u_high = max_left a.u_high b.u_high; v_low = min_left a.v_low b.v_low; v_high = max_left a.v_high b.v_high }
 
-second_joined : (a b : BoxInPlane) → AreWithin b (joined a b)
+second_joined : (a b : BoxInPlane) → AreWithin b (smallest_box a b)
 second_joined a b =
     record { u_low = min_right a.u_low b.u_low; u_high = max_right a.u_high b.u_high; v_low = min_right a.v_low b.v_low; v_high = max_right a.v_high b.v_high }
 
-fold_within : (a : BoxInPlane) (bs : List BoxInPlane) → AreWithin a (fold joined a bs)
+fold_within : (a : BoxInPlane) (bs : List BoxInPlane) → AreWithin a (fold smallest_box a bs)
 fold_within a [] = within_self a
-fold_within a (b ∷ bs) = within_trans a (joined a b) (fold joined (joined a b) bs) (first_joined a b) (fold_within (joined a b) bs)
+fold_within a (b ∷ bs) = within_trans a (smallest_box a b) (fold smallest_box (smallest_box a b) bs) (first_joined a b) (fold_within (smallest_box a b) bs)
 
-rest_within : (a : BoxInPlane) (bs : List BoxInPlane) → All (λ b. AreWithin b (fold joined a bs)) bs
+rest_within : (a : BoxInPlane) (bs : List BoxInPlane) → All (λ b. AreWithin b (fold smallest_box a bs)) bs
 rest_within a [] = All-nil (λ b. AreWithin b a)
 rest_within a (b ∷ bs) =
-    All-cons (λ c. AreWithin c (fold joined (joined a b) bs)) b bs
-    (within_trans b (joined a b) (fold joined (joined a b) bs) (second_joined a b) (fold_within (joined a b) bs))
-    (rest_within (joined a b) bs)
+    All-cons (λ c. AreWithin c (fold smallest_box (smallest_box a b) bs)) b bs
+    (within_trans b (smallest_box a b) (fold smallest_box (smallest_box a b) bs) (second_joined a b) (fold_within (smallest_box a b) bs))
+    (rest_within (smallest_box a b) bs)
 
 pub all_within : (bs : List BoxInPlane) → All (λ b. AreWithin b (joined_all bs)) bs
 all_within [] = All-nil (λ b. AreWithin b (joined_all []))
-all_within (b ∷ bs) = All-cons (λ c. AreWithin c (fold joined b bs)) b bs (fold_within b bs) (rest_within b bs)
+all_within (b ∷ bs) = All-cons (λ c. AreWithin c (fold smallest_box b bs)) b bs (fold_within b bs) (rest_within b bs)
 
 -- ---- ranges within ranges
 abbrev pub EntryLies : AxisId × Um × Um → AxisId × Um × Um → Type 0
@@ -148,13 +148,13 @@ high_joined : (c a b s : ℤ) → (c +ℤ a) ≤ℤ s → (c +ℤ b) ≤ℤ s �
 high_joined c a b s h k = omega (arith, ints, clamps)
 
 entry_joined : (arc : Arc) (a b : BoxInPlane) (e s : AxisId × Um × Um) → EntryLies (range_over arc a e) s → EntryLies (range_over arc b e) s
-    → EntryLies (range_over arc (joined a b) e) s
+    → EntryLies (range_over arc (smallest_box a b) e) s
 entry_joined arc a b e s = by_tests (e.0 == arc.first) (e.0 == arc.second)
   where
     by_tests : (t u : Bool)
         → EntryLies (if t then (e.0, arc.centre.0 +ℤ a.u_low, arc.centre.0 +ℤ a.u_high) else if u then (e.0, arc.centre.1 +ℤ a.v_low, arc.centre.1 +ℤ a.v_high) else range_between e) s
         → EntryLies (if t then (e.0, arc.centre.0 +ℤ b.u_low, arc.centre.0 +ℤ b.u_high) else if u then (e.0, arc.centre.1 +ℤ b.v_low, arc.centre.1 +ℤ b.v_high) else range_between e) s
-        → EntryLies (if t then (e.0, arc.centre.0 +ℤ (joined a b).u_low, arc.centre.0 +ℤ (joined a b).u_high) else if u then (e.0, arc.centre.1 +ℤ (joined a b).v_low, arc.centre.1 +ℤ (joined a b).v_high) else range_between e) s
+        → EntryLies (if t then (e.0, arc.centre.0 +ℤ (smallest_box a b).u_low, arc.centre.0 +ℤ (smallest_box a b).u_high) else if u then (e.0, arc.centre.1 +ℤ (smallest_box a b).v_low, arc.centre.1 +ℤ (smallest_box a b).v_high) else range_between e) s
     by_tests true u (same, low, high) (same2, low2, high2) =
         (same, low_joined arc.centre.0 a.u_low b.u_low s.1 low low2, high_joined arc.centre.0 a.u_high b.u_high s.2 high high2)
     by_tests false true (same, low, high) (same2, low2, high2) =
@@ -169,14 +169,14 @@ zip_joined R f g h step (x ∷ xs) [] p q = p
 zip_joined R f g h step (x ∷ xs) (z ∷ zs) (p, ps) (q, qs) = (step x z p q, zip_joined R f g h step xs zs ps qs)
 
 lie_joined : (arc : Arc) (other : RangesView) (a b : BoxInPlane) → LieIn (ranges_over arc a) other → LieIn (ranges_over arc b) other
-    → LieIn (ranges_over arc (joined a b)) other
-lie_joined arc other a b = zip_joined EntryLies (range_over arc a) (range_over arc b) (range_over arc (joined a b)) (entry_joined arc a b) arc.ends.axes other.axes
+    → LieIn (ranges_over arc (smallest_box a b)) other
+lie_joined arc other a b = zip_joined EntryLies (range_over arc a) (range_over arc b) (range_over arc (smallest_box a b)) (entry_joined arc a b) arc.ends.axes other.axes
 
 fold_lies : (arc : Arc) (other : RangesView) (a : BoxInPlane) (bs : List BoxInPlane) → LieIn (ranges_over arc a) other
-    → All (λ b. LieIn (ranges_over arc b) other) bs → LieIn (ranges_over arc (fold joined a bs)) other
+    → All (λ b. LieIn (ranges_over arc b) other) bs → LieIn (ranges_over arc (fold smallest_box a bs)) other
 fold_lies arc other a [] h all = h
 fold_lies arc other a (b ∷ bs) h all =
-    fold_lies arc other (joined a b) bs (lie_joined arc other a b h (All-head (λ c. LieIn (ranges_over arc c) other) b bs all))
+    fold_lies arc other (smallest_box a b) bs (lie_joined arc other a b h (All-head (λ c. LieIn (ranges_over arc c) other) b bs all))
     (All-tail (λ c. LieIn (ranges_over arc c) other) b bs all)
 
 pub joined_least : (arc : Arc) (other : RangesView) (bs : List BoxInPlane) → 0 < length bs → All (λ b. LieIn (ranges_over arc b) other) bs

@@ -10,7 +10,7 @@ use Rattle.arc_quadrants.specs.Quarters.{quarters_of}
 use Rattle.arc_quadrants.specs.declared.walk.Quarter.{Quarter}
 use Rattle.axis_sets.specs.declared.ids.AxisId.{AxisId}
 use Rattle.path_geometry.specs.Ends.{EndsView}
-use Rattle.path_geometry.specs.Path.{along}
+use Rattle.path_geometry.specs.Path.{way_divided}
 use Rattle.path_geometry.specs.declared.motion.Arc.{Arc}
 use Rattle.path_geometry.specs.declared.motion.Motion.{Motion}
 use Rattle.path_geometry.specs.declared.motion.Motion.TheVariants.{Line, Rapid}
@@ -22,11 +22,11 @@ use Rattle.swept_boxes.specs.Ranges.{RangesView}
 -- the bounds of one of several equal parts of the way from start to end, rounded outwards to whole micrometres
 abbrev pub low_of_part : ℤ → ℤ → ℕ → ℕ → ℤ
 low_of_part start end parts part =
-    int_min (floor_div (along start end parts part) parts) (floor_div (along start end parts (part + 1)) parts)
+    int_min (floor_div (way_divided start end parts part) parts) (floor_div (way_divided start end parts (part + 1)) parts)
 
 abbrev pub high_of_part : ℤ → ℤ → ℕ → ℕ → ℤ
 high_of_part start end parts part =
-    int_max (ceil_div (along start end parts part) parts) (ceil_div (along start end parts (part + 1)) parts)
+    int_max (ceil_div (way_divided start end parts part) parts) (ceil_div (way_divided start end parts (part + 1)) parts)
 
 -- the range of an axis with its start and its end in one of several equal parts of the way, counted from 0
 abbrev pub range_of_part : ℕ → ℕ → AxisId × Um × Um → AxisId × Um × Um

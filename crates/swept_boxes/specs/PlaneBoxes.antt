@@ -19,11 +19,11 @@ turned_ahead (suc (suc zero)) b =
 turned_ahead (suc (suc (suc n))) b = record { u_low = pos b.v_low; u_high = pos b.v_high; v_low = neg_ℤ (pos b.u_high); v_high = neg_ℤ (pos b.u_low) }
 
 -- the smallest box that holds two
-abbrev pub joined : BoxInPlane → BoxInPlane → BoxInPlane
-joined a b =
+abbrev pub smallest_box : BoxInPlane → BoxInPlane → BoxInPlane
+smallest_box a b =
     record { u_low = int_min a.u_low b.u_low; u_high = int_max a.u_high b.u_high; v_low = int_min a.v_low b.v_low; v_high = int_max a.v_high b.v_high }
 
 -- the smallest box that holds all of some
 abbrev pub joined_all : List BoxInPlane → BoxInPlane
 joined_all [] = record { u_low = pos 0; u_high = pos 0; v_low = pos 0; v_high = pos 0 }
-joined_all (b ∷ bs) = fold joined b bs
+joined_all (b ∷ bs) = fold smallest_box b bs

@@ -169,7 +169,7 @@ fn greater(a: i32, b: i32) -> i32
 
 /// The smallest box that holds two.
 fn joined(a: PlaneBox, b: PlaneBox) -> PlaneBox
-    ensures { result ≡ boxes.joined a b }
+    ensures { result ≡ boxes.smallest_box a b }
 {
     PlaneBox {
         u_low: lesser(a.u_low, b.u_low),

@@ -3,7 +3,7 @@ ghost use Rattle.std.specs.Prelude.{◌≡◌, ℤ, pos, ◌*◌, ◌<◌, ◌�
 ghost use Rattle.std.specs.Int.{int_max, int_min};
 ghost use Rattle.std.specs.Int.RustNames.{unsigned_abs};
 ghost use Rattle.number_laws.specs.Floors.{floor_div, ceil_div};
-ghost use Rattle.path_geometry.specs.Path.{along};
+ghost use Rattle.path_geometry.specs.Path.{way_divided};
 ghost use Rattle.swept_boxes.specs.Pieces.{low_of_part, high_of_part, part_of_line, range_between, box_of_ends};
 ghost use Rattle.micro_units.specs.declared.limits.TheConstants.{BOUND_LIMIT};
 ghost use Rattle.arc_quadrants.specs.declared.halves.TheConstants.{PART_LIMIT};
@@ -29,7 +29,7 @@ fn mark(start: i32, end: i32, parts: u8, part: u8) -> i64
     requires within { part ≤ parts }
     requires start_near { unsigned_abs start ≤ BOUND_LIMIT }
     requires end_near { unsigned_abs end ≤ BOUND_LIMIT }
-    ensures value { result ≡ along start end parts part }
+    ensures value { result ≡ way_divided start end parts part }
     ensures near { unsigned_abs result ≤ 1600000000 }
 {
     scaled(start, parts - part) + scaled(end, part)
@@ -57,7 +57,7 @@ fn floor_at(start: i32, end: i32, parts: u8, part: u8) -> i64
     requires within { part ≤ parts }
     requires start_near { unsigned_abs start ≤ BOUND_LIMIT }
     requires end_near { unsigned_abs end ≤ BOUND_LIMIT }
-    ensures value { result ≡ floor_div (along start end parts part) parts }
+    ensures value { result ≡ floor_div (way_divided start end parts part) parts }
     ensures near { unsigned_abs result ≤ BOUND_LIMIT }
 {
     rounded_down(mark(start, end, parts, part), parts)
@@ -69,7 +69,7 @@ fn ceil_at(start: i32, end: i32, parts: u8, part: u8) -> i64
     requires within { part ≤ parts }
     requires start_near { unsigned_abs start ≤ BOUND_LIMIT }
     requires end_near { unsigned_abs end ≤ BOUND_LIMIT }
-    ensures value { result ≡ ceil_div (along start end parts part) parts }
+    ensures value { result ≡ ceil_div (way_divided start end parts part) parts }
     ensures near { unsigned_abs result ≤ BOUND_LIMIT }
 {
     rounded_up(mark(start, end, parts, part), parts)

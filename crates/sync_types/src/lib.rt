@@ -52,7 +52,7 @@ pub enum Action {
     Alarm(u16),
 }
 
-/// The step of a channel behind a segment.
+/// The step of a channel after a segment.
 #[derive(Clone, Copy, Debug, PartialEq, Eq)]
 pub struct Step {
     /// The line of the block that ends the segment, counted from 1.

@@ -15,7 +15,7 @@ use Rattle.tape_job.specs.Reading.{ReadingView, Blank, First, DeclarationLine, H
 use Rattle.tape_job.specs.Rules.{last_count, count_in}
 use Rattle.job_types.specs.SoundJob.{BlocksFit}
 use Rattle.tape_job.specs.Steps.{with_block, with_line, tell}
-use Rattle.tape_job.specs.Told.{Told, told}
+use Rattle.tape_job.specs.Told.{Told, facts_of}
 use Rattle.tape_job.proofs.LibraryLemmas.{last_program_is}
 use Rattle.tape_job.proofs.SoundPrograms.{block_told, header_told}
 
@@ -27,20 +27,20 @@ reading_fits job number (DeclarationLine declaration) all fits = all
 reading_fits job number (Header name) all fits = header_told (λ block. StatementFits block.1.statement) job.programs number name all
 reading_fits job number (BlockLine block) all fits = block_told (λ b. StatementFits b.1.statement) job.programs (number, block) all fits
 
-pub line_fits : (told new : Told) (line : Line) (reading : ReadingView) → reading_of told.seen told.in_programs told.job.compensation line.1 ≡ Ok reading → ReadingFits reading
-    → BlocksFit told.job → new ≡ tell told line → BlocksFit new.job
+pub line_fits : (facts_of new : Told) (line : Line) (reading : ReadingView) → reading_of facts_of.seen facts_of.in_programs facts_of.job.compensation line.1 ≡ Ok reading → ReadingFits reading
+    → BlocksFit facts_of.job → new ≡ tell facts_of line → BlocksFit new.job
 unfolding tell
-line_fits told new line reading says fits all same =
+line_fits facts_of new line reading says fits all same =
     subst (λ (t : Told). BlocksFit t.job) (sym same)
-    (subst (λ read. BlocksFit (with_line told.job line.0 read)) (sym says) (reading_fits told.job line.0 reading all fits))
+    (subst (λ read. BlocksFit (with_line facts_of.job line.0 read)) (sym says) (reading_fits facts_of.job line.0 reading all fits))
 
-pub nothing_fits : (now : Told) → now ≡ told [] → BlocksFit now.job
-unfolding told
+pub nothing_fits : (now : Told) → now ≡ facts_of [] → BlocksFit now.job
+unfolding facts_of
 nothing_fits now same = subst (λ (t : Told). BlocksFit t.job) (sym same) (All-nil (λ program. All (λ block. StatementFits block.1.statement) program.1.blocks))
 
-pub answered_fits : (refused : Option Refusal) (told job : JobView) → BlocksFit told → answer refused told ≡ Ok job → BlocksFit job
-answered_fits None told job all same = let is : told ≡ job = cc in subst BlocksFit is all
-answered_fits (Some refused) told job all same = absurd cc
+pub answered_fits : (refused : Option Refusal) (facts_of job : JobView) → BlocksFit facts_of → answer refused facts_of ≡ Ok job → BlocksFit job
+answered_fits None facts_of job all same = let is : facts_of ≡ job = cc in subst BlocksFit is all
+answered_fits (Some refused) facts_of job all same = absurd cc
 
 -- ---- a line adds at most one block to the last program
 one_more : (programs : List (List ℕ × ProgramView)) (block : ℕ × BlockView) → last_count (with_block programs block) ≤ last_count programs + 1
@@ -61,18 +61,18 @@ reading_short job number (Ok (DeclarationLine declaration)) = omega arith
 reading_short job number (Ok (Header name)) = let none = none_yet job.programs name number in omega arith
 reading_short job number (Ok (BlockLine block)) = one_more job.programs (number, block)
 
-pub line_short : (told new : Told) (line : Line) → new ≡ tell told line → last_count new.job.programs ≤ last_count told.job.programs + 1
+pub line_short : (facts_of new : Told) (line : Line) → new ≡ tell facts_of line → last_count new.job.programs ≤ last_count facts_of.job.programs + 1
 unfolding tell
-line_short told new line same =
-    subst (λ (t : Told). last_count t.job.programs ≤ last_count told.job.programs + 1) (sym same)
-    (reading_short told.job line.0 (reading_of told.seen told.in_programs told.job.compensation line.1))
+line_short facts_of new line same =
+    subst (λ (t : Told). last_count t.job.programs ≤ last_count facts_of.job.programs + 1) (sym same)
+    (reading_short facts_of.job line.0 (reading_of facts_of.seen facts_of.in_programs facts_of.job.compensation line.1))
 
-pub nothing_short : (now : Told) → now ≡ told [] → last_count now.job.programs ≡ 0
-unfolding told
+pub nothing_short : (now : Told) → now ≡ facts_of [] → last_count now.job.programs ≡ 0
+unfolding facts_of
 nothing_short now same = ap (λ (t : Told). last_count t.job.programs) same
 
 -- the job that a call gives where nothing was refused
-pub given_fits : (result : Result Job JobFault) (refused : Option Refusal) (told : JobView) → BlocksFit told → GivesRead result (answer refused told) → IfOk result BlocksFit
-given_fits (Ok job) refused told all same = answered_fits refused told job all same
-given_fits (Err (Refused other)) refused told all same = tt
-given_fits (Err NoMemory) refused told all same = tt
+pub given_fits : (result : Result Job JobFault) (refused : Option Refusal) (facts_of : JobView) → BlocksFit facts_of → GivesRead result (answer refused facts_of) → IfOk result BlocksFit
+given_fits (Ok job) refused facts_of all same = answered_fits refused facts_of job all same
+given_fits (Err (Refused other)) refused facts_of all same = tt
+given_fits (Err NoMemory) refused facts_of all same = tt

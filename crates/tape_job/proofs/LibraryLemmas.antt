@@ -14,11 +14,11 @@ use Rattle.tape_job.proofs.SoundLists.{or_fails}
 use Rattle.tape_job.specs.Steps.{with_entry, with_block, is_last, last_fault, last_with, IsLibrary, Adds}
 use Rattle.nc_blocks.specs.Statement.{BlockView}
 
-new_behind : (here : Bool) (entry : List ℕ × ProgramView) (entries : List (List ℕ × ProgramView)) (name : List ℕ) (program : ProgramView) (rest : Bool)
+new_after : (here : Bool) (entry : List ℕ × ProgramView) (entries : List (List ℕ × ProgramView)) (name : List ℕ) (program : ProgramView) (rest : Bool)
     → (rest ≡ false → insert_entry bytes_eq entries name program ≡ entries ++ (name, program) ∷ []) → here || rest ≡ false
     → (if here then (entry.0, program) ∷ entries else entry ∷ insert_entry bytes_eq entries name program) ≡ entry ∷ (entries ++ (name, program) ∷ [])
-new_behind true entry entries name program rest next none = absurd cc
-new_behind false entry entries name program rest next none = ap (λ more. entry ∷ more) (next none)
+new_after true entry entries name program rest next none = absurd cc
+new_after false entry entries name program rest next none = ap (λ more. entry ∷ more) (next none)
 
 -- a program whose name is new goes last
 pub insert_entry-new_name : (programs : List (List ℕ × ProgramView)) (name : List ℕ) (program : ProgramView) → has_program programs name ≡ false
@@ -26,7 +26,7 @@ pub insert_entry-new_name : (programs : List (List ℕ × ProgramView)) (name : 
 unfolding has_program
 insert_entry-new_name [] name program none = refl
 insert_entry-new_name (entry ∷ entries) name program none =
-    new_behind (bytes_eq name entry.0) entry entries name program (list_any (bytes_eq name) (keys_of entries)) (insert_entry-new_name entries name program) none
+    new_after (bytes_eq name entry.0) entry entries name program (list_any (bytes_eq name) (keys_of entries)) (insert_entry-new_name entries name program) none
 
 any_key : (here rest named : Bool) (all : Bool) → all ≡ rest || named → here || all ≡ (here || rest) || named
 any_key true rest named all e = refl
@@ -36,7 +36,7 @@ or_none : (b : Bool) → b || false ≡ b
 or_none true = refl
 or_none false = refl
 
--- the programs with one more behind them
+-- the programs with one more after them
 pub has_with_last : (resolved : List (List ℕ × ProgramView)) (last : List ℕ × ProgramView) (name : List ℕ)
     → has_program (resolved ++ last ∷ []) name ≡ has_program resolved name || bytes_eq name last.0
 unfolding has_program
@@ -111,7 +111,7 @@ library_adds now resolved old new block (Err (fault.Broken code)) view is adds =
     subst (λ ps. structure_rule ps block ≡ Some code) view (library_fault resolved old block is ∙ adds)
 library_adds now resolved old new block (Err fault.NoMemory) view is adds = tt
 
--- the program that was being read is put behind the resolved ones, or is not, and the next one keeps its new name
+-- the program that was being read is put after the resolved ones, or is not, and the next one keeps its new name
 still_new : {F : Type 0} (old new : List (List ℕ × ProgramView)) (one : List ℕ × ProgramView) (name : List ℕ) (result : Result Unit F)
     → has_program (old ++ one ∷ []) name ≡ false → OnOk result (new ≡ old ++ one ∷ []) → OnErr result (new ≡ old) → has_program new name ≡ false
 still_new old new one name (Ok done) named more same = subst (λ ps. has_program ps name ≡ false) (sym more) named

@@ -8,7 +8,7 @@ use Rattle.nc_blocks.specs.Statement.{BlockView, Statement, If, Else, EndIf, Whi
 use Rattle.nc_control_flow.specs.declared.nest.Opened.{Opened}
 use Rattle.nc_control_flow.specs.declared.nest.Structure.{Structure}
 use Rattle.nc_control_flow.specs.declared.nest.Structure.TheVariants as structure
-use Rattle.nc_control_flow.specs.Nest.{ends, closed, with_else, branched, nested, Nests}
+use Rattle.nc_control_flow.specs.Nest.{ends, nest_without, with_else, nest_with_else, nest_after, Nests}
 use Rattle.nc_control_flow.specs.Nested.{nested_on, nest_of}
 use Rattle.nc_faults.specs.Texts.{IsRefusalCode, refusal_texts}
 use Rattle.tape_job.specs.Rules.{structure_fault, fault_of}
@@ -17,11 +17,11 @@ pub nest_push : (blocks : List (ℕ × BlockView)) (block : ℕ × BlockView) �
 nest_push blocks block = fold_push nested_on (Ok []) blocks block
 
 pub nest_goes_on : (blocks : List (ℕ × BlockView)) (block : ℕ × BlockView) (all : List Opened) → nest_of blocks ≡ Ok all
-    → nest_of (blocks ++ block ∷ []) ≡ nested all block.0 block.1.statement
+    → nest_of (blocks ++ block ∷ []) ≡ nest_after all block.0 block.1.statement
 nest_goes_on blocks block all nest = nest_push blocks block ∙ ap (λ so_far. nested_on so_far block) nest
 
 pub fault_is : (blocks : List (ℕ × BlockView)) (block : ℕ × BlockView) (all : List Opened) → nest_of blocks ≡ Ok all
-    → structure_fault blocks block ≡ fault_of (nested all block.0 block.1.statement)
+    → structure_fault blocks block ≡ fault_of (nest_after all block.0 block.1.statement)
 unfolding structure_fault
 fault_is blocks block all nest = ap fault_of (nest_goes_on blocks block all nest)
 
@@ -42,7 +42,7 @@ closed_code : (fits : Bool) (code : ℕ) (all : List Opened) → ◌≡◌ {A = 
 closed_code true code all e = absurd cc
 closed_code false code all e = let same : 25 ≡ code = cc in subst IsRefusalCode same has_25
 
-close_code : (one : Structure) (all : List Opened) (code : ℕ) → closed one all ≡ Err code → IsRefusalCode code
+close_code : (one : Structure) (all : List Opened) (code : ℕ) → nest_without one all ≡ Err code → IsRefusalCode code
 close_code one [] code e = let same : 25 ≡ code = cc in subst IsRefusalCode same has_25
 close_code one (o ∷ os) code e = closed_code (ends one o.structure) code os e
 
@@ -50,12 +50,12 @@ else_code : (one : Structure) (o : Opened) (os : List Opened) (code : ℕ) → w
 else_code structure.If o os code e = absurd cc
 else_code other o os code e = let same : 25 ≡ code = cc in subst IsRefusalCode same has_25
 
-branch_code : (all : List Opened) (code : ℕ) → branched all ≡ Err code → IsRefusalCode code
+branch_code : (all : List Opened) (code : ℕ) → nest_with_else all ≡ Err code → IsRefusalCode code
 branch_code [] code e = let same : 25 ≡ code = cc in subst IsRefusalCode same has_25
 branch_code (o ∷ os) code e = else_code o.structure o os code e
 
-pub nested_code : (all : List Opened) (line code : ℕ) (statement : Statement) → nested all line statement ≡ Err code → IsRefusalCode code
-unfolding nested
+pub nested_code : (all : List Opened) (line code : ℕ) (statement : Statement) → nest_after all line statement ≡ Err code → IsRefusalCode code
+unfolding nest_after
 nested_code all line code (If c) e = opened_code (length all == 16) code _ e
 nested_code all line code (While c) e = opened_code (length all == 16) code _ e
 nested_code all line code Repeat e = opened_code (length all == 16) code _ e
@@ -79,12 +79,12 @@ taken_by (Ok next) all new nests = refl
 taken_by (Err other) all new nests = absurd cc
 
 pub step_breaks : (blocks : List (ℕ × BlockView)) (block : ℕ × BlockView) (all new : List Opened) (code : ℕ) → nest_of blocks ≡ Ok all
-    → Nests (nested all block.0 block.1.statement) (Err code) all new → structure_fault blocks block ≡ Some code
-step_breaks blocks block all new code nest nests = fault_is blocks block all nest ∙ broken_by (nested all block.0 block.1.statement) all new code nests
+    → Nests (nest_after all block.0 block.1.statement) (Err code) all new → structure_fault blocks block ≡ Some code
+step_breaks blocks block all new code nest nests = fault_is blocks block all nest ∙ broken_by (nest_after all block.0 block.1.statement) all new code nests
 
 pub step_taken : (blocks : List (ℕ × BlockView)) (block : ℕ × BlockView) (all new : List Opened) → nest_of blocks ≡ Ok all
-    → Nests (nested all block.0 block.1.statement) (Ok tt) all new → structure_fault blocks block ≡ None
-step_taken blocks block all new nest nests = fault_is blocks block all nest ∙ taken_by (nested all block.0 block.1.statement) all new nests
+    → Nests (nest_after all block.0 block.1.statement) (Ok tt) all new → structure_fault blocks block ≡ None
+step_taken blocks block all new nest nests = fault_is blocks block all nest ∙ taken_by (nest_after all block.0 block.1.statement) all new nests
 
 pub pushed_view : (name : List ℕ) (line : ℕ) (blocks : List (ℕ × Block)) (block : ℕ × Block)
     → ◌≡◌ {A = List ℕ × ProgramView} (name, record { line = line; blocks = map block_entry (blocks ++ block ∷ []) }) (name, record { line = line; blocks = map block_entry blocks ++ block_entry block ∷ [] })

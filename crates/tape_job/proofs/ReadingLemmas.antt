@@ -7,7 +7,7 @@ use Rattle.block_scanner.specs.Tokens.{tokens_of}
 use Rattle.block_scanner.specs.WordsView.{WordsView}
 use Rattle.block_scanner.specs.declared.ScanFault.TheVariants as fault
 use Rattle.block_scanner.specs.declared.Token.{Token}
-use Rattle.job_lines.specs.Code.{shown}
+use Rattle.job_lines.specs.Code.{refusal_code}
 use Rattle.job_lines.specs.declared.code.Code.TheVariants.{BadByte, OpenText}
 use Rattle.nc_blocks.specs.Refusals.{block_refusals, IsBlockRefusal}
 use Rattle.nc_faults.specs.Texts.{refusal_texts, has_code, IsRefusalCode}
@@ -44,12 +44,12 @@ unfolding block_reading
 block_without_tokens compensation text tokens scanned none = ap (tokens_reading compensation text) scanned ∙ no_tokens compensation text tokens none
 
 pub block_with_bad_byte : (compensation : Bool) (text : List ℕ) (place : ℕ) → tokens_of text ≡ Err (fault.BadByte place)
-    → block_reading compensation text ≡ Err (shown BadByte)
+    → block_reading compensation text ≡ Err (refusal_code BadByte)
 unfolding block_reading
 block_with_bad_byte compensation text place scanned = ap (tokens_reading compensation text) scanned
 
 pub block_with_open_text : (compensation : Bool) (text : List ℕ) (place : ℕ) → tokens_of text ≡ Err (fault.OpenText place)
-    → block_reading compensation text ≡ Err (shown OpenText)
+    → block_reading compensation text ≡ Err (refusal_code OpenText)
 unfolding block_reading
 block_with_open_text compensation text place scanned = ap (tokens_reading compensation text) scanned
 
@@ -73,10 +73,10 @@ unfolding IsBlockRefusal IsRefusalCode block_refusals refusal_texts
 block_refusal_has_text code is = one_has_text code block_refusals refl is
 
 -- a rule that a line breaks gives its code
-pub rule_breaks : (options : GivenOptions) (job : JobView) (number : ℕ) (reading : ReadingView) (code : Code) → rule_of options job reading ≡ Some code → code_by options job number (Ok reading) ≡ Some (shown code)
+pub rule_breaks : (options : GivenOptions) (job : JobView) (number : ℕ) (reading : ReadingView) (code : Code) → rule_of options job reading ≡ Some code → code_by options job number (Ok reading) ≡ Some (refusal_code code)
 unfolding rule_of
-rule_breaks options job number (DeclarationLine declaration) code breaks = ap (option_map shown) breaks
-rule_breaks options job number (Header name) code breaks = ap (option_map shown) breaks
+rule_breaks options job number (DeclarationLine declaration) code breaks = ap (option_map refusal_code) breaks
+rule_breaks options job number (Header name) code breaks = ap (option_map refusal_code) breaks
 rule_breaks options job number Blank code breaks = absurd cc
 rule_breaks options job number First code breaks = absurd cc
 rule_breaks options job number (BlockLine block) code breaks = absurd cc

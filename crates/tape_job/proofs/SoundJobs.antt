@@ -8,7 +8,7 @@ use Rattle.std.proofs.Math.ListN.{get_or-map}
 use Rattle.std.proofs.lemmas.List.{length-map}
 use Rattle.std.proofs.lemmas.List.Elements.{All-nil}
 use Rattle.std.proofs.lemmas.List.Quantifiers.{all_pairs_push}
-use Rattle.job_lines.specs.Code.{shown}
+use Rattle.job_lines.specs.Code.{refusal_code}
 use Rattle.job_lines.specs.declared.code.Code.TheVariants.{NameRepeated, TooMany, NotInLibrary}
 use Rattle.job_lines.specs.declared.declaration.Declaration.{Declaration}
 use Rattle.job_lines.specs.declared.declaration.Declaration.TheVariants.{Channel, Axis, Geo, Offset, Zone, Margin, Depth, Budget, Compensation, Skip}
@@ -22,7 +22,7 @@ use Rattle.job_types.specs.Job.{JobView, ProgramView}
 use Rattle.tape_job.specs.Lines.{Line, has_token, begins_with_percent, raw_lines}
 use Rattle.tape_job.specs.Reading.{ReadingView, Blank, First, DeclarationLine, Header, BlockLine, reading_of}
 use Rattle.tape_job.specs.Rules as rule
-use Rattle.tape_job.specs.Told.{Told, told, accept_compensation, geo_line, zone_line}
+use Rattle.tape_job.specs.Told.{Told, facts_of, accept_compensation, geo_line, zone_line}
 use Rattle.tape_job.specs.Read.{code_by, line_trial, end_of_program, trial, end_trial, answer, read_of}
 use Rattle.tape_job.specs.declared.draft.GivenOptions.{GivenOptions}
 use Rattle.tape_job.specs.Steps.{options_with, with_entry, with_line, with_block, tell, unless_refused, run, finish}
@@ -34,12 +34,12 @@ use Rattle.tape_job.proofs.SoundPrograms.{InAll, NestedSoFar, nested_block, nest
 use Rattle.tape_job.proofs.TellingLemmas.{read_of_is}
 
 -- what holds of all that lines told
-record Sound (told : Told) : Type 0 where
-  list : ListFacts told.job
-  programs : InAll (λ block. is_built block.1.statement ≡ true) told.job.programs
-  names : AllPairs (λ name other. name ≢ other) (keys_of told.job.programs)
-  few : length told.job.programs ≤ 256
-  nested : NestedSoFar told.job.programs
+record Sound (facts_of : Told) : Type 0 where
+  list : ListFacts facts_of.job
+  programs : InAll (λ block. is_built block.1.statement ≡ true) facts_of.job.programs
+  names : AllPairs (λ name other. name ≢ other) (keys_of facts_of.job.programs)
+  few : length facts_of.job.programs ≤ 256
+  nested : NestedSoFar facts_of.job.programs
 
 -- where neither of two gives a refusal
 neither : {A : Type 0} (a b : Option A) → option_or a b ≡ None → (a ≡ None) × (b ≡ None)
@@ -99,11 +99,11 @@ unmapped f None none = refl
 unmapped f (Some a) none = absurd cc
 
 -- a job line
-entry_told : (told : Told) (number : ℕ) (seen late : Bool) (options : GivenOptions) (declaration : Declaration) → Sound told → rule.job_line_rule told.options told.job declaration ≡ None → IsSoundDeclaration declaration
-    → Sound (record { seen = seen; in_programs = late; options = options; job = with_declaration told.job number declaration })
+entry_told : (facts_of : Told) (number : ℕ) (seen late : Bool) (options : GivenOptions) (declaration : Declaration) → Sound facts_of → rule.job_line_rule facts_of.options facts_of.job declaration ≡ None → IsSoundDeclaration declaration
+    → Sound (record { seen = seen; in_programs = late; options = options; job = with_declaration facts_of.job number declaration })
 unfolding with_line
-entry_told told number seen late options declaration sound none fits = record {
-  list = declaration_told told.options told.job number declaration sound.list none fits;
+entry_told facts_of number seen late options declaration sound none fits = record {
+  list = declaration_told facts_of.options facts_of.job number declaration sound.list none fits;
   programs = sound.programs;
   names = sound.names;
   few = sound.few;
@@ -111,74 +111,74 @@ entry_told told number seen late options declaration sound none fits = record {
 }
 
 -- a header
-header_line_told : (told : Told) (number : ℕ) (seen late : Bool) (options : GivenOptions) (name : List ℕ) → Sound told
-    → rule.header_rule told.job name ≡ None → rule.left_open told.job.programs ≡ None
-    → Sound (record { seen = seen; in_programs = late; options = options; job = with_line told.job number (Ok (Header name)) })
+header_line_told : (facts_of : Told) (number : ℕ) (seen late : Bool) (options : GivenOptions) (name : List ℕ) → Sound facts_of
+    → rule.header_rule facts_of.job name ≡ None → rule.left_open facts_of.job.programs ≡ None
+    → Sound (record { seen = seen; in_programs = late; options = options; job = with_line facts_of.job number (Ok (Header name)) })
 unfolding rule.header_rule with_line
-header_line_told told number seen late options name sound none ended =
+header_line_told facts_of number seen late options name sound none ended =
     let program : List ℕ × ProgramView = (name, record { line = number; blocks = [] }) in
-    let first = unbroken (rule.has_program told.job.programs name) NameRepeated _ none in
-    let second = unbroken (nat_le 256 (length told.job.programs)) TooMany None first.1 in
-    let below : length told.job.programs < 256 = search (rules, second.0) in
-    let further = length-append told.job.programs (program ∷ []) in
-    let all : List (List ℕ × ProgramView) = told.job.programs ++ program ∷ [] in
+    let first = unbroken (rule.has_program facts_of.job.programs name) NameRepeated _ none in
+    let second = unbroken (nat_le 256 (length facts_of.job.programs)) TooMany None first.1 in
+    let below : length facts_of.job.programs < 256 = search (rules, second.0) in
+    let further = length-append facts_of.job.programs (program ∷ []) in
+    let all : List (List ℕ × ProgramView) = facts_of.job.programs ++ program ∷ [] in
     record {
-      list = list_kept told.job all sound.list;
-      programs = header_told (λ block. is_built block.1.statement ≡ true) told.job.programs number name sound.programs;
-      names = subst (AllPairs (λ name other. name ≢ other)) (sym (keys-push told.job.programs program))
-          (all_pairs_push (λ name other. name ≢ other) (keys_of told.job.programs) name sound.names (names_differ told.job.programs name first.0));
+      list = list_kept facts_of.job all sound.list;
+      programs = header_told (λ block. is_built block.1.statement ≡ true) facts_of.job.programs number name sound.programs;
+      names = subst (AllPairs (λ name other. name ≢ other)) (sym (keys-push facts_of.job.programs program))
+          (all_pairs_push (λ name other. name ≢ other) (keys_of facts_of.job.programs) name sound.names (names_differ facts_of.job.programs name first.0));
       few = omega arith;
-      nested = nested_header told.job.programs number name sound.nested ended;
+      nested = nested_header facts_of.job.programs number name sound.nested ended;
     }
 
 -- a block
-block_line_told : (told : Told) (number : ℕ) (seen late : Bool) (options : GivenOptions) (block : BlockView) → Sound told → is_built block.statement ≡ true
-    → rule.structure_rule told.job.programs (number, block) ≡ None → Sound (record { seen = seen; in_programs = late; options = options; job = with_line told.job number (Ok (BlockLine block)) })
+block_line_told : (facts_of : Told) (number : ℕ) (seen late : Bool) (options : GivenOptions) (block : BlockView) → Sound facts_of → is_built block.statement ≡ true
+    → rule.structure_rule facts_of.job.programs (number, block) ≡ None → Sound (record { seen = seen; in_programs = late; options = options; job = with_line facts_of.job number (Ok (BlockLine block)) })
 unfolding with_line
-block_line_told told number seen late options block sound built matches =
-    let all : List (List ℕ × ProgramView) = with_block told.job.programs (number, block) in
+block_line_told facts_of number seen late options block sound built matches =
+    let all : List (List ℕ × ProgramView) = with_block facts_of.job.programs (number, block) in
     record {
-      list = list_kept told.job all sound.list;
-      programs = block_told (λ b. is_built b.1.statement ≡ true) told.job.programs (number, block) sound.programs built;
-      names = subst (AllPairs (λ name other. name ≢ other)) (sym (keys-with_block told.job.programs (number, block))) sound.names;
-      few = subst (λ n. n ≤ 256) (sym (length-with_block told.job.programs (number, block))) sound.few;
-      nested = nested_block told.job.programs (number, block) sound.nested matches;
+      list = list_kept facts_of.job all sound.list;
+      programs = block_told (λ b. is_built b.1.statement ≡ true) facts_of.job.programs (number, block) sound.programs built;
+      names = subst (AllPairs (λ name other. name ≢ other)) (sym (keys-with_block facts_of.job.programs (number, block))) sound.names;
+      few = subst (λ n. n ≤ 256) (sym (length-with_block facts_of.job.programs (number, block))) sound.few;
+      nested = nested_block facts_of.job.programs (number, block) sound.nested matches;
     }
 
-line_told : (told : Told) (number : ℕ) (seen late percent : Bool) (options : GivenOptions) (read : Result ReadingView ℕ) → Sound told → code_by told.options told.job number read ≡ None
-    → (percent ≡ true → rule.left_open told.job.programs ≡ None) → IfOk read (IsSoundReading percent)
-    → Sound (record { seen = seen; in_programs = late; options = options; job = with_line told.job number read })
+line_told : (facts_of : Told) (number : ℕ) (seen late percent : Bool) (options : GivenOptions) (read : Result ReadingView ℕ) → Sound facts_of → code_by facts_of.options facts_of.job number read ≡ None
+    → (percent ≡ true → rule.left_open facts_of.job.programs ≡ None) → IfOk read (IsSoundReading percent)
+    → Sound (record { seen = seen; in_programs = late; options = options; job = with_line facts_of.job number read })
 unfolding with_line rule.rule_of
-line_told told number seen late percent options (Err code) sound none ended fits = absurd cc
-line_told told number seen late percent options (Ok Blank) sound none ended fits =
+line_told facts_of number seen late percent options (Err code) sound none ended fits = absurd cc
+line_told facts_of number seen late percent options (Ok Blank) sound none ended fits =
     record { list = sound.list; programs = sound.programs; names = sound.names; few = sound.few; nested = sound.nested }
-line_told told number seen late percent options (Ok First) sound none ended fits =
+line_told facts_of number seen late percent options (Ok First) sound none ended fits =
     record { list = sound.list; programs = sound.programs; names = sound.names; few = sound.few; nested = sound.nested }
-line_told told number seen late percent options (Ok (DeclarationLine declaration)) sound none ended fits =
-    entry_told told number seen late options declaration sound (unmapped shown (rule.job_line_rule told.options told.job declaration) none) fits
-line_told told number seen late percent options (Ok (Header name)) sound none ended fits =
-    header_line_told told number seen late options name sound (unmapped shown (rule.header_rule told.job name) none) (ended fits)
-line_told told number seen late percent options (Ok (BlockLine block)) sound none ended fits = block_line_told told number seen late options block sound fits none
+line_told facts_of number seen late percent options (Ok (DeclarationLine declaration)) sound none ended fits =
+    entry_told facts_of number seen late options declaration sound (unmapped refusal_code (rule.job_line_rule facts_of.options facts_of.job declaration) none) fits
+line_told facts_of number seen late percent options (Ok (Header name)) sound none ended fits =
+    header_line_told facts_of number seen late options name sound (unmapped refusal_code (rule.header_rule facts_of.job name) none) (ended fits)
+line_told facts_of number seen late percent options (Ok (BlockLine block)) sound none ended fits = block_line_told facts_of number seen late options block sound fits none
 
-none_open : (job : JobView) → rule.unmatched job ≡ None → rule.left_open job.programs ≡ None
-unfolding rule.unmatched
+none_open : (job : JobView) → rule.open_structure_refusal job ≡ None → rule.left_open job.programs ≡ None
+unfolding rule.open_structure_refusal
 none_open job none = unmapped _ (rule.left_open job.programs) none
 
 -- a line that begins with '%' leaves no structure open
-program_ends : (percent : Bool) (job : JobView) → (if percent then rule.unmatched job else None) ≡ None → percent ≡ true → rule.left_open job.programs ≡ None
+program_ends : (percent : Bool) (job : JobView) → (if percent then rule.open_structure_refusal job else None) ≡ None → percent ≡ true → rule.left_open job.programs ≡ None
 program_ends true job none is = none_open job none
 program_ends false job none is = absurd cc
 
-tell_sound : (told : Told) (line : Line) → Sound told → trial told line ≡ None → Sound (tell told line)
+tell_sound : (facts_of : Told) (line : Line) → Sound facts_of → trial facts_of line ≡ None → Sound (tell facts_of line)
 unfolding trial line_trial end_of_program tell
-tell_sound told line sound none =
-    let both = neither (end_of_program told.job line.1) (line_trial told line) none in
-    line_told told line.0 (told.seen || has_token line.1) (told.in_programs || begins_with_percent line.1) (begins_with_percent line.1)
-    (options_with told.options (reading_of told.seen told.in_programs told.job.compensation line.1))
-    (reading_of told.seen told.in_programs told.job.compensation line.1) sound
-    (unmapped _ (code_by told.options told.job line.0 (reading_of told.seen told.in_programs told.job.compensation line.1)) both.1)
-    (program_ends (begins_with_percent line.1) told.job both.0)
-    (reading_sound told.seen told.in_programs told.job.compensation line.1)
+tell_sound facts_of line sound none =
+    let both = neither (end_of_program facts_of.job line.1) (line_trial facts_of line) none in
+    line_told facts_of line.0 (facts_of.seen || has_token line.1) (facts_of.in_programs || begins_with_percent line.1) (begins_with_percent line.1)
+    (options_with facts_of.options (reading_of facts_of.seen facts_of.in_programs facts_of.job.compensation line.1))
+    (reading_of facts_of.seen facts_of.in_programs facts_of.job.compensation line.1) sound
+    (unmapped _ (code_by facts_of.options facts_of.job line.0 (reading_of facts_of.seen facts_of.in_programs facts_of.job.compensation line.1)) both.1)
+    (program_ends (begins_with_percent line.1) facts_of.job both.0)
+    (reading_sound facts_of.seen facts_of.in_programs facts_of.job.compensation line.1)
 
 run_sound : (now : Told) (lines : List Line) (end : Told) → Sound now → run now lines ≡ Ok end → Sound end
 run_sound now [] end sound ran = let same : now ≡ end = cc in subst Sound same sound
@@ -189,8 +189,8 @@ run_sound now (line ∷ lines) end sound ran = by (trial now line) refl (λ none
     by None none goes ran = goes none ran
     by (Some refused) some goes ran = absurd cc
 
-nothing_told : Sound (told [])
-unfolding told accept_compensation
+nothing_told : Sound (facts_of [])
+unfolding facts_of accept_compensation
 nothing_told = record {
   list = nothing_listed;
   programs = All-nil (λ program. All (λ block. is_built block.1.statement ≡ true) program.1.blocks);
@@ -223,10 +223,10 @@ program_names programs names i j d before within same =
 
 -- what is told is sound at the end
 told_sound : (now : Told) → Sound now → end_trial now ≡ None → IsSoundJob now.job
-unfolding end_trial rule.missing
+unfolding end_trial rule.missing_program_refusal
 told_sound now sound none =
-    let matched = neither (rule.unmatched now.job) _ none in
-    let first = neither (rule.missing now.job) _ matched.1 in
+    let matched = neither (rule.open_structure_refusal now.job) _ none in
+    let first = neither (rule.missing_program_refusal now.job) _ matched.1 in
     let nested = all_nested now.job.programs sound.nested (none_open now.job matched.0) in
     let all_known = unmapped (λ (l : ChannelLine). rule.refusal NotInLibrary l.line) _ first.0 in
     record {
@@ -254,21 +254,21 @@ told_sound now sound none =
       programs = λ k d within. record { built = sound.programs k d within; nested = nested k d within };
     }
 
-answered : (refused : Option Refusal) (told job : JobView) → answer refused told ≡ Ok job → (refused ≡ None) × (told ≡ job)
-answered None told job same = (refl, cc)
-answered (Some refused) told job same = absurd cc
+answered : (refused : Option Refusal) (facts_of job : JobView) → answer refused facts_of ≡ Ok job → (refused ≡ None) × (facts_of ≡ job)
+answered None facts_of job same = (refl, cc)
+answered (Some refused) facts_of job same = absurd cc
 
-finished_sound : (ran : Result Told Refusal) (lines : List Line) (job : JobView) → run (told []) lines ≡ ran → finish ran ≡ Ok job → IsSoundJob job
+finished_sound : (ran : Result Told Refusal) (lines : List Line) (job : JobView) → run (facts_of []) lines ≡ ran → finish ran ≡ Ok job → IsSoundJob job
 unfolding finish
 finished_sound (Err refused) lines job ran same = absurd cc
 finished_sound (Ok now) lines job ran same =
     let end = answered (end_trial now) now.job job same in
-    subst IsSoundJob end.1 (told_sound now (run_sound (told []) lines now nothing_told ran) end.0)
+    subst IsSoundJob end.1 (told_sound now (run_sound (facts_of []) lines now nothing_told ran) end.0)
 
 pub accepted_sound : (input : List ℕ) (job : JobView) → read_of input ≡ Ok job → IsSoundJob job
 accepted_sound input job accepted =
     let lines : List Line = enumerate_from 1 (raw_lines input) in
-    finished_sound (run (told []) lines) lines job refl (sym (read_of_is input) ∙ accepted)
+    finished_sound (run (facts_of []) lines) lines job refl (sym (read_of_is input) ∙ accepted)
 
 -- what an input is read as is a job in which all this holds, or no job
 pub read_sound : (input : List ℕ) → IfOk (read_of input) IsSoundJob

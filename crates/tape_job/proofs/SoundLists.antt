@@ -60,7 +60,7 @@ module _ {A : Type 0} (P : A → Type 0) where
       by true here any rest = Any-here x xs (says x here)
       by false here any rest = Any-there x xs (rest any)
 
--- an element of a list is there with one more behind
+-- an element of a list is there with one more after
 pub slice_get-more : {A : Type 0} (xs : List A) (i : ℕ) (x y : A) → slice_get xs i ≡ Some x → slice_get (xs ++ y ∷ []) i ≡ Some x
 slice_get-more [] i x y at = absurd cc
 slice_get-more (z ∷ zs) zero x y at = at

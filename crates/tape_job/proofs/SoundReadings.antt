@@ -17,11 +17,11 @@ use Rattle.job_lines.specs.declared.declaration.AxisName.{AxisName}
 use Rattle.job_lines.specs.declared.declaration.NamedSide.{NamedSide}
 use Rattle.job_lines.specs.declared.declaration.Declaration.{Declaration}
 use Rattle.job_lines.specs.declared.declaration.Declaration.TheVariants.{Channel, Axis, Offset, Zone, Margin, Depth, Budget}
-use Rattle.job_lines.specs.Code.{◌>>=◌, or_code, shown}
+use Rattle.job_lines.specs.Code.{◌>>=◌, or_code, refusal_code}
 use Rattle.job_lines.specs.Header.{header_of}
 use Rattle.job_lines.specs.Declaration as declaration
 use Rattle.job_lines.specs.OptionLines as option
-use Rattle.job_lines.specs.Numbers.{whole_of, within, number_within}
+use Rattle.job_lines.specs.Numbers.{whole_of, number_in_range, number_within}
 use Rattle.job_lines.specs.Length.{in_reach, size_of, is_size, signed_size_of, length_of}
 use Rattle.nc_blocks.specs.Names.{upper, name_of}
 use Rattle.nc_blocks.specs.Statement.{BlockView}
@@ -61,7 +61,7 @@ within_sound true true low high number above below = (leb-true low number above,
 within_sound true false low high number above below = tt
 within_sound false right low high number above below = tt
 
-found_within : (low high : ℕ) (found : Option ℕ) → IfSome (option_and_then (within low high) found) (IsWithin low high)
+found_within : (low high : ℕ) (found : Option ℕ) → IfSome (option_and_then (number_in_range low high) found) (IsWithin low high)
 found_within low high None = tt
 found_within low high (Some number) = within_sound (nat_le low number) (nat_le number high) low high number refl refl
 
@@ -126,7 +126,7 @@ settable_by true high number low high_is range = inl (range.0, leb-true number 5
 settable_by false true number low high range = inr (leb-true 505 number high, range.1)
 settable_by false false number low high range = tt
 
-settable_sound : (found : Option ℕ) → IfSome found (IsWithin 54 599) → IfSome (option_and_then declaration.settable found) IsSettable
+settable_sound : (found : Option ℕ) → IfSome found (IsWithin 54 599) → IfSome (option_and_then declaration.settable_code found) IsSettable
 settable_sound None range = tt
 settable_sound (Some number) range = settable_by (nat_le number 57) (nat_le 505 number) number refl refl range
 
@@ -135,7 +135,7 @@ unfolding declaration.g_of
 g_sound [] = tt
 g_sound (letter ∷ digits) =
     if_ok IsSettable (letter == 71) _ _
-    (λ _. or_ok IsSettable OutOfRange (option_and_then declaration.settable (number_within 54 599 digits)) (settable_sound (number_within 54 599 digits) (number_sound 54 599 digits))) tt
+    (λ _. or_ok IsSettable OutOfRange (option_and_then declaration.settable_code (number_within 54 599 digits)) (settable_sound (number_within 54 599 digits) (number_sound 54 599 digits))) tt
 
 slot_sound : (word : List ℕ) → IfOk (declaration.slot_of word) (λ slot. slot < 3)
 unfolding declaration.slot_of
@@ -353,7 +353,7 @@ entry_reading_sound seen percent content =
     (if_ok (IsSoundReading percent) (is_visible content) _ _ (λ _. form_sound seen percent (words (upper content))) tt)
 
 step_by : (percent built : Bool) (block : BlockView) → is_built block.statement ≡ built
-    → IfOk {T = ReadingView} {E = ℕ} (if built then Ok (BlockLine block) else Err (shown NotBuilt)) (IsSoundReading percent)
+    → IfOk {T = ReadingView} {E = ℕ} (if built then Ok (BlockLine block) else Err (refusal_code NotBuilt)) (IsSoundReading percent)
 step_by percent true block is = is
 step_by percent false block is = tt
 

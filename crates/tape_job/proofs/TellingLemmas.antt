@@ -12,13 +12,13 @@ use Rattle.block_scanner.specs.Tokens.{tokens_of}
 use Rattle.block_scanner.specs.declared.ScanFault.{ScanFault}
 use Rattle.block_scanner.specs.declared.ScanFault.TheVariants as fault
 use Rattle.block_scanner.specs.declared.Token.{Token}
-use Rattle.job_lines.specs.Code.{shown}
+use Rattle.job_lines.specs.Code.{refusal_code}
 use Rattle.job_lines.specs.declared.code.Code.TheVariants.{LineTooLong, NotBuilt}
 use Rattle.tape_job.specs.declared.fault.JobFault.{JobFault}
 use Rattle.tape_job.specs.declared.fault.JobFault.TheVariants.{Refused, NoMemory}
 use Rattle.job_types.specs.Job.{JobView, ProgramView}
 use Rattle.tape_job.specs.Lines.{Line, has_token, begins_with_percent, raw_lines, text_of, before_comment}
-use Rattle.tape_job.specs.Told.{Told, told, reading_under, reading_after, accept_compensation, says_compensation, says_skip, any_after, last_of, option_in, entries, axes_in, channel_from, axis_from, geo_from, offset_from, zone_from, margin_from, depth_from, budget_from, block_from, name_from, until_header, blocks_in, with_program, programs_in}
+use Rattle.tape_job.specs.Told.{Told, facts_of, reading_under, reading_after, accept_compensation, says_compensation, says_skip, any_after, last_of, option_in, entries, axes_in, channel_from, axis_from, geo_from, offset_from, zone_from, margin_from, depth_from, budget_from, block_from, name_from, until_header, blocks_in, with_program, programs_in}
 use Rattle.tape_job.specs.Read.{trial, first_trial, end_trial, answer, read_of, GivesRead}
 use Rattle.tape_job.specs.Steps.{with_entry, with_block_of, with_header, with_line, tell, unless_refused, run, finish, Tells}
 
@@ -101,7 +101,7 @@ given_push : {A : Type 0} (give : Result ReadingView ℕ → Option A) (lines : 
 given_push give lines line = ap is_some (option_push give lines line) ∙ some_either (give (reading_after lines line.1)) (option_in give lines)
 
 -- no block accepts compensation, so that a line does so hangs on no line before it that does
-step_accepts_none : (built : Bool) (block : BlockView) → says_compensation (if built then Ok (BlockLine block) else Err (shown NotBuilt)) ≡ false
+step_accepts_none : (built : Bool) (block : BlockView) → says_compensation (if built then Ok (BlockLine block) else Err (refusal_code NotBuilt)) ≡ false
 step_accepts_none true block = refl
 step_accepts_none false block = refl
 
@@ -121,7 +121,7 @@ unfolding block_reading
 text_accepts_none compensation text = tokens_accept_none compensation text (tokens_of text)
 
 accepts_alike : (long block : Bool) (a b other : Result ReadingView ℕ) → says_compensation a ≡ false → says_compensation b ≡ false
-    → says_compensation (if long then Err (shown LineTooLong) else if block then a else other) ≡ says_compensation (if long then Err (shown LineTooLong) else if block then b else other)
+    → says_compensation (if long then Err (refusal_code LineTooLong) else if block then a else other) ≡ says_compensation (if long then Err (refusal_code LineTooLong) else if block then b else other)
 accepts_alike true block a b other none_a none_b = refl
 accepts_alike false true a b other none_a none_b = none_a ∙ sym none_b
 accepts_alike false false a b other none_a none_b = refl
@@ -157,17 +157,17 @@ cons_extended : (first : Option (ℕ × BlockView)) (programs : List (List ℕ �
 cons_extended first [] number reading blocks = cons_with_entry first blocks (block_from number reading)
 cons_extended first (program ∷ programs) number reading blocks = refl
 
-block_behind : (name : Option (List ℕ)) (first : Option (ℕ × BlockView)) (program : ProgramView) (programs : List (List ℕ × ProgramView)) (number : ℕ) (reading : Result ReadingView ℕ) (blocks : List (ℕ × BlockView))
+block_after : (name : Option (List ℕ)) (first : Option (ℕ × BlockView)) (program : ProgramView) (programs : List (List ℕ × ProgramView)) (number : ℕ) (reading : Result ReadingView ℕ) (blocks : List (ℕ × BlockView))
     → until_header name first (extended programs number reading blocks) ≡ extended (with_program name program programs) number reading (until_header name first blocks)
-block_behind None first program programs number reading blocks = cons_extended first programs number reading blocks
-block_behind (Some name) first program programs number reading blocks = refl
+block_after None first program programs number reading blocks = cons_extended first programs number reading blocks
+block_after (Some name) first program programs number reading blocks = refl
 
 blocks_push : (before lines : List Line) (line : Line)
     → blocks_in before (lines ++ line ∷ []) ≡ extended (programs_in before lines) line.0 (reading_after (before ++ lines) line.1) (blocks_in before lines)
 blocks_push before [] line = one_block line.0 (reading_after before line.1) ∙ ap (λ b. with_entry [] (block_from line.0 (reading_after b line.1))) (sym (append-nil before))
 blocks_push before (next ∷ lines) line =
     ap (until_header (name_from (reading_after before next.1)) (block_from next.0 (reading_after before next.1))) (blocks_push (before ++ next ∷ []) lines line)
-    ∙ block_behind (name_from (reading_after before next.1)) (block_from next.0 (reading_after before next.1))
+    ∙ block_after (name_from (reading_after before next.1)) (block_from next.0 (reading_after before next.1))
     (record { line = next.0; blocks = blocks_in (before ++ next ∷ []) lines }) (programs_in (before ++ next ∷ []) lines)
     line.0 (reading_after ((before ++ next ∷ []) ++ lines) line.1) (blocks_in (before ++ next ∷ []) lines)
     ∙ ap (λ b. extended (programs_in before (next ∷ lines)) line.0 (reading_after b line.1) (blocks_in before (next ∷ lines))) (append_assoc before (next ∷ []) lines)
@@ -181,21 +181,21 @@ one_program number (Ok (Header name)) = refl
 one_program number (Ok (BlockLine block)) = refl
 one_program number reading = refl
 
-grown_behind : (name : List ℕ) (header : ℕ) (blocks : List (ℕ × BlockView)) (programs : List (List ℕ × ProgramView)) (number : ℕ) (reading : Result ReadingView ℕ)
+grown_after : (name : List ℕ) (header : ℕ) (blocks : List (ℕ × BlockView)) (programs : List (List ℕ × ProgramView)) (number : ℕ) (reading : Result ReadingView ℕ)
     → (name, record { line = header; blocks = extended programs number reading blocks }) ∷ grown programs number reading
     ≡ grown ((name, record { line = header; blocks = blocks }) ∷ programs) number reading
-grown_behind name header blocks [] number (Ok (Header other)) = refl
-grown_behind name header blocks [] number (Ok (BlockLine block)) = refl
-grown_behind name header blocks [] number reading = refl
-grown_behind name header blocks (program ∷ programs) number (Ok (Header other)) = refl
-grown_behind name header blocks (program ∷ programs) number (Ok (BlockLine block)) = refl
-grown_behind name header blocks (program ∷ programs) number reading = refl
+grown_after name header blocks [] number (Ok (Header other)) = refl
+grown_after name header blocks [] number (Ok (BlockLine block)) = refl
+grown_after name header blocks [] number reading = refl
+grown_after name header blocks (program ∷ programs) number (Ok (Header other)) = refl
+grown_after name header blocks (program ∷ programs) number (Ok (BlockLine block)) = refl
+grown_after name header blocks (program ∷ programs) number reading = refl
 
-program_behind : (name : Option (List ℕ)) (header : ℕ) (blocks : List (ℕ × BlockView)) (programs : List (List ℕ × ProgramView)) (number : ℕ) (reading : Result ReadingView ℕ)
+program_after : (name : Option (List ℕ)) (header : ℕ) (blocks : List (ℕ × BlockView)) (programs : List (List ℕ × ProgramView)) (number : ℕ) (reading : Result ReadingView ℕ)
     → with_program name (record { line = header; blocks = extended programs number reading blocks }) (grown programs number reading)
     ≡ grown (with_program name (record { line = header; blocks = blocks }) programs) number reading
-program_behind None header blocks programs number reading = refl
-program_behind (Some name) header blocks programs number reading = grown_behind name header blocks programs number reading
+program_after None header blocks programs number reading = refl
+program_after (Some name) header blocks programs number reading = grown_after name header blocks programs number reading
 
 programs_push : (before lines : List Line) (line : Line)
     → programs_in before (lines ++ line ∷ []) ≡ grown (programs_in before lines) line.0 (reading_after (before ++ lines) line.1)
@@ -205,12 +205,12 @@ programs_push before (next ∷ lines) line =
     (blocks_push (before ++ next ∷ []) lines line)
     ∙ ap (with_program (name_from (reading_after before next.1)) (record { line = next.0; blocks = extended (programs_in (before ++ next ∷ []) lines) line.0 (reading_after ((before ++ next ∷ []) ++ lines) line.1) (blocks_in (before ++ next ∷ []) lines) }))
     (programs_push (before ++ next ∷ []) lines line)
-    ∙ program_behind (name_from (reading_after before next.1)) next.0 (blocks_in (before ++ next ∷ []) lines) (programs_in (before ++ next ∷ []) lines)
+    ∙ program_after (name_from (reading_after before next.1)) next.0 (blocks_in (before ++ next ∷ []) lines) (programs_in (before ++ next ∷ []) lines)
     line.0 (reading_after ((before ++ next ∷ []) ++ lines) line.1)
     ∙ ap (λ b. grown (programs_in before (next ∷ lines)) line.0 (reading_after b line.1)) (append_assoc before (next ∷ []) lines)
 
-pub told-push : (lines : List Line) (line : Line) → told (lines ++ line ∷ []) ≡ tell (told lines) line
-unfolding told tell with_line
+pub told-push : (lines : List Line) (line : Line) → facts_of (lines ++ line ∷ []) ≡ tell (facts_of lines) line
+unfolding facts_of tell with_line
 told-push lines line =
     rw (
       any_push (λ (l : Line). has_token l.1) lines line,
@@ -241,24 +241,24 @@ step None now more rest job same = same
 step (Some refused) now more rest job same = refl
 
 read_lines_is : (before lines : List Line)
-    → answer (option_or (first_trial before lines) (end_trial (told (before ++ lines)))) (told (before ++ lines)).job ≡ finish (run (told before) lines)
+    → answer (option_or (first_trial before lines) (end_trial (facts_of (before ++ lines)))) (facts_of (before ++ lines)).job ≡ finish (run (facts_of before) lines)
 unfolding finish
 read_lines_is before [] = rw (append-nil before) refl
 read_lines_is before (line ∷ lines) =
-    let behind : answer (option_or (first_trial (before ++ line ∷ []) lines) (end_trial (told (before ++ line ∷ lines)))) (told (before ++ line ∷ lines)).job
-    ≡ finish (run (tell (told before) line) lines) =
-    ap (λ all. answer (option_or (first_trial (before ++ line ∷ []) lines) (end_trial (told all))) (told all).job) (sym (append_assoc before (line ∷ []) lines))
+    let following : answer (option_or (first_trial (before ++ line ∷ []) lines) (end_trial (facts_of (before ++ line ∷ lines)))) (facts_of (before ++ line ∷ lines)).job
+    ≡ finish (run (tell (facts_of before) line) lines) =
+    ap (λ all. answer (option_or (first_trial (before ++ line ∷ []) lines) (end_trial (facts_of all))) (facts_of all).job) (sym (append_assoc before (line ∷ []) lines))
     ∙ read_lines_is (before ++ line ∷ []) lines
     ∙ ap (λ now. finish (run now lines)) (told-push before line) in
-    step (trial (told before) line) (told (before ++ line ∷ lines)) (first_trial (before ++ line ∷ []) lines) (run (tell (told before) line) lines) (told (before ++ line ∷ lines)).job behind
+    step (trial (facts_of before) line) (facts_of (before ++ line ∷ lines)) (first_trial (before ++ line ∷ []) lines) (run (tell (facts_of before) line) lines) (facts_of (before ++ line ∷ lines)).job following
 
-pub read_of_is : (bytes : List ℕ) → read_of bytes ≡ finish (run (told []) (enumerate_from 1 (raw_lines bytes)))
+pub read_of_is : (bytes : List ℕ) → read_of bytes ≡ finish (run (facts_of []) (enumerate_from 1 (raw_lines bytes)))
 unfolding read_of
 read_of_is bytes = read_lines_is [] (enumerate_from 1 (raw_lines bytes))
 
 -- where a line is refused, so is the input
 pub read_refused : (bytes rest raw after : List ℕ) (reader new : Told) (number : ℕ) (fault : JobFault)
-    → run reader (enumerate_from (number + 1) (raw_lines rest)) ≡ run (told []) (enumerate_from 1 (raw_lines bytes))
+    → run reader (enumerate_from (number + 1) (raw_lines rest)) ≡ run (facts_of []) (enumerate_from 1 (raw_lines bytes))
     → raw_lines rest ≡ raw ∷ raw_lines after → Tells reader (number + 1, raw) (Err fault) new → GivesRead (Err fault) (read_of bytes)
 unfolding finish
 read_refused bytes rest raw after reader new number (Refused refused) same lines tells =
@@ -268,7 +268,7 @@ read_refused bytes rest raw after reader new number NoMemory same lines tells = 
 
 -- where no line is left, the input is what is tried at the end
 pub read_finished : (bytes rest : List ℕ) (reader : Told) (number : ℕ)
-    → run reader (enumerate_from (number + 1) (raw_lines rest)) ≡ run (told []) (enumerate_from 1 (raw_lines bytes))
+    → run reader (enumerate_from (number + 1) (raw_lines rest)) ≡ run (facts_of []) (enumerate_from 1 (raw_lines bytes))
     → length rest ≡ 0 → read_of bytes ≡ answer (end_trial reader) reader.job
 unfolding finish
 read_finished bytes [] reader number same empty = read_of_is bytes ∙ ap finish (sym same)

@@ -3,12 +3,12 @@ use Rattle.std.specs.Prelude.{◌≡◌, ◌⊎◌, List, ◌∷◌, ◌++◌, R
 use Rattle.nc_faults.specs.declared.Refusal.{Refusal}
 use Rattle.job_types.specs.Job.{JobView}
 use Rattle.tape_job.specs.Lines.{Line}
-use Rattle.tape_job.specs.Told.{told}
+use Rattle.tape_job.specs.Told.{facts_of}
 use Rattle.tape_job.specs.Read.{trial, end_trial}
 
 -- no line is refused after what the lines before it told
 abbrev pub NoneRefused : List Line → Type 0
-NoneRefused lines = (front : List Line) (line : Line) (rest : List Line) → lines ≡ front ++ line ∷ rest → trial (told front) line ≡ None
+NoneRefused lines = (front : List Line) (line : Line) (rest : List Line) → lines ≡ front ++ line ∷ rest → trial (facts_of front) line ≡ None
 
 -- a line is refused, and none before it
 pub record RefusedAtLine (lines : List Line) (refused : Refusal) : Type 0 where
@@ -17,18 +17,18 @@ pub record RefusedAtLine (lines : List Line) (refused : Refusal) : Type 0 where
   pub rest : List Line
   pub all : lines ≡ front ++ line ∷ rest
   pub before : NoneRefused front
-  pub here : trial (told front) line ≡ Some refused
+  pub here : trial (facts_of front) line ≡ Some refused
 
 -- no line is refused, but their end
 pub record RefusedAtEnd (lines : List Line) (refused : Refusal) : Type 0 where
   pub before : NoneRefused lines
-  pub here : end_trial (told lines) ≡ Some refused
+  pub here : end_trial (facts_of lines) ≡ Some refused
 
 -- neither a line is refused nor the end, and the job is what the lines told
 pub record AcceptedAs (lines : List Line) (job : JobView) : Type 0 where
   pub before : NoneRefused lines
-  pub here : end_trial (told lines) ≡ None
-  pub tells : (told lines).job ≡ job
+  pub here : end_trial (facts_of lines) ≡ None
+  pub tells : (facts_of lines).job ≡ job
 
 abbrev pub IsReadAs : List Line → Result JobView Refusal → Type 0
 IsReadAs lines (Ok job) = AcceptedAs lines job

@@ -17,8 +17,8 @@ abbrev pub raw_lines : List ℕ → List (List ℕ)
 raw_lines [] = []
 raw_lines (byte ∷ bytes) = if is_feed byte then (byte ∷ []) ∷ raw_lines bytes else onto_first byte (raw_lines bytes)
 
-abbrev pub numbered : List ℕ → List Line
-numbered bytes = enumerate_from 1 (raw_lines bytes)
+abbrev pub numbered_lines : List ℕ → List Line
+numbered_lines bytes = enumerate_from 1 (raw_lines bytes)
 
 -- a line without its line feed and a carriage return before that
 unfoldable pub text_of : List ℕ → List ℕ

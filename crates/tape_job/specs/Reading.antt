@@ -7,7 +7,7 @@ use Rattle.block_scanner.specs.declared.ScanFault.{ScanFault}
 use Rattle.block_scanner.specs.declared.ScanFault.TheVariants as fault
 use Rattle.block_scanner.specs.declared.Token.{Token}
 use Rattle.block_scanner.specs.WordsView.{WordsView}
-use Rattle.job_lines.specs.Code.{◌>>=◌, shown}
+use Rattle.job_lines.specs.Code.{◌>>=◌, refusal_code}
 use Rattle.job_lines.specs.Header.{header_of}
 use Rattle.job_lines.specs.Declaration.{declaration_of}
 use Rattle.job_lines.specs.declared.code.Code.{Code}
@@ -56,7 +56,7 @@ declaration_line (kind ∷ args) = declaration_of kind args >>= (λ declaration.
 unfoldable pub header_line : List (List ℕ) → Result ReadingView Code
 header_line words = header_of words >>= (λ name. Ok (Header name))
 
--- what words say in upper case: the first words of all are the job line's; behind '%' stands a header, else a job line
+-- what words say in upper case: the first words of all are the job line's; after '%' stands a header, else a job line
 unfoldable pub form_of : Bool → Bool → List (List ℕ) → Result ReadingView Code
 form_of false percent words = if is_job_line words then Ok First else Err NoJobLine
 form_of true true words = header_line words
@@ -75,14 +75,14 @@ words_of text tokens = record { line = text; tokens = tokens }
 
 -- a block that is built; that it is not built comes after all else that its line breaks, and no block that is not built opens or ends a structure
 unfoldable pub block_line : Result BlockView ℕ → Result ReadingView ℕ
-block_line (Ok block) = if is_built block.statement then Ok (BlockLine block) else Err (shown NotBuilt)
+block_line (Ok block) = if is_built block.statement then Ok (BlockLine block) else Err (refusal_code NotBuilt)
 block_line (Err code) = Err code
 
 abbrev pub tokens_reading : Bool → List ℕ → Result (List Token) ScanFault → Result ReadingView ℕ
 tokens_reading compensation text (Ok []) = Ok Blank
 tokens_reading compensation text (Ok (token ∷ tokens)) = block_line (statement_of (words_of text (token ∷ tokens)) compensation)
-tokens_reading compensation text (Err (fault.OpenText place)) = Err (shown OpenText)
-tokens_reading compensation text (Err _) = Err (shown BadByte)
+tokens_reading compensation text (Err (fault.OpenText place)) = Err (refusal_code OpenText)
+tokens_reading compensation text (Err _) = Err (refusal_code BadByte)
 
 -- what a line of a program says, where the job accepts tool radius compensation or not
 unfoldable pub block_reading : Bool → List ℕ → Result ReadingView ℕ
@@ -90,13 +90,13 @@ block_reading compensation text = tokens_reading compensation text (tokens_of te
 
 abbrev pub with_shown : Result ReadingView Code → Result ReadingView ℕ
 with_shown (Ok reading) = Ok reading
-with_shown (Err code) = Err (shown code)
+with_shown (Err code) = Err (refusal_code code)
 
 -- what a line says, where a line before it has a token or not, the programs have begun or not, and the job accepts tool radius compensation or not:
 -- a reading, or the code of its refusal
 unfoldable pub reading_of : Bool → Bool → Bool → List ℕ → Result ReadingView ℕ
 reading_of seen in_programs compensation raw =
-    if nat_lt 512 (length raw) then Err (shown LineTooLong)
+    if nat_lt 512 (length raw) then Err (refusal_code LineTooLong)
     else if in_programs && not (begins_with_percent raw) then block_reading compensation (text_of raw)
     else with_shown (entry_reading seen (begins_with_percent raw) (before_comment (text_of raw)))
 

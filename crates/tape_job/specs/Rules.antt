@@ -4,7 +4,7 @@ use Rattle.std.specs.List.{list_any}
 use Rattle.std.specs.Option.{option_and_then, option_map, option_or}
 use Rattle.std.specs.Map.{keys_of}
 use Rattle.std.specs.Str.{bytes_eq}
-use Rattle.job_lines.specs.Code.{shown}
+use Rattle.job_lines.specs.Code.{refusal_code}
 use Rattle.job_lines.specs.declared.code.Code.{Code}
 use Rattle.job_lines.specs.declared.code.Code.TheVariants.{NotDeclared, DeclaredTwice, OwnerDiffers, TooMany, NameRepeated, NotInLibrary, NotBuilt}
 use Rattle.job_lines.specs.declared.declaration.AxisName.{AxisName}
@@ -27,7 +27,7 @@ use Rattle.job_lines.specs.declared.limits.TheConstants.{PROGRAM_LIMIT}
 
 -- the refusal of a line by a rule
 unfoldable pub refusal : Code → ℕ → Refusal
-refusal code line = record { code = shown code; line = line }
+refusal code line = record { code = refusal_code code; line = line }
 
 unfoldable pub has_channel : JobView → ℕ → Bool
 has_channel job channel = list_any (λ line. line.channel == channel) job.channels
@@ -199,7 +199,7 @@ abbrev pub innermost : Result (List Opened) ℕ → Option ℕ
 innermost (Ok all) = option_map (λ one. one.line) (slice_get all 0)
 innermost (Err code) = None
 
--- the line of the structure that is open behind some lines of a program and was opened last
+-- the line of the structure that is open after some lines of a program and was opened last
 unfoldable pub open_line : List (ℕ × BlockView) → Option ℕ
 open_line blocks = innermost (nest_of blocks)
 
@@ -215,8 +215,8 @@ unfoldable pub left_open : List (List ℕ × ProgramView) → Option ℕ
 left_open programs = option_and_then (λ program. open_line program.blocks) (last_program programs)
 
 -- where the last program ends, a structure that is open is refused at the line of the one opened last
-unfoldable pub unmatched : JobView → Option Refusal
-unmatched job = option_map (λ line. record { code = 25; line = line }) (left_open job.programs)
+unfoldable pub open_structure_refusal : JobView → Option Refusal
+open_structure_refusal job = option_map (λ line. record { code = 25; line = line }) (left_open job.programs)
 
 -- the code by which a block breaks the structures of the last program
 unfoldable pub structure_rule : List (List ℕ × ProgramView) → ℕ × BlockView → Option ℕ
@@ -242,5 +242,5 @@ is_known programs None = true
 is_known programs (Some name) = has_program programs name
 
 -- the first channel whose program is not in the library
-unfoldable pub missing : JobView → Option Refusal
-missing job = option_map (λ line. refusal NotInLibrary line.line) (find (λ line. not (is_known job.programs line.program)) job.channels)
+unfoldable pub missing_program_refusal : JobView → Option Refusal
+missing_program_refusal job = option_map (λ line. refusal NotInLibrary line.line) (find (λ line. not (is_known job.programs line.program)) job.channels)

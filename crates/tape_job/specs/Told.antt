@@ -139,8 +139,8 @@ axes_in lines = entries (λ before line. axis_from line.0 (reading_after before 
 abbrev pub option_in : {A : Type 0} → (Result ReadingView ℕ → Option A) → List Line → Option A
 option_in give lines = last_of (entries (λ before line. give (reading_after before line.1)) [] lines)
 
-unfoldable pub told : List Line → Told
-told lines = record {
+unfoldable pub facts_of : List Line → Told
+facts_of lines = record {
   seen = list_any (λ line. has_token line.1) lines;
   in_programs = list_any (λ line. begins_with_percent line.1) lines;
   options = record {

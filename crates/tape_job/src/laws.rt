@@ -2,7 +2,7 @@
 ghost use Rattle.std.specs.Prelude.{◌≡◌, ℕ, List, Ok};
 ghost use Rattle.tape_job.specs.FirstRefusal.{IsReadAs};
 ghost use Rattle.job_types.specs.Job.{JobView};
-ghost use Rattle.tape_job.specs.Lines.{numbered};
+ghost use Rattle.tape_job.specs.Lines.{numbered_lines};
 ghost use Rattle.tape_job.specs.Read.{read_of};
 ghost use Rattle.job_types.specs.SoundJob.{IsSoundJob};
 
@@ -13,5 +13,5 @@ pub fn accepted_jobs_are_sound()
 
 /// An input is refused at the first line that is refused after what the lines before it told, or else at its end, and is accepted where neither is refused.
 pub fn refusals_are_first()
-    ensures { (input : List ℕ) → IsReadAs (numbered input) (read_of input) }
+    ensures { (input : List ℕ) → IsReadAs (numbered_lines input) (read_of input) }
 {}

@@ -1,4 +1,4 @@
-//! The job list and the programs behind it, read from the bytes of the input.
+//! The job list and the programs after it, read from the bytes of the input.
 #![tactic(auto)]
 
 mod adding;

@@ -25,7 +25,7 @@ impl Draft {
     ghost use Rattle.std.specs.Prelude.{◌≡◌, IfSome};
     ghost use Rattle.nc_faults.specs.Texts.{IsRefusalCode};
     ghost use Rattle.tape_job.specs.Reading.{reading_view};
-    ghost use Rattle.tape_job.specs.Rules.{header_rule, rule_of, is_known, missing, unmatched};
+    ghost use Rattle.tape_job.specs.Rules.{header_rule, rule_of, is_known, missing_program_refusal, open_structure_refusal};
 
     /// What a header breaks.
     #[tactic(auto, unfolding(crate::specs::Rules::header_rule))]
@@ -64,9 +64,9 @@ impl Draft {
     }
 
     /// The refusal of a structure that the end of the last program leaves open.
-    #[tactic(auto, unfolding(crate::specs::Rules::unmatched, nc_faults::specs::Texts::IsRefusalCode, nc_faults::specs::Texts::refusal_texts))]
+    #[tactic(auto, unfolding(crate::specs::Rules::open_structure_refusal, nc_faults::specs::Texts::IsRefusalCode, nc_faults::specs::Texts::refusal_texts))]
     pub(crate) fn unmatched(&self) -> Option<Refusal>
-        ensures value { result ≡ unmatched self.now.job }
+        ensures value { result ≡ open_structure_refusal self.now.job }
         ensures listed { IfSome result (λ refused. IsRefusalCode refused.code) }
     {
         match self.programs.left_open() {
@@ -76,9 +76,9 @@ impl Draft {
     }
 
     /// The refusal of the first channel whose program is not in the library.
-    #[tactic(auto, unfolding(crate::specs::Rules::missing))]
+    #[tactic(auto, unfolding(crate::specs::Rules::missing_program_refusal))]
     pub(crate) fn missing(&self) -> Option<Refusal>
-        ensures value { result ≡ missing self.now.job }
+        ensures value { result ≡ missing_program_refusal self.now.job }
         ensures listed { IfSome result (λ refused. IsRefusalCode refused.code) }
     {
         let line = self

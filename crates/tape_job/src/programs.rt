@@ -83,7 +83,7 @@ impl Unresolved {
         self.nest.open_line()
     }
 
-    /// Puts a block behind the others, unless it breaks their structures.
+    /// Puts a block after the others, unless it breaks their structures.
     #[tactic(auto, using(crate::proofs::NestLemmas::nest_goes_on, crate::proofs::NestLemmas::fault_is, crate::proofs::NestLemmas::nested_code))]
     fn push(&mut self, line: u32, block: Block) -> Result<(), LineFault>
         ensures exact { Adds (structure_fault self.old.1.blocks (line, view_of block)) (self.old.0, record self.old.1 { blocks = self.old.1.blocks ++ (line, view_of block) ∷ [] }) result self.new }
@@ -118,7 +118,7 @@ impl Unresolved {
     }
 }
 
-/// Puts a program behind the others, whose name is new.
+/// Puts a program after the others, whose name is new.
 fn insert_program(
     programs: &mut IndexMap<NameText, Program>,
     name: NameText,
@@ -150,7 +150,7 @@ fn is_last(last: &Option<Unresolved>, name: &NameText) -> bool
     }
 }
 
-/// Puts a block behind those of the last program, if there is one, unless it breaks their structures.
+/// Puts a block after those of the last program, if there is one, unless it breaks their structures.
 fn push_to(last: &mut Option<Unresolved>, line: u32, block: Block) -> Result<(), LineFault>
     ensures exact { Adds (last_fault last.old (line, view_of block)) (last_with last.old (line, view_of block)) result last.new }
     ensures listed { IfErr result FaultIsListed }
@@ -251,7 +251,7 @@ impl Library {
         }
     }
 
-    /// Puts a block behind those of the last program, if there is one, unless it breaks their structures.
+    /// Puts a block after those of the last program, if there is one, unless it breaks their structures.
     pub(crate) fn push(&mut self, line: u32, block: Block) -> Result<(), LineFault>
         ensures exact { Adds (structure_rule self.old (line, view_of block)) (with_block self.old (line, view_of block)) result self.new }
         ensures listed { IfErr result FaultIsListed }

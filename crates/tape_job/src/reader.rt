@@ -36,14 +36,14 @@ impl Reader {
     ghost use Rattle.tape_job.specs.Reading.{reading_view, reading_of, ReadingFits, FaultIsListed};
     ghost use Rattle.tape_job.specs.Rules.{last_count, rule_of};
     ghost use Rattle.job_types.specs.SoundJob.{BlocksFit};
-    ghost use Rattle.tape_job.specs.Told.{told};
+    ghost use Rattle.tape_job.specs.Told.{facts_of};
     ghost use Rattle.tape_job.specs.Read.{answer, code_by, end_of_program, end_trial, GivesRead, IsListed};
     ghost use Rattle.tape_job.specs.Steps.{tell, Adds, Admits, Tells};
 
     /// A reader to which no line is told.
-    #[tactic(auto, using(crate::proofs::FitLemmas::nothing_fits, crate::proofs::FitLemmas::nothing_short), unfolding(crate::specs::Told::told, crate::specs::Told::accept_compensation))]
+    #[tactic(auto, using(crate::proofs::FitLemmas::nothing_fits, crate::proofs::FitLemmas::nothing_short), unfolding(crate::specs::Told::facts_of, crate::specs::Told::accept_compensation))]
     pub(crate) fn new(alloc: Global) -> Reader
-        ensures value { result ≡ told [] }
+        ensures value { result ≡ facts_of [] }
         ensures fits { BlocksFit result.job }
         ensures count { last_count result.job.programs ≡ 0 }
     {
@@ -131,7 +131,7 @@ impl Reader {
         }
     }
 
-    /// The job that the lines told, or what is refused behind them.
+    /// The job that the lines told, or what is refused after them.
     #[tactic(auto, unfolding(crate::specs::Read::end_trial))]
     pub(crate) fn finish(self, alloc: Global) -> Result<Job, JobFault>
         requires { last_count self.job.programs < 2 ^ 32 }

@@ -1,7 +1,7 @@
 //! What a line says by itself.
 ghost use Rattle.std.specs.Prelude.{◌≡◌, ◌≤◌, ◌==◌, map, length, IfOk, IfErr};
 ghost use Rattle.std.specs.List.{list_any};
-ghost use Rattle.job_lines.specs.Code.{shown};
+ghost use Rattle.job_lines.specs.Code.{refusal_code};
 ghost use Rattle.block_scanner.specs.Scanned.{IsScanned};
 ghost use Rattle.nc_blocks.specs.Names.{upper};
 ghost use Rattle.nc_syntax.specs.Blocks.{statement_of};
@@ -42,11 +42,11 @@ pub(crate) enum LineFault {
 
 impl From<Code> for LineFault {
     ghost use Rattle.std.specs.Prelude.{◌≡◌};
-    ghost use Rattle.job_lines.specs.Code.{shown};
+    ghost use Rattle.job_lines.specs.Code.{refusal_code};
     ghost use Rattle.tape_job.specs.Reading.{FaultIsListed};
     ghost use Rattle.tape_job.specs.declared.reading.LineFault.TheVariants.{Broken};
 
-    ghost from_gives = { λ code fault. (fault ≡ Broken (shown code)) × FaultIsListed fault };
+    ghost from_gives = { λ code fault. (fault ≡ Broken (refusal_code code)) × FaultIsListed fault };
 
     fn from(code: Code) -> LineFault {
         LineFault::Broken(code.shown())

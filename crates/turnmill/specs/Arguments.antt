@@ -15,7 +15,7 @@ use Rattle.turnmill.specs.declared.check.Status.TheVariants.{Usage, NoMemory}
 abbrev pub Arguments : Type 0
 Arguments = IntoIter (String Global) Global
 
--- the texts behind the program's own name
+-- the texts after the program's own name
 abbrev pub words_in : Arguments → List (List ℕ)
 words_in arguments = map string_bytes (drop 1 (into_iter_items arguments))
 

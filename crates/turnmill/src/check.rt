@@ -108,7 +108,7 @@ fn is_check(words: &[&str]) -> bool
 }
 
 /// Reads an input to its end, or to its `TOO_MANY`th byte. The first read that gives no byte or fails is the last one: what
-/// may be done with a source allows no read behind it.
+/// may be done with a source allows no read after it.
 fn read_input<S: Source>(alloc: Global, source: &mut S) -> Result<Vec<u8>, InputFault>
     requires few { S.faults source.old < 2 ^ 64 - 1 }
     requires readable { S.can_read source.old }

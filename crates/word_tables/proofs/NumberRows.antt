@@ -1,4 +1,4 @@
--- The rows of numbers behind G against the table of groups.
+-- The rows of numbers after G against the table of groups.
 use Rattle.std.proofs.Common.{◌≡◌, ℕ, ◌<◌, Bool, true, false, eqb, get_or, position, Option, Some, None, refl, ◌∙◌, ap}
 use Rattle.std.specs.Prelude.{◌&&◌, nat_le}
 use Rattle.std.proofs.lemmas.Bool.{false≢true, eqb-true, agree_below_at, and_parts}

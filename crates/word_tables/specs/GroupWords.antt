@@ -33,7 +33,7 @@ small_whole (pos millionths) =
     if millionths % 1000000 == 0 && nat_lt millionths (CODE_LIMIT * 1000000) then Some (millionths / 1000000) else None
 small_whole (negsuc less) = None
 
--- the word of the table with this number behind G
+-- the word of the table with this number after G
 unfoldable pub g_word : ℕ → Option GWord
 g_word number = word_in (is_g number) groups
 
@@ -41,7 +41,7 @@ abbrev pub small_word : Option ℕ → Option GWord
 small_word (Some number) = g_word number
 small_word None = None
 
--- the word of the table with this number behind G, from its millionths
+-- the word of the table with this number after G, from its millionths
 unfoldable pub word_by_number : ℤ → Option GWord
 word_by_number millionths = small_word (small_whole millionths)
 

@@ -1,4 +1,4 @@
--- Meaning. The refused words of a line: names, the sign $ and numbers behind G, each with its code.
+-- Meaning. The refused words of a line: names, the sign $ and numbers after G, each with its code.
 use Rattle.std.specs.Prelude.{◌≡◌, ℕ, ◌<◌, ◌==◌, ◌||◌, ◌&&◌, not, ℤ, Bool, if◌then◌else◌, List, [], ◌∷◌, length, drop, Option, Some, None, is_some}
 use Rattle.std.specs.Option.{option_or}
 use Rattle.block_scanner.specs.declared.Kind.{Kind}
@@ -10,7 +10,7 @@ use Rattle.micro_units.specs.NumberText.{number_of}
 use Rattle.word_tables.specs.GroupWords.{small_whole, g_word}
 use Rattle.word_tables.specs.RefusedNames.{refused_name}
 
--- with tool radius compensation, or without it, the code of this number behind G
+-- with tool radius compensation, or without it, the code of this number after G
 unfoldable pub refused_g : Bool → ℕ → Option ℕ
 refused_g compensation number =
     if (number == 70) || (number == 700) then Some 46
@@ -20,12 +20,12 @@ refused_g compensation number =
     else if is_some (g_word number) then None
     else Some 57
 
--- the code of a whole number below 1,000 behind G, and of anything else
+-- the code of a whole number below 1,000 after G, and of anything else
 abbrev pub refused_whole : Bool → Option ℕ → Option ℕ
 refused_whole compensation (Some number) = refused_g compensation number
 refused_whole compensation None = Some 57
 
--- the code of a number behind G, from its millionths
+-- the code of a number after G, from its millionths
 abbrev pub refused_value : Bool → Option ℤ → Option ℕ
 refused_value compensation (Some millionths) = refused_whole compensation (small_whole millionths)
 refused_value compensation None = Some 57
@@ -39,23 +39,23 @@ refused_before compensation Text text = None
 refused_before compensation (Sign sign) text = None
 
 -- the code of the letter G before these tokens
-abbrev pub refused_behind : Bool → List ℕ → List Token → Option ℕ
-refused_behind compensation line [] = None
-refused_behind compensation line (token ∷ tokens) = refused_before compensation token.kind (text_of line token)
+abbrev pub refused_following : Bool → List ℕ → List Token → Option ℕ
+refused_following compensation line [] = None
+refused_following compensation line (token ∷ tokens) = refused_before compensation token.kind (text_of line token)
 
 -- the code of a token of this kind and text before these tokens; 71 is 'G'
 unfoldable pub refused_kind : Bool → List ℕ → Kind → List ℕ → List Token → Option ℕ
-refused_kind compensation line (Letter letter) text behind = if letter == 71 then refused_behind compensation line behind else None
-refused_kind compensation line Name text behind = refused_name text
-refused_kind compensation line (Sign Dollar) text behind = Some 44
-refused_kind compensation line (Sign sign) text behind = None
-refused_kind compensation line Number text behind = None
-refused_kind compensation line Text text behind = None
+refused_kind compensation line (Letter letter) text following = if letter == 71 then refused_following compensation line following else None
+refused_kind compensation line Name text following = refused_name text
+refused_kind compensation line (Sign Dollar) text following = Some 44
+refused_kind compensation line (Sign sign) text following = None
+refused_kind compensation line Number text following = None
+refused_kind compensation line Text text following = None
 
 -- the code of the first of some tokens
 abbrev pub refused_first : Bool → List ℕ → List Token → Option ℕ
 refused_first compensation line [] = None
-refused_first compensation line (token ∷ behind) = refused_kind compensation line token.kind (text_of line token) behind
+refused_first compensation line (token ∷ following) = refused_kind compensation line token.kind (text_of line token) following
 
 -- the code of the leftmost refused word of a line with these tokens
 abbrev pub refused_word : Bool → List ℕ → List Token → Option ℕ

@@ -13,7 +13,7 @@ use g_groups::{
 };
 use micro_units::Num;
 
-/// The numbers behind G that are words of groups: the group, and the first and the last of numbers
+/// The numbers after G that are words of groups: the group, and the first and the last of numbers
 /// in a row.
 const NUMBERS: [(u8, u16, u16); 21] = [
     (MOTION_GROUP, 0, 3),
@@ -39,7 +39,7 @@ const NUMBERS: [(u8, u16, u16); 21] = [
     (CORNER_GROUP, 450, 451),
 ];
 
-/// The word with this number behind G, or none where the table of groups has no such word. The
+/// The word with this number after G, or none where the table of groups has no such word. The
 /// number counts, however it is written.
 #[tactic(auto, unfolding(crate::specs::GroupWords::word_by_number))]
 pub fn group_word_by_number(number: Num) -> Option<GWord>
@@ -68,7 +68,7 @@ pub(crate) fn small_whole(number: Num) -> Option<u16>
     }
 }
 
-/// The word with this number behind G.
+/// The word with this number after G.
 pub(crate) fn word_with(code: u16) -> Option<GWord>
     requires { code < CODE_LIMIT }
     ensures { result ≡ g_word code }

@@ -5,7 +5,7 @@ ghost use Rattle.block_scanner.specs.Scanned.{IsScanned, IsTokenOf};
 ghost use Rattle.block_scanner.specs.Texts.{text_of};
 ghost use Rattle.micro_units.specs.NumberText.{number_of};
 ghost use Rattle.word_tables.specs.GroupWords.{small_whole};
-ghost use Rattle.word_tables.specs.Refused.{refused_g, refused_kind, refused_whole, refused_value, refused_before, refused_behind, refused_first, refused_word, IsLeftmost};
+ghost use Rattle.word_tables.specs.Refused.{refused_g, refused_kind, refused_whole, refused_value, refused_before, refused_following, refused_first, refused_word, IsLeftmost};
 ghost use Rattle.g_groups.specs.declared.numbers.TheConstants.{CODE_LIMIT};
 
 use crate::group_words::{small_whole, word_with};
@@ -47,7 +47,7 @@ fn refused_at(words: &Words<'_>, compensation: bool, index: usize) -> Option<u16
     refused_token(words, compensation, words.token(index), index + 1)
 }
 
-/// The code of a token, with the number of the one behind it.
+/// The code of a token, with the number of the one after it.
 #[tactic(auto, unfolding(crate::specs::Refused::refused_kind))]
 fn refused_token(words: &Words<'_>, compensation: bool, token: Token, next: usize) -> Option<u16>
     requires scanned { IsScanned words.now }
@@ -56,7 +56,7 @@ fn refused_token(words: &Words<'_>, compensation: bool, token: Token, next: usiz
         (drop next words.now.tokens) }
 {
     match token.kind {
-        Kind::Letter(b'G') => refused_behind(words, compensation, next),
+        Kind::Letter(b'G') => refused_following(words, compensation, next),
         Kind::Name => refused_name(words.text(&token)),
         Kind::Sign(Sign::Dollar) => Some(44),
         Kind::Letter(_) | Kind::Number | Kind::Text | Kind::Sign(_) => None,
@@ -64,10 +64,10 @@ fn refused_token(words: &Words<'_>, compensation: bool, token: Token, next: usiz
 }
 
 /// The code of the letter G before the token with this number.
-#[tactic(auto, using(crate::proofs::Lines::behind_at))]
-fn refused_behind(words: &Words<'_>, compensation: bool, index: usize) -> Option<u16>
+#[tactic(auto, using(crate::proofs::Lines::after_at))]
+fn refused_following(words: &Words<'_>, compensation: bool, index: usize) -> Option<u16>
     requires { IsScanned words.now }
-    ensures { result ≡ refused_behind compensation words.now.line (drop index words.now.tokens) }
+    ensures { result ≡ refused_following compensation words.now.line (drop index words.now.tokens) }
 {
     if index < words.tokens.len() {
         refused_before(words, compensation, words.token(index))
@@ -88,7 +88,7 @@ fn refused_before(words: &Words<'_>, compensation: bool, token: Token) -> Option
     }
 }
 
-/// The code of a number behind G.
+/// The code of a number after G.
 #[tactic(auto, using(crate::proofs::Lines::whole_none))]
 fn refused_value(compensation: bool, text: &[u8]) -> Option<u16>
     ensures { result ≡ refused_value compensation (number_of text.now) }
@@ -99,7 +99,7 @@ fn refused_value(compensation: bool, text: &[u8]) -> Option<u16>
     }
 }
 
-/// The code of a number in range behind G.
+/// The code of a number in range after G.
 fn refused_number(compensation: bool, number: Num) -> Option<u16>
     ensures { result ≡ refused_whole compensation (small_whole number) }
 {
@@ -109,7 +109,7 @@ fn refused_number(compensation: bool, number: Num) -> Option<u16>
     }
 }
 
-/// The code of a whole number behind G.
+/// The code of a whole number after G.
 #[tactic(auto, unfolding(crate::specs::Refused::refused_g))]
 fn refused_g(compensation: bool, number: u16) -> Option<u16>
     requires { number < CODE_LIMIT }

@@ -2,7 +2,7 @@ use Rattle.std.proofs.Common.{◌∙◌, ◌++◌, [], ◌∷◌, map, Ok, Err, 
 use Rattle.axis_sets.specs.Positions.{stands}
 use Rattle.nc_blocks.specs.Statement.{word_view}
 use Rattle.block_effects.specs.Courses.{equipment_of, found_in}
-use Rattle.block_effects.specs.Effects.{acted, held_behind, words_run}
+use Rattle.block_effects.specs.Effects.{words_then_motion, held_after, words_run}
 use Rattle.block_effects.specs.Words.{Progress, progress_of}
 use Rattle.block_effects.proofs.EffectSteps.{begun_is, words_end, does_left, fails_with, left}
 use Rattle.block_effects.proofs.effects.run_words.Goals as goal
@@ -13,13 +13,13 @@ returns-in_err-run_from-clause-runs g c = λ blocks chain after composed.
     let situation = c.args.situation.now in
     let found = found_in blocks chain situation in
     let words = map word_view c.args.words.now in
-    let h = held_behind equipment.offset (blocks ++ c.args.groups.now ∷ []) chain in
+    let h = held_after equipment.offset (blocks ++ c.args.groups.now ∷ []) chain in
     let nothing = c.nothing-done.ensures in
     let holds = c.conditions-conditions.ensures (blocks ++ c.args.groups.now ∷ []) chain after composed in
     let begins = begun_is situation.parameters c.nothing-done.result nothing.targets nothing.arc nothing.ends in
     let code = c.in_err-run_from.field-0.0 in
     let is = words_end equipment found c.args.line c.args.groups.now words (Err code)
-    (ap (λ (p : Progress). acted equipment h (stands situation.at) c.args.groups.now p words) (sym begins) ∙ c.in_err-run_from.ensures.acts h holds) in
+    (ap (λ (p : Progress). words_then_motion equipment h (stands situation.at) c.args.groups.now p words) (sym begins) ∙ c.in_err-run_from.ensures.acts h holds) in
     let says = c.from_residual.ensures in
     fails_with (words_run equipment found c.args.line c.args.groups.now words) _ _ code says.1 is
 
@@ -29,13 +29,13 @@ returns-clause-runs g c = λ blocks chain after composed.
     let situation = c.args.situation.now in
     let found = found_in blocks chain situation in
     let words = map word_view c.args.words.now in
-    let h = held_behind equipment.offset (blocks ++ c.args.groups.now ∷ []) chain in
+    let h = held_after equipment.offset (blocks ++ c.args.groups.now ∷ []) chain in
     let nothing = c.nothing-done.ensures in
     let holds = c.conditions-conditions.ensures (blocks ++ c.args.groups.now ∷ []) chain after composed in
     let begins = begun_is situation.parameters c.nothing-done.result nothing.targets nothing.arc nothing.ends in
     let p = progress_of c.run_from.new.parameters c.run_from.new.done in
     let motion = c.run_from.new.done.motion in
     let is = words_end equipment found c.args.line c.args.groups.now words (Ok (p, motion))
-    (ap (λ (p : Progress). acted equipment h (stands situation.at) c.args.groups.now p words) (sym begins) ∙ c.in_ok-run_from.ensures.acts h holds) in
+    (ap (λ (p : Progress). words_then_motion equipment h (stands situation.at) c.args.groups.now p words) (sym begins) ∙ c.in_ok-run_from.ensures.acts h holds) in
     does_left (words_run equipment found c.args.line c.args.groups.now words) (left c.args.line found p motion) _ _ is
     (record { parameters = refl; frame = composed; item = sym c.item_on.ensures; course = sym c.course_of.ensures })

@@ -5,17 +5,17 @@ use mir.Val.{SFits}
 use Rattle.frames.specs.Composition.{IsComposed}
 use Rattle.frames.specs.Images.{image_of}
 use Rattle.frames.specs.Maps.{mapped_point}
-use Rattle.frames.specs.Places.{programmed, end_at, change_of}
+use Rattle.frames.specs.Places.{programmed_point, end_at, change_of}
 use Rattle.block_motions.specs.declared.goals.Programmed.{Programmed}
 use Rattle.block_motions.specs.Goals as model
-use Rattle.block_motions.specs.Goals.{InForce}
+use Rattle.block_motions.specs.Goals.{ConditionsView}
 use Rattle.block_motions.proofs.goals.goal_through.Goals as goal
 
-through_change : (h : InForce) (axis : ℕ) (p : Programmed) → model.is_change h p.measure ≡ true
+through_change : (h : ConditionsView) (axis : ℕ) (p : Programmed) → model.is_change h p.measure ≡ true
     → model.goal_through h axis p ≡ model.change_by (change_of (image_of (model.chain_in h) axis) (model.twice_of h axis p))
 through_change h axis p is = cond-true (model.is_change h p.measure) _ _ is
 
-through_place : (h : InForce) (axis : ℕ) (p : Programmed) → model.is_change h p.measure ≡ false
+through_place : (h : ConditionsView) (axis : ℕ) (p : Programmed) → model.is_change h p.measure ≡ false
     → model.goal_through h axis p ≡ model.position_at (model.place_of h axis (model.twice_of h axis p))
 through_place h axis p is = cond-false (model.is_change h p.measure) _ _ is
 
@@ -39,7 +39,7 @@ returns-else-change c h are =
     let fits : SFits w64 c.twice_of-twice.result = search rules in
     let same = to_z-of_z w64 c.twice_of-twice.result fits in
     c.place_through.ensures (model.chain_in h) composed
-    ∙ ap (λ (twice : ℤ). model.position_at (end_at (mapped_point (model.chain_in h) (programmed (model.on_axis c.args.axis twice))) (model.slot_of h c.args.axis) c.offset_in.result)) same
-    ∙ ap (λ (o : ℤ). model.position_at (end_at (mapped_point (model.chain_in h) (programmed (model.on_axis c.args.axis c.twice_of-twice.result))) (model.slot_of h c.args.axis) o)) offset
+    ∙ ap (λ (twice : ℤ). model.position_at (end_at (mapped_point (model.chain_in h) (programmed_point (model.on_axis c.args.axis twice))) (model.slot_of h c.args.axis) c.offset_in.result)) same
+    ∙ ap (λ (o : ℤ). model.position_at (end_at (mapped_point (model.chain_in h) (programmed_point (model.on_axis c.args.axis c.twice_of-twice.result))) (model.slot_of h c.args.axis) o)) offset
     ∙ ap (λ (twice : ℤ). model.position_at (model.place_of h c.args.axis twice)) (c.twice_of-twice.ensures h are)
     ∙ sym (through_place h c.args.axis c.args.programmed stays)

@@ -7,7 +7,7 @@ use Rattle.block_scanner.proofs.scanning.scan_from_left.Goals as goal
 pub loop-first-preserved : goal.loop-first-preserved
 loop-first-preserved c =
     let at = c.loop-first.at in
-    let behind = c.in-Some.behind.now in
+    let following = c.in-Some.following.now in
     let kind = c.in-Stands.kind in
     let more = c.in-Stands.more in
     let token : Token = record { kind = kind; start = at; end = at + 1 + more } in
@@ -15,9 +15,9 @@ loop-first-preserved c =
     let fits = c.in-Stands.ensures.fits in
     let pushed = c.in_ok-push-in-Stands.ensures.ok in
     record {
-      place = rw (take_rest behind more) (omega (arith, length-drop more behind, split.1, fits));
-      goes_on = rw (take_rest behind more, pushed)
-          (sym (token_step c.loop-first.tokens.items at c.loop-first.rest.now c.in-Some.first.now behind kind more split.0 c.in-Stands.ensures.value fits)
+      place = rw (take_rest following more) (omega (arith, length-drop more following, split.1, fits));
+      goes_on = rw (take_rest following more, pushed)
+          (sym (token_step c.loop-first.tokens.items at c.loop-first.rest.now c.in-Some.first.now following kind more split.0 c.in-Stands.ensures.value fits)
           ∙ c.loop-first.invariant.goes_on);
       ordered = rw pushed (order_push c.loop-first.tokens.items token 0 at c.loop-first.invariant.ordered (omega arith) (omega arith));
     }

@@ -1,9 +1,9 @@
-use Rattle.channel_machine.proofs.Going.{goes_behind, never_alarms}
-use Rattle.channel_machine.proofs.levels.go_behind.Goals as goal
+use Rattle.channel_machine.proofs.Going.{goes_after, never_alarms}
+use Rattle.channel_machine.proofs.levels.go_after.Goals as goal
 
 pub returns-in-Ok : goal.returns-in-Ok
 returns-in-Ok c =
-    goes_behind c.args.skip c.args.job.now.programs c.args.here.now c.go_on.new.here c.in-Ok.comes c.in-Ok.ensures
+    goes_after c.args.skip c.args.job.now.programs c.args.here.now c.go_on.new.here c.in-Ok.comes c.in-Ok.ensures
 
 pub returns-in-Err : goal.returns-in-Err
 returns-in-Err c =

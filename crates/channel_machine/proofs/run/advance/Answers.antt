@@ -6,7 +6,7 @@ use Rattle.block_effects.specs.declared.situation.Situation.{Situation}
 use Rattle.nc_blocks.specs.Statement.{statement_view, view_of}
 use Rattle.sync_types.specs.declared.Action.TheVariants.{Alarm}
 use Rattle.sync_types.specs.declared.Step.{Step}
-use Rattle.channel_machine.specs.Kept.{IsBehind, kept_by}
+use Rattle.channel_machine.specs.Kept.{IsFollowing, state_view}
 use Rattle.channel_machine.specs.declared.levels.Levels.{Levels}
 use Rattle.channel_machine.specs.Run.{chain_after, ends_main, step_at, words_after}
 use Rattle.channel_machine.proofs.Placed.{block_there, opener_there, effect_there, followed_there, room}
@@ -16,32 +16,32 @@ use Rattle.channel_machine.proofs.run.advance.Goals as goal
 
 pub returns-in_default-clause-told : goal.returns-in_default-clause-told
 returns-in_default-clause-told c s c' set keeps =
-    let k = kept_by c.args.state.now in
+    let k = state_view c.args.state.now in
     let items = c.args.items.now.items in
-    ends_at s _ items k _ k.last (Alarm 9) c'.past _ (nowhere s c' k keeps items c.in_default.is) c.stop.ensures.step (over_keeps s c' k keeps items _ (ap kept_by c.stop.ensures.nowhere))
+    ends_at s _ items k _ k.last (Alarm 9) c'.past _ (nowhere s c' k keeps items c.in_default.is) c.stop.ensures.step (over_keeps s c' k keeps items _ (ap state_view c.stop.ensures.nowhere))
 
 pub returns-in_default-find_block-clause-told : goal.returns-in_default-find_block-clause-told
 returns-in_default-find_block-clause-told c s c' set keeps =
-    let k = kept_by c.args.state.now in
+    let k = state_view c.args.state.now in
     let items = c.args.items.now.items in
     ends_at s _ items k _ k.last (Alarm 9) c'.past _
     (no_block s c' k keeps items c.in-Some.levels c.in-Some.is
-    (block_there s c.args.job.now.programs set.programs c.in-Some.levels.here None c.in_default-find_block.ensures)) c.stop-in_default-find_block.ensures.step (over_keeps s c' k keeps items _ (ap kept_by c.stop-in_default-find_block.ensures.nowhere))
+    (block_there s c.args.job.now.programs set.programs c.in-Some.levels.here None c.in_default-find_block.ensures)) c.stop-in_default-find_block.ensures.step (over_keeps s c' k keeps items _ (ap state_view c.stop-in_default-find_block.ensures.nowhere))
 
 pub returns-then-state-eq-BLOCK_LIMIT-clause-told : goal.returns-then-state-eq-BLOCK_LIMIT-clause-told
 returns-then-state-eq-BLOCK_LIMIT-clause-told c s c' set keeps =
-    let k = kept_by c.args.state.now in
+    let k = state_view c.args.state.now in
     let items = c.args.items.now.items in
     let next = c.in-Some-find_block.next in
     ends_at s _ items k _ next.line (Alarm 8) c'.past _
     (spent s c' k keeps items c.in-Some.levels c.in-Some.is next.line (view_of next.block.now)
     (block_there s c.args.job.now.programs set.programs c.in-Some.levels.here (Some (next.line, view_of next.block.now)) c.in-Some-find_block.ensures.found) c.if-state-eq-BLOCK_LIMIT.true)
-    c.stop-then-state-eq-BLOCK_LIMIT.ensures.step (over_keeps s c' k keeps items _ (ap kept_by c.stop-then-state-eq-MOST_BLOCKS.ensures.nowhere))
+    c.stop-then-state-eq-BLOCK_LIMIT.ensures.step (over_keeps s c' k keeps items _ (ap state_view c.stop-then-state-eq-MOST_BLOCKS.ensures.nowhere))
 
 pub returns-in-Ok-clause-told : goal.returns-in-Ok-clause-told
 returns-in-Ok-clause-told c =
-    if_ok c.leave.result (λ (halt : Option Step). λ behind. λ s. λ c'. λ set. λ keeps.
-    let k = kept_by c.args.state.now in
+    if_ok c.leave.result (λ (halt : Option Step). λ following. λ s. λ c'. λ set. λ keeps.
+    let k = state_view c.args.state.now in
     let next = c.in-Some-find_block.next in
     let here = c.in-Some.levels.here in
     let there = c.in-Some-find_block.ensures in
@@ -53,14 +53,14 @@ returns-in-Ok-clause-told c =
     (effect_there job s c' k set keeps here next.line (statement_view next.opener.now) (statement_view next.block.now.stmt) (opener_there s job.programs set.programs here (statement_view next.opener.now) there.opens))
     (c.in-Ok.ensures.leaves (words_after c'.past) (chain_after c'.past) keeps.modal keeps.frame))
     (c.in-Ok.ensures.modal (words_after c'.past) keeps.modal) c.in-Ok.ensures.stand
-    None refl halt c.leave.new.items.items (kept_by c.leave.new.state)
-    (subst (λ (r : Result (Option Levels) ℕ). IsBehind (in_situation k None c.execute.new.situation) k.modal c.args.items.now.items c.in-Ok.done.item next.line
-    (ends_main c.in-Some.levels (course_view c.in-Ok.done.course)) r halt c.leave.new.items.items (kept_by c.leave.new.state))
-    (followed_there s job.skip job.programs set.skip set.programs c.in-Some.levels (course_view c.in-Ok.done.course)) (behind c.in-Some.levels c.in-Some.is))) c.leave.ensures.told
+    None refl halt c.leave.new.items.items (state_view c.leave.new.state)
+    (subst (λ (r : Result (Option Levels) ℕ). IsFollowing (in_situation k None c.execute.new.situation) k.modal c.args.items.now.items c.in-Ok.done.item next.line
+    (ends_main c.in-Some.levels (course_view c.in-Ok.done.course)) r halt c.leave.new.items.items (state_view c.leave.new.state))
+    (followed_there s job.skip job.programs set.skip set.programs c.in-Some.levels (course_view c.in-Ok.done.course)) (following c.in-Some.levels c.in-Some.is))) c.leave.ensures.told
 
 pub returns-in-Alarm-clause-told : goal.returns-in-Alarm-clause-told
 returns-in-Alarm-clause-told c s c' set keeps =
-    let k = kept_by c.args.state.now in
+    let k = state_view c.args.state.now in
     let items = c.args.items.now.items in
     let next = c.in-Some-find_block.next in
     let here = c.in-Some.levels.here in
@@ -74,4 +74,4 @@ returns-in-Alarm-clause-told c s c' set keeps =
     ∙ (rw c.in-Alarm.is at (c.in-Err.ensures.leaves (words_after c'.past) (chain_after c'.past) keeps.modal keeps.frame))))
     (c.stop-in-Alarm.ensures.step ∙ ap (λ (at : List (Option ℤ)). step_at k.axes k.on (stands at) next.line (Alarm c.in-Alarm.code)) (ap (λ (old : Situation). old.at) c.in-Err.ensures.unchanged))
     (over_keeps s c' k keeps items _
-    (ap kept_by c.stop-in-Alarm.ensures.nowhere ∙ ap (in_situation k None) c.in-Err.ensures.unchanged))
+    (ap state_view c.stop-in-Alarm.ensures.nowhere ∙ ap (in_situation k None) c.in-Err.ensures.unchanged))

@@ -1,8 +1,8 @@
 -- What is kept is of a channel from which the rest of the segment is the same.
 use Rattle.std.proofs.Common.{◌≡◌, ◌≤◌, ◌-◌, [], IfSome}
-use Rattle.channel_machine.specs.Kept.{GoesOn, IsSettingIn, Keeps, kept_by}
+use Rattle.channel_machine.specs.Kept.{GoesOn, IsSettingIn, Keeps, state_view}
 use Rattle.channel_machine.specs.Levels.{LevelsFit}
-use Rattle.channel_machine.specs.Run.{Setting, Channel}
+use Rattle.channel_machine.specs.Run.{SurroundingsView, Channel}
 use Rattle.channel_machine.proofs.run.run_segment.Given as goal
 
 abbrev pub invariant-loop-items : goal.invariant-loop-items
@@ -10,7 +10,7 @@ invariant-loop-items l = record {
   fit : IfSome l.state.levels (LevelsFit l.job.skip l.job.programs);
   few : l.state.count ≤ 100000;
   channel : l.state.channel ≡ l.local.channel;
-  told : (s : Setting) (c : Channel) → IsSettingIn l.job s l.local → Keeps s c l.local → GoesOn s c [] l.items.items (kept_by l.state);
+  told : (s : SurroundingsView) (c : Channel) → IsSettingIn l.job s l.local → Keeps s c l.local → GoesOn s c [] l.items.items (state_view l.state);
 }
 
 abbrev pub decreases-loop-items : goal.decreases-loop-items

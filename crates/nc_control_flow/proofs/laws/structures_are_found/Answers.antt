@@ -5,6 +5,6 @@ pub returns : goal.returns
 returns c = record {
   ends = end_of_opener;
   branches = branch_of_opener;
-  behind_else = end_of_else;
+  after_else = end_of_else;
   openers = opener_of_end;
 }

@@ -1,4 +1,4 @@
--- What fits in a list fits behind its first.
+-- What fits in a list fits after its first.
 use Rattle.std.proofs.lemmas.List.Elements.{All-rest}
 use Rattle.arc_quadrants.specs.Quarters.{IsFit}
 use Rattle.arc_quadrants.specs.declared.walk.Quarter.{Quarter}

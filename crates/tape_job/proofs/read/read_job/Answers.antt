@@ -1,4 +1,4 @@
--- A line that is refused refuses the input, and behind the last line the end is tried.
+-- A line that is refused refuses the input, and after the last line the end is tried.
 use Rattle.std.proofs.Common.{◌≡◌, length, sym, subst, tests, arith}
 use Rattle.std.proofs.lemmas.Result.{err_from_is_err_and}
 use Rattle.tape_job.proofs.FitLemmas.{given_fits}

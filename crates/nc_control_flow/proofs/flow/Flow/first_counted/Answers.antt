@@ -1,5 +1,5 @@
 use Rattle.std.proofs.Common.{◌∙◌, ap, sym}
-use Rattle.nc_control_flow.specs.Counted.{counted}
+use Rattle.nc_control_flow.specs.Counted.{going_to_counted}
 use Rattle.nc_control_flow.specs.Flow.{next_at}
 use Rattle.nc_control_flow.specs.Parts.{views}
 use Rattle.nc_control_flow.specs.Repetitions.{Going}
@@ -12,5 +12,5 @@ returns-then-skip c =
     rw c.if-skip.true (c.at.ensures ∙ ap (next_at blocks) (c.plain.ensures ∙ ap (λ (g : Going). g.place) (sym (first_is blocks))))
 
 pub returns-else-skip : goal.returns-else-skip
-unfolding counted
+unfolding going_to_counted
 returns-else-skip c = rw c.if-skip.false c.at-else-skip.ensures

@@ -4,7 +4,7 @@ use Rattle.nc_control_flow.specs.declared.repeats.Control.TheVariants.{Comes}
 use Rattle.nc_control_flow.specs.Counted.{RepeatCounts}
 use Rattle.nc_control_flow.specs.Flow.{next_at}
 use Rattle.nc_control_flow.specs.Parts.{views}
-use Rattle.nc_control_flow.specs.Repetitions.{Going, settled}
+use Rattle.nc_control_flow.specs.Repetitions.{Going, going_after_passes}
 use Rattle.nc_control_flow.proofs.Counting.{settled_counts}
 use Rattle.nc_control_flow.proofs.Leading.{going_same, leads_on, leads_nearer, leads_to}
 use Rattle.nc_control_flow.proofs.flow.Flow.walk.Goals as goal
@@ -12,7 +12,7 @@ use Rattle.nc_control_flow.proofs.flow.Flow.walk.Goals as goal
 pub loop-place-init : goal.loop-place-init
 loop-place-init c =
     let blocks = views c.args.self.now in
-    let to = settled c.args.control c.args.repeats.now in
+    let to = going_after_passes c.args.control c.args.repeats.now in
     record {
       same = going_same blocks to c.settle-place.result c.settle-place.new.self c.settle-place.ensures.place c.settle-place.ensures.running;
       repeat = All-same (RepeatCounts blocks) c.settle-place.new.self to.running c.settle-place.ensures.running (settled_counts blocks c.args.control c.args.repeats.now c.requires.repeat);
@@ -27,7 +27,7 @@ loop-place-preserved c =
     record {
       same = leads_on blocks c.loop-place.place there c.loop-place.repeats c.plain-there.ensures c.if-there-place.false c.loop-place.invariant.repeat c.settle-place-in-loop-place.result new moved.place moved.running
           ∙ c.loop-place.invariant.same;
-      repeat = All-same (RepeatCounts blocks) new (settled (Comes there) c.loop-place.repeats).running moved.running (settled_counts blocks (Comes there) c.loop-place.repeats c.loop-place.invariant.repeat);
+      repeat = All-same (RepeatCounts blocks) new (going_after_passes (Comes there) c.loop-place.repeats).running moved.running (settled_counts blocks (Comes there) c.loop-place.repeats c.loop-place.invariant.repeat);
     }
 
 pub loop-place-smaller : goal.loop-place-smaller
