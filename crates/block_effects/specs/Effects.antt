@@ -1,5 +1,5 @@
 -- Meaning. What a block does, by what it says.
-use Rattle.std.specs.Prelude.{◌≡◌, ℕ, ◌%◌, ◌/◌, ℤ, pos, negsuc, Bool, true, false, not, ◌&&◌, ◌||◌, ◌==◌, nat_lt, int_lt, if◌then◌else◌, List, [], ◌∷◌, ◌++◌, find, filter_map, is_some, position, Option, Some, None, option_map, Result, Ok, Err}
+use Rattle.std.specs.Prelude.{◌≡◌, ℕ, ◌+◌, ◌*◌, ◌%◌, ◌/◌, ℤ, pos, negsuc, Bool, true, false, not, ◌&&◌, ◌||◌, ◌==◌, nat_lt, int_lt, if◌then◌else◌, List, [], ◌∷◌, ◌++◌, find, filter_map, is_some, position, Option, Some, None, option_map, Result, Ok, Err}
 use Rattle.std.specs.List.{list_any}
 use Rattle.std.specs.Option.{option_or}
 use Rattle.std.specs.Ordering.{int_eq}
@@ -23,6 +23,9 @@ use Rattle.sync_types.specs.declared.Item.{Item}
 use Rattle.sync_types.specs.declared.Part.TheVariants.{Move}
 use Rattle.block_effects.specs.Shapes.{shaped_by, turned_by, plane_of}
 use Rattle.block_effects.specs.Words.{SetupView, Progress, parameter_in, value_in, assignment, increment, first_progress, words_done}
+use Rattle.nc_faults.specs.declared.alarms.TheConstants.{REPETITION_COUNT, NO_SUCH_PROGRAM, ARC_WORDS, GROUP_TWICE}
+use Rattle.g_groups.specs.declared.numbers.TheConstants.{MOTION_GROUP, DWELL_GROUP, AREA_GROUP, PLANE_GROUP, OFFSET_GROUP}
+use Rattle.nc_blocks.specs.declared.limits.TheConstants.{PASS_LIMIT}
 
 -- what becomes of control after a block: it goes on in its program by this outcome; or the program ends, which is a return on a lower level; or the program of this number runs, so many times
 pub data Course : Type 0 where
@@ -99,10 +102,10 @@ for_continued parameters other = Ok (course_by parameters outcome.Plain)
 
 -- ---- repetitions
 
--- a number of times is whole and 0 to 9999, else alarm 33
+-- a number of times is whole, and not more than may be asked for
 unfoldable pub times_in : ℤ → Result ℕ ℕ
-times_in (pos n) = if n % 1000000 == 0 && nat_lt n 10000000000 then Ok (n / 1000000) else Err 33
-times_in (negsuc n) = Err 33
+times_in (pos n) = if n % 1000000 == 0 && nat_lt n ((PASS_LIMIT + 1) * 1000000) then Ok (n / 1000000) else Err REPETITION_COUNT
+times_in (negsuc n) = Err REPETITION_COUNT
 
 -- without a number it is once
 abbrev pub times_of : List ℤ → Option Tree → Result ℕ ℕ
@@ -118,10 +121,10 @@ repetition_course parameters times = times_of parameters times >>= λ n. Ok (cou
 abbrev pub number_of : List (List ℕ) → List ℕ → Option ℕ
 number_of names name = position (λ n. bytes_eq n name) names
 
--- alarm 7 where the library has none
+-- an alarm where the library has none
 abbrev pub library_number : Option ℕ → Result ℕ ℕ
 library_number (Some number) = Ok number
-library_number None = Err 7
+library_number None = Err NO_SUCH_PROGRAM
 
 -- the program of this name runs so many times
 abbrev pub call_course : List (List ℕ) → List ℤ → List ℕ → ℕ → Result Turning ℕ
@@ -155,9 +158,9 @@ unfoldable pub group_words : Statement → List GWord
 group_words (WordBlock words) = filter_map group_word words
 group_words other = []
 
--- in a block with G4, G25 or G26, the words of groups 2 and 3, no axis moves
+-- in a block with G4, G25 or G26 no axis moves
 unfoldable pub stands_still : List GWord → Bool
-stands_still words = list_any (λ word. word.group == 2 || word.group == 3) words
+stands_still words = list_any (λ word. word.group == DWELL_GROUP || word.group == AREA_GROUP) words
 
 -- what a block finds: the parameters, the words of groups in each block before it, the frame, and where the axes stand
 pub record SituationView : Type 0 where
@@ -172,27 +175,27 @@ word_in found words group = modal_word (found.words ++ words ∷ []) group
 
 -- what holds after blocks with these words of groups, under this frame and with these offsets
 abbrev pub held_after : (ℕ → ℕ → ℤ) → List (List GWord) → List Map → ConditionsView
-held_after offset blocks chain = record { word = modal_word blocks; chain = chain; offset = λ slot. offset (modal_word blocks 8) slot }
+held_after offset blocks chain = record { word = modal_word blocks; chain = chain; offset = λ slot. offset (modal_word blocks OFFSET_GROUP) slot }
 
 abbrev pub in_force : SetupView → SituationView → List GWord → ConditionsView
 in_force equipment found words = held_after equipment.offset (found.words ++ words ∷ []) found.chain
 
--- G2 and G3, the words 2 and 3 of group 1, make arcs
+-- G2 and G3 make arcs
 abbrev pub is_arc : ConditionsView → Bool
-is_arc h = h.word 1 == 2 || h.word 1 == 3
+is_arc h = h.word MOTION_GROUP == 2 || h.word MOTION_GROUP == 3
 
--- words of an arc that may not stand where no arc is made: a radius, and a centre but under G33, the word 33 of group 1, where I, J and K are pitches
+-- words of an arc that may not stand where no arc is made: a radius, and a centre but under G33, where I, J and K are pitches
 abbrev pub has_stray_words : ConditionsView → ArcWords → Bool
-has_stray_words h words = is_some words.radius || (not (h.word 1 == 33) && is_any words.centre)
+has_stray_words h words = is_some words.radius || (not (h.word MOTION_GROUP == 33) && is_any words.centre)
 
 -- an arc, or else a straight line or a rapid
 abbrev pub motion_made : List (Option ℕ) → List Bool → ConditionsView → (ℕ → ℤ) → Targets → ArcWords → Result (Option Motion) ℕ
 motion_made slots owned h at targets arc = if is_arc h then arc_motion slots owned h at targets arc else straight_motion slots owned h at targets
 
--- the motion of a block with these words of groups that programs these values and these words of an arc; none where it stands still. Alarm 18, before the others of a motion and also where it stands still, where it makes no arc and has words of one that may not stand there
+-- the motion of a block with these words of groups that programs these values and these words of an arc; none where it stands still. An alarm, before the others of a motion and also where it stands still, where it makes no arc and has words of one that may not stand there
 unfoldable pub moved_or_still : List (Option ℕ) → List Bool → ConditionsView → (ℕ → ℤ) → List GWord → Targets → ArcWords → Result (Option Motion) ℕ
 moved_or_still slots owned h at words targets arc =
-    if not (is_arc h) && has_stray_words h arc then Err 18
+    if not (is_arc h) && has_stray_words h arc then Err ARC_WORDS
     else if stands_still words then Ok None
     else motion_made slots owned h at targets arc
 
@@ -221,9 +224,9 @@ words_run equipment found line groups words =
     words_moved equipment found groups p.targets p.arc >>= λ motion.
     Ok (record { parameters = p.parameters; chain = found.chain; item = option_map (item_on line) motion; course = course_of p.ends })
 
--- alarm 10, before all others, where two words of one group stand in the block
+-- an alarm, before all others, where two words of one group stand in the block
 abbrev pub words_effect : SetupView → SituationView → ℕ → List GWord → List WordView → Result Effect ℕ
-words_effect equipment found line groups words = if has_group_twice groups then Err 10 else words_run equipment found line groups words
+words_effect equipment found line groups words = if has_group_twice groups then Err GROUP_TWICE else words_run equipment found line groups words
 
 -- a block of a frame leaves all but the frame
 abbrev pub frame_effect : SituationView → Result (List Map) ℕ → Result Effect ℕ
@@ -239,7 +242,7 @@ effect_of equipment found line opener (WordBlock words) = words_effect equipment
 effect_of equipment found line opener (Shape word values) =
     frame_effect found (shaped_by found.parameters found.chain word values)
 effect_of equipment found line opener (Turn additive angle) =
-    frame_effect found (turned_by found.parameters found.chain (plane_of (word_in found [] 6)) additive angle)
+    frame_effect found (turned_by found.parameters found.chain (plane_of (word_in found [] PLANE_GROUP)) additive angle)
 effect_of equipment found line opener other = turned_only found (control_effect equipment.names found.parameters opener other)
 
 -- whether a block with this course looks for where it leads, and may find nothing: it jumps, repeats or calls

@@ -50,6 +50,6 @@ shaped_by parameters chain word words = values_done parameters no_values words >
 abbrev pub turned_by : List ℤ → List Map → Plane → Bool → Option Tree → Result (List Map) ℕ
 turned_by parameters chain plane additive angle = option_read parameters angle >>= λ value. turn_chain chain plane additive value
 
--- the plane of a word of group 6
+-- the plane of a word of its group
 unfoldable pub plane_of : ℕ → Plane
 plane_of code = if code == 17 then G17 else if code == 19 then G19 else G18

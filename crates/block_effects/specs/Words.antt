@@ -12,6 +12,9 @@ use Rattle.nc_expressions.specs.Value.{◌>>=◌, in_range_or_alarm, value_of}
 use Rattle.nc_blocks.specs.Statement.{OperandView, Value, Text, AxisName, WordView, Assign, AssignAt, G, Axis, Radius, Aux, End}
 use Rattle.block_effects.specs.declared.parameters.Change.{Change}
 use Rattle.block_effects.specs.declared.progress.WordsDone.{WordsDone}
+use Rattle.nc_faults.specs.declared.alarms.TheConstants.{PARAMETER_INDEX, ADDRESS_TWICE, NO_SUCH_AXIS, GEOMETRY_AXIS_BY_NAME}
+use Rattle.nc_expressions.specs.declared.limits.TheConstants.{PARAMETER_LIMIT, LAST_PARAMETER}
+use Rattle.axis_sets.specs.declared.limits.TheConstants.{AXIS_LIMIT}
 
 -- ---- parameters
 
@@ -19,9 +22,9 @@ use Rattle.block_effects.specs.declared.progress.WordsDone.{WordsDone}
 abbrev pub parameter_in : List ℤ → ℕ → ℤ
 parameter_in parameters index = slice_index_or parameters index (pos 0)
 
--- at the start the 1,000 parameters are 0
+-- at the start all parameters are 0
 unfoldable pub zeros : List ℤ
-zeros = replicate 1000 (pos 0)
+zeros = replicate PARAMETER_LIMIT (pos 0)
 
 -- the value of an expression where the parameters have these values
 abbrev pub value_in : List ℤ → Tree → Result ℤ ℕ
@@ -31,18 +34,18 @@ value_in parameters tree = value_of (parameter_in parameters) tree
 abbrev pub assignment : List ℤ → ℕ → Tree → Result (List ℤ) ℕ
 assignment parameters index tree = value_in parameters tree >>= λ value. Ok (slice_set parameters index value)
 
--- a parameter becomes 1 more; alarm 1 where it leaves the range
+-- a parameter becomes 1 more; an alarm where it leaves the range
 abbrev pub increment : List ℤ → ℕ → Result (List ℤ) ℕ
 increment parameters index = in_range_or_alarm (parameter_in parameters index +ℤ pos 1000000) >>= λ value. Ok (slice_set parameters index value)
 
--- alarm 4 where an index is not a whole number 0 to 999
+-- an alarm where an index is no number of a parameter
 abbrev pub index_in : Option ℕ → Result ℕ ℕ
 index_in (Some index) = Ok index
-index_in None = Err 4
+index_in None = Err PARAMETER_INDEX
 
 -- ---- axes
 
--- what the programs of a channel find in their job and in the channel: the names of the programs in the order of their numbers, the axis with a name, the settable offset of a slot under a word of group 8 in micrometres; the axes in the slots X, Y and Z, and whether the channel owns an axis
+-- what the programs of a channel find in their job and in the channel: the names of the programs in the order of their numbers, the axis with a name, the settable offset of a slot under a word of its group in micrometres; the axes in the slots X, Y and Z, and whether the channel owns an axis
 pub record SetupView : Type 0 where
   pub names : List (List ℕ)
   pub axis_named : List ℕ → Option ℕ
@@ -66,21 +69,21 @@ is_this axis (Some other) = other == axis
 abbrev pub is_in_slot : List (Option ℕ) → ℕ → Bool
 is_in_slot slots axis = list_any (is_this axis) slots
 
--- a value more in its place; alarm 17 where a word before has programmed it
+-- a value more in its place; an alarm where a word before has programmed it
 unfoldable pub programmed_once : List (Option Programmed) → ℕ → Programmed → Result (List (Option Programmed)) ℕ
-programmed_once row place value = if is_some (slice_index_or row place None) then Err 17 else Ok (slice_set row place (Some value))
+programmed_once row place value = if is_some (slice_index_or row place None) then Err ADDRESS_TWICE else Ok (slice_set row place (Some value))
 
--- X, Y or Z is programmed; alarm 14 where its slot has no axis
+-- X, Y or Z is programmed; an alarm where its slot has no axis
 unfoldable pub slot_programmed : List (Option ℕ) → Targets → ℕ → Programmed → Result Targets ℕ
 slot_programmed slots targets slot value =
     if is_some (slice_index_or slots slot None) then (programmed_once targets.slots slot value >>= λ row. Ok (record targets { slots = row }))
-    else Err 14
+    else Err NO_SUCH_AXIS
 
--- an axis is programmed by its own name; alarm 14 where the job has none of this name, 16 where it stands in a slot
+-- an axis is programmed by its own name; an alarm where the job has none of this name, and another where it stands in a slot
 unfoldable pub named_programmed : List (Option ℕ) → Targets → Option ℕ → Programmed → Result Targets ℕ
-named_programmed slots targets None value = Err 14
+named_programmed slots targets None value = Err NO_SUCH_AXIS
 named_programmed slots targets (Some axis) value =
-    if is_in_slot slots axis then Err 16
+    if is_in_slot slots axis then Err GEOMETRY_AXIS_BY_NAME
     else programmed_once targets.axes axis value >>= λ row. Ok (record targets { axes = row })
 
 abbrev pub programmed_by : SetupView → Targets → List ℕ → Option ℕ → Programmed → Result Targets ℕ
@@ -101,13 +104,13 @@ centre_named name =
 unfoldable pub no_arc : ArcWords
 no_arc = record { centre = replicate 3 None; radius = None }
 
--- a word of the centre more; alarm 17 where a word before has programmed it
+-- a word of the centre more; an alarm where a word before has programmed it
 abbrev pub with_centre_word : ArcWords → ℕ → Programmed → Result ArcWords ℕ
 with_centre_word words axis value = programmed_once words.centre axis value >>= λ row. Ok (record words { centre = row })
 
--- the radius; alarm 17 where a word before has programmed it
+-- the radius; an alarm where a word before has programmed it
 abbrev pub with_radius : ArcWords → ℤ → Result ArcWords ℕ
-with_radius words value = if is_some words.radius then Err 17 else Ok (record words { radius = Some value })
+with_radius words value = if is_some words.radius then Err ADDRESS_TWICE else Ok (record words { radius = Some value })
 
 -- ---- words
 
@@ -120,7 +123,7 @@ pub record Progress : Type 0 where
 
 -- before the first word of a block: the parameters are as they are, and nothing is programmed
 unfoldable pub nothing_programmed : Targets
-nothing_programmed = record { slots = replicate 3 None; axes = replicate 16 None }
+nothing_programmed = record { slots = replicate 3 None; axes = replicate AXIS_LIMIT None }
 
 abbrev pub first_progress : List ℤ → Progress
 first_progress parameters = record { parameters = parameters; targets = nothing_programmed; arc = no_arc; ends = false }
@@ -213,11 +216,11 @@ parameters_before parameters change = slice_set parameters change.index change.b
 
 -- a change of a parameter that there is leads back to the parameters before it; after an alarm there is none
 abbrev pub IsUndone : Result Change ℕ → List ℤ → List ℤ → Type 0
-IsUndone result old new = MatchResult result (λ change. (change.index ≤ 999) × (parameters_before new change ≡ old)) (λ _. new ≡ old)
+IsUndone result old new = MatchResult result (λ change. (change.index ≤ LAST_PARAMETER) × (parameters_before new change ≡ old)) (λ _. new ≡ old)
 
 -- the same, where a word may change none
 abbrev pub IsUndoneSome : Result (Option Change) ℕ → List ℤ → List ℤ → Type 0
-IsUndoneSome result old new = MatchResult result (λ o. MatchOption o (new ≡ old) (λ change. (change.index ≤ 999) × (parameters_before new change ≡ old))) (λ _. new ≡ old)
+IsUndoneSome result old new = MatchResult result (λ o. MatchOption o (new ≡ old) (λ change. (change.index ≤ LAST_PARAMETER) × (parameters_before new change ≡ old))) (λ _. new ≡ old)
 
 abbrev pub IsRead : Result (Option ℤ) ℕ → Result ⊤ ℕ → Type 0
 IsRead read result = MatchResult result (λ _. IsOk read) (λ code. read ≡ Err code)

@@ -10,13 +10,15 @@ ghost use Rattle.block_effects.specs.Words as words;
 ghost use Rattle.block_effects.specs.Words.{IsGiven};
 ghost use Rattle.block_effects.specs.Effects as model;
 ghost use Rattle.block_effects.specs.Courses.{Turns};
+ghost use Rattle.nc_expressions.specs.declared.limits.TheConstants.{LAST_PARAMETER};
 
 use crate::course::{Course, Setup};
 use crate::parameters::{Change, Parameters};
 use micro_units::Num;
-use nc_blocks::{JumpTo, NameText, Stmt};
+use nc_blocks::{JumpTo, NameText, PASS_LIMIT, Stmt};
 use nc_control_flow::Outcome;
 use nc_expressions::{Expr, Names, eval};
+use nc_faults::alarms::{NO_SUCH_PROGRAM, REPETITION_COUNT};
 
 /// Whether a value counts as true.
 fn is_true(value: Num) -> bool
@@ -113,7 +115,7 @@ pub(crate) fn conditional<'a>(parameters: &Parameters, condition: &Expr) -> Resu
 
 /// Once more round a FOR, where its parameter is not above the bound.
 fn bounded<'a>(parameters: &Parameters, index: u16, bound: &Expr) -> Result<Course<'a>, u16>
-    requires index { index ≤ 999 }
+    requires index { index ≤ LAST_PARAMETER }
     requires fits { IndicesFit (tree_of bound.now) }
     ensures { Turns (model.bound_course parameters.now index (tree_of bound.now)) result parameters.now }
 {
@@ -129,8 +131,8 @@ fn bounded_after<'a>(
     index: u16,
     bound: &Expr,
 ) -> Result<Course<'a>, u16>
-    requires index { index ≤ 999 }
-    requires change { change.index ≤ 999 }
+    requires index { index ≤ LAST_PARAMETER }
+    requires change { change.index ≤ LAST_PARAMETER }
     requires fits { IndicesFit (tree_of bound.now) }
     ensures turns { Turns (model.bound_course parameters.old index (tree_of bound.now)) result parameters.new }
     ensures undone { OnErr result (parameters.new ≡ words.parameters_before parameters.old change) }
@@ -151,7 +153,7 @@ pub(crate) fn begin_for<'a>(
     first: &Expr,
     bound: &Expr,
 ) -> Result<Course<'a>, u16>
-    requires index { index ≤ 999 }
+    requires index { index ≤ LAST_PARAMETER }
     requires first { IndicesFit (tree_of first.now) }
     requires bound { IndicesFit (tree_of bound.now) }
     ensures turns { Turns (model.for_begun parameters.old index (tree_of first.now) (tree_of bound.now)) result parameters.new }
@@ -163,7 +165,7 @@ pub(crate) fn begin_for<'a>(
 
 /// ENDFOR of a FOR with this parameter and bound.
 fn once_more<'a>(parameters: &mut Parameters, index: u16, bound: &Expr) -> Result<Course<'a>, u16>
-    requires index { index ≤ 999 }
+    requires index { index ≤ LAST_PARAMETER }
     requires bound { IndicesFit (tree_of bound.now) }
     ensures turns { Turns (model.once_more parameters.old index (tree_of bound.now)) result parameters.new }
     ensures unchanged { OnErr result (parameters.new ≡ parameters.old) }
@@ -195,10 +197,13 @@ fn times_in(value: Num) -> Result<u16, u16>
     ensures { result ≡ model.times_in value }
 {
     let millionths = value.millionths;
-    if 0 <= millionths && millionths < 10_000_000_000 && millionths % 1_000_000 == 0 {
+    if 0 <= millionths
+        && millionths < (i64::from(PASS_LIMIT) + 1) * 1_000_000
+        && millionths % 1_000_000 == 0
+    {
         Ok((millionths / 1_000_000) as u16)
     } else {
-        Err(33)
+        Err(REPETITION_COUNT)
     }
 }
 
@@ -230,6 +235,6 @@ pub(crate) fn called<S: Setup>(setup: &S, name: &NameText) -> Result<u16, u16>
 {
     match setup.number_of(name) {
         Some(number) => Ok(number),
-        None => Err(7),
+        None => Err(NO_SUCH_PROGRAM),
     }
 }

@@ -22,15 +22,13 @@ use crate::shapes::{shape, turn};
 use crate::situation::{ChannelAxes, Situation};
 use axis_sets::Positions;
 use block_motions::{ArcWords, Conditions, Targets, arc_motion, is_any, straight_motion, word};
-use g_groups::{GWord, Modal, apply};
+use g_groups::{GWord, MOTION_GROUP, Modal, apply};
 use nc_blocks::{Stmt, Word};
 use nc_control_flow::Outcome;
 use path_geometry::Motion;
+use nc_faults::alarms::ARC_WORDS;
 use std::alloc::Global;
 use sync_types::{Item, Part};
-
-/// The group of G0, G1, G2, G3 and G33.
-const MOTION_GROUP: u8 = 1;
 
 /// The course of a block of words.
 fn course_of<'a>(ends: bool) -> Course<'a>
@@ -106,7 +104,7 @@ fn move_axes(
     ensures unmoved { OnErr result (at.new ≡ at.old) }
 {
     if !is_arc(conditions) && has_stray_words(conditions, &done.arc) {
-        return Err(18);
+        return Err(ARC_WORDS);
     }
     if stands_still(groups) {
         return Ok(None);
@@ -315,7 +313,7 @@ fn run<'a, S: Setup>(
 /// G25 or G26 moves nothing and has no further alarm.
 ///
 /// Those of a block of a frame: 1 to 4 of its values, then 11 and 12 of its maps, then 11 and 13 of the whole chain.
-/// Those of other blocks: 1 to 4 of their values, 33 where a number of repetitions is not a whole number 0 to 9999, 7
+/// Those of other blocks: 1 to 4 of their values, 33 where a number of repetitions is not a whole number up to `PASS_LIMIT`, 7
 /// where the library has no program of the name that is called.
 ///
 /// `opener` is the block that begins the structure round the block; only ENDFOR asks for it. A block of coordination

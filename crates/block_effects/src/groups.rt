@@ -13,15 +13,9 @@ ghost use Rattle.block_effects.specs.Shapes.{plane_of};
 use crate::course::Setup;
 use block_motions::Conditions;
 use frames::{Frame, Plane};
-use g_groups::{GWord, Modal};
+use g_groups::{AREA_GROUP, DWELL_GROUP, GWord, Modal, OFFSET_GROUP, PLANE_GROUP};
 use nc_blocks::{Stmt, Word};
 use std::alloc::{AllocError, Global};
-
-/// The group of G17, G18 and G19.
-const PLANE_GROUP: u8 = 6;
-
-/// The group of the settable offsets.
-const OFFSET_GROUP: u8 = 8;
 
 /// The word of a group, if a word is one.
 fn group_word(word: &Word) -> Option<GWord>
@@ -65,13 +59,13 @@ pub(crate) fn group_words(alloc: Global, stmt: &Stmt) -> Result<Vec<GWord>, Allo
 pub(crate) fn stands_still(groups: &[GWord]) -> bool
     ensures { result ≡ model.stands_still groups.now }
 {
-    groups.iter().any(|word| word.group == 2 || word.group == 3)
+    groups.iter().any(|word| word.group == DWELL_GROUP || word.group == AREA_GROUP)
 }
 
 /// The plane that holds.
 #[tactic(auto, unfolding(crate::specs::Shapes::plane_of, g_groups::specs::Groups::holding_of))]
 pub(crate) fn plane_in(modal: &Modal) -> Plane
-    ensures { (blocks : List (List GWord)) → IsAfter blocks modal.now → result ≡ plane_of (modal_word blocks 6) }
+    ensures { (blocks : List (List GWord)) → IsAfter blocks modal.now → result ≡ plane_of (modal_word blocks PLANE_GROUP) }
 {
     match modal.word(PLANE_GROUP) {
         17 => Plane::G17,

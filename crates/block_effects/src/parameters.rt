@@ -5,13 +5,15 @@ ghost use Rattle.nc_expressions.specs.Tree.{tree_of, IndicesFit};
 ghost use Rattle.nc_expressions.specs.Value.{in_range_or_alarm};
 ghost use Rattle.block_effects.specs.Words as model;
 ghost use Rattle.block_effects.specs.Words.{parameters_before, zeros, IsGiven, IsUndone};
+ghost use Rattle.nc_expressions.specs.declared.limits.TheConstants.{LAST_PARAMETER};
 
 use micro_units::Num;
-use nc_expressions::{Expr, Names, eval, index_of};
+use nc_expressions::{Expr, Names, PARAMETER_LIMIT, eval, index_of};
+use nc_faults::alarms::{NUMBER_TOO_LARGE, PARAMETER_INDEX};
 use std::alloc::{AllocError, Global};
 use std::marker::Model;
 
-/// The values of the parameters R0 to R999, on the heap. A contract sees them as a list.
+/// The values of the parameters, on the heap. A contract sees them as a list.
 #[derive(Debug, Drop)]
 pub struct Parameters {
     values: Vec<Num>,
@@ -28,12 +30,13 @@ pub(crate) struct Change {
 
 impl Model for Parameters {
     ghost use Rattle.std.specs.Prelude.{◌≡◌, ℤ, List, length};
+    ghost use Rattle.nc_expressions.specs.declared.limits.TheConstants.{PARAMETER_LIMIT};
 
     ghost Value = { List ℤ };
 
     ghost view = { λ p. p.values.items };
 
-    ghost invariant = { λ p. length p.values.items ≡ 1000 };
+    ghost invariant = { λ p. length p.values.items ≡ PARAMETER_LIMIT };
 }
 
 impl Names for Parameters {
@@ -52,7 +55,7 @@ impl Parameters {
     pub fn new(alloc: Global) -> Result<Parameters, AllocError>
         ensures { IfOk result (λ p. p ≡ zeros) }
     {
-        let values = vec![in alloc; Num { millionths: 0 }; 1000]?;
+        let values = vec![in alloc; Num { millionths: 0 }; PARAMETER_LIMIT as usize]?;
         Ok(Parameters { values })
     }
 
@@ -66,7 +69,7 @@ impl Parameters {
 
     /// Gives the parameter of this number a value.
     pub(crate) fn set(&mut self, index: u16, value: Num)
-        requires { index ≤ 999 }
+        requires { index ≤ LAST_PARAMETER }
         ensures { self.new ≡ slice_set self.old index value }
     {
         self.values[usize::from(index)] = value;
@@ -75,7 +78,7 @@ impl Parameters {
     /// Gives the parameter of this number a value, and answers how it was before.
     #[tactic(auto, using(crate::proofs::Changes::set_back))]
     fn replace(&mut self, index: u16, value: Num) -> Change
-        requires { index ≤ 999 }
+        requires { index ≤ LAST_PARAMETER }
         ensures set { self.new ≡ slice_set self.old index value }
         ensures index { result.index ≡ index }
         ensures parameters_before { parameters_before self.new result ≡ self.old }
@@ -87,7 +90,7 @@ impl Parameters {
 
     /// Takes a change back.
     pub(crate) fn undo(&mut self, change: Change)
-        requires { change.index ≤ 999 }
+        requires { change.index ≤ LAST_PARAMETER }
         ensures { self.new ≡ parameters_before self.old change }
     {
         self.set(change.index, change.before);
@@ -95,7 +98,7 @@ impl Parameters {
 
     /// Takes a change back, if there is one.
     pub(crate) fn undo_some(&mut self, change: Option<Change>)
-        requires { IfSome change (λ made. made.index ≤ 999) }
+        requires { IfSome change (λ made. made.index ≤ LAST_PARAMETER) }
         ensures { MatchOption change (self.new ≡ self.old) (λ made. self.new ≡ parameters_before self.old made) }
     {
         if let Some(change) = change {
@@ -105,7 +108,7 @@ impl Parameters {
 
     /// Gives the parameter of this number the value of an expression, and answers how it was before.
     pub(crate) fn give(&mut self, index: u16, value: &Expr) -> Result<Change, u16>
-        requires index { index ≤ 999 }
+        requires index { index ≤ LAST_PARAMETER }
         requires fits { IndicesFit (tree_of value.now) }
         ensures given { IsGiven (model.assignment self.old index (tree_of value.now)) result self.new }
         ensures parameters_before { IsUndone result self.old self.new }
@@ -124,13 +127,13 @@ impl Parameters {
         let index = eval(index, self)?;
         match index_of(index) {
             Some(index) => self.give(index, value),
-            None => Err(4),
+            None => Err(PARAMETER_INDEX),
         }
     }
 
     /// Adds 1 to the parameter of this number and answers how it was before, or alarm 1 where it leaves the range.
     pub(crate) fn count(&mut self, index: u16) -> Result<Change, u16>
-        requires { index ≤ 999 }
+        requires { index ≤ LAST_PARAMETER }
         ensures given { IsGiven (model.increment self.old index) result self.new }
         ensures parameters_before { IsUndone result self.old self.new }
     {
@@ -148,6 +151,6 @@ fn one_more(value: Num) -> Result<Num, u16>
         millionths: 1_000_000,
     }) {
         Ok(sum) => Ok(sum),
-        Err(_) => Err(1),
+        Err(_) => Err(NUMBER_TOO_LARGE),
     }
 }

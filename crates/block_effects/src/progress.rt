@@ -10,12 +10,13 @@ ghost use Rattle.block_effects.specs.Courses.{equipment_of};
 use crate::course::Setup;
 use crate::parameters::{Change, Parameters};
 use crate::situation::ChannelAxes;
-use axis_sets::AxisId;
 use block_motions::{ArcWords, Programmed, Targets};
+use axis_sets::{AXIS_LIMIT, AxisId};
 use micro_units::Num;
 use nc_blocks::{Operand, Word};
 use nc_expressions::{Expr, eval};
 use path_geometry::Motion;
+use nc_faults::alarms::{ADDRESS_TWICE, GEOMETRY_AXIS_BY_NAME, NO_SUCH_AXIS};
 
 /// What the words of a block have done so far, besides what they gave parameters.
 #[derive(Drop)]
@@ -86,7 +87,7 @@ fn put(row: &mut [Option<Programmed>], place: usize, value: Programmed) -> Resul
     ensures { IsPut (model.programmed_once row.old place value) result row.new }
 {
     if row[place].is_some() {
-        return Err(17);
+        return Err(ADDRESS_TWICE);
     }
     row[place] = Some(value);
     Ok(())
@@ -105,7 +106,7 @@ fn program_slot(
 {
     let slot = usize::from(slot);
     if slots[slot].is_none() {
-        return Err(14);
+        return Err(NO_SUCH_AXIS);
     }
     put(&mut targets.slots, slot, value)
 }
@@ -121,10 +122,10 @@ fn program_named(
     ensures { Aims (model.named_programmed slots.now targets.old axis value) result targets.new }
 {
     let Some(axis) = axis else {
-        return Err(14);
+        return Err(NO_SUCH_AXIS);
     };
     if is_in_slot(slots, axis) {
-        return Err(16);
+        return Err(GEOMETRY_AXIS_BY_NAME);
     }
     put(&mut targets.axes, usize::from(axis.index), value)
 }
@@ -142,7 +143,7 @@ fn program_radius(arc: &mut ArcWords, value: Num) -> Result<(), u16>
     ensures { Curves (model.with_radius arc.old value) result arc.new }
 {
     if arc.radius.is_some() {
-        return Err(17);
+        return Err(ADDRESS_TWICE);
     }
     arc.radius = Some(value);
     Ok(())
@@ -210,7 +211,7 @@ impl WordsDone {
         WordsDone {
             targets: Targets {
                 slots: [None; 3],
-                axes: [None; 16],
+                axes: [None; AXIS_LIMIT],
             },
             arc: ArcWords {
                 centre: [None; 3],

@@ -64,7 +64,7 @@ past_end skip programs number passes (place ∷ places) =
 abbrev pub levels_from : Bool → List (List ℕ × ProgramView) → Place → List Place → Option Levels
 levels_from skip programs here returns = levels_at programs here returns (past_end skip programs here.program here.passes returns)
 
--- where control is after a block that goes on in its program by this outcome; alarms 5 and 32
+-- where control is after a block that goes on in its program by this outcome, or an alarm
 abbrev pub going_on : Bool → List (List ℕ × ProgramView) → Levels → OutcomeView → Result (Option Levels) ℕ
 going_on skip programs levels outcome =
     next_going skip levels.here.pc (program_blocks programs levels.here.program) levels.here.repeats outcome >>= λ going.

@@ -26,10 +26,13 @@ use Rattle.channel_machine.specs.declared.levels.Levels.{Levels}
 use Rattle.channel_machine.specs.Levels.{lines_of, program_blocks, first_place, levels_from, levels_after}
 use Rattle.job_types.specs.Slots.{slot_axis, offset_of}
 use Rattle.job_types.specs.Axes.{axis_named}
+use Rattle.nc_faults.specs.declared.alarms.TheConstants.{TOO_MANY_BLOCKS, NO_PROGRAM_END}
+use Rattle.axis_sets.specs.declared.limits.TheConstants.{AXIS_LIMIT}
+use Rattle.channel_machine.specs.declared.limits.TheConstants.{BLOCK_LIMIT}
 
 -- ---- what a channel runs by
 
--- the programs and the AXIS lines of the job, the axes in the channel's slots X, Y and Z, the settable offset of each slot under each word of group 8, whether blocks with '/' are passed over, and what the channel was granted at its start
+-- the programs and the AXIS lines of the job, the axes in the channel's slots X, Y and Z, the settable offset of each slot under each word of its group, whether blocks with '/' are passed over, and what the channel was granted at its start
 pub record SurroundingsView : Type 0 where
   pub programs : List (List ℕ × ProgramView)
   pub axes : List AxisLine
@@ -145,7 +148,7 @@ channel_at_end past = record { past = past; levels = None }
 
 -- where the axes of a set stand
 abbrev pub owned_at : List Bool → (ℕ → ℤ) → List (Option ℤ)
-owned_at axes at = map (λ axis. if has axes axis then Some (at axis) else None) (range_with_len 0 16)
+owned_at axes at = map (λ axis. if has axes axis then Some (at axis) else None) (range_with_len 0 AXIS_LIMIT)
 
 -- a step on this line, where the axes stand so
 abbrev pub step_at : List Bool → List Bool → (ℕ → ℤ) → ℕ → Action → Step
@@ -169,13 +172,13 @@ ends_main levels Ends = length levels.returns == 0
 ends_main levels (Goes outcome) = false
 ends_main levels (Calls number passes) = false
 
--- where no block comes: alarm 9 at the line of the last executed block, or of the header
+-- where no block comes: an alarm at the line of the last executed block, or of the header
 abbrev pub with_block : SurroundingsView → List Executed → Option (ℕ × BlockView) → (ℕ × BlockView → SegmentView) → SegmentView
-with_block setting past None go = alarm_segment setting past (line_after setting past) 9
+with_block setting past None go = alarm_segment setting past (line_after setting past) NO_PROGRAM_END
 with_block setting past (Some block) go = go block
 
 abbrev pub with_levels : SurroundingsView → List Executed → Option Levels → (Levels → ℕ × BlockView → SegmentView) → SegmentView
-with_levels setting past None go = alarm_segment setting past (line_after setting past) 9
+with_levels setting past None go = alarm_segment setting past (line_after setting past) NO_PROGRAM_END
 with_levels setting past (Some levels) go = with_block setting past (block_at setting levels.here) (go levels)
 
 -- after an executed block: where control goes on, or an alarm of that
@@ -198,16 +201,16 @@ segment_after_block setting past levels line (Ok done) go =
     if ends_main levels done.effect.course then end_segment setting past done
     else segment_after_course setting past done (levels_after setting.skip setting.programs levels done.effect.course) go
 
--- the segment of a channel that may still execute so many blocks; one more is alarm 8
+-- the segment of a channel that may still execute so many blocks; one more is an alarm
 unfoldable pub run_after : SurroundingsView → ℕ → Channel → SegmentView
-run_after setting zero channel = with_levels setting channel.past channel.levels (λ levels block. alarm_segment setting channel.past block.0 8)
+run_after setting zero channel = with_levels setting channel.past channel.levels (λ levels block. alarm_segment setting channel.past block.0 TOO_MANY_BLOCKS)
 run_after setting (suc more) channel =
     with_levels setting channel.past channel.levels (λ levels block.
     segment_after_block setting channel.past levels block.0 (executed_block setting channel.past levels.here block) (λ after. run_after setting more after))
 
--- the segment of a channel; in all it executes at most 100,000 blocks
+-- the segment of a channel; in all it executes no more blocks than it may
 unfoldable pub segment_of : SurroundingsView → Channel → SegmentView
-segment_of setting channel = run_after setting (100000 - length channel.past) channel
+segment_of setting channel = run_after setting (BLOCK_LIMIT - length channel.past) channel
 
 -- a main program at its first block that counts
 abbrev pub first_levels : Bool → List (List ℕ × ProgramView) → ℕ → Option Levels

@@ -7,6 +7,7 @@ ghost use Rattle.block_motions.specs.Motions.{IsMotionOf};
 ghost use Rattle.sync_types.specs.declared.Item.{Item};
 ghost use Rattle.channel_machine.specs.Run.{SurroundingsView, channel_at_start, segment_of, stands_at_start, IsListedAction};
 ghost use Rattle.micro_units.specs.Position.{IsPosition};
+ghost use Rattle.channel_machine.specs.declared.limits.TheConstants.{BLOCK_LIMIT};
 
 /// A law: each motion of a channel's first segment is one of axes that the channel owns, each once, from where the motions
 /// before it left it to an end in range. It is sound where they left the axes in range.
@@ -23,9 +24,9 @@ pub fn motions_are_sound()
         → All (λ item. IsSound (motion_of item)) (segment_of s (channel_at_start s)).items }
 {}
 
-/// A law: a channel's first segment has at most 100,000 motions.
+/// A law: a channel's first segment has at most `BLOCK_LIMIT` motions.
 pub fn motions_are_few()
-    ensures { (s : SurroundingsView) → length (segment_of s (channel_at_start s)).items ≤ 100000 }
+    ensures { (s : SurroundingsView) → length (segment_of s (channel_at_start s)).items ≤ BLOCK_LIMIT }
 {}
 
 /// A law: an alarm that ends a segment is in the table of alarms.

@@ -14,9 +14,10 @@ ghost use Rattle.channel_machine.specs.Run as model;
 ghost use Rattle.channel_machine.specs.Run.{SurroundingsView, Channel, segment_of};
 
 use crate::levels::{Levels, flow_of, follow_on};
+use crate::limits::BLOCK_LIMIT;
 use crate::local::{Local, State};
 use crate::surroundings::Surroundings;
-use axis_sets::{AxisId, AxisSet, Positions};
+use axis_sets::{AXIS_LIMIT, AxisId, AxisSet, Positions};
 use block_effects::{BlockFault, Course, Done, execute};
 use g_groups::Modal;
 use job_types::Job;
@@ -24,6 +25,7 @@ use micro_units::Um;
 use nc_blocks::{Block, Stmt};
 use nc_control_flow::Flow;
 use nc_faults::NoMemory;
+use nc_faults::alarms::{NO_PROGRAM_END, TOO_MANY_BLOCKS};
 use nc_subprograms::Place;
 use std::alloc::{AllocError, Global};
 use std::marker::Model;
@@ -49,9 +51,6 @@ impl Model for Segment {
     ghost view = { λ g. record { items = g.items.items; step = g.step; after = g.after } };
 }
 
-/// How many blocks a channel may execute.
-const MOST_BLOCKS: u32 = 100_000;
-
 /// Where an axis stands; one without a position at 0.
 fn standing(at: &Positions, axis: AxisId) -> Um
     ensures { result ≡ stands at.now axis }
@@ -67,7 +66,7 @@ fn owned_at(axes: AxisSet, at: &Positions) -> Positions
     ensures { result ≡ model.owned_at axes (stands at.now) }
 {
     let mut owned = Positions::empty();
-    for index in 0..16 {
+    for index in 0..AXIS_LIMIT as u8 {
         let axis = AxisId { index };
         if axes.contains(axis) {
             owned.set(axis, standing(at, axis));
@@ -182,12 +181,12 @@ fn leave(
     done: Done,
 ) -> Result<Option<Step>, NoMemory>
     requires fit { IfSome state.old.levels (LevelsFit job.now.skip job.now.programs) }
-    requires few { state.old.count < 100000 }
+    requires few { state.old.count < BLOCK_LIMIT }
     ensures told { IfOk result (λ halt. (levels : Levels) → state.old.levels ≡ Some levels
         → IsFollowing (record (state_view state.old) { levels = None }) modal items.old.items done.entry.item line (model.ends_main levels (course_view done.entry.course))
         (levels_after job.now.skip job.now.programs levels (course_view done.entry.course)) halt items.new.items (state_view state.new)) }
     ensures fit { IfOk result (λ _. IfSome state.new.levels (LevelsFit job.now.skip job.now.programs)) }
-    ensures few { IfOk result (λ _. state.new.count ≤ 100000) }
+    ensures few { IfOk result (λ _. state.new.count ≤ BLOCK_LIMIT) }
     ensures count { IfOk result (λ halt. IfNone halt (state.new.count ≡ state.old.count + 1)) }
     ensures channel { IfOk result (λ _. state.new.channel ≡ state.old.channel) }
 {
@@ -225,24 +224,24 @@ fn advance(
     requires blocks { BlocksFit job.now }
     requires programs { length job.now.programs ≤ 65536 }
     requires fit { IfSome state.old.levels (LevelsFit job.now.skip job.now.programs) }
-    requires few { state.old.count ≤ 100000 }
+    requires few { state.old.count ≤ BLOCK_LIMIT }
     ensures told { IfOk result (λ halt. (s : SurroundingsView) (c : Channel) → IsSettingIn job.now s (state_view state.old) → Keeps s c (state_view state.old)
         → Advances s c items.old.items halt items.new.items (state_view state.new)) }
     ensures fit { IfOk result (λ _. IfSome state.new.levels (LevelsFit job.now.skip job.now.programs)) }
-    ensures few { IfOk result (λ _. state.new.count ≤ 100000) }
+    ensures few { IfOk result (λ _. state.new.count ≤ BLOCK_LIMIT) }
     ensures count { IfOk result (λ halt. IfNone halt (state.new.count ≡ state.old.count + 1)) }
     ensures channel { IfOk result (λ _. state.new.channel ≡ state.old.channel) }
 {
     let last = state.last;
     let Some(levels) = &state.levels else {
-        return Ok(Some(stop(state, last, Action::Alarm(9))));
+        return Ok(Some(stop(state, last, Action::Alarm(NO_PROGRAM_END))));
     };
     let Some(next) = find_block(job, &levels.here) else {
-        return Ok(Some(stop(state, last, Action::Alarm(9))));
+        return Ok(Some(stop(state, last, Action::Alarm(NO_PROGRAM_END))));
     };
     let line = next.line;
-    if state.count == MOST_BLOCKS {
-        return Ok(Some(stop(state, line, Action::Alarm(8))));
+    if state.count == BLOCK_LIMIT {
+        return Ok(Some(stop(state, line, Action::Alarm(TOO_MANY_BLOCKS))));
     }
     let channel = state.channel;
     let surroundings = Surroundings { job, channel };
@@ -268,7 +267,7 @@ fn advance(
 /// an answer; the only error is want of memory.
 ///
 /// Alarm 9: control is past the end of the main program, at the line of the last executed block or of
-/// the header. Alarm 8: one more block than 100,000 comes, at its line. Then the alarms of the block
+/// the header. Alarm 8: one more block than `BLOCK_LIMIT` comes, at its line. Then the alarms of the block
 /// that comes, 6 where it calls a program on a seventeenth level, 5 where its label or block number is
 /// missing, and 32 where a seventeenth repetition would run; nothing of that block stands.
 ///
@@ -278,11 +277,11 @@ pub fn run_segment(alloc: Global, job: &Job, local: &Local) -> Result<Segment, N
     requires blocks { BlocksFit job.now }
     requires programs { length job.now.programs ≤ 65536 }
     requires fit { IfSome local.now.levels (LevelsFit job.now.skip job.now.programs) }
-    requires few { local.now.count ≤ 100000 }
+    requires few { local.now.count ≤ BLOCK_LIMIT }
     ensures told { IfOk result (λ g. (s : SurroundingsView) (c : Channel) → IsSettingIn job.now s local.now → Keeps s c local.now
         → IsSegment s (segment_of s c) g) }
     ensures fit { IfOk result (λ g. IfSome g.after.levels (LevelsFit job.now.skip job.now.programs)) }
-    ensures few { IfOk result (λ g. g.after.count ≤ 100000) }
+    ensures few { IfOk result (λ g. g.after.count ≤ BLOCK_LIMIT) }
     ensures channel { IfOk result (λ g. g.after.channel ≡ local.now.channel) }
 {
     let mut state = local.state.copied()?;

@@ -12,6 +12,7 @@ use Rattle.job_verdict.specs.ZoneBoxes.{zone_box, low_in, high_in, stand_after, 
 use Rattle.sync_types.specs.declared.Item.{Item}
 use Rattle.job_verdict.proofs.Positions.{le_or_lt}
 use Rattle.sync_types.specs.Items.{motion_of}
+use Rattle.axis_sets.specs.declared.limits.TheConstants.{AXIS_LIMIT}
 
 -- with no ranges every axis stands
 pub box_standing : (margin : ℤ) (zone : ZoneLine) (axes : List (ℕ × ℤ × ℤ)) (at : ℕ → ℤ) → axes ≡ []
@@ -31,11 +32,11 @@ find_beyond (e ∷ ends) axis n within beyond = elim (eqb_tells e.0 axis) [
 ]
 
 -- where every axis of the row is put where a motion leaves it, so is every axis
-pub all_after : (item : Item) (old new : List ℤ) → All (λ e. e.0 < 16) (axes_of (motion_of item)) → length old ≡ 16 → length new ≡ 16
-    → ((k : ℕ) → k < 16 → positions_in new k ≡ stand_after item (positions_in old) k) → (k : ℕ) → positions_in new k ≡ stand_after item (positions_in old) k
+pub all_after : (item : Item) (old new : List ℤ) → All (λ e. e.0 < AXIS_LIMIT) (axes_of (motion_of item)) → length old ≡ AXIS_LIMIT → length new ≡ AXIS_LIMIT
+    → ((k : ℕ) → k < AXIS_LIMIT → positions_in new k ≡ stand_after item (positions_in old) k) → (k : ℕ) → positions_in new k ≡ stand_after item (positions_in old) k
 unfolding stand_after
-all_after item old new within few many put k = elim (le_or_lt 16 k) [
-  | inl beyond ↦ rw (find_beyond (axes_of (motion_of item)) k 16 within beyond) (get_or-eq_default new (pos 0) (omega arith) ∙ sym (get_or-eq_default old (pos 0) (omega arith)))
+all_after item old new within few many put k = elim (le_or_lt AXIS_LIMIT k) [
+  | inl beyond ↦ rw (find_beyond (axes_of (motion_of item)) k AXIS_LIMIT within beyond) (get_or-eq_default new (pos 0) (omega arith) ∙ sym (get_or-eq_default old (pos 0) (omega arith)))
   | inr here ↦ put k here
 ]
 

@@ -13,19 +13,20 @@ use Rattle.job_verdict.proofs.Positions.{le_or_lt, starts_in_range}
 use Rattle.job_verdict.specs.Channels.{owned_position, owned_positions, start_grant, granted_position}
 use Rattle.job_types.specs.Axes.{first_owner, start_position, owns}
 use Rattle.micro_units.specs.Position.{IsPosition}
+use Rattle.axis_sets.specs.declared.limits.TheConstants.{AXIS_LIMIT}
 
 -- what is granted for an axis of the row
-granted_is : (job : JobView) (line : ChannelLine) (axis : ℕ) → axis < 16 → granted_position job line axis ≡ unwrap_or (owned_position job line.channel axis) (pos 0)
+granted_is : (job : JobView) (line : ChannelLine) (axis : ℕ) → axis < AXIS_LIMIT → granted_position job line axis ≡ unwrap_or (owned_position job line.channel axis) (pos 0)
 unfolding start_grant owned_positions
 granted_is job line axis within =
-    ap (λ (o : Option ℤ). unwrap_or o (pos 0)) (get_or-map-range_with_len (owned_position job line.channel) 0 16 axis axis None within (zero-add axis))
+    ap (λ (o : Option ℤ). unwrap_or o (pos 0)) (get_or-map-range_with_len (owned_position job line.channel) 0 AXIS_LIMIT axis axis None within (zero-add axis))
 
 -- and beyond it
-granted_past : (job : JobView) (line : ChannelLine) (axis : ℕ) → 16 ≤ axis → granted_position job line axis ≡ pos 0
+granted_past : (job : JobView) (line : ChannelLine) (axis : ℕ) → AXIS_LIMIT ≤ axis → granted_position job line axis ≡ pos 0
 unfolding start_grant owned_positions
 granted_past job line axis past =
-    let long : length (map (owned_position job line.channel) (range_with_len 0 16)) ≡ 16 = length-map-range_with_len (owned_position job line.channel) 0 16 in
-    ap (λ (o : Option ℤ). unwrap_or o (pos 0)) (get_or_past (map (owned_position job line.channel) (range_with_len 0 16)) axis None (omega arith))
+    let long : length (map (owned_position job line.channel) (range_with_len 0 AXIS_LIMIT)) ≡ AXIS_LIMIT = length-map-range_with_len (owned_position job line.channel) 0 AXIS_LIMIT in
+    ap (λ (o : Option ℤ). unwrap_or o (pos 0)) (get_or_past (map (owned_position job line.channel) (range_with_len 0 AXIS_LIMIT)) axis None (omega arith))
 
 -- an owned axis is an axis of the job
 owned_within : (job : JobView) (axis channel : ℕ) → first_owner job axis ≡ Some channel → axis < length job.axes
@@ -40,19 +41,19 @@ owned_within job axis channel owned = by_line (slice_get job.axes axis) refl own
 pub granted_own : (job : JobView) → IsSoundJob job → (line : ChannelLine) (axis : ℕ) → first_owner job axis ≡ Some line.channel → granted_position job line axis ≡ start_position job axis
 unfolding owns
 granted_own job sound line axis owned =
-    let few : length job.axes ≤ 16 = sound.few_axes in
+    let few : length job.axes ≤ AXIS_LIMIT = sound.few_axes in
     let below : axis < length job.axes = owned_within job axis line.channel owned in
     let own : owns job line.channel axis ≡ true = rw owned (eq-eqb line.channel line.channel refl) in
     granted_is job line axis (omega arith) ∙ ap (λ (b : Bool). unwrap_or (cond b (Some (start_position job axis)) None) (pos 0)) own
 
 -- each axis is granted in range
 pub granted_in_range : (job : JobView) (line : ChannelLine) → All (λ l. IsPosition l.at) job.axes → (axis : ℕ) → IsPosition (granted_position job line axis)
-granted_in_range job line starts axis = by_place (le_or_lt 16 axis)
+granted_in_range job line starts axis = by_place (le_or_lt AXIS_LIMIT axis)
   where
     by_owner : (b : Bool) → IsPosition (unwrap_or (cond b (Some (start_position job axis)) None) (pos 0))
     by_owner true = starts_in_range job starts axis
     by_owner false = omega arith
 
-    by_place : (16 ≤ axis) ⊎ (axis < 16) → IsPosition (granted_position job line axis)
+    by_place : (AXIS_LIMIT ≤ axis) ⊎ (axis < AXIS_LIMIT) → IsPosition (granted_position job line axis)
     by_place (inl past) = subst IsPosition (sym (granted_past job line axis past)) (omega arith)
     by_place (inr within) = subst IsPosition (sym (granted_is job line axis within)) (by_owner (owns job line.channel axis))

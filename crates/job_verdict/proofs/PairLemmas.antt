@@ -1,19 +1,17 @@
 -- Which pairs of boxes are compared, and when a pair meets.
 use Rattle.std.proofs.Common.{◌≡◌, ◌≢◌, ◌⊎◌, ◌∙◌, ℕ, zero, suc, ◌+◌, ◌≤◌, ◌<◌, true, cond, not, ◌==◌, List, [], ◌∷◌, map, length, get_or, filter, find, filter_map, flat_map, Option, None, Some, IfSome, AllPairs, Contains, inl, inr, refl, sym, ap, subst, arith}
 use Rattle.std.proofs.lemmas.Bool.{eq-eqb, ne_eqb, lt-ltb, cases_eq}
-use Rattle.std.proofs.lemmas.Int.{ints}
 use Rattle.std.specs.List.{cons_option, range_with_len, list_any}
 use Rattle.swept_boxes.proofs.MeetTests.{meet_passes}
-use Rattle.swept_boxes.specs.Boxes.{SpacePoint, IsInBox, DoMeet, TouchIn}
-use Rattle.swept_boxes.specs.declared.Box3.{Box3}
+use Rattle.swept_boxes.specs.Boxes.{SpacePoint, IsInBox, boxes_meet}
 use Rattle.job_types.specs.Job.{JobView}
 use Rattle.job_types.specs.declared.job.ZoneLine.{ZoneLine}
 use Rattle.job_verdict.specs.Clash.{Clock, own_clock, is_open_at, may_overlap, pairs_by_group, BoxPlace, box_pairs, stretch_pairs, pairs_of_zones, depth_of, pair_meets}
 use Rattle.number_laws.proofs.Lists.{SomeOf, SomeOf-weaker, SomeOf-append_left, SomeOf-append_right, SomeOf-map, SomeOf-flat_map, SomeOf-filter, list_any-some}
-use Rattle.swept_boxes.specs.Boxes.{do_touch, boxes_meet}
 use Rattle.job_verdict.specs.Stretches.{Event, Stretch, stretches_of}
 use Rattle.job_verdict.specs.ZoneBoxes.{PlaceBox, piece_boxes}
 use Rattle.job_types.specs.Zones.{zones_in_order}
+use Rattle.axis_sets.specs.declared.limits.TheConstants.{ZONE_LIMIT}
 
 -- ---- zones
 
@@ -41,11 +39,11 @@ some_in_range {X = X} h x low (suc n) number above below is = by_order (cases_eq
     by_order (inr other) rest = past (h low) (rest (omega arith) (omega arith))
 
 -- so it is among the zones in order
-pub is_in_order : (job : JobView) → AllPairs (λ zone other. zone.zone ≢ other.zone) job.zones → (zone : ZoneLine) → 1 ≤ zone.zone → zone.zone ≤ 32 → Contains job.zones zone
+pub is_in_order : (job : JobView) → AllPairs (λ zone other. zone.zone ≢ other.zone) job.zones → (zone : ZoneLine) → 1 ≤ zone.zone → zone.zone ≤ ZONE_LIMIT → Contains job.zones zone
     → SomeOf (λ z. z ≡ zone) (zones_in_order job)
 unfolding zones_in_order
 is_in_order job distinct zone low high (k, within, is) =
-    some_in_range (λ number. find (λ z. z.zone == number) job.zones) zone 1 32 zone.zone low (omega arith) (find_is job.zones distinct k zone within is)
+    some_in_range (λ number. find (λ z. z.zone == number) job.zones) zone 1 ZONE_LIMIT zone.zone low (omega arith) (find_is job.zones distinct k zone within is)
 
 -- each zone with a later one of another group
 with_later : (P : ZoneLine × ZoneLine → Type 0) (first later : ZoneLine) (zones : List ZoneLine) → first.group ≢ later.group → P (first, later) → SomeOf (λ z. z ≡ later) zones

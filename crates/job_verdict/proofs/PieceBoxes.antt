@@ -7,7 +7,7 @@ use Rattle.std.specs.List.{AllZip, list_any}
 use Rattle.std.specs.Option.{option_map_or}
 use Rattle.path_geometry.specs.Motions.{IsSound}
 use Rattle.swept_boxes.proofs.PieceLaws.{in_cover}
-use Rattle.swept_boxes.specs.Boxes.{low_of, high_of}
+use Rattle.swept_boxes.specs.Boxes.{low_of, high_of, do_touch, boxes_meet}
 use Rattle.swept_boxes.specs.Cover.{cover_of}
 use Rattle.swept_boxes.specs.Pieces.{pieces_at}
 use Rattle.swept_boxes.specs.Ranges.{RangesView, LieIn}
@@ -16,7 +16,6 @@ use Rattle.job_types.specs.declared.job.Side.{Side}
 use Rattle.job_types.specs.declared.job.ZoneLine.{ZoneLine}
 use Rattle.swept_boxes.proofs.MeetTests.{touch_of, touch_passes}
 use Rattle.job_verdict.specs.BoxView.{BoxView, MovesSoundly}
-use Rattle.swept_boxes.specs.Boxes.{do_touch, boxes_meet}
 use Rattle.job_verdict.specs.PieceTests.{piece_low, piece_high, by_direction, piece_box, touches, do_meet}
 use Rattle.job_verdict.specs.ZoneBoxes.{carried_bound, carried_low, carried_high, side_low, side_high, zone_box, box_of, low_in, high_in, PlaceBox, piece_boxes, moving_box, standing_box, shown_box}
 use Rattle.job_verdict.specs.declared.pieces.Measure.{Measure}

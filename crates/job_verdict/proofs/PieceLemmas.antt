@@ -20,7 +20,7 @@ use Rattle.job_verdict.proofs.CoverLemmas.{Covers, IsCovered}
 use Rattle.job_verdict.proofs.PieceBoxes.{absent}
 use Rattle.number_laws.proofs.Lists.{SomeOf, SomeOf-weaker, SomeOf-map, found_passes, All-found}
 use Rattle.path_geometry.specs.Path.{Point}
-use Rattle.sync_types.specs.Items.{end_in, motion_of}
+use Rattle.sync_types.specs.Items.{motion_of}
 use Rattle.job_verdict.specs.SmallSteps.{StandsAt, IsAlong}
 use Rattle.path_geometry.specs.Motions.{axes_of, IsSound, axis_end}
 use Rattle.job_verdict.specs.ZoneBoxes.{PlaceBox, zone_box, low_in, high_in, piece_boxes}

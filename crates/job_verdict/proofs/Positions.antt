@@ -9,6 +9,7 @@ use Rattle.job_types.specs.declared.job.AxisLine.{AxisLine}
 use Rattle.job_verdict.specs.Channels.{start_row}
 use Rattle.job_types.specs.Axes.{start_position}
 use Rattle.micro_units.specs.Position.{IsPosition}
+use Rattle.axis_sets.specs.declared.limits.TheConstants.{AXIS_LIMIT}
 
 -- one number is not above another, or it is
 pub le_or_lt : (a b : ℕ) → (a ≤ b) ⊎ (b < a)
@@ -22,7 +23,7 @@ zero_at (suc n) (suc axis) = zero_at n axis
 -- the row says where the job puts each axis
 pub row_is : (job : JobView) (axis : ℕ) → positions_in (start_row job) axis ≡ start_position job axis
 unfolding start_row start_position
-row_is job axis = at_line job.axes (16 - length job.axes) axis
+row_is job axis = at_line job.axes (AXIS_LIMIT - length job.axes) axis
   where
     at_line : (lines : List AxisLine) (n axis : ℕ) → get_or (map (λ (line : AxisLine). line.at) lines ++ replicate n (pos 0)) axis (pos 0) ≡ option_map_or (λ line. line.at) (slice_get lines axis) (pos 0)
     at_line [] n axis = zero_at n axis
@@ -33,18 +34,18 @@ length-replicate : (n : ℕ) (z : ℤ) → length (replicate n z) ≡ n
 length-replicate zero z = refl
 length-replicate (suc n) z = let rest = length-replicate n z in omega arith
 
-length-start_row : (job : JobView) → length job.axes ≤ 16 → length (start_row job) ≡ 16
+length-start_row : (job : JobView) → length job.axes ≤ AXIS_LIMIT → length (start_row job) ≡ AXIS_LIMIT
 unfolding start_row
 length-start_row job few =
     let lines : length (map (λ (line : AxisLine). line.at) job.axes) ≡ length job.axes = length-map job.axes (λ (line : AxisLine). line.at) in
-    let zeros : length (replicate (16 - length job.axes) (pos 0)) ≡ 16 - length job.axes = length-replicate (16 - length job.axes) (pos 0) in
-    let all = length-append (map (λ (line : AxisLine). line.at) job.axes) (replicate (16 - length job.axes) (pos 0)) in
+    let zeros : length (replicate (AXIS_LIMIT - length job.axes) (pos 0)) ≡ AXIS_LIMIT - length job.axes = length-replicate (AXIS_LIMIT - length job.axes) (pos 0) in
+    let all = length-append (map (λ (line : AxisLine). line.at) job.axes) (replicate (AXIS_LIMIT - length job.axes) (pos 0)) in
     omega arith
 
--- a row of 16 positions in which each is where the job puts its axis
-pub whole_row : (job : JobView) (at : List ℤ) → length job.axes ≤ 16 → length at ≡ 16 → ((axis : ℕ) → axis < 16 → positions_in at axis ≡ start_position job axis) → at ≡ start_row job
+-- a whole row of positions in which each is where the job puts its axis
+pub whole_row : (job : JobView) (at : List ℤ) → length job.axes ≤ AXIS_LIMIT → length at ≡ AXIS_LIMIT → ((axis : ℕ) → axis < AXIS_LIMIT → positions_in at axis ≡ start_position job axis) → at ≡ start_row job
 whole_row job at few long put =
-    let row : length (start_row job) ≡ 16 = length-start_row job few in
+    let row : length (start_row job) ≡ AXIS_LIMIT = length-start_row job few in
     ext_get_or (pos 0) at (start_row job) (omega arith) (λ axis within. put axis (omega arith) ∙ sym (row_is job axis))
 
 -- where the AXIS lines put their axes in range, each axis starts in range

@@ -28,6 +28,7 @@ use Rattle.job_verdict.specs.Channels.{owned_axes, start_grant, setting_at, gran
 use Rattle.job_verdict.specs.ZoneBoxes.{IsFit, stand_after}
 use Rattle.job_types.specs.Axes.{first_owner, start_position, is_of, owns}
 use Rattle.micro_units.specs.Position.{IsPosition}
+use Rattle.axis_sets.specs.declared.limits.TheConstants.{AXIS_LIMIT}
 
 -- ---- motions, one after another
 
@@ -78,13 +79,13 @@ motions_sound job line starts = items_sound (setting_at job line) (granted_in_ra
 -- ---- the axes of a channel
 
 -- an axis that is granted is one of the row
-granted_within : (job : JobView) (line : ChannelLine) (axis : ℕ) → has (setting_at job line).grant.axes axis ≡ true → axis < 16
+granted_within : (job : JobView) (line : ChannelLine) (axis : ℕ) → has (setting_at job line).grant.axes axis ≡ true → axis < AXIS_LIMIT
 unfolding start_grant owned_axes
-granted_within job line axis granted = by_place (le_or_lt 16 axis)
+granted_within job line axis granted = by_place (le_or_lt AXIS_LIMIT axis)
   where
-    by_place : (16 ≤ axis) ⊎ (axis < 16) → axis < 16
+    by_place : (AXIS_LIMIT ≤ axis) ⊎ (axis < AXIS_LIMIT) → axis < AXIS_LIMIT
     by_place (inl past) =
-        let long = length-map-range_with_len (owns job line.channel) 0 16 in
+        let long = length-map-range_with_len (owns job line.channel) 0 AXIS_LIMIT in
         let not_granted : has (setting_at job line).grant.axes axis ≡ false = get_or_past (owned_axes job line.channel) axis false (omega arith) in
         absurd cc
     by_place (inr within) = within
@@ -93,7 +94,7 @@ granted_within job line axis granted = by_place (le_or_lt 16 axis)
 granted_owned : (job : JobView) (line : ChannelLine) (axis : ℕ) → has (setting_at job line).grant.axes axis ≡ true → first_owner job axis ≡ Some line.channel
 unfolding start_grant owned_axes owns
 granted_owned job line axis granted =
-    of_owner (first_owner job axis) (sym (get_or-map-range_with_len (owns job line.channel) 0 16 axis axis false (granted_within job line axis granted) (zero-add axis)) ∙ granted)
+    of_owner (first_owner job axis) (sym (get_or-map-range_with_len (owns job line.channel) 0 AXIS_LIMIT axis axis false (granted_within job line axis granted) (zero-add axis)) ∙ granted)
   where
     of_owner : (o : Option ℕ) → is_of line.channel o ≡ true → o ≡ Some line.channel
     of_owner None is = absurd (false≢true is)
@@ -152,8 +153,8 @@ pub good_run : (job : JobView) → IsRunnable job → (line : ChannelLine) → I
 unfolding program_run
 good_run job runnable line =
     let sound = motions_sound job line runnable.starts in
-    let within = at_places (λ item. All (λ e. e.0 < 16) (axes_of (motion_of item))) (items_of job line) (λ place item is.
-    All-weaker (λ e. has (setting_at job line).grant.axes e.0 ≡ true) (λ e. e.0 < 16)
+    let within = at_places (λ item. All (λ e. e.0 < AXIS_LIMIT) (axes_of (motion_of item))) (items_of job line) (λ place item is.
+    All-weaker (λ e. has (setting_at job line).grant.axes e.0 ≡ true) (λ e. e.0 < AXIS_LIMIT)
     (λ e granted. granted_within job line e.0 granted) (axes_of (motion_of item)) (motions_follow job line place item is).owned) in
     record {
       fit = λ k d inside. record { sound = sound k d inside; within = within k d inside };

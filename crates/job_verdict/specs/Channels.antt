@@ -17,12 +17,14 @@ use Rattle.job_types.specs.declared.job.ChannelLine.{ChannelLine}
 use Rattle.job_types.specs.declared.job.ZoneLine.{ZoneLine}
 use Rattle.job_types.specs.Axes.{start_position, is_of, owns}
 use Rattle.micro_units.specs.Position.{IsPosition}
+use Rattle.axis_sets.specs.declared.limits.TheConstants.{AXIS_LIMIT, ZONE_PLACES}
+use Rattle.job_lines.specs.declared.limits.TheConstants.{PROGRAM_LIMIT, DEPTH_LIMIT}
 
 -- ---- where the job puts axes
 
 -- the row of the positions where the job puts its axes, filled up to 16
 unfoldable pub start_row : JobView → List ℤ
-start_row job = map (λ line. line.at) job.axes ++ replicate (16 - length job.axes) (pos 0)
+start_row job = map (λ line. line.at) job.axes ++ replicate (AXIS_LIMIT - length job.axes) (pos 0)
 
 -- a row of positions says where each axis is; beyond the row it is at 0
 abbrev pub positions_in : List ℤ → ℕ → ℤ
@@ -32,14 +34,14 @@ positions_in at axis = slice_index_or at axis (pos 0)
 
 -- all axes of a channel
 unfoldable pub owned_axes : JobView → ℕ → List Bool
-owned_axes job channel = map (owns job channel) (range_with_len 0 16)
+owned_axes job channel = map (owns job channel) (range_with_len 0 AXIS_LIMIT)
 
 -- where these stand
 abbrev pub owned_position : JobView → ℕ → ℕ → Option ℤ
 owned_position job channel axis = if owns job channel axis then Some (start_position job axis) else None
 
 unfoldable pub owned_positions : JobView → ℕ → List (Option ℤ)
-owned_positions job channel = map (owned_position job channel) (range_with_len 0 16)
+owned_positions job channel = map (owned_position job channel) (range_with_len 0 AXIS_LIMIT)
 
 -- the channel holds the zone, and it is on
 abbrev pub holds : ℕ → ZoneLine → Bool
@@ -50,7 +52,7 @@ holds_number zones channel number = list_any (λ zone. holds channel zone && (nu
 
 -- the zones that a channel holds and that are on
 unfoldable pub zones_on : JobView → ℕ → List Bool
-zones_on job channel = map (holds_number job.zones channel) (range_with_len 0 33)
+zones_on job channel = map (holds_number job.zones channel) (range_with_len 0 ZONE_PLACES)
 
 -- the place of the program of this name among the programs of the job
 abbrev pub place_named : JobView → List ℕ → Option ℕ

@@ -4,7 +4,6 @@ use Rattle.std.specs.List.{flat_map, range_with_len, list_any}
 use Rattle.std.specs.Option.{option_map, option_map_or, option_and_then}
 use Rattle.nc_faults.specs.declared.Alarm.{Alarm}
 use Rattle.swept_boxes.specs.Boxes.{boxes_meet}
-use Rattle.swept_boxes.specs.declared.Box3.{Box3}
 use Rattle.job_types.specs.Job.{JobView}
 use Rattle.job_types.specs.declared.job.ZoneLine.{ZoneLine}
 use Rattle.job_verdict.specs.ZoneBoxes.{PlaceBox, piece_boxes}
@@ -16,6 +15,7 @@ use Rattle.job_verdict.specs.declared.stretches.Verdict.{Verdict}
 use Rattle.job_verdict.specs.declared.stretches.Verdict.TheVariants.{Yes, No, Undecided}
 use Rattle.job_verdict.specs.declared.stretches.Verdict.TheVariants as verdicts
 use Rattle.job_types.specs.Zones.{zones_in_order}
+use Rattle.axis_sets.specs.declared.limits.TheConstants.{CHANNEL_LIMIT, ZONE_LIMIT}
 
 -- how many events of the other channel are this event or before it, by channel, place and other channel
 abbrev pub Clock : Type 0
@@ -94,7 +94,7 @@ stop_of runs channel = option_map (λ alarm. (channel, alarm)) (alarm_of runs ch
 
 -- the lowest channel that an alarm stops, with the alarm
 unfoldable pub first_alarm : List RunView → Option (ℕ × Alarm)
-first_alarm runs = first_some (stop_of runs) (range_with_len 1 8)
+first_alarm runs = first_some (stop_of runs) (range_with_len 1 CHANNEL_LIMIT)
 
 -- NO with the first compared pair that meets, or YES
 unfoldable pub pairs_verdict : JobView → Verdict

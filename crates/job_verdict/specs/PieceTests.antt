@@ -2,14 +2,13 @@
 use Rattle.std.specs.Prelude.{ℕ, ℤ, ◌+◌, ◌==◌, ◌&&◌, Bool, true, List, [], ◌∷◌, map, Option, None, Some, find}
 use Rattle.std.specs.List.{list_any}
 use Rattle.std.specs.Option.{option_map_or}
-use Rattle.swept_boxes.specs.Boxes.{low_of, high_of}
+use Rattle.swept_boxes.specs.Boxes.{low_of, high_of, boxes_meet}
 use Rattle.swept_boxes.specs.Pieces.{pieces_at}
 use Rattle.swept_boxes.specs.Ranges.{RangesView}
 use Rattle.swept_boxes.specs.declared.Box3.{Box3}
 use Rattle.job_types.specs.declared.job.Side.{Side}
 use Rattle.job_types.specs.declared.job.ZoneLine.{ZoneLine}
 use Rattle.job_verdict.specs.BoxView.{BoxView}
-use Rattle.swept_boxes.specs.Boxes.{boxes_meet}
 use Rattle.job_verdict.specs.ZoneBoxes.{side_low, side_high}
 use Rattle.job_verdict.specs.declared.pieces.Measure.{Measure}
 use Rattle.sync_types.specs.Items.{motion_of}

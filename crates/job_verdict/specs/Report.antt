@@ -23,6 +23,7 @@ use Rattle.job_verdict.specs.declared.stretches.Verdict.{Verdict}
 use Rattle.job_verdict.specs.declared.stretches.Verdict.TheVariants.{Yes, No, Undecided}
 use Rattle.job_verdict.specs.declared.stretches.Verdict.TheVariants as verdicts
 use Rattle.sync_types.specs.Items.{motion_of}
+use Rattle.axis_sets.specs.declared.limits.TheConstants.{CHANNEL_LIMIT}
 
 -- so many micrometres, as millimetres with three decimals
 unfoldable pub millimetres_text : ℕ → List ℕ
@@ -85,7 +86,7 @@ lines_of job runs channel = option_map_or (channel_lines job) (run_in runs chann
 
 -- the lines of all channels, in ascending order
 unfoldable pub all_lines : JobView → List RunView → List ℕ
-all_lines job runs = flat_map (lines_of job runs) (range_with_len 1 8)
+all_lines job runs = flat_map (lines_of job runs) (range_with_len 1 CHANNEL_LIMIT)
 
 -- the name of a kind of stretch
 unfoldable pub kind_text : StretchKind → List ℕ

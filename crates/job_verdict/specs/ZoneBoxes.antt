@@ -13,6 +13,7 @@ use Rattle.sync_types.specs.declared.Item.{Item}
 use Rattle.job_verdict.specs.BoxView.{BoxView}
 use Rattle.sync_types.specs.Items.{motion_of}
 use Rattle.job_types.specs.Zones.{has_axis}
+use Rattle.axis_sets.specs.declared.limits.TheConstants.{AXIS_LIMIT}
 
 -- where the axes stand after a motion: at its ends, and elsewhere where they stood
 unfoldable pub stand_after : Item → (ℕ → ℤ) → ℕ → ℤ
@@ -110,7 +111,7 @@ piece_boxes margin zone depth box = piece_boxes_by box.motion
 -- a motion is sound, and moves axes of the row of positions
 pub record IsFit (item : Item) : Type 0 where
   pub sound : IsSound (motion_of item)
-  pub within : All (λ e. e.0 < 16) (axes_of (motion_of item))
+  pub within : All (λ e. e.0 < AXIS_LIMIT) (axes_of (motion_of item))
 
 -- the boxes as they are compared: the line that names it, the zone box of the cover of its motion, or where it stands, and the motion
 unfoldable pub moving_box : ℤ → ZoneLine → Item → (ℕ → ℤ) → BoxView

@@ -4,8 +4,9 @@ ghost use Rattle.job_verdict.specs.Channels as model;
 ghost use Rattle.job_verdict.specs.ChannelRun.{run_of, run_in, alarm_in, line_of_end};
 ghost use Rattle.job_types.specs.SoundJob.{IsRunnable};
 ghost use Rattle.job_types.specs.Axes.{start_position, is_of, owns};
+ghost use Rattle.job_lines.specs.declared.limits.TheConstants.{PROGRAM_LIMIT};
 
-use axis_sets::{AxisId, AxisSet, ChannelId, Positions, ZoneSet};
+use axis_sets::{AXIS_LIMIT, AxisId, AxisSet, ChannelId, Positions, ZoneSet};
 use channel_machine::{Local, Segment, run_segment};
 use job_types::{ChannelLine, Job, ZoneLine, first_owner, start_position};
 use micro_units::Um;
@@ -16,16 +17,16 @@ use std::marker::Model;
 use sync_types::{Action, ChannelEnd, Grant, Item, Step};
 
 /// Where each axis of a job stands, in micrometres.
-pub type Row = [Um; 16];
+pub type Row = [Um; AXIS_LIMIT];
 
 /// Where the job puts its axes.
 pub fn start_positions(job: &Job) -> Row
-    requires { length job.now.axes ≤ 16 }
+    requires { length job.now.axes ≤ AXIS_LIMIT }
     ensures row { result ≡ model.start_row job.now }
     ensures each { (axis : ℕ) → model.positions_in result axis ≡ start_position job.now axis }
 {
-    let mut at = [Um { micrometres: 0 }; 16];
-    for index in 0..16 {
+    let mut at = [Um { micrometres: 0 }; AXIS_LIMIT];
+    for index in 0..AXIS_LIMIT {
         at[index] = start_position(job, index);
     }
     at
@@ -54,7 +55,7 @@ fn owned_axes(job: &Job, channel: ChannelId) -> AxisSet
     ensures { result ≡ model.owned_axes job.now channel }
 {
     let mut axes = AxisSet::empty();
-    for index in 0..16 {
+    for index in 0..AXIS_LIMIT as u8 {
         let axis = AxisId { index };
         if owns(job, channel, axis) {
             axes = axes.with(axis);
@@ -68,7 +69,7 @@ fn owned_positions(job: &Job, channel: ChannelId) -> Positions
     ensures { result ≡ model.owned_positions job.now channel }
 {
     let mut at = Positions::empty();
-    for index in 0..16 {
+    for index in 0..AXIS_LIMIT as u8 {
         let axis = AxisId { index };
         if owns(job, channel, axis) {
             at.set(axis, start_position(job, usize::from(index)));
@@ -99,7 +100,7 @@ fn zones_on(job: &Job, channel: ChannelId) -> ZoneSet
 
 /// The place of the program of this name among the programs of the job.
 fn place_named(job: &Job, name: &NameText) -> Option<u16>
-    requires { length job.now.programs ≤ 256 }
+    requires { length job.now.programs ≤ PROGRAM_LIMIT }
     ensures { result ≡ model.place_named job.now name.now }
 {
     match job.programs.get_index_of(name) {
@@ -111,7 +112,7 @@ fn place_named(job: &Job, name: &NameText) -> Option<u16>
 /// The place of the program that a CHANNEL line selects.
 #[tactic(auto, unfolding(crate::specs::Channels::program_place))]
 fn program_place(job: &Job, line: &ChannelLine) -> Option<u16>
-    requires { length job.now.programs ≤ 256 }
+    requires { length job.now.programs ≤ PROGRAM_LIMIT }
     ensures { result ≡ model.program_place job.now line.now }
 {
     match &line.program {
@@ -123,7 +124,7 @@ fn program_place(job: &Job, line: &ChannelLine) -> Option<u16>
 /// What a channel is granted at its start.
 #[tactic(auto, unfolding(crate::specs::Channels::start_grant))]
 fn start_grant(job: &Job, line: &ChannelLine) -> Grant
-    requires { length job.now.programs ≤ 256 }
+    requires { length job.now.programs ≤ PROGRAM_LIMIT }
     ensures { result ≡ model.start_grant job.now line.now }
 {
     Grant {

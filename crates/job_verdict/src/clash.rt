@@ -3,6 +3,7 @@ ghost use Rattle.std.specs.Prelude.{◌≡◌, ◌≤◌};
 ghost use Rattle.job_verdict.specs.FirstAnswer.{first_some};
 ghost use Rattle.job_verdict.specs.ShownStretches as shown;
 ghost use Rattle.job_verdict.specs.StretchView.{StretchView};
+ghost use Rattle.job_lines.specs.declared.limits.TheConstants.{DEPTH_LIMIT};
 
 use crate::channels::is_of;
 use crate::pieces::{Measure, do_pieces_meet};
@@ -67,7 +68,7 @@ fn lines_of(
     other: &ZoneLine,
     later: &ZoneBox,
 ) -> Option<(u32, u32)>
-    requires { measure.now.depth ≤ 4 }
+    requires { measure.now.depth ≤ DEPTH_LIMIT }
     ensures { result ≡ shown.lines_of measure.now zone.now own.now other.now later.now }
 {
     if do_pieces_meet(measure, zone, own, other, later) {
@@ -86,7 +87,7 @@ fn first_touched(
     others: &[ZoneBox],
     own: &ZoneBox,
 ) -> Option<(u32, u32)>
-    requires { measure.now.depth ≤ 4 }
+    requires { measure.now.depth ≤ DEPTH_LIMIT }
     ensures { result ≡ shown.first_touched measure.now zone.now other.now others.now own.now }
 {
     for later in others {
@@ -106,7 +107,7 @@ fn first_lines(
     left: &[ZoneBox],
     right: &[ZoneBox],
 ) -> Option<(u32, u32)>
-    requires { measure.now.depth ≤ 4 }
+    requires { measure.now.depth ≤ DEPTH_LIMIT }
     ensures { result ≡ shown.first_lines measure.now zone.now other.now left.now right.now }
 {
     for own in left {
@@ -138,7 +139,7 @@ fn first_in_stretches(
     left: &Stretch,
     right: &Stretch,
 ) -> Option<(PlaceName, PlaceName)>
-    requires { measure.now.depth ≤ 4 }
+    requires { measure.now.depth ≤ DEPTH_LIMIT }
     ensures { result ≡ shown.first_in_stretches measure.now zone.now other.now left.now right.now }
 {
     if !do_overlap(left, right) {
@@ -158,7 +159,7 @@ fn first_against(
     other: &HeldZone,
     stretch: &Stretch,
 ) -> Option<(PlaceName, PlaceName)>
-    requires { measure.now.depth ≤ 4 }
+    requires { measure.now.depth ≤ DEPTH_LIMIT }
     ensures { result ≡ shown.first_against measure.now zone.now other.now stretch.now }
 {
     for later in &other.stretches {
@@ -176,7 +177,7 @@ fn first_of_zones(
     held: &HeldZone,
     other: &HeldZone,
 ) -> Option<(PlaceName, PlaceName)>
-    requires { measure.now.depth ≤ 4 }
+    requires { measure.now.depth ≤ DEPTH_LIMIT }
     ensures { result ≡ shown.first_of_zones measure.now held.now other.now }
 {
     if held.zone.group == other.zone.group {
@@ -196,7 +197,7 @@ fn first_with(
     held: &HeldZone,
     others: &[HeldZone],
 ) -> Option<(PlaceName, PlaceName)>
-    requires { measure.now.depth ≤ 4 }
+    requires { measure.now.depth ≤ DEPTH_LIMIT }
     ensures { result ≡ first_some (shown.first_of_zones measure.now held.now) others.now }
 {
     for other in others {
@@ -209,7 +210,7 @@ fn first_with(
 
 /// The names of the first two boxes of any two zones of different groups that meet.
 fn first_meeting(measure: &Measure, zones: &[HeldZone]) -> Option<(PlaceName, PlaceName)>
-    requires { measure.now.depth ≤ 4 }
+    requires { measure.now.depth ≤ DEPTH_LIMIT }
     ensures { result ≡ shown.first_meeting measure.now zones.now }
 {
     for (index, held) in zones.iter().enumerate() {
@@ -222,7 +223,7 @@ fn first_meeting(measure: &Measure, zones: &[HeldZone]) -> Option<(PlaceName, Pl
 
 /// NO with the names of the first two boxes that meet, or YES, on zones that stand in ascending order.
 pub fn verdict_on(measure: &Measure, zones: &[HeldZone]) -> Verdict
-    requires { measure.now.depth ≤ 4 }
+    requires { measure.now.depth ≤ DEPTH_LIMIT }
     ensures { result ≡ shown.verdict_by (shown.first_meeting measure.now zones.now) }
 {
     match first_meeting(measure, zones) {

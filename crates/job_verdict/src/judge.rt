@@ -12,8 +12,8 @@ use crate::clash::{HeldZone, verdict_on};
 use crate::pair_counts::count_pairs;
 use crate::pieces::Measure;
 use crate::stretches::{Stretch, Verdict, free_stretches, stretches_of_run};
-use axis_sets::ChannelId;
 use job_types::{Job, ZoneLine};
+use axis_sets::{CHANNEL_PLACES, ChannelId, ZONE_LIMIT};
 use nc_faults::Alarm;
 use std::alloc::{AllocError, Global};
 
@@ -94,7 +94,7 @@ fn held_zones<'a>(
     ensures { IfOk result (λ zones. zones.items ≡ map (shown.held_zone job.now) (zones_in_order job.now)) }
 {
     let mut zones = Vec::new(alloc);
-    for index in 0..32 {
+    for index in 0..ZONE_LIMIT as u8 {
         if let Some(zone) = zone_numbered(job, index + 1) {
             zones.push(held_zone(alloc, job, runs, &zone)?)?;
         }
@@ -131,7 +131,7 @@ fn alarm_of(runs: &[ChannelRun], channel: ChannelId) -> Option<Alarm>
 fn first_alarm(runs: &[ChannelRun]) -> Option<(ChannelId, Alarm)>
     ensures { result ≡ model.first_alarm runs.now }
 {
-    for number in 1..9 {
+    for number in 1..CHANNEL_PLACES as u8 {
         let channel = ChannelId { number };
         if let Some(alarm) = alarm_of(runs, channel) {
             return Some((channel, alarm));

@@ -1,12 +1,12 @@
 //! The boxes of the pieces of two motions, held against one another.
 ghost use Rattle.std.specs.Prelude.{◌≡◌, ◌<◌, ◌≤◌, ◌&&◌, [], ◌∷◌, map};
 ghost use Rattle.std.specs.List.{list_any};
-ghost use Rattle.swept_boxes.specs.Boxes.{boxes_meet};
+ghost use Rattle.swept_boxes.specs.Boxes.{boxes_meet, low_of, high_of};
 ghost use Rattle.job_verdict.specs.PieceTests as model;
 ghost use Rattle.path_geometry.specs.Motions.{IsSound};
-ghost use Rattle.swept_boxes.specs.Boxes.{low_of, high_of};
 ghost use Rattle.swept_boxes.specs.Pieces.{pieces_at};
 ghost use Rattle.sync_types.specs.Items.{motion_of};
+ghost use Rattle.job_lines.specs.declared.limits.TheConstants.{DEPTH_LIMIT};
 
 use crate::zone_boxes::{ZoneBox, bounds_between, range_of};
 use arrayvec::ArrayVec;
@@ -75,7 +75,7 @@ fn boxes_of_pieces(
     cover: &Box3,
 ) -> ArrayVec<Box3, 80>
     requires sound { IsSound (motion_of item.now) }
-    requires deep { measure.now.depth ≤ 4 }
+    requires deep { measure.now.depth ≤ DEPTH_LIMIT }
     ensures { result.items ≡ map (λ piece. model.piece_box measure.now.margin zone.now.sides piece cover.now) (pieces_at (motion_of item.now) measure.now.depth) }
 {
     let mut boxes = ArrayVec::new();
@@ -97,7 +97,7 @@ fn one_box(only: Box3) -> ArrayVec<Box3, 80>
 /// The boxes by which a box of a zone is compared: those of the pieces of its motion, or where it stands the box itself.
 #[tactic(auto, unfolding(crate::specs::PieceTests::boxes_in))]
 fn boxes_in(measure: &Measure, zone: &ZoneLine, own: &ZoneBox) -> ArrayVec<Box3, 80>
-    requires { measure.now.depth ≤ 4 }
+    requires { measure.now.depth ≤ DEPTH_LIMIT }
     ensures { result.items ≡ model.boxes_in measure.now zone.now own.now }
 {
     match own.motion {
@@ -136,7 +136,7 @@ pub fn do_pieces_meet(
     other: &ZoneLine,
     later: &ZoneBox,
 ) -> bool
-    requires { measure.now.depth ≤ 4 }
+    requires { measure.now.depth ≤ DEPTH_LIMIT }
     ensures { result ≡ model.do_meet measure.now zone.now own.now other.now later.now }
 {
     if !do_meet(&own.cover, &later.cover) {

@@ -7,8 +7,8 @@ ghost use Rattle.job_verdict.specs.Report as model;
 
 use crate::channels::{ChannelRun, run_in};
 use crate::stretches::{PlaceName, StretchKind, Verdict};
-use axis_sets::{AxisId, ChannelId};
 use job_types::Job;
+use axis_sets::{AxisId, CHANNEL_PLACES, ChannelId};
 use micro_units::Um;
 use nc_faults::{Alarm, Refusal, alarm_text, refusal_text};
 use path_geometry::{Arc, Ends, Motion};
@@ -210,7 +210,7 @@ fn push_all_lines(out: &mut String, job: &Job, runs: &[ChannelRun]) -> Result<()
     requires { All (λ run. IsListedEnd run.end) runs.now }
     ensures { OnOk result (string_bytes out.new ≡ string_bytes out.old ++ model.all_lines job.now runs.now) }
 {
-    for number in 1..9 {
+    for number in 1..CHANNEL_PLACES as u8 {
         push_lines_of(out, job, runs, ChannelId { number })?;
     }
     Ok(())

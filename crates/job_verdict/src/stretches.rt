@@ -6,6 +6,7 @@ ghost use Rattle.job_verdict.specs.ShownStretches as model;
 ghost use Rattle.job_verdict.specs.Stretches.{free_stretch};
 ghost use Rattle.job_verdict.specs.ZoneBoxes.{IsFit};
 ghost use Rattle.job_types.specs.Axes.{start_position};
+ghost use Rattle.axis_sets.specs.declared.limits.TheConstants.{AXIS_LIMIT};
 
 use crate::channels::{ChannelRun, Row, line_of_end, start_positions};
 use crate::zone_boxes::{ZoneBox, boxes_of, settle};
@@ -84,7 +85,7 @@ fn run_stretch<'a>(
     zone: &ZoneLine,
     run: &'a ChannelRun,
 ) -> Result<Stretch<'a>, AllocError>
-    requires axes { length job.now.axes ≤ 16 }
+    requires axes { length job.now.axes ≤ AXIS_LIMIT }
     requires fit { All IsFit run.now.items }
     ensures { IfOk result (λ s. s ≡ model.run_stretch job.now zone.now run.now) }
 {
@@ -98,7 +99,7 @@ fn run_stretch<'a>(
 
 /// Where these motions leave the axes of a job.
 fn end_positions(job: &Job, items: &[Item]) -> Row
-    requires axes { length job.now.axes ≤ 16 }
+    requires axes { length job.now.axes ≤ AXIS_LIMIT }
     requires fit { All IsFit items.now }
     ensures { (axis : ℕ) → positions_in result axis ≡ left_at items.now (start_position job.now) axis }
 {
@@ -116,7 +117,7 @@ fn end_stretch<'a>(
     zone: &ZoneLine,
     run: &'a ChannelRun,
 ) -> Result<Stretch<'a>, AllocError>
-    requires axes { length job.now.axes ≤ 16 }
+    requires axes { length job.now.axes ≤ AXIS_LIMIT }
     requires fit { All IsFit run.now.items }
     ensures { IfOk result (λ s. s ≡ model.end_stretch job.now zone.now run.now) }
 {
@@ -131,7 +132,7 @@ fn end_stretch<'a>(
 /// The one stretch of a zone that no channel holds.
 #[tactic(auto, unfolding(crate::specs::ShownStretches::shown_stretch, crate::specs::Stretches::free_stretch))]
 fn free_stretch<'a>(alloc: Global, job: &Job, zone: &ZoneLine) -> Result<Stretch<'a>, AllocError>
-    requires { length job.now.axes ≤ 16 }
+    requires { length job.now.axes ≤ AXIS_LIMIT }
     ensures { IfOk result (λ s. s ≡ model.shown_stretch job.now zone.now (free_stretch job.now zone.now)) }
 {
     let start = start_positions(job);
@@ -148,7 +149,7 @@ pub fn free_stretches<'a>(
     job: &Job,
     zone: &ZoneLine,
 ) -> Result<Vec<Stretch<'a>>, AllocError>
-    requires { length job.now.axes ≤ 16 }
+    requires { length job.now.axes ≤ AXIS_LIMIT }
     ensures { IfOk result (λ s. s.items ≡ model.shown_stretch job.now zone.now (free_stretch job.now zone.now) ∷ []) }
 {
     let mut stretches = Vec::new(alloc);
@@ -163,7 +164,7 @@ pub fn stretches_of_run<'a>(
     zone: &ZoneLine,
     run: &'a ChannelRun,
 ) -> Result<Vec<Stretch<'a>>, AllocError>
-    requires axes { length job.now.axes ≤ 16 }
+    requires axes { length job.now.axes ≤ AXIS_LIMIT }
     requires fit { All IsFit run.now.items }
     ensures { IfOk result (λ s. s.items ≡ model.run_stretch job.now zone.now run.now ∷ model.end_stretch job.now zone.now run.now ∷ []) }
 {

@@ -9,8 +9,8 @@ ghost use Rattle.job_types.specs.Zones.{is_carrier, has_axis};
 
 use crate::channels::Row;
 use arrayvec::ArrayVec;
-use axis_sets::AxisId;
 use job_types::{Side, ZoneLine};
+use axis_sets::{AXIS_LIMIT, AxisId};
 use micro_units::Um;
 use std::alloc::{AllocError, Global};
 use std::marker::Model;
@@ -159,7 +159,7 @@ fn end_of(ends: &[(AxisId, Um, Um)], axis: AxisId) -> Option<(AxisId, Um, Um)>
 /// Where a motion leaves an axis.
 #[tactic(auto, unfolding(crate::specs::ZoneBoxes::stand_after))]
 fn after(item: &Item, at: &Row, index: usize) -> Um
-    requires { index < 16 }
+    requires { index < AXIS_LIMIT }
     ensures { result ≡ model.stand_after item.now (positions_in at.now) index }
 {
     let axis = AxisId { index: index as u8 };
@@ -171,11 +171,11 @@ fn after(item: &Item, at: &Row, index: usize) -> Um
 
 /// Puts the axes where a motion leaves them.
 pub fn settle(item: &Item, at: &mut Row)
-    requires { All (λ e. e.0 < 16) (axes_of (motion_of item.now)) }
+    requires { All (λ e. e.0 < AXIS_LIMIT) (axes_of (motion_of item.now)) }
     ensures { (axis : ℕ) → positions_in at.new axis ≡ model.stand_after item.now (positions_in at.old) axis }
 {
     let before = *at;
-    for index in 0..16 {
+    for index in 0..AXIS_LIMIT {
         at[index] = after(item, &before, index);
     }
 }

@@ -1,9 +1,10 @@
 -- Meaning. The words of a call, and the input that is read from its source.
-use Rattle.std.specs.Prelude.{◌≡◌, ℕ, ◌<◌, ◌≤◌, Bool, false, List, [], ◌∷◌, length, drop, codes, Option, None, Some, Result, Ok, Err, ⊤}
+use Rattle.std.specs.Prelude.{◌≡◌, ℕ, ◌+◌, ◌<◌, ◌≤◌, Bool, false, List, [], ◌∷◌, length, drop, codes, Option, None, Some, Result, Ok, Err, ⊤}
 use Rattle.std.specs.Global.{Vec}
 use Rattle.std.specs.Str.{bytes_eq}
 use Rattle.turnmill.specs.declared.check.InputFault.{InputFault}
 use Rattle.turnmill.specs.declared.check.InputFault.TheVariants.{Failed, TooLong, NoMemory}
+use Rattle.job_lines.specs.declared.limits.TheConstants.{INPUT_LIMIT}
 
 -- the words are `check` alone
 abbrev pub is_check : List (List ℕ) → Bool
@@ -15,14 +16,14 @@ abbrev pub ReadsAll : Option (List ℕ) → Option (List ℕ) → List ℕ → T
 ReadsAll None new bytes = ⊤
 ReadsAll (Some xs) new bytes = (xs ≡ bytes) × (new ≡ Some [])
 
--- more bytes were left than an input may have, and the first 8,388,609 of them were taken
+-- more bytes were left than an input may have, and so many and one more of them were taken
 abbrev pub TakesTooMany : Option (List ℕ) → Option (List ℕ) → Type 0
 TakesTooMany None new = ⊤
-TakesTooMany (Some xs) new = (8388609 ≤ length xs) × (new ≡ Some (drop 8388609 xs))
+TakesTooMany (Some xs) new = (INPUT_LIMIT < length xs) × (new ≡ Some (drop (INPUT_LIMIT + 1) xs))
 
 -- the whole input was read, or a read failed, or the input is too long, or memory was wanted and not found
 abbrev pub ReadsInput : Result (Vec ℕ) InputFault → Option (List ℕ) → Option (List ℕ) → ℕ → ℕ → Type 0
-ReadsInput (Ok bytes) old new before now = (now ≡ before) × (length bytes.items ≤ 8388608) × ReadsAll old new bytes.items
+ReadsInput (Ok bytes) old new before now = (now ≡ before) × (length bytes.items ≤ INPUT_LIMIT) × ReadsAll old new bytes.items
 ReadsInput (Err Failed) old new before now = before < now
 ReadsInput (Err TooLong) old new before now = (now ≡ before) × TakesTooMany old new
 ReadsInput (Err NoMemory) old new before now = now ≡ before

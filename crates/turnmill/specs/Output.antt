@@ -1,5 +1,5 @@
 -- Meaning. What an input calls for: how the call ends, and the bytes that it writes.
-use Rattle.std.specs.Prelude.{◌≡◌, ℕ, nat_le, if◌then◌else◌, List, [], length, Option, Result, Ok, Err, ⊤}
+use Rattle.std.specs.Prelude.{◌≡◌, ℕ, nat_lt, if◌then◌else◌, List, [], length, Option, Result, Ok, Err, ⊤}
 use Rattle.edge_io.specs.Moves.{Grows}
 use Rattle.nc_faults.specs.declared.Refusal.{Refusal}
 use Rattle.job_types.specs.Job.{JobView}
@@ -12,6 +12,7 @@ use Rattle.turnmill.specs.declared.check.Status.TheVariants as ends
 use Rattle.job_verdict.specs.declared.stretches.Verdict.{Verdict}
 use Rattle.job_verdict.specs.declared.stretches.Verdict.TheVariants.{Yes, No, Undecided}
 use Rattle.job_verdict.specs.declared.stretches.Verdict.TheVariants as verdicts
+use Rattle.job_lines.specs.declared.limits.TheConstants.{INPUT_LIMIT}
 
 pub record Output : Type 0 where
   pub status : Status
@@ -44,9 +45,9 @@ unfoldable pub output_by : Result JobView Refusal → Output
 output_by (Ok job) = record { status = status_of (verdict_of job); bytes = report_bytes job (runs_of job) (verdict_of job) }
 output_by (Err refusal) = record { status = ends.Refused; bytes = refusal_bytes refusal }
 
--- an input of more than 8,388,608 bytes calls for no bytes, whatever it says
+-- an input of more bytes than it may have calls for no bytes, whatever it says
 unfoldable pub output_of : List ℕ → Output
-output_of input = if nat_le 8388609 (length input) then record { status = ends.TooLong; bytes = [] } else output_by (read_of input)
+output_of input = if nat_lt INPUT_LIMIT (length input) then record { status = ends.TooLong; bytes = [] } else output_by (read_of input)
 
 -- the call ends as the input calls for, and what is written has grown by the bytes that it calls for
 pub record Answers (input : List ℕ) (status : Status) (old new : Option (List ℕ)) : Type 0 where

@@ -10,6 +10,7 @@ ghost use Rattle.job_verdict.specs.Report.{refusal_bytes};
 ghost use Rattle.job_verdict.specs.Safety.{SafeAlways};
 
 use edge_io::{Failed, Sink, Source, put_all};
+use job_lines::INPUT_LIMIT;
 use job_verdict::{Verdict, check_job, refusal_line, report_text};
 use nc_faults::Refusal;
 use std::alloc::{AllocError, Global};
@@ -39,7 +40,7 @@ pub enum Status {
     ReadFault,
     /// A write failed.
     WriteFault,
-    /// The input has more than 8,388,608 bytes.
+    /// The input has more than `INPUT_LIMIT` bytes.
     TooLong,
     /// Memory was wanted and not found.
     NoMemory,
@@ -58,7 +59,7 @@ impl From<Status> for ExitCode {
 }
 
 /// The number of bytes at which an input is too long.
-const TOO_MANY: usize = 8_388_609;
+const TOO_MANY: usize = INPUT_LIMIT + 1;
 
 /// The most bytes that one read asks for.
 const PIECE: usize = 4096;
@@ -68,7 +69,7 @@ const PIECE: usize = 4096;
 pub enum InputFault {
     /// A read failed.
     Failed,
-    /// The source gave 8,388,609 bytes.
+    /// The source gave `TOO_MANY` bytes.
     TooLong,
     /// Memory was wanted and not found.
     NoMemory,
@@ -106,7 +107,7 @@ fn is_check(words: &[&str]) -> bool
     }
 }
 
-/// Reads an input to its end, or to its 8,388,609th byte. The first read that gives no byte or fails is the last one: what
+/// Reads an input to its end, or to its `TOO_MANY`th byte. The first read that gives no byte or fails is the last one: what
 /// may be done with a source allows no read after it.
 fn read_input<S: Source>(alloc: Global, source: &mut S) -> Result<Vec<u8>, InputFault>
     requires few { S.faults source.old < 2 ^ 64 - 1 }
@@ -175,7 +176,7 @@ fn refusal_output(alloc: Global, refusal: &Refusal) -> Result<MadeOutput, AllocE
 
 /// Makes the output that an input calls for.
 fn make_output(alloc: Global, bytes: &[u8]) -> Result<MadeOutput, AllocError>
-    requires { length bytes.now ≤ 8388608 }
+    requires { length bytes.now ≤ INPUT_LIMIT }
     ensures { IfOk result (λ made. Makes made.status (string_bytes made.text) (output_of bytes.now)) }
 {
     match read_job(alloc, bytes) {
@@ -219,7 +220,7 @@ pub fn check_words<S: Source, K: Sink>(
     ensures refused_comes { IfSome (S.left source.old) (λ input.
         is_check (map (λ word. word.now) words.now) ≡ true
         → S.faults source.new ≡ S.faults source.old → K.faults sink.new ≡ K.faults sink.old
-        → length input ≤ 8388608 → IsErr (read_of input)
+        → length input ≤ INPUT_LIMIT → IsErr (read_of input)
         → (result ≡ Status.NoMemory) ⊎ (result ≡ Status.Refused)) }
     ensures usage { (result ≡ Status.Usage) ↔ (is_check (map (λ word. word.now) words.now) ≡ false) }
     ensures usage_reads_nothing { result ≡ Status.Usage → source.new ≡ source.old }
@@ -234,7 +235,7 @@ pub fn check_words<S: Source, K: Sink>(
     ensures too_long { result ≡ Status.TooLong → TakesTooMany (S.left source.old) (S.left source.new) }
     ensures too_long_comes { IfSome (S.left source.old) (λ input.
         is_check (map (λ word. word.now) words.now) ≡ true
-        → S.faults source.new ≡ S.faults source.old → 8388609 ≤ length input
+        → S.faults source.new ≡ S.faults source.old → INPUT_LIMIT < length input
         → (result ≡ Status.NoMemory) ⊎ (result ≡ Status.TooLong)) }
 
     // Nothing is written where the call ends before its output is made.

@@ -28,15 +28,15 @@ returns-in_default-find_block-clause-told c s c' set keeps =
     (no_block s c' k keeps items c.in-Some.levels c.in-Some.is
     (block_there s c.args.job.now.programs set.programs c.in-Some.levels.here None c.in_default-find_block.ensures)) c.stop-in_default-find_block.ensures.step (over_keeps s c' k keeps items _ (ap state_view c.stop-in_default-find_block.ensures.nowhere))
 
-pub returns-then-state-eq-MOST_BLOCKS-clause-told : goal.returns-then-state-eq-MOST_BLOCKS-clause-told
-returns-then-state-eq-MOST_BLOCKS-clause-told c s c' set keeps =
+pub returns-then-state-eq-BLOCK_LIMIT-clause-told : goal.returns-then-state-eq-BLOCK_LIMIT-clause-told
+returns-then-state-eq-BLOCK_LIMIT-clause-told c s c' set keeps =
     let k = state_view c.args.state.now in
     let items = c.args.items.now.items in
     let next = c.in-Some-find_block.next in
     ends_at s _ items k _ next.line (Alarm 8) c'.past _
     (spent s c' k keeps items c.in-Some.levels c.in-Some.is next.line (view_of next.block.now)
-    (block_there s c.args.job.now.programs set.programs c.in-Some.levels.here (Some (next.line, view_of next.block.now)) c.in-Some-find_block.ensures.found) c.if-state-eq-MOST_BLOCKS.true)
-    c.stop-then-state-eq-MOST_BLOCKS.ensures.step (over_keeps s c' k keeps items _ (ap state_view c.stop-then-state-eq-MOST_BLOCKS.ensures.nowhere))
+    (block_there s c.args.job.now.programs set.programs c.in-Some.levels.here (Some (next.line, view_of next.block.now)) c.in-Some-find_block.ensures.found) c.if-state-eq-BLOCK_LIMIT.true)
+    c.stop-then-state-eq-BLOCK_LIMIT.ensures.step (over_keeps s c' k keeps items _ (ap state_view c.stop-then-state-eq-MOST_BLOCKS.ensures.nowhere))
 
 pub returns-in-Ok-clause-told : goal.returns-in-Ok-clause-told
 returns-in-Ok-clause-told c =
@@ -48,7 +48,7 @@ returns-in-Ok-clause-told c =
     let job = c.args.job.now in
     performed s c' k keeps c.args.items.now.items c.in-Some.levels c.in-Some.is next.line (view_of next.block.now)
     (block_there s job.programs set.programs here (Some (next.line, view_of next.block.now)) there.found)
-    (99999 - k.count) (room k.count c.requires.few c.if-state-eq-MOST_BLOCKS.false) c.in-Ok.done c.execute.new.situation
+    (99999 - k.count) (room k.count c.requires.few c.if-state-eq-BLOCK_LIMIT.false) c.in-Ok.done c.execute.new.situation
     (subst (λ (r : Result Effect ℕ). Does r c.in-Ok.done c.execute.new.situation)
     (effect_there job s c' k set keeps here next.line (statement_view next.opener.now) (statement_view next.block.now.stmt) (opener_there s job.programs set.programs here (statement_view next.opener.now) there.opens))
     (c.in-Ok.ensures.leaves (words_after c'.past) (chain_after c'.past) keeps.modal keeps.frame))
@@ -69,7 +69,7 @@ returns-in-Alarm-clause-told c s c' set keeps =
     ends_at s _ items k _ next.line (Alarm c.in-Alarm.code) c'.past _
     (stops s c' k keeps items c.in-Some.levels c.in-Some.is next.line (view_of next.block.now)
     (block_there s job.programs set.programs here (Some (next.line, view_of next.block.now)) there.found)
-    (99999 - k.count) c.in-Alarm.code (room k.count c.requires.few c.if-state-eq-MOST_BLOCKS.false)
+    (99999 - k.count) c.in-Alarm.code (room k.count c.requires.few c.if-state-eq-BLOCK_LIMIT.false)
     (sym (effect_there job s c' k set keeps here next.line (statement_view next.opener.now) (statement_view next.block.now.stmt) (opener_there s job.programs set.programs here (statement_view next.opener.now) there.opens))
     ∙ (rw c.in-Alarm.is at (c.in-Err.ensures.leaves (words_after c'.past) (chain_after c'.past) keeps.modal keeps.frame))))
     (c.stop-in-Alarm.ensures.step ∙ ap (λ (at : List (Option ℤ)). step_at k.axes k.on (stands at) next.line (Alarm c.in-Alarm.code)) (ap (λ (old : Situation). old.at) c.in-Err.ensures.unchanged))

@@ -2,9 +2,10 @@ use Rattle.std.proofs.Common.{◌≡◌, ℕ, nat_lt, ◌&&◌, length}
 use Rattle.axis_sets.specs.Sets.{has}
 use Rattle.job_verdict.proofs.channels.owned_axes.Given as goal
 use Rattle.job_types.specs.Axes.{owns}
+use Rattle.axis_sets.specs.declared.limits.TheConstants.{AXIS_LIMIT}
 
 abbrev pub invariant-loop-index : goal.invariant-loop-index
 invariant-loop-index l = record {
   put : (m : ℕ) → has l.axes m ≡ (nat_lt m l.index && owns l.job l.channel m);
-  long : length l.axes ≡ 16;
+  long : length l.axes ≡ AXIS_LIMIT;
 }

@@ -4,6 +4,7 @@ use Rattle.std.specs.Prelude.{string_bytes}
 use Rattle.job_verdict.specs.Report.{lines_of, all_lines}
 use Rattle.job_verdict.proofs.ReportLemmas.{flat_map_next}
 use Rattle.job_verdict.proofs.report.push_all_lines.Goals as goal
+use Rattle.axis_sets.specs.declared.limits.TheConstants.{CHANNEL_PLACES}
 
 pub loop-number-preserved : goal.loop-number-preserved
 loop-number-preserved c =
@@ -20,5 +21,5 @@ loop-number-preserved c =
 pub returns : goal.returns
 unfolding all_lines
 returns c =
-    let over : c.loop-number.number ≡ 9 = omega arith in
+    let over : c.loop-number.number ≡ CHANNEL_PLACES = omega arith in
     rw over at c.loop-number.invariant
