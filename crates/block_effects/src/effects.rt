@@ -25,8 +25,8 @@ use block_motions::{ArcWords, Conditions, Targets, arc_motion, is_any, straight_
 use g_groups::{GWord, MOTION_GROUP, Modal, apply};
 use nc_blocks::{Stmt, Word};
 use nc_control_flow::Outcome;
-use path_geometry::Motion;
 use nc_faults::alarms::ARC_WORDS;
+use path_geometry::Motion;
 use std::alloc::Global;
 use sync_types::{Item, Part};
 

@@ -10,13 +10,13 @@ ghost use Rattle.block_effects.specs.Courses.{equipment_of};
 use crate::course::Setup;
 use crate::parameters::{Change, Parameters};
 use crate::situation::ChannelAxes;
-use block_motions::{ArcWords, Programmed, Targets};
 use axis_sets::{AXIS_LIMIT, AxisId};
+use block_motions::{ArcWords, Programmed, Targets};
 use micro_units::Num;
 use nc_blocks::{Operand, Word};
 use nc_expressions::{Expr, eval};
-use path_geometry::Motion;
 use nc_faults::alarms::{ADDRESS_TWICE, GEOMETRY_AXIS_BY_NAME, NO_SUCH_AXIS};
+use path_geometry::Motion;
 
 /// What the words of a block have done so far, besides what they gave parameters.
 #[derive(Drop)]

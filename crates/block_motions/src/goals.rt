@@ -118,7 +118,7 @@ fn is_diameter(conditions: &Conditions, axis: u8, change: bool) -> bool
 
 /// Twice the value that goes through the frame, in millionths of a millimetre.
 fn twice_of(conditions: &Conditions, axis: u8, programmed: Programmed) -> i64
-    ensures { (h : ConditionsView) → AreInForce h conditions.now → result ≡ model.twice_of h axis programmed_point }
+    ensures { (h : ConditionsView) → AreInForce h conditions.now → result ≡ model.twice_of h axis programmed }
 {
     let change = is_change(conditions, programmed.measure);
     let value = programmed.value.millionths;
@@ -187,7 +187,7 @@ fn position_at(value: Num) -> Goal
 /// The goal of X, Y or Z with this value, through the frame.
 pub(crate) fn goal_through(conditions: &Conditions, axis: u8, programmed: Programmed) -> Goal
     requires { axis < 3 }
-    ensures { (h : ConditionsView) → AreInForce h conditions.now → result ≡ model.goal_through h axis programmed_point }
+    ensures { (h : ConditionsView) → AreInForce h conditions.now → result ≡ model.goal_through h axis programmed }
 {
     let frame = frame_in(conditions);
     let change = is_change(conditions, programmed.measure);
@@ -206,7 +206,7 @@ pub(crate) fn goal_through(conditions: &Conditions, axis: u8, programmed: Progra
 
 /// The goal of an axis by its own name.
 fn goal_by_name(conditions: &Conditions, programmed: Programmed) -> Goal
-    ensures { (h : ConditionsView) → AreInForce h conditions.now → result ≡ model.goal_by_name h programmed_point }
+    ensures { (h : ConditionsView) → AreInForce h conditions.now → result ≡ model.goal_by_name h programmed }
 {
     if is_change(conditions, programmed.measure) {
         change_by(programmed.value)
@@ -236,7 +236,7 @@ fn has_axis(
     programmed: Option<Programmed>,
 ) -> bool
     requires { axis < 3 }
-    ensures { (h : ConditionsView) → AreInForce h conditions.now → result ≡ model.has_axis slots.now h axis programmed_point }
+    ensures { (h : ConditionsView) → AreInForce h conditions.now → result ≡ model.has_axis slots.now h axis programmed }
 {
     programmed.is_none() || axis_in(slots, conditions, axis).is_some()
 }
@@ -258,7 +258,7 @@ pub(crate) fn have_axes(
 /// The goal of an axis by its own name, if it is programmed.
 fn named_goal(conditions: &Conditions, programmed: Option<Programmed>) -> Option<Goal>
     ensures { (h : ConditionsView) → AreInForce h conditions.now
-        → result ≡ option_map (model.goal_by_name h) programmed_point }
+        → result ≡ option_map (model.goal_by_name h) programmed }
 {
     match programmed {
         Some(programmed) => Some(goal_by_name(conditions, programmed)),
@@ -291,7 +291,7 @@ fn with_goal(
 ) -> [Option<Goal>; AXIS_LIMIT]
     requires { axis < 3 }
     ensures { (h : ConditionsView) → AreInForce h conditions.now
-        → result ≡ model.with_goal slots.now h axis programmed_point goals }
+        → result ≡ model.with_goal slots.now h axis programmed goals }
 {
     if let Some(programmed) = programmed {
         if let Some(moved) = axis_in(slots, conditions, axis) {

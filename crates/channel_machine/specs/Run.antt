@@ -1,5 +1,5 @@
 -- Meaning. A segment of a channel's run, told over the list of the blocks that the channel has executed.
-use Rattle.std.specs.Prelude.{⊤, ℕ, zero, suc, ◌-◌, ◌==◌, ℤ, Bool, false, if◌then◌else◌, List, [], ◌∷◌, ◌++◌, length, map, fold, filter_map, slice_get, Option, None, Some, option_and_then, Result, Ok, Err}
+use Rattle.std.specs.Prelude.{⊤, ⊥, ℕ, zero, suc, ◌-◌, ◌==◌, ℤ, Bool, false, if◌then◌else◌, List, [], ◌∷◌, ◌++◌, length, map, fold, filter_map, slice_get, Option, None, Some, option_and_then, Result, Ok, Err}
 use Rattle.std.specs.List.{range_with_len}
 use Rattle.std.specs.Option.{option_map_or, option_to_list}
 use Rattle.axis_sets.specs.Sets.{has}
@@ -220,8 +220,8 @@ first_levels skip programs number = levels_from skip programs (first_place skip 
 abbrev pub channel_at_start : SurroundingsView → Channel
 channel_at_start setting = record { past = []; levels = option_and_then (first_levels setting.skip setting.programs) setting.grant.program }
 
--- the alarm of a step, where it is one, is in the table of alarms
+-- the step is the program end, or an alarm of the table of alarms
 abbrev pub IsListedAction : Action → Type 0
 IsListedAction End = ⊤
 IsListedAction (Alarm code) = IsAlarmCode code
-IsListedAction other = ⊤
+IsListedAction other = ⊥

@@ -29,7 +29,7 @@ pub fn motions_are_few()
     ensures { (s : SurroundingsView) → length (segment_of s (channel_at_start s)).items ≤ BLOCK_LIMIT }
 {}
 
-/// A law: an alarm that ends a segment is in the table of alarms.
+/// A law: a channel's first segment ends at the program end, or with an alarm of the table of alarms.
 pub fn alarms_are_listed()
     ensures { (s : SurroundingsView) → IsListedAction (segment_of s (channel_at_start s)).step.action }
 {}

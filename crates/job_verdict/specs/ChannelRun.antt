@@ -1,5 +1,5 @@
 -- Meaning. What a contract sees of the run of a channel.
-use Rattle.std.specs.Prelude.{⊤, ℕ, ◌==◌, List, map, find, Option, None, Some}
+use Rattle.std.specs.Prelude.{⊤, ⊥, ℕ, ◌==◌, List, map, find, Option, None, Some}
 use Rattle.sync_types.specs.declared.Item.{Item}
 use Rattle.sync_types.specs.declared.ChannelEnd.{ChannelEnd}
 use Rattle.sync_types.specs.declared.ChannelEnd.TheVariants.{Idle, Ended, Holding, Alarmed}
@@ -39,7 +39,8 @@ abbrev pub alarm_in : ChannelEnd → Option Alarm
 alarm_in (Alarmed alarm) = Some alarm
 alarm_in other = None
 
--- the alarm of an end, where it is one, is in the table of alarms
+-- the channel is at its program end, or an alarm of the table of alarms has stopped it
 abbrev pub IsListedEnd : ChannelEnd → Type 0
+IsListedEnd (Ended line) = ⊤
 IsListedEnd (Alarmed alarm) = IsAlarmCode alarm.code
-IsListedEnd other = ⊤
+IsListedEnd other = ⊥

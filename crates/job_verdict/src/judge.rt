@@ -12,8 +12,8 @@ use crate::clash::{HeldZone, verdict_on};
 use crate::pair_counts::count_pairs;
 use crate::pieces::Measure;
 use crate::stretches::{Stretch, Verdict, free_stretches, stretches_of_run};
-use job_types::{Job, ZoneLine};
 use axis_sets::{CHANNEL_PLACES, ChannelId, ZONE_LIMIT};
+use job_types::{Job, ZoneLine};
 use nc_faults::Alarm;
 use std::alloc::{AllocError, Global};
 

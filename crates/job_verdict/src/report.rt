@@ -7,8 +7,8 @@ ghost use Rattle.job_verdict.specs.Report as model;
 
 use crate::channels::{ChannelRun, run_in};
 use crate::stretches::{PlaceName, StretchKind, Verdict};
-use job_types::Job;
 use axis_sets::{AxisId, CHANNEL_PLACES, ChannelId};
+use job_types::Job;
 use micro_units::Um;
 use nc_faults::{Alarm, Refusal, alarm_text, refusal_text};
 use path_geometry::{Arc, Ends, Motion};

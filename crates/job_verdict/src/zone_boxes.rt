@@ -9,8 +9,8 @@ ghost use Rattle.job_types.specs.Zones.{is_carrier, has_axis};
 
 use crate::channels::Row;
 use arrayvec::ArrayVec;
-use job_types::{Side, ZoneLine};
 use axis_sets::{AXIS_LIMIT, AxisId};
+use job_types::{Side, ZoneLine};
 use micro_units::Um;
 use std::alloc::{AllocError, Global};
 use std::marker::Model;
