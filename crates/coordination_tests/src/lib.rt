@@ -1,6 +1,7 @@
 //! Worked runs of channels that wait for one another: what comes of them by the rules of the board.
 //!
-//! No code runs here. Each clause is computed from the definitions alone.
+//! Each clause is computed from the definitions alone, and no code runs for it. Beside them stand tests of the board of
+//! marks and of the owners of axes, through their public calls.
 #![tactic(auto)]
 
 ghost use Rattle.coordination_tests.specs.MarkRows.{ThreeMeetFiveTimes, LoweredTooSoon, LoweredLater, TwoOfThreeMeet, OwnMarkStands, OwnMarkAlone, SomeMarksLowered, EveryMarkLowered, MarkOutOfRange, ChannelUnknown, OneOfTwoGoes};
@@ -10,6 +11,11 @@ ghost use Rattle.coordination_tests.specs.GrantRows.{WhoLetsGo, WhoTakes, WhoIsS
 ghost use Rattle.coordination_tests.specs.EventRows.{OneByTheThird, TwoInOneStep};
 ghost use Rattle.sync_types.specs.Starts.{IsSound};
 ghost use Rattle.coordination_tests.specs.AxisRows.{one_slide};
+
+#[cfg(test)]
+mod axes;
+#[cfg(test)]
+mod marks;
 
 /// Channels meet at marks.
 pub fn channels_meet_at_marks()
