@@ -1,5 +1,5 @@
 -- Meaning. What a contract sees of the run of a channel.
-use Rattle.std.specs.Prelude.{⊤, ⊥, ℕ, ◌==◌, List, map, find, Option, None, Some}
+use Rattle.std.specs.Prelude.{⊤, ℕ, ◌==◌, List, map, find, Option, None, Some}
 use Rattle.sync_types.specs.declared.Item.{Item}
 use Rattle.sync_types.specs.declared.ChannelEnd.{ChannelEnd}
 use Rattle.sync_types.specs.declared.ChannelEnd.TheVariants.{Idle, Ended, Holding, Alarmed}

@@ -36,7 +36,7 @@ returns-then-state-eq-BLOCK_LIMIT-clause-told c s c' set keeps =
     ends_at s _ items k _ next.line (Alarm 8) c'.past _
     (spent s c' k keeps items c.in-Some.levels c.in-Some.is next.line (view_of next.block.now)
     (block_there s c.args.job.now.programs set.programs c.in-Some.levels.here (Some (next.line, view_of next.block.now)) c.in-Some-find_block.ensures.found) c.if-state-eq-BLOCK_LIMIT.true)
-    c.stop-then-state-eq-BLOCK_LIMIT.ensures.step (over_keeps s c' k keeps items _ (ap state_view c.stop-then-state-eq-MOST_BLOCKS.ensures.nowhere))
+    c.stop-then-state-eq-BLOCK_LIMIT.ensures.step (over_keeps s c' k keeps items _ (ap state_view c.stop-then-state-eq-BLOCK_LIMIT.ensures.nowhere))
 
 pub returns-in-Ok-clause-told : goal.returns-in-Ok-clause-told
 returns-in-Ok-clause-told c =
