@@ -2,7 +2,7 @@
 use Rattle.std.proofs.Common.{◌≡◌, ◌∙◌, ℕ, ℤ, w32, List, [], ◌∷◌, length, get_or, refl, arith}
 use Rattle.std.proofs.lemmas.Int.{to_z-of_z}
 use mir.Val.{to_z, of_z, SFits}
-use Rattle.tape_job.specs.declared.job.Side.{Side}
+use Rattle.job_types.specs.declared.job.Side.{Side}
 use Rattle.job_verdict.specs.PieceTests.{by_direction}
 
 -- a signed number that is stored keeps its value
