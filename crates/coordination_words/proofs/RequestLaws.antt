@@ -1,10 +1,13 @@
 -- What a block asks of the other channels is of the job, and a zone that is switched is held.
-use Rattle.std.proofs.Common.{◌≡◌, ◌≢◌, ℕ, ◌+◌, ◌*◌, ◌<◌, ◌%◌, ◌/◌, ◌==◌, ◌&&◌, ◌||◌, nat_lt, nat_le, ℤ, pos, negsuc, Bool, true, false, not, cond, List, [], ◌∷◌, drop, get_or, replicate, Option, None, Some, Result, Ok, Err, refl, sym, ap, subst, ◌∙◌, arith}
+use Rattle.std.proofs.Common.{◌≡◌, ◌≢◌, ℕ, ◌+◌, ◌*◌, ◌<◌, ◌%◌, ◌/◌, ◌==◌, ◌&&◌, ◌||◌, nat_lt, nat_le, ℤ, pos, negsuc, Bool, true, false, not, cond, List, [], ◌∷◌, length, drop, get_or, replicate, slice_set, get_or-set_same, Option, None, Some, Result, Ok, Err, refl, sym, ap, subst, ◌∙◌, arith}
 use Rattle.std.specs.List.{list_all}
+use Rattle.std.specs.Str.{bytes_eq}
+use Rattle.std.proofs.lemmas.List.Quantifiers.{position-Some}
 use Rattle.std.proofs.lemmas.Bool.{lt-ltb, ltb-true}
 use Rattle.set_laws.proofs.MemberLaws.{list_all-members_of}
-use Rattle.axis_sets.specs.Sets.{has, members_of}
+use Rattle.axis_sets.specs.Sets.{has, members_of, IsEmpty}
 use Rattle.axis_sets.specs.declared.limits.TheConstants.{AXIS_LIMIT, CHANNEL_PLACES, MARK_LIMIT, ZONE_PLACES}
+use Rattle.nc_blocks.specs.Names.{name_of}
 use Rattle.nc_blocks.specs.Statement.{OperandView, Value, Text, AxisName}
 use Rattle.nc_blocks.specs.declared.blocks.CoordWord.{CoordWord}
 use Rattle.nc_blocks.specs.declared.blocks.CoordWord.TheVariants as word
@@ -13,9 +16,10 @@ use Rattle.sync_types.specs.BoardActions.{axes_to_free}
 use Rattle.sync_types.specs.BoardAlarms.{is_whole, named_axes, named_channels, names_no_mark, own_alarm}
 use Rattle.sync_types.specs.declared.Action.{Action}
 use Rattle.sync_types.specs.declared.Action.TheVariants.{WaitM, SetM, ClearM, Init, Start, WaitE, Release, Get, End}
-use Rattle.coordination_words.proofs.SetLaws.{from_bind, less_has, all_found_pass}
+use Rattle.coordination_words.proofs.SetLaws.{from_bind, less_has, less_itself, all_kept, all_found_pass}
 use Rattle.coordination_words.specs.Laws.{AllAxesPass, IsOfTheJob}
-use Rattle.coordination_words.specs.Operands.{or_alarm, operand_value, whole_below, mark_in, channel_in, if_passes, zone_in, state_in, axis_in, axis_found, slot_named, program_in, marks_in, channels_in, axes_in, first_in}
+use Rattle.coordination_words.specs.Operands.{or_alarm, operand_value, whole_below, mark_in, channel_in, if_passes, zone_in, state_in, axis_in, axis_found, slot_named, program_in, set_with, marks_in, channels_in, axes_in, first_in}
+use Rattle.coordination_words.specs.Programs.{number_of, program_named, program_text}
 use Rattle.coordination_words.specs.Requests.{without_itself, meeting, selection, switching, owns_all, leaves_zones_whole, letting_go, taking, request_of}
 use Rattle.coordination_words.specs.Settings.{SettingView}
 use Rattle.coordination_words.specs.declared.asked.Request.{Request}
@@ -135,6 +139,28 @@ module _ (setting : SettingView) (parameters : ℕ → ℤ) where
   unfolding axes_in
   axes_pass test all operands axes is = all_found_pass test (axis_in setting) (axis_passes test all) AXIS_LIMIT operands axes is
 
+  named_within : (text : List ℕ) (n : ℕ) → program_named setting.names text ≡ Some n → n < length setting.names
+  unfolding program_named
+  named_within text n is = by_test (nat_le (length text) 32) is
+    where
+      by_test : (b : Bool) → cond b (number_of setting.names (name_of text)) None ≡ Some n → n < length setting.names
+      by_test true found = (position-Some (λ name. bytes_eq name (name_of text)) setting.names n [] found).0
+      by_test false found = absurd (never found)
+        where
+          never : (let o : Option ℕ = None in o) ≡ Some n → ⊥
+          never e = cc
+
+  program_within : (operand : OperandView) (n : ℕ) → program_in setting operand ≡ Ok n → n < length setting.names
+  program_within (Value tree) n is = absurd (never is)
+    where
+      never : (let r : Result ℕ ℕ = Err 7 in r) ≡ Ok n → ⊥
+      never e = cc
+  program_within (AxisName name) n is = absurd (never is)
+    where
+      never : (let r : Result ℕ ℕ = Err 7 in r) ≡ Ok n → ⊥
+      never e = cc
+  program_within (Text text) n is = named_within (program_text text) n (found_is 7 (program_named setting.names (program_text text)) n is)
+
   -- ---- actions
 
   abbrev IsSound : Action → Type 0
@@ -144,6 +170,8 @@ module _ (setting : SettingView) (parameters : ℕ → ℤ) where
   waiting_sound mark named below each = record {
     marks = ap not (lt-ltb mark 10 below);
     channels = list_all-members_of (without_itself setting named) setting.has_channel (λ m member. each m (less_has named setting.channel m member));
+    itself = less_itself named setting.channel;
+    program = tt;
     axes = λ test all. refl;
     own = refl;
     zones = none_split setting.zones;
@@ -152,15 +180,17 @@ module _ (setting : SettingView) (parameters : ℕ → ℤ) where
   }
 
   setting_sound : (marks : List Bool) → IsSound (SetM marks)
-  setting_sound marks = record { marks = refl; channels = refl; axes = λ test all. refl; own = refl; zones = none_split setting.zones; no_alarm = refl; no_end = λ e. cc }
+  setting_sound marks = record { marks = refl; channels = refl; itself = refl; program = tt; axes = λ test all. refl; own = refl; zones = none_split setting.zones; no_alarm = refl; no_end = λ e. cc }
 
   clearing_sound : (marks : List Bool) → IsSound (ClearM marks)
-  clearing_sound marks = record { marks = refl; channels = refl; axes = λ test all. refl; own = refl; zones = none_split setting.zones; no_alarm = refl; no_end = λ e. cc }
+  clearing_sound marks = record { marks = refl; channels = refl; itself = refl; program = tt; axes = λ test all. refl; own = refl; zones = none_split setting.zones; no_alarm = refl; no_end = λ e. cc }
 
-  selecting_sound : (channel program : ℕ) → setting.has_channel channel ≡ true → IsSound (Init channel program)
-  selecting_sound channel program has_it = record {
+  selecting_sound : (channel program : ℕ) → setting.has_channel channel ≡ true → program < length setting.names → IsSound (Init channel program)
+  selecting_sound channel program has_it within = record {
     marks = refl;
     channels = rw has_it refl;
+    itself = refl;
+    program = within;
     axes = λ test all. refl;
     own = refl;
     zones = none_split setting.zones;
@@ -172,6 +202,8 @@ module _ (setting : SettingView) (parameters : ℕ → ℤ) where
   starting_sound named each = record {
     marks = refl;
     channels = list_all-members_of named setting.has_channel each;
+    itself = refl;
+    program = tt;
     axes = λ test all. refl;
     own = refl;
     zones = none_split setting.zones;
@@ -183,6 +215,8 @@ module _ (setting : SettingView) (parameters : ℕ → ℤ) where
   awaiting_sound named each = record {
     marks = refl;
     channels = list_all-members_of named setting.has_channel each;
+    itself = refl;
+    program = tt;
     axes = λ test all. refl;
     own = refl;
     zones = none_split setting.zones;
@@ -194,6 +228,8 @@ module _ (setting : SettingView) (parameters : ℕ → ℤ) where
   releasing_sound operands axes found own whole = record {
     marks = refl;
     channels = refl;
+    itself = refl;
+    program = tt;
     axes = λ test all. list_all-members_of axes test (axes_pass test all operands axes found);
     own = own;
     zones = whole;
@@ -205,6 +241,8 @@ module _ (setting : SettingView) (parameters : ℕ → ℤ) where
   taking_sound operands axes found whole = record {
     marks = refl;
     channels = refl;
+    itself = refl;
+    program = tt;
     axes = λ test all. list_all-members_of axes test (axes_pass test all operands axes found);
     own = refl;
     zones = whole;
@@ -254,7 +292,8 @@ module _ (setting : SettingView) (parameters : ℕ → ℤ) where
         let channel = from_bind (first_in (channel_in setting parameters) 24 operands) (λ channel. first_in (program_in setting) 7 (drop 1 operands) >>= λ program. Ok (Act (Init channel program))) request is in
         let program = from_bind (first_in (program_in setting) 7 (drop 1 operands)) (λ program. Ok (Act (Init channel.0 program))) request channel.2 in
         acts which other (Init channel.0 program.0) request
-        (selecting_sound channel.0 program.0 (first_is (λ n. setting.has_channel n ≡ true) (channel_in setting parameters) channel_passes 24 operands channel.0 channel.1)) program.2
+        (selecting_sound channel.0 program.0 (first_is (λ n. setting.has_channel n ≡ true) (channel_in setting parameters) channel_passes 24 operands channel.0 channel.1)
+        (first_is (λ n. n < length setting.names) (program_in setting) program_within 7 (drop 1 operands) program.0 program.1)) program.2
 
     starting_asks : (channels_in setting parameters operands >>= λ named. Ok (Act (Start named))) ≡ Ok request → Answers which request
     starting_asks is =
@@ -307,3 +346,23 @@ module _ (setting : SettingView) (parameters : ℕ → ℤ) where
       let axes = from_bind (axes_in setting operands) (taking setting) request is in
       taking_asks word.Get (λ e. cc) operands request axes.0 axes.1 axes.2
   asks word.CProt operands request is = switching_asks operands request is
+
+  -- a set of marks that has none comes of no argument
+  pub no_mark_named : (operands : List OperandView) (marks : List Bool) → request_of setting parameters word.ClearM operands ≡ Ok (Act (ClearM marks)) → IsEmpty marks → operands ≡ []
+  unfolding request_of marks_in
+  no_mark_named [] marks is none = refl
+  no_mark_named (operand ∷ operands) marks is none =
+      let found = from_bind (marks_in parameters (operand ∷ operands)) (λ set. Ok (Act (ClearM set))) (Act (ClearM marks)) is in
+      let same : found.0 ≡ marks = alike_sets found.0 marks found.2 in
+      let first = from_bind (mark_in parameters operand) (λ n. set_with (mark_in parameters) (slice_set (replicate MARK_LIMIT false) n true) operands) found.0 found.1 in
+      let below = mark_below parameters operand first.0 first.1 in
+      let stands : has found.0 first.0 ≡ true =
+      all_kept (mark_in parameters) (slice_set (replicate MARK_LIMIT false) first.0 true) operands found.0 first.2 first.0
+      (get_or-set_same (replicate MARK_LIMIT false) first.0 true false below) in
+      absurd (never (sym (none first.0) ∙ ap (λ (s : List Bool). has s first.0) (sym same) ∙ stands))
+    where
+      alike_sets : (a b : List Bool) → (let r : Result Request ℕ = Ok (Act (ClearM a)) in r) ≡ Ok (Act (ClearM b)) → a ≡ b
+      alike_sets a b e = cc
+
+      never : false ≡ true → ⊥
+      never e = cc

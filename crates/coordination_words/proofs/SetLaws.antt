@@ -35,6 +35,31 @@ less_has (x ∷ xs) zero (suc k) member = member
 less_has (x ∷ xs) (suc m) zero member = member
 less_has (x ∷ xs) (suc m) (suc k) member = less_has xs m k member
 
+-- and the number is none
+pub less_itself : (s : List Bool) (m : ℕ) → has (slice_set s m false) m ≡ false
+less_itself [] m = refl
+less_itself (x ∷ xs) zero = refl
+less_itself (x ∷ xs) (suc m) = less_itself xs m
+
+-- what was a member is one after a number more
+kept_has : (s : List Bool) (m k : ℕ) → has s k ≡ true → has (slice_set s m true) k ≡ true
+kept_has [] m k member = member
+kept_has (x ∷ xs) zero zero member = refl
+kept_has (x ∷ xs) zero (suc k) member = member
+kept_has (x ∷ xs) (suc m) zero member = member
+kept_has (x ∷ xs) (suc m) (suc k) member = kept_has xs m k member
+
+-- and after the numbers of all arguments
+pub all_kept : (number_in : OperandView → Result ℕ ℕ) (s : List Bool) (operands : List OperandView) (t : List Bool) → set_with number_in s operands ≡ Ok t
+    → (k : ℕ) → has s k ≡ true → has t k ≡ true
+all_kept number_in s [] t is k member = subst (λ (r : List Bool). has r k ≡ true) (same is) member
+  where
+    same : (let r : Result (List Bool) ℕ = Ok s in r) ≡ Ok t → s ≡ t
+    same e = cc
+all_kept number_in s (operand ∷ operands) t is k member =
+    let found = from_bind (number_in operand) (λ n. set_with number_in (slice_set s n true) operands) t is in
+    all_kept number_in (slice_set s found.0 true) operands t found.2 k (kept_has s found.0 k member)
+
 -- the set with no member has none
 pub none_has : (n k : ℕ) → has (replicate n false) k ≡ false
 none_has zero k = refl

@@ -11,6 +11,9 @@ mod setting;
 mod words;
 
 pub use asked::Request;
-pub use laws::{alarms_are_listed, requests_are_of_the_job, switches_are_of_held_zones};
+pub use laws::{
+    alarms_are_listed, clearm_without_arguments_lowers_all, requests_are_of_the_job,
+    switches_are_of_held_zones,
+};
 pub use setting::Setting;
 pub use words::request_of;
