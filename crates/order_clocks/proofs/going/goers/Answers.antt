@@ -1,0 +1,17 @@
+use Rattle.std.proofs.Common.{◌≡◌, ℕ, ◌<◌, length, Bool, false, inl, inr, List, sym, ap, ◌∙◌, refl, rules, arith}
+use Rattle.std.proofs.lemmas.Bool.{cases_lt}
+use Rattle.std.proofs.Math.ListN.{get_or-eq_default}
+use Rattle.axis_sets.specs.Sets.{has}
+use Rattle.order_clocks.specs.Steps.{goes_in, is_given}
+use Rattle.order_clocks.proofs.StepLaws.{past_gone}
+use Rattle.order_clocks.proofs.going.goers.Goals as goal
+
+pub returns-clause-members : goal.returns-clause-members
+returns-clause-members c = λ k.
+    let low = c.loop-c-test.false in
+    let size = c.loop-c.invariant.size in
+    let sizes : length c.args.gone.now ≡ 9 = search rules in
+    elim (cases_lt k c.loop-c.c) [
+      | inl below ↦ c.loop-c.invariant.done k below
+      | inr past ↦ get_or-eq_default c.loop-c.goes false (omega arith) ∙ sym (past_gone c.args.gone.now k (omega arith))
+    ]

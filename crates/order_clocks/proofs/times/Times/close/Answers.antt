@@ -1,0 +1,29 @@
+use Rattle.std.proofs.Common.{◌≡◌, ℕ, ◌<◌, max, length, List, [], true, get_or, slice_index, slice_index_or, refl, sym, ap, ◌∙◌, rules, arith}
+use Rattle.order_clocks.specs.Happenings.{Key}
+use Rattle.axis_sets.specs.Sets.{has, members_of}
+use Rattle.order_clocks.specs.Courses.{Course}
+use Rattle.order_clocks.specs.Counters.{top, LastRows, rows_after_goings, go_row, last_rows}
+use Rattle.order_clocks.specs.Rows.{count_of}
+use Rattle.order_clocks.specs.Steps.{DepartsFromMark, IsStep, Shows, HasRoom, keys_of, gives_of, departure_of, goes_in, row_at}
+use Rattle.order_clocks.proofs.StepLaws.{joint_room, go_shows, closed_shows, row_at_same, below_nine}
+use Rattle.order_clocks.proofs.times.Times.close.Goals as goal
+
+pub joint_rows-rows-requires : goal.joint_rows-rows-requires
+joint_rows-rows-requires c = λ g x.
+    joint_room c.args.self.now c.goers-goes.result c.args.deed.now.goes c.args.deed.now.group c.own_rows-own.result g x c.requires.room c.own_rows-own.ensures.rows
+
+pub returns-clause-rows : goal.returns-clause-rows
+returns-clause-rows c = λ run i s is shows d x here.
+    let on : has c.goers-goes.result d ≡ true = c.goers-goes.ensures.members d ∙ here in
+    c.joint_rows-rows.ensures.rows d x (below_nine c.goers-goes.result d c.goers-goes.ensures.size on) on
+    ∙ go_shows run i s c.args.deed.now c.args.self.now c.goers-goes.result c.own_rows-own.result d x is shows c.goers-goes.ensures.members c.goers-goes.ensures.size c.own_rows-own.ensures.rows here
+
+pub returns-clause-shows : goal.returns-clause-shows
+returns-clause-shows c = λ run i s is shows.
+    closed_shows run i s c.args.deed.now c.args.self.now _ c.goers-goes.result c.joint_rows-rows.result is shows c.goers-goes.ensures.members
+    (λ d x here.
+    let on : has c.goers-goes.result d ≡ true = c.goers-goes.ensures.members d ∙ here in
+    c.joint_rows-rows.ensures.rows d x (below_nine c.goers-goes.result d c.goers-goes.ensures.size on) on
+    ∙ go_shows run i s c.args.deed.now c.args.self.now c.goers-goes.result c.own_rows-own.result d x is shows c.goers-goes.ensures.members c.goers-goes.ensures.size c.own_rows-own.ensures.rows here)
+    c.put_rows.ensures.rows
+    (λ k. let s_old = c.args.self.now in row_at_same (record { past = c.put_rows.new.past; raised = s_old.raised; freed = s_old.freed; started = s_old.started; ended = s_old.ended }) s_old refl refl refl refl k)

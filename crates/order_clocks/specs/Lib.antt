@@ -1,0 +1,17 @@
+pub mod Before
+pub mod Chains
+pub mod Clocked
+pub mod Counters
+pub mod CourseOf
+pub mod Courses
+pub mod Groups
+pub mod Happenings
+pub mod Least
+pub mod Pairs
+pub mod Places
+pub mod RaceOrder
+pub mod Races
+pub mod Rows
+pub mod Steps
+pub mod Tells
+pub mod Tracks
