@@ -13,7 +13,7 @@ use Rattle.nc_faults.specs.Texts.{IsAlarmCode, alarm_texts}
 use Rattle.nc_subprograms.specs.declared.Place.{Place}
 use Rattle.nc_subprograms.specs.Stack.{stack_after_call}
 use Rattle.path_geometry.specs.Motions.{IsSound}
-use Rattle.sync_types.specs.Items.{motion_of}
+use Rattle.sync_types.specs.Items.{movement_of}
 use Rattle.sync_types.specs.declared.Item.{Item}
 use Rattle.job_types.specs.Job.{ProgramView}
 use Rattle.channel_machine.specs.declared.levels.Levels.{Levels}
@@ -183,5 +183,5 @@ module _ (s : SurroundingsView) where
   pub end_listed : IsListedAction (segment_of s (channel_at_start s)).step.action
   end_listed = let c = segment_comes in c.listed
 
-  pub items_sound : ((axis : ℕ) → IsPosition (stands_at_start s.grant axis)) → All (λ item. IsSound (motion_of item)) (segment_of s (channel_at_start s)).items
+  pub items_sound : ((axis : ℕ) → IsPosition (stands_at_start s.grant axis)) → All (λ item. IsSound (movement_of item)) (segment_of s (channel_at_start s)).items
   items_sound starts = sound_motions s.grant.axes (stands_at_start s.grant) (segment_of s (channel_at_start s)).items all_follow starts
