@@ -12,7 +12,7 @@ use Rattle.sync_types.specs.Items.{left_at, movement_of}
 use Rattle.sync_types.proofs.Positions.{left_at-nil, end_moved}
 use Rattle.block_motions.specs.Motions.{IsMotionOf}
 use Rattle.channel_machine.proofs.RunLaws.{all_follow, few_items, items_sound, end_listed}
-use Rattle.channel_machine.specs.Run.{IsListedAction}
+use Rattle.channel_machine.specs.Run.{IsListedAction, channel_at_start}
 use Rattle.path_geometry.specs.Motions.{axes_of, IsSound}
 use Rattle.sync_types.specs.declared.Action.{Action}
 use Rattle.sync_types.specs.declared.Action.TheVariants as action
@@ -69,12 +69,12 @@ All-place P items all place item is = subst P (get_or_from_slice_get items place
 -- each motion is one of the channel, from where the motions before it left the axes, the first from where they were granted
 motions_follow : (job : JobView) (line : ChannelLine) → Follow (setting_at job line).grant.axes (granted_position job line) (items_of job line)
 unfolding program_run
-motions_follow job line place item is = (all_follow (setting_at job line)).follows place item is
+motions_follow job line place item is = (all_follow (setting_at job line) (channel_at_start (setting_at job line))).follows place item is
 
 -- they are sound, since the axes start in range
 motions_sound : (job : JobView) (line : ChannelLine) → All (λ l. IsPosition l.at) job.axes → All (λ item. IsSound (movement_of item)) (items_of job line)
 unfolding program_run
-motions_sound job line starts = items_sound (setting_at job line) (granted_in_range job line starts)
+motions_sound job line starts = items_sound (setting_at job line) (channel_at_start (setting_at job line)) (granted_in_range job line starts)
 
 -- ---- the axes of a channel
 
@@ -165,6 +165,6 @@ good_run job runnable line =
     (λ e granted. granted_within job line e.0 granted) (axes_of (movement_of item)) (motions_follow job line place item is).owned) in
     record {
       fit = λ k d inside. record { sound = sound k d inside; within = within k d inside };
-      few = few_items (setting_at job line);
-      known = listed_end _ _ (end_listed (setting_at job line));
+      few = few_items (setting_at job line) (channel_at_start (setting_at job line));
+      known = listed_end _ _ (end_listed (setting_at job line) (channel_at_start (setting_at job line)));
     }
