@@ -14,7 +14,7 @@ use Rattle.nc_expressions.specs.Value.{◌>>=◌}
 use Rattle.nc_blocks.specs.Statement.{WordView, Statement, WordBlock, Shape, Turn}
 use Rattle.path_geometry.specs.declared.motion.Motion.{Motion}
 use Rattle.sync_types.specs.declared.Item.{Item}
-use Rattle.sync_types.specs.Items.{motion_of}
+use Rattle.sync_types.specs.Items.{movement_of}
 use Rattle.block_effects.specs.Words.{SetupView, first_progress, words_done}
 use Rattle.block_effects.specs.Shapes.{plane_of, shaped_by, turned_by}
 use Rattle.block_effects.specs.Effects.{Effect, Turning, SituationView, word_in, in_force, item_on, is_arc, has_stray_words, stands_still, motion_made, moved_or_still, words_moved, words_run, words_effect, group_words, frame_effect, turned_only, control_effect, effect_of}
@@ -23,7 +23,7 @@ use Rattle.block_effects.proofs.EffectSteps.{left}
 module _ (equipment : SetupView) (found : SituationView) (line : ℕ) where
   -- the motion that a block has, if it is done and has one, is one from where the axes stand
   abbrev Moves : Result Effect ℕ → Type 0
-  Moves (Ok effect) = (item : Item) → effect.item ≡ Some item → IsMotionOf equipment.owned found.at (motion_of item)
+  Moves (Ok effect) = (item : Item) → effect.item ≡ Some item → IsMotionOf equipment.owned found.at (movement_of item)
   Moves (Err code) = Unit {0}
 
   moves_bind : {A : Type 0} (r : Result A ℕ) (f : A → Result Effect ℕ) → ((x : A) → r ≡ Ok x → Moves (f x)) → Moves (r >>= f)
@@ -53,15 +53,15 @@ module _ (equipment : SetupView) (found : SituationView) (line : ℕ) where
       by_words false false is = made_from h targets arc motion is
 
   -- the item of a motion has this motion
-  item_moves : (o : Option Motion) (item : Item) → option_map (item_on line) o ≡ Some item → o ≡ Some (motion_of item)
+  item_moves : (o : Option Motion) (item : Item) → option_map (item_on line) o ≡ Some item → o ≡ Some (movement_of item)
   item_moves None item is = absurd cc
-  item_moves (Some motion) item is = let same : item_on line motion ≡ item = cc in ap (λ (i : Item). Some (motion_of i)) same
+  item_moves (Some motion) item is = let same : item_on line motion ≡ item = cc in ap (λ (i : Item). Some (movement_of i)) same
 
   run_moves : (groups : List GWord) (words : List WordView) → Moves (words_run equipment found line groups words)
   run_moves groups words =
       moves_bind (words_done equipment (first_progress found.parameters) words) (λ p. words_moved equipment found groups p.targets p.arc >>= λ motion. Ok (left line found p motion))
       (λ p done. moves_bind (words_moved equipment found groups p.targets p.arc) (λ motion. Ok (left line found p motion))
-      (λ o made item is. moved_from (in_force equipment found groups) groups p.targets p.arc (motion_of item) (made ∙ ap (λ (m : Option Motion). Ok m) (item_moves o item is))))
+      (λ o made item is. moved_from (in_force equipment found groups) groups p.targets p.arc (movement_of item) (made ∙ ap (λ (m : Option Motion). Ok m) (item_moves o item is))))
 
   words_move : (groups : List GWord) (words : List WordView) → Moves (words_effect equipment found line groups words)
   words_move groups words = by_test (has_group_twice groups)
@@ -87,5 +87,5 @@ module _ (equipment : SetupView) (found : SituationView) (line : ℕ) where
 
   -- the motion of a block is one from where the axes stand
   pub effect_is : (opener statement : Statement) (effect : Effect) (item : Item) → effect_of equipment found line opener statement ≡ Ok effect → effect.item ≡ Some item
-      → IsMotionOf equipment.owned found.at (motion_of item)
+      → IsMotionOf equipment.owned found.at (movement_of item)
   effect_is opener statement effect item is has = subst Moves is (effect_moves opener statement) item has

@@ -18,7 +18,7 @@ use Rattle.job_types.specs.Job.{JobView, ProgramView}
 use Rattle.channel_machine.specs.Kept.{StateView, IsSettingIn, Keeps}
 use Rattle.channel_machine.specs.declared.levels.Levels.{Levels}
 use Rattle.channel_machine.specs.Levels.{lines_of, program_blocks, levels_after}
-use Rattle.channel_machine.specs.Run.{SurroundingsView, Channel, setup_of, words_after, chain_after, stands_after, found_after, block_at, opener_at}
+use Rattle.channel_machine.specs.Run.{SurroundingsView, Channel, setup_after, words_after, chain_after, stands_after, found_after, block_at, opener_at}
 use Rattle.job_types.specs.Slots.{offset_of}
 use Rattle.job_types.specs.Axes.{axis_named}
 
@@ -71,7 +71,7 @@ module _ (s : SurroundingsView) (programs : List (List ℕ × ProgramView)) (sam
   opener_there opener is = ap (λ (ps : List (List ℕ × ProgramView)). statement_at (opening here.pc (program_blocks ps here.program)) (program_blocks ps here.program)) same ∙ sym is
 
 module _ (job : JobView) (s : SurroundingsView) (c : Channel) (k : StateView) (set : IsSettingIn job s k) (keeps : Keeps s c k) where
-  equipment_is : setup_of s ≡ equipment_in job k
+  equipment_is : setup_after s c.past ≡ equipment_in job k
   equipment_is = rw (set.programs, set.axes, set.offset, keeps.slots, keeps.axes) refl
 
   found_is : found_after s c.past ≡ found_with (words_after c.past) (chain_after c.past) k.parameters (stands k.at)
@@ -82,10 +82,10 @@ module _ (job : JobView) (s : SurroundingsView) (c : Channel) (k : StateView) (s
   -- what the block does, by what is kept
   pub effect_there : (here : Place) (line : ℕ) (opener statement : Statement) → opener_at s here ≡ opener
       → effect_of (equipment_in job k) (found_with (words_after c.past) (chain_after c.past) k.parameters (stands k.at)) line opener statement
-      ≡ effect_of (setup_of s) (found_after s c.past) line (opener_at s here) statement
+      ≡ effect_of (setup_after s c.past) (found_after s c.past) line (opener_at s here) statement
   effect_there here line opener statement is =
       ap (λ (e : SetupView). effect_of e (found_with (words_after c.past) (chain_after c.past) k.parameters (stands k.at)) line opener statement) (sym equipment_is)
-      ∙ ap (λ (f : SituationView). effect_of (setup_of s) f line opener statement) (sym found_is) ∙ ap (λ (o : Statement). effect_of (setup_of s) (found_after s c.past) line o statement) (sym is)
+      ∙ ap (λ (f : SituationView). effect_of (setup_after s c.past) f line opener statement) (sym found_is) ∙ ap (λ (o : Statement). effect_of (setup_after s c.past) (found_after s c.past) line o statement) (sym is)
 
 -- where a block leads, in the job of the setting
 pub followed_there : (s : SurroundingsView) (skip : Bool) (programs : List (List ℕ × ProgramView)) → s.skip ≡ skip → s.programs ≡ programs

@@ -1,11 +1,10 @@
 -- One block of a segment, told by what is kept.
-use Rattle.std.proofs.Common.{◌≡◌, ◌∙◌, ℕ, zero, suc, ◌+◌, ◌-◌, ℤ, Bool, true, false, List, [], ◌∷◌, ◌++◌, append-nil, length, Option, None, Some, Result, Ok, Err, refl, sym, ap, subst, arith}
+use Rattle.std.proofs.Common.{◌≡◌, ◌∙◌, ℕ, zero, suc, ◌+◌, ◌-◌, ℤ, Bool, true, false, List, [], ◌∷◌, ◌++◌, append-nil, length, option_and_then, unwrap_or, Option, None, Some, Result, Ok, Err, refl, sym, ap, subst, arith}
 use mathlib.Core.Path.{fun_ext}
 use Rattle.std.proofs.lemmas.List.{append_assoc, length-append}
 use Rattle.std.specs.Option.{option_to_list}
 use Rattle.axis_sets.specs.Positions.{stands}
-use Rattle.sync_types.specs.Items.{left_at, StandsAtEnd}
-use Rattle.sync_types.proofs.Positions.{stands_more}
+use Rattle.sync_types.specs.Items.{end_in, StandsAtEnd}
 use Rattle.block_effects.specs.Courses.{IsLeft, Does, course_view}
 use Rattle.block_effects.specs.Effects.{Course, Effect, IsStill, group_words, effect_of}
 use Rattle.block_effects.proofs.StillLaws.{searching_stays}
@@ -19,24 +18,25 @@ use Rattle.g_groups.specs.declared.GWord.{GWord}
 use Rattle.nc_blocks.specs.Statement.{BlockView}
 use Rattle.sync_types.specs.declared.Action.{Action}
 use Rattle.sync_types.specs.declared.Action.TheVariants.{End, Alarm}
+use Rattle.sync_types.specs.declared.Grant.{Grant}
 use Rattle.sync_types.specs.declared.Item.{Item}
 use Rattle.sync_types.specs.declared.Step.{Step}
 use Rattle.channel_machine.specs.declared.levels.Levels.{Levels}
 use Rattle.channel_machine.specs.Levels.{levels_after}
-use Rattle.channel_machine.specs.Run.{SurroundingsView, Executed, Channel, SegmentView, setup_of, items_of, header_of, words_after, found_after, stands_after, line_after, opener_at, block_at, executed_block, step_at, step_after, alarm_segment, with_items_before, channel_at_end, ends_main, segment_after_block, run_after, segment_of}
+use Rattle.channel_machine.specs.Run.{SurroundingsView, Executed, Deed, Did, Channel, SegmentView, blocks_of, channel_after_block, setup_after, grant_after, header_of, words_after, found_after, stands_after, line_after, opener_at, block_at, executed_block, step_at, step_after, alarm_segment, with_items_before, channel_at_end, ends_main, segment_after_block, run_after, segment_of}
 use Rattle.channel_machine.specs.Kept.{StateView, Keeps, GoesOn, Advances, IsFollowing, IsSegment}
-use Rattle.channel_machine.proofs.Pasts.{fold-push, map-push, items_of-push}
+use Rattle.channel_machine.proofs.Pasts.{fold-did, map-did, count-did, grant-did, stands-did}
 use Rattle.channel_machine.proofs.Searching.{alarms_by_search}
 
 -- the segment ends with this step, after these blocks
-abbrev pub ended : List Item → StateView → ℕ → Action → List Executed → SegmentView
+abbrev pub ended : List Item → StateView → ℕ → Action → List Deed → SegmentView
 ended items k line action past = record { items = items; step = step_at k.axes k.on (stands k.at) line action; after = channel_at_end past }
 
 abbrev segment_view : List Item → Step → Channel → SegmentView
 segment_view items step after = record { items = items; step = step; after = after }
 
 -- a segment that ends so, where this is kept of the channel after it
-pub ends_at : (s : SurroundingsView) (segment : SegmentView) (items : List Item) (k later : StateView) (line : ℕ) (action : Action) (past : List Executed) (step : Step)
+pub ends_at : (s : SurroundingsView) (segment : SegmentView) (items : List Item) (k later : StateView) (line : ℕ) (action : Action) (past : List Deed) (step : Step)
     → segment ≡ ended items k line action past → step ≡ step_at k.axes k.on (stands k.at) line action → Keeps s (channel_at_end past) later
     → IsSegment s segment (record { items = items; step = step; after = later })
 ends_at s segment items k later line action past step is at keeps = record {
@@ -44,6 +44,14 @@ ends_at s segment items k later line action past step is at keeps = record {
   step = ap (λ (g : SegmentView). g.step) is ∙ sym at;
   after = subst (λ (g : SegmentView). Keeps s g.after later) (sym is) keeps;
 }
+
+-- the step of what is kept is that of the channel
+pub step_kept : (s : SurroundingsView) (past : List Deed) (k : StateView) → k.axes ≡ (grant_after s past).axes → k.on ≡ (grant_after s past).on
+    → ((axis : ℕ) → stands k.at axis ≡ stands_after s past axis)
+    → (line here : ℕ) (action : Action) → line ≡ here → step_at k.axes k.on (stands k.at) line action ≡ step_after s past here action
+step_kept s past k axes on at line here action is =
+    ap (λ (row : List Bool). step_at row k.on (stands k.at) line action) axes ∙ ap (λ (row : List Bool). step_at (grant_after s past).axes row (stands k.at) line action) on
+    ∙ ap (λ (f : ℕ → ℤ). step_at (grant_after s past).axes (grant_after s past).on f line action) (fun_ext at) ∙ ap (λ (n : ℕ). step_after s past n action) is
 
 -- what was done is the effect of the block
 pub effect_done : (r : Result Effect ℕ) (done : Done) (new : Situation) → Does r done new → (effect : Effect) × (r ≡ Ok effect) × IsLeft effect done new
@@ -55,13 +63,8 @@ abbrev pub in_situation : StateView → Option Levels → Situation → StateVie
 in_situation k levels new = record k { levels = levels; parameters = new.parameters; modal = new.modal; frame = new.frame; at = new.at }
 
 module _ (s : SurroundingsView) (c : Channel) (k : StateView) (keeps : Keeps s c k) (before : List Item) where
-  same_at : stands k.at ≡ stands_after s c.past
-  same_at = fun_ext keeps.at
-
   step_is : (line here : ℕ) (action : Action) → line ≡ here → step_at k.axes k.on (stands k.at) line action ≡ step_after s c.past here action
-  step_is line here action is =
-      ap (λ (axes : List Bool). step_at axes k.on (stands k.at) line action) keeps.axes ∙ ap (λ (on : List Bool). step_at s.grant.axes on (stands k.at) line action) keeps.on
-      ∙ ap (λ (at : ℕ → ℤ). step_at s.grant.axes s.grant.on at line action) same_at ∙ ap (λ (n : ℕ). step_after s c.past n action) is
+  step_is = step_kept s c.past k keeps.axes keeps.on keeps.at
 
   -- where control is nowhere the rest is kept of a channel that is over
   pub over_keeps : (later : StateView) → later ≡ record k { levels = None } → Keeps s (channel_at_end c.past) later
@@ -84,14 +87,14 @@ module _ (s : SurroundingsView) (c : Channel) (k : StateView) (keeps : Keeps s c
       ap (λ (items : List Item). segment_view items (step_after s c.past here (Alarm code)) (channel_at_end c.past)) (append-nil before)
       ∙ ap (λ (t : Step). segment_view before t (channel_at_end c.past)) (sym (step_is line here (Alarm code) is))
 
-  segment_is : (n : ℕ) → 100000 - length c.past ≡ n → segment_of s c ≡ run_after s n c
+  segment_is : (n : ℕ) → 100000 - length (blocks_of c.past) ≡ n → segment_of s c ≡ run_after s n c
   unfolding segment_of
   segment_is n left = ap (λ (m : ℕ). run_after s m c) left
 
   -- control is nowhere
   pub nowhere : k.levels ≡ None → with_items_before before (segment_of s c) ≡ ended before k k.last (Alarm 9) c.past
   unfolding run_after
-  nowhere none = by_left (100000 - length c.past) refl
+  nowhere none = by_left (100000 - length (blocks_of c.past)) refl
     where
       gone : c.levels ≡ None
       gone = sym keeps.levels ∙ none
@@ -100,7 +103,7 @@ module _ (s : SurroundingsView) (c : Channel) (k : StateView) (keeps : Keeps s c
       run_is zero = rw gone refl
       run_is (suc more) = rw gone refl
 
-      by_left : (n : ℕ) → 100000 - length c.past ≡ n → with_items_before before (segment_of s c) ≡ ended before k k.last (Alarm 9) c.past
+      by_left : (n : ℕ) → 100000 - length (blocks_of c.past) ≡ n → with_items_before before (segment_of s c) ≡ ended before k k.last (Alarm 9) c.past
       by_left n left = ap (with_items_before before) (segment_is n left ∙ run_is n) ∙ alarm_is k.last (line_after s c.past) 9 keeps.last
 
   module _ (levels : Levels) (is : k.levels ≡ Some levels) where
@@ -110,13 +113,13 @@ module _ (s : SurroundingsView) (c : Channel) (k : StateView) (keeps : Keeps s c
     -- no block stands there
     pub no_block : block_at s levels.here ≡ None → with_items_before before (segment_of s c) ≡ ended before k k.last (Alarm 9) c.past
     unfolding run_after
-    no_block none = by_left (100000 - length c.past) refl
+    no_block none = by_left (100000 - length (blocks_of c.past)) refl
       where
         run_is : (n : ℕ) → run_after s n c ≡ alarm_segment s c.past (line_after s c.past) 9
         run_is zero = rw (there, none) refl
         run_is (suc more) = rw (there, none) refl
 
-        by_left : (n : ℕ) → 100000 - length c.past ≡ n → with_items_before before (segment_of s c) ≡ ended before k k.last (Alarm 9) c.past
+        by_left : (n : ℕ) → 100000 - length (blocks_of c.past) ≡ n → with_items_before before (segment_of s c) ≡ ended before k k.last (Alarm 9) c.past
         by_left n left = ap (with_items_before before) (segment_is n left ∙ run_is n) ∙ alarm_is k.last (line_after s c.past) 9 keeps.last
 
     module _ (line : ℕ) (block : BlockView) (here : block_at s levels.here ≡ Some (line, block)) where
@@ -124,7 +127,7 @@ module _ (s : SurroundingsView) (c : Channel) (k : StateView) (keeps : Keeps s c
       pub spent : k.count ≡ 100000 → with_items_before before (segment_of s c) ≡ ended before k line (Alarm 8) c.past
       unfolding run_after
       spent full =
-          let none : 100000 - length c.past ≡ 0 = omega (arith, full, keeps.count) in
+          let none : 100000 - length (blocks_of c.past) ≡ 0 = omega (arith, full, keeps.count) in
           ap (with_items_before before) (segment_is 0 none ∙ run_is) ∙ alarm_is line line 8 refl
         where
           run_is : run_after s 0 c ≡ alarm_segment s c.past line 8
@@ -135,17 +138,17 @@ module _ (s : SurroundingsView) (c : Channel) (k : StateView) (keeps : Keeps s c
       goes more = rw (there, here) refl
 
       abbrev effect_here : Result Effect ℕ
-      effect_here = effect_of (setup_of s) (found_after s c.past) line (opener_at s levels.here) block.statement
+      effect_here = effect_of (setup_after s c.past) (found_after s c.past) line (opener_at s levels.here) block.statement
 
       -- the block alarms
       pub stops : (more code : ℕ) → k.count + suc more ≡ 100000 → effect_here ≡ Err code → with_items_before before (segment_of s c) ≡ ended before k line (Alarm code) c.past
       stops more code room e =
-          let left : 100000 - length c.past ≡ suc more = omega (arith, room, keeps.count) in
+          let left : 100000 - length (blocks_of c.past) ≡ suc more = omega (arith, room, keeps.count) in
           ap (with_items_before before) (segment_is (suc more) left ∙ goes more ∙ rw e refl) ∙ alarm_is line line code refl
 
       module _ (more : ℕ) (room : k.count + suc more ≡ 100000) (effect : Effect) (done : effect_here ≡ Ok effect) where
         executed_as : segment_of s c ≡ segment_after_block s c.past levels line (Ok (record { line = line; block = block; effect = effect })) (λ after. run_after s more after)
-        executed_as = let left : 100000 - length c.past ≡ suc more = omega (arith, room, keeps.count) in segment_is (suc more) left ∙ goes more ∙ rw done refl
+        executed_as = let left : 100000 - length (blocks_of c.past) ≡ suc more = omega (arith, room, keeps.count) in segment_is (suc more) left ∙ goes more ∙ rw done refl
 
         -- where it leads alarms
         leads_not : (code : ℕ) → ends_main levels effect.course ≡ false → levels_after s.skip s.programs levels effect.course ≡ Err code
@@ -155,37 +158,41 @@ module _ (s : SurroundingsView) (c : Channel) (k : StateView) (keeps : Keeps s c
         abbrev this : Executed
         this = record { line = line; block = block; effect = effect }
 
-        abbrev past_more : List Executed
-        past_more = c.past ++ this ∷ []
-
-        items_more : items_of past_more ≡ items_of c.past ++ option_to_list effect.item
-        items_more = items_of-push c.past this
+        abbrev past_more : List Deed
+        past_more = c.past ++ Did this ∷ []
 
         module _ (mid : StateView) (gone : mid.levels ≡ None) (counted : mid.count ≡ k.count) (last : mid.last ≡ k.last) (slots : mid.slots ≡ k.slots) (axes : mid.axes ≡ k.axes) (on : mid.on ≡ k.on)
             (stand : StandsAtEnd effect.item k.at mid.at) where
           at_more : (axis : ℕ) → stands mid.at axis ≡ stands_after s past_more axis
           at_more axis =
-              stands_more (items_of c.past) effect.item s.grant.at k.at mid.at keeps.at stand axis
-              ∙ ap (λ (items : List Item). left_at items (stands s.grant.at) axis) (sym items_more)
+              stand axis ∙ ap (λ (z : ℤ). unwrap_or (option_and_then (λ item. end_in axis item) effect.item) z) (keeps.at axis)
+              ∙ sym (stands-did s c.past this axis)
+
+          axes_more : mid.axes ≡ (grant_after s past_more).axes
+          axes_more = axes ∙ keeps.axes ∙ ap (λ (g : Grant). g.axes) (sym (grant-did s c.past this))
+
+          on_more : mid.on ≡ (grant_after s past_more).on
+          on_more = on ∙ keeps.on ∙ ap (λ (g : Grant). g.on) (sym (grant-did s c.past this))
+
+          step_more : (action : Action) → step_at mid.axes mid.on (stands mid.at) line action ≡ step_after s past_more line action
+          step_more action = step_kept s past_more mid axes_more on_more at_more line line action refl
 
           -- the main program ends
           finishes : ends_main levels effect.course ≡ true → with_items_before before (segment_of s c) ≡ ended (before ++ option_to_list effect.item) mid line End past_more
           finishes ends =
               ap (with_items_before before) (executed_as ∙ rw ends refl)
               ∙ ap (λ (t : Step). segment_view (before ++ option_to_list effect.item) t (channel_at_end past_more))
-              (sym (ap (λ (axes : List Bool). step_at axes mid.on (stands mid.at) line End) (axes ∙ keeps.axes)
-              ∙ ap (λ (on : List Bool). step_at s.grant.axes on (stands mid.at) line End) (on ∙ keeps.on)
-              ∙ ap (λ (f : ℕ → ℤ). step_at s.grant.axes s.grant.on f line End) (fun_ext at_more)))
+              (sym (step_more End))
 
           abbrev after : Option Levels → Channel
           after next = record { past = past_more; levels = next }
 
-          longer : length past_more ≡ length c.past + 1
-          longer = length-append c.past (this ∷ [])
+          longer : length (blocks_of past_more) ≡ length (blocks_of c.past) + 1
+          longer = count-did c.past this
 
           there_after : (next : Option Levels) → segment_of s (after next) ≡ run_after s more (after next)
           unfolding segment_of
-          there_after next = let left : 100000 - length past_more ≡ more = omega (arith, room, keeps.count, longer) in ap (λ (m : ℕ). run_after s m (after next)) left
+          there_after next = let left : 100000 - length (blocks_of past_more) ≡ more = omega (arith, room, keeps.count, longer) in ap (λ (m : ℕ). run_after s m (after next)) left
 
           both : (segment : SegmentView) → with_items_before before (with_items_before (option_to_list effect.item) segment) ≡ with_items_before (before ++ option_to_list effect.item) segment
           both segment = ap (λ (items : List Item). segment_view items segment.step segment.after) (sym (append_assoc before (option_to_list effect.item) segment.items))
@@ -198,14 +205,14 @@ module _ (s : SurroundingsView) (c : Channel) (k : StateView) (keeps : Keeps s c
             keeps_after next = record {
               levels = refl;
               count = ap (λ (n : ℕ). n + 1) (counted ∙ keeps.count) ∙ sym longer;
-              last = sym (fold-push (λ (_ : ℕ) (e : Executed). e.line) (header_of s) c.past this);
-              parameters = sym parameters ∙ sym (fold-push (λ (_ : List ℤ) (e : Executed). e.effect.parameters) zeros c.past this);
-              modal = subst (λ (words : List (List GWord)). IsAfter words mid.modal) (sym (map-push (λ (e : Executed). group_words e.block.statement) c.past this)) modal;
-              frame = subst (λ (chain : List Map). IsComposed chain mid.frame) (sym (fold-push (λ (_ : List Map) (e : Executed). e.effect.chain) [] c.past this)) frame;
+              last = sym (fold-did (λ (_ : ℕ) (e : Executed). e.line) (header_of s) c.past this);
+              parameters = sym parameters ∙ sym (fold-did (λ (_ : List ℤ) (e : Executed). e.effect.parameters) zeros c.past this);
+              modal = subst (λ (words : List (List GWord)). IsAfter words mid.modal) (sym (map-did (λ (e : Executed). group_words e.block.statement) c.past this)) modal;
+              frame = subst (λ (chain : List Map). IsComposed chain mid.frame) (sym (fold-did (λ (_ : List Map) (e : Executed). e.effect.chain) [] c.past this)) frame;
               at = at_more;
               slots = slots ∙ keeps.slots;
-              axes = axes ∙ keeps.axes;
-              on = on ∙ keeps.on;
+              axes = axes_more;
+              on = on_more;
             }
 
             -- the channel is over after the block
@@ -217,7 +224,7 @@ module _ (s : SurroundingsView) (c : Channel) (k : StateView) (keeps : Keeps s c
             module _ (code : ℕ) (alarms : levels_after s.skip s.programs levels effect.course ≡ Err code) where
               still : IsStill (found_after s c.past) effect
               still =
-                  searching_stays (setup_of s) (found_after s c.past) line (opener_at s levels.here) block.statement effect done (alarms_by_search s.skip s.programs levels effect.course code alarms)
+                  searching_stays (setup_after s c.past) (found_after s c.past) line (opener_at s levels.here) block.statement effect done (alarms_by_search s.skip s.programs levels effect.course code alarms)
 
               same_stand : (axis : ℕ) → stands mid.at axis ≡ stands k.at axis
               same_stand = subst (λ (o : Option Item). StandsAtEnd o k.at mid.at) still.item stand

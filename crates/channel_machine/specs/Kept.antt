@@ -1,7 +1,7 @@
 -- Steps. What is kept of a channel between two blocks.
-use Rattle.std.specs.Prelude.{◌≡◌, ℕ, ◌+◌, ℤ, Bool, true, false, List, ◌++◌, length, slice_get, Option, Some, None, Result, Ok, Err}
+use Rattle.std.specs.Prelude.{◌≡◌, ℕ, ◌+◌, ℤ, Bool, true, false, List, ◌++◌, length, slice_get, Option, Some, None, unwrap_or, Result, Ok, Err}
 use Rattle.std.specs.Option.{option_to_list}
-use Rattle.axis_sets.specs.Positions.{stands}
+use Rattle.axis_sets.specs.Positions.{position_of, stands}
 use Rattle.frames.specs.Composition.{IsComposed}
 use Rattle.frames.specs.declared.Frame.{Frame}
 use Rattle.g_groups.specs.Modal.{IsAfter}
@@ -12,16 +12,17 @@ use Rattle.nc_control_flow.specs.Structures.{opening}
 use Rattle.nc_subprograms.specs.declared.Place.{Place}
 use Rattle.sync_types.specs.declared.Action.{Action}
 use Rattle.sync_types.specs.declared.Action.TheVariants.{End, Alarm}
+use Rattle.sync_types.specs.declared.Grant.{Grant}
 use Rattle.sync_types.specs.declared.Item.{Item}
 use Rattle.sync_types.specs.declared.Step.{Step}
 use Rattle.channel_machine.specs.declared.levels.Levels.{Levels}
 use Rattle.channel_machine.specs.declared.local.State.{State}
 use Rattle.job_types.specs.Job.{JobView, ProgramView}
 use Rattle.channel_machine.specs.Levels.{lines_of, program_blocks}
-use Rattle.channel_machine.specs.Run.{SurroundingsView, Channel, SegmentView, parameters_after, chain_after, words_after, stands_after, line_after, with_items_before, segment_of, step_at}
+use Rattle.channel_machine.specs.Run.{SurroundingsView, Channel, SegmentView, parameters_after, chain_after, words_after, stands_after, line_after, blocks_of, grant_after, with_items_before, segment_of, step_at}
 use Rattle.job_types.specs.Slots.{offset_of}
 
--- where control is; how many blocks were executed, and the line of the last, or of the header; the parameters, the words of groups and the frame that hold; where the axes stand; and what does not change: the channel, the axes in its slots, the axes that it owns, and the zones that are on
+-- where control is; how many blocks were executed, and the line of the last, or of the header; the parameters, the words of groups and the frame that hold; where the axes stand; the channel and the axes in its slots, which do not change; and the axes that it owns, and the zones that are on
 pub record StateView : Type 0 where
   pub levels : Option Levels
   pub count : ℕ
@@ -45,15 +46,15 @@ pub record IsSettingIn (job : JobView) (setting : SurroundingsView) (kept : Stat
 -- this is kept of a channel
 pub record Keeps (setting : SurroundingsView) (channel : Channel) (kept : StateView) : Type 0 where
   pub levels : kept.levels ≡ channel.levels
-  pub count : kept.count ≡ length channel.past
+  pub count : kept.count ≡ length (blocks_of channel.past)
   pub last : kept.last ≡ line_after setting channel.past
   pub parameters : kept.parameters ≡ parameters_after channel.past
   pub modal : IsAfter (words_after channel.past) kept.modal
   pub frame : IsComposed (chain_after channel.past) kept.frame
   pub at : (axis : ℕ) → stands kept.at axis ≡ stands_after setting channel.past axis
   pub slots : kept.slots ≡ setting.slots
-  pub axes : kept.axes ≡ setting.grant.axes
-  pub on : kept.on ≡ setting.grant.on
+  pub axes : kept.axes ≡ (grant_after setting channel.past).axes
+  pub on : kept.on ≡ (grant_after setting channel.past).on
 
 -- a block on, with these items more, the channel goes on as this is kept of it
 pub record GoesOn (setting : SurroundingsView) (channel : Channel) (before after : List Item) (kept : StateView) : Type 0 where
@@ -119,3 +120,8 @@ abbrev pub IsFollowing : StateView → List ℕ → List Item → Option Item �
 IsFollowing old modal items item line true led halt after new =
     Stops old line End halt × (after ≡ items ++ option_to_list item) × (new ≡ record old { count = old.count + 1; last = line })
 IsFollowing old modal items item line false led halt after new = IsLed old modal items item line led halt after new
+
+-- what is kept after a grant: the channel owns those axes and has those zones on, and an axis of its positions stands there
+pub record IsAfterGrant (old : StateView) (grant : Grant) (new : StateView) : Type 0 where
+  pub same : new ≡ record old { axes = grant.axes; on = grant.on; at = new.at }
+  pub at : (axis : ℕ) → stands new.at axis ≡ unwrap_or (position_of grant.at axis) (stands old.at axis)

@@ -1,10 +1,10 @@
--- Meaning. A segment of a channel's run, told over the list of the blocks that the channel has executed.
-use Rattle.std.specs.Prelude.{⊤, ℕ, zero, suc, ◌-◌, ◌==◌, ℤ, Bool, false, if◌then◌else◌, List, [], ◌∷◌, ◌++◌, length, map, fold, filter_map, slice_get, Option, None, Some, option_and_then, Result, Ok, Err}
+-- Meaning. A segment of a channel's run, told over the list of what the channel has done: the blocks that it has executed, and the grants that it got.
+use Rattle.std.specs.Prelude.{⊤, ℕ, zero, suc, ◌-◌, ◌==◌, ℤ, Bool, false, if◌then◌else◌, List, [], ◌∷◌, ◌++◌, length, map, fold, filter_map, slice_get, Option, None, Some, option_and_then, unwrap_or, Result, Ok, Err}
 use Rattle.std.specs.List.{range_with_len}
 use Rattle.std.specs.Option.{option_map_or, option_to_list}
 use Rattle.axis_sets.specs.Sets.{has}
-use Rattle.axis_sets.specs.Positions.{stands}
-use Rattle.sync_types.specs.Items.{left_at}
+use Rattle.axis_sets.specs.Positions.{position_of, stands}
+use Rattle.sync_types.specs.Items.{end_in}
 use Rattle.block_effects.specs.Effects.{Course, Goes, Ends, Calls, Effect, SituationView, group_words, effect_of}
 use Rattle.block_effects.specs.Words.{SetupView, zeros}
 use Rattle.frames.specs.Maps.{Map}
@@ -56,17 +56,7 @@ surroundings_of job channel grant = record {
 abbrev pub names : SurroundingsView → List (List ℕ)
 names setting = map (λ p. p.0) setting.programs
 
--- what the blocks of the channel find in the job and in the channel
-abbrev pub setup_of : SurroundingsView → SetupView
-setup_of setting = record {
-  names = names setting;
-  axis_named = axis_named setting.axes;
-  offset = setting.offset;
-  slots = setting.slots;
-  owned = setting.grant.axes;
-}
-
--- ---- executed blocks
+-- ---- what a channel has done
 
 -- a block that was executed, with its line and what it left
 pub record Executed : Type 0 where
@@ -74,40 +64,64 @@ pub record Executed : Type 0 where
   pub block : BlockView
   pub effect : Effect
 
--- a channel between two blocks: the blocks that it has executed, and where control is, or nowhere past the end of the main program
+-- a channel executed a block, or got a grant
+pub data Deed : Type 0 where
+  Did : Executed → Deed
+  Got : Grant → Deed
+
+-- a channel between two blocks: what it has done since its start, and where control is, or nowhere past the end of the main program
 pub record Channel : Type 0 where
-  pub past : List Executed
+  pub past : List Deed
   pub levels : Option Levels
 
--- what the executed blocks leave: the parameters of the last, or the zeros of the start; and their motions in order
-abbrev pub parameters_after : List Executed → List ℤ
-parameters_after past = fold (λ _ e. e.effect.parameters) zeros past
+abbrev pub block_in : Deed → Option Executed
+block_in (Did done) = Some done
+block_in (Got grant) = None
+
+-- the executed blocks
+abbrev pub blocks_of : List Deed → List Executed
+blocks_of past = filter_map block_in past
+
+-- the parameters that the last block leaves, or the zeros of the start
+abbrev pub parameters_after : List Deed → List ℤ
+parameters_after past = fold (λ _ e. e.effect.parameters) zeros (blocks_of past)
 
 -- the frame that the last leaves, or the empty chain of the start; and the words of groups of each
-abbrev pub chain_after : List Executed → List Map
-chain_after past = fold (λ _ e. e.effect.chain) [] past
+abbrev pub chain_after : List Deed → List Map
+chain_after past = fold (λ _ e. e.effect.chain) [] (blocks_of past)
 
-abbrev pub words_after : List Executed → List (List GWord)
-words_after past = map (λ e. group_words e.block.statement) past
+abbrev pub words_after : List Deed → List (List GWord)
+words_after past = map (λ e. group_words e.block.statement) (blocks_of past)
 
-abbrev pub items_of : List Executed → List Item
-items_of past = filter_map (λ e. e.effect.item) past
+-- a grant takes the place of the one before it
+abbrev pub grant_by : Grant → Deed → Grant
+grant_by before (Did done) = before
+grant_by before (Got grant) = grant
+
+-- the last grant, or that of the start
+abbrev pub grant_after : SurroundingsView → List Deed → Grant
+grant_after setting past = fold grant_by setting.grant past
 
 -- where the axes stand at the start: one without a granted position at 0
 abbrev pub stands_at_start : Grant → ℕ → ℤ
 stands_at_start grant = stands grant.at
 
--- where the motions of the executed blocks leave the axes
-abbrev pub stands_after : SurroundingsView → List Executed → ℕ → ℤ
-stands_after setting past = left_at (items_of past) (stands_at_start setting.grant)
+-- where a deed puts an axis: at the end of its motion, or where the grant has it; none where it has not this axis
+abbrev pub position_by : ℕ → Deed → Option ℤ
+position_by axis (Did done) = option_and_then (end_in axis) done.effect.item
+position_by axis (Got grant) = position_of grant.at axis
+
+-- where an axis stands: where the last deed puts it that has this axis, or where it stood at the start
+abbrev pub stands_after : SurroundingsView → List Deed → ℕ → ℤ
+stands_after setting past axis = fold (λ at deed. unwrap_or (position_by axis deed) at) (stands_at_start setting.grant axis) past
 
 -- the line of the main program's header; 0 where the grant names no program of the job
 abbrev pub header_of : SurroundingsView → ℕ
 header_of setting = option_map_or (λ p. p.1.line) (option_and_then (slice_get setting.programs) setting.grant.program) 0
 
 -- the line of the last executed block, or of the header
-abbrev pub line_after : SurroundingsView → List Executed → ℕ
-line_after setting past = fold (λ _ e. e.line) (header_of setting) past
+abbrev pub line_after : SurroundingsView → List Deed → ℕ
+line_after setting past = fold (λ _ e. e.line) (header_of setting) (blocks_of past)
 
 -- ---- one block
 
@@ -119,8 +133,17 @@ block_at setting place = slice_get (lines_of setting.programs place.program) pla
 abbrev pub opener_at : SurroundingsView → Place → Statement
 opener_at setting place = statement_at (opening place.pc (program_blocks setting.programs place.program)) (program_blocks setting.programs place.program)
 
--- what a block finds after these blocks
-abbrev pub found_after : SurroundingsView → List Executed → SituationView
+-- what a block finds in the job, and in the channel after these deeds
+abbrev pub setup_after : SurroundingsView → List Deed → SetupView
+setup_after setting past = record {
+  names = names setting;
+  axis_named = axis_named setting.axes;
+  offset = setting.offset;
+  slots = setting.slots;
+  owned = (grant_after setting past).axes;
+}
+
+abbrev pub found_after : SurroundingsView → List Deed → SituationView
 found_after setting past = record {
   parameters = parameters_after past;
   words = words_after past;
@@ -128,10 +151,10 @@ found_after setting past = record {
   at = stands_after setting past;
 }
 
--- a block with its line, executed after these blocks
-abbrev pub executed_block : SurroundingsView → List Executed → Place → ℕ × BlockView → Result Executed ℕ
+-- a block with its line, executed after these deeds
+abbrev pub executed_block : SurroundingsView → List Deed → Place → ℕ × BlockView → Result Executed ℕ
 executed_block setting past place (line, block) =
-    effect_of (setup_of setting) (found_after setting past) line (opener_at setting place) block.statement >>= λ effect.
+    effect_of (setup_after setting past) (found_after setting past) line (opener_at setting place) block.statement >>= λ effect.
     Ok (record { line = line; block = block; effect = effect })
 
 -- ---- the segment
@@ -142,8 +165,8 @@ pub record SegmentView : Type 0 where
   pub step : Step
   pub after : Channel
 
--- a channel that has executed these blocks and goes on no more: control is nowhere
-abbrev pub channel_at_end : List Executed → Channel
+-- a channel that has done this and goes on no more: control is nowhere
+abbrev pub channel_at_end : List Deed → Channel
 channel_at_end past = record { past = past; levels = None }
 
 -- where the axes of a set stand
@@ -154,12 +177,12 @@ owned_at axes at = map (λ axis. if has axes axis then Some (at axis) else None)
 abbrev pub step_at : List Bool → List Bool → (ℕ → ℤ) → ℕ → Action → Step
 step_at axes on at line action = record { line = line; action = action; at = owned_at axes at; on = on }
 
--- a step after these blocks
-abbrev pub step_after : SurroundingsView → List Executed → ℕ → Action → Step
-step_after setting past line action = step_at setting.grant.axes setting.grant.on (stands_after setting past) line action
+-- a step after these deeds
+abbrev pub step_after : SurroundingsView → List Deed → ℕ → Action → Step
+step_after setting past line action = step_at (grant_after setting past).axes (grant_after setting past).on (stands_after setting past) line action
 
 -- the segment ends with an alarm, and with it the channel; nothing of the block on this line stands
-abbrev pub alarm_segment : SurroundingsView → List Executed → ℕ → ℕ → SegmentView
+abbrev pub alarm_segment : SurroundingsView → List Deed → ℕ → ℕ → SegmentView
 alarm_segment setting past line code = record { items = []; step = step_after setting past line (Alarm code); after = channel_at_end past }
 
 -- a segment with a block in front of it
@@ -173,29 +196,33 @@ ends_main levels (Goes outcome) = false
 ends_main levels (Calls number passes) = false
 
 -- where no block comes: an alarm at the line of the last executed block, or of the header
-abbrev pub with_block : SurroundingsView → List Executed → Option (ℕ × BlockView) → (ℕ × BlockView → SegmentView) → SegmentView
+abbrev pub with_block : SurroundingsView → List Deed → Option (ℕ × BlockView) → (ℕ × BlockView → SegmentView) → SegmentView
 with_block setting past None go = alarm_segment setting past (line_after setting past) NO_PROGRAM_END
 with_block setting past (Some block) go = go block
 
-abbrev pub with_levels : SurroundingsView → List Executed → Option Levels → (Levels → ℕ × BlockView → SegmentView) → SegmentView
+abbrev pub with_levels : SurroundingsView → List Deed → Option Levels → (Levels → ℕ × BlockView → SegmentView) → SegmentView
 with_levels setting past None go = alarm_segment setting past (line_after setting past) NO_PROGRAM_END
 with_levels setting past (Some levels) go = with_block setting past (block_at setting levels.here) (go levels)
 
+-- the channel has executed a block more
+abbrev pub channel_after_block : List Deed → Executed → Option Levels → Channel
+channel_after_block past done levels = record { past = past ++ Did done ∷ []; levels = levels }
+
 -- after an executed block: where control goes on, or an alarm of that
-abbrev pub segment_after_course : SurroundingsView → List Executed → Executed → Result (Option Levels) ℕ → (Channel → SegmentView) → SegmentView
+abbrev pub segment_after_course : SurroundingsView → List Deed → Executed → Result (Option Levels) ℕ → (Channel → SegmentView) → SegmentView
 segment_after_course setting past done (Err code) go = alarm_segment setting past done.line code
-segment_after_course setting past done (Ok levels) go = with_items_before (option_to_list done.effect.item) (go (record { past = past ++ done ∷ []; levels = levels }))
+segment_after_course setting past done (Ok levels) go = with_items_before (option_to_list done.effect.item) (go (channel_after_block past done levels))
 
 -- the end of the main program ends the segment, and the channel
-abbrev pub end_segment : SurroundingsView → List Executed → Executed → SegmentView
+abbrev pub end_segment : SurroundingsView → List Deed → Executed → SegmentView
 end_segment setting past done = record {
   items = option_to_list done.effect.item;
-  step = step_after setting (past ++ done ∷ []) done.line End;
-  after = channel_at_end (past ++ done ∷ []);
+  step = step_after setting (past ++ Did done ∷ []) done.line End;
+  after = channel_after_block past done None;
 }
 
 -- after a block: its alarm, the end of the main program, or where control goes on
-abbrev pub segment_after_block : SurroundingsView → List Executed → Levels → ℕ → Result Executed ℕ → (Channel → SegmentView) → SegmentView
+abbrev pub segment_after_block : SurroundingsView → List Deed → Levels → ℕ → Result Executed ℕ → (Channel → SegmentView) → SegmentView
 segment_after_block setting past levels line (Err code) go = alarm_segment setting past line code
 segment_after_block setting past levels line (Ok done) go =
     if ends_main levels done.effect.course then end_segment setting past done
@@ -210,7 +237,7 @@ run_after setting (suc more) channel =
 
 -- the segment of a channel; in all it executes no more blocks than it may
 unfoldable pub segment_of : SurroundingsView → Channel → SegmentView
-segment_of setting channel = run_after setting (BLOCK_LIMIT - length channel.past) channel
+segment_of setting channel = run_after setting (BLOCK_LIMIT - length (blocks_of channel.past)) channel
 
 -- a main program at its first block that counts
 abbrev pub first_levels : Bool → List (List ℕ × ProgramView) → ℕ → Option Levels
@@ -219,6 +246,10 @@ first_levels skip programs number = levels_from skip programs (first_place skip 
 -- a channel at its start
 abbrev pub channel_at_start : SurroundingsView → Channel
 channel_at_start setting = record { past = []; levels = option_and_then (first_levels setting.skip setting.programs) setting.grant.program }
+
+-- a channel goes on with a grant
+abbrev pub channel_after_grant : Channel → Grant → Channel
+channel_after_grant channel grant = record channel { past = channel.past ++ Got grant ∷ [] }
 
 -- the step is the program end, or an alarm of the table of alarms
 abbrev pub IsListedAction : Action → Type 0

@@ -10,7 +10,10 @@ mod run;
 mod surroundings;
 mod threads;
 
-pub use laws::{alarms_are_listed, motions_are_few, motions_are_sound, motions_follow_one_another};
+pub use laws::{
+    alarms_are_listed, motions_are_few, motions_are_sound, motions_follow_one_another,
+    segments_join,
+};
 pub use limits::BLOCK_LIMIT;
 pub use local::Local;
-pub use run::{Segment, run_segment};
+pub use run::{Segment, run_on, run_segment};

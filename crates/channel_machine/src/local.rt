@@ -1,13 +1,14 @@
 //! A channel between two blocks.
 
-ghost use Rattle.std.specs.Prelude.{◌≡◌, option_and_then, slice_get, IfOk, IfSome};
+ghost use Rattle.std.specs.Prelude.{◌≡◌, ℕ, option_and_then, slice_get, unwrap_or, IfOk, IfSome};
+ghost use Rattle.axis_sets.specs.Positions.{position_of, stands};
 ghost use Rattle.std.specs.Option.{option_map_or};
-ghost use Rattle.channel_machine.specs.Kept.{IsSettingIn, Keeps, state_view};
+ghost use Rattle.channel_machine.specs.Kept.{IsAfterGrant, IsSettingIn, Keeps, state_view};
 ghost use Rattle.channel_machine.specs.Levels.{LevelsFit};
 ghost use Rattle.channel_machine.specs.Run as model;
 
 use crate::levels::{Levels, begin};
-use axis_sets::{AxisId, ChannelId, ZoneSet};
+use axis_sets::{AXIS_LIMIT, AxisId, ChannelId, Positions, ZoneSet};
 use block_effects::{ChannelAxes, Parameters, Situation};
 use frames::Frame;
 use g_groups::Modal;
@@ -129,7 +130,42 @@ fn own_axes(job: &Job, channel: ChannelId, grant: &Grant) -> ChannelAxes
     }
 }
 
+/// Puts the axes of a grant where it has them.
+fn put(at: &mut Positions, granted: &Positions)
+    ensures { (axis : ℕ) → stands at.new axis ≡ unwrap_or (position_of granted.now axis) (stands at.old axis) }
+{
+    let _first = granted.get(AxisId { index: 0 });
+    for index in 0..AXIS_LIMIT as u8 {
+        let axis = AxisId { index };
+        if let Some(position) = granted.get(axis) {
+            at.set(axis, position);
+        }
+    }
+}
+
+impl State {
+    /// Goes on with a grant.
+    pub(crate) fn resume(&mut self, grant: &Grant)
+        ensures { IsAfterGrant (state_view self.old) grant.now (state_view self.new) }
+    {
+        self.own.owned = grant.axes;
+        self.on = grant.on;
+        put(&mut self.situation.at, &grant.at);
+    }
+}
+
 impl Local {
+    /// Goes on with a grant after the step that ended its last segment: it owns the axes of the grant, those with a
+    /// position stand there, and its zones are on. All else lasts over the segments, the count of blocks too.
+    pub fn resume(&mut self, grant: &Grant)
+        ensures kept { (s : model.SurroundingsView) (c : model.Channel) → Keeps s c self.old → Keeps s (model.channel_after_grant c grant.now) self.new }
+        ensures channel { self.new.channel ≡ self.old.channel }
+        ensures levels { self.new.levels ≡ self.old.levels }
+        ensures count { self.new.count ≡ self.old.count }
+    {
+        self.state.resume(grant);
+    }
+
     /// A channel at its start: its program at the first block, all parameters 0, the words of groups
     /// that hold at the start, no frame, and its axes where the grant puts them.
     pub fn start(

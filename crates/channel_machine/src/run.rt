@@ -11,7 +11,7 @@ ghost use Rattle.job_types.specs.SoundJob.{BlocksFit};
 ghost use Rattle.channel_machine.specs.Kept.{Advances, IsFollowing, IsSegment, IsSettingIn, IsThere, Keeps, state_view};
 ghost use Rattle.channel_machine.specs.Levels.{LevelsFit, levels_after, lines_of};
 ghost use Rattle.channel_machine.specs.Run as model;
-ghost use Rattle.channel_machine.specs.Run.{SurroundingsView, Channel, segment_of};
+ghost use Rattle.channel_machine.specs.Run.{SurroundingsView, Channel, channel_after_grant, segment_of};
 
 use crate::levels::{Levels, flow_of, follow_on};
 use crate::limits::BLOCK_LIMIT;
@@ -29,7 +29,7 @@ use nc_faults::alarms::{NO_PROGRAM_END, TOO_MANY_BLOCKS};
 use nc_subprograms::Place;
 use std::alloc::{AllocError, Global};
 use std::marker::Model;
-use sync_types::{Action, Item, Step};
+use sync_types::{Action, Grant, Item, Step};
 
 /// What a channel does up to the next step. A contract sees the items as a list, and of the channel what it keeps.
 #[derive(Drop)]
@@ -284,7 +284,41 @@ pub fn run_segment(alloc: Global, job: &Job, local: &Local) -> Result<Segment, N
     ensures few { IfOk result (λ g. g.after.count ≤ BLOCK_LIMIT) }
     ensures channel { IfOk result (λ g. g.after.channel ≡ local.now.channel) }
 {
-    let mut state = local.state.copied()?;
+    run_state(alloc, job, local.state.copied()?)
+}
+
+/// The segment of a channel that goes on with a grant. The channel is given away, so nothing of it is copied.
+///
+/// The alarms are those of `run_segment`.
+pub fn run_on(alloc: Global, job: &Job, local: Local, grant: &Grant) -> Result<Segment, NoMemory>
+    requires blocks { BlocksFit job.now }
+    requires programs { length job.now.programs ≤ 65536 }
+    requires fit { IfSome local.levels (LevelsFit job.now.skip job.now.programs) }
+    requires few { local.count ≤ BLOCK_LIMIT }
+    ensures told { IfOk result (λ g. (s : SurroundingsView) (c : Channel) → IsSettingIn job.now s local → Keeps s c local
+        → IsSegment s (segment_of s (channel_after_grant c grant.now)) g) }
+    ensures fit { IfOk result (λ g. IfSome g.after.levels (LevelsFit job.now.skip job.now.programs)) }
+    ensures few { IfOk result (λ g. g.after.count ≤ BLOCK_LIMIT) }
+    ensures channel { IfOk result (λ g. g.after.channel ≡ local.channel) }
+{
+    let mut local = local;
+    local.resume(grant);
+    run_state(alloc, job, local.state)
+}
+
+/// The segment of a channel whose state is given away: nothing of it is copied.
+fn run_state(alloc: Global, job: &Job, start: State) -> Result<Segment, NoMemory>
+    requires blocks { BlocksFit job.now }
+    requires programs { length job.now.programs ≤ 65536 }
+    requires fit { IfSome start.levels (LevelsFit job.now.skip job.now.programs) }
+    requires few { start.count ≤ BLOCK_LIMIT }
+    ensures told { IfOk result (λ g. (s : SurroundingsView) (c : Channel) → IsSettingIn job.now s (state_view start) → Keeps s c (state_view start)
+        → IsSegment s (segment_of s c) g) }
+    ensures fit { IfOk result (λ g. IfSome g.after.levels (LevelsFit job.now.skip job.now.programs)) }
+    ensures few { IfOk result (λ g. g.after.count ≤ BLOCK_LIMIT) }
+    ensures channel { IfOk result (λ g. g.after.channel ≡ start.channel) }
+{
+    let mut state = start;
     let mut items = Vec::new(alloc);
     loop {
         match advance(alloc, job, &mut state, &mut items)? {

@@ -117,7 +117,8 @@ fn said(
     };
     let mut text = String::new(alloc);
     if let Some(item) = &done.item {
-        for (axis, start, end) in item.motion().ends().axes.as_slice() {
+        let motion = item.motion().ok_or("no motion")?;
+        for (axis, start, end) in motion.ends().axes.as_slice() {
             let axis = axis.index;
             let start = start.micrometres;
             let end = end.micrometres;

@@ -11,7 +11,7 @@ use Rattle.path_geometry.specs.Motions.{axes_of}
 use Rattle.job_verdict.specs.ZoneBoxes.{zone_box, low_in, high_in, stand_after, moves_zone, walk, boxes_of, Waiting, Moving, PlaceBox, moving_box, standing_box, shown_box, boxes_during, moving_boxes}
 use Rattle.sync_types.specs.declared.Item.{Item}
 use Rattle.job_verdict.proofs.Positions.{le_or_lt}
-use Rattle.sync_types.specs.Items.{motion_of}
+use Rattle.sync_types.specs.Items.{movement_of}
 use Rattle.axis_sets.specs.declared.limits.TheConstants.{AXIS_LIMIT}
 
 -- with no ranges every axis stands
@@ -32,11 +32,11 @@ find_beyond (e ∷ ends) axis n within beyond = elim (eqb_tells e.0 axis) [
 ]
 
 -- where every axis of the row is put where a motion leaves it, so is every axis
-pub all_after : (item : Item) (old new : List ℤ) → All (λ e. e.0 < AXIS_LIMIT) (axes_of (motion_of item)) → length old ≡ AXIS_LIMIT → length new ≡ AXIS_LIMIT
+pub all_after : (item : Item) (old new : List ℤ) → All (λ e. e.0 < AXIS_LIMIT) (axes_of (movement_of item)) → length old ≡ AXIS_LIMIT → length new ≡ AXIS_LIMIT
     → ((k : ℕ) → k < AXIS_LIMIT → positions_in new k ≡ stand_after item (positions_in old) k) → (k : ℕ) → positions_in new k ≡ stand_after item (positions_in old) k
 unfolding stand_after
 all_after item old new within few many put k = elim (le_or_lt AXIS_LIMIT k) [
-  | inl beyond ↦ rw (find_beyond (axes_of (motion_of item)) k AXIS_LIMIT within beyond) (get_or-eq_default new (pos 0) (omega arith) ∙ sym (get_or-eq_default old (pos 0) (omega arith)))
+  | inl beyond ↦ rw (find_beyond (axes_of (movement_of item)) k AXIS_LIMIT within beyond) (get_or-eq_default new (pos 0) (omega arith) ∙ sym (get_or-eq_default old (pos 0) (omega arith)))
   | inr here ↦ put k here
 ]
 

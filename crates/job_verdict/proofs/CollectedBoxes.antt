@@ -10,7 +10,7 @@ use Rattle.job_verdict.specs.BoxView.{BoxView}
 use Rattle.swept_boxes.specs.Boxes.{boxes_meet}
 use Rattle.job_verdict.specs.PieceTests.{piece_box, touches, do_meet, boxes_in}
 use Rattle.job_verdict.specs.declared.pieces.Measure.{Measure}
-use Rattle.sync_types.specs.Items.{motion_of}
+use Rattle.sync_types.specs.Items.{movement_of}
 use Rattle.sync_types.specs.declared.Item.{Item}
 
 or_false : (b : Bool) → b ≡ (b || false)
@@ -33,7 +33,7 @@ touches_one measure zone own met = by_motion own.motion refl
     by_motion None is = rw is (twice (boxes_meet met own.cover))
     by_motion (Some item) is =
         rw is (ap (λ (b : Bool). boxes_meet met own.cover && b)
-        (sym (list_any-map (boxes_meet met) (λ (piece : RangesView). piece_box measure.margin zone.sides piece own.cover) (pieces_at (motion_of item) measure.depth))))
+        (sym (list_any-map (boxes_meet met) (λ (piece : RangesView). piece_box measure.margin zone.sides piece own.cover) (pieces_at (movement_of item) measure.depth))))
 
 one_touches : (measure : Measure) (zone : ZoneLine) (own : BoxView) (other : ZoneLine) (later : BoxView)
     → do_meet measure zone own other later ≡ (boxes_meet own.cover later.cover && list_any (touches measure other later) (boxes_in measure zone own))
@@ -44,7 +44,7 @@ one_touches measure zone own other later = by_motion own.motion refl
     by_motion None is = rw is (ap (λ (b : Bool). boxes_meet own.cover later.cover && b) (or_false (touches measure other later own.cover)))
     by_motion (Some item) is =
         rw is (ap (λ (b : Bool). boxes_meet own.cover later.cover && b)
-        (sym (list_any-map (touches measure other later) (λ (piece : RangesView). piece_box measure.margin zone.sides piece own.cover) (pieces_at (motion_of item) measure.depth))))
+        (sym (list_any-map (touches measure other later) (λ (piece : RangesView). piece_box measure.margin zone.sides piece own.cover) (pieces_at (movement_of item) measure.depth))))
 
 -- what the comparison answers
 pub collected_meet : (measure : Measure) (zone : ZoneLine) (own : BoxView) (other : ZoneLine) (later : BoxView)

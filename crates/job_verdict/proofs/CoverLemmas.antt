@@ -11,8 +11,8 @@ use Rattle.path_geometry.proofs.PathEnds.{start_on_path, end_on_path}
 use Rattle.job_verdict.proofs.PositionLemmas.{Joins, AllJoin, after_is, left_at-cons}
 use Rattle.number_laws.proofs.Lists.{SomeOf}
 use Rattle.path_geometry.specs.Path.{Point, IsOnPath}
-use Rattle.sync_types.specs.Items.{end_in, left_at, motion_of}
-use Rattle.sync_types.proofs.Positions.{left_at-nil}
+use Rattle.sync_types.specs.Items.{end_in, left_at, movement_of}
+use Rattle.sync_types.proofs.Positions.{left_at-nil, end_moved}
 use Rattle.job_verdict.specs.SmallSteps.{StandsAt, IsAlong, IsAtPlace}
 use Rattle.path_geometry.specs.Motions.{axes_of, IsSound, axis_end}
 use Rattle.job_verdict.specs.ZoneBoxes.{stand_after, moves_zone, PlaceBox, Opened, Waiting, Moving, close, boxes_before, next_open, walk, boxes_of}
@@ -35,28 +35,28 @@ stays_there item at axis none = after_is item at axis ∙ by_end (end_in axis it
 
 -- the start and the end of a motion that joins are points of its path
 pub along_at_start : (at : ℕ → ℤ) (item : Item) (under : ℕ) → Joins at item → 0 < under → IsAlong at item (standing at under)
-along_at_start at item under joins some = record { path = start_on_path (motion_of item) (standing at under) joins.0 some starts; others = λ axis none. refl }
+along_at_start at item under joins some = record { path = start_on_path (movement_of item) (standing at under) joins.0 some starts; others = λ axis none. refl }
   where
-    starts : All (λ e. at e.0 *ℤ pos under ≡ e.1 *ℤ pos under) (axes_of (motion_of item))
+    starts : All (λ e. at e.0 *ℤ pos under ≡ e.1 *ℤ pos under) (axes_of (movement_of item))
     starts = All-weaker (λ e. (e.1 ≡ at e.0) × (e.2 ≡ stand_after item at e.0)) (λ e. at e.0 *ℤ pos under ≡ e.1 *ℤ pos under)
-        (λ e joined. ap (λ x. x *ℤ pos under) (sym joined.0)) (axes_of (motion_of item)) joins.1
+        (λ e joined. ap (λ x. x *ℤ pos under) (sym joined.0)) (axes_of (movement_of item)) joins.1
 
 pub along_at_end : (at : ℕ → ℤ) (item : Item) (under : ℕ) → Joins at item → 0 < under → IsAlong at item (standing (stand_after item at) under)
 along_at_end at item under joins some = record {
-  path = end_on_path (motion_of item) (standing (stand_after item at) under) joins.0 some ends_there;
+  path = end_on_path (movement_of item) (standing (stand_after item at) under) joins.0 some ends_there;
   others = λ axis none. ap (λ x. x *ℤ pos under) (stays_there item at axis none);
 }
   where
-    ends_there : All (λ e. stand_after item at e.0 *ℤ pos under ≡ e.2 *ℤ pos under) (axes_of (motion_of item))
+    ends_there : All (λ e. stand_after item at e.0 *ℤ pos under ≡ e.2 *ℤ pos under) (axes_of (movement_of item))
     ends_there = All-weaker (λ e. (e.1 ≡ at e.0) × (e.2 ≡ stand_after item at e.0)) (λ e. stand_after item at e.0 *ℤ pos under ≡ e.2 *ℤ pos under)
-        (λ e joined. ap (λ x. x *ℤ pos under) (sym joined.1)) (axes_of (motion_of item)) joins.1
+        (λ e joined. ap (λ x. x *ℤ pos under) (sym joined.1)) (axes_of (movement_of item)) joins.1
 
 -- ---- boxes that cover a point
 
 -- the zone's axes are at the point where a box has them: at its positions where it stands, or as at some point of its motion, which is sound and begins there
 abbrev pub IsCovered : ZoneLine → (ℕ → ℤ) → Option Item → Point → Type 0
 IsCovered zone at None point = (axis : ℕ) → has_axis zone axis ≡ true → StandsAt point axis (at axis)
-IsCovered zone at (Some item) point = IsSound (motion_of item) × (other : Point) × IsAlong at item other × (other.under ≡ point.under) × ((axis : ℕ) → has_axis zone axis ≡ true → other.top axis ≡ point.top axis)
+IsCovered zone at (Some item) point = IsSound (movement_of item) × (other : Point) × IsAlong at item other × (other.under ≡ point.under) × ((axis : ℕ) → has_axis zone axis ≡ true → other.top axis ≡ point.top axis)
 
 -- the box holds the place and covers the point
 pub record Covers (zone : ZoneLine) (place : ℕ) (point : Point) (box : PlaceBox) : Type 0 where
@@ -125,9 +125,9 @@ apart_axes zone axis has (e ∷ ends) none = by_test (has_axis zone e.0) refl no
 not_moved : (zone : ZoneLine) (item : Item) (axis : ℕ) → moves_zone zone item ≡ false → has_axis zone axis ≡ true → IsNone (end_in axis item)
 unfolding moves_zone axis_end
 not_moved zone item axis none has =
-    let nothing : find (λ (e : ℕ × ℤ × ℤ). e.0 == axis) (axes_of (motion_of item)) ≡ None =
-    not_found (λ e. e.0 == axis) (axes_of (motion_of item)) (apart_axes zone axis has (axes_of (motion_of item)) none) in
-    rw nothing refl
+    let nothing : find (λ (e : ℕ × ℤ × ℤ). e.0 == axis) (axes_of (movement_of item)) ≡ None =
+    not_found (λ e. e.0 == axis) (axes_of (movement_of item)) (apart_axes zone axis has (axes_of (movement_of item)) none) in
+    subst (λ (o : Option ℤ). IsNone o) (sym (end_moved axis item)) (rw nothing refl)
 
 fits_on : (zone : ZoneLine) (current : Opened) (at : ℕ → ℤ) (item : Item) → moves_zone zone item ≡ false → Fits zone current at → Fits zone current (stand_after item at)
 fits_on zone (Waiting from began) at item none fits = λ axis has. stays_there item at axis (not_moved zone item axis none has) ∙ fits axis has
@@ -211,7 +211,7 @@ box_covers zone at items joins (suc m) point there = by_item (slice_get items m)
         → (0 < point.under) × SomeOf (Covers zone (suc m) point) (walk zone 1 (Waiting 0 at) at items)
     by_item None found none = absurd none
     by_item (Some item) found on =
-        let some : 0 < point.under = fraction_of (motion_of item) on.path in
+        let some : 0 < point.under = fraction_of (movement_of item) on.path in
         (some, at_motion zone point some 1 (Waiting 0 at) at items joins (λ axis has. refl) (omega arith) m (suc m) (omega arith) item found on)
 
 -- the one box of a zone whose holder stands covers it

@@ -15,7 +15,7 @@ use Rattle.job_verdict.proofs.StateLemmas.{WellPlaced, well_placed, WellPlaced-o
 use Rattle.job_verdict.proofs.ZoneLemmas.{some_at}
 use Rattle.job_verdict.specs.Channels.{items_of}
 use Rattle.job_verdict.specs.Safety.{CanEnd}
-use Rattle.sync_types.specs.Items.{left_at, motion_of}
+use Rattle.sync_types.specs.Items.{left_at, movement_of}
 use Rattle.job_verdict.specs.SmallSteps.{IsAlong, IsEndOf, IsAtPlace, IsAtEnd, Spot, State, opening, span_of, has_ended, is_running, motions_of, board_position, present_spot, SmallStep, Advance, Act, after_step, IsLawful, AreLawful, state_after_all}
 use Rattle.job_verdict.specs.Stretches.{channel_line}
 use Rattle.path_geometry.specs.Motions.{axes_of}
@@ -58,7 +58,7 @@ last_end at items joins place long = of_item (some_at items place (omega arith))
             sym long,
             subst (λ (o : Option Item). IfSome o (λ i. IsEndOf i (standing (stand_after item before) 1))) (sym (ap (slice_get items) less ∙ is))
                 (All-weaker (λ e. (e.1 ≡ before e.0) × (e.2 ≡ stand_after item before e.0)) (λ e. stand_after item before e.0 *ℤ pos 1 ≡ e.2 *ℤ pos 1)
-                (λ e at_end. ap (λ x. x *ℤ pos 1) (sym at_end.1)) (axes_of (motion_of item)) joined.1),
+                (λ e at_end. ap (λ x. x *ℤ pos 1) (sym at_end.1)) (axes_of (movement_of item)) joined.1),
           ),
         )
 

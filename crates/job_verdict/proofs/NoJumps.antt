@@ -1,5 +1,5 @@
 -- No axis jumps: neither between two motions nor where a channel acts.
-use Rattle.std.proofs.Common.{◌≡◌, ◌⊎◌, ◌∙◌, ℕ, zero, suc, ℤ, pos, ◌+◌, ◌-◌, ◌*ℤ◌, true, cond, ◌==◌, List, [], ◌∷◌, length, take, find, nat_lt, Option, None, Some, option_map, unwrap_or, IfSome, IsSomeAnd, slice_get, All, inl, inr, refl, sym, ap, subst, arith}
+use Rattle.std.proofs.Common.{◌≡◌, ◌⊎◌, ◌∙◌, ℕ, zero, suc, ℤ, pos, ◌+◌, ◌-◌, ◌*ℤ◌, true, cond, ◌==◌, List, [], ◌∷◌, length, take, find, nat_lt, Option, None, Some, option_map, unwrap_or, IfSome, IsNone, IsSomeAnd, slice_get, All, inl, inr, refl, sym, ap, subst, arith}
 use Rattle.std.proofs.lemmas.Bool.{eqb-true, eq-eqb, ne_eqb, lt-ltb, cases_eq}
 use Rattle.std.proofs.lemmas.List.Sums.{sum_by_push}
 use Rattle.std.specs.Option.{option_map_or}
@@ -14,8 +14,8 @@ use Rattle.job_verdict.proofs.Runs.{motions_join}
 use Rattle.job_verdict.proofs.StateLemmas.{WellPlaced, WellPlaced-step, well_placed, WellPlaced-opening, not_ended, run_place, board_last, end_place, one_under}
 use Rattle.job_verdict.specs.Channels.{items_of}
 use Rattle.job_verdict.specs.Safety.{axis_owner, axis_position, fraction_of, NoJump}
-use Rattle.sync_types.specs.Items.{end_in, left_at, motion_of}
-use Rattle.sync_types.proofs.Positions.{left_at-nil}
+use Rattle.sync_types.specs.Items.{end_in, left_at, movement_of}
+use Rattle.sync_types.proofs.Positions.{left_at-nil, end_moved}
 use Rattle.job_verdict.specs.SmallSteps.{StandsAt, IsAlong, IsEndOf, IsAtPlace, IsAtEnd, Spot, State, opening, span_of, has_ended, motions_of, board_position, beginning, present_spot, Act, after_step, IsLawful, state_after_all}
 use Rattle.job_verdict.specs.Stretches.{channel_line}
 use Rattle.path_geometry.specs.Motions.{axes_of, axis_end}
@@ -26,12 +26,12 @@ use Rattle.job_types.specs.Axes.{start_position}
 -- ---- between motions
 
 pub begins_there : (job : JobView) → IsSoundJob job → (channel place : ℕ) (item : Item) → slice_get (motions_of job channel) place ≡ Some item
-    → All (λ e. e.1 ≡ left_at (take place (motions_of job channel)) (start_position job) e.0) (axes_of (motion_of item))
+    → All (λ e. e.1 ≡ left_at (take place (motions_of job channel)) (start_position job) e.0) (axes_of (movement_of item))
 unfolding motions_of
 begins_there job sound channel place item is = by_line (channel_line job channel) is
   where
     by_line : (o : Option ChannelLine) → slice_get (option_map_or (items_of job) o []) place ≡ Some item
-        → All (λ e. e.1 ≡ left_at (take place (option_map_or (items_of job) o [])) (start_position job) e.0) (axes_of (motion_of item))
+        → All (λ e. e.1 ≡ left_at (take place (option_map_or (items_of job) o [])) (start_position job) e.0) (axes_of (movement_of item))
     by_line None is = absurd cc
     by_line (Some line) is = begins_at_left (start_position job) (items_of job line) (motions_join job sound line) place item is
 
@@ -56,13 +56,14 @@ left_at-last (first ∷ next ∷ items) at (suc n) item long is axis =
 at_its_end : (item : Item) (positions : ℕ → ℤ) (point : Point) → IsAlong positions item point → IsEndOf item point → (axis : ℕ)
     → StandsAt point axis (unwrap_or (end_in axis item) (positions axis))
 unfolding axis_end
-at_its_end item positions point along ends axis = by_end (find (λ e. e.0 == axis) (axes_of (motion_of item))) refl
+at_its_end item positions point along ends axis =
+    subst (λ (o : Option ℤ). StandsAt point axis (unwrap_or o (positions axis))) (sym (end_moved axis item)) (by_end (find (λ e. e.0 == axis) (axes_of (movement_of item))) refl)
   where
-    by_end : (o : Option (ℕ × ℤ × ℤ)) → find (λ e. e.0 == axis) (axes_of (motion_of item)) ≡ o → StandsAt point axis (unwrap_or (option_map (λ (e : ℕ × ℤ × ℤ). e.2) o) (positions axis))
-    by_end None none = along.others axis (rw none refl)
+    by_end : (o : Option (ℕ × ℤ × ℤ)) → find (λ e. e.0 == axis) (axes_of (movement_of item)) ≡ o → StandsAt point axis (unwrap_or (option_map (λ (e : ℕ × ℤ × ℤ). e.2) o) (positions axis))
+    by_end None none = along.others axis (subst (λ (o : Option ℤ). IsNone o) (sym (end_moved axis item)) (rw none refl))
     by_end (Some e) found =
-        let same : e.0 ≡ axis = eqb-true e.0 axis (found_passes (λ (f : ℕ × ℤ × ℤ). f.0 == axis) (axes_of (motion_of item)) e found) in
-        subst (λ a. StandsAt point a e.2) same (All-found (λ f. StandsAt point f.0 f.2) (λ f. f.0 == axis) (axes_of (motion_of item)) e ends found)
+        let same : e.0 ≡ axis = eqb-true e.0 axis (found_passes (λ (f : ℕ × ℤ × ℤ). f.0 == axis) (axes_of (movement_of item)) e found) in
+        subst (λ a. StandsAt point a e.2) same (All-found (λ f. StandsAt point f.0 f.2) (λ f. f.0 == axis) (axes_of (movement_of item)) e ends found)
 
 -- at the end of its last motion a channel has its axes where its motions leave them
 stands_at_end : (items : List Item) (at : ℕ → ℤ) (place : ℕ) (point : Point) → IsAtPlace at items place point → IsAtEnd items place point → (axis : ℕ)

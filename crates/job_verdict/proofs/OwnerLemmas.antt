@@ -15,7 +15,7 @@ use Rattle.job_verdict.specs.SmallSteps.{State, motions_of}
 use Rattle.job_types.specs.SoundJob.{IsDeclared, IsSoundJob}
 use Rattle.job_verdict.specs.Stretches.{channel_line}
 use Rattle.path_geometry.specs.Motions.{axes_of}
-use Rattle.sync_types.specs.Items.{motion_of}
+use Rattle.sync_types.specs.Items.{movement_of}
 use Rattle.job_types.specs.Axes.{first_owner}
 
 All-at : {X : Type 0} (P : X → Type 0) (xs : List X) (i : ℕ) (x : X) → All P xs → slice_get xs i ≡ Some x → P x
@@ -35,7 +35,7 @@ owned_by_one job sound state axis = by_line (slice_get job.axes axis) refl
     by_line None is = tt
     by_line (Some line) is = by_owner line.owner (All-at (λ l. IsSomeAnd l.owner (IsDeclared job)) job.axes axis line sound.owners is)
 
-moves_own : (job : JobView) (state : State) (channel : ℕ) → All (λ item. All (λ e. axis_owner job state e.0 ≡ Some channel) (axes_of (motion_of item))) (motions_of job channel)
+moves_own : (job : JobView) (state : State) (channel : ℕ) → All (λ item. All (λ e. axis_owner job state e.0 ≡ Some channel) (axes_of (movement_of item))) (motions_of job channel)
 unfolding motions_of axis_owner first_owner
 moves_own job state channel = by_line (channel_line job channel) refl
   where

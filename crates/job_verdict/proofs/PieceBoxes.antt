@@ -19,7 +19,7 @@ use Rattle.job_verdict.specs.BoxView.{BoxView, MovesSoundly}
 use Rattle.job_verdict.specs.PieceTests.{piece_low, piece_high, by_direction, piece_box, touches, do_meet}
 use Rattle.job_verdict.specs.ZoneBoxes.{carried_bound, carried_low, carried_high, side_low, side_high, zone_box, box_of, low_in, high_in, PlaceBox, piece_boxes, moving_box, standing_box, shown_box}
 use Rattle.job_verdict.specs.declared.pieces.Measure.{Measure}
-use Rattle.sync_types.specs.Items.{motion_of}
+use Rattle.sync_types.specs.Items.{movement_of}
 use Rattle.sync_types.specs.declared.Item.{Item}
 
 -- ---- a side
@@ -296,16 +296,16 @@ pub touches_is : (measure : Measure) (zone : ZoneLine) (line : ℕ) (box : Place
 unfolding piece_boxes touches shown_box moving_box standing_box
 touches_is measure zone line box met sound = by_motion box.motion refl sound
   where
-    of_item : (item : Item) → IsSound (motion_of item)
-        → list_any (boxes_meet met) (map (λ ranges. zone_box measure.margin zone (low_in ranges box.at) (high_in ranges box.at)) (pieces_at (motion_of item) measure.depth))
+    of_item : (item : Item) → IsSound (movement_of item)
+        → list_any (boxes_meet met) (map (λ ranges. zone_box measure.margin zone (low_in ranges box.at) (high_in ranges box.at)) (pieces_at (movement_of item) measure.depth))
         ≡ (boxes_meet met (moving_box measure.margin zone item box.at).cover
-        && list_any (λ piece. boxes_meet met (piece_box measure.margin zone.sides piece (moving_box measure.margin zone item box.at).cover)) (pieces_at (motion_of item) measure.depth))
+        && list_any (λ piece. boxes_meet met (piece_box measure.margin zone.sides piece (moving_box measure.margin zone item box.at).cover)) (pieces_at (movement_of item) measure.depth))
     of_item item sound =
-        let whole : RangesView = cover_of (motion_of item) in
-        let pieces : List RangesView = pieces_at (motion_of item) measure.depth in
+        let whole : RangesView = cover_of (movement_of item) in
+        let pieces : List RangesView = pieces_at (movement_of item) measure.depth in
         let cover : Box3 = zone_box measure.margin zone (low_in whole box.at) (high_in whole box.at) in
         let part : RangesView → Box3 = λ ranges. zone_box measure.margin zone (low_in ranges box.at) (high_in ranges box.at) in
-        let lie : All (λ piece. LieIn piece whole) pieces = in_cover (motion_of item) measure.depth sound in
+        let lie : All (λ piece. LieIn piece whole) pieces = in_cover (movement_of item) measure.depth sound in
         list_any-map (boxes_meet met) part pieces
         ∙ list_any-same (λ piece. boxes_meet met (part piece)) (λ piece. boxes_meet met (piece_box measure.margin zone.sides piece cover)) pieces
         (All-weaker (λ piece. LieIn piece whole) (λ piece. boxes_meet met (part piece) ≡ boxes_meet met (piece_box measure.margin zone.sides piece cover))
@@ -330,16 +330,16 @@ by_touches : (measure : Measure) (zone : ZoneLine) (line : ℕ) (box : PlaceBox)
 unfolding piece_boxes do_meet shown_box moving_box standing_box
 by_touches measure zone line box other later sound = by_motion box.motion refl sound
   where
-    of_item : (item : Item) → IsSound (motion_of item)
-        → list_any (touches measure other later) (map (λ ranges. zone_box measure.margin zone (low_in ranges box.at) (high_in ranges box.at)) (pieces_at (motion_of item) measure.depth))
+    of_item : (item : Item) → IsSound (movement_of item)
+        → list_any (touches measure other later) (map (λ ranges. zone_box measure.margin zone (low_in ranges box.at) (high_in ranges box.at)) (pieces_at (movement_of item) measure.depth))
         ≡ (boxes_meet (moving_box measure.margin zone item box.at).cover later.cover
-        && list_any (λ piece. touches measure other later (piece_box measure.margin zone.sides piece (moving_box measure.margin zone item box.at).cover)) (pieces_at (motion_of item) measure.depth))
+        && list_any (λ piece. touches measure other later (piece_box measure.margin zone.sides piece (moving_box measure.margin zone item box.at).cover)) (pieces_at (movement_of item) measure.depth))
     of_item item sound =
-        let whole : RangesView = cover_of (motion_of item) in
-        let pieces : List RangesView = pieces_at (motion_of item) measure.depth in
+        let whole : RangesView = cover_of (movement_of item) in
+        let pieces : List RangesView = pieces_at (movement_of item) measure.depth in
         let cover : Box3 = zone_box measure.margin zone (low_in whole box.at) (high_in whole box.at) in
         let part : RangesView → Box3 = λ ranges. zone_box measure.margin zone (low_in ranges box.at) (high_in ranges box.at) in
-        let lie : All (λ piece. LieIn piece whole) pieces = in_cover (motion_of item) measure.depth sound in
+        let lie : All (λ piece. LieIn piece whole) pieces = in_cover (movement_of item) measure.depth sound in
         let test : Box3 → Bool = touches measure other later in
         list_any-map test part pieces
         ∙ list_any-same (λ piece. test (part piece)) (λ piece. test (piece_box measure.margin zone.sides piece cover)) pieces

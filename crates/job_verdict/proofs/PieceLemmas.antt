@@ -1,5 +1,5 @@
 -- A point that a box covers is in the zone box of one of its pieces.
-use Rattle.std.proofs.Common.{◌≡◌, ℕ, zero, suc, ℤ, pos, ◌+ℤ◌, ◌*ℤ◌, ◌<◌, Bool, true, false, cond, ◌==◌, List, [], ◌∷◌, map, length, get_or, find, Option, None, Some, All, Any, inl, inr, refl, sym, subst, arith}
+use Rattle.std.proofs.Common.{◌≡◌, ℕ, zero, suc, ℤ, pos, ◌+ℤ◌, ◌*ℤ◌, ◌<◌, Bool, true, false, cond, ◌==◌, List, [], ◌∷◌, map, length, get_or, find, Option, None, Some, IsNone, All, Any, inl, inr, refl, sym, subst, arith}
 use Rattle.std.proofs.lemmas.Bool.{eqb-true}
 use Rattle.std.proofs.lemmas.Int.{ints}
 use Rattle.std.proofs.lemmas.List.Elements.{All-head, All-tail, All-weaker}
@@ -20,7 +20,8 @@ use Rattle.job_verdict.proofs.CoverLemmas.{Covers, IsCovered}
 use Rattle.job_verdict.proofs.PieceBoxes.{absent}
 use Rattle.number_laws.proofs.Lists.{SomeOf, SomeOf-weaker, SomeOf-map, found_passes, All-found}
 use Rattle.path_geometry.specs.Path.{Point}
-use Rattle.sync_types.specs.Items.{motion_of}
+use Rattle.sync_types.specs.Items.{movement_of}
+use Rattle.sync_types.proofs.Positions.{end_moved}
 use Rattle.job_verdict.specs.SmallSteps.{StandsAt, IsAlong}
 use Rattle.path_geometry.specs.Motions.{axes_of, IsSound, axis_end}
 use Rattle.job_verdict.specs.ZoneBoxes.{PlaceBox, zone_box, low_in, high_in, piece_boxes}
@@ -76,7 +77,7 @@ in_itself : (z t : ℤ) (n : ℕ) → t ≡ z *ℤ pos n → IsIn z z t n
 in_itself z t n is = record { above = omega (arith, ints); below = omega (arith, ints) }
 
 -- at a point of a motion that a piece holds, each axis is within the piece's bounds, or stands
-within_piece : (at : ℕ → ℤ) (item : Item) (point : Point) (ranges : RangesView) → IsAlong at item point → Hold ranges point → HasAxesOf (motion_of item) ranges
+within_piece : (at : ℕ → ℤ) (item : Item) (point : Point) (ranges : RangesView) → IsAlong at item point → Hold ranges point → HasAxesOf (movement_of item) ranges
     → (axis : ℕ) → IsIn (low_in ranges at axis) (high_in ranges at axis) (point.top axis) point.under
 unfolding low_in high_in axis_end
 within_piece at item point ranges along hold has axis = by_range (find (λ r. r.0 == axis) ranges.axes) refl
@@ -84,7 +85,7 @@ within_piece at item point ranges along hold has axis = by_range (find (λ r. r.
     by_range : (o : Option (ℕ × ℤ × ℤ)) → find (λ r. r.0 == axis) ranges.axes ≡ o
         → IsIn (option_map_or (λ r. r.1) o (at axis)) (option_map_or (λ r. r.2) o (at axis)) (point.top axis) point.under
     by_range None is =
-        let stands : StandsAt point axis (at axis) = along.others axis (let nothing : find (λ (e : ℕ × ℤ × ℤ). e.0 == axis) (axes_of (motion_of item)) ≡ None = has axis is in rw nothing refl) in
+        let stands : StandsAt point axis (at axis) = along.others axis (let nothing : find (λ (e : ℕ × ℤ × ℤ). e.0 == axis) (axes_of (movement_of item)) ≡ None = has axis is in subst (λ (o : Option ℤ). IsNone o) (sym (end_moved axis item)) (rw nothing refl)) in
         in_itself (at axis) (point.top axis) point.under stands
     by_range (Some r) is =
         let same : r.0 ≡ axis = eqb-true r.0 axis (found_passes (λ (e : ℕ × ℤ × ℤ). e.0 == axis) ranges.axes r is) in
@@ -103,7 +104,7 @@ unfolding piece_boxes
 some_piece P margin zone depth place point box holds covers = by_motion box.motion covers.covered
   where
     of_other : (item : Item) (other : Point) (ranges : RangesView) → IsAlong box.at item other → other.under ≡ point.under
-        → ((axis : ℕ) → has_axis zone axis ≡ true → other.top axis ≡ point.top axis) → Hold ranges other × HasAxesOf (motion_of item) ranges
+        → ((axis : ℕ) → has_axis zone axis ≡ true → other.top axis ≡ point.top axis) → Hold ranges other × HasAxesOf (movement_of item) ranges
         → P (zone_box margin zone (low_in ranges box.at) (high_in ranges box.at))
     of_other item other ranges along under tops piece = holds (low_in ranges box.at) (high_in ranges box.at)
         (λ axis has. subst (λ n. IsIn (low_in ranges box.at axis) (high_in ranges box.at axis) (point.top axis) n) under
@@ -113,8 +114,8 @@ some_piece P margin zone depth place point box holds covers = by_motion box.moti
     by_motion : (o : Option Item) → IsCovered zone box.at o point → SomeOf P (piece_boxes margin zone depth (record box { motion = o }))
     by_motion None stands = inl (holds box.at box.at (λ axis has. in_itself (box.at axis) (point.top axis) point.under (stands axis has)))
     by_motion (Some item) (sound, other, along, under, tops) =
-        SomeOf-map P (λ ranges. zone_box margin zone (low_in ranges box.at) (high_in ranges box.at)) (pieces_at (motion_of item) depth)
-        (SomeOf-weaker (λ ranges. Hold ranges other × HasAxesOf (motion_of item) ranges) (λ ranges. P (zone_box margin zone (low_in ranges box.at) (high_in ranges box.at)))
-        (λ ranges piece. of_other item other ranges along under tops piece) (pieces_at (motion_of item) depth)
-        (some_with_all (λ ranges. Hold ranges other) (HasAxesOf (motion_of item)) (pieces_at (motion_of item) depth)
-        (covered (motion_of item) depth other sound along.path) (pieces_have_axes (motion_of item) depth sound)))
+        SomeOf-map P (λ ranges. zone_box margin zone (low_in ranges box.at) (high_in ranges box.at)) (pieces_at (movement_of item) depth)
+        (SomeOf-weaker (λ ranges. Hold ranges other × HasAxesOf (movement_of item) ranges) (λ ranges. P (zone_box margin zone (low_in ranges box.at) (high_in ranges box.at)))
+        (λ ranges piece. of_other item other ranges along under tops piece) (pieces_at (movement_of item) depth)
+        (some_with_all (λ ranges. Hold ranges other) (HasAxesOf (movement_of item)) (pieces_at (movement_of item) depth)
+        (covered (movement_of item) depth other sound along.path) (pieces_have_axes (movement_of item) depth sound)))

@@ -6,8 +6,8 @@ use Rattle.std.proofs.lemmas.List.Elements.{All-weaker}
 use Rattle.std.specs.Prelude.{⊤}
 use Rattle.std.specs.List.{last_or, cons_option}
 use Rattle.std.specs.Option.{option_map_or}
-use Rattle.sync_types.specs.Items.{end_in, left_at, motion_of}
-use Rattle.sync_types.proofs.Positions.{left_at-nil}
+use Rattle.sync_types.specs.Items.{end_in, left_at, movement_of}
+use Rattle.sync_types.proofs.Positions.{left_at-nil, end_moved}
 use Rattle.path_geometry.specs.Motions.{axes_of, IsSound, axis_end}
 use Rattle.job_verdict.specs.ZoneBoxes.{stand_after}
 use Rattle.sync_types.specs.declared.Item.{Item}
@@ -31,7 +31,7 @@ unwrap_or-last_or o (x ∷ xs) d = last_of_some x d (unwrap_or o d) xs
 
 pub after_is : (item : Item) (at : ℕ → ℤ) (axis : ℕ) → stand_after item at axis ≡ unwrap_or (end_in axis item) (at axis)
 unfolding stand_after axis_end
-after_is item at axis = by_found (find (λ e. e.0 == axis) (axes_of (motion_of item)))
+after_is item at axis = by_found (find (λ e. e.0 == axis) (axes_of (movement_of item))) ∙ ap (λ (o : Option ℤ). unwrap_or o (at axis)) (sym (end_moved axis item))
   where
     by_found : (o : Option (ℕ × ℤ × ℤ)) → option_map_or (λ e. e.2) o (at axis) ≡ unwrap_or (option_map (λ e. e.2) o) (at axis)
     by_found None = refl
@@ -66,7 +66,7 @@ left_at_done items k over before axis = ap (λ (xs : List Item). left_at xs befo
 
 -- a motion is sound, begins where its axes stand, and leaves them at its ends
 abbrev pub Joins : (ℕ → ℤ) → Item → Type 0
-Joins at item = IsSound (motion_of item) × All (λ e. (e.1 ≡ at e.0) × (e.2 ≡ stand_after item at e.0)) (axes_of (motion_of item))
+Joins at item = IsSound (movement_of item) × All (λ e. (e.1 ≡ at e.0) × (e.2 ≡ stand_after item at e.0)) (axes_of (movement_of item))
 
 -- so does each of them, one after the other
 abbrev pub AllJoin : (ℕ → ℤ) → List Item → Type 0
@@ -78,7 +78,7 @@ Joins-same p q same item joins = (
   joins.0,
   All-weaker (λ e. (e.1 ≡ p e.0) × (e.2 ≡ stand_after item p e.0)) (λ e. (e.1 ≡ q e.0) × (e.2 ≡ stand_after item q e.0))
       (λ e joined. (joined.0 ∙ same e.0, joined.1 ∙ after_is item p e.0 ∙ ap (unwrap_or (end_in e.0 item)) (same e.0) ∙ sym (after_is item q e.0)))
-      (axes_of (motion_of item)) joins.1,
+      (axes_of (movement_of item)) joins.1,
 )
 
 -- each of them joins onto those before it
@@ -94,7 +94,7 @@ joins_at at (first ∷ items) joins (suc place) item is =
 
 -- and begins where they left the axes
 pub begins_at_left : (at : ℕ → ℤ) (items : List Item) → AllJoin at items → (place : ℕ) (item : Item) → slice_get items place ≡ Some item
-    → All (λ e. e.1 ≡ left_at (take place items) at e.0) (axes_of (motion_of item))
+    → All (λ e. e.1 ≡ left_at (take place items) at e.0) (axes_of (movement_of item))
 begins_at_left at items joins place item is =
     All-weaker (λ e. (e.1 ≡ left_at (take place items) at e.0) × (e.2 ≡ stand_after item (left_at (take place items) at) e.0))
-    (λ e. e.1 ≡ left_at (take place items) at e.0) (λ e joined. joined.0) (axes_of (motion_of item)) (joins_at at items joins place item is).1
+    (λ e. e.1 ≡ left_at (take place items) at e.0) (λ e joined. joined.0) (axes_of (movement_of item)) (joins_at at items joins place item is).1

@@ -8,11 +8,11 @@ use Rattle.std.proofs.lemmas.List.FromFn.{get_or-map-range_with_len, length-map-
 use Rattle.std.proofs.lemmas.Option.{slice_get-get_or, slice_get_within, get_or_from_slice_get}
 use Rattle.axis_sets.specs.Sets.{has}
 use Rattle.block_motions.proofs.MotionLaws.{ends_found}
-use Rattle.sync_types.specs.Items.{left_at, motion_of}
-use Rattle.sync_types.proofs.Positions.{left_at-nil}
+use Rattle.sync_types.specs.Items.{left_at, movement_of}
+use Rattle.sync_types.proofs.Positions.{left_at-nil, end_moved}
 use Rattle.block_motions.specs.Motions.{IsMotionOf}
 use Rattle.channel_machine.proofs.RunLaws.{all_follow, few_items, items_sound, end_listed}
-use Rattle.channel_machine.specs.Run.{IsListedAction}
+use Rattle.channel_machine.specs.Run.{IsListedAction, channel_at_start}
 use Rattle.path_geometry.specs.Motions.{axes_of, IsSound}
 use Rattle.sync_types.specs.declared.Action.{Action}
 use Rattle.sync_types.specs.declared.Action.TheVariants as action
@@ -34,26 +34,26 @@ use Rattle.axis_sets.specs.declared.limits.TheConstants.{AXIS_LIMIT}
 
 -- the motion of each place is one of a channel that owns these axes
 abbrev Follow : List Bool → (ℕ → ℤ) → List Item → Type 0
-Follow axes start items = (place : ℕ) (item : Item) → slice_get items place ≡ Some item → IsMotionOf axes (left_at (take place items) start) (motion_of item)
+Follow axes start items = (place : ℕ) (item : Item) → slice_get items place ≡ Some item → IsMotionOf axes (left_at (take place items) start) (movement_of item)
 
-motion_joins : (axes : List Bool) (at : ℕ → ℤ) (item : Item) → IsMotionOf axes at (motion_of item) → IsSound (motion_of item) → Joins at item
+motion_joins : (axes : List Bool) (at : ℕ → ℤ) (item : Item) → IsMotionOf axes at (movement_of item) → IsSound (movement_of item) → Joins at item
 motion_joins axes at item is sound = (
   sound,
   λ k d within. (
     is.begins k d within,
-    let e : ℕ × ℤ × ℤ = get_or (axes_of (motion_of item)) k d in
-        sym (after_is item at e.0 ∙ ap (λ (o : Option ℤ). unwrap_or o (at e.0)) (ends_found axes at (motion_of item) is k d within)),
+    let e : ℕ × ℤ × ℤ = get_or (axes_of (movement_of item)) k d in
+        sym (after_is item at e.0 ∙ ap (λ (o : Option ℤ). unwrap_or o (at e.0)) (end_moved e.0 item ∙ ends_found axes at (movement_of item) is k d within)),
   ),
 )
 
-all_join : (axes : List Bool) (at : ℕ → ℤ) (items : List Item) → Follow axes at items → All (λ item. IsSound (motion_of item)) items → AllJoin at items
+all_join : (axes : List Bool) (at : ℕ → ℤ) (items : List Item) → Follow axes at items → All (λ item. IsSound (movement_of item)) items → AllJoin at items
 all_join axes at [] follow sound = tt
 all_join axes at (item ∷ items) follow sound = (
-  motion_joins axes at item (subst (λ (p : ℕ → ℤ). IsMotionOf axes p (motion_of item)) (fun_ext (left_at-nil at)) (follow 0 item refl))
-      (All-head (λ i. IsSound (motion_of i)) item items sound),
+  motion_joins axes at item (subst (λ (p : ℕ → ℤ). IsMotionOf axes p (movement_of item)) (fun_ext (left_at-nil at)) (follow 0 item refl))
+      (All-head (λ i. IsSound (movement_of i)) item items sound),
   all_join axes (stand_after item at) items
-      (λ place next is. subst (λ (p : ℕ → ℤ). IsMotionOf axes p (motion_of next)) (fun_ext (left_at-cons item (take place items) at)) (follow (suc place) next is))
-      (All-tail (λ i. IsSound (motion_of i)) item items sound),
+      (λ place next is. subst (λ (p : ℕ → ℤ). IsMotionOf axes p (movement_of next)) (fun_ext (left_at-cons item (take place items) at)) (follow (suc place) next is))
+      (All-tail (λ i. IsSound (movement_of i)) item items sound),
 )
 
 -- what holds of the motion of each place holds of all
@@ -69,12 +69,12 @@ All-place P items all place item is = subst P (get_or_from_slice_get items place
 -- each motion is one of the channel, from where the motions before it left the axes, the first from where they were granted
 motions_follow : (job : JobView) (line : ChannelLine) → Follow (setting_at job line).grant.axes (granted_position job line) (items_of job line)
 unfolding program_run
-motions_follow job line place item is = (all_follow (setting_at job line)).follows place item is
+motions_follow job line place item is = (all_follow (setting_at job line) (channel_at_start (setting_at job line))).follows place item is
 
 -- they are sound, since the axes start in range
-motions_sound : (job : JobView) (line : ChannelLine) → All (λ l. IsPosition l.at) job.axes → All (λ item. IsSound (motion_of item)) (items_of job line)
+motions_sound : (job : JobView) (line : ChannelLine) → All (λ l. IsPosition l.at) job.axes → All (λ item. IsSound (movement_of item)) (items_of job line)
 unfolding program_run
-motions_sound job line starts = items_sound (setting_at job line) (granted_in_range job line starts)
+motions_sound job line starts = items_sound (setting_at job line) (channel_at_start (setting_at job line)) (granted_in_range job line starts)
 
 -- ---- the axes of a channel
 
@@ -102,12 +102,12 @@ granted_owned job line axis granted =
 
 -- the motion has only axes that the channel owns
 abbrev pub HasOwnAxes : JobView → ℕ → Item → Type 0
-HasOwnAxes job channel item = All (λ e. first_owner job e.0 ≡ Some channel) (axes_of (motion_of item))
+HasOwnAxes job channel item = All (λ e. first_owner job e.0 ≡ Some channel) (axes_of (movement_of item))
 
 pub motions_owned : (job : JobView) (line : ChannelLine) → All (HasOwnAxes job line.channel) (items_of job line)
 motions_owned job line = at_places (HasOwnAxes job line.channel) (items_of job line) (λ place item is.
     All-weaker (λ e. has (setting_at job line).grant.axes e.0 ≡ true) (λ e. first_owner job e.0 ≡ Some line.channel)
-    (λ e granted. granted_owned job line e.0 granted) (axes_of (motion_of item)) (motions_follow job line place item is).owned)
+    (λ e granted. granted_owned job line e.0 granted) (axes_of (movement_of item)) (motions_follow job line place item is).owned)
 
 -- ---- where the motions of a channel begin
 
@@ -125,11 +125,11 @@ own_follow job sound line place item is =
       once = motion.once;
       owned = motion.owned;
       begins = λ k d within.
-          let e : ℕ × ℤ × ℤ = get_or (axes_of (motion_of item)) k d in
+          let e : ℕ × ℤ × ℤ = get_or (axes_of (movement_of item)) k d in
           motion.begins k d within
           ∙ left_at_same before (granted_position job line) (start_position job) e.0 (granted_own job sound line e.0 (granted_owned job line e.0 (motion.owned k d within)));
       in_range = motion.in_range;
-      sound = λ in_range. All-place (λ i. IsSound (motion_of i)) (items_of job line) (motions_sound job line sound.positions) place item is;
+      sound = λ in_range. All-place (λ i. IsSound (movement_of i)) (items_of job line) (motions_sound job line sound.positions) place item is;
     }
 
 -- the motions of a channel are sound, and each begins where those before it left its axes, the first where the job puts them
@@ -160,11 +160,11 @@ pub good_run : (job : JobView) → IsRunnable job → (line : ChannelLine) → I
 unfolding program_run
 good_run job runnable line =
     let sound = motions_sound job line runnable.starts in
-    let within = at_places (λ item. All (λ e. e.0 < AXIS_LIMIT) (axes_of (motion_of item))) (items_of job line) (λ place item is.
+    let within = at_places (λ item. All (λ e. e.0 < AXIS_LIMIT) (axes_of (movement_of item))) (items_of job line) (λ place item is.
     All-weaker (λ e. has (setting_at job line).grant.axes e.0 ≡ true) (λ e. e.0 < AXIS_LIMIT)
-    (λ e granted. granted_within job line e.0 granted) (axes_of (motion_of item)) (motions_follow job line place item is).owned) in
+    (λ e granted. granted_within job line e.0 granted) (axes_of (movement_of item)) (motions_follow job line place item is).owned) in
     record {
       fit = λ k d inside. record { sound = sound k d inside; within = within k d inside };
-      few = few_items (setting_at job line);
-      known = listed_end _ _ (end_listed (setting_at job line));
+      few = few_items (setting_at job line) (channel_at_start (setting_at job line));
+      known = listed_end _ _ (end_listed (setting_at job line) (channel_at_start (setting_at job line)));
     }

@@ -7,7 +7,7 @@ use Rattle.job_types.specs.declared.job.ZoneLine.{ZoneLine}
 use Rattle.job_verdict.specs.BoxView.{MovesSoundly}
 use Rattle.job_verdict.specs.ZoneBoxes.{IsFit, PlaceBox, Opened, Waiting, Moving, boxes_before, next_open, walk, boxes_of, stand_after, moves_zone}
 use Rattle.sync_types.specs.declared.Item.{Item}
-use Rattle.sync_types.specs.Items.{motion_of}
+use Rattle.sync_types.specs.Items.{movement_of}
 
 -- each box that moves, moves by a sound motion
 abbrev pub AllMoveSoundly : List PlaceBox → Type 0
@@ -16,7 +16,7 @@ AllMoveSoundly (box ∷ boxes) = MovesSoundly box.motion × AllMoveSoundly boxes
 
 abbrev OpenSoundly : Opened → Type 0
 OpenSoundly (Waiting from at) = ⊤
-OpenSoundly (Moving from item at) = IsSound (motion_of item)
+OpenSoundly (Moving from item at) = IsSound (movement_of item)
 
 walk_sound : (zone : ZoneLine) (place : ℕ) (current : Opened) (at : ℕ → ℤ) (items : List Item) → OpenSoundly current → All IsFit items → AllMoveSoundly (walk zone place current at items)
 walk_sound zone place (Waiting from began) at [] here all = (tt, tt)

@@ -11,7 +11,7 @@ use Rattle.job_types.specs.declared.job.ZoneLine.{ZoneLine}
 use Rattle.job_verdict.specs.BoxView.{BoxView}
 use Rattle.job_verdict.specs.ZoneBoxes.{side_low, side_high}
 use Rattle.job_verdict.specs.declared.pieces.Measure.{Measure}
-use Rattle.sync_types.specs.Items.{motion_of}
+use Rattle.sync_types.specs.Items.{movement_of}
 use Rattle.sync_types.specs.declared.Item.{Item}
 
 -- the range of the axis that carries a side, where there is one
@@ -44,7 +44,7 @@ touches measure zone own met = boxes_meet met own.cover && touches_by own.motion
   where
     touches_by : Option Item → Bool
     touches_by None = true
-    touches_by (Some item) = list_any (λ piece. boxes_meet met (piece_box measure.margin zone.sides piece own.cover)) (pieces_at (motion_of item) measure.depth)
+    touches_by (Some item) = list_any (λ piece. boxes_meet met (piece_box measure.margin zone.sides piece own.cover)) (pieces_at (movement_of item) measure.depth)
 
 -- two boxes meet: their covers, and a piece of the one and a piece of the other
 unfoldable pub do_meet : Measure → ZoneLine → BoxView → ZoneLine → BoxView → Bool
@@ -52,7 +52,7 @@ do_meet measure zone own other later = boxes_meet own.cover later.cover && do_me
   where
     do_meet_by : Option Item → Bool
     do_meet_by None = touches measure other later own.cover
-    do_meet_by (Some item) = list_any (λ piece. touches measure other later (piece_box measure.margin zone.sides piece own.cover)) (pieces_at (motion_of item) measure.depth)
+    do_meet_by (Some item) = list_any (λ piece. touches measure other later (piece_box measure.margin zone.sides piece own.cover)) (pieces_at (movement_of item) measure.depth)
 
 -- the boxes by which a box of a zone is compared: those of the pieces of its motion, or where it stands the box itself
 unfoldable pub boxes_in : Measure → ZoneLine → BoxView → List Box3
@@ -60,4 +60,4 @@ boxes_in measure zone own = boxes_in_by own.motion
   where
     boxes_in_by : Option Item → List Box3
     boxes_in_by None = own.cover ∷ []
-    boxes_in_by (Some item) = map (λ piece. piece_box measure.margin zone.sides piece own.cover) (pieces_at (motion_of item) measure.depth)
+    boxes_in_by (Some item) = map (λ piece. piece_box measure.margin zone.sides piece own.cover) (pieces_at (movement_of item) measure.depth)

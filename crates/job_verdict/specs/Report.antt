@@ -16,13 +16,14 @@ use Rattle.job_verdict.specs.ChannelRun.{RunView, run_in}
 use Rattle.sync_types.specs.declared.ChannelEnd.{ChannelEnd}
 use Rattle.sync_types.specs.declared.ChannelEnd.TheVariants.{Idle, Ended, Holding, Alarmed}
 use Rattle.sync_types.specs.declared.Item.{Item}
+use Rattle.sync_types.specs.declared.Part.{Part}
+use Rattle.sync_types.specs.declared.Part.TheVariants.{Move, Switch}
 use Rattle.job_verdict.specs.declared.stretches.PlaceName.{PlaceName}
 use Rattle.job_verdict.specs.declared.stretches.StretchKind.{StretchKind}
 use Rattle.job_verdict.specs.declared.stretches.StretchKind.TheVariants.{Run, End, Free}
 use Rattle.job_verdict.specs.declared.stretches.Verdict.{Verdict}
 use Rattle.job_verdict.specs.declared.stretches.Verdict.TheVariants.{Yes, No, Undecided}
 use Rattle.job_verdict.specs.declared.stretches.Verdict.TheVariants as verdicts
-use Rattle.sync_types.specs.Items.{motion_of}
 use Rattle.axis_sets.specs.declared.limits.TheConstants.{CHANNEL_LIMIT}
 
 -- so many micrometres, as millimetres with three decimals
@@ -61,9 +62,18 @@ motion_text job (Line ends) = codes "LINE" ++ flat_map (end_text job) ends.axes
 motion_text job (Rapid ends) = codes "RAPID" ++ flat_map (end_text job) ends.axes
 motion_text job (Kind.Arc arc) = arc_text job arc
 
--- the trace line of a motion
+-- a zone that is switched, with its new state: 2 is on, and 0 is off
+unfoldable pub switch_text : ℕ → Bool → List ℕ
+switch_text zone on = codes "CPROT " ++ (decimal zone ++ (codes " " ++ decimal (if on then 2 else 0)))
+
+-- what an item does
+unfoldable pub part_text : JobView → Part → List ℕ
+part_text job (Move motion) = motion_text job motion
+part_text job (Switch zone on) = switch_text zone on
+
+-- the trace line of a motion, or of a block that switches a zone
 unfoldable pub motion_line : JobView → Item → List ℕ
-motion_line job item = decimal item.line ++ (codes " " ++ (motion_text job (motion_of item) ++ codes "\n"))
+motion_line job item = decimal item.line ++ (codes " " ++ (part_text job item.part ++ codes "\n"))
 
 -- the state of a channel that an alarm stopped
 unfoldable pub alarm_line : Alarm → List ℕ

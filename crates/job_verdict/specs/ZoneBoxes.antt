@@ -11,13 +11,13 @@ use Rattle.job_types.specs.declared.job.Side.{Side}
 use Rattle.job_types.specs.declared.job.ZoneLine.{ZoneLine}
 use Rattle.sync_types.specs.declared.Item.{Item}
 use Rattle.job_verdict.specs.BoxView.{BoxView}
-use Rattle.sync_types.specs.Items.{motion_of}
+use Rattle.sync_types.specs.Items.{movement_of}
 use Rattle.job_types.specs.Zones.{has_axis}
 use Rattle.axis_sets.specs.declared.limits.TheConstants.{AXIS_LIMIT}
 
 -- where the axes stand after a motion: at its ends, and elsewhere where they stood
 unfoldable pub stand_after : Item → (ℕ → ℤ) → ℕ → ℤ
-stand_after item at axis = option_map_or (λ e. e.2) (find (λ e. e.0 == axis) (axes_of (motion_of item))) (at axis)
+stand_after item at axis = option_map_or (λ e. e.2) (find (λ e. e.0 == axis) (axes_of (movement_of item))) (at axis)
 
 -- a bound that an axis carries: added to its position, or where the zone goes against the axis less its position
 abbrev pub carried_bound : ℤ → ℤ → Bool → ℤ
@@ -51,7 +51,7 @@ zone_box margin zone low high = box_of margin zone.sides low high
 
 -- an axis of the zone is among the axes of the motion, whether or not it moves there
 unfoldable pub moves_zone : ZoneLine → Item → Bool
-moves_zone zone item = list_any (λ e. has_axis zone e.0) (axes_of (motion_of item))
+moves_zone zone item = list_any (λ e. has_axis zone e.0) (axes_of (movement_of item))
 
 -- a box of a zone in a row of places: it holds the places from the first on and before the last, belongs to a motion or stands,
 -- and begins where the channel's axes stand then
@@ -106,16 +106,16 @@ piece_boxes margin zone depth box = piece_boxes_by box.motion
   where
     piece_boxes_by : Option Item → List Box3
     piece_boxes_by None = zone_box margin zone box.at box.at ∷ []
-    piece_boxes_by (Some item) = map (λ ranges. zone_box margin zone (low_in ranges box.at) (high_in ranges box.at)) (pieces_at (motion_of item) depth)
+    piece_boxes_by (Some item) = map (λ ranges. zone_box margin zone (low_in ranges box.at) (high_in ranges box.at)) (pieces_at (movement_of item) depth)
 
 -- a motion is sound, and moves axes of the row of positions
 pub record IsFit (item : Item) : Type 0 where
-  pub sound : IsSound (motion_of item)
-  pub within : All (λ e. e.0 < AXIS_LIMIT) (axes_of (motion_of item))
+  pub sound : IsSound (movement_of item)
+  pub within : All (λ e. e.0 < AXIS_LIMIT) (axes_of (movement_of item))
 
 -- the boxes as they are compared: the line that names it, the zone box of the cover of its motion, or where it stands, and the motion
 unfoldable pub moving_box : ℤ → ZoneLine → Item → (ℕ → ℤ) → BoxView
-moving_box margin zone item at = record { line = item.line; cover = zone_box margin zone (low_in (cover_of (motion_of item)) at) (high_in (cover_of (motion_of item)) at); motion = Some item }
+moving_box margin zone item at = record { line = item.line; cover = zone_box margin zone (low_in (cover_of (movement_of item)) at) (high_in (cover_of (movement_of item)) at); motion = Some item }
 
 unfoldable pub standing_box : ℤ → ZoneLine → ℕ → (ℕ → ℤ) → BoxView
 standing_box margin zone line at = record { line = line; cover = zone_box margin zone at at; motion = None }

@@ -5,13 +5,14 @@ ghost use Rattle.swept_boxes.specs.Boxes.{boxes_meet, low_of, high_of};
 ghost use Rattle.job_verdict.specs.PieceTests as model;
 ghost use Rattle.path_geometry.specs.Motions.{IsSound};
 ghost use Rattle.swept_boxes.specs.Pieces.{pieces_at};
-ghost use Rattle.sync_types.specs.Items.{motion_of};
+ghost use Rattle.sync_types.specs.Items.{movement_of};
 ghost use Rattle.job_lines.specs.declared.limits.TheConstants.{DEPTH_LIMIT};
 
 use crate::zone_boxes::{ZoneBox, bounds_between, range_of};
 use arrayvec::ArrayVec;
 use job_types::{Side, ZoneLine};
 use micro_units::Um;
+use path_geometry::{Ends, Motion};
 use swept_boxes::{Box3, Ranges, pieces_of};
 use sync_types::Item;
 
@@ -71,18 +72,40 @@ fn piece_box(margin: Um, sides: &[Side; 3], ranges: &Ranges, cover: &Box3) -> Bo
 fn boxes_of_pieces(
     measure: &Measure,
     zone: &ZoneLine,
-    item: &Item,
+    motion: &Motion,
     cover: &Box3,
 ) -> ArrayVec<Box3, 80>
-    requires sound { IsSound (motion_of item.now) }
+    requires sound { IsSound motion.now }
     requires deep { measure.now.depth ≤ DEPTH_LIMIT }
-    ensures { result.items ≡ map (λ piece. model.piece_box measure.now.margin zone.now.sides piece cover.now) (pieces_at (motion_of item.now) measure.now.depth) }
+    ensures { result.items ≡ map (λ piece. model.piece_box measure.now.margin zone.now.sides piece cover.now) (pieces_at motion.now measure.now.depth) }
 {
     let mut boxes = ArrayVec::new();
-    for piece in pieces_of(item.motion(), measure.depth) {
+    for piece in pieces_of(motion, measure.depth) {
         boxes.push(piece_box(measure.margin, &zone.sides, &piece, cover));
     }
     boxes
+}
+
+/// The boxes of a zone in the pieces of an item with this cover; where it switches a zone, those of a line of no axis.
+fn boxes_of_item(
+    measure: &Measure,
+    zone: &ZoneLine,
+    item: &Item,
+    cover: &Box3,
+) -> ArrayVec<Box3, 80>
+    requires sound { IsSound (movement_of item.now) }
+    requires deep { measure.now.depth ≤ DEPTH_LIMIT }
+    ensures { result.items ≡ map (λ piece. model.piece_box measure.now.margin zone.now.sides piece cover.now) (pieces_at (movement_of item.now) measure.now.depth) }
+{
+    match item.motion() {
+        Some(motion) => boxes_of_pieces(measure, zone, motion, cover),
+        None => {
+            let still = Motion::Line(Ends {
+                axes: ArrayVec::new(),
+            });
+            boxes_of_pieces(measure, zone, &still, cover)
+        }
+    }
 }
 
 /// One box.
@@ -101,7 +124,7 @@ fn boxes_in(measure: &Measure, zone: &ZoneLine, own: &ZoneBox) -> ArrayVec<Box3,
     ensures { result.items ≡ model.boxes_in measure.now zone.now own.now }
 {
     match own.motion {
-        Some(item) => boxes_of_pieces(measure, zone, item, &own.cover),
+        Some(item) => boxes_of_item(measure, zone, item, &own.cover),
         None => one_box(own.cover),
     }
 }

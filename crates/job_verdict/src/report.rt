@@ -7,13 +7,13 @@ ghost use Rattle.job_verdict.specs.Report as model;
 
 use crate::channels::{ChannelRun, run_in};
 use crate::stretches::{PlaceName, StretchKind, Verdict};
-use axis_sets::{AxisId, CHANNEL_PLACES, ChannelId};
+use axis_sets::{AxisId, CHANNEL_PLACES, ChannelId, ZoneId};
 use job_types::Job;
 use micro_units::Um;
 use nc_faults::{Alarm, Refusal, alarm_text, refusal_text};
 use path_geometry::{Arc, Ends, Motion};
 use std::alloc::{AllocError, Global};
-use sync_types::{ChannelEnd, Item};
+use sync_types::{ChannelEnd, Item, Part};
 
 /// Writes so many micrometres as millimetres with three decimals.
 #[tactic(auto, unfolding(crate::specs::Report::millimetres_text))]
@@ -127,14 +127,35 @@ fn push_motion(out: &mut String, job: &Job, motion: &Motion) -> Result<(), Alloc
     }
 }
 
-/// Writes the trace line of a motion.
+/// Writes what switches a zone: its number and its new state, 2 for on and 0 for off.
+#[tactic(auto, unfolding(crate::specs::Report::switch_text))]
+fn push_switch(out: &mut String, zone: ZoneId, on: bool) -> Result<(), AllocError>
+    ensures { OnOk result (string_bytes out.new ≡ string_bytes out.old ++ model.switch_text zone on) }
+{
+    let number = zone.number;
+    let state = if on { 2u8 } else { 0u8 };
+    write!(out, "CPROT {number} {state}")
+}
+
+/// Writes what an item does.
+#[tactic(auto, unfolding(crate::specs::Report::part_text))]
+fn push_part(out: &mut String, job: &Job, part: &Part) -> Result<(), AllocError>
+    ensures { OnOk result (string_bytes out.new ≡ string_bytes out.old ++ model.part_text job.now part.now) }
+{
+    match part {
+        Part::Move(motion) => push_motion(out, job, motion),
+        Part::Switch(zone, on) => push_switch(out, *zone, *on),
+    }
+}
+
+/// Writes the trace line of a motion, or of a block that switches a zone.
 #[tactic(auto, unfolding(crate::specs::Report::motion_line))]
 fn push_motion_line(out: &mut String, job: &Job, item: &Item) -> Result<(), AllocError>
     ensures { OnOk result (string_bytes out.new ≡ string_bytes out.old ++ model.motion_line job.now item.now) }
 {
     let line = item.line;
     write!(out, "{line} ")?;
-    push_motion(out, job, item.motion())?;
+    push_part(out, job, &item.part)?;
     out.push_str("\n")
 }
 

@@ -4,7 +4,8 @@ ghost use Rattle.std.specs.Int.RustNames.{unsigned_abs};
 ghost use Rattle.job_verdict.specs.Channels.{positions_in};
 ghost use Rattle.path_geometry.specs.Motions.{IsSound, axes_of};
 ghost use Rattle.job_verdict.specs.ZoneBoxes as model;
-ghost use Rattle.sync_types.specs.Items.{motion_of};
+ghost use Rattle.sync_types.specs.Items.{movement_of};
+ghost use Rattle.swept_boxes.specs.Cover.{cover_of};
 ghost use Rattle.job_types.specs.Zones.{is_carrier, has_axis};
 
 use crate::channels::Row;
@@ -142,11 +143,10 @@ fn has_axis(zone: &ZoneLine, axis: AxisId) -> bool
 fn moves_zone(zone: &ZoneLine, item: &Item) -> bool
     ensures { result ≡ model.moves_zone zone.now item.now }
 {
-    item.motion()
-        .ends()
-        .axes
-        .iter()
-        .any(|end| has_axis(zone, end.0))
+    match item.motion() {
+        Some(motion) => motion.ends().axes.iter().any(|end| has_axis(zone, end.0)),
+        None => false,
+    }
 }
 
 /// The end that is named for an axis.
@@ -163,7 +163,11 @@ fn after(item: &Item, at: &Row, index: usize) -> Um
     ensures { result ≡ model.stand_after item.now (positions_in at.now) index }
 {
     let axis = AxisId { index: index as u8 };
-    match end_of(&item.motion().ends().axes, axis) {
+    let end = match item.motion() {
+        Some(motion) => end_of(&motion.ends().axes, axis),
+        None => None,
+    };
+    match end {
         Some(end) => end.2,
         None => at[index],
     }
@@ -171,7 +175,7 @@ fn after(item: &Item, at: &Row, index: usize) -> Um
 
 /// Puts the axes where a motion leaves them.
 pub fn settle(item: &Item, at: &mut Row)
-    requires { All (λ e. e.0 < AXIS_LIMIT) (axes_of (motion_of item.now)) }
+    requires { All (λ e. e.0 < AXIS_LIMIT) (axes_of (movement_of item.now)) }
     ensures { (axis : ℕ) → positions_in at.new axis ≡ model.stand_after item.now (positions_in at.old) axis }
 {
     let before = *at;
@@ -202,15 +206,28 @@ impl<'a> Model for ZoneBox<'a> {
     ghost invariant = { λ b. MovesSoundly (option_copied b.motion) };
 }
 
+/// What an item covers: its motion, or where it switches a zone nothing.
+fn cover_of(item: &Item) -> Ranges
+    requires { IsSound (movement_of item.now) }
+    ensures { result ≡ cover_of (movement_of item.now) }
+{
+    match item.motion() {
+        Some(motion) => cover(motion),
+        None => Ranges {
+            axes: ArrayVec::new(),
+        },
+    }
+}
+
 /// The box of a zone during a motion that begins with its axes at these positions.
 #[tactic(auto, unfolding(crate::specs::ZoneBoxes::moving_box))]
 fn moving_box<'a>(margin: Um, zone: &ZoneLine, item: &'a Item, at: &Row) -> ZoneBox<'a>
-    requires { IsSound (motion_of item.now) }
+    requires { IsSound (movement_of item.now) }
     ensures { result ≡ model.moving_box margin zone.now item.now (positions_in at.now) }
 {
     ZoneBox {
         line: item.line,
-        cover: zone_box(margin, zone, &cover(item.motion()), at),
+        cover: zone_box(margin, zone, &cover_of(item), at),
         motion: Some(item),
     }
 }
@@ -239,7 +256,7 @@ fn add_box<'a>(
     item: &'a Item,
     at: &Row,
 ) -> Result<(), AllocError>
-    requires { IsSound (motion_of item.now) }
+    requires { IsSound (movement_of item.now) }
     ensures { OnOk result (boxes.new.items ≡ boxes.old.items ++ model.boxes_during margin zone.now item.now (positions_in at.now)) }
 {
     if moves_zone(zone, item) {

@@ -1,23 +1,33 @@
 -- Meaning. What items do, and where they leave axes.
-use Rattle.std.specs.Prelude.{◌≡◌, ℕ, ℤ, List, filter_map, Option, None, option_and_then, unwrap_or}
+use Rattle.std.specs.Prelude.{◌≡◌, ℕ, ℤ, List, [], filter_map, Option, None, Some, option_and_then, unwrap_or}
 use Rattle.std.specs.List.{last_or}
 use Rattle.axis_sets.specs.Positions.{stands}
 use Rattle.path_geometry.specs.Motions.{axis_end}
 use Rattle.path_geometry.specs.declared.motion.Motion.{Motion}
+use Rattle.path_geometry.specs.declared.motion.Motion.TheVariants.{Line}
 use Rattle.sync_types.specs.declared.Item.{Item}
 use Rattle.sync_types.specs.declared.Part.{Part}
-use Rattle.sync_types.specs.declared.Part.TheVariants.{Move}
+use Rattle.sync_types.specs.declared.Part.TheVariants.{Move, Switch}
 
-abbrev pub motion_in : Part → Motion
-motion_in (Move motion) = motion
+abbrev pub motion_in : Part → Option Motion
+motion_in (Move motion) = Some motion
+motion_in (Switch zone on) = None
 
--- the motion of an item
-abbrev pub motion_of : Item → Motion
+-- the motion of an item; none where it switches a zone
+abbrev pub motion_of : Item → Option Motion
 motion_of item = motion_in item.part
 
--- the end that an item gives an axis; none where its motion has not this axis
+abbrev pub movement_in : Part → Motion
+movement_in (Move motion) = motion
+movement_in (Switch zone on) = Line (record { axes = [] })
+
+-- how an item moves axes: by its motion; and where it switches a zone, by a line of no axis at all
+abbrev pub movement_of : Item → Motion
+movement_of item = movement_in item.part
+
+-- the end that an item gives an axis; none where it has no motion, or its motion has not this axis
 abbrev pub end_in : ℕ → Item → Option ℤ
-end_in axis item = axis_end axis (motion_of item)
+end_in axis item = option_and_then (axis_end axis) (motion_of item)
 
 -- where an axis stands after these items: at the end in the last that has this axis, or where it stood before them
 unfoldable pub left_at : List Item → (ℕ → ℤ) → ℕ → ℤ

@@ -7,7 +7,7 @@ mod start;
 mod threads;
 mod verdicts;
 
-use axis_sets::{AxisSet, ChannelId, ChannelSet, MarkSet, Positions, ZoneSet};
+use axis_sets::{AxisSet, ChannelId, ChannelSet, MarkSet, Positions, ZoneId, ZoneSet};
 pub use laws::{
     a_run_that_is_over_has_all_ends, after_a_step_nobody_can_go, at_most_eight_go_on,
     axes_stay_together, events_are_one_alike, runs_are_replays, the_sequential_run_is_one,
@@ -23,6 +23,8 @@ pub use verdicts::{PlaceName, StretchKind, Verdict};
 pub enum Part {
     /// The axes of the motion move.
     Move(Motion),
+    /// The zone is on from there, where this is true, or off.
+    Switch(ZoneId, bool),
 }
 
 /// What a block of a channel does, with its line.
@@ -35,15 +37,16 @@ pub struct Item {
 }
 
 impl Item {
-    ghost use Rattle.std.specs.Prelude.{◌≡◌};
+    ghost use Rattle.std.specs.Prelude.{◌≡◌, option_copied};
     ghost use Rattle.sync_types.specs.Items.{motion_of};
 
-    /// The motion.
-    pub fn motion(&self) -> &Motion
-        ensures { result.now ≡ motion_of self.now }
+    /// The motion, where the block moves axes.
+    pub fn motion(&self) -> Option<&Motion>
+        ensures { option_copied result ≡ motion_of self.now }
     {
         match &self.part {
-            Part::Move(motion) => motion,
+            Part::Move(motion) => Some(motion),
+            Part::Switch(_, _) => None,
         }
     }
 }

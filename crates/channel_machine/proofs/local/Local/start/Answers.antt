@@ -1,6 +1,4 @@
-use Rattle.std.proofs.Common.{refl, sym}
-use Rattle.axis_sets.specs.Positions.{stands}
-use Rattle.sync_types.proofs.Positions.{left_at-nil}
+use Rattle.std.proofs.Common.{refl}
 use Rattle.channel_machine.proofs.local.Local.start.Goals as goal
 
 pub returns-clause-kept : goal.returns-clause-kept
@@ -11,7 +9,7 @@ returns-clause-kept c = record {
   parameters = c.in_ok-new.ensures;
   modal = c.start.ensures;
   frame = c.empty.ensures;
-  at = λ axis. sym (left_at-nil (stands c.args.grant.now.at) axis);
+  at = λ axis. refl;
   slots = c.own_axes.ensures.slots;
   axes = c.own_axes.ensures.owned;
   on = refl;

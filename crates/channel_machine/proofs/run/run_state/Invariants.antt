@@ -3,14 +3,14 @@ use Rattle.std.proofs.Common.{◌≡◌, ◌≤◌, ◌-◌, [], IfSome}
 use Rattle.channel_machine.specs.Kept.{GoesOn, IsSettingIn, Keeps, state_view}
 use Rattle.channel_machine.specs.Levels.{LevelsFit}
 use Rattle.channel_machine.specs.Run.{SurroundingsView, Channel}
-use Rattle.channel_machine.proofs.run.run_segment.Given as goal
+use Rattle.channel_machine.proofs.run.run_state.Given as goal
 
 abbrev pub invariant-loop-items : goal.invariant-loop-items
 invariant-loop-items l = record {
   fit : IfSome l.state.levels (LevelsFit l.job.skip l.job.programs);
   few : l.state.count ≤ 100000;
-  channel : l.state.channel ≡ l.local.channel;
-  told : (s : SurroundingsView) (c : Channel) → IsSettingIn l.job s l.local → Keeps s c l.local → GoesOn s c [] l.items.items (state_view l.state);
+  channel : l.state.channel ≡ l.fn.start.channel;
+  told : (s : SurroundingsView) (c : Channel) → IsSettingIn l.job s (state_view l.fn.start) → Keeps s c (state_view l.fn.start) → GoesOn s c [] l.items.items (state_view l.state);
 }
 
 abbrev pub decreases-loop-items : goal.decreases-loop-items
