@@ -9,4 +9,5 @@ pub mod MotionLaws
 pub mod Moves
 pub mod Reaches
 pub mod Runs
+pub mod Unmoved
 pub mod HeldWords

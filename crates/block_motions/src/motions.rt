@@ -6,6 +6,7 @@ ghost use Rattle.block_motions.specs.Goals.{ConditionsView, AreInForce};
 ghost use Rattle.block_motions.specs.Motions as model;
 
 use crate::goals::{Conditions, Goal, Targets, goals_of, have_axes, word};
+use crate::words::is_any;
 use arrayvec::ArrayVec;
 use axis_sets::{AXIS_LIMIT, AxisId, AxisSet, Positions};
 use g_groups::{MOTION_GROUP, RAPID_GROUP, RTLIOF};
@@ -179,6 +180,9 @@ pub fn straight_motion(
     ensures stand { IfOk result (λ motion. model.StandsAtEndOf motion at.old at.new) }
     ensures unmoved { OnErr result (at.new ≡ at.old) }
 {
+    if !is_any(&targets.slots) && !is_any(&targets.axes) {
+        return Ok(None);
+    }
     if !have_axes(slots, conditions, &targets.slots) {
         return Err(NO_SUCH_AXIS);
     }

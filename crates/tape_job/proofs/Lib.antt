@@ -1,3 +1,4 @@
+pub mod BareLines
 pub mod FirstRefusalLemmas
 pub mod FitLemmas
 pub mod LibraryLemmas

@@ -1,6 +1,7 @@
 -- Meaning. The lines of an input, and what stands in a line.
-use Rattle.std.specs.Prelude.{ℕ, ◌-◌, Bool, not, List, [], ◌∷◌, if◌then◌else◌, ◌==◌, slice_index, take, length, filter, position, Option, Some, None}
+use Rattle.std.specs.Prelude.{ℕ, ◌-◌, Bool, not, ◌||◌, List, [], ◌∷◌, if◌then◌else◌, ◌==◌, slice_index, take, length, filter, position, Option, Some, None}
 use Rattle.std.specs.List.{list_any, slice_split, onto_first, enumerate_from}
+use Rattle.std.specs.Str.{bytes_eq}
 use Rattle.std.specs.Str.Lines.{strip_carriage_return}
 use Rattle.block_scanner.specs.Bytes.{is_blank, is_semicolon}
 
@@ -48,3 +49,7 @@ begins_with_percent raw = slice_index raw 0 == 37
 -- the words of a text, which blanks and tabs separate
 abbrev pub words : List ℕ → List (List ℕ)
 words text = filter (λ word. not (length word == 0)) (slice_split is_blank text)
+
+-- the line is nothing but its line end: a line feed, or a carriage return and a line feed
+unfoldable pub is_bare : List ℕ → Bool
+is_bare raw = bytes_eq raw (10 ∷ []) || bytes_eq raw (13 ∷ 10 ∷ [])

@@ -2,7 +2,7 @@
 ghost use Rattle.std.specs.Prelude.{◌≡◌, ◌∷◌, ◌<◌, ◌≤◌, IfOk, map, length, position};
 ghost use Rattle.block_scanner.specs.Bytes.{is_semicolon};
 ghost use Rattle.nc_blocks.specs.Names.{upper};
-ghost use Rattle.tape_job.specs.Lines.{is_feed, raw_lines, text_of, before_comment, words, is_visible, has_token, begins_with_percent};
+ghost use Rattle.tape_job.specs.Lines.{is_feed, raw_lines, text_of, before_comment, words, is_visible, has_token, begins_with_percent, is_bare};
 
 use block_scanner::is_blank;
 use std::alloc::{AllocError, Global};
@@ -81,6 +81,14 @@ pub(crate) fn begins_with_percent(raw: &[u8]) -> bool
     ensures { result ≡ begins_with_percent raw.now }
 {
     raw.first() == Some(&b'%')
+}
+
+/// Whether a line is nothing but its line end.
+#[tactic(auto, unfolding(crate::specs::Lines::is_bare))]
+pub(crate) fn is_bare(raw: &[u8]) -> bool
+    ensures { result ≡ is_bare raw.now }
+{
+    raw == b"\n".as_slice() || raw == b"\r\n".as_slice()
 }
 
 /// The text in upper case.

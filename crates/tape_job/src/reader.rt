@@ -2,7 +2,7 @@
 use crate::JobFault;
 use crate::draft::Draft;
 use crate::library::refusal;
-use crate::lines::{begins_with_percent, has_token};
+use crate::lines::{begins_with_percent, has_token, is_bare};
 use crate::reading::{LineFault, Reading, reading_in};
 use job_lines::Code;
 use job_types::Job;
@@ -111,7 +111,7 @@ impl Reader {
         Ok(())
     }
 
-    /// Takes the next line.
+    /// Takes the next line. One of a program that is nothing but its line end tells nothing.
     #[tactic(auto, unfolding(crate::specs::Read::trial, crate::specs::Read::line_trial))]
     pub(crate) fn line(&mut self, alloc: Global, number: u32, raw: &[u8]) -> Result<(), JobFault>
         requires short { last_count self.old.job.programs < 2 ^ 32 }
@@ -120,6 +120,9 @@ impl Reader {
         ensures count { OnOk result (last_count self.new.job.programs ≤ last_count self.old.job.programs + 1) }
         ensures listed { IfErr result IsListed }
     {
+        if self.in_programs && is_bare(raw) {
+            return Ok(());
+        }
         if let Some(refused) = self.unmatched(raw) {
             return Err(JobFault::Refused(refused));
         }
