@@ -11,6 +11,8 @@ mod calls;
 #[cfg(test)]
 mod control;
 #[cfg(test)]
+mod coordination;
+#[cfg(test)]
 mod expressions;
 #[cfg(test)]
 mod groups;
