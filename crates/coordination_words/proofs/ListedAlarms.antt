@@ -1,7 +1,6 @@
 -- The alarms of coordination blocks are in the table of alarms.
-use Rattle.std.proofs.Common.{◌≡◌, ℕ, ℤ, pos, ◌^◌, ◌&&◌, Bool, true, false, not, cond, nat_lt, nat_le, int_lt, List, [], ◌∷◌, drop, replicate, slice_set, Option, None, Some, Result, Ok, Err, refl}
+use Rattle.std.proofs.Common.{ℕ, ℤ, pos, ◌^◌, Bool, true, false, not, cond, nat_lt, int_lt, List, [], ◌∷◌, drop, replicate, slice_set, Option, None, Some, Result, Ok, Err, refl}
 use Rattle.std.specs.Prelude.{⊤}
-use Rattle.std.specs.List.{list_all}
 use Rattle.std.specs.Ordering.{int_eq}
 use Rattle.std.specs.Int.RustNames.{unsigned_abs}
 use Rattle.axis_sets.specs.declared.limits.TheConstants.{AXIS_LIMIT, CHANNEL_PLACES, MARK_LIMIT, ZONE_PLACES}
@@ -22,7 +21,6 @@ use Rattle.coordination_words.specs.Operands.{or_alarm, operand_value, whole_bel
 use Rattle.coordination_words.specs.Programs.{program_named, program_text}
 use Rattle.coordination_words.specs.Requests.{without_itself, meeting, selection, switching, owns_all, leaves_zones_whole, letting_go, taking, request_of}
 use Rattle.coordination_words.specs.Settings.{SettingView}
-use Rattle.coordination_words.specs.declared.asked.Request.{Request}
 use Rattle.coordination_words.specs.declared.asked.Request.TheVariants.{Act, Switch}
 
 -- an alarm, where one comes, is in the table

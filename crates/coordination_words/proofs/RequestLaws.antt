@@ -1,5 +1,5 @@
 -- What a block asks of the other channels is of the job, and a zone that is switched is held.
-use Rattle.std.proofs.Common.{◌≡◌, ◌≢◌, ℕ, ◌+◌, ◌*◌, ◌<◌, ◌%◌, ◌/◌, ◌==◌, ◌&&◌, ◌||◌, nat_lt, nat_le, ℤ, pos, negsuc, Bool, true, false, not, cond, List, [], ◌∷◌, length, drop, get_or, replicate, slice_set, get_or-set_same, Option, None, Some, Result, Ok, Err, refl, sym, ap, subst, ◌∙◌, arith}
+use Rattle.std.proofs.Common.{◌≡◌, ◌≢◌, ℕ, ◌*◌, ◌<◌, ◌%◌, ◌/◌, ◌==◌, ◌&&◌, ◌||◌, nat_lt, nat_le, ℤ, pos, negsuc, Bool, true, false, not, cond, List, [], ◌∷◌, length, drop, replicate, slice_set, get_or-set_same, Option, None, Some, Result, Ok, Err, refl, sym, ap, subst, ◌∙◌, arith}
 use Rattle.std.specs.List.{list_all}
 use Rattle.std.specs.Str.{bytes_eq}
 use Rattle.std.proofs.lemmas.List.Quantifiers.{position-Some}
@@ -12,10 +12,9 @@ use Rattle.nc_blocks.specs.Statement.{OperandView, Value, Text, AxisName}
 use Rattle.nc_blocks.specs.declared.blocks.CoordWord.{CoordWord}
 use Rattle.nc_blocks.specs.declared.blocks.CoordWord.TheVariants as word
 use Rattle.nc_expressions.specs.Value.{◌>>=◌}
-use Rattle.sync_types.specs.BoardActions.{axes_to_free}
-use Rattle.sync_types.specs.BoardAlarms.{is_whole, named_axes, named_channels, names_no_mark, own_alarm}
+use Rattle.sync_types.specs.BoardAlarms.{is_whole}
 use Rattle.sync_types.specs.declared.Action.{Action}
-use Rattle.sync_types.specs.declared.Action.TheVariants.{WaitM, SetM, ClearM, Init, Start, WaitE, Release, Get, End}
+use Rattle.sync_types.specs.declared.Action.TheVariants.{WaitM, SetM, ClearM, Init, Start, WaitE, Release, Get}
 use Rattle.coordination_words.proofs.SetLaws.{from_bind, less_has, less_itself, all_kept, all_found_pass}
 use Rattle.coordination_words.specs.Laws.{AllAxesPass, IsOfTheJob}
 use Rattle.coordination_words.specs.Operands.{or_alarm, operand_value, whole_below, mark_in, channel_in, if_passes, zone_in, state_in, axis_in, axis_found, slot_named, program_in, set_with, marks_in, channels_in, axes_in, first_in}

@@ -1,5 +1,5 @@
 -- Sets with a member more and a member less, and a test of all members by what is left of them.
-use Rattle.std.proofs.Common.{◌≡◌, ℕ, ◌<◌, ◌==◌, ◌&&◌, ◌||◌, not, ◌↔◌, Bool, true, false, inl, inr, List, length, get_or, replicate, slice_set, refl, sym, ap, ◌∙◌, get_or-set_same, get_or-set_other, arith}
+use Rattle.std.proofs.Common.{◌≡◌, ℕ, ◌<◌, ◌==◌, ◌&&◌, ◌||◌, not, ◌↔◌, Bool, true, false, inl, inr, List, length, get_or, replicate, slice_set, refl, sym, ◌∙◌, get_or-set_same, get_or-set_other, arith}
 use Rattle.std.specs.Prelude.{IsTrue}
 use Rattle.std.specs.List.{list_all}
 use Rattle.std.proofs.Math.ListN.{length-set}

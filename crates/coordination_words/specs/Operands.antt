@@ -50,6 +50,7 @@ zone_in setting parameters operand =
 unfoldable pub state_of : ℤ → Result Bool ℕ
 state_of value = if int_eq value (pos 0) then Ok false else if int_eq value (pos 2000000) then Ok true else Err ZONE_STATE
 
+-- whether a zone is to be on
 abbrev pub state_in : (ℕ → ℤ) → OperandView → Result Bool ℕ
 state_in parameters operand = operand_value parameters ZONE_STATE operand >>= state_of
 
@@ -87,13 +88,15 @@ abbrev pub set_with : (OperandView → Result ℕ ℕ) → List Bool → List Op
 set_with number_in set [] = Ok set
 set_with number_in set (operand ∷ operands) = number_in operand >>= λ number. set_with number_in (slice_set set number true) operands
 
--- the marks, the channels and the axes of these arguments
+-- the marks of these arguments
 unfoldable pub marks_in : (ℕ → ℤ) → List OperandView → Result (List Bool) ℕ
 marks_in parameters operands = set_with (mark_in parameters) (replicate MARK_LIMIT false) operands
 
+-- their channels
 unfoldable pub channels_in : SettingView → (ℕ → ℤ) → List OperandView → Result (List Bool) ℕ
 channels_in setting parameters operands = set_with (channel_in setting parameters) (replicate CHANNEL_PLACES false) operands
 
+-- their axes
 unfoldable pub axes_in : SettingView → List OperandView → Result (List Bool) ℕ
 axes_in setting operands = set_with (axis_in setting) (replicate AXIS_LIMIT false) operands
 

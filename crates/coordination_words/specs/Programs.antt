@@ -5,6 +5,7 @@ use Rattle.nc_blocks.specs.Names.{name_of}
 use Rattle.nc_blocks.specs.declared.limits.TheConstants.{NAME_LIMIT}
 use Rattle.nc_expressions.specs.Symbols.{is_word}
 
+-- so many bytes at the end of a text, or all of it where no number is given
 abbrev pub last_bytes : List ℕ → Option ℕ → List ℕ
 last_bytes text None = text
 last_bytes text (Some count) = drop (length text - count) text

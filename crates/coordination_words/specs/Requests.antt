@@ -1,5 +1,5 @@
 -- Meaning. What a coordination block asks for, or its first alarm.
-use Rattle.std.specs.Prelude.{ℕ, not, ℤ, Bool, true, false, if◌then◌else◌, List, [], ◌∷◌, drop, slice_set, Result, Ok, Err}
+use Rattle.std.specs.Prelude.{ℕ, not, ℤ, Bool, false, if◌then◌else◌, List, drop, slice_set, Result, Ok, Err}
 use Rattle.std.specs.List.{list_all}
 use Rattle.axis_sets.specs.Sets.{has, members_of}
 use Rattle.nc_blocks.specs.Statement.{OperandView}
@@ -8,7 +8,6 @@ use Rattle.nc_blocks.specs.declared.blocks.CoordWord.TheVariants as word
 use Rattle.nc_expressions.specs.Value.{◌>>=◌}
 use Rattle.nc_faults.specs.declared.alarms.TheConstants.{AXIS_NOT_OWNED, NO_SUCH_CHANNEL, NO_SUCH_MARK, NO_SUCH_PROGRAM, ZONE_NOT_HELD, ZONE_SPLIT, ZONE_STATE}
 use Rattle.sync_types.specs.BoardAlarms.{is_whole}
-use Rattle.sync_types.specs.declared.Action.{Action}
 use Rattle.sync_types.specs.declared.Action.TheVariants.{WaitM, SetM, ClearM, Init, Start, WaitE, Release, Get}
 use Rattle.coordination_words.specs.Operands.{mark_in, channel_in, zone_in, state_in, program_in, marks_in, channels_in, axes_in, first_in}
 use Rattle.coordination_words.specs.Settings.{SettingView}
@@ -55,6 +54,7 @@ letting_go setting axes =
     else if leaves_zones_whole setting axes then Ok (Act (Release axes))
     else Err ZONE_SPLIT
 
+-- any axes may be asked for that split no zone
 unfoldable pub taking : SettingView → List Bool → Result Request ℕ
 taking setting axes = if leaves_zones_whole setting axes then Ok (Act (Get axes)) else Err ZONE_SPLIT
 

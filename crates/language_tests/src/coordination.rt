@@ -160,7 +160,7 @@ fn places(alloc: Global, set: AxisSet) -> Result<String, Fail> {
     Ok(text)
 }
 
-/// What is asked of the others as text.
+/// What is asked of the other channels, as text.
 fn act(alloc: Global, action: &Action) -> Result<String, Fail> {
     Ok(match action {
         Action::WaitM(mark, named) => {
