@@ -3,6 +3,7 @@ pub mod Pasts
 pub mod Resuming
 pub mod Rows
 pub mod Steps
+pub mod Requests
 pub mod RunLaws
 pub mod Fitting
 pub mod Follows

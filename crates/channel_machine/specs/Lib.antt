@@ -1,3 +1,4 @@
+pub mod Coordination
 pub mod Levels
 pub mod Run
 pub mod Kept

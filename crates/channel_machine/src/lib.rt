@@ -2,6 +2,7 @@
 //! repetitions and calls, moves its axes, and ends or alarms.
 #![tactic(auto)]
 
+mod coordination;
 mod laws;
 mod levels;
 mod limits;

@@ -1,0 +1,11 @@
+use Rattle.std.proofs.Common.{◌≡◌, drop, map, length, replicate, false}
+use Rattle.axis_sets.specs.declared.limits.TheConstants.{MARK_LIMIT}
+use Rattle.nc_blocks.specs.Statement.{operand_view}
+use Rattle.coordination_words.specs.Operands as model
+use Rattle.coordination_words.proofs.operands.marks_in.Given as goal
+
+abbrev pub invariant-loop-operand : goal.invariant-loop-operand
+invariant-loop-operand g l =
+    (length l.marks ≡ MARK_LIMIT)
+    × (model.set_with (model.mark_in (g.N.Names.parameter l.parameters)) l.marks (map operand_view (drop l.operand-index l.operands))
+    ≡ model.set_with (model.mark_in (g.N.Names.parameter l.parameters)) (replicate MARK_LIMIT false) (map operand_view l.operands))

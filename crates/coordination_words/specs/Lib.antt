@@ -1,0 +1,4 @@
+pub mod Operands
+pub mod Programs
+pub mod Requests
+pub mod Settings
