@@ -155,7 +155,7 @@ at_index_listed : (parameters : ℕ → ℤ) (o : Option ℕ) → IsListed (at_i
 at_index_listed parameters None = listed_4
 at_index_listed parameters (Some i) = tt
 
-pub value_listed : (parameters : ℕ → ℤ) (tree : Tree) → IsListed (value_of parameters tree)
+value_listed : (parameters : ℕ → ℤ) (tree : Tree) → IsListed (value_of parameters tree)
 value_listed parameters (Number n) = tt
 value_listed parameters (Parameter i) = tt
 value_listed parameters (Indexed t) =

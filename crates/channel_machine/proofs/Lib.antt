@@ -1,5 +1,6 @@
 pub mod Going
 pub mod Pasts
+pub mod Ranges
 pub mod Resuming
 pub mod Rows
 pub mod Steps

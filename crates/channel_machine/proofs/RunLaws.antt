@@ -23,7 +23,7 @@ use Rattle.sync_types.specs.declared.Item.{Item}
 use Rattle.sync_types.specs.declared.Part.TheVariants as part
 use Rattle.block_effects.specs.Words.{parameter_in}
 use Rattle.channel_machine.specs.Coordination.{request_in}
-use Rattle.channel_machine.proofs.Requests.{asked_listed, asks_still, request_listed}
+use Rattle.channel_machine.proofs.Requests.{asked_listed, asks_still, statement_listed}
 use Rattle.coordination_words.specs.declared.asked.Request.{Request}
 use Rattle.coordination_words.specs.declared.asked.Request.TheVariants.{Act, Switch}
 use Rattle.job_types.specs.Job.{ProgramView}
@@ -78,7 +78,7 @@ module _ (s : SurroundingsView) where
   executed_listed : (past : List Deed) (place : Place) (b : ℕ × BlockView) → IsListed (executed_block s past place b)
   executed_listed past place (line, block) =
       bind_listed (request_in (setting_after s past) (parameter_in (parameters_after past)) block.statement) _
-      (request_listed (setting_after s past) (parameter_in (parameters_after past)) block.statement)
+      (statement_listed (setting_after s past) (parameter_in (parameters_after past)) block.statement)
       (λ request. bind_listed (effect_of (setup_after s past) (found_after s past) line (opener_at s place) block.statement)
       (λ effect. Ok (record { line = line; block = block; request = request; effect = effect }))
       (effect_listed (setup_after s past) (found_after s past) line (opener_at s place) block.statement) (λ effect. tt))

@@ -1,7 +1,7 @@
 -- One block of a segment, told by what is kept.
 use Rattle.std.proofs.Common.{◌≡◌, ◌∙◌, ℕ, zero, suc, ◌+◌, ◌-◌, ℤ, Bool, true, false, List, [], ◌∷◌, ◌++◌, append-nil, length, option_and_then, unwrap_or, Option, None, Some, Result, Ok, Err, refl, sym, ap, subst, arith}
 use mathlib.Core.Path.{fun_ext}
-use Rattle.std.proofs.lemmas.List.{append_assoc, length-append}
+use Rattle.std.proofs.lemmas.List.{append_assoc}
 use Rattle.std.specs.Option.{option_to_list}
 use Rattle.axis_sets.specs.Positions.{stands}
 use Rattle.sync_types.specs.Items.{end_in, StandsAtEnd}

@@ -1,7 +1,6 @@
 -- Meaning. What a block of coordination finds in the job and in its channel.
 use Rattle.std.specs.Prelude.{ℕ, ◌==◌, ◌&&◌, is_some, true, ℤ, Bool, if◌then◌else◌, List, map, Option, Some, None, Result, Ok}
 use Rattle.std.specs.List.{list_all, list_any, range_with_len}
-use Rattle.std.specs.Option.{option_map_or}
 use Rattle.axis_sets.specs.Sets.{has}
 use Rattle.axis_sets.specs.declared.limits.TheConstants.{AXIS_LIMIT}
 use Rattle.coordination_words.specs.Requests.{request_of}
@@ -12,7 +11,6 @@ use Rattle.job_types.specs.Job.{JobView, ProgramView}
 use Rattle.job_types.specs.Zones.{has_axis}
 use Rattle.job_types.specs.declared.job.AxisLine.{AxisLine}
 use Rattle.job_types.specs.declared.job.ChannelLine.{ChannelLine}
-use Rattle.job_types.specs.declared.job.Side.{Side}
 use Rattle.job_types.specs.declared.job.ZoneLine.{ZoneLine}
 use Rattle.nc_blocks.specs.Statement.{Statement, Coord}
 use Rattle.nc_expressions.specs.Value.{◌>>=◌}

@@ -86,7 +86,7 @@ fn is_side_of(axes: AxisSet, carrier: Option<(AxisId, bool)>) -> bool
 
 /// Whether all axes of a zone are among these.
 #[tactic(auto, unfolding(crate::specs::Coordination::has_all_of))]
-fn has_all_of(axes: AxisSet, zone: &ZoneLine) -> bool
+pub(crate) fn has_all_of(axes: AxisSet, zone: &ZoneLine) -> bool
     ensures { result ≡ model.has_all_of axes zone.now }
 {
     zone.sides.iter().all(|side| is_side_of(axes, side.carrier))

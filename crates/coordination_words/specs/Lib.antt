@@ -1,3 +1,4 @@
+pub mod Laws
 pub mod Operands
 pub mod Programs
 pub mod Requests

@@ -4,11 +4,16 @@
 #![tactic(auto)]
 
 mod asked;
+mod laws;
 mod operands;
 mod programs;
 mod setting;
 mod words;
 
 pub use asked::Request;
+pub use laws::{
+    alarms_are_listed, clearm_without_arguments_lowers_all, requests_are_of_the_job,
+    switches_are_of_held_zones,
+};
 pub use setting::Setting;
 pub use words::request_of;

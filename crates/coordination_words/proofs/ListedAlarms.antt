@@ -1,0 +1,260 @@
+-- The alarms of coordination blocks are in the table of alarms.
+use Rattle.std.proofs.Common.{◌≡◌, ℕ, ℤ, pos, ◌^◌, ◌&&◌, Bool, true, false, not, cond, nat_lt, nat_le, int_lt, List, [], ◌∷◌, drop, replicate, slice_set, Option, None, Some, Result, Ok, Err, refl}
+use Rattle.std.specs.Prelude.{⊤}
+use Rattle.std.specs.List.{list_all}
+use Rattle.std.specs.Ordering.{int_eq}
+use Rattle.std.specs.Int.RustNames.{unsigned_abs}
+use Rattle.axis_sets.specs.declared.limits.TheConstants.{AXIS_LIMIT, CHANNEL_PLACES, MARK_LIMIT, ZONE_PLACES}
+use Rattle.micro_units.specs.Arithmetic.{square_root}
+use Rattle.nc_blocks.specs.Statement.{OperandView, Value, Text, AxisName}
+use Rattle.nc_blocks.specs.declared.blocks.CoordWord.{CoordWord}
+use Rattle.nc_blocks.specs.declared.blocks.CoordWord.TheVariants as word
+use Rattle.nc_expressions.specs.declared.trees.UnaryOp.{UnaryOp}
+use Rattle.nc_expressions.specs.declared.trees.UnaryOp.TheVariants.{Minus, Not, Abs, Sqrt, Pot, Trunc, Round}
+use Rattle.nc_expressions.specs.declared.trees.BinaryOp.{BinaryOp}
+use Rattle.nc_expressions.specs.declared.trees.BinaryOp.TheVariants.{Add, Sub, Mul, Div, WholeDiv, Modulo, And, Or, Xor, Equal, NotEqual, Greater, Less, GreaterEqual, LessEqual}
+use Rattle.nc_expressions.specs.Symbols.{index_of}
+use Rattle.nc_expressions.specs.Tree.{Tree, Number, Parameter, Indexed, Unary, Binary}
+use Rattle.nc_expressions.specs.Value.{◌>>=◌, in_range_or_alarm, quotient_or_alarm, root_or_alarm, unary_value, binary_value, at_index, value_of}
+use Rattle.nc_faults.specs.Texts.{IsAlarmCode, alarm_texts}
+use Rattle.sync_types.specs.declared.Action.TheVariants.{WaitM, SetM, ClearM, Init, Start, WaitE, Release, Get}
+use Rattle.coordination_words.specs.Operands.{or_alarm, operand_value, whole_below, mark_in, channel_in, if_passes, zone_in, state_of, state_in, axis_in, axis_found, slot_named, program_in, set_with, marks_in, channels_in, axes_in, first_in}
+use Rattle.coordination_words.specs.Programs.{program_named, program_text}
+use Rattle.coordination_words.specs.Requests.{without_itself, meeting, selection, switching, owns_all, leaves_zones_whole, letting_go, taking, request_of}
+use Rattle.coordination_words.specs.Settings.{SettingView}
+use Rattle.coordination_words.specs.declared.asked.Request.{Request}
+use Rattle.coordination_words.specs.declared.asked.Request.TheVariants.{Act, Switch}
+
+-- an alarm, where one comes, is in the table
+abbrev pub IsListed : {A : Type 0} → Result A ℕ → Type 0
+IsListed (Ok x) = ⊤
+IsListed (Err code) = IsAlarmCode code
+
+bind_listed : {A B : Type 0} (r : Result A ℕ) (f : A → Result B ℕ) → IsListed r → ((x : A) → IsListed (f x)) → IsListed (r >>= f)
+bind_listed (Ok x) f first rest = rest x
+bind_listed (Err code) f first rest = first
+
+-- ---- values
+
+checked_listed : (z : ℤ) → IsListed (in_range_or_alarm z)
+unfolding in_range_or_alarm IsAlarmCode alarm_texts
+checked_listed z = by_size (nat_lt (unsigned_abs z) (10 ^ 14))
+  where
+    by_size : (b : Bool) → IsListed (cond b (Ok z) (Err 1))
+    by_size true = tt
+    by_size false = refl
+
+divided_listed : (divisor : ℤ) (value : Result ℤ ℕ) → IsListed value → IsListed (quotient_or_alarm divisor value)
+unfolding quotient_or_alarm IsAlarmCode alarm_texts
+divided_listed divisor value listed = by_zero (int_eq divisor (pos 0))
+  where
+    by_zero : (b : Bool) → IsListed (cond b (Err 2) value)
+    by_zero true = refl
+    by_zero false = listed
+
+rooted_listed : (z : ℤ) → IsListed (root_or_alarm z)
+unfolding root_or_alarm IsAlarmCode alarm_texts
+rooted_listed z = by_sign (int_lt z (pos 0))
+  where
+    by_sign : (b : Bool) → IsListed (cond b (Err 3) (Ok (square_root z)))
+    by_sign true = refl
+    by_sign false = tt
+
+unary_listed : (op : UnaryOp) (z : ℤ) → IsListed (unary_value op z)
+unfolding unary_value
+unary_listed Minus z = tt
+unary_listed Not z = tt
+unary_listed Abs z = tt
+unary_listed Sqrt z = rooted_listed z
+unary_listed Pot z = checked_listed _
+unary_listed Trunc z = tt
+unary_listed Round z = checked_listed _
+
+binary_listed : (op : BinaryOp) (x y : ℤ) → IsListed (binary_value op x y)
+unfolding binary_value
+binary_listed Add x y = checked_listed _
+binary_listed Sub x y = checked_listed _
+binary_listed Mul x y = checked_listed _
+binary_listed Div x y = divided_listed y _ (checked_listed _)
+binary_listed WholeDiv x y = divided_listed y _ (checked_listed _)
+binary_listed Modulo x y = divided_listed y _ tt
+binary_listed And x y = tt
+binary_listed Or x y = tt
+binary_listed Xor x y = tt
+binary_listed Equal x y = tt
+binary_listed NotEqual x y = tt
+binary_listed Greater x y = tt
+binary_listed Less x y = tt
+binary_listed GreaterEqual x y = tt
+binary_listed LessEqual x y = tt
+
+at_index_listed : (parameters : ℕ → ℤ) (o : Option ℕ) → IsListed (at_index parameters o)
+unfolding IsAlarmCode alarm_texts
+at_index_listed parameters None = refl
+at_index_listed parameters (Some i) = tt
+
+value_listed : (parameters : ℕ → ℤ) (tree : Tree) → IsListed (value_of parameters tree)
+value_listed parameters (Number n) = tt
+value_listed parameters (Parameter i) = tt
+value_listed parameters (Indexed t) =
+    bind_listed (value_of parameters t) (λ z. at_index parameters (index_of z)) (value_listed parameters t) (λ z. at_index_listed parameters (index_of z))
+value_listed parameters (Unary op t) = bind_listed (value_of parameters t) (λ z. unary_value op z) (value_listed parameters t) (λ z. unary_listed op z)
+value_listed parameters (Binary op a b) =
+    bind_listed (value_of parameters a) (λ x. value_of parameters b >>= λ y. binary_value op x y) (value_listed parameters a)
+    (λ x. bind_listed (value_of parameters b) (λ y. binary_value op x y) (value_listed parameters b) (λ y. binary_listed op x y))
+
+-- ---- arguments
+
+or_listed : (code : ℕ) → IsAlarmCode code → (o : Option ℕ) → IsListed (or_alarm code o)
+or_listed code is None = is
+or_listed code is (Some n) = tt
+
+operand_listed : (parameters : ℕ → ℤ) (code : ℕ) → IsAlarmCode code → (operand : OperandView) → IsListed (operand_value parameters code operand)
+operand_listed parameters code is (Value tree) = value_listed parameters tree
+operand_listed parameters code is (Text bytes) = is
+operand_listed parameters code is (AxisName bytes) = is
+
+no_mark : IsAlarmCode 25
+unfolding IsAlarmCode alarm_texts
+no_mark = refl
+
+no_channel : IsAlarmCode 24
+unfolding IsAlarmCode alarm_texts
+no_channel = refl
+
+no_axis : IsAlarmCode 14
+unfolding IsAlarmCode alarm_texts
+no_axis = refl
+
+no_program : IsAlarmCode 7
+unfolding IsAlarmCode alarm_texts
+no_program = refl
+
+no_zone : IsAlarmCode 29
+unfolding IsAlarmCode alarm_texts
+no_zone = refl
+
+no_state : IsAlarmCode 30
+unfolding IsAlarmCode alarm_texts
+no_state = refl
+
+not_owned : IsAlarmCode 15
+unfolding IsAlarmCode alarm_texts
+not_owned = refl
+
+split : IsAlarmCode 31
+unfolding IsAlarmCode alarm_texts
+split = refl
+
+mark_listed : (parameters : ℕ → ℤ) (operand : OperandView) → IsListed (mark_in parameters operand)
+mark_listed parameters operand =
+    bind_listed (operand_value parameters 25 operand) (λ value. or_alarm 25 (whole_below MARK_LIMIT value)) (operand_listed parameters 25 no_mark operand)
+    (λ value. or_listed 25 no_mark (whole_below MARK_LIMIT value))
+
+state_of_listed : (value : ℤ) → IsListed (state_of value)
+unfolding state_of
+state_of_listed value = by_tests (int_eq value (pos 0)) (int_eq value (pos 2000000))
+  where
+    by_tests : (b c : Bool) → IsListed (cond b (Ok false) (cond c (Ok true) (Err 30)))
+    by_tests true c = tt
+    by_tests false true = tt
+    by_tests false false = no_state
+
+state_listed : (parameters : ℕ → ℤ) (operand : OperandView) → IsListed (state_in parameters operand)
+state_listed parameters operand = bind_listed (operand_value parameters 30 operand) state_of (operand_listed parameters 30 no_state operand) state_of_listed
+
+first_listed : {A : Type 0} (value_in : OperandView → Result A ℕ) → ((operand : OperandView) → IsListed (value_in operand)) → (code : ℕ) → IsAlarmCode code
+    → (operands : List OperandView) → IsListed (first_in value_in code operands)
+first_listed value_in each code is [] = is
+first_listed value_in each code is (operand ∷ operands) = each operand
+
+set_listed : (number_in : OperandView → Result ℕ ℕ) → ((operand : OperandView) → IsListed (number_in operand)) → (s : List Bool) (operands : List OperandView)
+    → IsListed (set_with number_in s operands)
+set_listed number_in each s [] = tt
+set_listed number_in each s (operand ∷ operands) =
+    bind_listed (number_in operand) (λ n. set_with number_in (slice_set s n true) operands) (each operand) (λ n. set_listed number_in each (slice_set s n true) operands)
+
+module _ (setting : SettingView) (parameters : ℕ → ℤ) where
+  channel_listed : (operand : OperandView) → IsListed (channel_in setting parameters operand)
+  channel_listed operand =
+      bind_listed (operand_value parameters 24 operand) (λ value. or_alarm 24 (if_passes setting.has_channel (whole_below CHANNEL_PLACES value)))
+      (operand_listed parameters 24 no_channel operand) (λ value. or_listed 24 no_channel (if_passes setting.has_channel (whole_below CHANNEL_PLACES value)))
+
+  zone_listed : (operand : OperandView) → IsListed (zone_in setting parameters operand)
+  zone_listed operand =
+      bind_listed (operand_value parameters 29 operand) (λ value. or_alarm 29 (if_passes setting.holds (whole_below ZONE_PLACES value)))
+      (operand_listed parameters 29 no_zone operand) (λ value. or_listed 29 no_zone (if_passes setting.holds (whole_below ZONE_PLACES value)))
+
+  axis_listed : (operand : OperandView) → IsListed (axis_in setting operand)
+  axis_listed (AxisName name) = or_listed 14 no_axis (axis_found setting name (slot_named name))
+  axis_listed (Value tree) = no_axis
+  axis_listed (Text bytes) = no_axis
+
+  program_listed : (operand : OperandView) → IsListed (program_in setting operand)
+  program_listed (Text text) = or_listed 7 no_program (program_named setting.names (program_text text))
+  program_listed (Value tree) = no_program
+  program_listed (AxisName name) = no_program
+
+  marks_listed : (operands : List OperandView) → IsListed (marks_in parameters operands)
+  unfolding marks_in
+  marks_listed operands = set_listed (mark_in parameters) (mark_listed parameters) (replicate MARK_LIMIT false) operands
+
+  channels_listed : (operands : List OperandView) → IsListed (channels_in setting parameters operands)
+  unfolding channels_in
+  channels_listed operands = set_listed (channel_in setting parameters) channel_listed (replicate CHANNEL_PLACES false) operands
+
+  axes_listed : (operands : List OperandView) → IsListed (axes_in setting operands)
+  unfolding axes_in
+  axes_listed operands = set_listed (axis_in setting) axis_listed (replicate AXIS_LIMIT false) operands
+
+  -- ---- words
+
+  meeting_listed : (operands : List OperandView) → IsListed (meeting setting parameters operands)
+  meeting_listed operands =
+      bind_listed (first_in (mark_in parameters) 25 operands) (λ mark. channels_in setting parameters (drop 1 operands) >>= λ named. Ok (Act (WaitM mark (without_itself setting named))))
+      (first_listed (mark_in parameters) (mark_listed parameters) 25 no_mark operands)
+      (λ mark. bind_listed (channels_in setting parameters (drop 1 operands)) (λ named. Ok (Act (WaitM mark (without_itself setting named)))) (channels_listed (drop 1 operands)) (λ named. tt))
+
+  selection_listed : (operands : List OperandView) → IsListed (selection setting parameters operands)
+  selection_listed operands =
+      bind_listed (first_in (channel_in setting parameters) 24 operands) (λ channel. first_in (program_in setting) 7 (drop 1 operands) >>= λ program. Ok (Act (Init channel program)))
+      (first_listed (channel_in setting parameters) channel_listed 24 no_channel operands)
+      (λ channel. bind_listed (first_in (program_in setting) 7 (drop 1 operands)) (λ program. Ok (Act (Init channel program)))
+      (first_listed (program_in setting) program_listed 7 no_program (drop 1 operands)) (λ program. tt))
+
+  switching_listed : (operands : List OperandView) → IsListed (switching setting parameters operands)
+  switching_listed operands =
+      bind_listed (first_in (zone_in setting parameters) 29 operands) (λ zone. first_in (state_in parameters) 30 (drop 1 operands) >>= λ on. Ok (Switch zone on))
+      (first_listed (zone_in setting parameters) zone_listed 29 no_zone operands)
+      (λ zone. bind_listed (first_in (state_in parameters) 30 (drop 1 operands)) (λ on. Ok (Switch zone on))
+      (first_listed (state_in parameters) (state_listed parameters) 30 no_state (drop 1 operands)) (λ on. tt))
+
+  letting_go_listed : (axes : List Bool) → IsListed (letting_go setting axes)
+  unfolding letting_go
+  letting_go_listed axes = by_tests (owns_all setting axes) (leaves_zones_whole setting axes)
+    where
+      by_tests : (b c : Bool) → IsListed (cond (not b) (Err 15) (cond c (Ok (Act (Release axes))) (Err 31)))
+      by_tests false c = not_owned
+      by_tests true true = tt
+      by_tests true false = split
+
+  taking_listed : (axes : List Bool) → IsListed (taking setting axes)
+  unfolding taking
+  taking_listed axes = by_test (leaves_zones_whole setting axes)
+    where
+      by_test : (b : Bool) → IsListed (cond b (Ok (Act (Get axes))) (Err 31))
+      by_test true = tt
+      by_test false = split
+
+  pub request_listed : (which : CoordWord) (operands : List OperandView) → IsListed (request_of setting parameters which operands)
+  unfolding request_of
+  request_listed word.WaitM operands = meeting_listed operands
+  request_listed word.WaitMC operands = meeting_listed operands
+  request_listed word.SetM operands = bind_listed (marks_in parameters operands) (λ marks. Ok (Act (SetM marks))) (marks_listed operands) (λ marks. tt)
+  request_listed word.ClearM operands = bind_listed (marks_in parameters operands) (λ marks. Ok (Act (ClearM marks))) (marks_listed operands) (λ marks. tt)
+  request_listed word.Init operands = selection_listed operands
+  request_listed word.Start operands = bind_listed (channels_in setting parameters operands) (λ named. Ok (Act (Start named))) (channels_listed operands) (λ named. tt)
+  request_listed word.WaitE operands = bind_listed (channels_in setting parameters operands) (λ named. Ok (Act (WaitE named))) (channels_listed operands) (λ named. tt)
+  request_listed word.Release operands = bind_listed (axes_in setting operands) (letting_go setting) (axes_listed operands) letting_go_listed
+  request_listed word.Get operands = bind_listed (axes_in setting operands) (taking setting) (axes_listed operands) taking_listed
+  request_listed word.CProt operands = switching_listed operands
