@@ -1,8 +1,9 @@
 -- The motions of a channel, each from where those before it leave the axes.
-use Rattle.std.proofs.Common.{◌≡◌, ◌⊎◌, ◌∙◌, ℕ, ℤ, ◌+◌, ◌≤◌, ◌<◌, Bool, List, [], ◌∷◌, ◌++◌, append-nil, length, length-append, take, slice_get, Option, None, Some, All, IfSome, inl, inr, refl, sym, ap, subst, arith}
+use Rattle.std.proofs.Common.{◌≡◌, ◌⊎◌, ◌∙◌, ℕ, ℤ, ◌+◌, ◌≤◌, ◌<◌, Bool, true, List, [], ◌∷◌, ◌++◌, append-nil, length, length-append, take, slice_get, Option, None, Some, All, IfSome, inl, inr, refl, sym, ap, subst, arith}
 use Rattle.std.proofs.Math.Seq.{take-append_seam}
 use Rattle.std.proofs.lemmas.List.{take-append-le}
-use Rattle.std.proofs.lemmas.List.Elements.{All-take}
+use Rattle.axis_sets.specs.Sets.{has}
+use Rattle.std.proofs.lemmas.List.Elements.{All-nil, All-take}
 use Rattle.std.proofs.lemmas.Option.{slice_get_within}
 use Rattle.std.specs.Option.{option_to_list}
 use Rattle.block_motions.specs.Motions.{IsMotionOf}
@@ -10,6 +11,7 @@ use Rattle.block_motions.proofs.Ends.{le_or_lt}
 use Rattle.number_laws.proofs.Lists.{by_places, slice_get-append_left, slice_get-append_seam}
 use Rattle.path_geometry.specs.Motions.{axes_of, IsSound}
 use Rattle.path_geometry.specs.declared.motion.Motion.{Motion}
+use Rattle.path_geometry.specs.declared.motion.Motion.TheVariants.{Line}
 use Rattle.micro_units.specs.Position.{IsPosition}
 use Rattle.sync_types.specs.declared.Item.{Item}
 use Rattle.sync_types.specs.Items.{left_at, motion_of, movement_of}
@@ -62,3 +64,13 @@ if_moves P item holds = by_motion (motion_of item) refl
     by_motion : (o : Option Motion) → motion_of item ≡ o → IfSome o P
     by_motion None is = tt
     by_motion (Some motion) is = subst P (moved_by item motion is) holds
+
+-- a line of no axis at all is a motion of any channel
+pub still_follows : (axes : List Bool) (at : ℕ → ℤ) → IsMotionOf axes at (Line (record { axes = [] }))
+still_follows axes at = record {
+  once = λ i j d low high. absurd (omega arith);
+  owned = All-nil (λ e. has axes e.0 ≡ true);
+  begins = All-nil (λ e. e.1 ≡ at e.0);
+  in_range = All-nil (λ e. IsPosition e.2);
+  sound = λ starts. record { once = λ i j d low high. absurd (omega arith); in_range = All-nil (λ e. IsPosition e.1 × IsPosition e.2) };
+}

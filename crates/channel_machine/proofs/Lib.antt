@@ -1,8 +1,10 @@
 pub mod Going
 pub mod Pasts
+pub mod Ranges
 pub mod Resuming
 pub mod Rows
 pub mod Steps
+pub mod Requests
 pub mod RunLaws
 pub mod Fitting
 pub mod Follows

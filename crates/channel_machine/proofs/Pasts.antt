@@ -5,7 +5,7 @@ use Rattle.axis_sets.specs.Positions.{position_of}
 use Rattle.number_laws.proofs.Lists.{filter_map-one}
 use Rattle.sync_types.specs.Items.{end_in}
 use Rattle.sync_types.specs.declared.Grant.{Grant}
-use Rattle.channel_machine.specs.Run.{SurroundingsView, Executed, Deed, Did, Got, block_in, blocks_of, grant_by, grant_after, position_by, stands_after, stands_at_start}
+use Rattle.channel_machine.specs.Run.{SurroundingsView, Executed, Deed, Did, Got, block_in, blocks_of, grant_by, grant_after, on_after, on_by, on_by_request, position_by, stands_after, stands_at_start}
 
 pub fold-push : {X Y : Type 0} (f : Y → X → Y) (y : Y) (xs : List X) (x : X) → fold f y (xs ++ x ∷ []) ≡ f (fold f y xs) x
 fold-push f y [] x = refl
@@ -51,3 +51,10 @@ stands-did s past done axis = stands-deed s past (Did done) axis
 pub stands-got : (s : SurroundingsView) (past : List Deed) (grant : Grant) (axis : ℕ)
     → stands_after s (past ++ Got grant ∷ []) axis ≡ unwrap_or (position_of grant.at axis) (stands_after s past axis)
 stands-got s past grant axis = stands-deed s past (Got grant) axis
+
+-- a block switches what it asks for, and a grant has its own zones on
+pub on-did : (s : SurroundingsView) (past : List Deed) (done : Executed) → on_after s (past ++ Did done ∷ []) ≡ on_by_request (on_after s past) done.request
+on-did s past done = fold-push on_by s.grant.on past (Did done)
+
+pub on-got : (s : SurroundingsView) (past : List Deed) (grant : Grant) → on_after s (past ++ Got grant ∷ []) ≡ grant.on
+on-got s past grant = fold-push on_by s.grant.on past (Got grant)

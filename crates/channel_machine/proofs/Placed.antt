@@ -5,7 +5,9 @@ use Rattle.std.proofs.lemmas.Bool.Decides.{nat_tests}
 use Rattle.std.proofs.lemmas.List.{length-map}
 use Rattle.axis_sets.specs.Positions.{stands}
 use Rattle.block_effects.specs.Effects.{Course, SituationView, effect_of}
-use Rattle.block_effects.specs.Words.{SetupView}
+use Rattle.block_effects.specs.Words.{SetupView, parameter_in}
+use Rattle.channel_machine.specs.Coordination.{request_in, setting_in}
+use Rattle.coordination_words.specs.Settings.{SettingView}
 use Rattle.frames.specs.Maps.{Map}
 use Rattle.g_groups.specs.declared.GWord.{GWord}
 use Rattle.nc_blocks.specs.Statement.{BlockView, Statement, statement_view, view_of}
@@ -18,7 +20,7 @@ use Rattle.job_types.specs.Job.{JobView, ProgramView}
 use Rattle.channel_machine.specs.Kept.{StateView, IsSettingIn, Keeps}
 use Rattle.channel_machine.specs.declared.levels.Levels.{Levels}
 use Rattle.channel_machine.specs.Levels.{lines_of, program_blocks, levels_after}
-use Rattle.channel_machine.specs.Run.{SurroundingsView, Channel, setup_after, words_after, chain_after, stands_after, found_after, block_at, opener_at}
+use Rattle.channel_machine.specs.Run.{SurroundingsView, Channel, setup_after, setting_after, parameters_after, words_after, chain_after, stands_after, found_after, block_at, opener_at}
 use Rattle.job_types.specs.Slots.{offset_of}
 use Rattle.job_types.specs.Axes.{axis_named}
 
@@ -86,6 +88,16 @@ module _ (job : JobView) (s : SurroundingsView) (c : Channel) (k : StateView) (s
   effect_there here line opener statement is =
       ap (λ (e : SetupView). effect_of e (found_with (words_after c.past) (chain_after c.past) k.parameters (stands k.at)) line opener statement) (sym equipment_is)
       ∙ ap (λ (f : SituationView). effect_of (setup_after s c.past) f line opener statement) (sym found_is) ∙ ap (λ (o : Statement). effect_of (setup_after s c.past) (found_after s c.past) line o statement) (sym is)
+
+  -- what the block asks for, by what is kept
+  pub request_there : (statement : Statement)
+      → request_in (setting_in job k.channel k.slots k.axes) (parameter_in k.parameters) statement ≡ request_in (setting_after s c.past) (parameter_in (parameters_after c.past)) statement
+  request_there statement =
+      ap (λ (v : SettingView). request_in v (parameter_in k.parameters) statement) (sym setting_is)
+      ∙ ap (λ (ps : List ℤ). request_in (setting_after s c.past) (parameter_in ps) statement) keeps.parameters
+    where
+      setting_is : setting_after s c.past ≡ setting_in job k.channel k.slots k.axes
+      setting_is = rw (set.channel, set.channels, set.programs, set.axes, set.zones, keeps.slots, keeps.axes) refl
 
 -- where a block leads, in the job of the setting
 pub followed_there : (s : SurroundingsView) (skip : Bool) (programs : List (List ℕ × ProgramView)) → s.skip ≡ skip → s.programs ≡ programs

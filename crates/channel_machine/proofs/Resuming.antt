@@ -13,7 +13,7 @@ use Rattle.g_groups.specs.Modal.{IsAfter}
 use Rattle.sync_types.specs.declared.Grant.{Grant}
 use Rattle.channel_machine.specs.Kept.{StateView, Keeps, IsAfterGrant}
 use Rattle.channel_machine.specs.Run.{SurroundingsView, Executed, Channel, chain_after, channel_after_grant, header_of, words_after}
-use Rattle.channel_machine.proofs.Pasts.{blocks_of-got, grant-got, stands-got}
+use Rattle.channel_machine.proofs.Pasts.{blocks_of-got, grant-got, on-got, stands-got}
 
 module _ (s : SurroundingsView) (c : Channel) (old new : StateView) (grant : Grant) (keeps : Keeps s c old) (is : IsAfterGrant old grant new) where
   pub goes_on_with : Keeps s (channel_after_grant c grant) new
@@ -33,7 +33,7 @@ module _ (s : SurroundingsView) (c : Channel) (old new : StateView) (grant : Gra
         at = λ axis. is.at axis ∙ ap (λ (z : ℤ). unwrap_or (position_of grant.at axis) z) (keeps.at axis) ∙ sym (stands-got s c.past grant axis);
         slots = ap (λ (k : StateView). k.slots) is.same ∙ keeps.slots;
         axes = ap (λ (k : StateView). k.axes) is.same ∙ sym (ap (λ (g : Grant). g.axes) (grant-got s c.past grant));
-        on = ap (λ (k : StateView). k.on) is.same ∙ sym (ap (λ (g : Grant). g.on) (grant-got s c.past grant));
+        on = ap (λ (k : StateView). k.on) is.same ∙ sym (on-got s c.past grant);
       }
 
 -- the axes stand where a grant has them, once each has been put there

@@ -6,7 +6,7 @@ use Rattle.block_motions.specs.Motions.{IsMotionOf}
 use Rattle.block_effects.specs.Effects.{Course, Goes, Ends, Calls, effect_of}
 use Rattle.block_effects.proofs.AlarmLaws.{IsListed, bind_listed, effect_listed, listed_8, listed_9}
 use Rattle.block_effects.proofs.EffectLaws.{effect_is}
-use Rattle.channel_machine.proofs.Follows.{AllFollow, AllFollow-push, follows_none, ends_in_range, sound_motions}
+use Rattle.channel_machine.proofs.Follows.{AllFollow, AllFollow-push, follows_none, ends_in_range, sound_motions, still_follows}
 use Rattle.nc_blocks.specs.Statement.{BlockView}
 use Rattle.nc_control_flow.specs.Counted.{next_going}
 use Rattle.nc_control_flow.proofs.Alarms.{Alarms, going_alarms}
@@ -18,11 +18,18 @@ use Rattle.path_geometry.specs.Motions.{IsSound}
 use Rattle.sync_types.specs.Items.{end_in, left_at, movement_of}
 use Rattle.sync_types.proofs.Positions.{left_at-nil, left_at-push, left_in_range}
 use Rattle.sync_types.specs.declared.Grant.{Grant}
+use Rattle.sync_types.specs.declared.Action.{Action}
 use Rattle.sync_types.specs.declared.Item.{Item}
+use Rattle.sync_types.specs.declared.Part.TheVariants as part
+use Rattle.block_effects.specs.Words.{parameter_in}
+use Rattle.channel_machine.specs.Coordination.{request_in}
+use Rattle.channel_machine.proofs.Requests.{asked_listed, asks_still, statement_listed}
+use Rattle.coordination_words.specs.declared.asked.Request.{Request}
+use Rattle.coordination_words.specs.declared.asked.Request.TheVariants.{Act, Switch}
 use Rattle.job_types.specs.Job.{ProgramView}
 use Rattle.channel_machine.specs.declared.levels.Levels.{Levels}
 use Rattle.channel_machine.specs.Levels.{program_blocks, gone_on, past_end, levels_from, levels_after}
-use Rattle.channel_machine.specs.Run.{SurroundingsView, Executed, Deed, Did, Channel, SegmentView, blocks_of, setup_after, found_after, grant_after, stands_after, opener_at, block_at, executed_block, line_after, alarm_segment, ends_main, with_block, with_levels, channel_after_block, segment_after_course, end_segment, segment_after_block, run_after, segment_of, IsListedAction}
+use Rattle.channel_machine.specs.Run.{SurroundingsView, Executed, Deed, Did, Channel, SegmentView, blocks_of, item_by, item_of, parameters_after, setting_after, setup_after, found_after, grant_after, segment_after_request, with_items_before, stands_after, opener_at, block_at, executed_block, line_after, alarm_segment, ends_main, with_block, with_levels, channel_after_block, segment_after_course, end_segment, segment_after_block, run_after, segment_of, IsListedAction}
 use Rattle.channel_machine.proofs.Pasts.{count-did, grant-did, stands-did}
 use Rattle.micro_units.specs.Position.{IsPosition}
 
@@ -70,8 +77,51 @@ bind_ok (Err code) f y is = absurd cc
 module _ (s : SurroundingsView) where
   executed_listed : (past : List Deed) (place : Place) (b : ℕ × BlockView) → IsListed (executed_block s past place b)
   executed_listed past place (line, block) =
-      bind_listed (effect_of (setup_after s past) (found_after s past) line (opener_at s place) block.statement) (λ effect. Ok (record { line = line; block = block; effect = effect }))
-      (effect_listed (setup_after s past) (found_after s past) line (opener_at s place) block.statement) (λ effect. tt)
+      bind_listed (request_in (setting_after s past) (parameter_in (parameters_after past)) block.statement) _
+      (statement_listed (setting_after s past) (parameter_in (parameters_after past)) block.statement)
+      (λ request. bind_listed (effect_of (setup_after s past) (found_after s past) line (opener_at s place) block.statement)
+      (λ effect. Ok (record { line = line; block = block; request = request; effect = effect }))
+      (effect_listed (setup_after s past) (found_after s past) line (opener_at s place) block.statement) (λ effect. tt))
+
+  -- how a block was executed
+  pub record IsExecuted (past : List Deed) (place : Place) (b : ℕ × BlockView) (done : Executed) : Type 0 where
+    pub asks : request_in (setting_after s past) (parameter_in (parameters_after past)) b.1.statement ≡ Ok done.request
+    pub leaves : effect_of (setup_after s past) (found_after s past) b.0 (opener_at s place) b.1.statement ≡ Ok done.effect
+
+  was_executed : (past : List Deed) (place : Place) (b : ℕ × BlockView) (done : Executed) → executed_block s past place b ≡ Ok done → IsExecuted past place b done
+  was_executed past place (line, block) done is =
+      let (request, asked, rest) = bind_ok (request_in (setting_after s past) (parameter_in (parameters_after past)) block.statement) _ done is in
+      let (effect, made, last) = bind_ok (effect_of (setup_after s past) (found_after s past) line (opener_at s place) block.statement)
+      (λ effect. Ok (record { line = line; block = block; request = request; effect = effect })) done rest in
+      let left : Executed = record { line = line; block = block; request = request; effect = effect } in
+      let same : left ≡ done = cc in
+      record {
+        asks = asked ∙ ap (λ (e : Executed). Ok e.request) same;
+        leaves = made ∙ ap (λ (e : Executed). Ok e.effect) same;
+      }
+
+  -- what it does leaves an axis as its motion does
+  item_end : (past : List Deed) (place : Place) (b : ℕ × BlockView) (done : Executed) → IsExecuted past place b done → (axis : ℕ)
+      → option_and_then (λ item. end_in axis item) (item_of done) ≡ option_and_then (λ item. end_in axis item) done.effect.item
+  item_end past place b done is axis = by_request done.request is.asks
+    where
+      by_request : (r : Option Request) → request_in (setting_after s past) (parameter_in (parameters_after past)) b.1.statement ≡ Ok r
+          → option_and_then (λ item. end_in axis item) (item_by done.line r done.effect.item) ≡ option_and_then (λ item. end_in axis item) done.effect.item
+      by_request None asks = refl
+      by_request (Some (Act action)) asks = refl
+      by_request (Some (Switch zone on)) asks =
+          ap (λ (o : Option Item). option_and_then (λ item. end_in axis item) o)
+          (sym (asks_still (setting_after s past) (parameter_in (parameters_after past)) (setup_after s past) (found_after s past) b.0 (opener_at s place) b.1.statement (Switch zone on) done.effect asks is.leaves))
+
+  -- it moves where its motion does
+  item_moves : (axes : List Bool) (at : ℕ → ℤ) (line : ℕ) (request : Option Request) (motion : Option Item) → ((item : Item) → motion ≡ Some item → IsMotionOf axes at (movement_of item))
+      → (item : Item) → item_by line request motion ≡ Some item → IsMotionOf axes at (movement_of item)
+  item_moves axes at line None motion each item is = each item is
+  item_moves axes at line (Some (Act action)) motion each item is = each item is
+  item_moves axes at line (Some (Switch zone on)) motion each item is =
+      let here : Item = record { line = line; part = part.Switch zone on } in
+      let same : here ≡ item = cc in
+      subst (λ (i : Item). IsMotionOf axes at (movement_of i)) same (still_follows axes at)
 
   -- a segment begins after this grant, with the axes there, and after so many blocks
   module _ (grant : Grant) (start : ℕ → ℤ) (first : ℕ) where
@@ -86,30 +136,28 @@ module _ (s : SurroundingsView) where
     at_most_one None = omega arith
     at_most_one (Some item) = omega arith
 
-    executed_is : (past : List Deed) (made : List Item) (place : Place) (b : ℕ × BlockView) (done : Executed) → Holds past made → executed_block s past place b ≡ Ok done
-        → AllFollow grant.axes start (made ++ option_to_list done.effect.item)
-    executed_is past made place (line, block) done holds is =
-        let (effect, is_made, last) = bind_ok (effect_of (setup_after s past) (found_after s past) line (opener_at s place) block.statement)
-        (λ effect. Ok (record { line = line; block = block; effect = effect })) done is in
-        let left : Executed = record { line = line; block = block; effect = effect } in
-        let same : left ≡ done = cc in
-        AllFollow-push grant.axes start made done.effect.item holds.follow
+    executed_is : (past : List Deed) (made : List Item) (place : Place) (b : ℕ × BlockView) (done : Executed) → Holds past made → IsExecuted past place b done
+        → AllFollow grant.axes start (made ++ option_to_list (item_of done))
+    executed_is past made place b done holds is =
+        AllFollow-push grant.axes start made (item_of done) holds.follow
         (λ item has. subst (λ (g : Grant). IsMotionOf g.axes (left_at made start) (movement_of item)) holds.owns
         (subst (λ (at : ℕ → ℤ). IsMotionOf (grant_after s past).axes at (movement_of item)) (fun_ext holds.stand)
-        (effect_is (setup_after s past) (found_after s past) line (opener_at s place) block.statement effect item is_made (ap (λ (e : Executed). e.effect.item) same ∙ has))))
+        (item_moves (grant_after s past).axes (stands_after s past) done.line done.request done.effect.item
+        (λ motion moves. effect_is (setup_after s past) (found_after s past) b.0 (opener_at s place) b.1.statement done.effect motion is.leaves moves) item has)))
 
-    holds_more : (past : List Deed) (made : List Item) (place : Place) (b : ℕ × BlockView) (done : Executed) → Holds past made → executed_block s past place b ≡ Ok done
-        → Holds (past ++ Did done ∷ []) (made ++ option_to_list done.effect.item)
+    holds_more : (past : List Deed) (made : List Item) (place : Place) (b : ℕ × BlockView) (done : Executed) → Holds past made → IsExecuted past place b done
+        → Holds (past ++ Did done ∷ []) (made ++ option_to_list (item_of done))
     holds_more past made place b done holds is = record {
       owns = grant-did s past done ∙ holds.owns;
       stand = λ axis.
           stands-did s past done axis
           ∙ ap (λ (z : ℤ). unwrap_or (option_and_then (λ item. end_in axis item) done.effect.item) z) (holds.stand axis)
-          ∙ sym (left_at-push made done.effect.item start axis);
+          ∙ ap (λ (o : Option ℤ). unwrap_or o (left_at made start axis)) (sym (item_end past place b done is axis))
+          ∙ sym (left_at-push made (item_of done) start axis);
       follow = executed_is past made place b done holds is;
       few =
-          let one = at_most_one done.effect.item in
-          let items = length-append made (option_to_list done.effect.item) in
+          let one = at_most_one (item_of done) in
+          let items = length-append made (option_to_list (item_of done)) in
           let blocks = count-did past done in
           omega (arith, holds.few, one, items, blocks);
     }
@@ -148,30 +196,45 @@ module _ (s : SurroundingsView) where
         room : (done : Executed) → length (blocks_of (c.past ++ Did done ∷ [])) ≤ length (blocks_of c.past) + suc more
         room done = let long = count-did c.past done in omega (arith, long)
 
-        by_led : (done : Executed) (r : Result (Option Levels) ℕ) → IsListed r → Holds (c.past ++ Did done ∷ []) (made ++ option_to_list done.effect.item) → Next more
-            → Comes made (length (blocks_of c.past) + suc more) (segment_after_course s c.past done r (λ after. run_after s more after))
-        by_led done (Err code) listed more_holds next = alarms_at c.past made (length (blocks_of c.past) + suc more) done.line code holds (omega arith) listed
-        by_led done (Ok levels) listed more_holds next =
+        goes_on : (done : Executed) (levels : Option Levels) → Holds (c.past ++ Did done ∷ []) (made ++ option_to_list (item_of done)) → Next more
+            → Comes made (length (blocks_of c.past) + suc more) (with_items_before (option_to_list (item_of done)) (run_after s more (channel_after_block c.past done levels)))
+        goes_on done levels more_holds next =
             let later : Channel = channel_after_block c.past done levels in
-            let rest = next later (made ++ option_to_list done.effect.item) more_holds in
+            let rest = next later (made ++ option_to_list (item_of done)) more_holds in
             let long = count-did c.past done in
             record {
               listed = rest.listed;
               holds =
-                  subst (λ (xs : List Item). Holds (run_after s more later).after.past xs) (append_assoc made (option_to_list done.effect.item) (run_after s more later).items)
+                  subst (λ (xs : List Item). Holds (run_after s more later).after.past xs) (append_assoc made (option_to_list (item_of done)) (run_after s more later).items)
                   rest.holds;
               many = omega (arith, rest.many, long);
             }
+
+        by_request : (done : Executed) (request : Option Request) → ((action : Action) → request ≡ Some (Act action) → IsListedAction action) → (levels : Option Levels)
+            → Holds (c.past ++ Did done ∷ []) (made ++ option_to_list (item_of done)) → Next more
+            → Comes made (length (blocks_of c.past) + suc more) (segment_after_request s c.past done levels request (λ after. run_after s more after))
+        by_request done None asks levels more_holds next = goes_on done levels more_holds next
+        by_request done (Some (Switch zone on)) asks levels more_holds next = goes_on done levels more_holds next
+        by_request done (Some (Act action)) asks levels more_holds next = record { listed = asks action refl; holds = more_holds; many = room done }
+
+        by_led : (done : Executed) → ((action : Action) → done.request ≡ Some (Act action) → IsListedAction action) → (r : Result (Option Levels) ℕ) → IsListed r
+            → Holds (c.past ++ Did done ∷ []) (made ++ option_to_list (item_of done)) → Next more
+            → Comes made (length (blocks_of c.past) + suc more) (segment_after_course s c.past done r (λ after. run_after s more after))
+        by_led done asks (Err code) listed more_holds next = alarms_at c.past made (length (blocks_of c.past) + suc more) done.line code holds (omega arith) listed
+        by_led done asks (Ok levels) listed more_holds next = by_request done done.request asks levels more_holds next
 
         by_end : (levels : Levels) (b : ℕ × BlockView) (done : Executed) → executed_block s c.past levels.here b ≡ Ok done → (flag : Bool) → Next more
             → Comes made (length (blocks_of c.past) + suc more) (cond flag (end_segment s c.past done) (segment_after_course s c.past done (levels_after s.skip s.programs levels done.effect.course) (λ after. run_after s more after)))
         by_end levels b done is true next = record {
           listed = tt;
-          holds = holds_more c.past made levels.here b done holds is;
+          holds = holds_more c.past made levels.here b done holds (was_executed c.past levels.here b done is);
           many = room done;
         }
         by_end levels b done is false next =
-            by_led done (levels_after s.skip s.programs levels done.effect.course) (followed_listed s.skip s.programs levels done.effect.course) (holds_more c.past made levels.here b done holds is) next
+            let did = was_executed c.past levels.here b done is in
+            by_led done
+            (λ action asks. asked_listed (setting_after s c.past) (parameter_in (parameters_after c.past)) b.1.statement action (did.asks ∙ ap (λ (o : Option Request). Ok o) asks))
+            (levels_after s.skip s.programs levels done.effect.course) (followed_listed s.skip s.programs levels done.effect.course) (holds_more c.past made levels.here b done holds did) next
 
         by_done : (levels : Levels) (b : ℕ × BlockView) (r : Result Executed ℕ) → executed_block s c.past levels.here b ≡ r → IsListed r → Next more
             → Comes made (length (blocks_of c.past) + suc more) (segment_after_block s c.past levels b.0 r (λ after. run_after s more after))

@@ -1,14 +1,17 @@
 -- One block of a segment, told by what is kept.
 use Rattle.std.proofs.Common.{◌≡◌, ◌∙◌, ℕ, zero, suc, ◌+◌, ◌-◌, ℤ, Bool, true, false, List, [], ◌∷◌, ◌++◌, append-nil, length, option_and_then, unwrap_or, Option, None, Some, Result, Ok, Err, refl, sym, ap, subst, arith}
 use mathlib.Core.Path.{fun_ext}
-use Rattle.std.proofs.lemmas.List.{append_assoc, length-append}
+use Rattle.std.proofs.lemmas.List.{append_assoc}
 use Rattle.std.specs.Option.{option_to_list}
 use Rattle.axis_sets.specs.Positions.{stands}
 use Rattle.sync_types.specs.Items.{end_in, StandsAtEnd}
 use Rattle.block_effects.specs.Courses.{IsLeft, Does, course_view}
 use Rattle.block_effects.specs.Effects.{Course, Effect, IsStill, group_words, effect_of}
 use Rattle.block_effects.proofs.StillLaws.{searching_stays}
-use Rattle.block_effects.specs.Words.{zeros}
+use Rattle.block_effects.specs.Words.{parameter_in, zeros}
+use Rattle.coordination_words.specs.declared.asked.Request.{Request}
+use Rattle.coordination_words.specs.declared.asked.Request.TheVariants.{Act, Switch}
+use Rattle.channel_machine.specs.Coordination.{request_in}
 use Rattle.block_effects.specs.declared.course.Done.{Done}
 use Rattle.block_effects.specs.declared.situation.Situation.{Situation}
 use Rattle.frames.specs.Composition.{IsComposed}
@@ -23,9 +26,9 @@ use Rattle.sync_types.specs.declared.Item.{Item}
 use Rattle.sync_types.specs.declared.Step.{Step}
 use Rattle.channel_machine.specs.declared.levels.Levels.{Levels}
 use Rattle.channel_machine.specs.Levels.{levels_after}
-use Rattle.channel_machine.specs.Run.{SurroundingsView, Executed, Deed, Did, Channel, SegmentView, blocks_of, channel_after_block, setup_after, grant_after, header_of, words_after, found_after, stands_after, line_after, opener_at, block_at, executed_block, step_at, step_after, alarm_segment, with_items_before, channel_at_end, ends_main, segment_after_block, run_after, segment_of}
-use Rattle.channel_machine.specs.Kept.{StateView, Keeps, GoesOn, Advances, IsFollowing, IsSegment}
-use Rattle.channel_machine.proofs.Pasts.{fold-did, map-did, count-did, grant-did, stands-did}
+use Rattle.channel_machine.specs.Run.{SurroundingsView, Executed, Deed, Did, Channel, SegmentView, blocks_of, item_by, item_of, on_after, on_by_request, parameters_after, setting_after, setup_after, grant_after, header_of, words_after, found_after, stands_after, line_after, opener_at, block_at, executed_block, step_at, step_after, alarm_segment, with_items_before, channel_at_end, ends_main, segment_after_block, segment_after_request, run_after, segment_of}
+use Rattle.channel_machine.specs.Kept.{StateView, Keeps, GoesOn, Advances, IsFollowing, IsHeld, IsSegment, after_block}
+use Rattle.channel_machine.proofs.Pasts.{fold-did, map-did, count-did, grant-did, on-did, stands-did}
 use Rattle.channel_machine.proofs.Searching.{alarms_by_search}
 
 -- the segment ends with this step, after these blocks
@@ -46,12 +49,12 @@ ends_at s segment items k later line action past step is at keeps = record {
 }
 
 -- the step of what is kept is that of the channel
-pub step_kept : (s : SurroundingsView) (past : List Deed) (k : StateView) → k.axes ≡ (grant_after s past).axes → k.on ≡ (grant_after s past).on
+pub step_kept : (s : SurroundingsView) (past : List Deed) (k : StateView) → k.axes ≡ (grant_after s past).axes → k.on ≡ on_after s past
     → ((axis : ℕ) → stands k.at axis ≡ stands_after s past axis)
     → (line here : ℕ) (action : Action) → line ≡ here → step_at k.axes k.on (stands k.at) line action ≡ step_after s past here action
 step_kept s past k axes on at line here action is =
     ap (λ (row : List Bool). step_at row k.on (stands k.at) line action) axes ∙ ap (λ (row : List Bool). step_at (grant_after s past).axes row (stands k.at) line action) on
-    ∙ ap (λ (f : ℕ → ℤ). step_at (grant_after s past).axes (grant_after s past).on f line action) (fun_ext at) ∙ ap (λ (n : ℕ). step_after s past n action) is
+    ∙ ap (λ (f : ℕ → ℤ). step_at (grant_after s past).axes (on_after s past) f line action) (fun_ext at) ∙ ap (λ (n : ℕ). step_after s past n action) is
 
 -- what was done is the effect of the block
 pub effect_done : (r : Result Effect ℕ) (done : Done) (new : Situation) → Does r done new → (effect : Effect) × (r ≡ Ok effect) × IsLeft effect done new
@@ -137,18 +140,27 @@ module _ (s : SurroundingsView) (c : Channel) (k : StateView) (keeps : Keeps s c
       unfolding run_after
       goes more = rw (there, here) refl
 
+      abbrev request_here : Result (Option Request) ℕ
+      request_here = request_in (setting_after s c.past) (parameter_in (parameters_after c.past)) block.statement
+
       abbrev effect_here : Result Effect ℕ
       effect_here = effect_of (setup_after s c.past) (found_after s c.past) line (opener_at s levels.here) block.statement
 
-      -- the block alarms
-      pub stops : (more code : ℕ) → k.count + suc more ≡ 100000 → effect_here ≡ Err code → with_items_before before (segment_of s c) ≡ ended before k line (Alarm code) c.past
-      stops more code room e =
+      -- an argument alarms
+      pub refuses : (more code : ℕ) → k.count + suc more ≡ 100000 → request_here ≡ Err code → with_items_before before (segment_of s c) ≡ ended before k line (Alarm code) c.past
+      refuses more code room e =
           let left : 100000 - length (blocks_of c.past) ≡ suc more = omega (arith, room, keeps.count) in
           ap (with_items_before before) (segment_is (suc more) left ∙ goes more ∙ rw e refl) ∙ alarm_is line line code refl
 
-      module _ (more : ℕ) (room : k.count + suc more ≡ 100000) (effect : Effect) (done : effect_here ≡ Ok effect) where
-        executed_as : segment_of s c ≡ segment_after_block s c.past levels line (Ok (record { line = line; block = block; effect = effect })) (λ after. run_after s more after)
-        executed_as = let left : 100000 - length (blocks_of c.past) ≡ suc more = omega (arith, room, keeps.count) in segment_is (suc more) left ∙ goes more ∙ rw done refl
+      -- the block alarms
+      pub stops : (more code : ℕ) → k.count + suc more ≡ 100000 → (request : Option Request) → request_here ≡ Ok request → effect_here ≡ Err code → with_items_before before (segment_of s c) ≡ ended before k line (Alarm code) c.past
+      stops more code room request asks e =
+          let left : 100000 - length (blocks_of c.past) ≡ suc more = omega (arith, room, keeps.count) in
+          ap (with_items_before before) (segment_is (suc more) left ∙ goes more ∙ rw (asks, e) refl) ∙ alarm_is line line code refl
+
+      module _ (more : ℕ) (room : k.count + suc more ≡ 100000) (request : Option Request) (asks : request_here ≡ Ok request) (effect : Effect) (done : effect_here ≡ Ok effect) where
+        executed_as : segment_of s c ≡ segment_after_block s c.past levels line (Ok (record { line = line; block = block; request = request; effect = effect })) (λ after. run_after s more after)
+        executed_as = let left : 100000 - length (blocks_of c.past) ≡ suc more = omega (arith, room, keeps.count) in segment_is (suc more) left ∙ goes more ∙ rw (asks, done) refl
 
         -- where it leads alarms
         leads_not : (code : ℕ) → ends_main levels effect.course ≡ false → levels_after s.skip s.programs levels effect.course ≡ Err code
@@ -156,7 +168,7 @@ module _ (s : SurroundingsView) (c : Channel) (k : StateView) (keeps : Keeps s c
         leads_not code on e = ap (with_items_before before) (executed_as ∙ rw (on, e) refl) ∙ alarm_is line line code refl
 
         abbrev this : Executed
-        this = record { line = line; block = block; effect = effect }
+        this = record { line = line; block = block; request = request; effect = effect }
 
         abbrev past_more : List Deed
         past_more = c.past ++ Did this ∷ []
@@ -171,17 +183,23 @@ module _ (s : SurroundingsView) (c : Channel) (k : StateView) (keeps : Keeps s c
           axes_more : mid.axes ≡ (grant_after s past_more).axes
           axes_more = axes ∙ keeps.axes ∙ ap (λ (g : Grant). g.axes) (sym (grant-did s c.past this))
 
-          on_more : mid.on ≡ (grant_after s past_more).on
-          on_more = on ∙ keeps.on ∙ ap (λ (g : Grant). g.on) (sym (grant-did s c.past this))
+          on_more : on_by_request mid.on request ≡ on_after s past_more
+          on_more = ap (λ (row : List Bool). on_by_request row request) (on ∙ keeps.on) ∙ sym (on-did s c.past this)
 
-          step_more : (action : Action) → step_at mid.axes mid.on (stands mid.at) line action ≡ step_after s past_more line action
-          step_more action = step_kept s past_more mid axes_more on_more at_more line line action refl
+          abbrev items_more : List Item
+          items_more = before ++ option_to_list (item_by line request effect.item)
+
+          abbrev kept_after : Option Levels → StateView
+          kept_after next = after_block mid line request next
+
+          step_more : (action : Action) → step_at mid.axes (on_by_request mid.on request) (stands mid.at) line action ≡ step_after s past_more line action
+          step_more action = step_kept s past_more (kept_after None) axes_more on_more at_more line line action refl
 
           -- the main program ends
-          finishes : ends_main levels effect.course ≡ true → with_items_before before (segment_of s c) ≡ ended (before ++ option_to_list effect.item) mid line End past_more
+          finishes : ends_main levels effect.course ≡ true → with_items_before before (segment_of s c) ≡ ended items_more (kept_after None) line End past_more
           finishes ends =
               ap (with_items_before before) (executed_as ∙ rw ends refl)
-              ∙ ap (λ (t : Step). segment_view (before ++ option_to_list effect.item) t (channel_at_end past_more))
+              ∙ ap (λ (t : Step). segment_view items_more t (channel_at_end past_more))
               (sym (step_more End))
 
           abbrev after : Option Levels → Channel
@@ -194,13 +212,10 @@ module _ (s : SurroundingsView) (c : Channel) (k : StateView) (keeps : Keeps s c
           unfolding segment_of
           there_after next = let left : 100000 - length (blocks_of past_more) ≡ more = omega (arith, room, keeps.count, longer) in ap (λ (m : ℕ). run_after s m (after next)) left
 
-          both : (segment : SegmentView) → with_items_before before (with_items_before (option_to_list effect.item) segment) ≡ with_items_before (before ++ option_to_list effect.item) segment
-          both segment = ap (λ (items : List Item). segment_view items segment.step segment.after) (sym (append_assoc before (option_to_list effect.item) segment.items))
+          both : (segment : SegmentView) → with_items_before before (with_items_before (option_to_list (item_of this)) segment) ≡ with_items_before items_more segment
+          both segment = ap (λ (items : List Item). segment_view items segment.step segment.after) (sym (append_assoc before (option_to_list (item_of this)) segment.items))
 
           module _ (parameters : effect.parameters ≡ mid.parameters) (modal : IsAfter (words_after c.past ++ group_words block.statement ∷ []) mid.modal) (frame : IsComposed effect.chain mid.frame) where
-            abbrev kept_after : Option Levels → StateView
-            kept_after next = record mid { levels = next; count = mid.count + 1; last = line }
-
             keeps_after : (next : Option Levels) → Keeps s (after next) (kept_after next)
             keeps_after next = record {
               levels = refl;
@@ -216,9 +231,8 @@ module _ (s : SurroundingsView) (c : Channel) (k : StateView) (keeps : Keeps s c
             }
 
             -- the channel is over after the block
-            over_after : (new : StateView) → new ≡ record mid { count = mid.count + 1; last = line } → Keeps s (channel_at_end past_more) new
-            over_after new is =
-                subst (λ (l : StateView). Keeps s (channel_at_end past_more) l) (sym (is ∙ ap (λ (o : Option Levels). record mid { levels = o; count = mid.count + 1; last = line }) gone)) (keeps_after None)
+            over_after : (new : StateView) → new ≡ kept_after None → Keeps s (channel_at_end past_more) new
+            over_after new is = subst (λ (l : StateView). Keeps s (channel_at_end past_more) l) (sym is) (keeps_after None)
 
             -- a block that leads nowhere leaves what was kept before it, but for the words of groups
             module _ (code : ℕ) (alarms : levels_after s.skip s.programs levels effect.course ≡ Err code) where
@@ -249,40 +263,58 @@ module _ (s : SurroundingsView) (c : Channel) (k : StateView) (keeps : Keeps s c
               })
 
             -- control goes on
-            leads : (next : Option Levels) → ends_main levels effect.course ≡ false → levels_after s.skip s.programs levels effect.course ≡ Ok next
-                → GoesOn s c before (before ++ option_to_list effect.item) (kept_after next)
-            leads next on led = record {
+            leads : (next : Option Levels)
+                → segment_after_block s c.past levels line (Ok this) (λ after. run_after s more after) ≡ with_items_before (option_to_list (item_of this)) (run_after s more (after next))
+                → GoesOn s c before items_more (kept_after next)
+            leads next goes_on = record {
               next = after next;
               keeps = keeps_after next;
-              rest = ap (with_items_before before) (executed_as ∙ rw (on, led) refl) ∙ both (run_after s more (after next)) ∙ ap (with_items_before (before ++ option_to_list effect.item)) (sym (there_after next));
+              rest = ap (with_items_before before) (executed_as ∙ goes_on) ∙ both (run_after s more (after next)) ∙ ap (with_items_before items_more) (sym (there_after next));
             }
 
+            -- the block ends the segment with a step
+            holds : (next : Option Levels) (action : Action)
+                → segment_after_block s c.past levels line (Ok this) (λ after. run_after s more after) ≡ segment_view (option_to_list (item_of this)) (step_after s past_more line action) (after next)
+                → IsSegment s (with_items_before before (segment_of s c))
+                (record { items = items_more; step = step_at mid.axes (on_by_request mid.on request) (stands mid.at) line action; after = kept_after next })
+            holds next action is = record {
+              items = ap (λ (g : SegmentView). before ++ g.items) (executed_as ∙ is);
+              step = ap (λ (g : SegmentView). g.step) (executed_as ∙ is) ∙ sym (step_more action);
+              after = subst (λ (g : SegmentView). Keeps s g.after (kept_after next)) (sym (executed_as ∙ is)) (keeps_after next);
+            }
+
+            held_so : (r : Option Request) → request ≡ r → (next : Option Levels) → ends_main levels effect.course ≡ false → levels_after s.skip s.programs levels effect.course ≡ Ok next
+                → (halt : Option Step) → IsHeld (kept_after next) line r halt → Advances s c before halt items_more (kept_after next)
+            held_so None is next on led halt none = rw none (leads next (rw (on, led) refl ∙ ap (λ (q : Option Request). segment_after_request s c.past this next q (λ after. run_after s more after)) is))
+            held_so (Some (Switch zone new)) is next on led halt none = rw none (leads next (rw (on, led) refl ∙ ap (λ (q : Option Request). segment_after_request s c.past this next q (λ after. run_after s more after)) is))
+            held_so (Some (Act action)) is next on led halt some = rw some (holds next action (rw (on, led) refl ∙ ap (λ (q : Option Request). segment_after_request s c.past this next q (λ after. run_after s more after)) is))
+
             led_so : (r : Result (Option Levels) ℕ) → ends_main levels effect.course ≡ false → levels_after s.skip s.programs levels effect.course ≡ r
-                → (halt : Option Step) (items : List Item) (new : StateView) → IsFollowing mid k.modal before effect.item line false r halt items new → Advances s c before halt items new
+                → (halt : Option Step) (items : List Item) (new : StateView) → IsFollowing mid k.modal before effect.item line request false r halt items new → Advances s c before halt items new
             led_so (Err code) goes e halt items new is =
                 rw (is.0, is.1) (ends_at s (with_items_before before (segment_of s c)) before k new line (Alarm code) c.past (step_at mid.axes mid.on (stands mid.at) line (Alarm code))
                 (leads_not code goes e) (same_step code e) (over_before code e new is.2))
-            led_so (Ok next) goes e halt items new is = rw (is.0, is.1, is.2) (leads next goes e)
+            led_so (Ok next) goes e halt items new is = rw (is.1, is.2) (held_so request refl next goes e halt is.0)
 
             -- what comes after the block
             after_so : (flag : Bool) → ends_main levels effect.course ≡ flag
-                → (halt : Option Step) (items : List Item) (new : StateView) → IsFollowing mid k.modal before effect.item line flag (levels_after s.skip s.programs levels effect.course) halt items new
+                → (halt : Option Step) (items : List Item) (new : StateView) → IsFollowing mid k.modal before effect.item line request flag (levels_after s.skip s.programs levels effect.course) halt items new
                 → Advances s c before halt items new
             after_so true ends halt items new is =
-                rw (is.0, is.1) (ends_at s (with_items_before before (segment_of s c)) (before ++ option_to_list effect.item) mid new line End past_more (step_at mid.axes mid.on (stands mid.at) line End)
+                rw (is.0, is.1) (ends_at s (with_items_before before (segment_of s c)) items_more (kept_after None) new line End past_more (step_at mid.axes (on_by_request mid.on request) (stands mid.at) line End)
                 (finishes ends) refl (over_after new is.2))
             after_so false goes halt items new is = led_so (levels_after s.skip s.programs levels effect.course) goes refl halt items new is
 
       -- what comes after a block that has done this
       pub performed : (more : ℕ) → k.count + suc more ≡ 100000 → (done : Done) (new : Situation) → Does effect_here done new
           → IsAfter (words_after c.past ++ group_words block.statement ∷ []) new.modal → StandsAtEnd done.item k.at new.at
-          → (next : Option Levels) → next ≡ None → (halt : Option Step) (items : List Item) (kept : StateView)
-          → IsFollowing (in_situation k next new) k.modal before done.item line (ends_main levels (course_view done.course)) (levels_after s.skip s.programs levels (course_view done.course)) halt items kept
+          → (request : Option Request) → request_here ≡ Ok request → (next : Option Levels) → next ≡ None → (halt : Option Step) (items : List Item) (kept : StateView)
+          → IsFollowing (in_situation k next new) k.modal before done.item line request (ends_main levels (course_view done.course)) (levels_after s.skip s.programs levels (course_view done.course)) halt items kept
           → Advances s c before halt items kept
-      performed more room done new does modal stand next gone halt items kept is =
+      performed more room done new does modal stand request asks next gone halt items kept is =
           let (effect, made, left) = effect_done effect_here done new does in
           let mid = in_situation k next new in
-          after_so more room effect made mid gone refl refl refl refl refl (subst (λ (o : Option Item). StandsAtEnd o k.at new.at) (sym left.item) stand)
+          after_so more room request asks effect made mid gone refl refl refl refl refl (subst (λ (o : Option Item). StandsAtEnd o k.at new.at) (sym left.item) stand)
           left.parameters modal left.frame (ends_main levels effect.course) refl halt items kept
-          (subst (λ (o : Option Item). IsFollowing mid k.modal before o line (ends_main levels effect.course) (levels_after s.skip s.programs levels effect.course) halt items kept) (sym left.item)
-          (subst (λ (course : Course). IsFollowing mid k.modal before done.item line (ends_main levels course) (levels_after s.skip s.programs levels course) halt items kept) (sym left.course) is))
+          (subst (λ (o : Option Item). IsFollowing mid k.modal before o line request (ends_main levels effect.course) (levels_after s.skip s.programs levels effect.course) halt items kept) (sym left.item)
+          (subst (λ (course : Course). IsFollowing mid k.modal before done.item line request (ends_main levels course) (levels_after s.skip s.programs levels course) halt items kept) (sym left.course) is))

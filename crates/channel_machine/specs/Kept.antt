@@ -2,6 +2,8 @@
 use Rattle.std.specs.Prelude.{◌≡◌, ℕ, ◌+◌, ℤ, Bool, true, false, List, ◌++◌, length, slice_get, Option, Some, None, unwrap_or, Result, Ok, Err}
 use Rattle.std.specs.Option.{option_to_list}
 use Rattle.axis_sets.specs.Positions.{position_of, stands}
+use Rattle.coordination_words.specs.declared.asked.Request.{Request}
+use Rattle.coordination_words.specs.declared.asked.Request.TheVariants.{Act, Switch}
 use Rattle.frames.specs.Composition.{IsComposed}
 use Rattle.frames.specs.declared.Frame.{Frame}
 use Rattle.g_groups.specs.Modal.{IsAfter}
@@ -19,7 +21,7 @@ use Rattle.channel_machine.specs.declared.levels.Levels.{Levels}
 use Rattle.channel_machine.specs.declared.local.State.{State}
 use Rattle.job_types.specs.Job.{JobView, ProgramView}
 use Rattle.channel_machine.specs.Levels.{lines_of, program_blocks}
-use Rattle.channel_machine.specs.Run.{SurroundingsView, Channel, SegmentView, parameters_after, chain_after, words_after, stands_after, line_after, blocks_of, grant_after, with_items_before, segment_of, step_at}
+use Rattle.channel_machine.specs.Run.{SurroundingsView, Channel, SegmentView, parameters_after, chain_after, words_after, stands_after, line_after, blocks_of, grant_after, on_after, on_by_request, item_by, with_items_before, segment_of, step_at}
 use Rattle.job_types.specs.Slots.{offset_of}
 
 -- where control is; how many blocks were executed, and the line of the last, or of the header; the parameters, the words of groups and the frame that hold; where the axes stand; the channel and the axes in its slots, which do not change; and the axes that it owns, and the zones that are on
@@ -38,8 +40,11 @@ pub record StateView : Type 0 where
 
 -- the setting is one of this job, for the channel of which this is kept
 pub record IsSettingIn (job : JobView) (setting : SurroundingsView) (kept : StateView) : Type 0 where
+  pub channel : setting.channel ≡ kept.channel
+  pub channels : setting.channels ≡ job.channels
   pub programs : setting.programs ≡ job.programs
   pub axes : setting.axes ≡ job.axes
+  pub zones : setting.zones ≡ job.zones
   pub offset : setting.offset ≡ offset_of job kept.channel
   pub skip : setting.skip ≡ job.skip
 
@@ -54,7 +59,7 @@ pub record Keeps (setting : SurroundingsView) (channel : Channel) (kept : StateV
   pub at : (axis : ℕ) → stands kept.at axis ≡ stands_after setting channel.past axis
   pub slots : kept.slots ≡ setting.slots
   pub axes : kept.axes ≡ (grant_after setting channel.past).axes
-  pub on : kept.on ≡ (grant_after setting channel.past).on
+  pub on : kept.on ≡ on_after setting channel.past
 
 -- a block on, with these items more, the channel goes on as this is kept of it
 pub record GoesOn (setting : SurroundingsView) (channel : Channel) (before after : List Item) (kept : StateView) : Type 0 where
@@ -109,17 +114,27 @@ pub record IsThere (programs : List (List ℕ × ProgramView)) (here : Place) (l
 abbrev pub Stops : StateView → ℕ → Action → Option Step → Type 0
 Stops kept line action halt = halt ≡ Some (step_at kept.axes kept.on (stands kept.at) line action)
 
--- where a block on this line with this motion leads: after an alarm of that the words of groups are those before the block
-abbrev pub IsLed : StateView → List ℕ → List Item → Option Item → ℕ → Result (Option Levels) ℕ → Option Step → List Item → StateView → Type 0
-IsLed old modal items item line (Err code) halt after new = Stops old line (Alarm code) halt × (after ≡ items) × (new ≡ record old { modal = modal })
-IsLed old modal items item line (Ok levels) halt after new =
-    (halt ≡ None) × (after ≡ items ++ option_to_list item) × (new ≡ record old { levels = levels; count = old.count + 1; last = line })
+-- what is kept after a block on this line that asks for this, with control there
+abbrev pub after_block : StateView → ℕ → Option Request → Option Levels → StateView
+after_block old line request levels = record old { levels = levels; count = old.count + 1; last = line; on = on_by_request old.on request }
+
+-- what a block on this line asks of the other channels ends the segment
+abbrev pub IsHeld : StateView → ℕ → Option Request → Option Step → Type 0
+IsHeld new line (Some (Act action)) halt = Stops new line action halt
+IsHeld new line (Some (Switch zone on)) halt = halt ≡ None
+IsHeld new line None halt = halt ≡ None
+
+-- where a block on this line with this motion leads that asks for this: after an alarm of that the words of groups are those before the block
+abbrev pub IsLed : StateView → List ℕ → List Item → Option Item → ℕ → Option Request → Result (Option Levels) ℕ → Option Step → List Item → StateView → Type 0
+IsLed old modal items item line request (Err code) halt after new = Stops old line (Alarm code) halt × (after ≡ items) × (new ≡ record old { modal = modal })
+IsLed old modal items item line request (Ok levels) halt after new =
+    IsHeld (after_block old line request levels) line request halt × (after ≡ items ++ option_to_list (item_by line request item)) × (new ≡ after_block old line request levels)
 
 -- after a block: it ends the main program, or leads on
-abbrev pub IsFollowing : StateView → List ℕ → List Item → Option Item → ℕ → Bool → Result (Option Levels) ℕ → Option Step → List Item → StateView → Type 0
-IsFollowing old modal items item line true led halt after new =
-    Stops old line End halt × (after ≡ items ++ option_to_list item) × (new ≡ record old { count = old.count + 1; last = line })
-IsFollowing old modal items item line false led halt after new = IsLed old modal items item line led halt after new
+abbrev pub IsFollowing : StateView → List ℕ → List Item → Option Item → ℕ → Option Request → Bool → Result (Option Levels) ℕ → Option Step → List Item → StateView → Type 0
+IsFollowing old modal items item line request true led halt after new =
+    Stops (after_block old line request None) line End halt × (after ≡ items ++ option_to_list (item_by line request item)) × (new ≡ after_block old line request None)
+IsFollowing old modal items item line request false led halt after new = IsLed old modal items item line request led halt after new
 
 -- what is kept after a grant: the channel owns those axes and has those zones on, and an axis of its positions stands there
 pub record IsAfterGrant (old : StateView) (grant : Grant) (new : StateView) : Type 0 where

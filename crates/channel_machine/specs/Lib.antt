@@ -1,3 +1,5 @@
+pub mod Coordination
+pub mod Grants
 pub mod Levels
 pub mod Run
 pub mod Kept

@@ -1,12 +1,12 @@
 -- Meaning. A segment of a channel's run, told over the list of what the channel has done: the blocks that it has executed, and the grants that it got.
-use Rattle.std.specs.Prelude.{⊤, ℕ, zero, suc, ◌-◌, ◌==◌, ℤ, Bool, false, if◌then◌else◌, List, [], ◌∷◌, ◌++◌, length, map, fold, filter_map, slice_get, Option, None, Some, option_and_then, unwrap_or, Result, Ok, Err}
+use Rattle.std.specs.Prelude.{⊤, ℕ, zero, suc, ◌-◌, ◌==◌, ℤ, Bool, false, if◌then◌else◌, List, [], ◌∷◌, ◌++◌, length, map, fold, filter_map, slice_get, Option, None, Some, option_and_then, unwrap_or, slice_set, Result, Ok, Err}
 use Rattle.std.specs.List.{range_with_len}
 use Rattle.std.specs.Option.{option_map_or, option_to_list}
 use Rattle.axis_sets.specs.Sets.{has}
 use Rattle.axis_sets.specs.Positions.{position_of, stands}
 use Rattle.sync_types.specs.Items.{end_in}
 use Rattle.block_effects.specs.Effects.{Course, Goes, Ends, Calls, Effect, SituationView, group_words, effect_of}
-use Rattle.block_effects.specs.Words.{SetupView, zeros}
+use Rattle.block_effects.specs.Words.{SetupView, parameter_in, zeros}
 use Rattle.frames.specs.Maps.{Map}
 use Rattle.g_groups.specs.declared.GWord.{GWord}
 use Rattle.nc_blocks.specs.Statement.{BlockView, Statement}
@@ -19,10 +19,17 @@ use Rattle.sync_types.specs.declared.Action.{Action}
 use Rattle.sync_types.specs.declared.Action.TheVariants.{End, Alarm}
 use Rattle.sync_types.specs.declared.Grant.{Grant}
 use Rattle.sync_types.specs.declared.Item.{Item}
+use Rattle.sync_types.specs.declared.Part.TheVariants as part
+use Rattle.coordination_words.specs.Settings.{SettingView}
+use Rattle.coordination_words.specs.declared.asked.Request.{Request}
+use Rattle.coordination_words.specs.declared.asked.Request.TheVariants.{Act, Switch}
 use Rattle.sync_types.specs.declared.Step.{Step}
 use Rattle.job_types.specs.Job.{JobView, ProgramView}
 use Rattle.job_types.specs.declared.job.AxisLine.{AxisLine}
+use Rattle.job_types.specs.declared.job.ChannelLine.{ChannelLine}
+use Rattle.job_types.specs.declared.job.ZoneLine.{ZoneLine}
 use Rattle.channel_machine.specs.declared.levels.Levels.{Levels}
+use Rattle.channel_machine.specs.Coordination.{request_in, setting_with}
 use Rattle.channel_machine.specs.Levels.{lines_of, program_blocks, first_place, levels_from, levels_after}
 use Rattle.job_types.specs.Slots.{slot_axis, offset_of}
 use Rattle.job_types.specs.Axes.{axis_named}
@@ -32,10 +39,13 @@ use Rattle.channel_machine.specs.declared.limits.TheConstants.{BLOCK_LIMIT}
 
 -- ---- what a channel runs by
 
--- the programs and the AXIS lines of the job, the axes in the channel's slots X, Y and Z, the settable offset of each slot under each word of its group, whether blocks with '/' are passed over, and what the channel was granted at its start
+-- the channel; the CHANNEL lines, the programs, the AXIS lines and the ZONE lines of the job, the axes in the channel's slots X, Y and Z, the settable offset of each slot under each word of its group, whether blocks with '/' are passed over, and what the channel was granted at its start
 pub record SurroundingsView : Type 0 where
+  pub channel : ℕ
+  pub channels : List ChannelLine
   pub programs : List (List ℕ × ProgramView)
   pub axes : List AxisLine
+  pub zones : List ZoneLine
   pub slots : List (Option ℕ)
   pub offset : ℕ → ℕ → ℤ
   pub skip : Bool
@@ -44,8 +54,11 @@ pub record SurroundingsView : Type 0 where
 -- what a channel of a job runs by
 abbrev pub surroundings_of : JobView → ℕ → Grant → SurroundingsView
 surroundings_of job channel grant = record {
+  channel = channel;
+  channels = job.channels;
   programs = job.programs;
   axes = job.axes;
+  zones = job.zones;
   slots = slot_axis job channel 0 ∷ slot_axis job channel 1 ∷ slot_axis job channel 2 ∷ [];
   offset = offset_of job channel;
   skip = job.skip;
@@ -58,10 +71,11 @@ names setting = map (λ p. p.0) setting.programs
 
 -- ---- what a channel has done
 
--- a block that was executed, with its line and what it left
+-- a block that was executed, with its line, what it asked for, if it is one of coordination, and what it left
 pub record Executed : Type 0 where
   pub line : ℕ
   pub block : BlockView
+  pub request : Option Request
   pub effect : Effect
 
 -- a channel executed a block, or got a grant
@@ -115,6 +129,30 @@ position_by axis (Got grant) = position_of grant.at axis
 abbrev pub stands_after : SurroundingsView → List Deed → ℕ → ℤ
 stands_after setting past axis = fold (λ at deed. unwrap_or (position_by axis deed) at) (stands_at_start setting.grant axis) past
 
+-- what a block on this line does that has this motion and asks for this: a request to switch a zone is done at once
+abbrev pub item_by : ℕ → Option Request → Option Item → Option Item
+item_by line None motion = motion
+item_by line (Some (Act action)) motion = motion
+item_by line (Some (Switch zone on)) motion = Some (record { line = line; part = part.Switch zone on })
+
+abbrev pub item_of : Executed → Option Item
+item_of done = item_by done.line done.request done.effect.item
+
+-- the zones that are on after a block that asks for this
+abbrev pub on_by_request : List Bool → Option Request → List Bool
+on_by_request on None = on
+on_by_request on (Some (Act action)) = on
+on_by_request on (Some (Switch zone new)) = slice_set on zone new
+
+-- a grant says which zones of the channel are on
+abbrev pub on_by : List Bool → Deed → List Bool
+on_by on (Did done) = on_by_request on done.request
+on_by on (Got grant) = grant.on
+
+-- the zones that the channel holds and that are on: those of the last grant, but for what its blocks have switched since
+abbrev pub on_after : SurroundingsView → List Deed → List Bool
+on_after setting past = fold on_by setting.grant.on past
+
 -- the line of the main program's header; 0 where the grant names no program of the job
 abbrev pub header_of : SurroundingsView → ℕ
 header_of setting = option_map_or (λ p. p.1.line) (option_and_then (slice_get setting.programs) setting.grant.program) 0
@@ -151,15 +189,20 @@ found_after setting past = record {
   at = stands_after setting past;
 }
 
--- a block with its line, executed after these deeds
+-- what a block of coordination finds
+abbrev pub setting_after : SurroundingsView → List Deed → SettingView
+setting_after setting past = setting_with setting.channels setting.programs setting.axes setting.zones setting.channel setting.slots (grant_after setting past).axes
+
+-- a block with its line, executed after these deeds: its arguments are read first, where it is one of coordination
 abbrev pub executed_block : SurroundingsView → List Deed → Place → ℕ × BlockView → Result Executed ℕ
 executed_block setting past place (line, block) =
+    request_in (setting_after setting past) (parameter_in (parameters_after past)) block.statement >>= λ request.
     effect_of (setup_after setting past) (found_after setting past) line (opener_at setting place) block.statement >>= λ effect.
-    Ok (record { line = line; block = block; effect = effect })
+    Ok (record { line = line; block = block; request = request; effect = effect })
 
 -- ---- the segment
 
--- the motions of a segment, the step that ends it, and the channel after it
+-- what a segment does, motions and zones that it switches, the step that ends it, and the channel after it
 pub record SegmentView : Type 0 where
   pub items : List Item
   pub step : Step
@@ -179,7 +222,7 @@ step_at axes on at line action = record { line = line; action = action; at = own
 
 -- a step after these deeds
 abbrev pub step_after : SurroundingsView → List Deed → ℕ → Action → Step
-step_after setting past line action = step_at (grant_after setting past).axes (grant_after setting past).on (stands_after setting past) line action
+step_after setting past line action = step_at (grant_after setting past).axes (on_after setting past) (stands_after setting past) line action
 
 -- the segment ends with an alarm, and with it the channel; nothing of the block on this line stands
 abbrev pub alarm_segment : SurroundingsView → List Deed → ℕ → ℕ → SegmentView
@@ -208,15 +251,25 @@ with_levels setting past (Some levels) go = with_block setting past (block_at se
 abbrev pub channel_after_block : List Deed → Executed → Option Levels → Channel
 channel_after_block past done levels = record { past = past ++ Did done ∷ []; levels = levels }
 
+-- a block that asks anything of the other channels ends the segment, and any other leads on
+abbrev pub segment_after_request : SurroundingsView → List Deed → Executed → Option Levels → Option Request → (Channel → SegmentView) → SegmentView
+segment_after_request setting past done levels (Some (Act action)) go = record {
+  items = option_to_list (item_of done);
+  step = step_after setting (past ++ Did done ∷ []) done.line action;
+  after = channel_after_block past done levels;
+}
+segment_after_request setting past done levels (Some (Switch zone on)) go = with_items_before (option_to_list (item_of done)) (go (channel_after_block past done levels))
+segment_after_request setting past done levels None go = with_items_before (option_to_list (item_of done)) (go (channel_after_block past done levels))
+
 -- after an executed block: where control goes on, or an alarm of that
 abbrev pub segment_after_course : SurroundingsView → List Deed → Executed → Result (Option Levels) ℕ → (Channel → SegmentView) → SegmentView
 segment_after_course setting past done (Err code) go = alarm_segment setting past done.line code
-segment_after_course setting past done (Ok levels) go = with_items_before (option_to_list done.effect.item) (go (channel_after_block past done levels))
+segment_after_course setting past done (Ok levels) go = segment_after_request setting past done levels done.request go
 
 -- the end of the main program ends the segment, and the channel
 abbrev pub end_segment : SurroundingsView → List Deed → Executed → SegmentView
 end_segment setting past done = record {
-  items = option_to_list done.effect.item;
+  items = option_to_list (item_of done);
   step = step_after setting (past ++ Did done ∷ []) done.line End;
   after = channel_after_block past done None;
 }
@@ -251,8 +304,7 @@ channel_at_start setting = record { past = []; levels = option_and_then (first_l
 abbrev pub channel_after_grant : Channel → Grant → Channel
 channel_after_grant channel grant = record channel { past = channel.past ++ Got grant ∷ [] }
 
--- the step is the program end, or an alarm of the table of alarms
+-- the alarm of a step, where it is one, is in the table of alarms
 abbrev pub IsListedAction : Action → Type 0
-IsListedAction End = ⊤
 IsListedAction (Alarm code) = IsAlarmCode code
-IsListedAction other = ⊥
+IsListedAction other = ⊤

@@ -32,7 +32,7 @@ pub fn motions_are_few()
     ensures { (s : SurroundingsView) (c : Channel) → length (segment_of s c).items ≤ BLOCK_LIMIT - length (blocks_of c.past) }
 {}
 
-/// A law: a segment ends at the program end, or with an alarm of the table of alarms.
+/// A law: an alarm that ends a segment is in the table of alarms.
 pub fn alarms_are_listed()
     ensures { (s : SurroundingsView) (c : Channel) → IsListedAction (segment_of s c).step.action }
 {}

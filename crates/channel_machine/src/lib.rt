@@ -2,6 +2,8 @@
 //! repetitions and calls, moves its axes, and ends or alarms.
 #![tactic(auto)]
 
+mod coordination;
+mod grants;
 mod laws;
 mod levels;
 mod limits;
@@ -10,6 +12,7 @@ mod run;
 mod surroundings;
 mod threads;
 
+pub use grants::grant_fits;
 pub use laws::{
     alarms_are_listed, motions_are_few, motions_are_sound, motions_follow_one_another,
     segments_join,

@@ -1,6 +1,6 @@
 //! A segment of a channel's run, one block after another.
 
-ghost use Rattle.std.specs.Prelude.{◌≡◌, ◌≤◌, ◌<◌, ◌+◌, ◌++◌, length, slice_get, IfOk, IfNone, IfSome, MatchOption, None, OnOk};
+ghost use Rattle.std.specs.Prelude.{◌≡◌, ◌≤◌, ◌<◌, ◌+◌, ◌++◌, length, slice_get, slice_set, IfOk, IfNone, IfSome, MatchOption, None, OnOk};
 ghost use Rattle.std.specs.Option.{option_to_list};
 ghost use Rattle.axis_sets.specs.Positions.{stands};
 ghost use Rattle.block_effects.specs.Courses.{course_view};
@@ -8,17 +8,19 @@ ghost use Rattle.nc_blocks.specs.Statement.{statement_view, view_of};
 ghost use Rattle.nc_control_flow.specs.Parts.{statement_at, views};
 ghost use Rattle.nc_control_flow.specs.Structures.{opening};
 ghost use Rattle.job_types.specs.SoundJob.{BlocksFit};
-ghost use Rattle.channel_machine.specs.Kept.{Advances, IsFollowing, IsSegment, IsSettingIn, IsThere, Keeps, state_view};
+ghost use Rattle.channel_machine.specs.Kept.{Advances, IsFollowing, IsHeld, IsSegment, IsSettingIn, IsThere, Keeps, state_view};
 ghost use Rattle.channel_machine.specs.Levels.{LevelsFit, levels_after, lines_of};
 ghost use Rattle.channel_machine.specs.Run as model;
 ghost use Rattle.channel_machine.specs.Run.{SurroundingsView, Channel, channel_after_grant, segment_of};
 
+use crate::coordination::request_in;
 use crate::levels::{Levels, flow_of, follow_on};
 use crate::limits::BLOCK_LIMIT;
 use crate::local::{Local, State};
 use crate::surroundings::Surroundings;
-use axis_sets::{AXIS_LIMIT, AxisId, AxisSet, Positions};
+use axis_sets::{AXIS_LIMIT, AxisId, AxisSet, Positions, ZoneId, ZoneSet};
 use block_effects::{BlockFault, Course, Done, execute};
+use coordination_words::Request;
 use g_groups::Modal;
 use job_types::Job;
 use micro_units::Um;
@@ -29,7 +31,7 @@ use nc_faults::alarms::{NO_PROGRAM_END, TOO_MANY_BLOCKS};
 use nc_subprograms::Place;
 use std::alloc::{AllocError, Global};
 use std::marker::Model;
-use sync_types::{Action, Grant, Item, Step};
+use sync_types::{Action, Grant, Item, Part, Step};
 
 /// What a channel does up to the next step. A contract sees the items as a list, and of the channel what it keeps.
 #[derive(Drop)]
@@ -167,7 +169,64 @@ fn ends_here(levels: &Option<Levels>, course: &Course) -> bool
     }
 }
 
-/// Goes on after a block on this line that has done this, and answers the step where the segment ends with it.
+/// Adds what a block on this line does that has this motion and asks for this.
+fn push_done(
+    items: &mut Vec<Item>,
+    line: u32,
+    request: &Option<Request>,
+    motion: Option<Item>,
+) -> Result<(), AllocError>
+    ensures { OnOk result (items.new.items ≡ items.old.items ++ option_to_list (model.item_by line request.now motion)) }
+{
+    match request {
+        Some(Request::Switch(zone, on)) => {
+            let part = Part::Switch(*zone, *on);
+            push_some(items, Some(Item { line, part }))
+        }
+        Some(Request::Act(_)) | None => push_some(items, motion),
+    }
+}
+
+/// These zones with this one, where it is on from here, or without it.
+fn switched(on: ZoneSet, zone: ZoneId, new: bool) -> ZoneSet
+    ensures { result ≡ slice_set on zone new }
+{
+    let _had = on.contains(zone);
+    if new { on.with(zone) } else { on.without(zone) }
+}
+
+/// The zones that are on after a block that asks for this.
+fn on_by_request(on: ZoneSet, request: &Option<Request>) -> ZoneSet
+    ensures { result ≡ model.on_by_request on request.now }
+{
+    match request {
+        Some(Request::Switch(zone, new)) => switched(on, *zone, *new),
+        Some(Request::Act(_)) | None => on,
+    }
+}
+
+/// The step of a block on this line that asks anything of the other channels.
+fn held(state: &State, line: u32, request: &Option<Request>) -> Option<Step>
+    ensures { IsHeld (state_view state.now) line request.now result }
+{
+    match request {
+        Some(Request::Act(action)) => Some(step(state, line, *action)),
+        Some(Request::Switch(_, _)) | None => None,
+    }
+}
+
+/// Counts a block on this line that asks for this, and switches the zone that it switches.
+fn count_block(state: &mut State, line: u32, request: &Option<Request>)
+    requires { state.old.count < BLOCK_LIMIT }
+    ensures { state.new ≡ record state.old { count = state.old.count + 1; last = line; on = model.on_by_request state.old.on request.now } }
+{
+    let on = state.on;
+    state.count += 1;
+    state.last = line;
+    state.on = on_by_request(on, request);
+}
+
+/// Goes on after a block on this line that has done this and asks for this, and answers the step where the segment ends with it.
 /// `modal` are the words of groups that held before the block.
 ///
 /// The alarms are those of where it leads. Following one nothing of the block stands: it is a block that jumps, repeats or
@@ -179,11 +238,12 @@ fn leave(
     line: u32,
     modal: Modal,
     done: Done,
+    request: &Option<Request>,
 ) -> Result<Option<Step>, NoMemory>
     requires fit { IfSome state.old.levels (LevelsFit job.now.skip job.now.programs) }
     requires few { state.old.count < BLOCK_LIMIT }
     ensures told { IfOk result (λ halt. (levels : Levels) → state.old.levels ≡ Some levels
-        → IsFollowing (record (state_view state.old) { levels = None }) modal items.old.items done.entry.item line (model.ends_main levels (course_view done.entry.course))
+        → IsFollowing (record (state_view state.old) { levels = None }) modal items.old.items done.entry.item line request.now (model.ends_main levels (course_view done.entry.course))
         (levels_after job.now.skip job.now.programs levels (course_view done.entry.course)) halt items.new.items (state_view state.new)) }
     ensures fit { IfOk result (λ _. IfSome state.new.levels (LevelsFit job.now.skip job.now.programs)) }
     ensures few { IfOk result (λ _. state.new.count ≤ BLOCK_LIMIT) }
@@ -192,17 +252,15 @@ fn leave(
 {
     let Done { item, course } = done;
     if ends_here(&state.levels, &course) {
-        push_some(items, item)?;
-        state.count += 1;
-        state.last = line;
+        push_done(items, line, request, item)?;
+        count_block(state, line, request);
         return Ok(Some(stop(state, line, Action::End)));
     }
     match follow_on(job, &mut state.levels, course, job.skip) {
         Ok(()) => {
-            push_some(items, item)?;
-            state.count += 1;
-            state.last = line;
-            Ok(None)
+            push_done(items, line, request, item)?;
+            count_block(state, line, request);
+            Ok(held(state, line, request))
         }
         Err(code) => {
             state.situation.modal = modal;
@@ -244,6 +302,11 @@ fn advance(
         return Ok(Some(stop(state, line, Action::Alarm(TOO_MANY_BLOCKS))));
     }
     let channel = state.channel;
+    let parameters = &state.situation.parameters;
+    let request = match request_in(job, channel, &state.own, parameters, &next.block.stmt) {
+        Ok(request) => request,
+        Err(code) => return Ok(Some(stop(state, line, Action::Alarm(code)))),
+    };
     let surroundings = Surroundings { job, channel };
     let modal = state.situation.modal;
     match execute(
@@ -255,7 +318,7 @@ fn advance(
         next.opener,
         &next.block.stmt,
     ) {
-        Ok(done) => leave(job, state, items, line, modal, done),
+        Ok(done) => leave(job, state, items, line, modal, done, &request),
         Err(fault) => match fault {
             BlockFault::Alarm(code) => Ok(Some(stop(state, line, Action::Alarm(code)))),
             BlockFault::NoMemory => Err(NoMemory),
@@ -263,13 +326,15 @@ fn advance(
     }
 }
 
-/// Runs a channel to the end of its program or to its first alarm. A segment that ends with an alarm is
-/// an answer; the only error is want of memory.
+/// Runs a channel up to and with the next block that asks anything of the other channels, which is each block of
+/// coordination but CPROT, or to the end of its program or its first alarm. A segment that ends with an alarm is an answer;
+/// the only error is want of memory.
 ///
 /// Alarm 9: control is past the end of the main program, at the line of the last executed block or of
 /// the header. Alarm 8: one more block than `BLOCK_LIMIT` comes, at its line. Then the alarms of the block
 /// that comes, 6 where it calls a program on a seventeenth level, 5 where its label or block number is
-/// missing, and 32 where a seventeenth repetition would run; nothing of that block stands.
+/// missing, and 32 where a seventeenth repetition would run; and of a block of coordination those of its arguments; nothing
+/// of that block stands.
 ///
 /// The channel after the segment may be handed to `run_segment` again. Following an alarm or the end of the main program it
 /// is over: control is nowhere, and one more segment is alarm 9.

@@ -147,14 +147,14 @@ pub record IsGoodRun (job : JobView) (line : ChannelLine) : Type 0 where
 listed_end : (line : ℕ) (asked : Action) → IsListedAction asked → IsListedEnd (end_by line asked)
 listed_end line action.End listed = tt
 listed_end line (action.Alarm code) listed = listed
-listed_end line (action.WaitM m named) listed = absurd listed
-listed_end line (action.SetM marks) listed = absurd listed
-listed_end line (action.ClearM marks) listed = absurd listed
-listed_end line (action.Init target program) listed = absurd listed
-listed_end line (action.Start named) listed = absurd listed
-listed_end line (action.WaitE named) listed = absurd listed
-listed_end line (action.Release axes) listed = absurd listed
-listed_end line (action.Get axes) listed = absurd listed
+listed_end line (action.WaitM m named) listed = tt
+listed_end line (action.SetM marks) listed = tt
+listed_end line (action.ClearM marks) listed = tt
+listed_end line (action.Init target program) listed = tt
+listed_end line (action.Start named) listed = tt
+listed_end line (action.WaitE named) listed = tt
+listed_end line (action.Release axes) listed = tt
+listed_end line (action.Get axes) listed = tt
 
 pub good_run : (job : JobView) → IsRunnable job → (line : ChannelLine) → IsGoodRun job line
 unfolding program_run

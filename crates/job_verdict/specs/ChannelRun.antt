@@ -39,8 +39,9 @@ abbrev pub alarm_in : ChannelEnd → Option Alarm
 alarm_in (Alarmed alarm) = Some alarm
 alarm_in other = None
 
--- the channel is at its program end, or an alarm of the table of alarms has stopped it
+-- the channel is at its program end, or waits for others, or an alarm of the table of alarms has stopped it
 abbrev pub IsListedEnd : ChannelEnd → Type 0
 IsListedEnd (Ended line) = ⊤
+IsListedEnd (Holding line) = ⊤
 IsListedEnd (Alarmed alarm) = IsAlarmCode alarm.code
-IsListedEnd other = ⊥
+IsListedEnd Idle = ⊥
