@@ -1,8 +1,10 @@
 -- The numbers tell which channels are joined.
-use Rattle.std.proofs.Common.{◌≡◌, ℕ, ◌⊎◌, ◌↔◌, ◌==◌, Bool, true, false, inl, inr, List, [], ◌∷◌, ◌++◌, refl, sym, ap, ◌∙◌, if◌then◌else◌}
+use Rattle.std.proofs.Common.{◌≡◌, ℕ, ◌<◌, ◌⊎◌, ◌↔◌, ◌==◌, Bool, true, false, inl, inr, List, [], ◌∷◌, ◌++◌, refl, sym, ap, ◌∙◌, if◌then◌else◌}
 use Rattle.std.proofs.lemmas.Bool.{cases_Bool, eqb-true, eq-eqb}
 use Rattle.order_clocks.specs.Chains.{IsPath, Leads}
+use Rattle.std.specs.Prelude.{slice_index}
 use Rattle.order_clocks.specs.Groups.{relabelled, labels}
+use Rattle.order_clocks.specs.Partners.{AreAllLinked}
 use Rattle.sync_types.specs.Events.{Pair, ArePaired, IsChain}
 use Rattle.sync_types.specs.Events as events
 
@@ -116,3 +118,60 @@ chained_from ps c d e = elim (linked_from ps c d e) [ inl same ↦ inl same | in
 pub chained_to : (ps : List Pair) (c d : ℕ) → events.AreLinked ps c d → labels ps c ≡ labels ps d
 chained_to ps c d (inl same) = ap (labels ps) same
 chained_to ps c d (inr path) = linked_to ps c d (inr (path.0, from_chain ps path.0 c d path.1))
+
+to_linked : (ps : List Pair) (c d : ℕ) → events.AreLinked ps c d → AreLinked ps c d
+to_linked ps c d (inl same) = inl same
+to_linked ps c d (inr path) = inr (path.0, from_chain ps path.0 c d path.1)
+
+from_linked : (ps : List Pair) (c d : ℕ) → AreLinked ps c d → events.AreLinked ps c d
+from_linked ps c d (inl same) = inl same
+from_linked ps c d (inr path) = inr (path.0, to_chain ps path.0 c d path.1)
+
+pub chained_on : (ps : List Pair) (c d e : ℕ) → events.AreLinked ps c d → events.AreLinked ps d e → events.AreLinked ps c e
+chained_on ps c d e one two = from_linked ps c e (linked_on ps c d e (to_linked ps c d one) (to_linked ps d e two))
+
+pub chained_back : (ps : List Pair) (c d : ℕ) → events.AreLinked ps c d → events.AreLinked ps d c
+chained_back ps c d one = from_linked ps d c (linked_back ps c d (to_linked ps c d one))
+
+pub chained_pair : (ps : List Pair) (c d : ℕ) → ArePaired ps c d → events.AreLinked ps c d
+chained_pair ps c d pair = inr ([], pair)
+
+-- one number in place of another
+abbrev pub IsRelabelled : List ℕ → List ℕ → ℕ → ℕ → Type 0
+IsRelabelled old new a b = (c : ℕ) → c < 9 → slice_index new c ≡ (if slice_index old c == slice_index old a then slice_index old b else slice_index old c)
+
+taken : (old new : List ℕ) (a b c : ℕ) → IsRelabelled old new a b → c < 9 → (slice_index old c == slice_index old a) ≡ true → slice_index new c ≡ slice_index old b
+taken old new a b c is below on = is c below ∙ rw on refl
+
+left : (old new : List ℕ) (a b c : ℕ) → IsRelabelled old new a b → c < 9 → (slice_index old c == slice_index old a) ≡ false → slice_index new c ≡ slice_index old c
+left old new a b c is below off = is c below ∙ rw off refl
+
+pub relabel_keeps : (old new : List ℕ) (a b c d : ℕ) → IsRelabelled old new a b → c < 9 → d < 9 → slice_index old c ≡ slice_index old d → slice_index new c ≡ slice_index new d
+relabel_keeps old new a b c d is c_below d_below e = is c c_below ∙ rw e (sym (is d d_below))
+
+pub relabel_joins : (old new : List ℕ) (a b : ℕ) → IsRelabelled old new a b → a < 9 → b < 9 → slice_index new a ≡ slice_index new b
+relabel_joins old new a b is a_below b_below = taken old new a b a is a_below (eq-eqb _ _ refl) ∙ elim (cases_Bool (slice_index old b == slice_index old a)) [
+  | inl on ↦ sym (taken old new a b b is b_below on)
+  | inr off ↦ sym (left old new a b b is b_below off)
+]
+
+pub relabel_links : (ps : List Pair) (old new : List ℕ) (a b : ℕ) → IsRelabelled old new a b → a < 9 → b < 9 → ArePaired ps a b → AreAllLinked ps old → AreAllLinked ps new
+relabel_links ps old new a b is a_below b_below pair all c d c_below d_below e =
+    let a_b = chained_pair ps a b pair in
+    elim (cases_Bool (slice_index old c == slice_index old a)) [
+    | inl c_on ↦
+        let c_a = all c a c_below a_below (eqb-true _ _ c_on) in
+        elim (cases_Bool (slice_index old d == slice_index old a)) [
+        | inl d_on ↦ chained_on ps c a d c_a (chained_back ps d a (all d a d_below a_below (eqb-true _ _ d_on)))
+        | inr d_off ↦
+            let b_d = all b d b_below d_below (sym (taken old new a b c is c_below c_on) ∙ (e ∙ left old new a b d is d_below d_off)) in
+            chained_on ps c a d c_a (chained_on ps a b d a_b b_d)
+        ]
+    | inr c_off ↦ elim (cases_Bool (slice_index old d == slice_index old a)) [
+        | inl d_on ↦
+            let c_b = all c b c_below b_below (sym (left old new a b c is c_below c_off) ∙ (e ∙ taken old new a b d is d_below d_on)) in
+            let a_d = chained_back ps d a (all d a d_below a_below (eqb-true _ _ d_on)) in
+            chained_on ps c b d c_b (chained_on ps b a d (chained_back ps a b a_b) a_d)
+        | inr d_off ↦ all c d c_below d_below (sym (left old new a b c is c_below c_off) ∙ (e ∙ left old new a b d is d_below d_off))
+        ]
+    ]

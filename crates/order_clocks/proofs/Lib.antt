@@ -1,3 +1,4 @@
+pub mod ActLaws
 pub mod ApartLaws
 pub mod BeforeLaws
 pub mod BoundLaws
@@ -5,6 +6,7 @@ pub mod ChainLaws
 pub mod CountLaws
 pub mod CountingLaws
 pub mod CounterLaws
+pub mod DepartLaws
 pub mod EventLaws
 pub mod GatherLaws
 pub mod GoRowLaws
@@ -13,9 +15,13 @@ pub mod GroupLaws
 pub mod LeastLaws
 pub mod OrderLaws
 pub mod PairLaws
+pub mod PartnerLaws
 pub mod PlaceLaws
 pub mod RaceLaws
+pub mod ReadLaws
 pub mod StepLaws
 pub mod StepRaceLaws
 pub mod StillLaws
+pub mod TellLaws
 pub mod TrackLaws
+pub mod WatchLaws

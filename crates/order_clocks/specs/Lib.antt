@@ -8,6 +8,7 @@ pub mod Groups
 pub mod Happenings
 pub mod Least
 pub mod Pairs
+pub mod Partners
 pub mod Places
 pub mod RaceOrder
 pub mod Races
@@ -15,3 +16,4 @@ pub mod Rows
 pub mod Steps
 pub mod Tells
 pub mod Tracks
+pub mod Watching

@@ -92,7 +92,7 @@ pub record AreRows (run : Course) (i : ℕ) (rows : StepRows) : Type 0 where
   pub goes : (c x : ℕ) → among (run.goers i) c ≡ true → count_of (slice_index_or rows.goes c []) x ≡ row run (go_name i c) x
 
 abbrev pub no_deed : Deed
-no_deed = record { channel = 0; line = 0; raises = []; lowers = []; frees = []; starts = []; ends = false; touches = []; begins = None; goes = []; group = []; holds = [] }
+no_deed = record { channel = 0; line = 0; raises = []; lowers = []; frees = []; starts = []; ends = false; touches = []; begins = None; goes = []; group = [] }
 
 abbrev pub deed_at : List Deed → ℕ → Deed
 deed_at deeds i = slice_index_or deeds i no_deed

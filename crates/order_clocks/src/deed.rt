@@ -57,8 +57,6 @@ pub struct Deed {
     pub goes: [Option<Departure>; 9],
     /// By channel: those that go with one number go as one event.
     pub group: [u8; 9],
-    /// By channel: where it holds when the step is over.
-    pub holds: [Option<HoldAtLine>; 9],
 }
 
 impl Deed {

@@ -1,6 +1,7 @@
 //! Counters of the events of a run.
 #![tactic(auto)]
 
+mod acts;
 mod clocks;
 mod columns;
 mod counting;
@@ -9,6 +10,7 @@ mod events;
 mod flags;
 mod gather;
 mod going;
+mod groups;
 mod notes;
 mod pairs;
 mod passes;
@@ -17,6 +19,7 @@ mod races;
 mod row;
 mod still;
 mod times;
+mod watch;
 
 pub use clocks::{Clocks, StepRows};
 pub use counting::rows_of;

@@ -1,0 +1,12 @@
+use Rattle.std.proofs.Common.{◌≡◌, ℕ, ◌<◌, ◌≤◌, true, List, length}
+use Rattle.std.specs.Prelude.{slice_index}
+use Rattle.order_clocks.specs.Partners.{are_partners, PairsAllPartners, AreAllLinked}
+use Rattle.order_clocks.proofs.groups.groups_of.Given as goal
+use Rattle.sync_types.specs.Events.{Pair}
+
+abbrev pub invariant-loop-a : goal.invariant-loop-a
+invariant-loop-a l = record {
+  size : length l.group ≡ 9;
+  joined : (e f : ℕ) → 1 ≤ e → e < l.a → 1 ≤ f → f < 9 → are_partners l.goes e f ≡ true → slice_index l.group e ≡ slice_index l.group f;
+  linked : (ps : List Pair) → PairsAllPartners ps l.goes → AreAllLinked ps l.group
+}

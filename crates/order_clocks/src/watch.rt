@@ -1,0 +1,214 @@
+//! Reads the steps of a run from its entries.
+ghost use Rattle.std.specs.List.{list_any};
+ghost use Rattle.std.specs.Prelude.{◌≡◌, [], List, Option, Some, ℕ, ◌<◌, ◌≤◌, ◌==◌, ◌&&◌, ◌||◌, not, Bool, false, true, find, is_some, None, if◌then◌else◌, slice_index_or, length, map, option_map};
+ghost use Rattle.axis_sets.specs.Positions.{position_of};
+ghost use Rattle.axis_sets.specs.Sets.{has};
+ghost use Rattle.order_clocks.specs.Happenings.{happening_of};
+ghost use Rattle.order_clocks.specs.Places.{BeginsAtMark, lowers_at};
+ghost use Rattle.order_clocks.specs.Steps.{DepartsFromMark, HoldAtLineOfMark, departure_of, goes_in};
+ghost use Rattle.order_clocks.specs.Watching.{Keeps, IsRead, IsLawful, IsGone, WatchIsSound, begun_at, go_in, is_at_axes};
+ghost use Rattle.sync_types.specs.Boards.{Board};
+ghost use Rattle.sync_types.specs.Turns.{after_step};
+
+use crate::acts::{Act, changes_of, touches_of};
+use crate::groups::groups_of;
+use crate::deed::{Deed, Departure, Hold, HoldAtLine};
+use axis_sets::{AxisId, AxisSet, ChannelId, ChannelSet, MarkSet, Positions};
+use std::marker::Model;
+use sync_types::{Go, Step};
+
+/// The marks that stand and for what channels wait, by their numbers.
+#[derive(Clone, Copy)]
+pub(crate) struct Watch {
+    pub(crate) marks: [MarkSet; 9],
+    pub(crate) holds: [Option<HoldAtLine>; 9],
+}
+
+impl Watch {
+    /// Before the first step.
+    pub(crate) fn new() -> Watch
+        ensures marks { (c m : ℕ) → has (slice_index_or result.marks c []) m ≡ false }
+        ensures holds { (c : ℕ) → slice_index_or result.holds c None ≡ None }
+    {
+        Watch {
+            marks: [MarkSet::empty(); 9],
+            holds: [None; 9],
+        }
+    }
+
+    /// The act of a channel.
+    pub(crate) fn open(&mut self, channel: ChannelId, line: u32, act: &Act)
+        ensures marks { (c m : ℕ) → has (slice_index_or self.new.marks c []) m
+            ≡ (if c == channel then (has (slice_index_or self.old.marks c []) m || has act.now.raises m) && not (has act.now.lowers m) else has (slice_index_or self.old.marks c []) m) }
+        ensures holds { (c : ℕ) → slice_index_or self.new.holds c None
+            ≡ (if c == channel then begun_at act.now.begins line (slice_index_or self.old.holds c None) else slice_index_or self.old.holds c None) }
+    {
+        let c = usize::from(channel.number);
+        self.marks[c] = self.marks[c].union(act.raises).minus(act.lowers);
+        match &act.begins {
+            None => {}
+            Some(hold) => self.holds[c] = Some(HoldAtLine { hold: *hold, line }),
+        }
+    }
+
+    /// A channel goes on.
+    pub(crate) fn let_go(&mut self, c: usize, at: &Positions) -> Departure
+        requires { c < 9 }
+        ensures held { result.held ≡ slice_index_or self.old.holds c None }
+        ensures took { (x : ℕ) → has result.took x ≡ (is_at_axes (slice_index_or self.old.holds c None) && is_some (position_of at.now x)) }
+        ensures holds { (d : ℕ) → slice_index_or self.new.holds d None ≡ (if d == c then None else slice_index_or self.old.holds d None) }
+        ensures marks { (d m : ℕ) → has (slice_index_or self.new.marks d []) m
+            ≡ (if d == c then has (slice_index_or self.old.marks d []) m && not (lowers_at (slice_index_or self.old.holds d None) m) else has (slice_index_or self.old.marks d []) m) }
+    {
+        let held = self.holds[c];
+        let took = took_of(&held, at);
+        self.marks[c] = marks_left(self.marks[c], &held);
+        self.holds[c] = None;
+        Departure { held, took }
+    }
+
+    /// A channel goes on, where it is among these.
+    pub(crate) fn let_go_of(&mut self, goes: &[Go], goers: &[bool; 9], number: u8) -> Option<Departure>
+        requires from { 1 ≤ number }
+        requires below { number < 9 }
+        requires goers { (c : ℕ) → has goers.now c ≡ list_any (λ go. go.channel == c) goes.now }
+        ensures gone { IsGone result (slice_index_or self.old.holds number None) (go_in goes.now number) }
+        ensures holds { (d : ℕ) → slice_index_or self.new.holds d None
+            ≡ (if (d == number) && is_some (go_in goes.now d) then None else slice_index_or self.old.holds d None) }
+        ensures marks { (d m : ℕ) → has (slice_index_or self.new.marks d []) m
+            ≡ (has (slice_index_or self.old.marks d []) m && not (((d == number) && is_some (go_in goes.now d)) && lowers_at (slice_index_or self.old.holds d None) m)) }
+    {
+        let c = usize::from(number);
+        if !goers[c] {
+            return None;
+        }
+        match go_of(goes, ChannelId { number }) {
+            None => None,
+            Some(go) => Some(self.let_go(c, &go.grant.at)),
+        }
+    }
+
+    /// All that go on.
+    pub(crate) fn depart(&mut self, goes: &[Go]) -> [Option<Departure>; 9]
+        ensures goes { (c : ℕ) → IsGone (slice_index_or result c None) (slice_index_or self.old.holds c None) (go_in goes.now c) }
+        ensures holds { (c : ℕ) → slice_index_or self.new.holds c None ≡ (if is_some (go_in goes.now c) then None else slice_index_or self.old.holds c None) }
+        ensures marks { (c m : ℕ) → has (slice_index_or self.new.marks c []) m
+            ≡ (has (slice_index_or self.old.marks c []) m && not (is_some (go_in goes.now c) && lowers_at (slice_index_or self.old.holds c None) m)) }
+        ensures none { slice_index_or result 0 None ≡ None }
+        ensures size { length result ≡ 9 }
+    {
+        let goers = goers_in(goes);
+        let mut gone = [None; 9];
+        for number in 1..9u8 {
+            gone[usize::from(number)] = self.let_go_of(goes, &goers, number);
+        }
+        gone
+    }
+}
+
+impl Watch {
+    /// Reads a step, and goes on to the next: who acts, with what, and who goes on.
+    pub(crate) fn tell(&mut self, channel: ChannelId, step: &Step, goes: &[Go], alarms: bool) -> Deed
+        requires sound { WatchIsSound self.old }
+        ensures sound { WatchIsSound self.new }
+        ensures reads { (b : Board) → Keeps self.old b → IsLawful b channel step.now goes.now alarms → IsRead result (happening_of b channel step.now) }
+        ensures keeps { (b : Board) → Keeps self.old b → IsLawful b channel step.now goes.now alarms → Keeps self.new (after_step b channel step.now) }
+        ensures departures { (c : ℕ) → DepartsFromMark (departure_of result c) }
+        ensures none { goes_in result 0 ≡ false }
+        ensures size { length result.goes ≡ 9 }
+    {
+        let act = changes_of(channel, &step.action, self.own(channel), alarms);
+        self.open(channel, step.line, &act);
+        let departures = self.depart(goes);
+        let group = groups_of(&departures);
+        deed_of(channel, step.line, &act, touches_of(&step.action), departures, group)
+    }
+
+    /// The own marks of a channel.
+    pub(crate) fn own(&self, channel: ChannelId) -> MarkSet
+        ensures { result ≡ slice_index_or self.now.marks channel [] }
+    {
+        self.marks[usize::from(channel.number)]
+    }
+}
+
+/// A step, made of its parts.
+pub(crate) fn deed_of(channel: ChannelId, line: u32, act: &Act, touches: ChannelSet, goes: [Option<Departure>; 9], group: [u8; 9]) -> Deed
+    ensures { result ≡ (record { channel = channel; line = line; raises = act.now.raises; lowers = act.now.lowers; frees = act.now.frees; starts = act.now.starts; ends = act.now.ends; touches = touches; begins = act.now.begins; goes = goes; group = group }) }
+{
+    Deed {
+        channel,
+        line,
+        raises: act.raises,
+        lowers: act.lowers,
+        frees: act.frees,
+        starts: act.starts,
+        ends: act.ends,
+        touches,
+        begins: act.begins,
+        goes,
+        group,
+    }
+}
+
+/// The axes that have a position.
+pub(crate) fn axes_with_position(at: &Positions) -> AxisSet
+    ensures { (x : ℕ) → has result x ≡ is_some (position_of at.now x) }
+{
+    let mut axes = AxisSet::empty();
+    for index in 0..16u8 {
+        let axis = AxisId { index };
+        if at.get(axis).is_some() {
+            axes = axes.with(axis);
+        }
+    }
+    axes
+}
+
+/// The axes that a channel took which waited so.
+pub(crate) fn took_of(held: &Option<HoldAtLine>, at: &Positions) -> AxisSet
+    ensures { (x : ℕ) → has result x ≡ (is_at_axes held.now && is_some (position_of at.now x)) }
+{
+    match held {
+        None => AxisSet::empty(),
+        Some(held) => match &held.hold {
+            Hold::Marks(_, _) => AxisSet::empty(),
+            Hold::Ends(_) => AxisSet::empty(),
+            Hold::Axes(_) => axes_with_position(at),
+        },
+    }
+}
+
+/// The marks without that for which a channel waited.
+pub(crate) fn marks_left(marks: MarkSet, held: &Option<HoldAtLine>) -> MarkSet
+    ensures { (m : ℕ) → has result m ≡ (has marks m && not (lowers_at held.now m)) }
+{
+    match held {
+        None => marks,
+        Some(held) => match &held.hold {
+            Hold::Marks(mark, _) => marks.without(*mark),
+            Hold::Ends(_) => marks,
+            Hold::Axes(_) => marks,
+        },
+    }
+}
+
+/// For each channel whether it is among those that go on.
+pub(crate) fn goers_in(goes: &[Go]) -> [bool; 9]
+    ensures members { (c : ℕ) → has result c ≡ list_any (λ go. go.channel == c) goes.now }
+    ensures from { has result 0 ≡ false }
+    ensures size { length result ≡ 9 }
+{
+    let mut goers = [false; 9];
+    for go in goes {
+        goers[usize::from(go.channel.number)] = true;
+    }
+    goers
+}
+
+/// How a channel goes on; none where it does not.
+pub(crate) fn go_of(goes: &[Go], channel: ChannelId) -> Option<Go>
+    ensures { result ≡ go_in goes.now channel }
+{
+    goes.iter().copied().find(|go| go.channel == channel)
+}
