@@ -117,6 +117,11 @@ abbrev pub IsFirstPlace : Bool → List (List ℕ × ProgramView) → ℕ → �
 IsFirstPlace skip programs number passes (Some place) = (has_counting skip (program_blocks programs number) ≡ true) × (place ≡ first_place skip programs number passes)
 IsFirstPlace skip programs number passes None = has_counting skip (program_blocks programs number) ≡ false
 
+-- a level that stands there, or none
+abbrev pub stood : Bool → Place → Option Place
+stood true here = Some here
+stood false here = None
+
 -- the level stands at the next block, or there is none
 abbrev pub Lands : Next → Place → Bool → Place → Type 0
 Lands (At pc) old result new = (result ≡ true) × (new ≡ record old { pc = pc })

@@ -44,30 +44,33 @@ pub(crate) fn flow_of(job: &Job, number: u16) -> Option<&Flow>
     }
 }
 
-/// A program at its first block that counts, with so many passes still to begin after this one; None
-/// where no block counts.
-fn first_place(job: &Job, number: u16, passes: u16, skip: bool) -> Option<Place>
-    ensures { model.IsFirstPlace skip job.now.programs number passes result }
+/// Puts a level at the first block of a program that counts, with so many passes still to begin after this one, and
+/// answers whether a block counts.
+fn start_at(job: &Job, here: &mut Place, number: u16, passes: u16, skip: bool) -> bool
+    ensures { model.IsFirstPlace skip job.now.programs number passes (model.stood result here.new) }
 {
-    let flow = flow_of(job, number)?;
+    let Some(flow) = flow_of(job, number) else {
+        return false;
+    };
     match flow.first_counted(skip) {
-        Next::At(pc) => Some(Place {
-            program: number,
-            pc,
-            passes,
-            repeats: Repeats::new(),
-        }),
-        Next::Past => None,
+        Next::At(pc) => {
+            here.program = number;
+            here.pc = pc;
+            here.passes = passes;
+            here.repeats = Repeats::new();
+            true
+        }
+        Next::Past => false,
     }
 }
 
-/// The next of so many passes that a program has still to begin.
-fn next_pass(job: &Job, number: u16, passes: u16, skip: bool) -> Option<Place>
-    ensures { result ≡ model.next_pass skip job.now.programs number passes }
+/// Puts a level at the next of so many passes that a program has still to begin, and answers whether there is one.
+fn next_pass(job: &Job, here: &mut Place, number: u16, passes: u16, skip: bool) -> bool
+    ensures { model.stood result here.new ≡ model.next_pass skip job.now.programs number passes }
 {
     match passes {
-        0 => None,
-        _ => first_place(job, number, passes - 1, skip),
+        0 => false,
+        _ => start_at(job, here, number, passes - 1, skip),
     }
 }
 
@@ -121,12 +124,8 @@ fn past_end(job: &Job, levels: &mut Levels, number: u16, passes: u16, skip: bool
 {
     let (mut number, mut passes) = (number, passes);
     loop {
-        match next_pass(job, number, passes, skip) {
-            Some(here) => {
-                levels.here = here;
-                return true;
-            }
-            None => {}
+        if next_pass(job, &mut levels.here, number, passes, skip) {
+            return true;
         }
         match levels.returns.ret() {
             Some(caller) => {
@@ -146,12 +145,14 @@ fn past_end(job: &Job, levels: &mut Levels, number: u16, passes: u16, skip: bool
 pub(crate) fn begin(job: &Job, number: u16, skip: bool) -> Option<Levels>
     ensures { result ≡ model.levels_from skip job.now.programs (model.first_place skip job.now.programs number 0) [] }
 {
-    match first_place(job, number, 0, skip) {
-        Some(here) => Some(Levels {
+    let mut here = Place::default();
+    if start_at(job, &mut here, number, 0, skip) {
+        Some(Levels {
             here,
             returns: CallStack::new(),
-        }),
-        None => None,
+        })
+    } else {
+        None
     }
 }
 

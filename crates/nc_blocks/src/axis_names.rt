@@ -3,7 +3,8 @@
 ghost use Rattle.std.specs.Prelude.{◌≡◌, ◌<◌, ◌+◌, length};
 ghost use Rattle.std.specs.Bool.{OnTrue};
 ghost use Rattle.block_scanner.specs.Scanned.{IsScanned};
-ghost use Rattle.nc_blocks.specs.AxisNames.{is_axis_letter, has_digits, has_axis_name, has_axis_word};
+ghost use Rattle.nc_blocks.specs.AxisNames.{is_axis_letter, is_axis_start, has_digits, has_axis_name, has_axis_word};
+ghost use Rattle.nc_blocks.specs.Pieces.{piece_at};
 
 use crate::pieces::{Piece, piece_at, text_at};
 use block_scanner::Words;
@@ -32,6 +33,18 @@ pub(crate) fn has_digits(words: &Words<'_>, at: usize) -> bool
     }
 }
 
+/// Whether the letter of an axis stands at a place.
+fn has_axis_letter(words: &Words<'_>, at: usize) -> bool
+    requires { IsScanned words.now }
+    ensures value { result ≡ is_axis_start (piece_at words.now at) }
+    ensures within { OnTrue result (at < length words.now.tokens) }
+{
+    match piece_at(words, at) {
+        Piece::Letter(letter) => is_axis_letter(letter),
+        _ => false,
+    }
+}
+
 /// Whether an axis name stands at a place.
 #[tactic(auto, unfolding(crate::specs::AxisNames::has_axis_name))]
 pub fn has_axis_name(words: &Words<'_>, at: usize) -> bool
@@ -39,21 +52,21 @@ pub fn has_axis_name(words: &Words<'_>, at: usize) -> bool
     ensures value { result ≡ has_axis_name words.now at }
     ensures within { OnTrue result (at + 1 < length words.now.tokens) }
 {
-    match piece_at(words, at) {
-        Piece::Letter(letter) => is_axis_letter(letter) && has_digits(words, at + 1),
-        _ => false,
-    }
+    has_axis_letter(words, at) && has_digits(words, at + 1)
 }
 
 /// Whether an axis name and `=` stand at a place.
-#[tactic(auto, unfolding(crate::specs::AxisNames::has_axis_word))]
+#[tactic(auto, unfolding(crate::specs::AxisNames::has_axis_word, crate::specs::AxisNames::has_axis_name))]
 pub fn has_axis_word(words: &Words<'_>, at: usize) -> bool
     requires { IsScanned words.now }
     ensures value { result ≡ has_axis_word words.now at }
     ensures within { OnTrue result (at + 2 < length words.now.tokens) }
 {
-    if has_axis_name(words, at) {
-        matches!(piece_at(words, at + 2), Piece::Assign)
+    if has_axis_letter(words, at) {
+        match piece_at(words, at + 2) {
+            Piece::Assign => has_digits(words, at + 1),
+            _ => false,
+        }
     } else {
         false
     }

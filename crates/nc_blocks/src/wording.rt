@@ -169,7 +169,7 @@ fn measured_word(
 }
 
 /// A letter of an axis or a centre, after it.
-#[tactic(auto, using(crate::proofs::Passing::passing), unfolding(crate::specs::Wording::letter_word))]
+#[tactic(auto, using(crate::proofs::Passing::passing), unfolding(crate::specs::Wording::letter_word, crate::specs::Reading::constant_at, crate::specs::Reading::after_sign))]
 fn letter_word(
     alloc: Global,
     words: &Words<'_>,
@@ -185,6 +185,10 @@ fn letter_word(
     let address = address(alloc, letter, &[])?;
     match piece_at(words, at) {
         Piece::Assign => measured_word(alloc, words, address, at + 1),
+        Piece::Number(number) => Ok((
+            Word::Axis(address, Measure::Modal, Expr::Number(number)),
+            at + 1,
+        )),
         _ => match constant_at(words, at, word_code(words, after_sign(words, at))) {
             Ok((number, end)) => Ok((
                 Word::Axis(address, Measure::Modal, Expr::Number(number)),
@@ -500,6 +504,13 @@ fn word_item_at(
     Ok((word, more, end))
 }
 
+/// How many words get room at once where so many tokens are left: one for two tokens, and four at most.
+fn first_room(tokens: usize) -> usize
+    ensures { result ≤ 4 }
+{
+    (tokens - tokens / 2).min(4)
+}
+
 /// The words that stand from a place on, one at least, and the place after them.
 #[tactic(auto, using(crate::proofs::Listing::list_steps))]
 fn words_at(
@@ -512,7 +523,7 @@ fn words_at(
     ensures exact { Gives word_items (list_at (λ _. word_item_at words.now) words.now start) result }
     ensures indices { IfOk result (λ p. All WordFits (map word_view p.0.items)) }
 {
-    let mut list = Vec::new(alloc);
+    let mut list = Vec::with_capacity(alloc, first_room(words.tokens.len() - start))?;
     let mut at = start;
     loop {
         let (word, more, end) = word_item_at(alloc, words, at)?;

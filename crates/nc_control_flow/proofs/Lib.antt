@@ -1,3 +1,4 @@
+pub mod NoRepetitions
 pub mod Repeating
 pub mod Finding
 pub mod Matched

@@ -95,10 +95,13 @@ impl Repeats {
     }
 
     /// Ends the repetitions whose blocks a leap to this place leaves.
+    #[tactic(auto, using(crate::proofs::NoRepetitions::none_left))]
     pub(crate) fn leave(&mut self, place: u32)
         ensures { self.new ≡ filter (within place) self.old }
     {
-        self.running = with_block(self.running.as_slice(), place);
+        if !self.running.is_empty() {
+            self.running = with_block(self.running.as_slice(), place);
+        }
     }
 
     /// Goes on until no pass of a repetition is over, and gives the place of the next block.

@@ -306,14 +306,11 @@ fn lettered_body(
     ensures exact { Gives statement_view (lettered_body words.now letter at) result }
     ensures indices { IfOk result (λ s. StatementFits (statement_view s)) }
 {
+    if letter != b'L' {
+        return words_form(alloc, words, at);
+    }
     match piece_at(words, at + 1) {
-        Piece::Number(_) => {
-            if letter == b'L' {
-                number_call_form(words, at + 1)
-            } else {
-                words_form(alloc, words, at)
-            }
-        }
+        Piece::Number(_) => number_call_form(words, at + 1),
         _ => words_form(alloc, words, at),
     }
 }

@@ -1,12 +1,15 @@
-use Rattle.std.proofs.Common.{Some, ap, ◌∙◌, List}
+use Rattle.std.proofs.Common.{Bool, Some, ap, ◌∙◌, List}
 use Rattle.nc_subprograms.specs.declared.Place.{Place}
+use Rattle.channel_machine.specs.Levels.{stood}
 use Rattle.channel_machine.proofs.Going.{begins_at, begins_not}
 use Rattle.channel_machine.proofs.levels.begin.Goals as goal
 
-pub returns-in-Some : goal.returns-in-Some
-returns-in-Some c =
-    ap (λ (places : List Place). Some (record { here = c.in-Some.here; returns = places })) c.new.ensures
-    ∙ begins_at c.args.skip c.args.job.now.programs c.args.number c.first_place.result c.in-Some.here c.first_place.ensures c.in-Some.is
+pub returns-then-start_at : goal.returns-then-start_at
+returns-then-start_at c =
+    ap (λ (places : List Place). Some (record { here = c.start_at.new.here; returns = places })) c.new.ensures
+    ∙ begins_at c.args.skip c.args.job.now.programs c.args.number _ c.start_at.new.here c.start_at.ensures
+    (ap (λ (b : Bool). stood b c.start_at.new.here) c.if-start_at.true)
 
-pub returns-in-None : goal.returns-in-None
-returns-in-None c = begins_not c.args.skip c.args.job.now.programs c.args.number c.first_place.result c.first_place.ensures c.in-None.is
+pub returns-else-start_at : goal.returns-else-start_at
+returns-else-start_at c =
+    begins_not c.args.skip c.args.job.now.programs c.args.number _ c.start_at.ensures (ap (λ (b : Bool). stood b c.start_at.new.here) c.if-start_at.false)

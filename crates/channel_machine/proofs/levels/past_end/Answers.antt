@@ -1,33 +1,35 @@
-use Rattle.std.proofs.Common.{refl}
+use Rattle.std.proofs.Common.{Bool, refl, ap}
+use Rattle.channel_machine.specs.Levels.{stood}
 use Rattle.channel_machine.proofs.Going.{begins, at_main, fits_head, fits_tail, fewer, below_comes, below_ends}
 use Rattle.channel_machine.proofs.levels.past_end.Goals as goal
 
-pub loop-here-init : goal.loop-here-init
-loop-here-init c = record { fits = c.requires; same = refl }
+pub loop-number-init : goal.loop-number-init
+loop-number-init c = record { fits = c.requires; same = refl }
 
-pub returns-in-Some : goal.returns-in-Some
-returns-in-Some c =
-    begins c.args.skip c.args.job.now.programs c.loop-here.number c.loop-here.passes c.next_pass.result c.next_pass.ensures c.loop-here.levels.returns c.in-Some.here _ c.in-Some.is c.loop-here.invariant.same
+pub returns-then-next_pass : goal.returns-then-next_pass
+returns-then-next_pass c =
+    begins c.args.skip c.args.job.now.programs c.loop-number.number c.loop-number.passes _ c.next_pass.ensures c.loop-number.levels.returns c.next_pass.new.here _
+    (ap (λ (b : Bool). stood b c.next_pass.new.here) c.if-next_pass.true) c.loop-number.invariant.same
 
 pub go_after-requires : goal.go_after-requires
-go_after-requires c = fits_head c.args.skip c.args.job.now.programs c.loop-here.levels.returns c.ret.new.self c.in-Some-ret.caller c.in-Some-ret.ensures c.loop-here.invariant.fits
+go_after-requires c = fits_head c.args.skip c.args.job.now.programs c.loop-number.levels.returns c.ret.new.self c.in-Some.caller c.in-Some.ensures c.loop-number.invariant.fits
 
 pub returns-then-go_after : goal.returns-then-go_after
 returns-then-go_after c =
-    below_comes c.args.skip c.args.job.now.programs c.loop-here.number c.loop-here.passes c.next_pass.result c.next_pass.ensures c.loop-here.levels.returns c.ret.new.self c.in-Some-ret.caller c.go_after.new.here
-    c.in-None.is c.in-Some-ret.ensures c.go_after.result _ c.if-go_after.true c.go_after.ensures c.loop-here.invariant.same
+    below_comes c.args.skip c.args.job.now.programs c.loop-number.number c.loop-number.passes _ c.next_pass.ensures c.loop-number.levels.returns c.ret.new.self c.in-Some.caller c.go_after.new.here
+    (ap (λ (b : Bool). stood b c.next_pass.new.here) c.if-next_pass.false) c.in-Some.ensures c.go_after.result _ c.if-go_after.true c.go_after.ensures c.loop-number.invariant.same
 
-pub loop-here-smaller : goal.loop-here-smaller
-loop-here-smaller c = fewer c.args.skip c.args.job.now.programs c.loop-here.levels.returns c.ret.new.self c.in-Some-ret.caller c.in-Some-ret.ensures
+pub loop-number-smaller : goal.loop-number-smaller
+loop-number-smaller c = fewer c.args.skip c.args.job.now.programs c.loop-number.levels.returns c.ret.new.self c.in-Some.caller c.in-Some.ensures
 
-pub loop-here-preserved : goal.loop-here-preserved
-loop-here-preserved c = record {
-  fits = fits_tail c.args.skip c.args.job.now.programs c.loop-here.levels.returns c.ret.new.self c.in-Some-ret.caller c.in-Some-ret.ensures c.loop-here.invariant.fits;
-  same = below_ends c.args.skip c.args.job.now.programs c.loop-here.number c.loop-here.passes c.next_pass.result c.next_pass.ensures c.loop-here.levels.returns c.ret.new.self c.in-Some-ret.caller c.go_after.new.here
-      c.in-None.is c.in-Some-ret.ensures c.go_after.result _ c.if-go_after.false c.go_after.ensures c.loop-here.invariant.same;
+pub loop-number-preserved : goal.loop-number-preserved
+loop-number-preserved c = record {
+  fits = fits_tail c.args.skip c.args.job.now.programs c.loop-number.levels.returns c.ret.new.self c.in-Some.caller c.in-Some.ensures c.loop-number.invariant.fits;
+  same = below_ends c.args.skip c.args.job.now.programs c.loop-number.number c.loop-number.passes _ c.next_pass.ensures c.loop-number.levels.returns c.ret.new.self c.in-Some.caller c.go_after.new.here
+      (ap (λ (b : Bool). stood b c.next_pass.new.here) c.if-next_pass.false) c.in-Some.ensures c.go_after.result _ c.if-go_after.false c.go_after.ensures c.loop-number.invariant.same;
 }
 
-pub returns-in-None-ret : goal.returns-in-None-ret
-returns-in-None-ret c =
-    at_main c.args.skip c.args.job.now.programs c.loop-here.number c.loop-here.passes c.next_pass.result c.next_pass.ensures c.loop-here.levels.returns c.ret.new.self _
-    c.in-None.is c.in-None-ret.ensures c.loop-here.invariant.same
+pub returns-in-None : goal.returns-in-None
+returns-in-None c =
+    at_main c.args.skip c.args.job.now.programs c.loop-number.number c.loop-number.passes _ c.next_pass.ensures c.loop-number.levels.returns c.ret.new.self _
+    (ap (λ (b : Bool). stood b c.next_pass.new.here) c.if-next_pass.false) c.in-None.ensures c.loop-number.invariant.same
