@@ -1,34 +1,28 @@
 -- What a step changes, on the board as in what is kept.
-use Rattle.std.proofs.Common.{eqb-true, inl, inr, ◌≡◌, ℕ, ℤ, ◌+◌, ◌-◌, ◌<◌, ◌≤◌, ◌==◌, ◌&&◌, ◌||◌, not, ◌↔◌, Bool, true, false, cond, List, [], ◌∷◌, ◌++◌, map, filter, length, Option, Some, None, is_some, if◌then◌else◌, slice_index_or, subst, refl, sym, ap, ap₂, ◌∙◌, arith}
+use Rattle.std.proofs.Common.{eqb-true, ◌≡◌, ℕ, ℤ, ◌<◌, ◌==◌, ◌&&◌, ◌||◌, not, ◌↔◌, Bool, true, false, List, [], ◌∷◌, map, Option, Some, None, is_some, if◌then◌else◌, slice_index_or, refl, sym, ap, ap₂, ◌∙◌}
 use Rattle.std.proofs.Math.Path.{fun_ext}
-use Rattle.std.proofs.lemmas.Bool.{cases_Bool}
-use Rattle.std.specs.List.{list_any, list_all, range_with_len}
-use Rattle.std.specs.Option.{option_map_or}
+use Rattle.std.specs.List.{list_any}
 use Rattle.axis_exchange.specs.Owners.{axis_state, free_at, is_owned_by}
-use Rattle.axis_exchange.specs.Owners.{is_free as may_be_taken, is_free_among, may_take, may_take_all, position_if_free}
 use Rattle.axis_exchange.specs.declared.AxisState.{AxisState}
 use Rattle.axis_exchange.specs.declared.AxisState.TheVariants.{Owned, Free}
 use Rattle.axis_sets.proofs.SetLaws.{list_any-members_of}
 use Rattle.axis_sets.specs.Positions.{position_of}
 use Rattle.axis_sets.specs.Sets.{has, members_of, IsEmpty}
-use Rattle.axis_sets.specs.declared.limits.TheConstants.{AXIS_LIMIT, CHANNEL_PLACES}
-use Rattle.coord_core.proofs.GrantLaws.{positions_listed}
-use Rattle.coord_core.proofs.Members.{passing_among, passing_list}
-use Rattle.coord_core.proofs.ZoneLaws.{holder_handed, on_handed, axes_handed, numbers_handed, holder_noted, on_noted, axes_noted, numbers_noted, whole_where_none}
+use Rattle.axis_sets.specs.declared.limits.TheConstants.{AXIS_LIMIT}
+use Rattle.coord_core.proofs.Members.{passing_among}
+use Rattle.coord_core.proofs.ZoneLaws.{holder_handed, on_handed, holder_noted, on_noted, axes_noted, numbers_noted, whole_where_none}
 use Rattle.coord_core.specs.Tables.{activity_at, board_in, state_in, HasPassing, IsTable, ownership_in, holder_in, is_on_in, axes_in, shares, zone_after_step, zone_handed}
 use Rattle.coord_core.specs.declared.activities.Activity.{Activity}
-use Rattle.coord_core.specs.declared.activities.Activity.TheVariants.{Running, AtAxes, Alarmed}
+use Rattle.coord_core.specs.declared.activities.Activity.TheVariants.{Running, Alarmed}
 use Rattle.coord_core.specs.declared.table.Table.{Table}
 use Rattle.coord_core.specs.declared.zones.ZoneState.{ZoneState}
 use Rattle.mark_board.specs.Marks.{has_mark}
 use Rattle.set_laws.proofs.MemberLaws.{list_all-at_member}
-use Rattle.std.proofs.lemmas.Bool.{and_parts}
 use Rattle.sync_types.proofs.BoardTests.{no_truth, not_so, not_not}
-use Rattle.sync_types.specs.BoardActions.{carries, channels_to_start, axes_to_free, marks_after, program_after, position_or_zero, is_on_after, marks_of_all, ownership_after, holder_after, after_effects, state_of_actor, state_after_action, after_action, state_after_alarm, after_alarm}
+use Rattle.sync_types.specs.BoardActions.{carries, channels_to_start, axes_to_free, marks_after, program_after, position_or_zero, is_on_after, marks_of_all, ownership_after, holder_after, after_effects, state_of_actor, state_after_action, state_after_alarm, after_alarm}
 use Rattle.sync_types.specs.BoardAlarms.{alarm_of, names_no_mark, names_no_channel, names_no_axis, lets_go_of_others, splits_a_zone, finds_own_mark, finds_one_awake, starts_without_program, own_alarm}
-use Rattle.sync_types.specs.Boards.{State, IsRunning, Board, Ownership, OwnedBy, FreeAt, among, is_free, is_this, owner_of, owns, grant_with, start_grant, no_positions, positions_where}
-use Rattle.sync_types.specs.GoingOn.{Going, going_of_start, goers_at_once, goes_at_once, lowers, marks_after_goes, state_after_goes, after_goes, axes_asked, axes_to_take, free_position, can_take, ownership_after_taking, holder_after_taking, with_its_axes, grant_of_taker, state_after_taking, after_taking}
-use Rattle.sync_types.specs.Starts.{axes_of_zone}
+use Rattle.sync_types.specs.Boards.{State, IsRunning, Board, FreeAt, among, is_this, owner_of, owns, grant_with, start_grant, no_positions}
+use Rattle.sync_types.specs.GoingOn.{going_of_start, goers_at_once, goes_at_once, lowers, marks_after_goes, state_after_goes, after_goes}
 use Rattle.sync_types.specs.declared.Action.{Action}
 use Rattle.sync_types.specs.declared.Action.TheVariants.{WaitM, ClearM, WaitE, Release, Get, End}
 use Rattle.sync_types.specs.declared.Grant.{Grant}

@@ -1,22 +1,19 @@
 -- Grants, by lists for each axis and zone.
-use Rattle.std.proofs.Common.{eqb-true, inl, inr, ◌≡◌, ℕ, ℤ, ◌<◌, ◌≤◌, ◌==◌, ◌&&◌, not, Bool, true, false, cond, List, [], ◌∷◌, map, length, Option, Some, None, if◌then◌else◌, refl, sym, ap, ap₂, ◌∙◌, arith, slice_index_or}
+use Rattle.std.proofs.Common.{eqb-true, inl, inr, ◌≡◌, ℕ, ℤ, ◌==◌, ◌&&◌, Bool, false, List, ◌∷◌, map, length, Option, Some, None, if◌then◌else◌, refl, sym, ap, ◌∙◌, slice_index_or}
 use Rattle.std.proofs.lemmas.Bool.{cases_Bool}
 use Rattle.std.proofs.lemmas.List.FromFn.{fill_by_all}
-use Rattle.std.proofs.Math.Path.{fun_ext}
-use Rattle.std.specs.List.{list_any, range_with_len}
-use Rattle.std.specs.Option.{option_map_or}
+use Rattle.std.specs.List.{list_any}
 use Rattle.axis_exchange.specs.Owners.{axis_state, is_owned_by}
 use Rattle.axis_exchange.specs.declared.AxisState.{AxisState}
 use Rattle.axis_exchange.specs.declared.AxisState.TheVariants.{Owned, Free}
 use Rattle.axis_sets.specs.Positions.{position_of}
-use Rattle.axis_sets.specs.Sets.{has, members_of}
+use Rattle.axis_sets.specs.Sets.{has}
 use Rattle.axis_sets.specs.declared.limits.TheConstants.{AXIS_LIMIT, ZONE_PLACES}
 use Rattle.coord_core.proofs.ZoneLaws.{zone_found, held_and_on}
 use Rattle.coord_core.specs.Tables.{board_in, IsTable, ownership_in, zone_in, holder_in, is_on_in}
 use Rattle.coord_core.specs.declared.activities.Activity.{Activity}
 use Rattle.coord_core.specs.declared.table.Table.{Table}
-use Rattle.sync_types.specs.Boards.{Board, owner_of, owns, is_this, grant_with, no_positions, positions_where, axis_numbers, zone_numbers}
-use Rattle.sync_types.specs.declared.Grant.{Grant}
+use Rattle.sync_types.specs.Boards.{owner_of, owns, is_this, grant_with, no_positions, positions_where, axis_numbers, zone_numbers}
 
 pub owned_alike : (s : Option AxisState) (c : ℕ) → is_owned_by s c ≡ is_this (owner_of (ownership_in s)) c
 owned_alike (Some (Owned owner)) c = refl

@@ -1,5 +1,5 @@
 -- Who goes on, by what is kept of each channel.
-use Rattle.std.proofs.Common.{inl, inr, ◌≡◌, ℕ, ℤ, ◌+◌, ◌-◌, ◌<◌, ◌≤◌, ◌==◌, ◌&&◌, ◌||◌, not, Bool, true, false, cond, List, [], ◌∷◌, ◌++◌, map, filter, length, append_assoc, Option, Some, None, is_some, suc, if◌then◌else◌, refl, sym, ap, ◌∙◌, arith}
+use Rattle.std.proofs.Common.{inl, inr, ◌≡◌, ℕ, ◌+◌, ◌-◌, ◌<◌, ◌≤◌, ◌==◌, ◌&&◌, ◌||◌, Bool, true, false, cond, List, [], ◌∷◌, ◌++◌, map, filter, length, append_assoc, Option, Some, None, is_some, suc, if◌then◌else◌, refl, sym, ap, ◌∙◌, arith}
 use Rattle.std.proofs.lemmas.Bool.{cases_Bool, cases_eq, cases_lt, eq-eqb, ne_eqb}
 use Rattle.std.specs.List.{list_all, range_with_len}
 use Rattle.axis_exchange.specs.Owners.{axis_state, may_take, may_take_all}
@@ -15,7 +15,7 @@ use Rattle.coord_core.specs.declared.activities.Activity.TheVariants.{AtAxes}
 use Rattle.coord_core.specs.declared.table.Table.{Table}
 use Rattle.set_laws.proofs.MemberLaws.{has-below, list_all-members_of, list_all-at_member}
 use Rattle.sync_types.proofs.BoardTests.{no_truth}
-use Rattle.sync_types.specs.Boards.{Board, is_free, is_this, owner_of, owns}
+use Rattle.sync_types.specs.Boards.{is_free, is_this, owner_of, owns}
 use Rattle.sync_types.specs.GoingOn.{Going, go_of, axes_asked, waits_for_axes, can_take}
 use Rattle.sync_types.specs.declared.runs.Go.{Go}
 

@@ -1,5 +1,5 @@
 -- A channel takes the axes for which it waits.
-use Rattle.std.proofs.Common.{eqb-true, ◌≡◌, ℕ, ℤ, pos, zero, suc, ◌+◌, ◌-◌, ◌<◌, ◌≤◌, ◌==◌, ◌&&◌, ◌||◌, not, Bool, true, false, cond, List, [], ◌∷◌, ◌++◌, map, filter, length, length-append, append_assoc, Option, Some, None, is_some, if◌then◌else◌, refl, sym, ap, ap₂, ◌∙◌, arith}
+use Rattle.std.proofs.Common.{◌≡◌, ℕ, ℤ, pos, zero, suc, ◌+◌, ◌-◌, ◌<◌, ◌==◌, ◌&&◌, not, Bool, true, false, cond, List, [], ◌∷◌, ◌++◌, map, filter, length, append_assoc, Option, Some, None, is_some, if◌then◌else◌, refl, sym, ap, ap₂, ◌∙◌, arith}
 use Rattle.std.proofs.Math.Path.{fun_ext}
 use Rattle.std.specs.List.{list_any, range_with_len}
 use Rattle.axis_exchange.specs.Owners.{axis_state, is_owned_by, is_free as may_be_taken, is_free_among, may_take, may_take_all, position_if_free}
@@ -12,16 +12,15 @@ use Rattle.axis_sets.specs.declared.limits.TheConstants.{AXIS_LIMIT}
 use Rattle.coord_core.proofs.Acts.{same_boards}
 use Rattle.coord_core.proofs.GrantLaws.{positions_listed}
 use Rattle.coord_core.proofs.ZoneLaws.{holder_handed, on_handed, axes_handed, numbers_handed}
-use Rattle.coord_core.specs.Tables.{activity_at, board_in, state_in, IsTable, ownership_in, holder_in, is_on_in, axes_in, shares, zone_handed}
+use Rattle.coord_core.specs.Tables.{activity_at, board_in, state_in, IsTable, ownership_in, holder_in, is_on_in, axes_in, zone_handed}
 use Rattle.coord_core.specs.declared.activities.Activity.{Activity}
 use Rattle.coord_core.specs.declared.activities.Activity.TheVariants.{Running, AtAxes}
 use Rattle.coord_core.specs.declared.table.Table.{Table}
 use Rattle.coord_core.specs.declared.zones.ZoneState.{ZoneState}
 use Rattle.set_laws.proofs.MemberLaws.{list_all-at_member}
 use Rattle.sync_types.proofs.BoardTests.{no_truth}
-use Rattle.sync_types.specs.BoardActions.{carries}
-use Rattle.sync_types.specs.Boards.{State, IsRunning, Board, Ownership, OwnedBy, among, is_free, grant_with, positions_where}
-use Rattle.sync_types.specs.GoingOn.{Going, go_of, axes_asked, axes_to_take, free_position, ownership_after_taking, holder_after_taking, with_its_axes, grant_of_taker, state_after_taking, after_taking, going_of_taker, next_taker, Takings, takings, takings_from}
+use Rattle.sync_types.specs.Boards.{State, IsRunning, Board, OwnedBy, among, is_free, grant_with}
+use Rattle.sync_types.specs.GoingOn.{go_of, axes_asked, axes_to_take, free_position, ownership_after_taking, holder_after_taking, with_its_axes, grant_of_taker, state_after_taking, after_taking, going_of_taker, next_taker, Takings, takings, takings_from}
 use Rattle.sync_types.specs.Starts.{stand_once}
 use Rattle.sync_types.specs.declared.Grant.{Grant}
 use Rattle.sync_types.specs.declared.runs.Go.{Go}

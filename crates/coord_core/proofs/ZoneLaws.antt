@@ -1,11 +1,10 @@
 -- Zones by their numbers, before and after a step.
 use Rattle.std.proofs.Common.{eqb-true, inl, inr, ◌≡◌, ℕ, ◌==◌, ◌&&◌, ◌||◌, not, Bool, true, false, cond, List, [], ◌∷◌, map, Option, Some, None, if◌then◌else◌, refl, sym, ap, ◌∙◌}
-use Rattle.std.specs.Prelude.{find}
 use Rattle.std.proofs.lemmas.Bool.{cases_Bool, and_parts}
 use Rattle.std.specs.List.{list_any, list_all}
 use Rattle.std.specs.Option.{option_map, option_map_or}
 use Rattle.axis_sets.specs.Sets.{has, members_of}
-use Rattle.coord_core.specs.Tables.{zone_in, holder_in, is_on_in, axes_in, zone_after_step, zone_handed, zone_at_start, shares}
+use Rattle.coord_core.specs.Tables.{zone_in, holder_in, is_on_in, axes_in, zone_after_step, zone_handed, shares}
 use Rattle.coord_core.specs.declared.zones.ZoneState.{ZoneState}
 use Rattle.sync_types.proofs.BoardTests.{no_truth}
 use Rattle.sync_types.specs.BoardAlarms.{is_whole}

@@ -1,6 +1,6 @@
 -- Steps. What a board keeps beside its entries, and for which board that stands.
-use Rattle.std.specs.Prelude.{◌≡◌, ℕ, ℤ, pos, ◌<◌, ◌≤◌, ◌==◌, ◌&&◌, Bool, true, false, List, [], ◌∷◌, find, map, length, slice_index_or, Option, Some, None, is_some, if◌then◌else◌}
-use Rattle.std.specs.List.{list_all, list_any}
+use Rattle.std.specs.Prelude.{◌≡◌, ℕ, pos, ◌<◌, ◌≤◌, ◌==◌, Bool, true, false, List, [], find, map, length, slice_index_or, Option, Some, None, is_some, if◌then◌else◌}
+use Rattle.std.specs.List.{list_any}
 use Rattle.std.specs.Option.{option_map_or}
 use Rattle.axis_exchange.specs.Owners.{axis_state}
 use Rattle.axis_exchange.specs.declared.AxisState.{AxisState}
@@ -15,7 +15,6 @@ use Rattle.mark_board.specs.Marks.{has_mark}
 use Rattle.sync_types.specs.BoardActions.{others_than}
 use Rattle.sync_types.specs.Boards.{State, IsIdle, IsRunning, IsHolding, HasEnded, HasAlarmed, AtMarks, AtEnds as awaits_ends, AtAxes as awaits_axes, Ownership, OwnedBy, FreeAt, Board, is_this}
 use Rattle.sync_types.specs.Starts.{axes_of_zone, stand_once}
-use Rattle.sync_types.specs.Views.{StartView}
 
 -- what a channel does, by what is kept of it
 abbrev pub state_in : ℕ → Activity → State

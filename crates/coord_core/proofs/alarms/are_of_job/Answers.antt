@@ -1,7 +1,7 @@
-use Rattle.std.proofs.Common.{◌≡◌, ℕ, Bool, true, false, not, ◌&&◌, ◌||◌, List, Option, Some, None, refl, sym, ap, ◌∙◌, arith}
-use Rattle.axis_sets.specs.Sets.{has, members_of}
+use Rattle.std.proofs.Common.{ℕ, Bool, ap, ◌∙◌}
+use Rattle.axis_sets.specs.Sets.{members_of}
 use Rattle.std.proofs.Math.Path.{fun_ext}
-use Rattle.std.specs.List.{list_any, list_all}
+use Rattle.std.specs.List.{list_all}
 use Rattle.coord_core.proofs.alarms.are_of_job.Goals as goal
 
 pub returns : goal.returns

@@ -1,5 +1,5 @@
-use Rattle.std.proofs.Common.{◌≡◌, ℕ, ◌+◌, ◌-◌, ◌<◌, ◌≤◌, ◌==◌, ◌&&◌, ◌||◌, not, true, false, if◌then◌else◌, take, drop, length, map, filter, [], ◌∷◌, ◌++◌, Some, None, is_some, slice_index_or}
-use Rattle.std.specs.List.{list_any, list_all}
+use Rattle.std.proofs.Common.{◌≡◌, drop}
+use Rattle.std.specs.List.{list_all}
 use Rattle.sync_types.specs.BoardAlarms.{is_whole}
 use Rattle.coord_core.proofs.alarms.are_whole.Given as goal
 

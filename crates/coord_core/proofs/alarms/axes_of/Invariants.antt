@@ -1,4 +1,4 @@
-use Rattle.std.proofs.Common.{◌≡◌, ℕ, ◌+◌, ◌-◌, ◌<◌, ◌≤◌, ◌==◌, ◌&&◌, ◌||◌, not, true, false, if◌then◌else◌, take, drop, length, map, filter, [], ◌∷◌, ◌++◌, Some, None, is_some, slice_index_or}
+use Rattle.std.proofs.Common.{◌≡◌, ℕ, ◌==◌, take, length}
 use Rattle.axis_sets.specs.Sets.{has}
 use Rattle.std.specs.List.{list_any}
 use Rattle.axis_sets.specs.declared.limits.TheConstants.{AXIS_LIMIT}

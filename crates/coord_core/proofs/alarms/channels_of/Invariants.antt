@@ -1,7 +1,7 @@
-use Rattle.std.proofs.Common.{◌≡◌, ℕ, ◌+◌, ◌-◌, ◌<◌, ◌≤◌, ◌==◌, ◌&&◌, ◌||◌, not, true, false, if◌then◌else◌, take, drop, length, map, filter, [], ◌∷◌, ◌++◌, Some, None, is_some, slice_index_or}
+use Rattle.std.proofs.Common.{◌≡◌, ℕ, ◌==◌, false, take, length}
 use Rattle.axis_sets.specs.Sets.{has}
-use Rattle.axis_sets.specs.declared.limits.TheConstants.{AXIS_LIMIT, CHANNEL_PLACES, ZONE_PLACES}
-use Rattle.std.specs.List.{list_any, list_all}
+use Rattle.axis_sets.specs.declared.limits.TheConstants.{CHANNEL_PLACES}
+use Rattle.std.specs.List.{list_any}
 use Rattle.coord_core.proofs.alarms.channels_of.Given as goal
 
 abbrev pub invariant-loop-channel : goal.invariant-loop-channel

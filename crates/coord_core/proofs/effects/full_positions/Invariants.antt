@@ -1,6 +1,6 @@
-use Rattle.std.proofs.Common.{◌≡◌, ℕ, ◌+◌, ◌-◌, ◌<◌, ◌≤◌, ◌==◌, ◌&&◌, ◌||◌, not, true, false, if◌then◌else◌, take, drop, length, map, filter, [], ◌∷◌, ◌++◌, Some, None, is_some, slice_index_or}
+use Rattle.std.proofs.Common.{◌≡◌, ℕ, ◌<◌, ◌≤◌, if◌then◌else◌, length, Some, None}
 use Rattle.axis_sets.specs.Sets.{has}
-use Rattle.axis_sets.specs.declared.limits.TheConstants.{AXIS_LIMIT, CHANNEL_PLACES, ZONE_PLACES}
+use Rattle.axis_sets.specs.declared.limits.TheConstants.{AXIS_LIMIT}
 use Rattle.axis_sets.specs.Positions.{position_of}
 use Rattle.sync_types.specs.BoardActions.{position_or_zero}
 use Rattle.coord_core.proofs.effects.full_positions.Given as goal

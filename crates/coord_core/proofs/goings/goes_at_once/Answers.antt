@@ -1,5 +1,5 @@
-use Rattle.std.proofs.Common.{◌≡◌, ℕ, Bool, true, false, not, ◌&&◌, ◌||◌, List, Option, Some, None, refl, sym, ap, ◌∙◌, arith}
-use Rattle.axis_sets.specs.Sets.{has, members_of}
+use Rattle.std.proofs.Common.{sym, ap, ◌∙◌}
+use Rattle.axis_sets.specs.Sets.{has}
 use Rattle.coord_core.proofs.Members.{all_named}
 use Rattle.coord_core.specs.Tables.{activity_at, board_in, state_in}
 use Rattle.coord_core.specs.declared.activities.Activity.{Activity}

@@ -1,6 +1,6 @@
-use Rattle.std.proofs.Common.{◌≡◌, ℕ, ◌+◌, ◌-◌, ◌<◌, ◌≤◌, ◌==◌, ◌&&◌, ◌||◌, not, true, false, if◌then◌else◌, take, drop, length, map, filter, [], ◌∷◌, ◌++◌, Some, None, is_some, slice_index_or}
+use Rattle.std.proofs.Common.{◌≡◌, ℕ, ◌<◌, ◌≤◌, ◌&&◌, not}
 use Rattle.axis_sets.specs.Sets.{has}
-use Rattle.coord_core.specs.Tables.{activity_at, board_in, state_in}
+use Rattle.coord_core.specs.Tables.{activity_at, state_in}
 use Rattle.mark_board.specs.Marks.{has_mark}
 use Rattle.sync_types.specs.GoingOn.{lowers}
 use Rattle.coord_core.proofs.goings.lower_own_marks.Given as goal

@@ -1,5 +1,5 @@
-use Rattle.std.proofs.Common.{◌≡◌, ℕ, Bool, true, false, not, ◌&&◌, ◌||◌, List, Option, Some, None, refl, sym, ap, ◌∙◌, arith}
-use Rattle.axis_sets.specs.Sets.{has, members_of}
+use Rattle.std.proofs.Common.{Bool, not, ◌&&◌, ap, ◌∙◌}
+use Rattle.axis_sets.specs.Sets.{has}
 use Rattle.coord_core.proofs.Members.{none_fails, minus_twice}
 use Rattle.coord_core.proofs.sets.has_none.Goals as goal
 

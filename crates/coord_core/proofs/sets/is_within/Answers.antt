@@ -1,4 +1,4 @@
-use Rattle.axis_sets.specs.Sets.{has, members_of}
+use Rattle.axis_sets.specs.Sets.{has}
 use Rattle.coord_core.proofs.Members.{none_fails}
 use Rattle.coord_core.proofs.sets.is_within.Goals as goal
 

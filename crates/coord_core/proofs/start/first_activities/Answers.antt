@@ -1,5 +1,5 @@
-use Rattle.std.proofs.Common.{◌≡◌, ℕ, ◌==◌, Bool, true, false, not, ◌&&◌, ◌||◌, List, [], ◌∷◌, ◌++◌, map, length, length-append, Option, Some, None, refl, sym, ap, ◌∙◌, arith}
-use Rattle.coord_core.specs.Tables.{activity_at, board_in, state_in}
+use Rattle.std.proofs.Common.{◌≡◌, ℕ, ◌==◌, Bool, false, List, [], Option, sym, ap, ◌∙◌, arith}
+use Rattle.coord_core.specs.Tables.{activity_at}
 use Rattle.std.proofs.Common.{if◌then◌else◌}
 use Rattle.std.specs.Prelude.{find}
 use Rattle.std.specs.Option.{option_map_or}
@@ -7,7 +7,6 @@ use Rattle.std.specs.List.{list_any}
 use Rattle.std.proofs.lemmas.Bool.{ne_eqb}
 use Rattle.coord_core.proofs.Rules.{written_above}
 use Rattle.coord_core.proofs.Starting.{started_more, rested_more, activities_at_first}
-use Rattle.coord_core.specs.declared.activities.Activity.{Activity}
 use Rattle.sync_types.specs.Starts.{runs_at_first}
 use Rattle.coord_core.proofs.start.first_activities.Goals.{then-runs_at_first, else-runs_at_first}
 use Rattle.coord_core.proofs.start.first_activities.Goals as goal

@@ -1,5 +1,5 @@
-use Rattle.std.proofs.Common.{◌≡◌, ℕ, ◌+◌, ◌-◌, ◌<◌, ◌≤◌, ◌==◌, ◌&&◌, ◌||◌, not, true, false, if◌then◌else◌, take, drop, length, map, filter, [], ◌∷◌, ◌++◌, Some, None, is_some, slice_index_or}
-use Rattle.coord_core.specs.Tables.{activity_at, board_in, state_in}
+use Rattle.std.proofs.Common.{◌≡◌, ℕ, ◌<◌, ◌≤◌}
+use Rattle.coord_core.specs.Tables.{activity_at, state_in}
 use Rattle.coord_core.specs.declared.activities.Activity.TheVariants.{Idle}
 use Rattle.sync_types.specs.Boards.{first_state}
 use Rattle.coord_core.proofs.start.first_activities.Given as goal

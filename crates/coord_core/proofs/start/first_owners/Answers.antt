@@ -1,6 +1,4 @@
-use Rattle.std.proofs.Common.{◌≡◌, ℕ, ◌==◌, Bool, true, false, not, ◌&&◌, ◌||◌, List, [], ◌∷◌, ◌++◌, map, length, length-append, Option, Some, None, refl, sym, ap, ◌∙◌, arith}
-use Rattle.std.specs.Prelude.{find, pos}
-use Rattle.std.specs.Option.{option_map_or}
+use Rattle.std.proofs.Common.{arith}
 use Rattle.coord_core.proofs.Starting.{all_owned, owned_at_first}
 use Rattle.coord_core.proofs.start.first_owners.Goals as goal
 

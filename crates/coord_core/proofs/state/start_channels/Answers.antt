@@ -1,6 +1,6 @@
-use Rattle.std.proofs.Common.{◌≡◌, ℕ, ◌==◌, Bool, true, false, not, ◌&&◌, ◌||◌, List, [], ◌∷◌, ◌++◌, length, length-append, Option, Some, None, refl, sym, ap, ◌∙◌, arith}
-use Rattle.axis_sets.specs.Sets.{has, members_of}
-use Rattle.coord_core.specs.Tables.{activity_at, board_in, state_in}
+use Rattle.std.proofs.Common.{◌≡◌, true, false, List, ◌++◌, length, length-append, sym, ap, ◌∙◌, arith}
+use Rattle.axis_sets.specs.Sets.{has}
+use Rattle.coord_core.specs.Tables.{board_in}
 use Rattle.std.specs.List.{range_with_len}
 use Rattle.std.proofs.Common.{filter, ◌+◌, ◌-◌}
 use Rattle.coord_core.proofs.Rules.{goes_of, goes_more, goes_as_before, written_more, written_above, unwritten_more, written_all}

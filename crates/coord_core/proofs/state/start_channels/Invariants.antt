@@ -1,8 +1,7 @@
-use Rattle.std.proofs.Common.{◌≡◌, ℕ, ◌+◌, ◌-◌, ◌<◌, ◌≤◌, ◌==◌, ◌&&◌, ◌||◌, not, true, false, if◌then◌else◌, take, drop, length, map, filter, [], ◌∷◌, ◌++◌, Some, None, is_some, slice_index_or}
-use Rattle.coord_core.specs.Tables.{activity_at, board_in, state_in}
+use Rattle.std.proofs.Common.{◌≡◌, ℕ, ◌-◌, ◌<◌, ◌≤◌, if◌then◌else◌, length, filter, ◌++◌}
+use Rattle.coord_core.specs.Tables.{activity_at, board_in}
 use Rattle.std.specs.List.{range_with_len}
 use Rattle.axis_sets.specs.Sets.{has}
-use Rattle.axis_sets.specs.declared.limits.TheConstants.{CHANNEL_PLACES}
 use Rattle.coord_core.proofs.Rules.{goes_of}
 use Rattle.coord_core.specs.declared.activities.Activity.TheVariants.{Running}
 use Rattle.sync_types.specs.Boards.{start_grant, channel_numbers}

@@ -1,6 +1,6 @@
-use Rattle.std.proofs.Common.{◌≡◌, ℕ, ◌+◌, ◌-◌, ◌<◌, ◌≤◌, ◌==◌, ◌&&◌, ◌||◌, not, true, false, if◌then◌else◌, take, drop, length, map, filter, [], ◌∷◌, ◌++◌, Some, None, is_some, slice_index_or}
+use Rattle.std.proofs.Common.{◌≡◌, ℕ, ◌<◌, ◌≤◌, ◌==◌, if◌then◌else◌, length, Some, None}
 use Rattle.axis_sets.specs.Sets.{has}
-use Rattle.axis_sets.specs.declared.limits.TheConstants.{AXIS_LIMIT, CHANNEL_PLACES, ZONE_PLACES}
+use Rattle.axis_sets.specs.declared.limits.TheConstants.{AXIS_LIMIT}
 use Rattle.std.specs.Prelude.{find, pos}
 use Rattle.std.specs.Option.{option_map_or}
 use Rattle.axis_sets.specs.Positions.{position_of}

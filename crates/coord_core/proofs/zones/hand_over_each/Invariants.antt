@@ -1,4 +1,4 @@
-use Rattle.std.proofs.Common.{◌≡◌, ℕ, ◌+◌, ◌-◌, ◌<◌, ◌≤◌, ◌==◌, ◌&&◌, ◌||◌, not, true, false, if◌then◌else◌, take, drop, length, map, filter, [], ◌∷◌, ◌++◌, Some, None, is_some, slice_index_or}
+use Rattle.std.proofs.Common.{◌≡◌, take, drop, map, ◌++◌}
 use Rattle.coord_core.specs.Tables.{zone_handed}
 use Rattle.coord_core.proofs.zones.hand_over_each.Given as goal
 

@@ -1,4 +1,4 @@
-use Rattle.std.proofs.Common.{◌≡◌, ℕ, Bool, true, false, not, ◌&&◌, List, refl, sym, ap, ◌∙◌, arith}
+use Rattle.std.proofs.Common.{not, ap, ◌∙◌}
 use Rattle.axis_sets.specs.Sets.{has, members_of}
 use Rattle.coord_core.proofs.Members.{some_pass_where}
 use Rattle.coord_core.proofs.zones.shares.Goals as goal

@@ -1,7 +1,7 @@
-use Rattle.std.proofs.Common.{◌≡◌, ℕ, ◌+◌, ◌-◌, ◌<◌, ◌≤◌, ◌==◌, ◌&&◌, ◌||◌, not, true, false, if◌then◌else◌, take, drop, length, map, filter, [], ◌∷◌, ◌++◌, Some, None, is_some, slice_index_or}
+use Rattle.std.proofs.Common.{◌≡◌, ℕ, ◌==◌, ◌&&◌, false, take, length}
 use Rattle.axis_sets.specs.Sets.{has}
-use Rattle.axis_sets.specs.declared.limits.TheConstants.{AXIS_LIMIT, CHANNEL_PLACES, ZONE_PLACES}
-use Rattle.std.specs.List.{list_any, list_all}
+use Rattle.axis_sets.specs.declared.limits.TheConstants.{ZONE_PLACES}
+use Rattle.std.specs.List.{list_any}
 use Rattle.sync_types.specs.Boards.{is_this}
 use Rattle.coord_core.proofs.zones.zones_on.Given as goal
 

@@ -1,5 +1,5 @@
-use Rattle.std.proofs.Common.{◌≡◌, ℕ, ◌==◌, Bool, true, false, not, ◌&&◌, ◌||◌, List, [], ◌∷◌, ◌++◌, map, length, length-append, Option, Some, None, refl, sym, ap, ◌∙◌, arith}
-use Rattle.coord_core.specs.Tables.{activity_at, board_in, state_in}
+use Rattle.std.proofs.Common.{◌≡◌, true, List, [], ◌∷◌, ◌++◌, sym, ap, ◌∙◌, arith}
+use Rattle.coord_core.specs.Tables.{board_in}
 use Rattle.std.proofs.Common.{ap₂, subst, ◌-◌}
 use Rattle.coord_core.proofs.Entering.{Entered, entered, entry_made, step_start}
 use Rattle.coord_core.specs.Boards.{BoardView, replayed, with_step_reserved}

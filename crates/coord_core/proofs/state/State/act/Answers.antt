@@ -1,10 +1,9 @@
-use Rattle.std.proofs.Common.{◌≡◌, ℕ, ◌==◌, Bool, true, false, not, ◌&&◌, ◌||◌, List, [], ◌∷◌, ◌++◌, map, length, length-append, Option, Some, None, refl, sym, ap, ◌∙◌, arith}
-use Rattle.coord_core.specs.Tables.{activity_at, board_in, state_in}
+use Rattle.std.proofs.Common.{ℕ, List, map, ◌∙◌}
+use Rattle.coord_core.specs.Tables.{board_in}
 use Rattle.std.proofs.Common.{ap₂}
 use Rattle.coord_core.proofs.Acts.{acted_board, starts_alike}
 use Rattle.sync_types.specs.BoardActions.{after_effects}
-use Rattle.sync_types.specs.GoingOn.{Going, go_of, going_of_start}
-use Rattle.sync_types.specs.declared.runs.Go.{Go}
+use Rattle.sync_types.specs.GoingOn.{Going, go_of}
 use Rattle.coord_core.proofs.state.State.act.Goals as goal
 
 pub returns-clause-board : goal.returns-clause-board

@@ -1,5 +1,5 @@
-use Rattle.std.proofs.Common.{◌≡◌, ℕ, ◌==◌, Bool, true, false, not, ◌&&◌, ◌||◌, List, [], ◌∷◌, ◌++◌, map, length, length-append, Option, Some, None, refl, sym, ap, ◌∙◌, arith}
-use Rattle.coord_core.specs.Tables.{activity_at, board_in, state_in}
+use Rattle.std.proofs.Common.{ℕ, List, sym, ap, ◌∙◌}
+use Rattle.coord_core.specs.Tables.{board_in}
 use Rattle.sync_types.specs.Starts.{stand_once}
 use Rattle.coord_core.proofs.Acts.{alarmed_board, numbers_after, zone_axes_after}
 use Rattle.sync_types.specs.BoardActions.{after_part}

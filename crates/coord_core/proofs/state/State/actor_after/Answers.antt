@@ -1,5 +1,5 @@
-use Rattle.std.proofs.Common.{◌≡◌, ℕ, ◌==◌, Bool, true, false, not, ◌&&◌, ◌||◌, List, [], ◌∷◌, ◌++◌, length, length-append, Option, Some, None, refl, sym, ap, ◌∙◌, arith}
-use Rattle.coord_core.specs.Tables.{activity_at, board_in, state_in}
+use Rattle.std.proofs.Common.{ap, ◌∙◌}
+use Rattle.coord_core.specs.Tables.{board_in}
 use Rattle.coord_core.proofs.Acts.{actor_runs_on}
 use Rattle.coord_core.proofs.GrantLaws.{no_positions_listed}
 use Rattle.sync_types.specs.Boards.{grant_with}

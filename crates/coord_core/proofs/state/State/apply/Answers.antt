@@ -1,8 +1,8 @@
-use Rattle.std.proofs.Common.{◌≡◌, ℕ, ◌==◌, Bool, true, false, not, ◌&&◌, ◌||◌, List, [], ◌∷◌, ◌++◌, map, length, length-append, Option, Some, None, refl, sym, ap, ◌∙◌, arith}
-use Rattle.coord_core.specs.Tables.{activity_at, board_in, state_in}
+use Rattle.std.proofs.Common.{ℕ, List, map, None, refl, ap, ◌∙◌}
+use Rattle.coord_core.specs.Tables.{board_in}
 use Rattle.sync_types.specs.Starts.{stand_once}
 use Rattle.coord_core.proofs.ZoneLaws.{axes_handed, numbers_handed}
-use Rattle.coord_core.specs.Tables.{axes_in, zone_handed}
+use Rattle.coord_core.specs.Tables.{axes_in}
 use Rattle.coord_core.specs.declared.zones.ZoneState.{ZoneState}
 use Rattle.coord_core.proofs.Acts.{no_alarm, own_freed, owners_freed, axes_freed, holders_freed, on_freed, axes_stay, holders_stay, on_told, effects_board, numbers_after, zone_axes_after}
 use Rattle.coord_core.proofs.state.State.apply.Goals as goal

@@ -1,9 +1,9 @@
-use Rattle.std.proofs.Common.{◌≡◌, ℕ, ◌==◌, Bool, true, false, not, ◌&&◌, ◌||◌, List, [], ◌∷◌, ◌++◌, map, length, length-append, Option, Some, None, refl, sym, ap, ◌∙◌, arith}
-use Rattle.coord_core.specs.Tables.{activity_at, board_in, state_in}
-use Rattle.std.proofs.Common.{◌-◌, ◌+◌}
+use Rattle.std.proofs.Common.{◌≡◌, ℕ, List, ◌++◌, map, length, length-append, sym, ap, ◌∙◌, arith}
+use Rattle.coord_core.specs.Tables.{board_in}
+use Rattle.std.proofs.Common.{◌-◌}
 use Rattle.coord_core.proofs.Takes.{taking_goes, taking_board, taking_room, no_more_takings, nothing_more}
 use Rattle.sync_types.proofs.BoardTests.{first_passes}
-use Rattle.sync_types.specs.Boards.{Board, channel_numbers}
+use Rattle.sync_types.specs.Boards.{channel_numbers}
 use Rattle.sync_types.specs.GoingOn.{can_take, go_of, Takings, takings}
 use Rattle.sync_types.specs.declared.runs.Go.{Go}
 use Rattle.coord_core.proofs.state.State.hand_out_axes.Goals as goal

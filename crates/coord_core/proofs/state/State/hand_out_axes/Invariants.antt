@@ -1,5 +1,5 @@
-use Rattle.std.proofs.Common.{◌≡◌, ℕ, ◌+◌, ◌-◌, ◌<◌, ◌≤◌, ◌==◌, ◌&&◌, ◌||◌, not, true, false, if◌then◌else◌, take, drop, length, map, filter, [], ◌∷◌, ◌++◌, Some, None, is_some, slice_index_or}
-use Rattle.coord_core.specs.Tables.{activity_at, board_in, state_in}
+use Rattle.std.proofs.Common.{◌≡◌, ◌+◌, ◌-◌, ◌≤◌, length, map, ◌++◌}
+use Rattle.coord_core.specs.Tables.{board_in}
 use Rattle.coord_core.specs.Tables.{IsTable}
 use Rattle.sync_types.specs.GoingOn.{go_of, takings}
 use Rattle.coord_core.proofs.state.State.hand_out_axes.Given as goal

@@ -1,5 +1,5 @@
-use Rattle.std.proofs.Common.{◌≡◌, ℕ, ◌==◌, Bool, true, false, not, ◌&&◌, ◌||◌, List, [], ◌∷◌, ◌++◌, length, length-append, Option, Some, None, refl, sym, ap, ◌∙◌, arith}
-use Rattle.coord_core.specs.Tables.{activity_at, board_in, state_in}
+use Rattle.std.proofs.Common.{not, ap, ◌∙◌}
+use Rattle.coord_core.specs.Tables.{activity_at, state_in}
 use Rattle.coord_core.proofs.Members.{some_where_first, turned}
 use Rattle.std.proofs.Common.{is_some}
 use Rattle.sync_types.specs.Boards.{channel_numbers, is_running}

@@ -1,5 +1,3 @@
-use Rattle.std.proofs.Common.{◌≡◌, ℕ, ◌==◌, Bool, true, false, not, ◌&&◌, ◌||◌, List, [], ◌∷◌, ◌++◌, map, length, length-append, Option, Some, None, refl, sym, ap, ◌∙◌, arith}
-use Rattle.coord_core.specs.Tables.{activity_at, board_in, state_in}
 use Rattle.coord_core.proofs.Acts.{gone_board}
 use Rattle.coord_core.proofs.state.State.let_go.Goals as goal
 

@@ -1,9 +1,8 @@
 use Rattle.coord_core.specs.declared.activities.Activity.{Activity}
-use Rattle.std.proofs.Common.{◌≡◌, ℕ, Bool, true, false, not, ◌&&◌, ◌||◌, List, Option, Some, None, refl, sym, ap, ◌∙◌, arith}
-use Rattle.coord_core.specs.Tables.{activity_at, board_in, state_in}
+use Rattle.std.proofs.Common.{sym, ap, ◌∙◌, arith}
+use Rattle.coord_core.specs.Tables.{activity_at, state_in}
 use Rattle.coord_core.proofs.Members.{first_found, none_found}
 use Rattle.sync_types.specs.Boards.{is_running}
-use Rattle.sync_types.specs.GoingOn.{can_take}
 use Rattle.coord_core.proofs.state.State.lowest_running.Goals as goal
 
 pub returns-then-is_running : goal.returns-then-is_running

@@ -1,5 +1,5 @@
-use Rattle.std.proofs.Common.{◌≡◌, ℕ, ◌==◌, Bool, true, false, not, ◌&&◌, ◌||◌, List, [], ◌∷◌, ◌++◌, map, length, length-append, Option, Some, None, refl, sym, ap, ◌∙◌, arith}
-use Rattle.coord_core.specs.Tables.{activity_at, board_in, state_in}
+use Rattle.std.proofs.Common.{ℕ, sym, ap, ◌∙◌}
+use Rattle.coord_core.specs.Tables.{activity_at, state_in}
 use Rattle.std.proofs.Math.Path.{fun_ext}
 use Rattle.sync_types.specs.Boards.{State, board_at_rest, first_state}
 use Rattle.sync_types.specs.Views.{StartView}

@@ -1,5 +1,5 @@
-use Rattle.std.proofs.Common.{◌≡◌, ℕ, ◌+◌, ◌-◌, ◌<◌, ◌≤◌, ◌==◌, ◌&&◌, ◌||◌, not, true, false, if◌then◌else◌, take, drop, length, map, filter, [], ◌∷◌, ◌++◌, Some, None, is_some, slice_index_or}
-use Rattle.coord_core.specs.Tables.{activity_at, board_in, state_in}
+use Rattle.std.proofs.Common.{◌≡◌, ℕ, ◌<◌, ◌≤◌, false}
+use Rattle.coord_core.specs.Tables.{board_in}
 use Rattle.sync_types.specs.GoingOn.{can_take}
 use Rattle.coord_core.proofs.state.State.next_taker.Given as goal
 

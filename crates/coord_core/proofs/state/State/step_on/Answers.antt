@@ -1,5 +1,5 @@
-use Rattle.std.proofs.Common.{◌≡◌, ℕ, ◌==◌, Bool, true, false, not, ◌&&◌, ◌||◌, List, [], ◌∷◌, ◌++◌, map, length, length-append, Option, Some, None, refl, sym, ap, ◌∙◌, arith}
-use Rattle.coord_core.specs.Tables.{activity_at, board_in, state_in}
+use Rattle.std.proofs.Common.{ap, ◌∙◌}
+use Rattle.coord_core.specs.Tables.{board_in}
 use Rattle.coord_core.proofs.Entering.{room_at_once, room_after, goes_of_step}
 use Rattle.sync_types.specs.Boards.{Board}
 use Rattle.sync_types.specs.GoingOn.{after_goes, all_takings}

@@ -1,5 +1,4 @@
-use Rattle.std.proofs.Common.{◌≡◌, ℕ, ◌==◌, Bool, true, false, not, ◌&&◌, ◌||◌, List, [], ◌∷◌, ◌++◌, map, length, length-append, Option, Some, None, refl, sym, ap, ◌∙◌, arith}
-use Rattle.coord_core.specs.Tables.{activity_at, board_in, state_in}
+use Rattle.std.proofs.Common.{Bool, List, [], ◌∷◌, ◌++◌, length, sym, ap, ◌∙◌}
 use Rattle.axis_exchange.specs.Owners.{may_take_all}
 use Rattle.coord_core.proofs.Rules.{can_take_alike}
 use Rattle.coord_core.proofs.Takes.{Takes, taker_granted, taken_board, taken_kept}

@@ -1,4 +1,4 @@
-use Rattle.std.proofs.Common.{◌≡◌, ℕ, ◌==◌, Bool, true, false, not, ◌&&◌, ◌||◌, List, [], ◌∷◌, ◌++◌, length, length-append, Option, Some, None, refl, sym, ap, ◌∙◌, arith}
+use Rattle.std.proofs.Common.{ℕ, ◌==◌, ◌&&◌, List, None, ap, ◌∙◌}
 use Rattle.coord_core.proofs.GrantLaws.{granted}
 use Rattle.coord_core.specs.declared.zones.ZoneState.{ZoneState}
 use Rattle.std.specs.List.{list_any}

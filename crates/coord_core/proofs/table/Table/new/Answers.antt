@@ -1,5 +1,4 @@
-use Rattle.std.proofs.Common.{◌≡◌, ℕ, ◌==◌, Bool, true, false, not, ◌&&◌, ◌||◌, List, [], ◌∷◌, ◌++◌, map, length, length-append, Option, Some, None, refl, sym, ap, ◌∙◌, arith}
-use Rattle.coord_core.specs.Tables.{activity_at, board_in, state_in}
+use Rattle.std.proofs.Common.{ℕ, List, map, refl, sym, ap, ◌∙◌}
 use Rattle.coord_core.proofs.Acts.{same_boards}
 use Rattle.coord_core.proofs.Starting.{numbers_at_first, axes_at_first, holder_at_first, on_at_first}
 use Rattle.coord_core.specs.Tables.{axes_in, holder_in, is_on_in}

@@ -1,5 +1,4 @@
-use Rattle.std.proofs.Common.{◌≡◌, ℕ, ◌==◌, Bool, true, false, not, ◌&&◌, ◌||◌, List, [], ◌∷◌, ◌++◌, length, length-append, Option, Some, None, refl, sym, ap, ◌∙◌, arith}
-use Rattle.coord_core.specs.Tables.{activity_at, board_in, state_in}
+use Rattle.coord_core.specs.Tables.{board_in}
 use Rattle.coord_core.proofs.Acts.{no_split}
 use Rattle.coord_core.proofs.table.Table.splits_a_zone.Goals as goal
 

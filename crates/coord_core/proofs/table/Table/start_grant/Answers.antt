@@ -1,5 +1,4 @@
-use Rattle.std.proofs.Common.{◌≡◌, ℕ, ◌==◌, Bool, true, false, not, ◌&&◌, ◌||◌, List, [], ◌∷◌, ◌++◌, length, length-append, Option, Some, None, refl, sym, ap, ◌∙◌, arith}
-use Rattle.axis_sets.specs.Sets.{has, members_of}
+use Rattle.std.proofs.Common.{Bool, Some, None, ap, ◌∙◌}
 use Rattle.std.proofs.Common.{if◌then◌else◌}
 use Rattle.coord_core.proofs.GrantLaws.{positions_listed, owned_alike}
 use Rattle.coord_core.specs.Tables.{board_in}
