@@ -1,5 +1,6 @@
 pub mod Positions
 pub mod BoardTests
+pub mod EntryLaws
 pub mod GoingCounts
 pub mod Links
 pub mod Replays

@@ -173,7 +173,7 @@ keeps_taking b c takes k = record {
 }
 
 -- the board keeps it and its start
-abbrev KeepsFrom : Board → Board → Type 0
+abbrev pub KeepsFrom : Board → Board → Type 0
 KeepsFrom b a = Keeps a × (a.start ≡ b.start)
 
 keeps_takings : (n : ℕ) (b : Board) → Keeps b → KeepsFrom b (takings n b).board
@@ -184,7 +184,7 @@ keeps_takings (suc n) b k = keeps_next (keeps_takings n) (next_taker b) refl
     keeps_next rest None is = (k, refl)
     keeps_next rest (Some c) is = rest (after_taking b c) (keeps_taking b c (first_passes (can_take b) channel_numbers c is) k)
 
-keeps_step : (b : Board) (m : Move) → has_channel b.start m.channel ≡ true → Keeps b → KeepsFrom b (after_step b m.channel m.step)
+pub keeps_step : (b : Board) (m : Move) → has_channel b.start m.channel ≡ true → Keeps b → KeepsFrom b (after_step b m.channel m.step)
 keeps_step b m on k =
     let own : Board = after_own_part b m.channel m.step in
     let kept : Keeps own = keeps_part b m.channel m.step (alarm_of b m.channel m.step.action) refl on k in
@@ -202,7 +202,7 @@ owner_at_first : (owner : Option ℕ) (position : ℤ) → owner_of (ownership_o
 owner_at_first (Some c) position = refl
 owner_at_first None position = refl
 
-keeps_first : (start : StartView) → IsSound start → Keeps (first_board start)
+pub keeps_first : (start : StartView) → IsSound start → Keeps (first_board start)
 unfolding first_state
 keeps_first start sound = record {
   together = record {

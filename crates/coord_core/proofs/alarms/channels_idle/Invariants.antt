@@ -1,0 +1,13 @@
+use Rattle.std.proofs.Common.{◌≡◌, ℕ, ◌<◌, ◌≤◌, false, length}
+use Rattle.axis_sets.specs.Sets.{has}
+use Rattle.axis_sets.specs.declared.limits.TheConstants.{CHANNEL_PLACES}
+use Rattle.coord_core.specs.Tables.{activity_at, state_in}
+use Rattle.sync_types.specs.Boards.{is_idle}
+use Rattle.coord_core.proofs.alarms.channels_idle.Given as goal
+
+abbrev pub invariant-loop-number : goal.invariant-loop-number
+invariant-loop-number l =
+    ((c : ℕ) → 1 ≤ c → c < l.number → has l.idle c ≡ is_idle (state_in c (activity_at l.channels c)))
+    × (has l.idle 0 ≡ false)
+    × ((c : ℕ) → l.number ≤ c → has l.idle c ≡ false)
+    × (length l.idle ≡ CHANNEL_PLACES)

@@ -1,0 +1,13 @@
+use Rattle.std.proofs.Common.{◌≡◌, ℕ, ◌<◌, ◌≤◌, if◌then◌else◌, length, Some, None}
+use Rattle.axis_sets.specs.Sets.{has}
+use Rattle.axis_sets.specs.declared.limits.TheConstants.{AXIS_LIMIT}
+use Rattle.axis_sets.specs.Positions.{position_of}
+use Rattle.sync_types.specs.BoardActions.{position_or_zero}
+use Rattle.coord_core.proofs.effects.full_positions.Given as goal
+
+abbrev pub invariant-loop-index : goal.invariant-loop-index
+invariant-loop-index l =
+    ((x : ℕ) → x < l.index → position_of l.positions x ≡ (if has l.axes x then Some (position_or_zero (position_of l.at x)) else None))
+    × ((x : ℕ) → l.index ≤ x → position_of l.positions x ≡ None)
+    × (length l.positions ≡ AXIS_LIMIT)
+    × (0 < l.index → length l.axes ≡ AXIS_LIMIT)

@@ -1,0 +1,43 @@
+use Rattle.std.proofs.Common.{◌≡◌, true, false, List, ◌++◌, length, length-append, sym, ap, ◌∙◌, arith}
+use Rattle.axis_sets.specs.Sets.{has}
+use Rattle.coord_core.specs.Tables.{board_in}
+use Rattle.std.specs.List.{range_with_len}
+use Rattle.std.proofs.Common.{filter, ◌+◌, ◌-◌}
+use Rattle.coord_core.proofs.Rules.{goes_of, goes_more, goes_as_before, written_more, written_above, unwritten_more, written_all}
+use Rattle.coord_core.specs.declared.activities.Activity.TheVariants.{Running}
+use Rattle.sync_types.specs.declared.Grant.{Grant}
+use Rattle.sync_types.specs.declared.runs.Go.{Go}
+use Rattle.coord_core.proofs.GrantLaws.{no_positions_listed}
+use Rattle.coord_core.proofs.Rules.{kept_here, left_here}
+use Rattle.sync_types.specs.Boards.{grant_with, no_positions}
+use Rattle.sync_types.specs.GoingOn.{going_at_once}
+use Rattle.coord_core.proofs.goings.run_on.Goals.{then-contains, else-contains}
+use Rattle.coord_core.proofs.goings.run_on.Goals as goal
+
+pub loop-number-preserved : goal.loop-number-preserved
+loop-number-preserved c = elim c.if-contains.branch [
+  | then-contains w ↦
+      let on : has c.args.goers c.loop-number.number ≡ true = sym c.contains.ensures.member ∙ w.if-contains.true in
+      let go : Go = record { channel = c.loop-number.number; grant = w.grant_with-grant.result } in
+      rw (w.channels-is, w.goes-is) (
+        omega (arith, simp length-append at (ap (λ (gs : List Go). length gs) w.push.ensures.items), c.loop-number.invariant.0, kept_here (has c.args.goers) c.loop-number.number c.loop-number-test.true (sym c.contains.ensures.member ∙ w.if-contains.true)),
+        goes_more (going_at_once (board_in c.args.table.now c.args.channels.now)) (has c.args.goers) c.loop-number.number _ c.loop-number.goes.items go c.loop-number-test.true on
+            (ap (λ (g : Grant). record { channel = c.loop-number.number; grant = g }) ((w.grant_with-grant.ensures c.args.channels.now ∙ ap (grant_with (board_in c.args.table.now c.args.channels.now) c.loop-number.number) (no_positions_listed w.empty.result w.empty.ensures.none w.empty.ensures.size)))) c.loop-number.invariant.1
+            ∙ ap (λ (gs : List Go). gs ++ goes_of (going_at_once (board_in c.args.table.now c.args.channels.now)) (filter (has c.args.goers) (range_with_len (c.loop-number.number + 1) (9 - (c.loop-number.number + 1))))) (sym w.push.ensures.items),
+        written_more c.args.channels.now c.loop-number.channels _ (has c.args.goers) (λ d. Running (grant_with (board_in c.args.table.now c.args.channels.now) d no_positions)) c.loop-number.number _ on
+            (w.running.ensures ∙ ap Running ((w.grant_with-grant.ensures c.args.channels.now ∙ ap (grant_with (board_in c.args.table.now c.args.channels.now) c.loop-number.number) (no_positions_listed w.empty.result w.empty.ensures.none w.empty.ensures.size)))) w.set_activity.ensures c.loop-number.invariant.2,
+        written_above c.args.channels.now c.loop-number.channels _ c.loop-number.number _ w.set_activity.ensures c.loop-number.invariant.3,
+      )
+  | else-contains w ↦
+      let off : has c.args.goers c.loop-number.number ≡ false = sym c.contains.ensures.member ∙ w.if-contains.false in
+      rw (w.channels-is, w.goes-is) (
+        omega (arith, c.loop-number.invariant.0, left_here (has c.args.goers) c.loop-number.number c.loop-number-test.true (sym c.contains.ensures.member ∙ w.if-contains.false)),
+        goes_as_before (going_at_once (board_in c.args.table.now c.args.channels.now)) (has c.args.goers) c.loop-number.number _ c.loop-number.goes.items c.loop-number-test.true off c.loop-number.invariant.1,
+        unwritten_more c.args.channels.now c.loop-number.channels (has c.args.goers) (λ d. Running (grant_with (board_in c.args.table.now c.args.channels.now) d no_positions)) c.loop-number.number off (c.loop-number.invariant.3 c.loop-number.number (omega arith)) c.loop-number.invariant.2,
+        λ x from. c.loop-number.invariant.3 x (omega arith),
+      )
+]
+
+pub returns-clause-channels : goal.returns-clause-channels
+returns-clause-channels c =
+    written_all c.args.channels.now c.loop-number.channels c.args.goers (λ d. Running (grant_with (board_in c.args.table.now c.args.channels.now) d no_positions)) c.loop-number.number (omega arith) c.requires.goers.size c.loop-number.invariant.2 c.loop-number.invariant.3
