@@ -42,6 +42,16 @@ offset 2 g599 y -0.001 ; little~%_N_A_MPF~M30~ => \
 [ChannelLine { line: 7, channel: ChannelId { number: 2 }, program: Some(A), starts: true }] [] [] \
 [OffsetLine { line: 8, channel: ChannelId { number: 2 }, g: 599, slot: 1, by: Um { micrometres: -1 } }] \
 [] margin 2500 depth 4 budget 100000000 compensation true skip true
+JOB 1~CHANNEL 1~CHANNEL 2 A~AXIS X1 free 1~ZONE 1 1 FREE OFF +X1 0 0 - 0 0 - 0 0~%_N_A_MPF~WAITM(1,2)~ => \
+[ChannelLine { line: 2, channel: ChannelId { number: 1 }, program: None, starts: false }, \
+ChannelLine { line: 3, channel: ChannelId { number: 2 }, program: Some(A), starts: false }] \
+[AxisLine { line: 4, letter: 88, number: 1, owner: None, at: Um { micrometres: 1000 } }] \
+[] [] \
+[ZoneLine { line: 5, zone: ZoneId { number: 1 }, group: 1, holder: None, on: false, sides: [\
+Side { carrier: Some((AxisId { index: 0 }, false)), lo: Um { micrometres: 0 }, hi: Um { micrometres: 0 } }, \
+Side { carrier: None, lo: Um { micrometres: 0 }, hi: Um { micrometres: 0 } }, \
+Side { carrier: None, lo: Um { micrometres: 0 }, hi: Um { micrometres: 0 } }] }] \
+margin 0 depth 0 budget 1000000 compensation false skip false
 ";
 
 /// The lines and the options of a job.
@@ -107,6 +117,26 @@ fn refuses_in_the_order_of_the_rules(rt: HostRuntime) -> Result<(), Fail> {
     for row in REFUSALS.lines() {
         let (marks, want) = row.split_once(" => ").ok_or("no row")?;
         let got = outcome(alloc, &text_of(alloc, marks)?)?;
+        assert!(rt; got.as_str() == want, "of {row}");
+    }
+    Ok(())
+}
+
+/// Texts of jobs in marks, each with its least line that is not built.
+const UNBUILT: &str =
+    "JOB 1~CHANNEL 1 A START~ZONE 1 1 1 ON - 0 0 - 0 0 - 0 0~ZONE 2 1 FREE ON - 0 0 - 0 0 - 0 0~%_N_A_MPF~M30~ => None
+JOB 1~CHANNEL 1 A START~AXIS X1 FREE 0~CHANNEL 2~%_N_A_MPF~M30~ => Some(3)
+JOB 1~CHANNEL 1 A START~ZONE 1 1 1 ON - 0 0 - 0 0 - 0 0~ZONE 2 1 1 ON - 0 0 - 0 0 - 0 0~%_N_A_MPF~M30~ => Some(4)
+JOB 1~CHANNEL 1 A START~%_N_B_MPF~M30~%_N_A_MPF~CPROT(1,0)~SETM(1)~M30~ => Some(6)
+";
+
+#[test]
+fn finds_what_is_not_built(rt: HostRuntime) -> Result<(), Fail> {
+    let alloc = rt.alloc();
+    for row in UNBUILT.lines() {
+        let (marks, want) = row.split_once(" => ").ok_or("no row")?;
+        let job = read_text(alloc, &text_of(alloc, marks)?)?;
+        let got = format!(in alloc; "{:?}", not_built(&job))?;
         assert!(rt; got.as_str() == want, "of {row}");
     }
     Ok(())

@@ -1,3 +1,4 @@
+pub mod BuiltJobs
 pub mod Crosses
 pub mod Digits
 pub mod Owners

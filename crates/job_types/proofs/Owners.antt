@@ -1,5 +1,5 @@
 -- The owners of the axes of zones.
-use Rattle.std.proofs.Common.{◌≡◌, ℕ, Bool, true, false, ◌||◌, List, [], ◌∷◌, Option, None, Some, IfSome, refl, subst}
+use Rattle.std.proofs.Common.{◌≡◌, ℕ, ◌<◌, length, Bool, true, false, ◌||◌, List, [], ◌∷◌, Option, None, Some, IfSome, refl, subst}
 use Rattle.std.specs.List.{All, list_any}
 use Rattle.std.proofs.lemmas.Bool.{false≢true, eqb-true}
 use Rattle.std.proofs.lemmas.List.Elements.{All-head, All-tail}
@@ -23,9 +23,9 @@ pub carrier_owned : (job : JobView) (zone : ZoneLine) → IsSoundZone job zone �
 unfolding has_axis
 carrier_owned job zone sound axis has = by_side (carried_side (IsCarriedBy job zone.holder) (λ side. is_carrier axis side.carrier) zone.sides sound.carried has)
   where
-    by_carrier : (o : Option (ℕ × Bool)) → IfSome o (λ carrier. first_owner job carrier.0 ≡ zone.holder) → is_carrier axis o ≡ true → first_owner job axis ≡ zone.holder
+    by_carrier : (o : Option (ℕ × Bool)) → IfSome o (λ carrier. (carrier.0 < length job.axes) × (first_owner job carrier.0 ≡ zone.holder)) → is_carrier axis o ≡ true → first_owner job axis ≡ zone.holder
     by_carrier None owned is = absurd (false≢true is)
-    by_carrier (Some carrier) owned is = subst (λ a. first_owner job a ≡ zone.holder) (eqb-true carrier.0 axis is) owned
+    by_carrier (Some carrier) owned is = subst (λ a. first_owner job a ≡ zone.holder) (eqb-true carrier.0 axis is) owned.1
 
     by_side : (side : Side) × IsCarriedBy job zone.holder side × (is_carrier axis side.carrier ≡ true) → first_owner job axis ≡ zone.holder
     by_side (side, owned, is) = by_carrier side.carrier owned is

@@ -1,5 +1,5 @@
 -- Law. What holds of every accepted job.
-use Rattle.std.specs.Prelude.{◌≡◌, ◌≢◌, ◌⊎◌, ℕ, ◌<◌, ◌≤◌, ℤ, pos, ◌≤ℤ◌, unsigned_abs, true, length, Option, Some, None, IfSome, IsSomeAnd}
+use Rattle.std.specs.Prelude.{◌≡◌, ◌≢◌, ◌⊎◌, ℕ, ◌<◌, ◌≤◌, ℤ, pos, ◌≤ℤ◌, true, length, Option, IfSome, IsSome}
 use Rattle.std.specs.List.{All, Any, AllPairs}
 use Rattle.nc_blocks.specs.Indices.{StatementFits}
 use Rattle.nc_control_flow.specs.Nested.{IsNested}
@@ -9,8 +9,7 @@ use Rattle.job_types.specs.declared.job.OffsetLine.{OffsetLine}
 use Rattle.job_types.specs.declared.job.Side.{Side}
 use Rattle.job_types.specs.declared.job.ZoneLine.{ZoneLine}
 use Rattle.job_types.specs.Axes.{first_owner}
-use Rattle.job_types.specs.Built.{is_built}
-use Rattle.job_types.specs.Job.{JobView, ProgramView}
+use Rattle.job_types.specs.Job.{JobView}
 use Rattle.axis_sets.specs.declared.limits.TheConstants.{AXIS_LIMIT, CHANNEL_LIMIT, ZONE_LIMIT}
 use Rattle.job_lines.specs.declared.limits.TheConstants.{BUDGET_LIMIT, DEPTH_LIMIT, MARGIN_LIMIT, PROGRAM_LIMIT}
 use Rattle.micro_units.specs.Position.{IsPosition}
@@ -41,13 +40,9 @@ pub record IsSoundOffset (job : JobView) (line : OffsetLine) : Type 0 where
   pub slot : line.slot < 3
   pub by : IsPosition line.by
 
--- no channel holds both zones; any number of them may be held free
-abbrev pub HaveOtherHolders : ZoneLine → ZoneLine → Type 0
-HaveOtherHolders zone other = IfSome zone.holder (λ channel. other.holder ≢ Some channel)
-
--- a side stands still, or an axis of this owner carries it
+-- a side stands still, or an axis of the job carries it that has this owner, or is free where this is none
 abbrev pub IsCarriedBy : JobView → Option ℕ → Side → Type 0
-IsCarriedBy job owner side = IfSome side.carrier (λ carrier. first_owner job carrier.0 ≡ owner)
+IsCarriedBy job owner side = IfSome side.carrier (λ carrier. (carrier.0 < length job.axes) × (first_owner job carrier.0 ≡ owner))
 
 -- no axis carries both sides
 abbrev pub HaveOtherCarriers : Side → Side → Type 0
@@ -59,52 +54,45 @@ pub record IsSoundRange (lo hi : ℤ) : Type 0 where
   pub low : IsPosition lo
   pub high : IsPosition hi
 
--- a zone that is on, with a number and a group from 1 to 32, and three directions, carried by different axes of its holder, or by none where it is held free
+-- a zone with a number and a group from 1 to 32, and three directions, carried by different axes of its holder, or by free ones where it is held free
 pub record IsSoundZone (job : JobView) (zone : ZoneLine) : Type 0 where
   pub low_number : 1 ≤ zone.zone
   pub high_number : zone.zone ≤ ZONE_LIMIT
   pub low_group : 1 ≤ zone.group
   pub high_group : zone.group ≤ ZONE_LIMIT
-  pub active : zone.on ≡ true
   pub held : IfSome zone.holder (IsDeclared job)
-  pub still : zone.holder ≡ None → All (λ side. side.carrier ≡ None) zone.sides
   pub directions : length zone.sides ≡ 3
   pub carried : All (IsCarriedBy job zone.holder) zone.sides
   pub carriers : AllPairs HaveOtherCarriers zone.sides
   pub ranges : All (λ side. IsSoundRange side.lo side.hi) zone.sides
 
--- each block is one that is built, and the structures match
-pub record IsSoundProgram (program : ProgramView) : Type 0 where
-  pub built : All (λ block. is_built block.1.statement ≡ true) program.blocks
-  pub nested : IsNested program.blocks
-
 -- 0 to 1,000 millimetres
 abbrev pub IsSoundMargin : ℤ → Type 0
 IsSoundMargin margin = (pos 0 ≤ℤ margin) × (margin ≤ℤ MARGIN_LIMIT)
 
+-- each CHANNEL line that starts its channel selects a program, each that is selected is in the library, and the structures of each program match
 pub record IsSoundJob (job : JobView) : Type 0 where
   pub channel_numbers : AllPairs (λ line other. line.channel ≢ other.channel) job.channels
   pub low_channels : All (λ line. 1 ≤ line.channel) job.channels
   pub high_channels : All (λ line. line.channel ≤ CHANNEL_LIMIT) job.channels
-  pub starting : All (λ line. line.starts ≡ true) job.channels
-  pub selected : All (λ line. IsSomeAnd line.program (λ name. Any (λ program. program.0 ≡ name) job.programs)) job.channels
+  pub selecting : All (λ line. line.starts ≡ true → IsSome line.program) job.channels
+  pub selected : All (λ line. IfSome line.program (λ name. Any (λ program. program.0 ≡ name) job.programs)) job.channels
   pub few_axes : length job.axes ≤ AXIS_LIMIT
   pub axis_names : AllPairs HaveOtherNames job.axes
-  pub owners : All (λ line. IsSomeAnd line.owner (IsDeclared job)) job.axes
+  pub owners : All (λ line. IfSome line.owner (IsDeclared job)) job.axes
   pub positions : All (λ line. IsPosition line.at) job.axes
   pub slot_numbers : AllPairs HaveOtherSlots job.geo
   pub slot_axes : All (λ g. g.axis < length job.axes) job.geo
   pub offset_places : AllPairs HaveOtherPlaces job.offsets
   pub offsets : All (IsSoundOffset job) job.offsets
   pub zone_numbers : AllPairs (λ zone other. zone.zone ≢ other.zone) job.zones
-  pub zone_holders : AllPairs HaveOtherHolders job.zones
   pub zones : All (IsSoundZone job) job.zones
   pub margin : IsSoundMargin job.margin
   pub depth : job.depth ≤ DEPTH_LIMIT
   pub budget : (1 ≤ job.budget) × (job.budget ≤ BUDGET_LIMIT)
   pub few_programs : length job.programs ≤ PROGRAM_LIMIT
   pub program_names : AllPairs (λ program other. program.0 ≢ other.0) job.programs
-  pub programs : All (λ program. IsSoundProgram program.1) job.programs
+  pub programs : All (λ program. IsNested program.1.blocks) job.programs
 
 -- the number of each parameter that a block names is one of the 1,000
 abbrev pub BlocksFit : JobView → Type 0

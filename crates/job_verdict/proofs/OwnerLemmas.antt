@@ -1,5 +1,5 @@
 -- Each axis has one owner, and the motions of a channel have only axes that it owns.
-use Rattle.std.proofs.Common.{◌≡◌, ℕ, ◌==◌, List, [], Option, None, Some, option_and_then, IfSome, IsSomeAnd, slice_get, All, refl, subst}
+use Rattle.std.proofs.Common.{◌≡◌, ℕ, ◌==◌, List, [], Option, None, Some, option_and_then, IfSome, slice_get, All, refl, subst}
 use Rattle.std.proofs.lemmas.Bool.{eqb-true}
 use Rattle.std.proofs.lemmas.List.Elements.{All-nil}
 use Rattle.std.proofs.lemmas.Option.{slice_get_within, get_or_from_slice_get}
@@ -27,13 +27,9 @@ owned_by_one : (job : JobView) → IsSoundJob job → (state : State) (axis : �
 unfolding axis_owner first_owner
 owned_by_one job sound state axis = by_line (slice_get job.axes axis) refl
   where
-    by_owner : (o : Option ℕ) → IsSomeAnd o (IsDeclared job) → IfSome o (IsDeclared job)
-    by_owner None declared = absurd declared
-    by_owner (Some channel) declared = declared
-
     by_line : (o : Option AxisLine) → slice_get job.axes axis ≡ o → IfSome (option_and_then (λ line. line.owner) o) (IsDeclared job)
     by_line None is = tt
-    by_line (Some line) is = by_owner line.owner (All-at (λ l. IsSomeAnd l.owner (IsDeclared job)) job.axes axis line sound.owners is)
+    by_line (Some line) is = All-at (λ l. IfSome l.owner (IsDeclared job)) job.axes axis line sound.owners is
 
 moves_own : (job : JobView) (state : State) (channel : ℕ) → All (λ item. All (λ e. axis_owner job state e.0 ≡ Some channel) (axes_of (movement_of item))) (motions_of job channel)
 unfolding motions_of axis_owner first_owner

@@ -1,9 +1,10 @@
 //! Runs a job and judges it.
-ghost use Rattle.std.specs.Prelude.{◌≡◌, ◌==◌, IfOk, Some, find, map};
+ghost use Rattle.std.specs.Prelude.{◌≡◌, ◌==◌, IfOk, Some, None, find, map};
 ghost use Rattle.job_verdict.specs.ChannelRun.{runs_of};
 ghost use Rattle.job_verdict.specs.Clash as model;
 ghost use Rattle.job_verdict.specs.ShownStretches as shown;
 ghost use Rattle.job_verdict.specs.Stretches.{stretches_of};
+ghost use Rattle.job_types.specs.Built.{not_built};
 ghost use Rattle.job_types.specs.SoundJob.{BlocksFit, IsSoundJob, IsRunnable};
 ghost use Rattle.job_types.specs.Zones.{zones_in_order};
 
@@ -180,11 +181,12 @@ fn judge(alloc: Global, job: &Job, runs: &[ChannelRun]) -> Result<Verdict, Alloc
     }
 }
 
-/// Runs every channel of an accepted job, and judges the job.
+/// Runs every channel of an accepted job with all its lines built, and judges the job.
 #[tactic(auto, using(job_types::proofs::RunnableJobs::runnable))]
 pub fn check_job(alloc: Global, job: &Job) -> Result<(Vec<ChannelRun>, Verdict), AllocError>
     requires accepted { IsSoundJob job.now }
     requires indices { BlocksFit job.now }
+    requires built { not_built job.now ≡ None }
     ensures runs { IfOk result (λ answer. answer.0.items ≡ runs_of job.now) }
     ensures verdict { IfOk result (λ answer. answer.1 ≡ model.verdict_of job.now) }
 {

@@ -106,6 +106,13 @@ impl Flow {
     ghost use Rattle.nc_control_flow.specs.Flow.{next_block, next_at, going_by_move, Leads};
     ghost use Rattle.nc_control_flow.specs.Moves.{MoveFits, outcome_view};
 
+    /// All blocks, each with its line.
+    pub fn blocks(&self) -> &[(u32, Block)]
+        ensures { result.now ≡ self.now }
+    {
+        self.blocks.as_slice()
+    }
+
     /// The block at a place, with its line; None past the last block.
     pub fn block(&self, pc: u32) -> Option<&(u32, Block)>
         ensures block { option_copied result ≡ slice_get self.now pc }

@@ -11,3 +11,4 @@ pub mod SoundLists
 pub mod SoundPrograms
 pub mod SoundReadings
 pub mod TellingLemmas
+pub mod UnbuiltLines

@@ -1,10 +1,9 @@
 -- What job lines tell that break no rule is sound.
-use Rattle.std.specs.Prelude.{IsSomeAnd}
-use Rattle.std.proofs.Common.{◌≡◌, ◌≢◌, ◌∙◌, ℕ, ◌+◌, ◌<◌, ◌≤◌, ℤ, Bool, true, false, ◌&&◌, ◌||◌, not, ◌==◌, nat_le, nat_lt, if◌then◌else◌, true≢false, is_some, position, List, [], ◌∷◌, ◌++◌, length, slice_get, Option, Some, None, IfSome, IsSome, get_or, subst, refl, sym, ap, arith, length-append, rules}
+use Rattle.std.proofs.Common.{◌≡◌, ◌≢◌, ◌∙◌, ℕ, zero, suc, ◌+◌, ◌<◌, ◌≤◌, ℤ, Bool, true, false, ◌&&◌, ◌||◌, not, ◌==◌, nat_le, nat_lt, if◌then◌else◌, true≢false, position, List, [], ◌∷◌, ◌++◌, length, slice_get, Option, Some, None, IfSome, IsSome, get_or, subst, refl, sym, ap, arith, length-append, rules}
 use Rattle.std.specs.List.{All, AllPairs, position_or_len}
 use Rattle.std.specs.Option.{option_and_then, option_map}
 use Rattle.std.proofs.lemmas.Bool.{eqb-true, eqb-false, eq-eqb}
-use Rattle.std.proofs.lemmas.Option.{slice_get_within, get_or_from_slice_get}
+use Rattle.std.proofs.lemmas.Option.{slice_get_within}
 use Rattle.std.proofs.lemmas.List.Elements.{All-nil, All-cons, All-push, All-weaker}
 use Rattle.std.proofs.lemmas.List.Kept.{AllPairs-cons}
 use Rattle.std.proofs.lemmas.List.Quantifiers.{all_pairs_push}
@@ -22,7 +21,7 @@ use Rattle.tape_job.specs.Draft.{nothing_told}
 use Rattle.job_types.specs.Job.{JobView, ProgramView}
 use Rattle.tape_job.specs.Rules as rule
 use Rattle.micro_units.specs.Position.{IsPosition}
-use Rattle.job_types.specs.SoundJob.{IsDeclared, HaveOtherNames, HaveOtherSlots, HaveOtherPlaces, IsSettable, IsSoundOffset, HaveOtherHolders, IsCarriedBy, HaveOtherCarriers, IsSoundRange, IsSoundZone, IsSoundMargin}
+use Rattle.job_types.specs.SoundJob.{IsDeclared, HaveOtherNames, HaveOtherSlots, HaveOtherPlaces, IsSettable, IsSoundOffset, IsCarriedBy, HaveOtherCarriers, IsSoundRange, IsSoundZone, IsSoundMargin}
 use Rattle.tape_job.proofs.LineLemmas.{place}
 use Rattle.tape_job.proofs.SoundLists.{unbroken, not_false, or_fails, and_holds, differs, none_pass, Any-more, found, slice_get-more}
 use Rattle.job_types.specs.Axes.{axis_at, first_owner}
@@ -32,8 +31,7 @@ pub record ChannelFacts (channels : List ChannelLine) : Type 0 where
   pub numbers : AllPairs (λ line other. line.channel ≢ other.channel) channels
   pub low : All (λ line. 1 ≤ line.channel) channels
   pub high : All (λ line. line.channel ≤ 8) channels
-  pub starting : All (λ line. line.starts ≡ true) channels
-  pub named : All (λ line. IsSome line.program) channels
+  pub selecting : All (λ line. line.starts ≡ true → IsSome line.program) channels
 
 pub record AxisFacts (axes : List AxisLine) : Type 0 where
   pub few : length axes ≤ 16
@@ -44,10 +42,6 @@ pub record SlotFacts (count : ℕ) (geo : List GeoLine) : Type 0 where
   pub numbers : AllPairs HaveOtherSlots geo
   pub axes : All (λ g. g.axis < count) geo
 
-pub record ZoneFacts (zones : List ZoneLine) : Type 0 where
-  pub numbers : AllPairs (λ zone other. zone.zone ≢ other.zone) zones
-  pub holders : AllPairs HaveOtherHolders zones
-
 pub record OptionFacts (margin : ℤ) (depth budget : ℕ) : Type 0 where
   pub sound_margin : IsSoundMargin margin
   pub sound_depth : depth ≤ 4
@@ -55,7 +49,7 @@ pub record OptionFacts (margin : ℤ) (depth budget : ℕ) : Type 0 where
 
 -- what holds of lines that name channels and axes of the job
 pub record Linked (job : JobView) (axis_lines : List AxisLine) (offset_lines : List OffsetLine) (zone_lines : List ZoneLine) : Type 0 where
-  pub owners : All (λ line. IsSomeAnd line.owner (IsDeclared job)) axis_lines
+  pub owners : All (λ line. IfSome line.owner (IsDeclared job)) axis_lines
   pub offsets : All (IsSoundOffset job) offset_lines
   pub zones : All (IsSoundZone job) zone_lines
 
@@ -64,33 +58,19 @@ pub record ListFacts (job : JobView) : Type 0 where
   pub axes : AxisFacts job.axes
   pub slots : SlotFacts (length job.axes) job.geo
   pub places : AllPairs HaveOtherPlaces job.offsets
-  pub zones : ZoneFacts job.zones
+  pub numbers : AllPairs (λ zone other. zone.zone ≢ other.zone) job.zones
   pub options : OptionFacts job.margin job.depth job.budget
   pub linked : Linked job job.axes job.offsets job.zones
 
 -- what is declared stays declared
 record Extends (old new : JobView) : Type 0 where
   declared : (channel : ℕ) → IsDeclared old channel → IsDeclared new channel
-  owned : (axis channel : ℕ) → first_owner old axis ≡ Some channel → first_owner new axis ≡ Some channel
+  owned : (axis : ℕ) (owner : Option ℕ) → (axis < length old.axes) × (first_owner old axis ≡ owner) → (axis < length new.axes) × (first_owner new axis ≡ owner)
 
-declared_by_one : (old new : JobView) → Extends old new → (owner : Option ℕ) → IsSomeAnd owner (IsDeclared old) → IsSomeAnd owner (IsDeclared new)
-declared_by_one old new extends None declared = declared
-declared_by_one old new extends (Some channel) declared = extends.declared channel declared
-
-carrier_extends : (old new : JobView) → Extends old new → (holder : ℕ) (carrier : Option (ℕ × Bool))
-    → IfSome carrier (λ c. first_owner old c.0 ≡ Some holder) → IfSome carrier (λ c. first_owner new c.0 ≡ Some holder)
+carrier_extends : (old new : JobView) → Extends old new → (holder : Option ℕ) (carrier : Option (ℕ × Bool))
+    → IfSome carrier (λ c. (c.0 < length old.axes) × (first_owner old c.0 ≡ holder)) → IfSome carrier (λ c. (c.0 < length new.axes) × (first_owner new c.0 ≡ holder))
 carrier_extends old new extends holder None carried = tt
 carrier_extends old new extends holder (Some c) carried = extends.owned c.0 holder carried
-
-still_carried : (job : JobView) (side : Side) → side.carrier ≡ None → IsCarriedBy job None side
-still_carried job side still = rw still tt
-
-carried_extends : (old new : JobView) → Extends old new → (holder : Option ℕ) (sides : List Side) → (holder ≡ None → All (λ side. side.carrier ≡ None) sides)
-    → All (IsCarriedBy old holder) sides → All (IsCarriedBy new holder) sides
-carried_extends old new extends None sides still carried =
-    All-weaker (λ (side : Side). side.carrier ≡ None) (IsCarriedBy new None) (still_carried new) sides (still refl)
-carried_extends old new extends (Some holder) sides still carried =
-    All-weaker (IsCarriedBy old (Some holder)) (IsCarriedBy new (Some holder)) (λ side. carrier_extends old new extends holder side.carrier) sides carried
 
 held_extends : (old new : JobView) → Extends old new → (holder : Option ℕ) → IfSome holder (IsDeclared old) → IfSome holder (IsDeclared new)
 held_extends old new extends None held = tt
@@ -102,11 +82,9 @@ zone_extends old new extends zone sound = record {
   high_number = sound.high_number;
   low_group = sound.low_group;
   high_group = sound.high_group;
-  active = sound.active;
   held = held_extends old new extends zone.holder sound.held;
-  still = sound.still;
   directions = sound.directions;
-  carried = carried_extends old new extends zone.holder zone.sides sound.still sound.carried;
+  carried = All-weaker (IsCarriedBy old zone.holder) (IsCarriedBy new zone.holder) (λ side. carrier_extends old new extends zone.holder side.carrier) zone.sides sound.carried;
   carriers = sound.carriers;
   ranges = sound.ranges;
 }
@@ -122,8 +100,8 @@ offset_extends old new extends line sound = record {
 linked_extends : (old new : JobView) → Extends old new → (axes : List AxisLine) (offsets : List OffsetLine) (zones : List ZoneLine)
     → Linked old axes offsets zones → Linked new axes offsets zones
 linked_extends old new extends axes offsets zones linked = record {
-  owners = All-weaker (λ (l : AxisLine). IsSomeAnd l.owner (IsDeclared old)) (λ (l : AxisLine). IsSomeAnd l.owner (IsDeclared new))
-      (λ l. declared_by_one old new extends l.owner) axes linked.owners;
+  owners = All-weaker (λ (l : AxisLine). IfSome l.owner (IsDeclared old)) (λ (l : AxisLine). IfSome l.owner (IsDeclared new))
+      (λ l. held_extends old new extends l.owner) axes linked.owners;
   offsets = All-weaker (IsSoundOffset old) (IsSoundOffset new) (offset_extends old new extends) offsets linked.offsets;
   zones = All-weaker (IsSoundZone old) (IsSoundZone new) (zone_extends old new extends) zones linked.zones;
 }
@@ -139,9 +117,13 @@ line_owner : (owner : Option ℕ) (line : Option AxisLine) → rule.is_owned_lin
 line_owner owner None owned = absurd cc
 line_owner owner (Some line) owned = same_owner line.owner owner owned
 
-owns_first : (job : JobView) (owner : Option ℕ) (axis : ℕ) → rule.owns job owner axis ≡ true → first_owner job axis ≡ owner
+line_there : (axes : List AxisLine) (axis : ℕ) (owner : Option ℕ) (line : Option AxisLine) → slice_get axes axis ≡ line → rule.is_owned_line owner line ≡ true → axis < length axes
+line_there axes axis owner None at owned = absurd cc
+line_there axes axis owner (Some line) at owned = slice_get_within axes axis line at
+
+owns_first : (job : JobView) (owner : Option ℕ) (axis : ℕ) → rule.owns job owner axis ≡ true → (axis < length job.axes) × (first_owner job axis ≡ owner)
 unfolding rule.owns first_owner
-owns_first job owner axis owned = line_owner owner (slice_get job.axes axis) owned
+owns_first job owner axis owned = (line_there job.axes axis owner (slice_get job.axes axis) refl owned, line_owner owner (slice_get job.axes axis) owned)
 
 declared_from : (job : JobView) (channel : ℕ) → rule.has_channel job channel ≡ true → IsDeclared job channel
 unfolding rule.has_channel
@@ -152,40 +134,6 @@ unfolding rule.has_owner
 owner_declared job None has = tt
 owner_declared job (Some channel) has = declared_from job channel has
 
-some_declared : (job : JobView) (owner : Option ℕ) → IfSome owner (IsDeclared job) → is_some owner ≡ true → IsSomeAnd owner (IsDeclared job)
-some_declared job None declared some = absurd cc
-some_declared job (Some channel) declared some = declared
-
--- where each axis has an owner, no carrier is free
-axis_not_free : (job : JobView) (axes : List AxisLine) (axis : ℕ) (line : Option AxisLine) → slice_get axes axis ≡ line
-    → All (λ (l : AxisLine). IsSomeAnd l.owner (IsDeclared job)) axes → rule.is_owned_line None line ≡ false
-axis_not_free job axes axis None at owners = refl
-axis_not_free job axes axis (Some line) at owners =
-    let here : IsSomeAnd line.owner (IsDeclared job) =
-    subst (λ (l : AxisLine). IsSomeAnd l.owner (IsDeclared job)) (get_or_from_slice_get axes axis line line at) (owners axis line (slice_get_within axes axis line at)) in
-    by line.owner here
-  where
-    by : (owner : Option ℕ) → IsSomeAnd owner (IsDeclared job) → rule.is_same_owner owner None ≡ false
-    by None there = absurd there
-    by (Some channel) there = refl
-
-no_free_carrier : (job : JobView) (carrier : Option (ℕ × Bool)) → All (λ (l : AxisLine). IsSomeAnd l.owner (IsDeclared job)) job.axes
-    → rule.is_owned_carrier job None carrier ≡ true → carrier ≡ None
-unfolding rule.owns
-no_free_carrier job None owners owned = refl
-no_free_carrier job (Some c) owners owned =
-    absurd (true≢false (sym owned ∙ axis_not_free job job.axes c.0 (slice_get job.axes c.0) refl owners))
-
-side_still : (job : JobView) (side : Side) → All (λ (l : AxisLine). IsSomeAnd l.owner (IsDeclared job)) job.axes
-    → rule.owns_carrier job None side ≡ true → side.carrier ≡ None
-unfolding rule.owns_carrier
-side_still job side owners owned = no_free_carrier job side.carrier owners owned
-
--- a line that is built
-all_built : (built : Bool) → rule.unless_built built ≡ None → built ≡ true
-all_built true none = refl
-all_built false none = absurd cc
-
 -- a CHANNEL line
 abbrev pub with_channel : JobView → ChannelLine → JobView
 with_channel job line = record job { channels = job.channels ++ line ∷ [] }
@@ -194,7 +142,7 @@ channel_extends : (job : JobView) (line : ChannelLine) → Extends job (with_cha
 unfolding first_owner
 channel_extends job line = record {
   declared = λ channel. Any-more (λ l. l.channel ≡ channel) job.channels line;
-  owned = λ axis channel owned. owned;
+  owned = λ axis owner owned. owned;
 }
 
 channel_differs : (job : JobView) (channel : ℕ) → rule.channel_rule job channel ≡ None → All (λ line. line.channel ≢ channel) job.channels
@@ -205,24 +153,22 @@ channel_differs job channel none =
     (none_pass (λ line. line.channel == channel) job.channels new.0)
 
 pub channel_told : (job : JobView) (number channel : ℕ) (program : Option (List ℕ)) (starts : Bool) → ListFacts job → rule.channel_rule job channel ≡ None
-    → rule.unless_built starts ≡ None → ((1 ≤ channel) × (channel ≤ 8)) × (starts ≡ true → IsSome program)
+    → ((1 ≤ channel) × (channel ≤ 8)) × (starts ≡ true → IsSome program)
     → ListFacts (with_channel job (record { line = number; channel = channel; program = program; starts = starts }))
-channel_told job number channel program starts facts none built sound =
+channel_told job number channel program starts facts none sound =
     let line : ChannelLine = record { line = number; channel = channel; program = program; starts = starts } in
     let new : JobView = with_channel job line in
-    let running : starts ≡ true = all_built starts built in
     record {
       channels = record {
         numbers = all_pairs_push (λ (l other : ChannelLine). l.channel ≢ other.channel) job.channels line facts.channels.numbers (channel_differs job channel none);
         low = All-push (λ (l : ChannelLine). 1 ≤ l.channel) job.channels line facts.channels.low sound.0.0;
         high = All-push (λ (l : ChannelLine). l.channel ≤ 8) job.channels line facts.channels.high sound.0.1;
-        starting = All-push (λ (l : ChannelLine). l.starts ≡ true) job.channels line facts.channels.starting running;
-        named = All-push (λ (l : ChannelLine). IsSome l.program) job.channels line facts.channels.named (sound.1 running);
+        selecting = All-push (λ (l : ChannelLine). l.starts ≡ true → IsSome l.program) job.channels line facts.channels.selecting sound.1;
       };
       axes = facts.axes;
       slots = facts.slots;
       places = facts.places;
-      zones = facts.zones;
+      numbers = facts.numbers;
       options = facts.options;
       linked = linked_extends job new (channel_extends job line) job.axes job.offsets job.zones facts.linked;
     }
@@ -231,17 +177,24 @@ channel_told job number channel program starts facts none built sound =
 abbrev pub with_axis : JobView → AxisLine → JobView
 with_axis job line = record job { axes = job.axes ++ line ∷ [] }
 
-owner_more : (axes : List AxisLine) (line : AxisLine) (axis channel : ℕ) (at : Option AxisLine) → slice_get axes axis ≡ at
-    → option_and_then (λ l. l.owner) at ≡ Some channel → option_and_then (λ l. l.owner) (slice_get (axes ++ line ∷ []) axis) ≡ Some channel
-owner_more axes line axis channel None at owned = absurd cc
-owner_more axes line axis channel (Some there) at owned = rw (slice_get-more axes axis there line at) owned
+owner_more : (axes : List AxisLine) (line : AxisLine) (axis : ℕ) (owner : Option ℕ) (at : Option AxisLine) → slice_get axes axis ≡ at → axis < length axes
+    → option_and_then (λ l. l.owner) at ≡ owner → option_and_then (λ l. l.owner) (slice_get (axes ++ line ∷ []) axis) ≡ owner
+owner_more axes line axis owner None at within owned = absurd (none_there axes axis at within)
+  where
+    none_there : (axes : List AxisLine) (axis : ℕ) → slice_get axes axis ≡ None → axis < length axes → ⊥
+    none_there [] axis at within = omega arith
+    none_there (l ∷ ls) zero at within = cc
+    none_there (l ∷ ls) (suc i) at within = none_there ls i at (omega arith)
+owner_more axes line axis owner (Some there) at within owned = rw (slice_get-more axes axis there line at) owned
 
 axis_extends : (job : JobView) (line : AxisLine) → Extends job (with_axis job line)
 unfolding first_owner
-axis_extends job line = record {
-  declared = λ channel declared. declared;
-  owned = λ axis channel. owner_more job.axes line axis channel (slice_get job.axes axis) refl;
-}
+axis_extends job line =
+    let further : length (job.axes ++ line ∷ []) ≡ length job.axes + 1 = length-append job.axes (line ∷ []) in
+    record {
+      declared = λ channel declared. declared;
+      owned = λ axis owner owned. (omega (arith, owned.0), owner_more job.axes line axis owner (slice_get job.axes axis) refl owned.0 owned.1);
+    }
 
 axis_differs : (job : JobView) (name : AxisName) → rule.has_axis job name ≡ false → (line : AxisLine) → line.letter ≡ name.letter → line.number ≡ name.number
     → All (λ other. HaveOtherNames other line) job.axes
@@ -253,10 +206,10 @@ axis_differs job name none line letter number =
     job.axes (none_pass (rule.is_named name) job.axes none)
 
 pub axis_told : (job : JobView) (number : ℕ) (name : AxisName) (owner : Option ℕ) (at : ℤ) → ListFacts job → rule.axis_rule job name owner ≡ None
-    → rule.unless_built (is_some owner) ≡ None → IsPosition at
+    → IsPosition at
     → ListFacts (with_axis job (record { line = number; letter = name.letter; number = name.number; owner = owner; at = at }))
 unfolding rule.axis_rule
-axis_told job number name owner at facts none built near =
+axis_told job number name owner at facts none near =
     let line : AxisLine = record { line = number; letter = name.letter; number = name.number; owner = owner; at = at } in
     let new : JobView = with_axis job line in
     let extends : Extends job new = axis_extends job line in
@@ -278,11 +231,11 @@ axis_told job number name owner at facts none built near =
         axes = All-weaker (λ (g : GeoLine). g.axis < length job.axes) (λ (g : GeoLine). g.axis < length (job.axes ++ line ∷ [])) (λ g within. omega arith) job.geo facts.slots.axes;
       };
       places = facts.places;
-      zones = facts.zones;
+      numbers = facts.numbers;
       options = facts.options;
       linked = record {
-        owners = All-push (λ (l : AxisLine). IsSomeAnd l.owner (IsDeclared new)) job.axes line linked.owners
-            (some_declared job owner (owner_declared job owner (not_false (rule.has_owner job owner) first.0)) (all_built (is_some owner) built));
+        owners = All-push (λ (l : AxisLine). IfSome l.owner (IsDeclared new)) job.axes line linked.owners
+            (held_extends job new extends owner (owner_declared job owner (not_false (rule.has_owner job owner) first.0)));
         offsets = linked.offsets;
         zones = linked.zones;
       };
@@ -297,7 +250,7 @@ lines_extend : (old new : JobView) → new.channels ≡ old.channels → new.axe
 unfolding first_owner
 lines_extend old new channels axes = record {
   declared = λ channel declared. rw channels declared;
-  owned = λ axis channel owned. rw axes owned;
+  owned = λ axis owner owned. rw axes owned;
 }
 
 -- the axis of a name is one of the list
@@ -344,7 +297,7 @@ geo_told job number channel slot axis facts none within =
         axes = All-push (λ (g : GeoLine). g.axis < length job.axes) job.geo line facts.slots.axes within;
       };
       places = facts.places;
-      zones = facts.zones;
+      numbers = facts.numbers;
       options = facts.options;
       linked = linked_extends job (with_geo job line) (lines_extend job (with_geo job line) refl refl) job.axes job.offsets job.zones facts.linked;
     }
@@ -380,7 +333,7 @@ offset_told job number channel g slot by facts none sound =
       axes = facts.axes;
       slots = facts.slots;
       places = all_pairs_push HaveOtherPlaces job.offsets line facts.places (offset_differs job channel g slot second.0 line refl refl refl);
-      zones = facts.zones;
+      numbers = facts.numbers;
       options = facts.options;
       linked = record {
         owners = linked.owners;
@@ -399,7 +352,7 @@ abbrev pub with_zone : JobView → ZoneLine → JobView
 with_zone job line = record job { zones = job.zones ++ line ∷ [] }
 
 carrier_owned : (job : JobView) (holder : Option ℕ) (carrier : Option (ℕ × Bool)) → rule.is_owned_carrier job holder carrier ≡ true
-    → IfSome carrier (λ c. first_owner job c.0 ≡ holder)
+    → IfSome carrier (λ c. (c.0 < length job.axes) × (first_owner job c.0 ≡ holder))
 carrier_owned job holder None owned = tt
 carrier_owned job holder (Some c) owned = owns_first job holder c.0 owned
 
@@ -454,33 +407,16 @@ unfolding rule.has_zone
 zone_differs job zone none line is_zone k d within same =
     eqb-false (get_or job.zones k d).zone zone (none_pass (λ (l : ZoneLine). l.zone == zone) job.zones none k d within) (same ∙ is_zone)
 
-other_holder : (holder : ℕ) (other : Option ℕ) → rule.is_same_owner other (Some holder) ≡ false → IfSome other (λ channel. Some holder ≢ Some channel)
-other_holder holder None free = tt
-other_holder holder (Some other) free = λ same. let equal : other ≡ holder = cc in eqb-false other holder free equal
-
-not_held : (other : Option ℕ) → IfSome other (λ channel. None ≢ Some channel)
-not_held None = tt
-not_held (Some other) = λ same. absurd cc
-
-holder_differs : (job : JobView) (holder : Option ℕ) → rule.holds_another job holder ≡ false → (line : ZoneLine) → line.holder ≡ holder → (k : ℕ) (d : ZoneLine) → k < length job.zones
-    → HaveOtherHolders (get_or job.zones k d) line
-unfolding rule.holds_zone
-holder_differs job None none line is_holder k d within = rw is_holder (not_held (get_or job.zones k d).holder)
-holder_differs job (Some holder) none line is_holder k d within =
-    rw is_holder (other_holder holder (get_or job.zones k d).holder
-    (none_pass (λ (l : ZoneLine). rule.is_same_owner l.holder (Some holder)) job.zones none k d within))
-
 -- what the rules say of the directions of a zone
 record SidesPass (job : JobView) (holder : Option ℕ) (x y z : Side) : Type 0 where
   declared : IfSome holder (IsDeclared job)
   carried : All (IsCarriedBy job holder) (x ∷ y ∷ z ∷ [])
-  still : holder ≡ None → All (λ (side : Side). side.carrier ≡ None) (x ∷ y ∷ z ∷ [])
   carriers : AllPairs HaveOtherCarriers (x ∷ y ∷ z ∷ [])
 
-sides_pass : (job : JobView) (zone : ℕ) (holder : Option ℕ) (x y z : Side) → ListFacts job → rule.zone_rule job zone holder (Some x) (Some y) (Some z) ≡ None
+sides_pass : (job : JobView) (zone : ℕ) (holder : Option ℕ) (x y z : Side) → rule.zone_rule job zone holder (Some x) (Some y) (Some z) ≡ None
     → (rule.has_zone job zone ≡ false) × SidesPass job holder x y z
 unfolding rule.zone_rule rule.sides_rule
-sides_pass job zone holder x y z facts none =
+sides_pass job zone holder x y z none =
     let first = unbroken (not (rule.has_owner job holder)) NotDeclared _ none in
     let second = unbroken (rule.has_zone job zone) DeclaredTwice _ first.1 in
     let third = unbroken (rule.same_axis x y || rule.same_axis x z || rule.same_axis y z) DeclaredTwice _ second.1 in
@@ -489,40 +425,29 @@ sides_pass job zone holder x y z facts none =
     let fourth = unbroken (not (rule.owns_carrier job holder x && rule.owns_carrier job holder y && rule.owns_carrier job holder z)) OwnerDiffers None third.1 in
     let owned = not_false (rule.owns_carrier job holder x && rule.owns_carrier job holder y && rule.owns_carrier job holder z) fourth.0 in
     let owned_z = and_holds (rule.owns_carrier job holder x && rule.owns_carrier job holder y) (rule.owns_carrier job holder z) owned in
-    let owned_xy = and_holds (rule.owns_carrier job holder x) (rule.owns_carrier job holder y) owned_z.0 in
-    let stands : (side : Side) → rule.owns_carrier job holder side ≡ true → holder ≡ None → side.carrier ≡ None =
-    λ side owned free. side_still job side facts.linked.owners (subst (λ h. rule.owns_carrier job h side ≡ true) free owned) in (
+    let owned_xy = and_holds (rule.owns_carrier job holder x) (rule.owns_carrier job holder y) owned_z.0 in (
       second.0,
       record {
         declared = owner_declared job holder (not_false (rule.has_owner job holder) first.0);
         carried = All-three (IsCarriedBy job holder) x y z (side_owned job holder x owned_xy.0) (side_owned job holder y owned_xy.1) (side_owned job holder z owned_z.1);
-        still = λ free. All-three (λ (side : Side). side.carrier ≡ None) x y z (stands x owned_xy.0 free) (stands y owned_xy.1 free) (stands z owned_z.1 free);
         carriers = AllPairs-three HaveOtherCarriers x y z (sides_differ x y apart_x.0) (sides_differ x z apart_x.1) (sides_differ y z apart.1);
       },
     )
 
-not_true : (b : Bool) → not b ≡ true → b ≡ false
-not_true true e = absurd cc
-not_true false e = refl
-
 pub zone_told : (job : JobView) (number : ℕ) (zone : NamedZone) (x y z : Side) → ListFacts job → rule.zone_rule job zone.zone zone.holder (Some x) (Some y) (Some z) ≡ None
-    → rule.unless_built (zone.on && not (rule.holds_another job zone.holder)) ≡ None
     → (1 ≤ zone.zone) × (zone.zone ≤ 32) → (1 ≤ zone.group) × (zone.group ≤ 32) → IsSoundRange x.lo x.hi → IsSoundRange y.lo y.hi → IsSoundRange z.lo z.hi
     → ListFacts (with_zone job (record { line = number; zone = zone.zone; group = zone.group; holder = zone.holder; on = zone.on; sides = x ∷ y ∷ z ∷ [] }))
-zone_told job number zone x y z facts none built zone_range group_range x_range y_range z_range =
+zone_told job number zone x y z facts none zone_range group_range x_range y_range z_range =
     let line : ZoneLine = record { line = number; zone = zone.zone; group = zone.group; holder = zone.holder; on = zone.on; sides = x ∷ y ∷ z ∷ [] } in
     let new : JobView = with_zone job line in
     let extends : Extends job new = lines_extend job new refl refl in
-    let passed = sides_pass job zone.zone zone.holder x y z facts none in
-    let active = and_holds zone.on (not (rule.holds_another job zone.holder)) (all_built (zone.on && not (rule.holds_another job zone.holder)) built) in
+    let passed = sides_pass job zone.zone zone.holder x y z none in
     let sound : IsSoundZone job line = record {
       low_number = zone_range.0;
       high_number = zone_range.1;
       low_group = group_range.0;
       high_group = group_range.1;
-      active = active.0;
       held = passed.1.declared;
-      still = passed.1.still;
       directions = refl;
       carried = passed.1.carried;
       carriers = passed.1.carriers;
@@ -534,11 +459,7 @@ zone_told job number zone x y z facts none built zone_range group_range x_range 
       axes = facts.axes;
       slots = facts.slots;
       places = facts.places;
-      zones = record {
-        numbers = all_pairs_push (λ (l other : ZoneLine). l.zone ≢ other.zone) job.zones line facts.zones.numbers (zone_differs job zone.zone passed.0 line refl);
-        holders = all_pairs_push HaveOtherHolders job.zones line facts.zones.holders
-            (holder_differs job zone.holder (not_true (rule.holds_another job zone.holder) active.1) line refl);
-      };
+      numbers = all_pairs_push (λ (l other : ZoneLine). l.zone ≢ other.zone) job.zones line facts.numbers (zone_differs job zone.zone passed.0 line refl);
       options = facts.options;
       linked = record {
         owners = linked.owners;
@@ -560,7 +481,7 @@ options_told job margin depth budget compensation skip facts options =
       axes = facts.axes;
       slots = facts.slots;
       places = facts.places;
-      zones = facts.zones;
+      numbers = facts.numbers;
       options = options;
       linked = linked_extends job new (lines_extend job new refl refl) job.axes job.offsets job.zones facts.linked;
     }
@@ -576,7 +497,7 @@ list_kept job programs facts =
       axes = facts.axes;
       slots = facts.slots;
       places = facts.places;
-      zones = facts.zones;
+      numbers = facts.numbers;
       options = facts.options;
       linked = linked_extends job new (lines_extend job new refl refl) job.axes job.offsets job.zones facts.linked;
     }
@@ -588,16 +509,15 @@ nothing_listed = record {
     numbers = no_pairs (λ (l other : ChannelLine). l.channel ≢ other.channel);
     low = All-nil (λ (l : ChannelLine). 1 ≤ l.channel);
     high = All-nil (λ (l : ChannelLine). l.channel ≤ 8);
-    starting = All-nil (λ (l : ChannelLine). l.starts ≡ true);
-    named = All-nil (λ (l : ChannelLine). IsSome l.program);
+    selecting = All-nil (λ (l : ChannelLine). l.starts ≡ true → IsSome l.program);
   };
   axes = record { few = omega arith; names = no_pairs HaveOtherNames; positions = All-nil (λ (l : AxisLine). IsPosition l.at) };
   slots = record { numbers = no_pairs HaveOtherSlots; axes = All-nil (λ (g : GeoLine). g.axis < 0) };
   places = no_pairs HaveOtherPlaces;
-  zones = record { numbers = no_pairs (λ (z other : ZoneLine). z.zone ≢ other.zone); holders = no_pairs HaveOtherHolders };
+  numbers = no_pairs (λ (z other : ZoneLine). z.zone ≢ other.zone);
   options = record { sound_margin = (omega arith, omega arith); sound_depth = omega arith; sound_budget = (omega arith, omega arith) };
   linked = record {
-    owners = All-nil (λ (l : AxisLine). IsSomeAnd l.owner (IsDeclared nothing_told));
+    owners = All-nil (λ (l : AxisLine). IfSome l.owner (IsDeclared nothing_told));
     offsets = All-nil (IsSoundOffset nothing_told);
     zones = All-nil (IsSoundZone nothing_told);
   };

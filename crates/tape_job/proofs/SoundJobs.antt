@@ -1,12 +1,10 @@
 -- Every accepted job is sound.
-use Rattle.std.specs.Prelude.{IsSomeAnd}
-use Rattle.std.proofs.Common.{◌≡◌, ◌≢◌, ◌∙◌, ℕ, ◌≤◌, ◌<◌, Bool, true, false, ◌&&◌, ◌||◌, not, nat_le, if◌then◌else◌, List, [], ◌∷◌, ◌++◌, length, Result, Ok, Err, IfOk, Option, Some, None, IfSome, IsSome, find, get_or, subst, refl, sym, arith, length-append, rules}
+use Rattle.std.proofs.Common.{◌≡◌, ◌≢◌, ◌∙◌, ℕ, ◌≤◌, ◌<◌, Bool, true, false, ◌||◌, not, nat_le, if◌then◌else◌, List, [], ◌∷◌, ◌++◌, length, Result, Ok, Err, IfOk, Option, Some, None, IfSome, find, get_or, subst, refl, sym, arith, length-append, rules}
 use Rattle.std.specs.List.{All, Any, AllPairs, enumerate_from}
 use Rattle.std.specs.Map.{keys_of}
 use Rattle.std.specs.Option.{option_map, option_or}
 use Rattle.std.proofs.Math.ListN.{get_or-map}
 use Rattle.std.proofs.lemmas.List.{length-map}
-use Rattle.std.proofs.lemmas.List.Elements.{All-nil}
 use Rattle.std.proofs.lemmas.List.Quantifiers.{all_pairs_push}
 use Rattle.job_lines.specs.Code.{refusal_code}
 use Rattle.job_lines.specs.declared.code.Code.TheVariants.{NameRepeated, TooMany, NotInLibrary}
@@ -17,7 +15,6 @@ use Rattle.nc_blocks.specs.Statement.{BlockView}
 use Rattle.nc_faults.specs.declared.Refusal.{Refusal}
 use Rattle.job_types.specs.declared.job.ChannelLine.{ChannelLine}
 use Rattle.job_types.specs.declared.job.Side.{Side}
-use Rattle.job_types.specs.Built.{is_built}
 use Rattle.job_types.specs.Job.{JobView, ProgramView}
 use Rattle.tape_job.specs.Lines.{Line, has_token, begins_with_percent, raw_lines}
 use Rattle.tape_job.specs.Reading.{ReadingView, Blank, First, DeclarationLine, Header, BlockLine, reading_of}
@@ -30,13 +27,12 @@ use Rattle.job_types.specs.SoundJob.{IsSoundJob}
 use Rattle.tape_job.proofs.SoundLists.{unbroken, not_false, none_found}
 use Rattle.tape_job.proofs.SoundReadings.{IsSoundDeclaration, IsSoundReading, reading_sound}
 use Rattle.tape_job.proofs.SoundJobLines.{ListFacts, HasRange, no_pairs, list_kept, nothing_listed, side_range, sound_range, axis_within, channel_told, axis_told, geo_told, offset_told, zone_told, options_told}
-use Rattle.tape_job.proofs.SoundPrograms.{InAll, NestedSoFar, nested_block, nested_header, all_nested, block_told, header_told, keys-with_block, length-with_block, keys-push, names_differ, program_found}
+use Rattle.tape_job.proofs.SoundPrograms.{NestedSoFar, nested_block, nested_header, all_nested, keys-with_block, length-with_block, keys-push, names_differ, program_found}
 use Rattle.tape_job.proofs.TellingLemmas.{read_of_is}
 
 -- what holds of all that lines told
 record Sound (facts_of : Told) : Type 0 where
   list : ListFacts facts_of.job
-  programs : InAll (λ block. is_built block.1.statement ≡ true) facts_of.job.programs
   names : AllPairs (λ name other. name ≢ other) (keys_of facts_of.job.programs)
   few : length facts_of.job.programs ≤ 256
   nested : NestedSoFar facts_of.job.programs
@@ -57,54 +53,46 @@ geo_declaration_told job number channel slot None facts none within = absurd cc
 geo_declaration_told job number channel slot (Some axis) facts none within = geo_told job number channel slot axis facts none within
 
 zone_declaration_told : (job : JobView) (number : ℕ) (zone : NamedZone) (a b c : Option Side) → ListFacts job → rule.zone_rule job zone.zone zone.holder a b c ≡ None
-    → rule.unless_built (zone.on && not (rule.holds_another job zone.holder)) ≡ None
     → IsSoundDeclaration (Zone zone) → IfSome a (HasRange zone.x) → IfSome b (HasRange zone.y) → IfSome c (HasRange zone.z)
     → ListFacts (record job { zones = with_entry job.zones (zone_line number zone a b c) })
 unfolding rule.zone_rule
-zone_declaration_told job number zone (Some a) (Some b) (Some c) facts none built sound is_x is_y is_z =
-    zone_told job number zone a b c facts none built sound.0 sound.1 (sound_range zone.x a is_x sound.2) (sound_range zone.y b is_y sound.3) (sound_range zone.z c is_z sound.4)
-zone_declaration_told job number zone a b c facts none built sound is_x is_y is_z = absurd cc
+zone_declaration_told job number zone (Some a) (Some b) (Some c) facts none sound is_x is_y is_z =
+    zone_told job number zone a b c facts none sound.0 sound.1 (sound_range zone.x a is_x sound.2) (sound_range zone.y b is_y sound.3) (sound_range zone.z c is_z sound.4)
+zone_declaration_told job number zone a b c facts none sound is_x is_y is_z = absurd cc
 
-declared_told : (options : GivenOptions) (job : JobView) (number : ℕ) (declaration : Declaration) → ListFacts job → rule.declaration_rule options job declaration ≡ None → rule.built_rule job declaration ≡ None → IsSoundDeclaration declaration
+declared_told : (options : GivenOptions) (job : JobView) (number : ℕ) (declaration : Declaration) → ListFacts job → rule.declaration_rule options job declaration ≡ None → IsSoundDeclaration declaration
     → ListFacts (with_declaration job number declaration)
-unfolding rule.declaration_rule rule.built_rule with_line
-declared_told options job number (Channel channel program starts) facts none built sound = channel_told job number channel program starts facts none built sound
-declared_told options job number (Axis name owner at) facts none built sound = axis_told job number name owner at facts none built sound
-declared_told options job number (Geo channel slot axis) facts none built sound =
+unfolding rule.declaration_rule with_line
+declared_told options job number (Channel channel program starts) facts none sound = channel_told job number channel program starts facts none sound
+declared_told options job number (Axis name owner at) facts none sound = axis_told job number name owner at facts none sound
+declared_told options job number (Geo channel slot axis) facts none sound =
     geo_declaration_told job number channel slot (rule.axis_of job.axes axis) facts none (axis_within job.axes axis)
-declared_told options job number (Offset channel g slot by) facts none built sound = offset_told job number channel g slot by facts none sound
-declared_told options job number (Zone zone) facts none built sound =
-    zone_declaration_told job number zone (rule.side_of job.axes zone.x) (rule.side_of job.axes zone.y) (rule.side_of job.axes zone.z) facts none built sound
+declared_told options job number (Offset channel g slot by) facts none sound = offset_told job number channel g slot by facts none sound
+declared_told options job number (Zone zone) facts none sound =
+    zone_declaration_told job number zone (rule.side_of job.axes zone.x) (rule.side_of job.axes zone.y) (rule.side_of job.axes zone.z) facts none sound
     (side_range job.axes zone.x) (side_range job.axes zone.y) (side_range job.axes zone.z)
-declared_told options job number (Margin margin) facts none built sound =
+declared_told options job number (Margin margin) facts none sound =
     options_told job margin job.depth job.budget job.compensation job.skip facts
     (record { sound_margin = sound; sound_depth = facts.options.sound_depth; sound_budget = facts.options.sound_budget })
-declared_told options job number (Depth depth) facts none built sound =
+declared_told options job number (Depth depth) facts none sound =
     options_told job job.margin depth job.budget job.compensation job.skip facts
     (record { sound_margin = facts.options.sound_margin; sound_depth = sound; sound_budget = facts.options.sound_budget })
-declared_told options job number (Budget budget) facts none built sound =
+declared_told options job number (Budget budget) facts none sound =
     options_told job job.margin job.depth budget job.compensation job.skip facts
     (record { sound_margin = facts.options.sound_margin; sound_depth = facts.options.sound_depth; sound_budget = sound })
-declared_told options job number Compensation facts none built sound = options_told job job.margin job.depth job.budget true job.skip facts facts.options
-declared_told options job number Skip facts none built sound = options_told job job.margin job.depth job.budget job.compensation true facts facts.options
-
-declaration_told : (options : GivenOptions) (job : JobView) (number : ℕ) (declaration : Declaration) → ListFacts job → rule.job_line_rule options job declaration ≡ None → IsSoundDeclaration declaration → ListFacts (with_declaration job number declaration)
-unfolding rule.job_line_rule
-declaration_told options job number declaration facts none sound =
-    let both = neither (rule.declaration_rule options job declaration) (rule.built_rule job declaration) none in
-    declared_told options job number declaration facts both.0 both.1 sound
+declared_told options job number Compensation facts none sound = options_told job job.margin job.depth job.budget true job.skip facts facts.options
+declared_told options job number Skip facts none sound = options_told job job.margin job.depth job.budget job.compensation true facts facts.options
 
 unmapped : {A B : Type 0} (f : A → B) (a : Option A) → option_map f a ≡ None → a ≡ None
 unmapped f None none = refl
 unmapped f (Some a) none = absurd cc
 
 -- a job line
-entry_told : (facts_of : Told) (number : ℕ) (seen late : Bool) (options : GivenOptions) (declaration : Declaration) → Sound facts_of → rule.job_line_rule facts_of.options facts_of.job declaration ≡ None → IsSoundDeclaration declaration
+entry_told : (facts_of : Told) (number : ℕ) (seen late : Bool) (options : GivenOptions) (declaration : Declaration) → Sound facts_of → rule.declaration_rule facts_of.options facts_of.job declaration ≡ None → IsSoundDeclaration declaration
     → Sound (record { seen = seen; in_programs = late; options = options; job = with_declaration facts_of.job number declaration })
 unfolding with_line
 entry_told facts_of number seen late options declaration sound none fits = record {
-  list = declaration_told facts_of.options facts_of.job number declaration sound.list none fits;
-  programs = sound.programs;
+  list = declared_told facts_of.options facts_of.job number declaration sound.list none fits;
   names = sound.names;
   few = sound.few;
   nested = sound.nested;
@@ -124,7 +112,6 @@ header_line_told facts_of number seen late options name sound none ended =
     let all : List (List ℕ × ProgramView) = facts_of.job.programs ++ program ∷ [] in
     record {
       list = list_kept facts_of.job all sound.list;
-      programs = header_told (λ block. is_built block.1.statement ≡ true) facts_of.job.programs number name sound.programs;
       names = subst (AllPairs (λ name other. name ≢ other)) (sym (keys-push facts_of.job.programs program))
           (all_pairs_push (λ name other. name ≢ other) (keys_of facts_of.job.programs) name sound.names (names_differ facts_of.job.programs name first.0));
       few = omega arith;
@@ -132,14 +119,13 @@ header_line_told facts_of number seen late options name sound none ended =
     }
 
 -- a block
-block_line_told : (facts_of : Told) (number : ℕ) (seen late : Bool) (options : GivenOptions) (block : BlockView) → Sound facts_of → is_built block.statement ≡ true
+block_line_told : (facts_of : Told) (number : ℕ) (seen late : Bool) (options : GivenOptions) (block : BlockView) → Sound facts_of
     → rule.structure_rule facts_of.job.programs (number, block) ≡ None → Sound (record { seen = seen; in_programs = late; options = options; job = with_line facts_of.job number (Ok (BlockLine block)) })
 unfolding with_line
-block_line_told facts_of number seen late options block sound built matches =
+block_line_told facts_of number seen late options block sound matches =
     let all : List (List ℕ × ProgramView) = with_block facts_of.job.programs (number, block) in
     record {
       list = list_kept facts_of.job all sound.list;
-      programs = block_told (λ b. is_built b.1.statement ≡ true) facts_of.job.programs (number, block) sound.programs built;
       names = subst (AllPairs (λ name other. name ≢ other)) (sym (keys-with_block facts_of.job.programs (number, block))) sound.names;
       few = subst (λ n. n ≤ 256) (sym (length-with_block facts_of.job.programs (number, block))) sound.few;
       nested = nested_block facts_of.job.programs (number, block) sound.nested matches;
@@ -151,14 +137,14 @@ line_told : (facts_of : Told) (number : ℕ) (seen late percent : Bool) (options
 unfolding with_line rule.rule_of
 line_told facts_of number seen late percent options (Err code) sound none ended fits = absurd cc
 line_told facts_of number seen late percent options (Ok Blank) sound none ended fits =
-    record { list = sound.list; programs = sound.programs; names = sound.names; few = sound.few; nested = sound.nested }
+    record { list = sound.list; names = sound.names; few = sound.few; nested = sound.nested }
 line_told facts_of number seen late percent options (Ok First) sound none ended fits =
-    record { list = sound.list; programs = sound.programs; names = sound.names; few = sound.few; nested = sound.nested }
+    record { list = sound.list; names = sound.names; few = sound.few; nested = sound.nested }
 line_told facts_of number seen late percent options (Ok (DeclarationLine declaration)) sound none ended fits =
-    entry_told facts_of number seen late options declaration sound (unmapped refusal_code (rule.job_line_rule facts_of.options facts_of.job declaration) none) fits
+    entry_told facts_of number seen late options declaration sound (unmapped refusal_code (rule.declaration_rule facts_of.options facts_of.job declaration) none) fits
 line_told facts_of number seen late percent options (Ok (Header name)) sound none ended fits =
     header_line_told facts_of number seen late options name sound (unmapped refusal_code (rule.header_rule facts_of.job name) none) (ended fits)
-line_told facts_of number seen late percent options (Ok (BlockLine block)) sound none ended fits = block_line_told facts_of number seen late options block sound fits none
+line_told facts_of number seen late percent options (Ok (BlockLine block)) sound none ended fits = block_line_told facts_of number seen late options block sound none
 
 none_open : (job : JobView) → rule.open_structure_refusal job ≡ None → rule.left_open job.programs ≡ None
 unfolding rule.open_structure_refusal
@@ -193,25 +179,23 @@ nothing_told : Sound (facts_of [])
 unfolding facts_of accept_compensation
 nothing_told = record {
   list = nothing_listed;
-  programs = All-nil (λ program. All (λ block. is_built block.1.statement ≡ true) program.1.blocks);
   names = no_pairs (λ (name other : List ℕ). name ≢ other);
   few = omega arith;
   nested = tt;
 }
 
 -- each channel's program is in the library
-known_program : (programs : List (List ℕ × ProgramView)) (program : Option (List ℕ)) → rule.is_known programs program ≡ true → IsSome program
-    → IsSomeAnd program (λ name. Any (λ (p : List ℕ × ProgramView). p.0 ≡ name) programs)
-known_program programs None known there = absurd cc
-known_program programs (Some name) known there = program_found programs name known
+known_program : (programs : List (List ℕ × ProgramView)) (program : Option (List ℕ)) → rule.is_known programs program ≡ true
+    → IfSome program (λ name. Any (λ (p : List ℕ × ProgramView). p.0 ≡ name) programs)
+known_program programs None known = tt
+known_program programs (Some name) known = program_found programs name known
 
-selected : (job : JobView) (channels : List ChannelLine) → find (λ line. not (rule.is_known job.programs line.program)) channels ≡ None → All (λ (l : ChannelLine). IsSome l.program) channels
-    → All (λ (l : ChannelLine). IsSomeAnd l.program (λ name. Any (λ (p : List ℕ × ProgramView). p.0 ≡ name) job.programs)) channels
-selected job channels none there k d within =
+selected : (job : JobView) (channels : List ChannelLine) → find (λ line. not (rule.is_known job.programs line.program)) channels ≡ None
+    → All (λ (l : ChannelLine). IfSome l.program (λ name. Any (λ (p : List ℕ × ProgramView). p.0 ≡ name) job.programs)) channels
+selected job channels none k d within =
     let line : ChannelLine = get_or channels k d in
     known_program job.programs line.program
     (not_false (rule.is_known job.programs line.program) (none_found (λ (l : ChannelLine). not (rule.is_known job.programs l.program)) channels none k d within))
-    (there k d within)
 
 -- names of programs as pairs
 program_names : (programs : List (List ℕ × ProgramView)) → AllPairs (λ name other. name ≢ other) (keys_of programs)
@@ -233,8 +217,8 @@ told_sound now sound none =
       channel_numbers = sound.list.channels.numbers;
       low_channels = sound.list.channels.low;
       high_channels = sound.list.channels.high;
-      starting = sound.list.channels.starting;
-      selected = selected now.job now.job.channels all_known sound.list.channels.named;
+      selecting = sound.list.channels.selecting;
+      selected = selected now.job now.job.channels all_known;
       few_axes = sound.list.axes.few;
       axis_names = sound.list.axes.names;
       owners = sound.list.linked.owners;
@@ -243,15 +227,14 @@ told_sound now sound none =
       slot_axes = sound.list.slots.axes;
       offset_places = sound.list.places;
       offsets = sound.list.linked.offsets;
-      zone_numbers = sound.list.zones.numbers;
-      zone_holders = sound.list.zones.holders;
+      zone_numbers = sound.list.numbers;
       zones = sound.list.linked.zones;
       margin = sound.list.options.sound_margin;
       depth = sound.list.options.sound_depth;
       budget = sound.list.options.sound_budget;
       few_programs = sound.few;
       program_names = program_names now.job.programs sound.names;
-      programs = λ k d within. record { built = sound.programs k d within; nested = nested k d within };
+      programs = nested;
     }
 
 answered : (refused : Option Refusal) (facts_of job : JobView) → answer refused facts_of ≡ Ok job → (refused ≡ None) × (facts_of ≡ job)

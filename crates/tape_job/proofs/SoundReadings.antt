@@ -12,12 +12,12 @@ use Rattle.block_scanner.specs.declared.ScanFault.{ScanFault}
 use Rattle.block_scanner.specs.declared.ScanFault.TheVariants as fault
 use Rattle.block_scanner.specs.declared.Token.{Token}
 use Rattle.job_lines.specs.declared.code.Code.{Code}
-use Rattle.job_lines.specs.declared.code.Code.TheVariants.{OutOfRange, NotBuilt}
+use Rattle.job_lines.specs.declared.code.Code.TheVariants.{OutOfRange}
 use Rattle.job_lines.specs.declared.declaration.AxisName.{AxisName}
 use Rattle.job_lines.specs.declared.declaration.NamedSide.{NamedSide}
 use Rattle.job_lines.specs.declared.declaration.Declaration.{Declaration}
 use Rattle.job_lines.specs.declared.declaration.Declaration.TheVariants.{Channel, Axis, Offset, Zone, Margin, Depth, Budget}
-use Rattle.job_lines.specs.Code.{◌>>=◌, or_code, refusal_code}
+use Rattle.job_lines.specs.Code.{◌>>=◌, or_code}
 use Rattle.job_lines.specs.Header.{header_of}
 use Rattle.job_lines.specs.Declaration as declaration
 use Rattle.job_lines.specs.OptionLines as option
@@ -26,7 +26,6 @@ use Rattle.job_lines.specs.Length.{in_reach, size_of, is_size, signed_size_of, l
 use Rattle.nc_blocks.specs.Names.{upper, name_of}
 use Rattle.nc_blocks.specs.Statement.{BlockView}
 use Rattle.nc_syntax.specs.Blocks.{statement_of}
-use Rattle.job_types.specs.Built.{is_built}
 use Rattle.tape_job.specs.Lines.{words, is_visible, begins_with_percent, text_of, before_comment}
 use Rattle.tape_job.specs.Reading as reading
 use Rattle.tape_job.specs.Reading.{ReadingView, DeclarationLine, Header, BlockLine}
@@ -324,7 +323,6 @@ declaration_sound kind args =
 abbrev pub IsSoundReading : Bool → ReadingView → Type 0
 IsSoundReading percent (DeclarationLine declaration) = IsSoundDeclaration declaration
 IsSoundReading percent (Header name) = percent ≡ true
-IsSoundReading percent (BlockLine block) = is_built block.statement ≡ true
 IsSoundReading percent _ = ⊤
 
 entry_sound : (percent : Bool) (words : List (List ℕ)) → IfOk (reading.declaration_line words) (IsSoundReading percent)
@@ -352,14 +350,9 @@ entry_reading_sound seen percent content =
     if_ok (IsSoundReading percent) (list_any reading.is_bad_byte content) _ _ (λ _. tt)
     (if_ok (IsSoundReading percent) (is_visible content) _ _ (λ _. form_sound seen percent (words (upper content))) tt)
 
-step_by : (percent built : Bool) (block : BlockView) → is_built block.statement ≡ built
-    → IfOk {T = ReadingView} {E = ℕ} (if built then Ok (BlockLine block) else Err (refusal_code NotBuilt)) (IsSoundReading percent)
-step_by percent true block is = is
-step_by percent false block is = tt
-
 step_sound : (percent : Bool) (read : Result BlockView ℕ) → IfOk (reading.block_line read) (IsSoundReading percent)
 unfolding reading.block_line
-step_sound percent (Ok block) = step_by percent (is_built block.statement) block refl
+step_sound percent (Ok block) = tt
 step_sound percent (Err code) = tt
 
 tokens_sound : (percent compensation : Bool) (text : List ℕ) (tokens : Result (List Token) ScanFault) → IfOk (reading.tokens_reading compensation text tokens) (IsSoundReading percent)

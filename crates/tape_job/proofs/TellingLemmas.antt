@@ -6,14 +6,13 @@ use Rattle.nc_faults.specs.declared.Refusal.{Refusal}
 use Rattle.nc_blocks.specs.Statement.{BlockView}
 use Rattle.tape_job.specs.Draft.{nothing_told}
 use Rattle.tape_job.specs.Reading.{ReadingView, Header, BlockLine, words_of, block_line, tokens_reading, block_reading, entry_reading, with_shown, reading_of}
-use Rattle.job_types.specs.Built.{is_built}
 use Rattle.nc_syntax.specs.Blocks.{statement_of}
 use Rattle.block_scanner.specs.Tokens.{tokens_of}
 use Rattle.block_scanner.specs.declared.ScanFault.{ScanFault}
 use Rattle.block_scanner.specs.declared.ScanFault.TheVariants as fault
 use Rattle.block_scanner.specs.declared.Token.{Token}
 use Rattle.job_lines.specs.Code.{refusal_code}
-use Rattle.job_lines.specs.declared.code.Code.TheVariants.{LineTooLong, NotBuilt}
+use Rattle.job_lines.specs.declared.code.Code.TheVariants.{LineTooLong}
 use Rattle.tape_job.specs.declared.fault.JobFault.{JobFault}
 use Rattle.tape_job.specs.declared.fault.JobFault.TheVariants.{Refused, NoMemory}
 use Rattle.job_types.specs.Job.{JobView, ProgramView}
@@ -101,13 +100,9 @@ given_push : {A : Type 0} (give : Result ReadingView ℕ → Option A) (lines : 
 given_push give lines line = ap is_some (option_push give lines line) ∙ some_either (give (reading_after lines line.1)) (option_in give lines)
 
 -- no block accepts compensation, so that a line does so hangs on no line before it that does
-step_accepts_none : (built : Bool) (block : BlockView) → says_compensation (if built then Ok (BlockLine block) else Err (refusal_code NotBuilt)) ≡ false
-step_accepts_none true block = refl
-step_accepts_none false block = refl
-
 block_accepts_none : (read : Result BlockView ℕ) → says_compensation (block_line read) ≡ false
 unfolding block_line
-block_accepts_none (Ok block) = step_accepts_none (is_built block.statement) block
+block_accepts_none (Ok block) = refl
 block_accepts_none (Err code) = refl
 
 tokens_accept_none : (compensation : Bool) (text : List ℕ) (tokens : Result (List Token) ScanFault) → says_compensation (tokens_reading compensation text tokens) ≡ false

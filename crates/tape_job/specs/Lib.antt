@@ -6,3 +6,4 @@ pub mod Reading
 pub mod Rules
 pub mod Steps
 pub mod Told
+pub mod Unbuilt

@@ -11,7 +11,7 @@ use Rattle.job_lines.specs.Code.{◌>>=◌, refusal_code}
 use Rattle.job_lines.specs.Header.{header_of}
 use Rattle.job_lines.specs.Declaration.{declaration_of}
 use Rattle.job_lines.specs.declared.code.Code.{Code}
-use Rattle.job_lines.specs.declared.code.Code.TheVariants.{NoJobLine, LineTooLong, BadByte, UnknownJobLine, OpenText, NotBuilt}
+use Rattle.job_lines.specs.declared.code.Code.TheVariants.{NoJobLine, LineTooLong, BadByte, UnknownJobLine, OpenText}
 use Rattle.job_lines.specs.declared.declaration.Declaration.{Declaration}
 use Rattle.nc_faults.specs.Texts.{IsRefusalCode}
 use Rattle.nc_blocks.specs.Indices.{StatementFits}
@@ -22,7 +22,6 @@ use Rattle.tape_job.specs.declared.reading.LineFault.{LineFault}
 use Rattle.tape_job.specs.declared.reading.LineFault.TheVariants.{Broken, NoMemory}
 use Rattle.tape_job.specs.declared.reading.Reading.{Reading}
 use Rattle.tape_job.specs.declared.reading.Reading.TheVariants as reading
-use Rattle.job_types.specs.Built.{is_built}
 use Rattle.tape_job.specs.Lines.{text_of, before_comment, is_visible, words, begins_with_percent}
 
 -- what a line says, with a block as contracts see it
@@ -73,9 +72,9 @@ entry_reading seen percent content =
 abbrev pub words_of : List ℕ → List Token → WordsView
 words_of text tokens = record { line = text; tokens = tokens }
 
--- a block that is built; that it is not built comes after all else that its line breaks, and no block that is not built opens or ends a structure
+-- a block of any form
 unfoldable pub block_line : Result BlockView ℕ → Result ReadingView ℕ
-block_line (Ok block) = if is_built block.statement then Ok (BlockLine block) else Err (refusal_code NotBuilt)
+block_line (Ok block) = Ok (BlockLine block)
 block_line (Err code) = Err code
 
 abbrev pub tokens_reading : Bool → List ℕ → Result (List Token) ScanFault → Result ReadingView ℕ

@@ -1,12 +1,12 @@
 -- Meaning. What a line breaks against what the lines before it told.
-use Rattle.std.specs.Prelude.{ℕ, Bool, true, false, not, ◌&&◌, ◌||◌, if◌then◌else◌, ◌==◌, nat_le, List, [], ◌∷◌, ◌++◌, length, slice_get, position, find, is_some, Option, Some, None, Result, Ok, Err}
+use Rattle.std.specs.Prelude.{ℕ, Bool, true, false, not, ◌&&◌, ◌||◌, if◌then◌else◌, ◌==◌, nat_le, List, [], ◌∷◌, ◌++◌, length, slice_get, position, find, Option, Some, None, Result, Ok, Err}
 use Rattle.std.specs.List.{list_any}
-use Rattle.std.specs.Option.{option_and_then, option_map, option_or}
+use Rattle.std.specs.Option.{option_and_then, option_map}
 use Rattle.std.specs.Map.{keys_of}
 use Rattle.std.specs.Str.{bytes_eq}
 use Rattle.job_lines.specs.Code.{refusal_code}
 use Rattle.job_lines.specs.declared.code.Code.{Code}
-use Rattle.job_lines.specs.declared.code.Code.TheVariants.{NotDeclared, DeclaredTwice, OwnerDiffers, TooMany, NameRepeated, NotInLibrary, NotBuilt}
+use Rattle.job_lines.specs.declared.code.Code.TheVariants.{NotDeclared, DeclaredTwice, OwnerDiffers, TooMany, NameRepeated, NotInLibrary}
 use Rattle.job_lines.specs.declared.declaration.AxisName.{AxisName}
 use Rattle.job_lines.specs.declared.declaration.NamedSide.{NamedSide}
 use Rattle.job_lines.specs.declared.declaration.Declaration.{Declaration}
@@ -72,9 +72,6 @@ owns job owner axis = is_owned_line owner (slice_get job.axes axis)
 
 unfoldable pub has_zone : JobView → ℕ → Bool
 has_zone job zone = list_any (λ line. line.zone == zone) job.zones
-
-unfoldable pub holds_zone : JobView → ℕ → Bool
-holds_zone job channel = list_any (λ line. is_same_owner line.holder (Some channel)) job.zones
 
 unfoldable pub channel_rule : JobView → ℕ → Option Code
 channel_rule job channel = if has_channel job channel then Some DeclaredTwice else None
@@ -145,7 +142,7 @@ zone_rule job zone holder x y z = Some NotDeclared
 abbrev pub option_rule : Bool → Option Code
 option_rule given = if given then Some DeclaredTwice else None
 
--- what a job line breaks of what must be declared before it, and of what is declared already
+-- what a job line breaks: what must be declared before it, and what is declared already
 unfoldable pub declaration_rule : GivenOptions → JobView → Declaration → Option Code
 declaration_rule options job (Channel channel program starts) = channel_rule job channel
 declaration_rule options job (Axis name owner at) = axis_rule job name owner
@@ -157,25 +154,6 @@ declaration_rule options job (Depth depth) = option_rule options.depth
 declaration_rule options job (Budget budget) = option_rule options.budget
 declaration_rule options job Compensation = option_rule job.compensation
 declaration_rule options job Skip = option_rule job.skip
-
--- a channel holds a zone already; any number of zones may be held free
-abbrev pub holds_another : JobView → Option ℕ → Bool
-holds_another job None = false
-holds_another job (Some channel) = holds_zone job channel
-
-abbrev pub unless_built : Bool → Option Code
-unless_built built = if built then None else Some NotBuilt
-
--- the job lines that are not built yet: a channel that does not start, an axis that is free, a zone that is off, and a channel's second zone
-unfoldable pub built_rule : JobView → Declaration → Option Code
-built_rule job (Channel channel program starts) = unless_built starts
-built_rule job (Axis name owner at) = unless_built (is_some owner)
-built_rule job (Zone zone) = unless_built (zone.on && not (holds_another job zone.holder))
-built_rule job declaration = None
-
--- what a job line breaks
-unfoldable pub job_line_rule : GivenOptions → JobView → Declaration → Option Code
-job_line_rule options job declaration = option_or (declaration_rule options job declaration) (built_rule job declaration)
 
 -- a program in the library has this name
 unfoldable pub has_program : List (List ℕ × ProgramView) → List ℕ → Bool
@@ -233,7 +211,7 @@ header_rule job name =
 unfoldable pub rule_of : GivenOptions → JobView → ReadingView → Option Code
 rule_of options job Blank = None
 rule_of options job First = None
-rule_of options job (DeclarationLine declaration) = job_line_rule options job declaration
+rule_of options job (DeclarationLine declaration) = declaration_rule options job declaration
 rule_of options job (Header name) = header_rule job name
 rule_of options job (BlockLine block) = None
 

@@ -47,7 +47,7 @@ impl Draft {
         ensures { result ≡ rule_of self.now.options self.now.job (reading_view reading.now) }
     {
         match reading {
-            Reading::DeclarationLine(declaration) => self.job_line_rule(declaration),
+            Reading::DeclarationLine(declaration) => self.declaration_rule(declaration),
             Reading::Header(name) => self.header_rule(name),
             Reading::Blank | Reading::First | Reading::BlockLine(_) => None,
         }

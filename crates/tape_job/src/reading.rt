@@ -7,7 +7,6 @@ ghost use Rattle.nc_blocks.specs.Names.{upper};
 ghost use Rattle.nc_syntax.specs.Blocks.{statement_of};
 ghost use Rattle.tape_job.specs.Reading.{is_job_line, is_bad_byte, declaration_line, header_line, form_of, entry_reading, block_line, block_reading, with_shown, reading_of, GivesForm, Gives, reading_view, ReadingFits, FaultIsListed};
 
-use crate::built::is_built;
 use crate::lines::{before_comment, begins_with_percent, is_visible, text_in, upper_in, words_of};
 use block_scanner::{ScanFault, Words, scan};
 use job_lines::{Code, Declaration, declaration_in, header_in};
@@ -171,8 +170,7 @@ fn block_line_in(alloc: Global, words: &Words<'_>, compensation: bool) -> Result
     ensures listed { IfErr result FaultIsListed }
 {
     match statement(alloc, words, compensation) {
-        Ok(block) if is_built(&block.stmt) => Ok(Reading::BlockLine(block)),
-        Ok(_) => Err(LineFault::from(Code::NotBuilt)),
+        Ok(block) => Ok(Reading::BlockLine(block)),
         Err(SyntaxFault::Refused(code)) => Err(LineFault::Broken(code)),
         Err(SyntaxFault::NoMemory) => Err(LineFault::NoMemory),
     }

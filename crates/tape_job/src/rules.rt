@@ -1,7 +1,7 @@
 //! What a line breaks against what the lines before it told.
 ghost use Rattle.std.specs.Prelude.{◌≡◌, position};
 ghost use Rattle.std.specs.Option.{option_copied};
-ghost use Rattle.tape_job.specs.Rules.{is_named, is_same_owner, is_owned_line, side_with, same_axis, option_rule, unless_built};
+ghost use Rattle.tape_job.specs.Rules.{is_named, is_same_owner, is_owned_line, side_with, same_axis, option_rule};
 
 use crate::draft::Draft;
 use axis_sets::{AXIS_LIMIT, AxisId, ChannelId, ZoneId};
@@ -76,16 +76,9 @@ fn option_rule(given: bool) -> Option<Code>
     }
 }
 
-/// What a line breaks that is built or not.
-fn unless_built(built: bool) -> Option<Code>
-    ensures { result ≡ unless_built built }
-{
-    if built { None } else { Some(Code::NotBuilt) }
-}
-
 impl Draft {
     ghost use Rattle.std.specs.Prelude.{◌≡◌, Some};
-    ghost use Rattle.tape_job.specs.Rules.{has_channel, axis_of, has_axis, has_slot, has_slot_axis, has_owner, has_offset, owns, has_zone, holds_zone, holds_another, channel_rule, axis_rule, slot_rule, offset_rule, side_of, owns_carrier, sides_rule, zone_rule, declaration_rule, built_rule, job_line_rule};
+    ghost use Rattle.tape_job.specs.Rules.{has_channel, axis_of, has_axis, has_slot, has_slot_axis, has_owner, has_offset, owns, has_zone, channel_rule, axis_rule, slot_rule, offset_rule, side_of, owns_carrier, sides_rule, zone_rule, declaration_rule};
 
     /// Whether a line declares the channel.
     #[tactic(auto, unfolding(crate::specs::Rules::has_channel))]
@@ -171,27 +164,6 @@ impl Draft {
         ensures { result ≡ has_zone self.now.job zone }
     {
         self.job.zones.iter().any(|line| line.zone == zone)
-    }
-
-    /// Whether the channel holds a zone.
-    #[tactic(auto, unfolding(crate::specs::Rules::holds_zone))]
-    fn holds_zone(&self, channel: ChannelId) -> bool
-        ensures { result ≡ holds_zone self.now.job channel }
-    {
-        self.job
-            .zones
-            .iter()
-            .any(|line| is_same_owner(line.holder, Some(channel)))
-    }
-
-    /// Whether the holder is a channel that holds a zone already.
-    fn holds_another(&self, holder: Option<ChannelId>) -> bool
-        ensures { result ≡ holds_another self.now.job holder }
-    {
-        match holder {
-            Some(channel) => self.holds_zone(channel),
-            None => false,
-        }
     }
 
     /// What a CHANNEL line breaks.
@@ -325,9 +297,9 @@ impl Draft {
         }
     }
 
-    /// What a job line breaks of what must be declared before it, and of what is declared already.
+    /// What a job line breaks: what must be declared before it, and what is declared already.
     #[tactic(auto, unfolding(crate::specs::Rules::declaration_rule))]
-    fn declaration_rule(&self, declaration: &Declaration) -> Option<Code>
+    pub(crate) fn declaration_rule(&self, declaration: &Declaration) -> Option<Code>
         ensures { result ≡ declaration_rule self.now.options self.now.job declaration.now }
     {
         match declaration {
@@ -350,36 +322,6 @@ impl Draft {
             Declaration::Budget(_) => option_rule(self.options.budget),
             Declaration::Compensation => option_rule(self.job.compensation),
             Declaration::Skip => option_rule(self.job.skip),
-        }
-    }
-
-    /// Whether a job line is one that is not built yet.
-    #[tactic(auto, unfolding(crate::specs::Rules::built_rule))]
-    fn built_rule(&self, declaration: &Declaration) -> Option<Code>
-        ensures { result ≡ built_rule self.now.job declaration.now }
-    {
-        match declaration {
-            Declaration::Channel { starts, .. } => unless_built(*starts),
-            Declaration::Axis { owner, .. } => unless_built(owner.is_some()),
-            Declaration::Zone(zone) => unless_built(zone.on && !self.holds_another(zone.holder)),
-            Declaration::Geo { .. }
-            | Declaration::Offset { .. }
-            | Declaration::Margin(_)
-            | Declaration::Depth(_)
-            | Declaration::Budget(_)
-            | Declaration::Compensation
-            | Declaration::Skip => None,
-        }
-    }
-
-    /// What a job line breaks.
-    #[tactic(auto, unfolding(crate::specs::Rules::job_line_rule))]
-    pub(crate) fn job_line_rule(&self, declaration: &Declaration) -> Option<Code>
-        ensures { result ≡ job_line_rule self.now.options self.now.job declaration.now }
-    {
-        match self.declaration_rule(declaration) {
-            Some(code) => Some(code),
-            None => self.built_rule(declaration),
         }
     }
 }

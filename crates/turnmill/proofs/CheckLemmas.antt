@@ -6,11 +6,13 @@ use Rattle.std.proofs.lemmas.Bool.{le-leb, leb-true}
 use Rattle.edge_io.specs.Moves.{Loses, Grows}
 use Rattle.nc_faults.specs.declared.Refusal.{Refusal}
 use Rattle.job_types.specs.Job.{JobView}
+use Rattle.tape_job.proofs.SoundJobs.{read_sound}
 use Rattle.tape_job.specs.Read.{read_of}
+use Rattle.job_types.specs.Built.{not_built}
 use Rattle.job_types.specs.SoundJob.{IsSoundJob}
 use Rattle.job_verdict.specs.Clash.{verdict_of}
 use Rattle.job_verdict.specs.Report.{refusal_bytes}
-use Rattle.turnmill.specs.Input.{ReadsAll, TakesTooMany}
+use Rattle.turnmill.specs.Input.{ReadsAll, TakesTooMany, unless_unbuilt, built_by, job_or_refusal}
 use Rattle.job_verdict.specs.Safety.{SafeAlways}
 use Rattle.turnmill.specs.Output.{Output, output_of, output_by, status_of, Answers}
 use Rattle.turnmill.specs.declared.check.Status.{Status}
@@ -48,7 +50,7 @@ Answers-long A B C N (Some input) new written many = λ _ _ _.
 
 -- what an input calls for, where it is known whether it is too long
 abbrev chosen : Bool → List ℕ → Output
-chosen long input = if long then record { status = ends.TooLong; bytes = [] } else output_by (read_of input)
+chosen long input = if long then record { status = ends.TooLong; bytes = [] } else output_by (job_or_refusal input)
 
 -- an input that calls for YES is a job whose verdict is YES
 yes_by : (read : Result JobView Refusal) → (output_by read).status ≡ ends.Yes → IsOkAnd read (λ job. verdict_of job ≡ Yes)
@@ -62,11 +64,11 @@ yes_by (Ok job) is = by_verdict (verdict_of job) is
     by_verdict (verdicts.Alarm channel alarm) is = absurd cc
 yes_by (Err refusal) is = absurd cc
 
-yes_chosen : (long : Bool) (input : List ℕ) → (chosen long input).status ≡ ends.Yes → IsOkAnd (read_of input) (λ job. verdict_of job ≡ Yes)
+yes_chosen : (long : Bool) (input : List ℕ) → (chosen long input).status ≡ ends.Yes → IsOkAnd (job_or_refusal input) (λ job. verdict_of job ≡ Yes)
 yes_chosen true input is = absurd cc
-yes_chosen false input is = yes_by (read_of input) is
+yes_chosen false input is = yes_by (job_or_refusal input) is
 
-yes_is : (input : List ℕ) → (output_of input).status ≡ ends.Yes → IsOkAnd (read_of input) (λ job. verdict_of job ≡ Yes)
+yes_is : (input : List ℕ) → (output_of input).status ≡ ends.Yes → IsOkAnd (job_or_refusal input) (λ job. verdict_of job ≡ Yes)
 unfolding output_of
 yes_is input is = yes_chosen (nat_le 8388609 (length input)) input is
 
@@ -83,11 +85,11 @@ refused_by (Ok job) is = absurd (by_verdict (verdict_of job) is)
 refused_by (Err refusal) is = refl
 
 refused_chosen : (long : Bool) (input : List ℕ) → (chosen long input).status ≡ ends.Refused
-    → IsErrAnd (read_of input) (λ refusal. (chosen long input).bytes ≡ refusal_bytes refusal)
+    → IsErrAnd (job_or_refusal input) (λ refusal. (chosen long input).bytes ≡ refusal_bytes refusal)
 refused_chosen true input is = absurd cc
-refused_chosen false input is = refused_by (read_of input) is
+refused_chosen false input is = refused_by (job_or_refusal input) is
 
-refused_is : (input : List ℕ) → (output_of input).status ≡ ends.Refused → IsErrAnd (read_of input) (λ refusal. (output_of input).bytes ≡ refusal_bytes refusal)
+refused_is : (input : List ℕ) → (output_of input).status ≡ ends.Refused → IsErrAnd (job_or_refusal input) (λ refusal. (output_of input).bytes ≡ refusal_bytes refusal)
 unfolding output_of
 refused_is input is = refused_chosen (nat_le 8388609 (length input)) input is
 
@@ -97,17 +99,17 @@ unfolding output_by
 refused_calls (Ok job) refused = absurd cc
 refused_calls (Err refusal) refused = refl
 
-short_chosen : (long : Bool) (input : List ℕ) → nat_le 8388609 (length input) ≡ long → length input ≤ 8388608 → chosen long input ≡ output_by (read_of input)
+short_chosen : (long : Bool) (input : List ℕ) → nat_le 8388609 (length input) ≡ long → length input ≤ 8388608 → chosen long input ≡ output_by (job_or_refusal input)
 short_chosen true input is short = let long : 8388609 ≤ length input = leb-true 8388609 (length input) is in absurd (omega arith)
 short_chosen false input is short = refl
 
 -- an input that is not too long calls for what it is read as
-pub output_of-short : (input : List ℕ) → length input ≤ 8388608 → output_of input ≡ output_by (read_of input)
+pub output_of-short : (input : List ℕ) → length input ≤ 8388608 → output_of input ≡ output_by (job_or_refusal input)
 unfolding output_of
 output_of-short input short = short_chosen (nat_le 8388609 (length input)) input refl short
 
-refused_comes : (input : List ℕ) → length input ≤ 8388608 → IsErr (read_of input) → (output_of input).status ≡ ends.Refused
-refused_comes input short refused = rw (output_of-short input short) (refused_calls (read_of input) refused)
+refused_comes : (input : List ℕ) → length input ≤ 8388608 → IsErr (job_or_refusal input) → (output_of input).status ≡ ends.Refused
+refused_comes input short refused = rw (output_of-short input short) (refused_calls (job_or_refusal input) refused)
 
 -- at REFUSED the line of the refusal is written, and no byte of the input is left
 wrote_line : (read : Result JobView Refusal) (old new : Option (List ℕ)) (bytes : List ℕ) → Grows old new bytes
@@ -117,24 +119,38 @@ wrote_line (Err refusal) old new bytes grows is = rw is at grows
 
 pub refused_wrote : (left after old new : Option (List ℕ)) (bytes : List ℕ) → ReadsAll left after bytes → Grows old new (output_of bytes).bytes
     → (output_of bytes).status ≡ ends.Refused
-    → IfSome left (λ input. IsErrAnd (read_of input) (λ refusal. Grows old new (refusal_bytes refusal)) × (after ≡ Some []))
+    → IfSome left (λ input. IsErrAnd (job_or_refusal input) (λ refusal. Grows old new (refusal_bytes refusal)) × (after ≡ Some []))
 refused_wrote None after old new bytes reads grows is = tt
 refused_wrote (Some input) after old new bytes reads grows is =
-    (rw reads.0 (wrote_line (read_of bytes) old new (output_of bytes).bytes grows (refused_is bytes is)), reads.1)
+    (rw reads.0 (wrote_line (job_or_refusal bytes) old new (output_of bytes).bytes grows (refused_is bytes is)), reads.1)
 
 -- where the input that was read is refused, the call ends with REFUSED
 pub refused_ends : (A B C N : Type 0) (left after : Option (List ℕ)) (bytes : List ℕ) (status : Status) → ReadsAll left after bytes → status ≡ (output_of bytes).status
-    → IfSome left (λ input. A → B → C → length input ≤ 8388608 → IsErr (read_of input) → N ⊎ (status ≡ ends.Refused))
+    → IfSome left (λ input. A → B → C → length input ≤ 8388608 → IsErr (job_or_refusal input) → N ⊎ (status ≡ ends.Refused))
 refused_ends A B C N None after bytes status reads is = tt
 refused_ends A B C N (Some input) after bytes status reads is = λ _ _ _ short refused.
     inr (is ∙ refused_comes bytes (rw reads.0 at short) (rw reads.0 at refused))
+
+-- a job with all its lines built is a job that was read
+unless_sound : (job : JobView) (line : Option ℕ) → IsSoundJob job → IfOk (unless_unbuilt job line) IsSoundJob
+unless_sound job None sound = sound
+unless_sound job (Some line) sound = tt
+
+built_sound : (read : Result JobView Refusal) → IfOk read IsSoundJob → IfOk (built_by read) IsSoundJob
+unfolding built_by
+built_sound (Ok job) sound = unless_sound job (not_built job) sound
+built_sound (Err refusal) sound = tt
+
+accepted_sound : (input : List ℕ) → IfOk (job_or_refusal input) IsSoundJob
+unfolding job_or_refusal
+accepted_sound input = built_sound (read_of input) (read_sound input)
 
 -- at YES the job that was read is safe at all speeds
 safe_by : (read : Result JobView Refusal) → IfOk read IsSoundJob → IsOkAnd read (λ job. verdict_of job ≡ Yes) → IsOkAnd read SafeAlways
 safe_by (Ok job) sound says = sound_at_all_speeds job sound says
 safe_by (Err refusal) sound says = says
 
-pub safe_at_yes : (left after : Option (List ℕ)) (bytes : List ℕ) → IfOk (read_of bytes) IsSoundJob → ReadsAll left after bytes → (output_of bytes).status ≡ ends.Yes
-    → IfSome left (λ input. IsOkAnd (read_of input) SafeAlways)
-safe_at_yes None after bytes sound reads is = tt
-safe_at_yes (Some input) after bytes sound reads is = rw reads.0 (safe_by (read_of bytes) sound (yes_is bytes is))
+pub safe_at_yes : (left after : Option (List ℕ)) (bytes : List ℕ) → ReadsAll left after bytes → (output_of bytes).status ≡ ends.Yes
+    → IfSome left (λ input. IsOkAnd (job_or_refusal input) SafeAlways)
+safe_at_yes None after bytes reads is = tt
+safe_at_yes (Some input) after bytes reads is = rw reads.0 (safe_by (job_or_refusal bytes) (accepted_sound bytes) (yes_is bytes is))

@@ -3,7 +3,6 @@ use Rattle.std.specs.Prelude.{◌≡◌, ℕ, nat_lt, if◌then◌else◌, List,
 use Rattle.edge_io.specs.Moves.{Grows}
 use Rattle.nc_faults.specs.declared.Refusal.{Refusal}
 use Rattle.job_types.specs.Job.{JobView}
-use Rattle.tape_job.specs.Read.{read_of}
 use Rattle.job_verdict.specs.ChannelRun.{runs_of}
 use Rattle.job_verdict.specs.Clash.{verdict_of}
 use Rattle.job_verdict.specs.Report.{report_bytes, refusal_bytes}
@@ -13,6 +12,7 @@ use Rattle.job_verdict.specs.declared.stretches.Verdict.{Verdict}
 use Rattle.job_verdict.specs.declared.stretches.Verdict.TheVariants.{Yes, No, Undecided}
 use Rattle.job_verdict.specs.declared.stretches.Verdict.TheVariants as verdicts
 use Rattle.job_lines.specs.declared.limits.TheConstants.{INPUT_LIMIT}
+use Rattle.turnmill.specs.Input.{job_or_refusal}
 
 pub record Output : Type 0 where
   pub status : Status
@@ -47,7 +47,7 @@ output_by (Err refusal) = record { status = ends.Refused; bytes = refusal_bytes 
 
 -- an input of more bytes than it may have calls for no bytes, whatever it says
 unfoldable pub output_of : List ℕ → Output
-output_of input = if nat_lt INPUT_LIMIT (length input) then record { status = ends.TooLong; bytes = [] } else output_by (read_of input)
+output_of input = if nat_lt INPUT_LIMIT (length input) then record { status = ends.TooLong; bytes = [] } else output_by (job_or_refusal input)
 
 -- the call ends as the input calls for, and what is written has grown by the bytes that it calls for
 pub record Answers (input : List ℕ) (status : Status) (old new : Option (List ℕ)) : Type 0 where

@@ -1,8 +1,8 @@
 //! The check by the arguments of the command line.
 ghost use Rattle.std.specs.Prelude.{◌≡◌, ◌↔◌, ◌⊎◌, ◌-◌, ◌^◌, ◌<◌, ◌≤◌, true, false, map, IfSome, IfOk, IsOkAnd, string_bytes, [], Some};
-ghost use Rattle.tape_job.specs.Read.{read_of};
 ghost use Rattle.job_verdict.specs.Safety.{SafeAlways};
 ghost use Rattle.turnmill.specs.Arguments.{GivesWords, HasNoText, asks_for_check};
+ghost use Rattle.turnmill.specs.Input.{job_or_refusal};
 ghost use Rattle.turnmill.specs.Output.{Answers, IsVerdict};
 
 use crate::check::{Status, check_words};
@@ -52,7 +52,7 @@ pub fn check_arguments<S: Source, K: Sink>(
         → (result ≡ Status.NoMemory) ⊎ Answers input result (K.written sink.old) (K.written sink.new)) }
     ensures verdict { IsVerdict result → IfSome (S.left source.old) (λ input.
         Answers input result (K.written sink.old) (K.written sink.new) × (S.left source.new ≡ Some [])) }
-    ensures speeds { result ≡ Status.Yes → IfSome (S.left source.old) (λ input. IsOkAnd (read_of input) SafeAlways) }
+    ensures speeds { result ≡ Status.Yes → IfSome (S.left source.old) (λ input. IsOkAnd (job_or_refusal input) SafeAlways) }
     ensures read_fault { (result ≡ Status.ReadFault) ↔ (S.faults source.old < S.faults source.new) }
     ensures write_fault { (result ≡ Status.WriteFault) ↔ (K.faults sink.old < K.faults sink.new) }
     ensures read_faults_never_fall { S.faults source.old ≤ S.faults source.new }

@@ -1,21 +1,23 @@
 //! The check of an input, from the words of the call to the bytes of the answer.
-ghost use Rattle.std.specs.Prelude.{◌≡◌, ◌↔◌, ◌⊎◌, ℕ, ◌-◌, ◌^◌, ◌<◌, ◌≤◌, Bool, true, false, [], length, map, IfSome, IfOk, IsOkAnd, IsErr, IsErrAnd, Some, Ok, Err, string_bytes};
+ghost use Rattle.std.specs.Prelude.{◌≡◌, ◌↔◌, ◌⊎◌, ℕ, ◌-◌, ◌^◌, ◌<◌, ◌≤◌, Bool, true, false, [], length, map, None, IfSome, IfOk, IsOkAnd, IsErr, IsErrAnd, Some, Ok, Err, string_bytes};
 ghost use Rattle.edge_io.specs.Moves.{Grows, GrowsByFront};
-ghost use Rattle.tape_job.specs.Read.{read_of};
+ghost use Rattle.job_types.specs.Built.{not_built};
 ghost use Rattle.job_types.specs.SoundJob.{BlocksFit, IsSoundJob};
-ghost use Rattle.turnmill.specs.Input.{is_check, ReadsInput, TakesTooMany};
+ghost use Rattle.turnmill.specs.Input.{is_check, ReadsInput, TakesTooMany, built_by, job_or_refusal};
 ghost use Rattle.turnmill.specs.Output.{output_of, output_by, status_of, Answers, IsVerdict, Makes};
+ghost use Rattle.job_lines.specs.Code.{refusal_code};
+ghost use Rattle.job_lines.specs.declared.code.Code.TheVariants.{NotBuilt};
 ghost use Rattle.nc_faults.specs.Texts.{IsRefusalCode};
 ghost use Rattle.job_verdict.specs.Report.{refusal_bytes};
 ghost use Rattle.job_verdict.specs.Safety.{SafeAlways};
 
 use edge_io::{Failed, Sink, Source, put_all};
-use job_lines::INPUT_LIMIT;
+use job_lines::{Code, INPUT_LIMIT};
 use job_verdict::{Verdict, check_job, refusal_line, report_text};
 use nc_faults::Refusal;
 use std::alloc::{AllocError, Global};
 use std::process::ExitCode;
-use tape_job::{Job, JobFault, read_job};
+use tape_job::{Job, JobFault, not_built, read_job};
 
 /// How a call ends.
 #[derive(Clone, Copy, Debug, PartialEq, Eq)]
@@ -146,11 +148,12 @@ fn status_of(verdict: &Verdict) -> Status
     }
 }
 
-/// Makes the output of a job.
+/// Makes the output of a job with all its lines built.
 #[tactic(auto, unfolding(crate::specs::Output::output_by))]
 fn job_output(alloc: Global, job: &Job) -> Result<MadeOutput, AllocError>
     requires accepted { IsSoundJob job.now }
     requires indices { BlocksFit job.now }
+    requires built { not_built job.now ≡ None }
     ensures { IfOk result (λ made. Makes made.status (string_bytes made.text) (output_by (Ok job.now))) }
 {
     let (runs, verdict) = check_job(alloc, job)?;
@@ -174,13 +177,37 @@ fn refusal_output(alloc: Global, refusal: &Refusal) -> Result<MadeOutput, AllocE
     })
 }
 
+/// The refusal of a line that is not built yet.
+fn unbuilt_refusal(line: u32) -> Refusal
+    ensures value { result ≡ record { code = refusal_code NotBuilt; line = line } }
+    ensures listed { IsRefusalCode result.code }
+{
+    Refusal {
+        code: Code::NotBuilt.shown(),
+        line,
+    }
+}
+
+/// Makes the output of an accepted job, which is a refusal where some line of the job is not built yet.
+#[tactic(auto, unfolding(crate::specs::Input::built_by))]
+fn accepted_output(alloc: Global, job: &Job) -> Result<MadeOutput, AllocError>
+    requires accepted { IsSoundJob job.now }
+    requires indices { BlocksFit job.now }
+    ensures { IfOk result (λ made. Makes made.status (string_bytes made.text) (output_by (built_by (Ok job.now)))) }
+{
+    match not_built(job) {
+        Some(line) => refusal_output(alloc, &unbuilt_refusal(line)),
+        None => job_output(alloc, job),
+    }
+}
+
 /// Makes the output that an input calls for.
 fn make_output(alloc: Global, bytes: &[u8]) -> Result<MadeOutput, AllocError>
     requires { length bytes.now ≤ INPUT_LIMIT }
     ensures { IfOk result (λ made. Makes made.status (string_bytes made.text) (output_of bytes.now)) }
 {
     match read_job(alloc, bytes) {
-        Ok(job) => job_output(alloc, &job),
+        Ok(job) => accepted_output(alloc, &job),
         Err(JobFault::Refused(refusal)) => refusal_output(alloc, &refusal),
         Err(JobFault::NoMemory) => Err(AllocError),
     }
@@ -209,18 +236,19 @@ pub fn check_words<S: Source, K: Sink>(
     ensures verdict { IsVerdict result → IfSome (S.left source.old) (λ input.
         Answers input result (K.written sink.old) (K.written sink.new) × (S.left source.new ≡ Some [])) }
 
-    // At YES the input is a job in which, whatever the feed overrides, no axis has two owners and no
+    // At YES the input is a job with all its lines built in which, whatever the feed overrides, no axis has two owners and no
     // two zones of different groups meet.
-    ensures speeds { result ≡ Status.Yes → IfSome (S.left source.old) (λ input. IsOkAnd (read_of input) SafeAlways) }
+    ensures speeds { result ≡ Status.Yes → IfSome (S.left source.old) (λ input. IsOkAnd (job_or_refusal input) SafeAlways) }
 
-    // A refusal comes with its whole line, and no byte of the input is left.
+    // A refusal comes with its whole line, and no byte of the input is left. An accepted job of which a line is not built yet
+    // is refused too, at its least such line.
     ensures refused { result ≡ Status.Refused → IfSome (S.left source.old) (λ input.
-        IsErrAnd (read_of input) (λ refusal. Grows (K.written sink.old) (K.written sink.new) (refusal_bytes refusal))
+        IsErrAnd (job_or_refusal input) (λ refusal. Grows (K.written sink.old) (K.written sink.new) (refusal_bytes refusal))
         × (S.left source.new ≡ Some [])) }
     ensures refused_comes { IfSome (S.left source.old) (λ input.
         is_check (map (λ word. word.now) words.now) ≡ true
         → S.faults source.new ≡ S.faults source.old → K.faults sink.new ≡ K.faults sink.old
-        → length input ≤ INPUT_LIMIT → IsErr (read_of input)
+        → length input ≤ INPUT_LIMIT → IsErr (job_or_refusal input)
         → (result ≡ Status.NoMemory) ⊎ (result ≡ Status.Refused)) }
     ensures usage { (result ≡ Status.Usage) ↔ (is_check (map (λ word. word.now) words.now) ≡ false) }
     ensures usage_reads_nothing { result ≡ Status.Usage → source.new ≡ source.old }

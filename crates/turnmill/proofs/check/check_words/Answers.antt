@@ -1,7 +1,6 @@
 -- What the output of an input says of the call.
 use Rattle.std.proofs.Common.{◌∙◌, sym}
 use Rattle.turnmill.proofs.CheckLemmas.{Answers-long, safe_at_yes, refused_wrote, refused_ends}
-use Rattle.tape_job.proofs.SoundJobs.{read_sound}
 use Rattle.turnmill.proofs.check.check_words.Goals as goal
 
 pub returns-in-Err-TooLong-clause-exact : goal.returns-in-Err-TooLong-clause-exact
@@ -19,4 +18,4 @@ returns-in-Ok-put_all-clause-refused_comes g c =
 
 pub returns-in-Ok-put_all-clause-speeds : goal.returns-in-Ok-put_all-clause-speeds
 returns-in-Ok-put_all-clause-speeds g c = λ is.
-    safe_at_yes _ _ _ (read_sound c.in-Ok.bytes.items) c.in-Ok.ensures.2 (rw c.deref.ensures.value at (sym c.in-Ok-make_output.ensures.status_is ∙ is))
+    safe_at_yes _ _ _ c.in-Ok.ensures.2 (rw c.deref.ensures.value at (sym c.in-Ok-make_output.ensures.status_is ∙ is))
