@@ -1,3 +1,4 @@
+pub mod Unmoved
 pub mod AlarmLaws
 pub mod Counts
 pub mod EffectLaws

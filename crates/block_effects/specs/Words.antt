@@ -1,7 +1,8 @@
 -- Meaning. What the words of a block do, one after another from left to right.
-use Rattle.std.specs.Prelude.{◌≡◌, ◌≤◌, ⊤, MatchOption, MatchResult, IsOk, ℕ, ◌==◌, ℤ, pos, ◌+ℤ◌, Bool, true, false, if◌then◌else◌, is_some, List, [], ◌∷◌, codes, replicate, slice_index_or, slice_set, Option, None, Some, Result, Ok, Err}
+use Rattle.std.specs.Prelude.{◌≡◌, ◌≤◌, ⊤, MatchOption, MatchResult, IsOk, ℕ, ◌==◌, ◌||◌, ℤ, pos, ◌+ℤ◌, Bool, true, false, if◌then◌else◌, is_some, List, [], ◌∷◌, codes, replicate, slice_index_or, slice_set, Option, None, Some, Result, Ok, Err}
 use Rattle.std.specs.List.{list_any}
 use Rattle.std.specs.Str.{bytes_eq}
+use Rattle.block_motions.specs.Arcs.{is_any}
 use Rattle.block_motions.specs.declared.words.ArcWords.{ArcWords}
 use Rattle.block_motions.specs.declared.goals.Programmed.{Programmed}
 use Rattle.block_motions.specs.declared.goals.Targets.{Targets}
@@ -111,6 +112,10 @@ with_centre_word words axis value = programmed_once words.centre axis value >>= 
 -- the radius; an alarm where a word before has programmed it
 abbrev pub with_radius : ArcWords → ℤ → Result ArcWords ℕ
 with_radius words value = if is_some words.radius then Err ADDRESS_TWICE else Ok (record words { radius = Some value })
+
+-- something is programmed for an axis or an arc
+abbrev pub moves : Targets → ArcWords → Bool
+moves targets arc = is_any targets.slots || (is_any targets.axes || (is_any arc.centre || is_some arc.radius))
 
 -- ---- words
 

@@ -91,7 +91,7 @@ fn make_motion(
 
 /// Moves the axes as the words of the block say, unless it has a word under which they stand still.
 #[tactic(auto, unfolding(crate::specs::Effects::moved_or_still))]
-fn move_axes(
+fn move_programmed(
     axes: &ChannelAxes,
     conditions: &Conditions,
     groups: &[GWord],
@@ -110,6 +110,26 @@ fn move_axes(
         return Ok(None);
     }
     make_motion(axes, conditions, &done.targets, &done.arc, at)
+}
+
+/// Moves the axes as the words of the block say. Where they say nothing of axes and arcs, none moves.
+fn move_axes(
+    axes: &ChannelAxes,
+    conditions: &Conditions,
+    groups: &[GWord],
+    done: &WordsDone,
+    at: &mut Positions,
+) -> Result<Option<Motion>, u16>
+    ensures made { (h : ConditionsView) → AreInForce h conditions.now
+        → result ≡ model.moved_or_still axes.now.slots axes.now.owned h (stands at.old) groups.now done.now.targets done.now.arc }
+    ensures stand { IfOk result (λ motion. StandsAtEndOf motion at.old at.new) }
+    ensures unmoved { OnErr result (at.new ≡ at.old) }
+{
+    if done.moves() {
+        move_programmed(axes, conditions, groups, done, at)
+    } else {
+        Ok(None)
+    }
 }
 
 /// Does what these words of a block say, from left to right, and then moves the axes as all its words say. After an alarm

@@ -11,7 +11,7 @@ use crate::course::Setup;
 use crate::parameters::{Change, Parameters};
 use crate::situation::ChannelAxes;
 use axis_sets::{AXIS_LIMIT, AxisId};
-use block_motions::{ArcWords, Programmed, Targets};
+use block_motions::{ArcWords, Programmed, Targets, is_any};
 use micro_units::Num;
 use nc_blocks::{Operand, Word};
 use nc_expressions::{Expr, eval};
@@ -220,6 +220,16 @@ impl WordsDone {
             ends: false,
             motion: None,
         }
+    }
+
+    /// Whether something is programmed for an axis or an arc.
+    pub(crate) fn moves(&self) -> bool
+        ensures { result ≡ model.moves self.now.targets self.now.arc }
+    {
+        is_any(&self.targets.slots)
+            || is_any(&self.targets.axes)
+            || is_any(&self.arc.centre)
+            || self.arc.radius.is_some()
     }
 
     /// Programs what has this name: the centre of an arc, or an axis.

@@ -10,7 +10,7 @@ ghost use Rattle.channel_machine.specs.Levels.{after_call, program_blocks, GoesO
 
 use block_effects::Course;
 use job_types::Job;
-use nc_control_flow::{Flow, Next, Outcome, Repeats};
+use nc_control_flow::{Flow, Next, Outcome};
 use nc_subprograms::{CallStack, Place};
 
 /// Where control stands.
@@ -57,7 +57,7 @@ fn start_at(job: &Job, here: &mut Place, number: u16, passes: u16, skip: bool) -
             here.program = number;
             here.pc = pc;
             here.passes = passes;
-            here.repeats = Repeats::new();
+            here.repeats.clear();
             true
         }
         Next::Past => false,

@@ -77,6 +77,13 @@ impl Repeats {
         }
     }
 
+    /// Ends all of them.
+    pub fn clear(&mut self)
+        ensures { self.new ≡ [] }
+    {
+        self.running.clear();
+    }
+
     /// Whether no other repetition can run.
     pub(crate) fn is_full(&self) -> bool
         ensures full { result ≡ (length self.now == REPETITION_LIMIT) }

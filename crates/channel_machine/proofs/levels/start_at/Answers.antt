@@ -7,7 +7,7 @@ pub returns-in-At : goal.returns-in-At
 returns-in-At c =
     let programs = c.args.job.now.programs in
     let first = first_by c.args.skip programs c.args.number c.args.passes c.in-Some.flow.now c.in-At.pc c.in-Some.ensures (sym c.in-At.is ∙ c.first_counted.ensures) in
-    (first.0, ap (λ (rs : List Running). record { program = c.args.number; pc = c.in-At.pc; passes = c.args.passes; repeats = rs }) c.new-here.ensures ∙ first.1)
+    (first.0, ap (λ (rs : List Running). record { program = c.args.number; pc = c.in-At.pc; passes = c.args.passes; repeats = rs }) c.clear.ensures ∙ first.1)
 
 pub returns-in-Past : goal.returns-in-Past
 returns-in-Past c =
