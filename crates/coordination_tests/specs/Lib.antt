@@ -1,4 +1,5 @@
 pub mod AxisRows
+pub mod BoardRows
 pub mod EventRows
 pub mod GrantRows
 pub mod MarkRows

@@ -1,7 +1,7 @@
 //! Worked runs of channels that wait for one another: what comes of them by the rules of the board.
 //!
 //! Each clause is computed from the definitions alone, and no code runs for it. Beside them stand tests of the board of
-//! marks and of the owners of axes, through their public calls.
+//! marks, of the owners of axes, and of the board on which both come together, through their public calls.
 #![tactic(auto)]
 
 ghost use Rattle.coordination_tests.specs.MarkRows.{ThreeMeetFiveTimes, LoweredTooSoon, LoweredLater, TwoOfThreeMeet, OwnMarkStands, OwnMarkAlone, SomeMarksLowered, EveryMarkLowered, MarkOutOfRange, ChannelUnknown, OneOfTwoGoes};
@@ -14,6 +14,8 @@ ghost use Rattle.coordination_tests.specs.AxisRows.{one_slide};
 
 #[cfg(test)]
 mod axes;
+#[cfg(test)]
+mod boards;
 #[cfg(test)]
 mod marks;
 
