@@ -34,7 +34,7 @@ axes_after_goes b c on = elim (cases_Bool (among (goers_at_once b) c)) [
 ]
 
 -- the takings
-taker_waits : (b : Board) (c : ℕ) → next_taker b ≡ Some c → waits_for_axes (b.state c) ≡ true
+pub taker_waits : (b : Board) (c : ℕ) → next_taker b ≡ Some c → waits_for_axes (b.state c) ≡ true
 taker_waits b c is = (and_parts (waits_for_axes (b.state c)) _ (first_passes (can_take b) channel_numbers c is)).0
 
 pub record TakesFrom (b : Board) (g : Going) : Type 0 where

@@ -1,4 +1,5 @@
 pub mod ActLaws
+pub mod AlarmLaws
 pub mod ApartLaws
 pub mod BeforeLaws
 pub mod BoundLaws
@@ -22,6 +23,7 @@ pub mod ReadLaws
 pub mod StepLaws
 pub mod StepRaceLaws
 pub mod StillLaws
+pub mod StopLaws
 pub mod TellLaws
 pub mod TrackLaws
 pub mod WatchLaws

@@ -37,6 +37,10 @@ no_alarm b c action none =
     let seven = past_test (finds_one_awake b action) 27 _ six.1 in
     (one.0, seven.0)
 
+pub named_channels_are : (b : Board) (c : ℕ) (action : Action) → alarm_of b c action ≡ None → names_no_channel b action ≡ false
+unfolding alarm_of
+named_channels_are b c action none = (past_test (names_no_channel b action) 24 _ (past_test (names_no_mark action) 25 _ none).1).0
+
 pub started_idle : (b : Board) (action : Action) (d : ℕ) → finds_one_awake b action ≡ false → among (channels_to_start action) d ≡ true → is_idle (b.state d) ≡ true
 started_idle b (Start named) d off on = passes (λ e. is_idle (b.state e)) (members_of named) d (not_not _ off) on
 started_idle b other d off on = no_truth false on refl

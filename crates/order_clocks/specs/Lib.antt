@@ -14,6 +14,7 @@ pub mod RaceOrder
 pub mod Races
 pub mod Rows
 pub mod Steps
+pub mod Stops
 pub mod Tells
 pub mod Tracks
 pub mod Watching

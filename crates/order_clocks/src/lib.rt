@@ -18,6 +18,7 @@ mod places;
 mod races;
 mod row;
 mod still;
+mod stops;
 mod times;
 mod watch;
 
