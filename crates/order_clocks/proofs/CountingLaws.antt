@@ -11,7 +11,7 @@ use Rattle.order_clocks.specs.Counters.{top, LastRows, last_rows, row}
 use Rattle.order_clocks.specs.Rows.{count_of}
 use Rattle.order_clocks.specs.Tracks.{act_name, go_name}
 use Rattle.order_clocks.specs.Steps.{gives_of, keys_of, departure_of, goes_in, IsStep, row_at, Shows, HasRoom, AreRows, AreSteps, deed_at}
-use Rattle.order_clocks.specs.Tells.{Tells, name_of, row_in, no_rows}
+use Rattle.order_clocks.specs.Tells.{Tells, row_in, no_rows}
 use Rattle.sync_types.specs.declared.runs.EventId.{EventId}
 use Rattle.order_clocks.specs.declared.clocks.StepRows.{StepRows}
 use Rattle.order_clocks.specs.declared.deed.Deed.{Deed}
@@ -64,7 +64,7 @@ run_of_is deeds = record {
     actor = refl;
     gives = λ k. refl;
     goers = goers_are (deed_at deeds i);
-    asks = λ c here. refl;
+    asks = λ c here k. ((λ h. h), (λ h. h));
     group = λ c d here there. refl;
   };
 }
@@ -78,11 +78,11 @@ shows_room run i t few shows = record {
 -- one step more
 pub tells_more : (run : Course) (steps : List StepRows) (rows : StepRows) → Tells run steps → AreRows run (length steps) rows → Tells run (steps ++ rows ∷ [])
 tells_more run steps rows tells new = record {
-  rows = λ e event within c below.
+  rows = λ e event within c.
       elim (cases_lt e.step (length steps)) [
         | inl early ↦
             let same : slice_index_or (steps ++ rows ∷ []) e.step no_rows ≡ slice_index_or steps e.step no_rows = get_or_append_left steps (rows ∷ []) no_rows e.step early in
-            ap (λ (r : StepRows). count_of (if e.go then slice_index_or r.goes e.channel [] else r.act) c) same ∙ tells.rows e event early c below
+            ap (λ (r : StepRows). count_of (if e.go then slice_index_or r.goes e.channel [] else r.act) c) same ∙ tells.rows e event early c
         | inr late ↦
             let size = length_more steps rows in
             let here : e.step ≡ length steps = omega arith in

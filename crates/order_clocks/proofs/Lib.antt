@@ -27,3 +27,4 @@ pub mod StopLaws
 pub mod TellLaws
 pub mod TrackLaws
 pub mod WatchLaws
+pub mod WholeLaws

@@ -98,7 +98,7 @@ unfolding own_row
 own_shows run i s deed t c x is shows here =
     ap (λ (n : ℕ). max n (top (λ k. count_of (row_at t k) x) (keys_of c (departure_of deed c)))) (shows.past c x)
     ∙ (ap (λ (n : ℕ). max (s.past c x) n) (top_same (λ k. count_of (row_at t k) x) (λ k. s.last k x) (keys_of c (departure_of deed c)) (λ k within. shows.last k x))
-    ∙ ap (λ (ks : List Key). max (s.past c x) (top (λ k. s.last k x) ks)) (sym (is.asks c here)))
+    ∙ ap (λ (n : ℕ). max (s.past c x) n) (top_alike (λ k. s.last k x) (λ k. s.last k x) (keys_of c (departure_of deed c)) (run.asks i c) (λ k w. ((is.asks c here k).1 w, refl)) (λ k w. ((is.asks c here k).0 w, refl))))
 
 pub go_shows : (run : Course) (i : ℕ) (s : LastRows) (deed : Deed) (t : Times) (goes : List Bool) (own : List (List ℕ)) (c x : ℕ)
     → IsStep run i deed → Shows t s → ((d : ℕ) → has goes d ≡ goes_in deed d) → length goes ≡ 9

@@ -94,6 +94,12 @@ nothing = record {
   after = λ c. IsIdle;
 }
 
+-- the board before the step of this place
+abbrev pub board_at : Board → List Move → ℕ → Board
+board_at b [] i = b
+board_at b (m ∷ ms) zero = b
+board_at b (m ∷ ms) (suc i) = board_at (after_step b m.channel m.step) ms i
+
 -- what happens in the step of this place
 abbrev pub happening_at : Board → List Move → ℕ → Happening
 happening_at b [] i = nothing

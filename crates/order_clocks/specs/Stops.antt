@@ -1,10 +1,16 @@
 -- Steps. Which channels have acted and have alarmed, as the code finds it from the ends of a run.
-use Rattle.std.specs.Prelude.{◌≡◌, ℕ, zero, suc, ◌∷◌, is_some, ◌+◌, ◌<◌, ◌==◌, not, Bool, true, false, List, [], map, filter, Option, Some, None, length, slice_index_or}
-use Rattle.sync_types.specs.Boards.{State, IsIdle, HasAlarmed, Board}
+use Rattle.std.specs.Prelude.{◌≡◌, ℕ, zero, suc, ◌∷◌, is_some, ◌+◌, ◌<◌, ◌==◌, ◌&&◌, ◌||◌, not, Bool, true, false, List, [], map, filter, Option, Some, None, length, slice_index_or}
+use Rattle.sync_types.specs.Boards.{State, IsIdle, HasAlarmed, Board, is_idle, is_running}
 use Rattle.sync_types.specs.declared.ChannelEnd.{ChannelEnd}
 use Rattle.sync_types.specs.declared.ChannelEnd.TheVariants as end
 use Rattle.sync_types.specs.BoardAlarms.{alarm_of}
-use Rattle.sync_types.specs.Turns.{Move, after_step}
+use Rattle.sync_types.specs.BoardEnds.{ends_of}
+use Rattle.sync_types.specs.Runs.{is_over}
+use Rattle.sync_types.specs.Starts.{has_channel}
+use Rattle.sync_types.specs.Turns.{Move, after_step, after_entries, AreEntries}
+use Rattle.sync_types.specs.Views.{EntryView}
+use Rattle.axis_sets.specs.Sets.{has}
+use Rattle.order_clocks.specs.declared.stops.Stops.{Stops}
 
 abbrev pub is_alarmed : State → Bool
 is_alarmed (HasAlarmed code line) = true
@@ -48,3 +54,20 @@ no_end = end.Idle
 -- the flags of the channels that have acted
 abbrev pub are_acted : List ℕ → ℕ → Bool
 are_acted last c = not (slice_index_or last c 0 == 0)
+
+-- the step of this place is the last of its channel, which an alarm has stopped
+abbrev pub is_alarm_in : Stops → ℕ → ℕ → Bool
+is_alarm_in stops i c = has stops.alarmed c && (slice_index_or stops.last c 0 == i + 1)
+
+-- it says of each step whether it alarms
+pub record TellsAlarms (b : Board) (moves : List Move) (stops : Stops) : Type 0 where
+  pub alarm : (i : ℕ) → i < length moves → is_alarm_in stops i (channel_at (channels_of moves) i) ≡ alarm_at b moves i
+
+-- the entries and ends of a whole run from this board, on which nobody waits and no mark stands
+pub record IsWhole (b : Board) (es : List EntryView) (ends : List ChannelEnd) : Type 0 where
+  pub entries : AreEntries b es
+  pub over : is_over (after_entries b es) ≡ true
+  pub ends_are : ends ≡ ends_of (after_entries b es)
+  pub fresh : (c : ℕ) → (is_idle (b.state c) || is_running (b.state c)) ≡ true
+  pub awake : (c : ℕ) → is_idle (b.state c) ≡ false → has_channel b.start c ≡ true
+  pub marks : (c m : ℕ) → b.marks c m ≡ false

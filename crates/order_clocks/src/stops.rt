@@ -1,14 +1,16 @@
 //! Which channels have acted, and which an alarm has stopped.
-ghost use Rattle.std.specs.Prelude.{◌≡◌, ℕ, ◌+◌, ◌<◌, ◌≤◌, ◌==◌, ◌&&◌, not, Bool, true, false, List, [], ◌∷◌, map, filter, length, drop, slice_index, slice_index_or};
+ghost use Rattle.std.specs.Prelude.{◌≡◌, ℕ, ◌+◌, ◌^◌, ◌<◌, ◌≤◌, ◌==◌, ◌&&◌, not, Bool, true, false, List, [], ◌∷◌, map, filter, length, drop, slice_index, slice_index_or};
 ghost use Rattle.axis_sets.specs.Sets.{has};
-ghost use Rattle.order_clocks.specs.Stops.{AreLastPlaces, alarms_in, is_alarm_end, is_idle_end, no_end, are_acted};
-ghost use Rattle.sync_types.specs.Boards.{channel_numbers};
+ghost use Rattle.order_clocks.specs.Stops.{AreLastPlaces, alarms_in, is_alarm_end, is_idle_end, no_end, are_acted, channel_at, IsWhole, TellsAlarms, is_alarm_in};
+ghost use Rattle.order_clocks.specs.Clocked.{moves_in};
+ghost use Rattle.sync_types.specs.Boards.{Board, channel_numbers};
 
 use sync_types::{ChannelEnd, Entry};
 
 /// The channel of an entry.
 pub(crate) fn actor_of(entry: &Entry) -> usize
     ensures channel { result ≡ entry.now.channel }
+    ensures from { 1 ≤ result }
     ensures below { result < 9 }
 {
     usize::from(entry.channel.number)
@@ -17,6 +19,7 @@ pub(crate) fn actor_of(entry: &Entry) -> usize
 /// For each channel one more than the place of its last entry; 0 where it has none.
 pub(crate) fn last_places(entries: &[Entry]) -> [usize; 9]
     ensures places { AreLastPlaces (map (λ e. e.channel) entries.now) (length entries.now) result }
+    ensures channels { (i : ℕ) → i < length entries.now → (1 ≤ channel_at (map (λ e. e.channel) entries.now) i) × (channel_at (map (λ e. e.channel) entries.now) i < 9) }
     ensures size { length result ≡ 9 }
 {
     let mut last = [0; 9];
@@ -89,4 +92,31 @@ pub(crate) fn alarmed_of(last: &[usize; 9], ends: &[ChannelEnd]) -> [bool; 9]
         next = after;
     }
     alarmed
+}
+
+/// Where each channel has acted last, and whether an alarm has stopped it.
+#[derive(Clone, Copy)]
+pub(crate) struct Stops {
+    pub(crate) last: [usize; 9],
+    pub(crate) alarmed: [bool; 9],
+}
+
+impl Stops {
+    /// Whether the entry of this place is the last of its channel, which an alarm has stopped.
+    pub(crate) fn is_at(&self, entry: &Entry, place: usize) -> bool
+        requires { place + 1 < 2 ^ 64 }
+        ensures { result ≡ is_alarm_in self.now place entry.now.channel }
+    {
+        let c = actor_of(entry);
+        self.alarmed[c] && self.last[c] == place + 1
+    }
+}
+
+/// Which steps of a whole run alarm.
+pub(crate) fn stops_of(entries: &[Entry], ends: &[ChannelEnd]) -> Stops
+    ensures { (b : Board) → IsWhole b entries.now ends.now → TellsAlarms b (moves_in entries.now) result }
+{
+    let last = last_places(entries);
+    let alarmed = alarmed_of(&last, ends);
+    Stops { last, alarmed }
 }
