@@ -1,21 +1,19 @@
 -- A step alarms where it is the channel's last and the channel is alarmed at the end.
-use Rattle.std.proofs.Common.{◌≡◌, ℕ, zero, suc, ◌+◌, ◌<◌, ◌≤◌, ◌⊎◌, ◌==◌, ◌&&◌, ◌||◌, not, Bool, true, false, cond, inl, inr, length, List, [], ◌∷◌, map, filter, Option, Some, None, refl, sym, ap, ◌∙◌, arith, if◌then◌else◌}
+use Rattle.std.proofs.Common.{◌≡◌, ℕ, zero, suc, ◌⊎◌, ◌==◌, ◌||◌, Bool, true, false, inl, inr, Option, Some, None, refl, sym, ap, ◌∙◌}
 use Rattle.std.specs.Prelude.{is_some}
-use Rattle.std.specs.List.{list_any, list_all}
 use Rattle.std.proofs.lemmas.Bool.{cases_Bool, eqb-true, eq-eqb, and_parts}
 use Rattle.axis_sets.specs.Sets.{members_of}
-use Rattle.order_clocks.specs.Stops.{is_alarmed, is_idle_end, is_alarm_end, alarms_in, channel_at}
+use Rattle.order_clocks.specs.Stops.{is_alarmed}
 use Rattle.order_clocks.specs.Watching.{wait_in}
-use Rattle.order_clocks.proofs.DepartLaws.{takings_take, takings_leave, taker_waits}
+use Rattle.order_clocks.proofs.DepartLaws.{taker_waits}
 use Rattle.order_clocks.proofs.ReadLaws.{no_alarm, named_channels_are, started_idle}
-use Rattle.sync_types.proofs.BoardTests.{no_truth, by_test, among_kept, passes, not_not}
-use Rattle.sync_types.specs.BoardActions.{channels_to_start, after_own_part, after_part, after_alarm, after_action, after_effects, state_after_alarm, state_after_action, state_of_actor}
-use Rattle.sync_types.specs.BoardAlarms.{alarm_of, finds_one_awake, names_no_channel}
-use Rattle.sync_types.specs.BoardEnds.{end_of, ends_among}
-use Rattle.sync_types.specs.Boards.{AtMarks, AtEnds, AtAxes, State, IsIdle, IsRunning, IsHolding, HasEnded, HasAlarmed, Board, among, channel_numbers, is_idle, is_running, start_grant}
-use Rattle.sync_types.specs.GoingOn.{goes_at_once, goers_at_once, state_after_goes, after_goes, waits_for_axes, next_taker, state_after_taking, after_taking, takings, takings_from, all_takings, after_goings}
+use Rattle.sync_types.proofs.BoardTests.{no_truth, among_kept, passes, not_not}
+use Rattle.sync_types.specs.BoardActions.{channels_to_start, after_own_part, after_part, after_effects, state_after_alarm, state_after_action, state_of_actor}
+use Rattle.sync_types.specs.BoardAlarms.{alarm_of, names_no_channel}
+use Rattle.sync_types.specs.Boards.{State, IsIdle, IsRunning, IsHolding, HasAlarmed, Board, among, channel_numbers, is_idle, is_running}
+use Rattle.sync_types.specs.GoingOn.{goes_at_once, goers_at_once, state_after_goes, after_goes, waits_for_axes, next_taker, state_after_taking, after_taking, takings, takings_from, after_goings}
 use Rattle.sync_types.specs.Starts.{has_channel}
-use Rattle.sync_types.specs.Turns.{Move, after_step, after_moves, AreOfRunning}
+use Rattle.sync_types.specs.Turns.{after_step}
 use Rattle.sync_types.specs.declared.Action.{Action}
 use Rattle.sync_types.specs.declared.Action.TheVariants.{WaitM, SetM, ClearM, Init, Start, WaitE, Release, Get, End, Alarm}
 use Rattle.sync_types.specs.declared.Step.{Step}
@@ -284,8 +282,8 @@ idle_stays b c step running are d awake = rw (step_start b c step) (elim (cases_
     | inr other ↦ elim (part_stays b c step d other) [
       | inl same ↦ no_truth (is_idle ((after_step b c step).state d)) (ap is_idle (goings_still (after_own_part b c step) d (ap wait_in same ∙ idle_waits (b.state d) idle) ∙ same) ∙ idle) awake
       | inr starts ↦ started_channels b c step d other idle starts.1
-      ]
     ]
+  ]
 ])
   where
     runs_awake : (s : State) → is_running s ≡ true → is_idle s ≡ false

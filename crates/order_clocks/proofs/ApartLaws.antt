@@ -1,13 +1,12 @@
 -- The races of two events are those of their names.
-use Rattle.std.proofs.Common.{◌≡◌, ℕ, ◌+◌, ◌<◌, ◌≤◌, ◌⊎◌, ◌↔◌, ◌==◌, Bool, true, false, inl, inr, List, [], Option, Some, None, slice_index_or, refl, sym, ap, ◌∙◌, arith}
-use Rattle.order_clocks.specs.Happenings.{Trace, Lowered, Needed, Took, Touched}
+use Rattle.std.proofs.Common.{◌≡◌, ℕ, ◌+◌, ◌<◌, inl, inr, List, [], Option, slice_index_or, sym, ap, ◌∙◌, arith}
 use Rattle.std.proofs.lemmas.Bool.{cases_lt}
 use Rattle.sync_types.specs.declared.runs.EventId.{EventId}
-use Rattle.order_clocks.specs.Courses.{Course, IsEventIn, AreOneIn, IsBeforeIn}
+use Rattle.order_clocks.specs.Courses.{Course}
 use Rattle.order_clocks.specs.Counters.{row}
-use Rattle.order_clocks.specs.Tracks.{Tracks, AreApartIn}
+use Rattle.order_clocks.specs.Tracks.{Tracks}
 use Rattle.order_clocks.specs.Rows.{count_of}
-use Rattle.order_clocks.specs.Pairs.{IsLeastWith, left_by, minded_by, IsUnordered, IsMet, IsPairRace, IsRaceOver, IsRaceBetween, IsRaceBefore, IsEventOf, IsApartRace, spot}
+use Rattle.order_clocks.specs.Pairs.{IsLeastWith, IsPairRace, IsRaceBetween, IsRaceBefore, IsEventOf, IsApartRace, spot}
 use Rattle.order_clocks.specs.Races.{shown}
 use Rattle.sync_types.specs.declared.runs.Race.{Race}
 use Rattle.order_clocks.specs.declared.pairs.Event.{Event}

@@ -1,6 +1,6 @@
 -- What the counters say of two events.
-use Rattle.std.proofs.Common.{◌≡◌, ℕ, ◌<◌, ◌≤◌, ◌==◌, ◌&&◌, not, ◌↔◌, Bool, true, false, inl, inr, List, length, refl, sym, ap, ◌∙◌, arith, nat_lt, if◌then◌else◌}
-use Rattle.std.proofs.lemmas.Bool.{cases_Bool, and_parts, eqb-true, eq-eqb, ltb-true, ltb-false, le-ltb}
+use Rattle.std.proofs.Common.{◌≡◌, ℕ, ◌<◌, ◌≤◌, ◌==◌, not, ◌↔◌, Bool, true, false, inl, inr, List, length, refl, ap, ◌∙◌, arith, if◌then◌else◌}
+use Rattle.std.proofs.lemmas.Bool.{cases_Bool, and_parts, eqb-true, eq-eqb, ltb-false, le-ltb}
 use Rattle.order_clocks.specs.Before.{Before}
 use Rattle.order_clocks.specs.CourseOf.{course_of}
 use Rattle.order_clocks.specs.Counters.{row}
@@ -10,7 +10,7 @@ use Rattle.order_clocks.specs.Tells.{Tells, row_in, is_same_event, is_before_in}
 use Rattle.order_clocks.specs.declared.clocks.StepRows.{StepRows}
 use Rattle.order_clocks.proofs.CounterLaws.{before_from, before_to, one_back, one_itself}
 use Rattle.order_clocks.proofs.OrderLaws.{event_in, event_within, one_from, order_in, order_from}
-use Rattle.sync_types.proofs.BoardTests.{no_truth, not_not}
+use Rattle.sync_types.proofs.BoardTests.{no_truth}
 use Rattle.sync_types.specs.Boards.{Board}
 use Rattle.sync_types.specs.Events.{AreOne, IsLowestName}
 use Rattle.sync_types.specs.Turns.{Move}
@@ -69,9 +69,9 @@ order_law b moves steps e f size tells low_e low_f = (to, back)
         let le : count_of (row_in steps e) e.channel ≤ count_of (row_in steps f) e.channel = ltb-false (count_of (row_in steps f) e.channel) (count_of (row_in steps e) e.channel) (not_true _ parts.1) in
         let rows : row (course_of b moves) e e.channel ≤ row (course_of b moves) f e.channel = rw (left, right) at le in
         order_from b moves e f f_in (before_from (course_of b moves) e f (event_in b moves e low_e.event) (event_in b moves f low_f.event) rows
-            (λ one. no_truth (is_same_event e f)
-            (rw (same_name b moves e f low_e low_f (one_from b moves e f e_in one) (one_from b moves f e f_in (one_back (course_of b moves) e f one))) (same_itself f))
-            (not_true _ parts.0)))
+        (λ one. no_truth (is_same_event e f)
+        (rw (same_name b moves e f low_e low_f (one_from b moves e f e_in one) (one_from b moves f e f_in (one_back (course_of b moves) e f one))) (same_itself f))
+        (not_true _ parts.0)))
       where
         not_true : (t : Bool) → not t ≡ true → t ≡ false
         not_true true bad = no_truth false bad refl

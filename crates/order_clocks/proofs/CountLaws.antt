@@ -1,12 +1,12 @@
 -- Counters never exceed counts, and which steps have a race between steps.
-use Rattle.std.proofs.Common.{◌≡◌, ℕ, zero, suc, ◌+◌, ◌*◌, ◌<◌, ◌≤◌, ◌⊎◌, ◌↔◌, ◌==◌, Bool, true, false, inl, inr, refl, sym, ap, ◌∙◌, arith, if◌then◌else◌}
-use Rattle.order_clocks.specs.Happenings.{Key, Trace}
+use Rattle.std.proofs.Common.{◌≡◌, ℕ, zero, suc, ◌+◌, ◌*◌, ◌<◌, ◌≤◌, ◌↔◌, ◌==◌, Bool, true, false, inl, inr, refl, ap, arith, if◌then◌else◌}
+use Rattle.order_clocks.specs.Happenings.{Trace}
 use Rattle.order_clocks.specs.Before.{moment}
 use Rattle.sync_types.specs.declared.runs.EventId.{EventId}
-use Rattle.order_clocks.specs.Courses.{Course, IsEventIn, AreOneIn, FollowsIn, IsBeforeIn}
-use Rattle.order_clocks.specs.Counters.{LastRows, last_rows, row}
+use Rattle.order_clocks.specs.Courses.{Course, IsEventIn}
+use Rattle.order_clocks.specs.Counters.{last_rows, row}
 use Rattle.order_clocks.specs.Tracks.{Tracks, AreApartIn, last_place}
-use Rattle.order_clocks.proofs.CounterLaws.{Known, known_at, one_row, one_moment, follows_later, source_parts}
+use Rattle.order_clocks.proofs.CounterLaws.{known_at, one_row, one_moment, follows_later, source_parts}
 use Rattle.order_clocks.proofs.RaceLaws.{last_suffices}
 
 -- what an event counts of a channel is at most what the channel's last event counts of it

@@ -1,22 +1,20 @@
 -- The counters of all steps.
-use Rattle.std.proofs.Common.{◌≡◌, ℕ, zero, suc, ◌+◌, ◌*◌, ◌^◌, ◌<◌, ◌≤◌, ◌⊎◌, ◌==◌, ◌&&◌, max, Bool, true, false, inl, inr, List, [], ◌∷◌, ◌++◌, filter, length, slice_index, slice_index_or, replicate, refl, sym, ap, ◌∙◌, length-append, arith, if◌then◌else◌}
+use Rattle.std.proofs.Common.{◌≡◌, ℕ, ◌+◌, ◌^◌, ◌<◌, Bool, true, false, inl, inr, List, [], ◌∷◌, ◌++◌, filter, length, slice_index, slice_index_or, replicate, refl, sym, ap, ◌∙◌, length-append, arith, if◌then◌else◌}
 use Rattle.order_clocks.specs.Happenings.{Key, Raised, Freed, Started, Ended}
-use Rattle.std.proofs.lemmas.Bool.{cases_Bool, cases_lt, cases_eq, true≢false}
+use Rattle.std.proofs.lemmas.Bool.{cases_lt}
 use Rattle.std.proofs.lemmas.List.{get_or-replicate, get_or_past, get_or_append_left, length-replicate}
 use Rattle.std.proofs.Math.Seq.{get_or-append_seam}
 use Rattle.std.specs.List.{range_with_len}
 use Rattle.sync_types.specs.Boards.{among}
 use Rattle.order_clocks.specs.Courses.{Course, IsEventIn}
-use Rattle.order_clocks.specs.Counters.{top, LastRows, last_rows, row}
+use Rattle.order_clocks.specs.Counters.{last_rows, row}
 use Rattle.order_clocks.specs.Rows.{count_of}
-use Rattle.order_clocks.specs.Tracks.{act_name, go_name}
-use Rattle.order_clocks.specs.Steps.{gives_of, keys_of, departure_of, goes_in, IsStep, row_at, Shows, HasRoom, AreRows, AreSteps, deed_at}
-use Rattle.order_clocks.specs.Tells.{Tells, row_in, no_rows}
-use Rattle.sync_types.specs.declared.runs.EventId.{EventId}
+use Rattle.order_clocks.specs.Steps.{gives_of, keys_of, departure_of, goes_in, row_at, Shows, HasRoom, AreRows, AreSteps, deed_at}
+use Rattle.order_clocks.specs.Tells.{Tells, no_rows}
 use Rattle.order_clocks.specs.declared.clocks.StepRows.{StepRows}
 use Rattle.order_clocks.specs.declared.deed.Deed.{Deed}
 use Rattle.order_clocks.specs.declared.times.Times.{Times}
-use Rattle.order_clocks.proofs.BoundLaws.{IsBelow, seen_below}
+use Rattle.order_clocks.proofs.BoundLaws.{seen_below}
 use Rattle.order_clocks.proofs.GoRowLaws.{listed, unlisted}
 use Rattle.order_clocks.proofs.StepLaws.{past_gone}
 

@@ -1,11 +1,10 @@
 -- What an event minds, as a test and as a list.
-use Rattle.std.proofs.Common.{◌≡◌, ℕ, ◌⊎◌, ◌↔◌, ◌==◌, ◌&&◌, Bool, true, false, inl, inr, List, [], ◌∷◌, ◌++◌, map, Option, Some, None, refl, sym, ap, ◌∙◌, arith}
+use Rattle.std.proofs.Common.{◌≡◌, ℕ, ◌⊎◌, ◌↔◌, ◌==◌, Bool, true, false, inl, inr, List, [], ◌∷◌, ◌++◌, map, Option, Some, None, refl, sym, ap, ◌∙◌}
 use Rattle.order_clocks.specs.Chains.{IsIn}
 use Rattle.order_clocks.specs.Happenings.{Trace, Lowered, Needed, Took, Touched}
-use Rattle.std.proofs.lemmas.Bool.{cases_Bool, eqb-true, eq-eqb, and_parts, and_from, true≢false, false≢true}
+use Rattle.std.proofs.lemmas.Bool.{eqb-true, eq-eqb, and_parts, and_from, false≢true}
 use Rattle.axis_sets.specs.Sets.{has, members_of, IsEmpty}
 use Rattle.axis_sets.proofs.SetLaws.{list_any-members_of}
-use Rattle.sync_types.specs.Boards.{among}
 use Rattle.order_clocks.specs.Places.{hold_minds, act_minds, lowers_in, lowers_at, minds_in, minds_at}
 use Rattle.order_clocks.specs.Pairs.{waits_in, waits_of, asks_in, minded_by}
 use Rattle.order_clocks.specs.declared.deed.Hold.{Hold}

@@ -1,15 +1,13 @@
 -- The least of several sets of races.
-use Rattle.std.proofs.Common.{◌≡◌, ℕ, ◌+◌, ◌<◌, ◌≤◌, ◌⊎◌, ◌↔◌, ◌==◌, ◌&&◌, Bool, true, false, inl, inr, List, Option, Some, None, IsTrue, MatchOption, slice_index_or, refl, sym, ap, ◌∙◌, arith}
+use Rattle.std.proofs.Common.{◌≡◌, ℕ, ◌+◌, ◌⊎◌, ◌↔◌, Bool, true, inl, inr, List, Option, Some, None, IsTrue, MatchOption, slice_index_or, refl, sym, ap, ◌∙◌, arith}
 use Rattle.order_clocks.specs.Happenings.{Trace, Lowered, Needed, Took, Touched}
-use Rattle.std.proofs.lemmas.Bool.{cases_Bool, cases_lt, eqb-true, eq-eqb, and_parts, and_from, true≢false}
+use Rattle.std.proofs.lemmas.Bool.{cases_lt}
 use Rattle.axis_sets.specs.Sets.{has}
-use Rattle.order_clocks.specs.Rows.{count_of}
 use Rattle.order_clocks.specs.Least.{IsLeastOf}
 use Rattle.order_clocks.specs.RaceOrder.{IsUpTo, numbers_of}
-use Rattle.order_clocks.specs.Pairs.{IsLeastWith, waits_in, left_by, minded_by, IsUnordered, IsMet, IsPairRace, IsRaceOver, IsRaceBetween}
+use Rattle.order_clocks.specs.Pairs.{IsLeastWith, IsUnordered, IsMet, IsPairRace, IsRaceOver, IsRaceBetween}
 use Rattle.order_clocks.specs.Races.{shown}
 use Rattle.sync_types.specs.declared.runs.Race.{Race}
-use Rattle.order_clocks.specs.declared.pairs.NamedMarks.{NamedMarks}
 use Rattle.order_clocks.specs.declared.pairs.Event.{Event}
 use Rattle.order_clocks.proofs.LeastLaws.{up_to_itself, up_to_on}
 

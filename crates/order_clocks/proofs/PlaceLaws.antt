@@ -1,27 +1,26 @@
 -- What the arrays of last places show.
-use Rattle.std.proofs.Common.{◌≡◌, ℕ, zero, suc, ◌+◌, ◌<◌, ◌≤◌, ◌⊎◌, ◌↔◌, ◌==◌, ◌&&◌, max, Bool, true, false, inl, inr, List, [], ◌∷◌, ◌++◌, map, filter, length, Option, Some, None, slice_index_or, refl, sym, ap, ◌∙◌, arith, if◌then◌else◌}
+use Rattle.std.proofs.Common.{◌≡◌, ℕ, suc, ◌<◌, ◌⊎◌, ◌==◌, ◌&&◌, max, Bool, true, false, inl, inr, List, [], ◌∷◌, ◌++◌, map, Option, Some, None, slice_index_or, refl, sym, ap, ◌∙◌, arith, if◌then◌else◌}
 use Rattle.order_clocks.specs.Chains.{IsIn}
-use Rattle.order_clocks.specs.Happenings.{Trace, Lowered, Needed, Took, Touched}
-use Rattle.std.proofs.lemmas.Bool.{cases_Bool, cases_lt, eqb-true, eq-eqb, and_parts, and_from, true≢false}
-use Rattle.axis_sets.specs.Sets.{has, members_of}
+use Rattle.order_clocks.specs.Happenings.{Trace, Lowered, Took}
+use Rattle.std.proofs.lemmas.Bool.{cases_Bool, eqb-true, eq-eqb, and_parts, true≢false}
+use Rattle.axis_sets.specs.Sets.{members_of}
 use Rattle.sync_types.specs.declared.runs.EventId.{EventId}
 use Rattle.sync_types.specs.Boards.{among}
 use Rattle.order_clocks.specs.Courses.{Course, IsEventIn}
 use Rattle.order_clocks.specs.Counters.{top, row}
-use Rattle.order_clocks.specs.Tracks.{Tracks, AreApartIn, act_name, go_name, after_act, after_goes, last_place}
+use Rattle.order_clocks.specs.Tracks.{Tracks, act_name, go_name, after_act, last_place}
 use Rattle.order_clocks.specs.Rows.{count_of}
 use Rattle.order_clocks.specs.Steps.{departure_of, goes_in, is_given, IsStep, AreRows}
 use Rattle.order_clocks.specs.Places.{act_leaves, leaves_of, hold_minds, act_minds, go_minds, IsTracked, spot_at, AreLast, IsMissed, IsRacyAt}
 use Rattle.order_clocks.specs.declared.deed.Hold.{Hold}
-use Rattle.order_clocks.specs.declared.deed.Hold.TheVariants.{Marks, Ends, Axes}
+use Rattle.order_clocks.specs.declared.deed.Hold.TheVariants.{Marks, Axes}
 use Rattle.order_clocks.specs.declared.deed.Departure.{Departure}
 use Rattle.order_clocks.specs.declared.deed.Deed.{Deed}
 use Rattle.order_clocks.specs.declared.places.Places.{Places}
 use Rattle.order_clocks.specs.declared.clocks.StepRows.{StepRows}
 use Rattle.order_clocks.proofs.CounterLaws.{top_above, top_attained}
-use Rattle.order_clocks.proofs.CountLaws.{IsUncounted, IsRacy, racy_steps}
+use Rattle.order_clocks.proofs.CountLaws.{IsUncounted, racy_steps}
 use Rattle.order_clocks.proofs.GatherLaws.{max_assoc}
-use Rattle.order_clocks.proofs.StepLaws.{most_is}
 
 pub hold_marks : (begins : Option Hold) (h : Hold) (m : ℕ) (named : List Bool) → begins ≡ Some h → h ≡ Marks m named → hold_minds begins ≡ map (λ d. Lowered d m) (members_of named)
 hold_marks begins h m named one two = rw (one, two) refl

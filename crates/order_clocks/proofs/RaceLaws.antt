@@ -1,11 +1,11 @@
 -- The last event of each channel that left a trace suffices.
-use Rattle.std.proofs.Common.{◌≡◌, ℕ, zero, suc, ◌+◌, ◌*◌, ◌<◌, ◌≤◌, ◌⊎◌, ◌↔◌, ◌==◌, ◌&&◌, Bool, true, false, inl, inr, refl, sym, ap, ◌∙◌, arith, if◌then◌else◌}
-use Rattle.order_clocks.specs.Happenings.{Key, Trace}
+use Rattle.std.proofs.Common.{◌≡◌, ℕ, zero, suc, ◌*◌, ◌<◌, ◌≤◌, ◌⊎◌, ◌↔◌, ◌==◌, ◌&&◌, Bool, true, false, inl, inr, refl, sym, ◌∙◌, arith}
+use Rattle.order_clocks.specs.Happenings.{Trace}
 use Rattle.order_clocks.specs.Before.{moment}
 use Rattle.std.proofs.lemmas.Bool.{cases_Bool, eqb-true, eq-eqb, and_parts, and_from, cases_lt, true≢false}
 use Rattle.sync_types.specs.declared.runs.EventId.{EventId}
 use Rattle.sync_types.specs.Boards.{among}
-use Rattle.order_clocks.specs.Courses.{Course, IsEventIn, AreOneIn, IsBeforeIn}
+use Rattle.order_clocks.specs.Courses.{Course, IsEventIn, IsBeforeIn}
 use Rattle.order_clocks.specs.Counters.{row}
 use Rattle.order_clocks.specs.Tracks.{Tracks, AreApartIn, act_name, go_name, after_act, after_goes, last_place}
 use Rattle.order_clocks.proofs.CounterLaws.{order_grows, before_from, before_to}

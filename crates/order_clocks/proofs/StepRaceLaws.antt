@@ -1,18 +1,13 @@
 -- The races between two steps are those between their events.
-use Rattle.std.proofs.Common.{◌≡◌, ℕ, ◌+◌, ◌<◌, ◌≤◌, ◌⊎◌, ◌↔◌, ◌==◌, Bool, true, false, inl, inr, List, [], Option, Some, None, length, slice_index_or, refl, sym, ap, ◌∙◌, arith}
-use Rattle.order_clocks.specs.Chains.{IsIn}
-use Rattle.order_clocks.specs.Happenings.{Trace}
+use Rattle.std.proofs.Common.{◌≡◌, ℕ, ◌<◌, ◌↔◌, Bool, true, false, inl, inr, List, [], Option, Some, None, length, slice_index_or, refl, sym, ap, ◌∙◌, arith}
 use Rattle.std.proofs.lemmas.Bool.{cases_lt, cases_eq, true≢false}
-use Rattle.std.proofs.Math.ListN.{get_or-eq_default}
 use Rattle.sync_types.specs.declared.runs.EventId.{EventId}
 use Rattle.sync_types.specs.Boards.{among}
 use Rattle.order_clocks.specs.Courses.{Course, IsEventIn}
-use Rattle.order_clocks.specs.Counters.{row}
-use Rattle.order_clocks.specs.Tracks.{Tracks, AreApartIn, act_name, go_name}
+use Rattle.order_clocks.specs.Tracks.{Tracks, act_name, go_name}
 use Rattle.order_clocks.specs.Rows.{count_of}
-use Rattle.order_clocks.specs.Steps.{goes_in, departure_of, is_given, IsStep, AreRows}
-use Rattle.order_clocks.specs.Places.{IsTracked, act_leaves, act_minds, leaves_of, go_minds}
-use Rattle.order_clocks.specs.Pairs.{left_by, minded_by, IsPairRace, IsRaceOver, IsRaceBetween, IsEventOf, IsApartRace, IsActEvent, IsGoEvent, IsGoAt, IsActAt, AreEvents, IsKnownStep, IsStepRace, IsEarlierRace, AreKnownSteps, IsLeastWith, IsRaceBefore}
+use Rattle.order_clocks.specs.Steps.{goes_in}
+use Rattle.order_clocks.specs.Pairs.{left_by, IsRaceBetween, IsEventOf, IsActEvent, IsGoEvent, IsGoAt, IsActAt, AreEvents, IsKnownStep, IsStepRace, IsEarlierRace, AreKnownSteps, IsLeastWith, IsRaceBefore}
 use Rattle.sync_types.specs.declared.runs.Race.{Race}
 use Rattle.order_clocks.specs.declared.clocks.StepRows.{StepRows}
 use Rattle.order_clocks.specs.declared.deed.Deed.{Deed}

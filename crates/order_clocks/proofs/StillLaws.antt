@@ -1,5 +1,5 @@
 -- The least of the races with channels that still hold.
-use Rattle.std.proofs.Common.{◌≡◌, ℕ, ◌+◌, ◌<◌, ◌≤◌, ◌⊎◌, ◌↔◌, ◌==◌, Bool, true, false, inl, inr, List, Option, Some, None, IsTrue, slice_index_or, refl, sym, ap, ◌∙◌, arith}
+use Rattle.std.proofs.Common.{◌≡◌, ℕ, ◌+◌, ◌<◌, ◌↔◌, ◌==◌, Bool, true, false, inl, inr, List, Option, Some, None, IsTrue, slice_index_or, sym, ◌∙◌, arith}
 use Rattle.std.proofs.lemmas.Bool.{cases_lt, true≢false, eq-eqb}
 use Rattle.order_clocks.specs.Pairs.{IsLeastWith, IsHeldRace, IsStillRace, AsksStill, waits_still}
 use Rattle.sync_types.specs.declared.runs.Race.{Race}

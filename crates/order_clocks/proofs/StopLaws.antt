@@ -1,20 +1,17 @@
 -- Which channels have acted and have alarmed at the end of a run.
-use Rattle.std.proofs.Common.{◌≡◌, ℕ, zero, suc, add-one, ◌-◌, ◌+◌, ◌<◌, ◌≤◌, ◌⊎◌, ◌==◌, ◌&&◌, ◌||◌, not, Bool, true, false, cond, inl, inr, length, List, [], ◌∷◌, map, filter, Option, Some, None, refl, sym, ap, ◌∙◌, arith, if◌then◌else◌}
-use Rattle.std.specs.Prelude.{is_some, slice_index_or, slice_set}
-use Rattle.std.specs.List.{list_any, list_all, range_with_len}
-use Rattle.std.proofs.lemmas.Bool.{cases_Bool, cases_lt, eqb-true, eqb-false, eq-eqb, and_parts}
+use Rattle.std.proofs.Common.{◌≡◌, ℕ, zero, suc, add-one, ◌-◌, ◌+◌, ◌<◌, ◌==◌, ◌||◌, not, Bool, true, false, cond, inl, inr, length, List, [], ◌∷◌, map, filter, refl, sym, ap, ◌∙◌, arith}
+use Rattle.std.specs.Prelude.{slice_index_or, slice_set}
+use Rattle.std.specs.List.{range_with_len}
+use Rattle.std.proofs.lemmas.Bool.{cases_Bool, cases_lt, eqb-true, eqb-false, eq-eqb}
 use Rattle.std.proofs.lemmas.List.{get_or-set_same, get_or-set_other}
-use Rattle.order_clocks.specs.Stops.{AreLastPlaces, is_alarmed, is_idle_end, is_alarm_end, alarms_in, channel_at, channels_of, alarm_at}
-use Rattle.order_clocks.specs.Watching.{wait_in}
+use Rattle.order_clocks.specs.Stops.{AreLastPlaces, is_alarmed, alarms_in, channel_at, channels_of, alarm_at}
 use Rattle.order_clocks.proofs.AlarmLaws.{other_stays, other_unalarmed, actor_alarms, actor_unalarmed, actor_awake, other_awake, other_fresh, idle_stays}
-use Rattle.sync_types.proofs.BoardTests.{no_truth, passes, not_not}
-use Rattle.sync_types.specs.BoardAlarms.{alarm_of}
-use Rattle.sync_types.specs.BoardEnds.{end_of, with_end, ends_among}
-use Rattle.sync_types.specs.Boards.{State, IsIdle, IsRunning, IsHolding, HasEnded, HasAlarmed, Board, among, channel_numbers, is_idle, is_running}
+use Rattle.sync_types.proofs.BoardTests.{no_truth}
+use Rattle.sync_types.specs.BoardEnds.{ends_among}
+use Rattle.sync_types.specs.Boards.{State, IsIdle, IsRunning, IsHolding, HasEnded, HasAlarmed, Board, among, is_idle, is_running}
 use Rattle.sync_types.specs.Starts.{has_channel}
 use Rattle.sync_types.specs.Turns.{Move, after_step, after_moves, AreOfRunning}
 use Rattle.sync_types.specs.Views.{EntryView}
-use Rattle.sync_types.specs.declared.ChannelEnd.{ChannelEnd}
 
 not_runs : (s : State) → is_alarmed s ≡ true → is_running s ≡ false
 not_runs (HasAlarmed code line) on = refl
@@ -113,7 +110,7 @@ ends_are b (c ∷ cs) are over = by_state (b.state c) refl (over c (here (c == c
     later false q on = on
 
     by_state : (s : State) → b.state c ≡ s → is_running (b.state c) ≡ false → alarms_in (ends_among b cs) ≡ map (λ d. is_alarmed (b.state d)) (filter (λ d. not (is_idle (b.state d))) cs)
-      → alarms_in (ends_among b (c ∷ cs)) ≡ map (λ d. is_alarmed (b.state d)) (filter (λ d. not (is_idle (b.state d))) (c ∷ cs))
+        → alarms_in (ends_among b (c ∷ cs)) ≡ map (λ d. is_alarmed (b.state d)) (filter (λ d. not (is_idle (b.state d))) (c ∷ cs))
     by_state IsIdle e off rest = elim (cases_Bool (has_channel b.start c)) [
       | inl on ↦ rw (on, e) rest
       | inr out ↦ rw (out, e) rest
@@ -127,28 +124,28 @@ ends_are b (c ∷ cs) are over = by_state (b.state c) refl (over c (here (c == c
 pub last_more : (chs : List ℕ) (i : ℕ) (places : List ℕ) → length places ≡ 9 → channel_at chs i < 9 → AreLastPlaces chs i places → AreLastPlaces chs (i + 1) (slice_set places (channel_at chs i) (i + 1))
 last_more chs i places size below are = record {
   none = λ d absent.
-    other d (λ e. absent i (omega arith) (sym e)) ∙ are.none d (λ j low. absent j (omega arith));
+      other d (λ e. absent i (omega arith) (sym e)) ∙ are.none d (λ j low. absent j (omega arith));
   newest = λ j low none. elim (cases_lt j i) [
     | inl earlier ↦ other (channel_at chs j) (λ e. none i earlier (omega arith) (sym e)) ∙ are.newest j earlier (λ k after before. none k after (omega arith))
     | inr late ↦ let e : j ≡ i = omega arith in rw e here
-    ];
+  ];
   later = λ j k after before same is. elim (cases_lt k i) [
     | inl earlier ↦ elim (cases_Bool (channel_at chs j == channel_at chs i)) [
       | inl on ↦ let now : i + 1 ≡ j + 1 = sym here ∙ (ap (λ (d : ℕ). slice_index_or (slice_set places (channel_at chs i) (i + 1)) d 0) (sym (eqb-true _ _ on)) ∙ is) in absurd (omega arith)
       | inr off ↦ are.later j k after earlier same (sym (other (channel_at chs j) (eqb-false _ _ off)) ∙ is)
-      ]
+    ]
     | inr late ↦
         let e : k ≡ i = omega arith in
         let now : i + 1 ≡ j + 1 = sym here ∙ (ap (λ (d : ℕ). slice_index_or (slice_set places (channel_at chs i) (i + 1)) d 0) (rw e at same) ∙ is) in
         absurd (omega arith)
-    ];
+  ];
   some = λ j low is. elim (cases_Bool (channel_at chs j == channel_at chs i)) [
     | inl on ↦ let now : i + 1 ≡ 0 = sym here ∙ (ap (λ (d : ℕ). slice_index_or (slice_set places (channel_at chs i) (i + 1)) d 0) (sym (eqb-true _ _ on)) ∙ is) in absurd (omega arith)
     | inr off ↦ elim (cases_lt j i) [
       | inl earlier ↦ are.some j earlier (sym (other (channel_at chs j) (eqb-false _ _ off)) ∙ is)
       | inr late ↦ let e : j ≡ i = omega arith in absurd (eqb-false _ _ off (ap (channel_at chs) e))
-      ]
-    ];
+    ]
+  ];
 }
   where
     here : slice_index_or (slice_set places (channel_at chs i) (i + 1)) (channel_at chs i) 0 ≡ i + 1

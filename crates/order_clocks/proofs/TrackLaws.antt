@@ -1,14 +1,12 @@
 -- The traces of the deeds themselves.
-use Rattle.std.proofs.Common.{◌≡◌, ℕ, ◌<◌, ◌↔◌, ◌==◌, ◌&&◌, Bool, true, false, inl, inr, List, [], Option, Some, None, length, refl, sym, ap, ◌∙◌, if◌then◌else◌}
+use Rattle.std.proofs.Common.{◌≡◌, ℕ, ◌↔◌, ◌==◌, ◌&&◌, Bool, true, false, inl, inr, List, [], Option, Some, None, refl, ap, ◌∙◌, if◌then◌else◌}
 use Rattle.order_clocks.specs.Chains.{IsIn}
 use Rattle.order_clocks.specs.Happenings.{Trace, Lowered, Needed, Took, Touched}
 use Rattle.std.proofs.lemmas.Bool.{eqb-true, eq-eqb, and_parts, and_from, false≢true}
 use Rattle.axis_sets.specs.Sets.{has}
-use Rattle.sync_types.specs.declared.runs.EventId.{EventId}
-use Rattle.order_clocks.specs.Courses.{Course}
-use Rattle.order_clocks.specs.Tracks.{Tracks, act_name, go_name}
-use Rattle.order_clocks.specs.Steps.{deed_at, departure_of, goes_in}
-use Rattle.order_clocks.specs.Places.{act_leaves, leaves_of, act_minds, go_minds, minds_at, minds_in, lowers_at, lowers_in, line_of, IsTracked}
+use Rattle.order_clocks.specs.Tracks.{Tracks}
+use Rattle.order_clocks.specs.Steps.{deed_at, departure_of}
+use Rattle.order_clocks.specs.Places.{act_leaves, leaves_of, go_minds, minds_at, minds_in, lowers_at, lowers_in, line_of, IsTracked}
 use Rattle.order_clocks.specs.Pairs.{waits_of, asks_in, minded_by}
 use Rattle.order_clocks.specs.declared.deed.Hold.{Hold}
 use Rattle.order_clocks.specs.declared.deed.Hold.TheVariants.{Marks, Ends, Axes}

@@ -1,24 +1,21 @@
 -- A whole run: its entries are what happens on the board, and its ends say which of its steps alarm.
 use Rattle.std.proofs.Common.{◌≡◌, ℕ, zero, suc, ◌+◌, ◌<◌, ◌≤◌, ◌⊎◌, ◌↔◌, ◌==◌, ◌&&◌, ◌||◌, not, Bool, true, false, cond, inl, inr, length, List, [], ◌∷◌, map, filter, Option, Some, None, refl, sym, ap, ◌∙◌, arith, if◌then◌else◌}
-use Rattle.std.specs.Prelude.{is_some, slice_index_or, slice_index}
-use Rattle.std.specs.List.{list_any, range_with_len}
+use Rattle.std.specs.Prelude.{is_some, slice_index_or}
+use Rattle.std.specs.List.{range_with_len}
 use Rattle.std.proofs.lemmas.Bool.{cases_Bool, cases_lt, eqb-true, eqb-false, eq-eqb}
-use Rattle.std.proofs.lemmas.List.{length-map}
 use Rattle.axis_sets.specs.Sets.{has, members_of}
 use Rattle.order_clocks.specs.Chains.{IsIn}
 use Rattle.order_clocks.specs.Clocked.{moves_in}
 use Rattle.order_clocks.specs.CourseOf.{course_of}
-use Rattle.order_clocks.specs.Courses.{Course}
-use Rattle.order_clocks.specs.Happenings.{Key, Raised, Freed, Started, Ended, Happening, board_at, happening_at, happening_of, gives, going_of, rests_in, rests_on}
-use Rattle.order_clocks.specs.Steps.{IsStep, departure_of, gives_of, goes_in, is_given, keys_of, rests_at}
+use Rattle.order_clocks.specs.Happenings.{Key, Raised, Freed, Started, Ended, board_at, happening_at, happening_of, gives, going_of, rests_in, rests_on}
+use Rattle.order_clocks.specs.Steps.{IsStep, departure_of, gives_of, is_given, keys_of, rests_at}
 use Rattle.order_clocks.specs.Stops.{AreLastPlaces, IsWhole, TellsAlarms, alarm_at, alarms_in, are_acted, channel_at, channels_of, is_alarm_in, is_alarmed}
-use Rattle.order_clocks.specs.Watching.{IsGoing, IsGoingOf, IsRead, wait_in, wait_shown}
+use Rattle.order_clocks.specs.Watching.{IsGoingOf, IsRead, wait_in, wait_shown}
 use Rattle.order_clocks.specs.declared.deed.Deed.{Deed}
 use Rattle.order_clocks.specs.declared.deed.Departure.{Departure}
 use Rattle.order_clocks.specs.declared.deed.Hold as code
 use Rattle.order_clocks.specs.declared.deed.Hold.TheVariants.{Marks, Ends, Axes}
 use Rattle.order_clocks.specs.declared.deed.HoldAtLine.{HoldAtLine}
-use Rattle.order_clocks.specs.declared.stops.Stops.{Stops}
 use Rattle.order_clocks.proofs.EventLaws.{in_members, members_in, in_map, map_in}
 use Rattle.order_clocks.proofs.CounterLaws.{is_in, contains_from}
 use Rattle.order_clocks.proofs.StopLaws.{alarm_ends, no_alarm_ends, acted_awake, fresh_stays, awake_channels, ends_are}
@@ -26,7 +23,6 @@ use Rattle.order_clocks.proofs.TellLaws.{going_some, going_within}
 use Rattle.sync_types.proofs.BoardTests.{no_truth, some_pass, not_found}
 use Rattle.sync_types.specs.BoardAlarms.{alarm_of}
 use Rattle.sync_types.specs.Boards.{Hold, AtMarks, AtEnds, AtAxes, State, IsIdle, IsRunning, IsHolding, Board, first_board, first_state, board_at_rest, start_grant, among, channel_numbers, is_idle, is_running}
-use Rattle.sync_types.specs.Events.{channels_in}
 use Rattle.sync_types.specs.GoingOn.{Going}
 use Rattle.sync_types.specs.Turns.{Move, after_step, after_entries, after_moves, entry_of, AreEntries, AreOfRunning}
 use Rattle.sync_types.specs.Runs.{ComesFrom}
@@ -93,8 +89,8 @@ decide chs c (suc n) = elim (decide chs c n) [
     | inr other ↦ inr (λ i low is. elim (cases_lt i n) [
       | inl earlier ↦ none i earlier is
       | inr late ↦ let e : i ≡ n = omega arith in eqb-false _ _ other (rw e at is)
-      ])
-    ]
+    ])
+  ]
 ]
 
 filter_alike : (p q : ℕ → Bool) (xs : List ℕ) → ((x : ℕ) → among xs x ≡ true → p x ≡ q x) → filter p xs ≡ filter q xs
@@ -271,7 +267,7 @@ whole_of start run comes = record {
   awake = λ c off. elim (cases_Bool (has_channel start c)) [
     | inl on ↦ on
     | inr out ↦ no_truth true refl (rw (not_found (λ line. line.0 == c) start.channels out) at off)
-    ];
+  ];
   marks = λ c m. refl;
 }
   where

@@ -1,5 +1,5 @@
 -- Steps. The course and the tracks of a run.
-use Rattle.std.specs.Prelude.{ℕ, List, map}
+use Rattle.std.specs.Prelude.{List}
 use Rattle.order_clocks.specs.Courses.{Course}
 use Rattle.order_clocks.specs.Groups.{labels}
 use Rattle.order_clocks.specs.Happenings.{happening_at, gives, going_of, rests_on}

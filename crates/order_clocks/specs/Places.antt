@@ -1,11 +1,10 @@
 -- Steps. Traces of a step as the code has it, and arrays that show the last places.
-use Rattle.std.specs.Prelude.{◌≡◌, ℕ, suc, ◌<◌, ◌==◌, ◌&&◌, ◌↔◌, Bool, true, false, List, [], ◌∷◌, ◌++◌, map, Option, Some, None, slice_index_or}
+use Rattle.std.specs.Prelude.{◌≡◌, ℕ, ◌<◌, ◌==◌, ◌&&◌, ◌↔◌, Bool, true, false, List, [], ◌∷◌, ◌++◌, map, Option, Some, None, slice_index_or}
 use Rattle.order_clocks.specs.Chains.{IsIn}
 use Rattle.order_clocks.specs.Happenings.{Trace, Lowered, Needed, Took, Touched}
 use Rattle.axis_sets.specs.Sets.{has, members_of}
 use Rattle.sync_types.specs.declared.runs.EventId.{EventId}
 use Rattle.order_clocks.specs.Courses.{Course}
-use Rattle.order_clocks.specs.Counters.{top}
 use Rattle.order_clocks.specs.Tracks.{Tracks, AreApartIn, act_name, go_name, last_place}
 use Rattle.order_clocks.specs.Rows.{count_of}
 use Rattle.order_clocks.specs.Steps.{HoldOfMark, departure_of, goes_in}

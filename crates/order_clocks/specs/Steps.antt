@@ -2,7 +2,6 @@
 use Rattle.std.specs.Prelude.{◌≡◌, ℕ, ◌+◌, ◌<◌, ◌^◌, ◌↔◌, ◌==◌, ◌&&◌, Bool, true, false, List, [], ◌∷◌, map, Option, Some, None, slice_index, slice_index_or, length}
 use Rattle.order_clocks.specs.Happenings.{Key, Raised, Freed, Started, Ended}
 use Rattle.axis_sets.specs.Sets.{has, members_of}
-use Rattle.sync_types.specs.declared.runs.EventId.{EventId}
 use Rattle.sync_types.specs.Boards.{among}
 use Rattle.order_clocks.specs.Chains.{IsIn}
 use Rattle.order_clocks.specs.Courses.{Course}

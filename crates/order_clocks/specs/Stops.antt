@@ -1,6 +1,6 @@
 -- Steps. Which channels have acted and have alarmed, as the code finds it from the ends of a run.
-use Rattle.std.specs.Prelude.{◌≡◌, ℕ, zero, suc, ◌∷◌, is_some, ◌+◌, ◌<◌, ◌==◌, ◌&&◌, ◌||◌, not, Bool, true, false, List, [], map, filter, Option, Some, None, length, slice_index_or}
-use Rattle.sync_types.specs.Boards.{State, IsIdle, HasAlarmed, Board, is_idle, is_running}
+use Rattle.std.specs.Prelude.{◌≡◌, ℕ, zero, suc, ◌∷◌, is_some, ◌+◌, ◌<◌, ◌==◌, ◌&&◌, ◌||◌, not, Bool, true, false, List, [], map, filter, length, slice_index_or}
+use Rattle.sync_types.specs.Boards.{State, HasAlarmed, Board, is_idle, is_running}
 use Rattle.sync_types.specs.declared.ChannelEnd.{ChannelEnd}
 use Rattle.sync_types.specs.declared.ChannelEnd.TheVariants as end
 use Rattle.sync_types.specs.BoardAlarms.{alarm_of}

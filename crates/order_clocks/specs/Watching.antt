@@ -93,7 +93,7 @@ pub record IsRead (deed : Deed) (h : Happening) : Type 0 where
   pub begins : begun_shown deed.begins ≡ h.begins
   pub goings : (c : ℕ) → IsGoingOf (departure_of deed c) (going_of h.goings c)
   pub group : (c d : ℕ) → goes_in deed c ≡ true → goes_in deed d ≡ true
-    → (labels (pairs_of h.goings) d == labels (pairs_of h.goings) c) ≡ (slice_index deed.group d == slice_index deed.group c)
+      → (labels (pairs_of h.goings) d == labels (pairs_of h.goings) c) ≡ (slice_index deed.group d == slice_index deed.group c)
 
 -- the step is one of a running channel, these go on in it, and this is whether it alarms
 pub record IsLawful (b : Board) (c : ℕ) (step : Step) (goes : List Go) (alarms : Bool) : Type 0 where

@@ -15,9 +15,9 @@ use crate::deed::Deed;
 use crate::stops::stops_of;
 use crate::watch::Watch;
 use crate::{Row, Times};
+use axis_sets::ChannelId;
 use nc_faults::NoMemory;
 use std::alloc::Global;
-use axis_sets::ChannelId;
 use sync_types::{ChannelEnd, Entry, Go, Step};
 
 /// Who acts in an entry.
@@ -53,7 +53,11 @@ pub(crate) fn tell_entry(watch: &mut Watch, entry: &Entry, alarms: bool) -> Deed
 }
 
 /// The counters of the events of a whole run.
-pub(crate) fn rows_of(alloc: Global, entries: &[Entry], ends: &[ChannelEnd]) -> Result<Clocks, NoMemory>
+pub(crate) fn rows_of(
+    alloc: Global,
+    entries: &[Entry],
+    ends: &[ChannelEnd],
+) -> Result<Clocks, NoMemory>
     requires few { length entries.now < 2 ^ 32 }
     requires whole { (b : Board) × IsWhole b entries.now ends.now }
     ensures size { IfOk result (λ clocks. length clocks ≡ length entries.now) }

@@ -16,7 +16,10 @@ pub(crate) fn marks_of(gone: &Option<Departure>) -> Option<NamedMarks>
         Some(gone) => match &gone.held {
             None => None,
             Some(held) => match &held.hold {
-                Hold::Marks(mark, named) => Some(NamedMarks { number: *mark, named: *named }),
+                Hold::Marks(mark, named) => Some(NamedMarks {
+                    number: *mark,
+                    named: *named,
+                }),
                 Hold::Ends(_) => None,
                 Hold::Axes(_) => None,
             },

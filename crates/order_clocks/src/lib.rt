@@ -22,8 +22,8 @@ mod stops;
 mod times;
 mod watch;
 
-pub use clocks::{Clocks, clocks_of};
 pub(crate) use clocks::StepRows;
+pub use clocks::{Clocks, clocks_of};
 pub(crate) use deed::Deed;
 pub(crate) use pairs::{Event, NamedMarks};
 pub(crate) use places::Places;

@@ -76,7 +76,11 @@ pub(crate) fn take_end(ends: &[ChannelEnd], from: usize, acted: bool) -> (bool, 
         return (false, from);
     }
     let place = next_started(ends, from);
-    if place < ends.len() { (is_alarm(&ends[place]), place + 1) } else { (false, place) }
+    if place < ends.len() {
+        (is_alarm(&ends[place]), place + 1)
+    } else {
+        (false, place)
+    }
 }
 
 /// For each channel that has acted whether an alarm has stopped it.

@@ -1,11 +1,10 @@
-use Rattle.std.proofs.Common.{rules, List, [], ◌∷◌, ◌++◌, add-one, length-append, ◌≡◌, ℕ, suc, ◌+◌, ◌<◌, ◌^◌, None, length, map, refl, sym, ap, ◌∙◌, arith}
-use Rattle.std.specs.Prelude.{slice_index_or}
+use Rattle.std.proofs.Common.{List, [], ◌∷◌, ◌++◌, add-one, length-append, ◌≡◌, ℕ, ◌<◌, length, sym, ap, ◌∙◌, arith}
 use Rattle.order_clocks.specs.Clocked.{moves_in}
 use Rattle.order_clocks.specs.CourseOf.{course_of}
-use Rattle.order_clocks.specs.Happenings.{board_at, happening_at}
+use Rattle.order_clocks.specs.Happenings.{board_at}
 use Rattle.order_clocks.specs.Steps.{IsStep}
 use Rattle.order_clocks.specs.Stops.{IsWhole, channel_at, channels_of, is_alarm_in}
-use Rattle.order_clocks.specs.Watching.{IsLawful, IsRead, wait_shown}
+use Rattle.order_clocks.specs.Watching.{IsLawful, wait_shown}
 use Rattle.order_clocks.specs.declared.clocks.StepRows.{StepRows}
 use Rattle.order_clocks.proofs.CountingLaws.{shows_room, tells_more}
 use Rattle.order_clocks.proofs.StopLaws.{entry_channel}
@@ -45,17 +44,17 @@ loop-place-preserved c =
     let one : EntryView = c.index-entries-place-in-loop-place.result in
     let items : c.push.new.self.items ≡ c.loop-place.steps.items ++ c.step-rows.result ∷ [] = c.in_ok-push.ensures.items in
     let at : (b : Board) → IsWhole b es c.args.ends.now → EntryAt b (moves_in es) place one =
-      λ b whole. rw (sym c.index-entries-place-in-loop-place.is) at (entry_at es b place one within whole.entries) in
+    λ b whole. rw (sym c.index-entries-place-in-loop-place.is) at (entry_at es b place one within whole.entries) in
     let channel : channel_at (channels_of (moves_in es)) place ≡ c.index-entries-place.result.channel =
-      ap (λ (cs : List ℕ). channel_at cs place) (same_channels es) ∙ (entry_channel es place c.index-entries-place.result within ∙ ap (λ (e : EntryView). e.channel) (sym c.index-entries-place.is)) in
+    ap (λ (cs : List ℕ). channel_at cs place) (same_channels es) ∙ (entry_channel es place c.index-entries-place.result within ∙ ap (λ (e : EntryView). e.channel) (sym c.index-entries-place.is)) in
     let lawful : (b : Board) → IsWhole b es c.args.ends.now → IsLawful (board_at b (moves_in es) place) one.channel one.step one.goes c.is_at-alarms.result =
-      λ b whole. record {
-        running = (at b whole).running;
-        goings = ap (λ (e : EntryView). e.goes) (at b whole).entry;
-        alarm = c.is_at-alarms.ensures ∙ (ap (λ (d : ℕ). is_alarm_in c.stops_of-stops.result place d) (sym channel) ∙ ((i.alarms b whole).alarm place (rw (moves_size es) within) ∙ (at b whole).alarm));
-      } in
+    λ b whole. record {
+      running = (at b whole).running;
+      goings = ap (λ (e : EntryView). e.goes) (at b whole).entry;
+      alarm = c.is_at-alarms.ensures ∙ (ap (λ (d : ℕ). is_alarm_in c.stops_of-stops.result place d) (sym channel) ∙ ((i.alarms b whole).alarm place (rw (moves_size es) within) ∙ (at b whole).alarm));
+    } in
     let step : (b : Board) → IsWhole b es c.args.ends.now → IsStep (course_of b (moves_in es)) place c.tell_entry-deed.result =
-      λ b whole. read_step b (moves_in es) place c.tell_entry-deed.result (rw (at b whole).happening (c.tell_entry-deed.ensures.reads (board_at b (moves_in es) place) (i.keeps b whole) (lawful b whole))) in
+    λ b whole. read_step b (moves_in es) place c.tell_entry-deed.result (rw (at b whole).happening (c.tell_entry-deed.ensures.reads (board_at b (moves_in es) place) (i.keeps b whole) (lawful b whole))) in
     record {
       size = rw items (omega (arith, length-append c.loop-place.steps.items (c.step-rows.result ∷ [])));
       sound = c.tell_entry-deed.ensures.sound;

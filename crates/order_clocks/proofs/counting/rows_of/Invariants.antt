@@ -1,4 +1,4 @@
-use Rattle.std.proofs.Common.{◌≡◌, ℕ, ◌<◌, length}
+use Rattle.std.proofs.Common.{◌≡◌, length}
 use Rattle.order_clocks.specs.Clocked.{moves_in}
 use Rattle.order_clocks.specs.CourseOf.{course_of}
 use Rattle.order_clocks.specs.Counters.{last_rows}
@@ -17,5 +17,5 @@ invariant-loop-place l = record {
   alarms : (b : Board) → IsWhole b l.entries l.ends → TellsAlarms b (moves_in l.entries) l.stops;
   keeps : (b : Board) → IsWhole b l.entries l.ends → Keeps l.watch (board_at b (moves_in l.entries) l.place);
   shows : (b : Board) → IsWhole b l.entries l.ends → Shows l.times (last_rows (course_of b (moves_in l.entries)) l.place);
-  tells : (b : Board) → IsWhole b l.entries l.ends → Tells (course_of b (moves_in l.entries)) l.steps.items
+  tells : (b : Board) → IsWhole b l.entries l.ends → Tells (course_of b (moves_in l.entries)) l.steps.items;
 }

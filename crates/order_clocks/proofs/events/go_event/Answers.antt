@@ -1,4 +1,4 @@
-use Rattle.std.proofs.Common.{◌≡◌, ℕ, None, refl}
+use Rattle.std.proofs.Common.{None, refl}
 use Rattle.order_clocks.specs.declared.pairs.Event.{Event}
 use Rattle.order_clocks.proofs.EventLaws.{go_minded}
 use Rattle.order_clocks.proofs.events.go_event.Goals as goal

@@ -1,4 +1,3 @@
-use Rattle.std.proofs.Common.{ℕ}
 use Rattle.order_clocks.specs.Pairs.{IsLeastWith, IsRaceBefore}
 use Rattle.order_clocks.proofs.pairs.least_before.Given as goal
 

@@ -1,4 +1,3 @@
-use Rattle.std.proofs.Common.{ℕ}
 use Rattle.order_clocks.specs.Pairs.{IsLeastWith, IsRaceBetween}
 use Rattle.order_clocks.proofs.pairs.least_between.Given as goal
 

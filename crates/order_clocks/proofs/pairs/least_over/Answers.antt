@@ -1,8 +1,5 @@
-use Rattle.std.proofs.Common.{◌≡◌, ℕ, length, List, Option, Some, None, slice_index_or, sym, ◌∙◌, rules, arith}
+use Rattle.std.proofs.Common.{◌≡◌, length, None, slice_index_or, sym, ◌∙◌, rules, arith}
 use Rattle.std.proofs.lemmas.List.{get_or_default}
-use Rattle.order_clocks.specs.Pairs.{IsLeastWith, IsPairRace, IsRaceOver}
-use Rattle.sync_types.specs.declared.runs.Race.{Race}
-use Rattle.order_clocks.specs.declared.pairs.Event.{Event}
 use Rattle.order_clocks.proofs.PairLaws.{over_step, over_skip}
 use Rattle.order_clocks.proofs.pairs.least_over.Goals as goal
 use Rattle.order_clocks.proofs.pairs.least_over.Goals.{in-None, in-Some}

@@ -1,4 +1,3 @@
-use Rattle.std.proofs.Common.{ℕ}
 use Rattle.order_clocks.specs.Pairs.{IsLeastWith, IsRaceOver}
 use Rattle.order_clocks.proofs.pairs.least_over.Given as goal
 

@@ -1,5 +1,4 @@
-use Rattle.std.proofs.Common.{◌≡◌, ℕ, true, false, IsTrue, rules}
-use Rattle.order_clocks.specs.Pairs.{IsUnordered}
+use Rattle.std.proofs.Common.{◌≡◌, true, rules}
 use Rattle.order_clocks.proofs.PairLaws.{pair_least, took_met, touched_met}
 use Rattle.order_clocks.proofs.pairs.least_pair.Goals as goal
 

@@ -1,5 +1,4 @@
 use Rattle.std.proofs.Common.{◌≡◌, true}
-use Rattle.sync_types.specs.declared.runs.Race.{Race}
 use Rattle.order_clocks.proofs.PairLaws.{least_lesser}
 use Rattle.order_clocks.proofs.pairs.lesser_if.Goals as goal
 

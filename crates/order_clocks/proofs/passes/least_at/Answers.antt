@@ -1,4 +1,4 @@
-use Rattle.std.proofs.Common.{◌≡◌, true, false, sym, ◌∙◌}
+use Rattle.std.proofs.Common.{sym, ◌∙◌}
 use Rattle.std.proofs.lemmas.Bool.{true≢false}
 use Rattle.order_clocks.proofs.StepRaceLaws.{least_earlier, none_earlier}
 use Rattle.order_clocks.proofs.passes.least_at.Goals as goal

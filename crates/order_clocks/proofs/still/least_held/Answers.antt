@@ -1,4 +1,4 @@
-use Rattle.std.proofs.Common.{◌≡◌, ℕ, sym, ◌∙◌}
+use Rattle.std.proofs.Common.{sym, ◌∙◌}
 use Rattle.std.proofs.lemmas.Bool.{eqb-true}
 use Rattle.order_clocks.proofs.StillLaws.{held_none, held_least}
 use Rattle.order_clocks.proofs.still.least_held.Goals as goal

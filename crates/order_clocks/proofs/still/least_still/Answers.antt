@@ -1,6 +1,5 @@
-use Rattle.std.proofs.Common.{◌≡◌, ℕ, ◌<◌, length, None, slice_index_or, sym, ap, ◌∙◌, rules, arith}
+use Rattle.std.proofs.Common.{◌≡◌, ℕ, length, None, slice_index_or, sym, ap, ◌∙◌, rules, arith}
 use Rattle.std.proofs.lemmas.List.{get_or_default}
-use Rattle.order_clocks.specs.Pairs.{IsLeastWith, IsStillRace}
 use Rattle.order_clocks.proofs.StillLaws.{still_step, still_skip}
 use Rattle.order_clocks.proofs.still.least_still.Goals as goal
 use Rattle.order_clocks.proofs.still.least_still.Goals.{in-None, in-Some}

@@ -1,4 +1,3 @@
-use Rattle.std.proofs.Common.{ℕ}
 use Rattle.order_clocks.specs.Pairs.{IsLeastWith, IsStillRace}
 use Rattle.order_clocks.proofs.still.least_still.Given as goal
 

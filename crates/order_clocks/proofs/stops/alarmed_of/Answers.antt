@@ -1,11 +1,9 @@
-use Rattle.std.proofs.Common.{rules, ◌≡◌, ℕ, ◌+◌, ◌-◌, ◌<◌, ◌≤◌, ◌==◌, not, Bool, true, false, cond, inl, inr, List, ◌∷◌, map, filter, drop, length, slice_set, sym, ap, ◌∙◌, refl, arith}
+use Rattle.std.proofs.Common.{rules, ◌≡◌, ℕ, ◌+◌, ◌-◌, ◌<◌, true, false, inl, inr, List, ◌∷◌, map, filter, drop, ap, ◌∙◌, arith}
 use Rattle.std.specs.List.{range_with_len}
 use Rattle.std.proofs.lemmas.Bool.{cases_Bool, cases_lt}
 use Rattle.std.proofs.lemmas.List.{get_or-set_same, get_or-set_other}
-use Rattle.axis_sets.specs.Sets.{has}
 use Rattle.order_clocks.specs.Stops.{alarms_in, are_acted}
 use Rattle.order_clocks.proofs.StopLaws.{filter_on, filter_off}
-use Rattle.sync_types.specs.Boards.{channel_numbers}
 use Rattle.order_clocks.proofs.stops.alarmed_of.Goals as goal
 
 pub loop-c-preserved : goal.loop-c-preserved
@@ -25,7 +23,7 @@ loop-c-preserved c =
         | inr off ↦
             let before : alarms_in (drop c.loop-c.next c.args.ends.now) ≡ map f later = i.rest f all ∙ ap (map f) (filter_off (are_acted c.args.last.now) n below off) in
             rw (c.take_end-flag.ensures.passed off) before
-        ];
+      ];
       done = λ f all d from low acted. elim (cases_lt d n) [
         | inl earlier ↦ get_or-set_other c.loop-c.alarmed n d c.take_end-flag.result.0 false (λ e. omega arith) ∙ i.done f all d from earlier acted
         | inr late ↦
@@ -33,5 +31,5 @@ loop-c-preserved c =
             let on : are_acted c.args.last.now n ≡ true = rw e at acted in
             let before : alarms_in (drop c.loop-c.next c.args.ends.now) ≡ f n ∷ map f later = i.rest f all ∙ ap (map f) (filter_on (are_acted c.args.last.now) n below on) in
             rw e (get_or-set_same c.loop-c.alarmed n c.take_end-flag.result.0 false (rw i.size below) ∙ (c.take_end-flag.ensures.taken (f n) (map f later) on before).0)
-        ];
+      ];
     }

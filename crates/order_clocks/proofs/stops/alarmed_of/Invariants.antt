@@ -11,5 +11,5 @@ invariant-loop-c l = record {
   from : 1 ≤ l.c;
   within : l.next ≤ length l.ends;
   rest : (alarmed : ℕ → Bool) → alarms_in l.ends ≡ map alarmed (filter (are_acted l.last) channel_numbers) → alarms_in (drop l.next l.ends) ≡ map alarmed (filter (are_acted l.last) (range_with_len l.c (9 - l.c)));
-  done : (alarmed : ℕ → Bool) → alarms_in l.ends ≡ map alarmed (filter (are_acted l.last) channel_numbers) → (d : ℕ) → 1 ≤ d → d < l.c → are_acted l.last d ≡ true → has l.alarmed d ≡ alarmed d
+  done : (alarmed : ℕ → Bool) → alarms_in l.ends ≡ map alarmed (filter (are_acted l.last) channel_numbers) → (d : ℕ) → 1 ≤ d → d < l.c → are_acted l.last d ≡ true → has l.alarmed d ≡ alarmed d;
 }

@@ -1,4 +1,4 @@
-use Rattle.std.proofs.Common.{◌≡◌, ◌≤◌, drop, length}
+use Rattle.std.proofs.Common.{◌≡◌, drop}
 use Rattle.order_clocks.specs.Stops.{alarms_in}
 use Rattle.order_clocks.proofs.stops.next_started.Given as goal
 

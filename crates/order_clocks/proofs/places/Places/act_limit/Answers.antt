@@ -1,4 +1,4 @@
-use Rattle.std.proofs.Common.{◌≡◌, ℕ, max, List, [], map, refl, sym, ap, ◌∙◌, arith}
+use Rattle.std.proofs.Common.{ℕ, map, refl, sym, ap, ◌∙◌}
 use Rattle.order_clocks.specs.Happenings.{Needed, Touched}
 use Rattle.axis_sets.specs.Sets.{members_of}
 use Rattle.order_clocks.specs.Rows.{count_of}

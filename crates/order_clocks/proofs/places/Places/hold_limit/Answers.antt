@@ -1,8 +1,8 @@
-use Rattle.std.proofs.Common.{◌≡◌, ℕ, max, List, [], Some, refl, sym, ap, ◌∙◌, arith}
+use Rattle.std.proofs.Common.{ℕ, refl, sym, ap, ◌∙◌}
 use Rattle.order_clocks.specs.Happenings.{Lowered, Took}
 use Rattle.order_clocks.specs.Rows.{count_of}
 use Rattle.order_clocks.specs.Places.{spot_at}
-use Rattle.order_clocks.specs.declared.deed.Hold.TheVariants.{Marks, Axes}
+use Rattle.order_clocks.specs.declared.deed.Hold.TheVariants.{Marks}
 use Rattle.order_clocks.proofs.StepLaws.{most_is}
 use Rattle.order_clocks.proofs.PlaceLaws.{hold_marks, hold_axes, from_zero}
 use Rattle.order_clocks.proofs.places.Places.hold_limit.Goals as goal

@@ -1,6 +1,5 @@
-use Rattle.std.proofs.Common.{◌≡◌, ℕ, List, inl, inr, true, false, refl, sym, ap, ◌∙◌, arith}
+use Rattle.std.proofs.Common.{inl, inr, sym, ◌∙◌}
 use Rattle.std.proofs.lemmas.Bool.{true≢false}
-use Rattle.order_clocks.specs.Places.{IsMissed}
 use Rattle.order_clocks.proofs.PlaceLaws.{racy_from_act, racy_from_go, racy_back}
 use Rattle.order_clocks.proofs.places.Places.is_racy.Goals as goal
 

@@ -1,4 +1,4 @@
-use Rattle.std.proofs.Common.{◌≡◌, ℕ, max, List, [], refl, sym, ap, ◌∙◌, arith}
+use Rattle.std.proofs.Common.{ℕ, ap, ◌∙◌}
 use Rattle.order_clocks.specs.Rows.{count_of}
 use Rattle.order_clocks.proofs.PlaceLaws.{last_more}
 use Rattle.order_clocks.proofs.places.Places.note.Goals as goal
