@@ -7,7 +7,7 @@ use Rattle.std.proofs.lemmas.List.FromFn.{get_or-map-range_with_len}
 use Rattle.axis_sets.specs.Positions.{position_of}
 use Rattle.order_clocks.specs.Chains.{IsIn}
 use Rattle.order_clocks.specs.Watching.{wait_in, GoesFrom}
-use Rattle.order_clocks.proofs.EventLaws.{in_append}
+use Rattle.order_clocks.proofs.MemberLaws.{in_append}
 use Rattle.sync_types.proofs.BoardTests.{no_truth, among_kept, first_passes}
 use Rattle.sync_types.specs.Boards.{Hold, AtAxes, State, IsRunning, IsHolding, Board, among, channel_numbers, is_free, positions_where, grant_with, no_positions}
 use Rattle.sync_types.specs.Events.{channels_in}

@@ -8,7 +8,7 @@ use Rattle.axis_sets.specs.Sets.{has}
 use Rattle.axis_sets.proofs.SetLaws.{list_any-members_of}
 use Rattle.order_clocks.specs.Chains.{IsIn}
 use Rattle.order_clocks.specs.Happenings.{happening_of, going_of}
-use Rattle.order_clocks.specs.Places.{lowers_at}
+use Rattle.order_clocks.specs.Watching.{lowers_at}
 use Rattle.order_clocks.specs.Watching.{Keeps, GoesFrom, IsGone, IsGoingOf, WaitIsSound, begun_at, begun_shown, go_in, is_at_axes, wait_in, wait_shown}
 use Rattle.order_clocks.specs.declared.acts.Act.{Act}
 use Rattle.order_clocks.specs.declared.deed.Departure.{Departure}

@@ -16,7 +16,7 @@ use Rattle.order_clocks.specs.declared.deed.Departure.{Departure}
 use Rattle.order_clocks.specs.declared.deed.Hold as code
 use Rattle.order_clocks.specs.declared.deed.Hold.TheVariants.{Marks, Ends, Axes}
 use Rattle.order_clocks.specs.declared.deed.HoldAtLine.{HoldAtLine}
-use Rattle.order_clocks.proofs.EventLaws.{in_members, members_in, in_map, map_in}
+use Rattle.order_clocks.proofs.MemberLaws.{in_members, members_in, in_map, map_in}
 use Rattle.order_clocks.proofs.CounterLaws.{is_in, contains_from}
 use Rattle.order_clocks.proofs.StopLaws.{alarm_ends, no_alarm_ends, acted_awake, fresh_stays, awake_channels, ends_are}
 use Rattle.order_clocks.proofs.TellLaws.{going_some, going_within}

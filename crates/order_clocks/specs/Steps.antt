@@ -3,6 +3,7 @@ use Rattle.std.specs.Prelude.{◌≡◌, ℕ, ◌+◌, ◌<◌, ◌^◌, ◌↔�
 use Rattle.order_clocks.specs.Happenings.{Key, Raised, Freed, Started, Ended}
 use Rattle.axis_sets.specs.Sets.{has, members_of}
 use Rattle.sync_types.specs.Boards.{among}
+use Rattle.sync_types.specs.declared.runs.EventId.{EventId}
 use Rattle.order_clocks.specs.Chains.{IsIn}
 use Rattle.order_clocks.specs.Courses.{Course}
 use Rattle.order_clocks.specs.Counters.{LastRows, row}
@@ -14,7 +15,12 @@ use Rattle.order_clocks.specs.declared.deed.Departure.{Departure}
 use Rattle.order_clocks.specs.declared.deed.Deed.{Deed}
 use Rattle.order_clocks.specs.declared.times.Times.{Times}
 use Rattle.order_clocks.specs.declared.clocks.StepRows.{StepRows}
-use Rattle.order_clocks.specs.Tracks.{act_name, go_name}
+
+abbrev pub act_name : ℕ → ℕ → EventId
+act_name i c = record { step = i; channel = c; go = false }
+
+abbrev pub go_name : ℕ → ℕ → EventId
+go_name i c = record { step = i; channel = c; go = true }
 
 abbrev pub is_given : {A : Type 0} → Option A → Bool
 is_given (Some x) = true

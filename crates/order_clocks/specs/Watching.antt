@@ -150,3 +150,13 @@ WaitIsSound None = Unit {0}
 
 pub record WatchIsSound (w : Watch) : Type 0 where
   pub holds : (c : ℕ) → WaitIsSound (slice_index_or w.holds c None)
+
+-- the mark that the end of a wait lowers
+abbrev pub lowers_in : code.Hold → ℕ → Bool
+lowers_in (Marks n named) m = m == n
+lowers_in (Ends named) m = false
+lowers_in (Axes axes) m = false
+
+abbrev pub lowers_at : Option HoldAtLine → ℕ → Bool
+lowers_at (Some held) m = lowers_in held.hold m
+lowers_at None m = false

@@ -4,7 +4,7 @@ ghost use Rattle.std.specs.Prelude.{◌≡◌, [], List, Option, Some, ℕ, ◌<
 ghost use Rattle.axis_sets.specs.Positions.{position_of};
 ghost use Rattle.axis_sets.specs.Sets.{has};
 ghost use Rattle.order_clocks.specs.Happenings.{happening_of};
-ghost use Rattle.order_clocks.specs.Places.{BeginsAtMark, lowers_at};
+ghost use Rattle.order_clocks.specs.Watching.{lowers_at};
 ghost use Rattle.order_clocks.specs.Steps.{DepartsFromMark, HoldAtLineOfMark, departure_of, goes_in};
 ghost use Rattle.order_clocks.specs.Watching.{Keeps, IsRead, IsLawful, IsGone, WatchIsSound, begun_at, go_in, is_at_axes};
 ghost use Rattle.sync_types.specs.Boards.{Board};
