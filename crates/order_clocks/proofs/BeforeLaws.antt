@@ -1,38 +1,90 @@
--- What the lists of counters say of two events.
-use Rattle.std.proofs.Common.{◌≡◌, ℕ, ◌<◌, ◌≤◌, ◌↔◌, Bool, List, length, refl, sym, ap, ◌∙◌, arith}
-use Rattle.order_clocks.specs.Courses.{Course, IsEventIn, AreOneIn, IsBeforeIn}
+-- What the counters say of two events.
+use Rattle.std.proofs.Common.{◌≡◌, ℕ, ◌<◌, ◌≤◌, ◌==◌, not, ◌↔◌, Bool, true, false, inl, inr, List, length, refl, ap, ◌∙◌, arith, if◌then◌else◌}
+use Rattle.std.proofs.lemmas.Bool.{cases_Bool, and_parts, eqb-true, eq-eqb, ltb-false, le-ltb}
+use Rattle.order_clocks.specs.Before.{Before}
+use Rattle.order_clocks.specs.CourseOf.{course_of}
 use Rattle.order_clocks.specs.Counters.{row}
+use Rattle.order_clocks.specs.Courses.{AreOneIn}
 use Rattle.order_clocks.specs.Rows.{count_of}
-use Rattle.order_clocks.specs.Tells.{Tells, IsEventId, name_of, row_in}
-use Rattle.sync_types.specs.declared.runs.EventId.{EventId}
+use Rattle.order_clocks.specs.Tells.{Tells, row_in, is_same_event, is_before_in}
 use Rattle.order_clocks.specs.declared.clocks.StepRows.{StepRows}
 use Rattle.order_clocks.proofs.CounterLaws.{before_from, before_to, one_back, one_itself}
+use Rattle.order_clocks.proofs.OrderLaws.{event_in, event_within, one_from, order_in, order_from}
+use Rattle.sync_types.proofs.BoardTests.{no_truth}
+use Rattle.sync_types.specs.Boards.{Board}
+use Rattle.sync_types.specs.Events.{AreOne, IsLowestName}
+use Rattle.sync_types.specs.Turns.{Move}
+use Rattle.sync_types.specs.declared.runs.EventId.{EventId}
 
-same_id : (run : Course) (a b : EventId) → IsEventId run (name_of a) → IsEventId run (name_of b) → AreOneIn run (name_of a) (name_of b) → a ≡ b
-same_id run a b here there one =
-    let low = here.lowest (name_of b) one in
-    let high = there.lowest (name_of a) (one_back run (name_of a) (name_of b) one) in
-    let channel : a.channel ≡ b.channel = omega arith in
-    ap (λ (s : ℕ). let e : EventId = record { step = s; channel = a.channel; go = a.go } in e) one.step
-    ∙ (ap (λ (c : ℕ). let e : EventId = record { step = b.step; channel = c; go = a.go } in e) channel
-    ∙ ap (λ (g : Bool). let e : EventId = record { step = b.step; channel = b.channel; go = g } in e) one.go)
+same_go : (g h : Bool) → (if g then h else not h) ≡ true → g ≡ h
+same_go true true on = refl
+same_go true false on = no_truth false on refl
+same_go false true on = no_truth false on refl
+same_go false false on = refl
 
-pub before_law : (run : Course) (steps : List StepRows) (a b : EventId) → a.step < length steps → b.step < length steps → Tells run steps → IsEventId run (name_of a) → IsEventId run (name_of b)
-    → ((a ≡ b → ⊥) × (count_of (row_in steps a) a.channel ≤ count_of (row_in steps b) a.channel)) ↔ IsBeforeIn run (name_of a) (name_of b)
-before_law run steps a b in_a in_b tells here there = (to, back)
+go_same : (g : Bool) → (if g then g else not g) ≡ true
+go_same true = refl
+go_same false = refl
+
+is_same_from : (a b : EventId) → is_same_event a b ≡ true → a ≡ b
+is_same_from a b on =
+    let one = and_parts (a.step == b.step) _ on in
+    let two = and_parts (a.channel == b.channel) _ one.1 in
+    ap (λ (s : ℕ). let e : EventId = record { step = s; channel = a.channel; go = a.go } in e) (eqb-true a.step b.step one.0)
+    ∙ (ap (λ (c : ℕ). let e : EventId = record { step = b.step; channel = c; go = a.go } in e) (eqb-true a.channel b.channel two.0)
+    ∙ ap (λ (g : Bool). let e : EventId = record { step = b.step; channel = b.channel; go = g } in e) (same_go a.go b.go two.1))
+
+same_itself : (a : EventId) → is_same_event a a ≡ true
+same_itself a = rw (eq-eqb a.step a.step refl, eq-eqb a.channel a.channel refl) (go_same a.go)
+
+-- two names of one event, both the lowest
+same_name : (b : Board) (moves : List Move) (e f : EventId) → IsLowestName b moves e → IsLowestName b moves f → AreOne b moves e f → AreOne b moves f e → e ≡ f
+same_name b moves e f low_e low_f one back =
+    let low = low_e.lowest f one in
+    let high = low_f.lowest e back in
+    let channel : e.channel ≡ f.channel = omega arith in
+    ap (λ (s : ℕ). let d : EventId = record { step = s; channel = e.channel; go = e.go } in d) one.step
+    ∙ (ap (λ (c : ℕ). let d : EventId = record { step = f.step; channel = c; go = e.go } in d) channel
+    ∙ ap (λ (g : Bool). let d : EventId = record { step = f.step; channel = f.channel; go = g } in d) one.go)
+
+pub order_law : (b : Board) (moves : List Move) (steps : List StepRows) (e f : EventId) → length steps ≡ length moves → Tells (course_of b moves) steps → IsLowestName b moves e → IsLowestName b moves f
+    → (is_before_in steps e f ≡ true) ↔ Before b moves e f
+order_law b moves steps e f size tells low_e low_f = (to, back)
   where
-    left : count_of (row_in steps a) a.channel ≡ row run (name_of a) a.channel
-    left = tells.rows a here.event in_a a.channel here.channel
+    e_in : e.step < length moves
+    e_in = event_within b moves e low_e.event
 
-    right : count_of (row_in steps b) a.channel ≡ row run (name_of b) a.channel
-    right = tells.rows b there.event in_b a.channel here.channel
+    f_in : f.step < length moves
+    f_in = event_within b moves f low_f.event
 
-    to : ((a ≡ b → ⊥) × (count_of (row_in steps a) a.channel ≤ count_of (row_in steps b) a.channel)) → IsBeforeIn run (name_of a) (name_of b)
-    to h =
-        let le : row run (name_of a) a.channel ≤ row run (name_of b) a.channel = rw (left, right) at h.1 in
-        before_from run (name_of a) (name_of b) here.event there.event le (λ one. h.0 (same_id run a b here there one))
+    left : count_of (row_in steps e) e.channel ≡ row (course_of b moves) e e.channel
+    left = tells.rows e (event_in b moves e low_e.event) (rw size e_in) e.channel
 
-    back : IsBeforeIn run (name_of a) (name_of b) → ((a ≡ b → ⊥) × (count_of (row_in steps a) a.channel ≤ count_of (row_in steps b) a.channel))
+    right : count_of (row_in steps f) e.channel ≡ row (course_of b moves) f e.channel
+    right = tells.rows f (event_in b moves f low_f.event) (rw size f_in) e.channel
+
+    to : is_before_in steps e f ≡ true → Before b moves e f
+    to on =
+        let parts = and_parts (not (is_same_event e f)) _ on in
+        let le : count_of (row_in steps e) e.channel ≤ count_of (row_in steps f) e.channel = ltb-false (count_of (row_in steps f) e.channel) (count_of (row_in steps e) e.channel) (not_true _ parts.1) in
+        let rows : row (course_of b moves) e e.channel ≤ row (course_of b moves) f e.channel = rw (left, right) at le in
+        order_from b moves e f f_in (before_from (course_of b moves) e f (event_in b moves e low_e.event) (event_in b moves f low_f.event) rows
+        (λ one. no_truth (is_same_event e f)
+        (rw (same_name b moves e f low_e low_f (one_from b moves e f e_in one) (one_from b moves f e f_in (one_back (course_of b moves) e f one))) (same_itself f))
+        (not_true _ parts.0)))
+      where
+        not_true : (t : Bool) → not t ≡ true → t ≡ false
+        not_true true bad = no_truth false bad refl
+        not_true false on = refl
+
+    back : Before b moves e f → is_before_in steps e f ≡ true
     back path =
-        let r = before_to run (name_of a) (name_of b) a.channel path in
-        (λ e. r.1 (rw (sym e) (one_itself run (name_of a) here.event)), rw (left, right) r.0)
+        let r = before_to (course_of b moves) e f e.channel (order_in b moves e f path) in
+        let le : count_of (row_in steps e) e.channel ≤ count_of (row_in steps f) e.channel = rw (left, right) r.0 in
+        rw (not_same r.1, le-ltb (count_of (row_in steps f) e.channel) (count_of (row_in steps e) e.channel) le) refl
+      where
+        not_same : (AreOneIn (course_of b moves) e f → ⊥) → is_same_event e f ≡ false
+        not_same apart = elim (cases_Bool (is_same_event e f)) [
+          | inl on ↦ absurd (apart (rw (is_same_from e f on) (one_itself (course_of b moves) f (event_in b moves f low_f.event))))
+          | inr off ↦ off
+        ]

@@ -1,12 +1,10 @@
 -- A step adds at most two to a counter, so the counters of a run fit 64 bits.
-use Rattle.std.proofs.Common.{◌≡◌, ℕ, zero, suc, ◌+◌, ◌*◌, ◌<◌, ◌≤◌, ◌==◌, max, Bool, true, false, inl, inr, List, [], ◌∷◌, refl, arith, if◌then◌else◌}
+use Rattle.std.proofs.Common.{◌≡◌, ℕ, zero, suc, ◌*◌, ◌≤◌, ◌==◌, max, inl, inr, List, [], ◌∷◌, arith}
 use Rattle.order_clocks.specs.Happenings.{Key}
-use Rattle.order_clocks.specs.Before.{moment}
 use Rattle.std.proofs.lemmas.Bool.{cases_Bool, cases_lt}
-use Rattle.sync_types.specs.declared.runs.EventId.{EventId}
 use Rattle.sync_types.specs.Boards.{among}
 use Rattle.order_clocks.specs.Courses.{Course}
-use Rattle.order_clocks.specs.Counters.{top, LastRows, act_row, rows_after_act, own_row, members, go_row, rows_after_goings, last_rows, row}
+use Rattle.order_clocks.specs.Counters.{top, LastRows, act_row, rows_after_act, own_row, members, go_row, rows_after_goings, last_rows}
 
 max_below : (a b n : ℕ) → a ≤ n → b ≤ n → max a b ≤ n
 max_below a b n one two = elim (cases_lt a b) [ inl h ↦ omega arith | inr h ↦ omega arith ]

@@ -1,5 +1,5 @@
 -- Counters that grow from neighbour to neighbour, and that something accounts for, tell where chains lead.
-use Rattle.std.proofs.Common.{◌≡◌, ℕ, zero, suc, ◌+◌, ◌<◌, ◌≤◌, ◌⊎◌, inl, inr, List, [], ◌∷◌, ◌++◌, refl, arith}
+use Rattle.std.proofs.Common.{◌≡◌, ℕ, zero, suc, ◌<◌, ◌≤◌, ◌⊎◌, inl, inr, List, [], ◌∷◌, ◌++◌, arith}
 use Rattle.order_clocks.specs.Chains.{IsPath, Leads}
 
 -- What is known of counters: `AreOneIn` says that two names are of one event.

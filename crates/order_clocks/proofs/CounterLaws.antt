@@ -1,14 +1,13 @@
 -- The counters tell what is before what.
-use Rattle.std.proofs.Common.{◌≡◌, ℕ, zero, suc, ◌+◌, ◌*◌, ◌<◌, ◌≤◌, ◌⊎◌, ◌==◌, ◌&&◌, max, Bool, true, false, cond, inl, inr, List, [], ◌∷◌, ◌++◌, filter, refl, sym, ap, ◌∙◌, arith, if◌then◌else◌}
+use Rattle.std.proofs.Common.{◌≡◌, ℕ, zero, suc, ◌+◌, ◌*◌, ◌<◌, ◌≤◌, ◌⊎◌, ◌==◌, max, Bool, true, false, inl, inr, List, [], ◌∷◌, filter, refl, sym, ap, ◌∙◌, arith, if◌then◌else◌}
 use Rattle.order_clocks.specs.Happenings.{Key}
 use Rattle.order_clocks.specs.Before.{moment}
 use Rattle.std.proofs.Math.Nat.{le-max_left, le-max_right}
-use Rattle.std.proofs.lemmas.Bool.{cases_Bool, eqb-true, eq-eqb, or_cases, or_left, or_right, and_parts, true≢false, cases_eq, cases_order, cases_lt}
-use Rattle.std.specs.List.{list_any}
+use Rattle.std.proofs.lemmas.Bool.{cases_Bool, eqb-true, eq-eqb, or_cases, or_left, or_right, true≢false, cases_order, cases_lt}
 use Rattle.sync_types.specs.Boards.{among}
-use Rattle.order_clocks.specs.Chains.{Leads, IsIn}
+use Rattle.order_clocks.specs.Chains.{IsIn}
 use Rattle.sync_types.specs.declared.runs.EventId.{EventId}
-use Rattle.order_clocks.specs.Courses.{Course, IsThereIn, IsEventIn, AreJoinedIn, AreOneIn, IsLastGiftIn, RuleIn, InOrder, GivesKey, FollowsIn, IsBeforeIn}
+use Rattle.order_clocks.specs.Courses.{Course, IsEventIn, AreJoinedIn, AreOneIn, IsLastGiftIn, RuleIn, InOrder, GivesKey, FollowsIn, IsBeforeIn}
 use Rattle.order_clocks.specs.Counters.{top, LastRows, act_row, rows_after_act, own_row, members, go_row, rows_after_goings, last_rows, row}
 use Rattle.order_clocks.proofs.ChainLaws.{Counted, leads_from, leads_to}
 

@@ -1,22 +1,20 @@
 -- The counters of all steps.
-use Rattle.std.proofs.Common.{◌≡◌, ℕ, zero, suc, ◌+◌, ◌*◌, ◌^◌, ◌<◌, ◌≤◌, ◌⊎◌, ◌==◌, ◌&&◌, max, Bool, true, false, inl, inr, List, [], ◌∷◌, ◌++◌, filter, length, slice_index, slice_index_or, replicate, refl, sym, ap, ◌∙◌, length-append, arith, if◌then◌else◌}
+use Rattle.std.proofs.Common.{◌≡◌, ℕ, ◌+◌, ◌^◌, ◌<◌, Bool, true, false, inl, inr, List, [], ◌∷◌, ◌++◌, filter, length, slice_index, slice_index_or, replicate, refl, sym, ap, ◌∙◌, length-append, arith, if◌then◌else◌}
 use Rattle.order_clocks.specs.Happenings.{Key, Raised, Freed, Started, Ended}
-use Rattle.std.proofs.lemmas.Bool.{cases_Bool, cases_lt, cases_eq, true≢false}
+use Rattle.std.proofs.lemmas.Bool.{cases_lt}
 use Rattle.std.proofs.lemmas.List.{get_or-replicate, get_or_past, get_or_append_left, length-replicate}
 use Rattle.std.proofs.Math.Seq.{get_or-append_seam}
 use Rattle.std.specs.List.{range_with_len}
 use Rattle.sync_types.specs.Boards.{among}
 use Rattle.order_clocks.specs.Courses.{Course, IsEventIn}
-use Rattle.order_clocks.specs.Counters.{top, LastRows, last_rows, row}
+use Rattle.order_clocks.specs.Counters.{last_rows, row}
 use Rattle.order_clocks.specs.Rows.{count_of}
-use Rattle.order_clocks.specs.Tracks.{act_name, go_name}
-use Rattle.order_clocks.specs.Steps.{gives_of, keys_of, departure_of, goes_in, IsStep, row_at, Shows, HasRoom, AreRows, AreSteps, deed_at}
-use Rattle.order_clocks.specs.Tells.{Tells, name_of, row_in, no_rows}
-use Rattle.sync_types.specs.declared.runs.EventId.{EventId}
+use Rattle.order_clocks.specs.Steps.{gives_of, keys_of, departure_of, goes_in, row_at, Shows, HasRoom, AreRows, AreSteps, deed_at}
+use Rattle.order_clocks.specs.Tells.{Tells, no_rows}
 use Rattle.order_clocks.specs.declared.clocks.StepRows.{StepRows}
 use Rattle.order_clocks.specs.declared.deed.Deed.{Deed}
 use Rattle.order_clocks.specs.declared.times.Times.{Times}
-use Rattle.order_clocks.proofs.BoundLaws.{IsBelow, seen_below}
+use Rattle.order_clocks.proofs.BoundLaws.{seen_below}
 use Rattle.order_clocks.proofs.GoRowLaws.{listed, unlisted}
 use Rattle.order_clocks.proofs.StepLaws.{past_gone}
 
@@ -64,7 +62,7 @@ run_of_is deeds = record {
     actor = refl;
     gives = λ k. refl;
     goers = goers_are (deed_at deeds i);
-    asks = λ c here. refl;
+    asks = λ c here k. ((λ h. h), (λ h. h));
     group = λ c d here there. refl;
   };
 }
@@ -78,11 +76,11 @@ shows_room run i t few shows = record {
 -- one step more
 pub tells_more : (run : Course) (steps : List StepRows) (rows : StepRows) → Tells run steps → AreRows run (length steps) rows → Tells run (steps ++ rows ∷ [])
 tells_more run steps rows tells new = record {
-  rows = λ e event within c below.
+  rows = λ e event within c.
       elim (cases_lt e.step (length steps)) [
         | inl early ↦
             let same : slice_index_or (steps ++ rows ∷ []) e.step no_rows ≡ slice_index_or steps e.step no_rows = get_or_append_left steps (rows ∷ []) no_rows e.step early in
-            ap (λ (r : StepRows). count_of (if e.go then slice_index_or r.goes e.channel [] else r.act) c) same ∙ tells.rows e event early c below
+            ap (λ (r : StepRows). count_of (if e.go then slice_index_or r.goes e.channel [] else r.act) c) same ∙ tells.rows e event early c
         | inr late ↦
             let size = length_more steps rows in
             let here : e.step ≡ length steps = omega arith in

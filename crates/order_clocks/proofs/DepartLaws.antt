@@ -1,18 +1,17 @@
 -- Those that go on go from their waits, and what is left of waits and marks.
-use Rattle.std.proofs.Common.{◌≡◌, ℕ, zero, suc, ◌+◌, ◌<◌, ◌≤◌, ◌==◌, ◌&&◌, ◌||◌, not, Bool, true, false, cond, inl, inr, List, [], ◌∷◌, ◌++◌, map, filter, Option, Some, None, refl, sym, ap, ◌∙◌, arith, if◌then◌else◌}
+use Rattle.std.proofs.Common.{◌≡◌, ℕ, zero, suc, ◌<◌, ◌≤◌, ◌==◌, ◌&&◌, ◌||◌, not, Bool, true, false, inl, inr, List, [], ◌∷◌, ◌++◌, map, Option, Some, None, refl, sym, ap, ◌∙◌, arith, if◌then◌else◌}
 use Rattle.std.specs.Prelude.{is_some}
-use Rattle.std.specs.List.{list_any, range_with_len}
 use Rattle.std.proofs.lemmas.Bool.{cases_Bool, and_parts, or_cases, eqb-true, eq-eqb}
 use Rattle.std.proofs.Math.ListN.{get_or-eq_default}
 use Rattle.std.proofs.lemmas.List.FromFn.{get_or-map-range_with_len}
 use Rattle.axis_sets.specs.Positions.{position_of}
 use Rattle.order_clocks.specs.Chains.{IsIn}
 use Rattle.order_clocks.specs.Watching.{wait_in, GoesFrom}
-use Rattle.order_clocks.proofs.EventLaws.{in_append}
-use Rattle.sync_types.proofs.BoardTests.{no_truth, by_test, among_kept, first_passes}
-use Rattle.sync_types.specs.Boards.{Hold, AtMarks, AtEnds, AtAxes, State, IsIdle, IsRunning, IsHolding, HasEnded, HasAlarmed, Board, among, channel_numbers, axis_numbers, is_free, positions_where, grant_with, no_positions}
+use Rattle.order_clocks.proofs.MemberLaws.{in_append}
+use Rattle.sync_types.proofs.BoardTests.{no_truth, among_kept, first_passes}
+use Rattle.sync_types.specs.Boards.{Hold, AtAxes, State, IsRunning, IsHolding, Board, among, channel_numbers, is_free, positions_where, grant_with, no_positions}
 use Rattle.sync_types.specs.Events.{channels_in}
-use Rattle.sync_types.specs.GoingOn.{Going, goes_at_once, goers_at_once, lowers, marks_after_goes, state_after_goes, after_goes, waits_for_axes, axes_asked, can_take, next_taker, axes_to_take, free_position, grant_of_taker, with_its_axes, state_after_taking, after_taking, going_of_taker, takings, takings_from, all_takings, going_of_start, going_at_once, goings_on, after_goings}
+use Rattle.sync_types.specs.GoingOn.{Going, goes_at_once, goers_at_once, lowers, marks_after_goes, state_after_goes, after_goes, waits_for_axes, axes_asked, can_take, next_taker, axes_to_take, free_position, grant_of_taker, state_after_taking, after_taking, going_of_taker, takings, takings_from, all_takings, going_of_start, going_at_once, goings_on, after_goings}
 
 -- who waits for axes
 axes_lower_none : (s : State) (m : ℕ) → waits_for_axes s ≡ true → lowers s m ≡ false
@@ -34,7 +33,7 @@ axes_after_goes b c on = elim (cases_Bool (among (goers_at_once b) c)) [
 ]
 
 -- the takings
-taker_waits : (b : Board) (c : ℕ) → next_taker b ≡ Some c → waits_for_axes (b.state c) ≡ true
+pub taker_waits : (b : Board) (c : ℕ) → next_taker b ≡ Some c → waits_for_axes (b.state c) ≡ true
 taker_waits b c is = (and_parts (waits_for_axes (b.state c)) _ (first_passes (can_take b) channel_numbers c is)).0
 
 pub record TakesFrom (b : Board) (g : Going) : Type 0 where
@@ -92,8 +91,9 @@ takings_leave (suc n) b d = next (takings_leave n) (next_taker b)
     left true false s w e = e
     left false true s w e = e
     left false false s w e = e
+
     next : ((a : Board) (x : ℕ) → wait_in ((takings n a).board.state x) ≡ (if among (channels_in (takings n a).goings) x then None else wait_in (a.state x)))
-      → (taker : Option ℕ) → wait_in ((takings_from (takings n) b taker).board.state d) ≡ (if among (channels_in (takings_from (takings n) b taker).goings) d then None else wait_in (b.state d))
+        → (taker : Option ℕ) → wait_in ((takings_from (takings n) b taker).board.state d) ≡ (if among (channels_in (takings_from (takings n) b taker).goings) d then None else wait_in (b.state d))
     next rest None = refl
     next rest (Some c) = elim (cases_Bool (c == d)) [
       | inl same ↦
@@ -141,23 +141,23 @@ in_mapped f a (y ∷ ys) (inr later) = let w = in_mapped f a ys later in (w.0, (
 pub all_go_from : (b : Board) (starts : List ℕ) (g : Going) → ((s : ℕ) → among starts s ≡ true → wait_in (b.state s) ≡ None) → IsIn g (goings_on b starts) → GoesFrom b g
 all_go_from b starts g started within = elim ((in_append g (map (going_of_start b) starts) _).0 within) [
   | inl start ↦ let w = in_mapped (going_of_start b) g starts start in rw w.1.1 (record {
-      from = sym (started w.0 w.1.0);
-      positions = λ on. no_truth false on refl;
-      past = λ on. no_truth false on refl;
-      took = λ x on. no_truth false on refl;
-    })
+    from = sym (started w.0 w.1.0);
+    positions = λ on. no_truth false on refl;
+    past = λ on. no_truth false on refl;
+    took = λ x on. no_truth false on refl;
+  })
   | inr rest ↦ elim ((in_append g (map (going_at_once b) (goers_at_once b)) _).0 rest) [
     | inl once ↦ let w = in_mapped (going_at_once b) g (goers_at_once b) once in rw w.1.1 (record {
-        from = refl;
-        positions = λ on. no_truth (waits_for_axes (b.state w.0)) on (goes_not_waits (b.state w.0) (goer w.0 w.1.0));
-        past = λ on. no_truth (waits_for_axes (b.state w.0)) on (goes_not_waits (b.state w.0) (goer w.0 w.1.0));
-        took = λ x on. no_truth false on refl;
-      })
+      from = refl;
+      positions = λ on. no_truth (waits_for_axes (b.state w.0)) on (goes_not_waits (b.state w.0) (goer w.0 w.1.0));
+      past = λ on. no_truth (waits_for_axes (b.state w.0)) on (goes_not_waits (b.state w.0) (goer w.0 w.1.0));
+      took = λ x on. no_truth false on refl;
+    })
     | inr taker ↦
         let t = takings_take 8 (after_goes b) g taker in
         let back = axes_after_goes b g.channel (ap waits_for_axes (sym t.from) ∙ t.waits) in
         record { from = ap wait_in (t.from ∙ back.1); positions = λ on. t.positions; past = λ on. t.past; took = t.took }
-    ]
+  ]
 ]
   where
     goer : (c : ℕ) → among (goers_at_once b) c ≡ true → goes_at_once b (b.state c) ≡ true

@@ -1,5 +1,5 @@
 -- The numbers tell which channels are joined.
-use Rattle.std.proofs.Common.{◌≡◌, ℕ, ◌<◌, ◌⊎◌, ◌↔◌, ◌==◌, Bool, true, false, inl, inr, List, [], ◌∷◌, ◌++◌, refl, sym, ap, ◌∙◌, if◌then◌else◌}
+use Rattle.std.proofs.Common.{◌≡◌, ℕ, ◌<◌, ◌⊎◌, ◌==◌, true, false, inl, inr, List, [], ◌∷◌, ◌++◌, refl, sym, ap, ◌∙◌, if◌then◌else◌}
 use Rattle.std.proofs.lemmas.Bool.{cases_Bool, eqb-true, eq-eqb}
 use Rattle.order_clocks.specs.Chains.{IsPath, Leads}
 use Rattle.std.specs.Prelude.{slice_index}
@@ -159,19 +159,19 @@ pub relabel_links : (ps : List Pair) (old new : List ℕ) (a b : ℕ) → IsRela
 relabel_links ps old new a b is a_below b_below pair all c d c_below d_below e =
     let a_b = chained_pair ps a b pair in
     elim (cases_Bool (slice_index old c == slice_index old a)) [
-    | inl c_on ↦
-        let c_a = all c a c_below a_below (eqb-true _ _ c_on) in
-        elim (cases_Bool (slice_index old d == slice_index old a)) [
-        | inl d_on ↦ chained_on ps c a d c_a (chained_back ps d a (all d a d_below a_below (eqb-true _ _ d_on)))
-        | inr d_off ↦
-            let b_d = all b d b_below d_below (sym (taken old new a b c is c_below c_on) ∙ (e ∙ left old new a b d is d_below d_off)) in
-            chained_on ps c a d c_a (chained_on ps a b d a_b b_d)
-        ]
-    | inr c_off ↦ elim (cases_Bool (slice_index old d == slice_index old a)) [
+      | inl c_on ↦
+          let c_a = all c a c_below a_below (eqb-true _ _ c_on) in
+          elim (cases_Bool (slice_index old d == slice_index old a)) [
+            | inl d_on ↦ chained_on ps c a d c_a (chained_back ps d a (all d a d_below a_below (eqb-true _ _ d_on)))
+            | inr d_off ↦
+                let b_d = all b d b_below d_below (sym (taken old new a b c is c_below c_on) ∙ (e ∙ left old new a b d is d_below d_off)) in
+                chained_on ps c a d c_a (chained_on ps a b d a_b b_d)
+          ]
+      | inr c_off ↦ elim (cases_Bool (slice_index old d == slice_index old a)) [
         | inl d_on ↦
             let c_b = all c b c_below b_below (sym (left old new a b c is c_below c_off) ∙ (e ∙ taken old new a b d is d_below d_on)) in
             let a_d = chained_back ps d a (all d a d_below a_below (eqb-true _ _ d_on)) in
             chained_on ps c b d c_b (chained_on ps b a d (chained_back ps a b a_b) a_d)
         | inr d_off ↦ all c d c_below d_below (sym (left old new a b c is c_below c_off) ∙ (e ∙ left old new a b d is d_below d_off))
-        ]
+      ]
     ]

@@ -1,17 +1,16 @@
 -- The order of a run is that of its course.
-use Rattle.std.proofs.Common.{◌≡◌, ℕ, zero, suc, ◌+◌, ◌*◌, ◌<◌, ◌≤◌, ◌↔◌, ◌⊎◌, Bool, true, false, inl, inr, List, [], ◌∷◌, length, Option, Some, None, refl, sym, ap, ◌∙◌, arith, if◌then◌else◌}
+use Rattle.std.proofs.Common.{◌≡◌, ℕ, zero, suc, ◌+◌, ◌*◌, ◌<◌, ◌≤◌, Bool, true, false, List, [], ◌∷◌, length, Option, Some, None, refl, sym, ap, ◌∙◌, arith, if◌then◌else◌}
 use Rattle.std.proofs.lemmas.Bool.{false≢true}
 use Rattle.std.proofs.lemmas.Option.{none-some}
-use Rattle.order_clocks.specs.Before.{moment, IsLastGift, Rule, InChannel, Gives, Follows, Before}
-use Rattle.order_clocks.specs.Chains.{IsIn, IsPath, Leads}
+use Rattle.order_clocks.specs.Before.{Rule, InChannel, Gives, Follows, Before}
+use Rattle.order_clocks.specs.Chains.{IsPath}
 use Rattle.order_clocks.specs.CourseOf.{course_of}
-use Rattle.order_clocks.specs.Courses.{AreJoinedIn, IsThereIn, IsEventIn, AreOneIn, IsLastGiftIn, RuleIn, InOrder, GivesKey, FollowsIn, IsBeforeIn}
-use Rattle.order_clocks.specs.Happenings.{happening_at, happening_of}
+use Rattle.order_clocks.specs.Courses.{AreJoinedIn, IsThereIn, IsEventIn, AreOneIn, RuleIn, InOrder, GivesKey, FollowsIn, IsBeforeIn}
+use Rattle.order_clocks.specs.Happenings.{happening_at}
 use Rattle.order_clocks.proofs.CounterLaws.{rule_later}
 use Rattle.order_clocks.proofs.GroupLaws.{chained_from, chained_to}
 use Rattle.sync_types.specs.Boards.{Board, among}
 use Rattle.sync_types.specs.Events.{IsThere, IsEvent, AreJoined, AreOne, actor_at, goings_at, channels_in, pairs_of}
-use Rattle.sync_types.specs.GoingOn.{Going}
 use Rattle.sync_types.specs.Turns.{Move, after_step}
 use Rattle.sync_types.specs.declared.runs.EventId.{EventId}
 

@@ -1,14 +1,13 @@
 -- Numbers of those that go on are one where chains of pairs join them.
-use Rattle.std.proofs.Common.{◌≡◌, ℕ, zero, suc, ◌<◌, ◌≤◌, ◌⊎◌, ◌==◌, ◌&&◌, ◌||◌, not, Bool, true, false, cond, inl, inr, length, List, [], ◌∷◌, ◌++◌, map, filter, Option, Some, None, refl, sym, ap, ◌∙◌, arith, if◌then◌else◌}
+use Rattle.std.proofs.Common.{◌≡◌, ℕ, zero, suc, ◌<◌, ◌≤◌, ◌⊎◌, ◌==◌, ◌&&◌, ◌||◌, Bool, true, false, inl, inr, length, List, [], ◌∷◌, ◌++◌, Option, Some, None, refl, sym, ap, ◌∙◌, arith, if◌then◌else◌}
 use Rattle.std.specs.Prelude.{is_some, slice_index, slice_index_or}
-use Rattle.std.proofs.lemmas.Bool.{cases_Bool, cases_lt, eqb-true, eq-eqb, and_parts, or_cases}
+use Rattle.std.proofs.lemmas.Bool.{cases_Bool, cases_lt, eqb-true, eq-eqb, and_parts}
 use Rattle.std.proofs.Math.ListN.{get_or-eq_default}
-use Rattle.axis_sets.specs.Sets.{has, members_of}
 use Rattle.axis_sets.proofs.SetLaws.{list_any-members_of}
 use Rattle.order_clocks.specs.Chains.{IsIn}
 use Rattle.order_clocks.specs.Groups.{labels}
 use Rattle.order_clocks.specs.Partners.{are_named, marks_in, named_marks, are_partners, PairsAllPartners, AreAllLinked}
-use Rattle.order_clocks.specs.Watching.{BeginIsSound, WaitIsSound, begun_at, GoesFrom, IsGoing, IsGoingOf, wait_in, wait_shown}
+use Rattle.order_clocks.specs.Watching.{BeginIsSound, WaitIsSound, begun_at, IsGoingOf, wait_in, wait_shown}
 use Rattle.order_clocks.specs.Happenings.{going_of}
 use Rattle.order_clocks.specs.Steps.{is_given}
 use Rattle.order_clocks.specs.declared.deed.Departure.{Departure}
@@ -19,7 +18,7 @@ use Rattle.order_clocks.proofs.GroupLaws.{chained_from, chained_to}
 use Rattle.order_clocks.proofs.TellLaws.{going_some, going_within}
 use Rattle.sync_types.proofs.BoardTests.{no_truth}
 use Rattle.sync_types.specs.Boards.{Hold, AtMarks, AtEnds, AtAxes, State, IsHolding, Board, among}
-use Rattle.sync_types.specs.Events.{Pair, ArePaired, AreLinked, IsChain, channels_in, name_each_other, names_at, pairs_with, pairs_between, pairs_of}
+use Rattle.sync_types.specs.Events.{Pair, ArePaired, AreLinked, IsChain, channels_in, name_each_other, pairs_with, pairs_between, pairs_of}
 use Rattle.sync_types.specs.GoingOn.{Going}
 
 -- two waits that name each other's channels
@@ -45,7 +44,7 @@ pub names_by_wait : (g h : Going) → name_each_other g h ≡ name_both (wait_in
 names_by_wait g h = by_states g.from h.from
   where
     by_states : (s t : State) → name_each_other (record { channel = g.channel; from = s; took = g.took; grant = g.grant }) (record { channel = h.channel; from = t; took = h.took; grant = h.grant })
-      ≡ name_both (wait_in s) (wait_in t) g.channel h.channel
+        ≡ name_both (wait_in s) (wait_in t) g.channel h.channel
     by_states (IsHolding (AtMarks m one) k) (IsHolding (AtMarks n two) l) = same_numbers m n (among one h.channel) (among two g.channel)
     by_states (IsHolding (AtMarks m one) k) (IsHolding (AtEnds two) l) = never ((m == m) && among one h.channel)
     by_states (IsHolding (AtMarks m one) k) (IsHolding (AtAxes two) l) = never ((m == m) && among one h.channel)
@@ -58,7 +57,7 @@ kept_names : (one two : Option HoldAtLine) (a b : ℕ) → are_named (marks_in o
 kept_names (Some one) (Some two) a b = by_holds one.hold two.hold
   where
     by_holds : (h k : code.Hold) → are_named (marks_in (Some (record { hold = h; line = one.line }))) (marks_in (Some (record { hold = k; line = two.line }))) a b
-      ≡ name_both (wait_shown (Some (record { hold = h; line = one.line }))) (wait_shown (Some (record { hold = k; line = two.line }))) a b
+        ≡ name_both (wait_shown (Some (record { hold = h; line = one.line }))) (wait_shown (Some (record { hold = k; line = two.line }))) a b
     by_holds (Marks m named) (Marks n others) = rw (list_any-members_of named b, list_any-members_of others a) refl
     by_holds (Marks m named) (Ends others) = refl
     by_holds (Marks m named) (Axes others) = refl
@@ -170,7 +169,7 @@ partners_to : (goes : List (Option Departure)) (gs : List Going) (b : Board) (c 
 partners_to goes gs b c d are on = by_cases (slice_index_or goes c None) (slice_index_or goes d None) (going_of gs c) (going_of gs d) refl refl (are.read c) (are.read d) on
   where
     by_cases : (x y : Option Departure) (v w : Option Going) → going_of gs c ≡ v → going_of gs d ≡ w → IsGoingOf x v → IsGoingOf y w → are_named (named_marks x) (named_marks y) c d ≡ true
-      → ((among (channels_in gs) c ≡ true) × (among (channels_in gs) d ≡ true)) × (name_both (wait_in (b.state c)) (wait_in (b.state d)) c d ≡ true)
+        → ((among (channels_in gs) c ≡ true) × (among (channels_in gs) d ≡ true)) × (name_both (wait_in (b.state c)) (wait_in (b.state d)) c d ≡ true)
     by_cases (Some x) (Some y) (Some g) (Some h) e f one two named =
         let g_in = going_within gs c g e in
         let h_in = going_within gs d h f in
@@ -231,7 +230,7 @@ paired_partners goes gs b c d are pair = by_ends w.ends
     by_ends : ((w.g.channel ≡ c) × (w.h.channel ≡ d)) ⊎ ((w.g.channel ≡ d) × (w.h.channel ≡ c)) → are_partners goes c d ≡ true
     by_ends (inl e) = partners_from goes gs b c d are (rw e.0 at (among_in gs w.g w.g_there)) (rw e.1 at (among_in gs w.h w.h_there)) (rw (e.0, e.1) at both)
     by_ends (inr e) = partners_from goes gs b c d are (rw e.1 at (among_in gs w.h w.h_there)) (rw e.0 at (among_in gs w.g w.g_there))
-      (name_both_back (wait_in (b.state d)) (wait_in (b.state c)) d c (rw (e.0, e.1) at both))
+        (name_both_back (wait_in (b.state d)) (wait_in (b.state c)) d c (rw (e.0, e.1) at both))
 
 partner_below : (goes : List (Option Departure)) (gs : List Going) (b : Board) (c : ℕ) → AreRead goes gs b → among (channels_in gs) c ≡ true → (1 ≤ c) × (c < 9)
 partner_below goes gs b zero are on = by_read (slice_index_or goes 0 None) (going_of gs 0) refl are.none (are.read 0)
@@ -240,10 +239,13 @@ partner_below goes gs b zero are on = by_read (slice_index_or goes 0 None) (goin
     by_read (Some x) v e none is = no_truth false (sym (ap is_some none)) refl
     by_read None (Some g) e none is = absurd is
     by_read None None e none is = no_truth false (sym (ap is_some e) ∙ (going_some gs 0 ∙ on)) refl
-partner_below goes gs b (suc c) are on = (omega arith, elim (cases_lt (suc c) 9) [
-  | inl below ↦ below
-  | inr past ↦ by_read (slice_index_or goes (suc c) None) (going_of gs (suc c)) refl (get_or-eq_default goes None (rw are.size past)) (are.read (suc c))
-])
+partner_below goes gs b (suc c) are on = (
+  omega arith,
+  elim (cases_lt (suc c) 9) [
+    | inl below ↦ below
+    | inr past ↦ by_read (slice_index_or goes (suc c) None) (going_of gs (suc c)) refl (get_or-eq_default goes None (rw are.size past)) (are.read (suc c))
+  ],
+)
   where
     by_read : (x : Option Departure) (v : Option Going) → going_of gs (suc c) ≡ v → x ≡ None → IsGoingOf x v → suc c < 9
     by_read (Some x) v e none is = no_truth false (sym (ap is_some none)) refl

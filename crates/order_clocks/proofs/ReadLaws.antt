@@ -1,18 +1,15 @@
 -- What the code reads of an act is what the board does.
-use Rattle.std.proofs.Common.{◌≡◌, ℕ, zero, suc, ◌<◌, ◌==◌, ◌&&◌, ◌||◌, not, Bool, true, false, cond, inl, inr, List, [], ◌∷◌, map, Option, Some, None, refl, sym, ap, ◌∙◌, arith, if◌then◌else◌}
-use Rattle.std.specs.Prelude.{is_some, slice_index_or}
-use Rattle.std.specs.List.{list_all}
+use Rattle.std.proofs.Common.{◌≡◌, ℕ, ◌==◌, ◌&&◌, ◌||◌, not, Bool, true, false, inl, inr, Option, Some, None, refl, sym, ap, ◌∙◌, if◌then◌else◌}
+use Rattle.std.specs.Prelude.{is_some}
 use Rattle.std.proofs.lemmas.Bool.{cases_Bool, eqb-true, eq-eqb}
 use Rattle.axis_sets.specs.Sets.{has, members_of}
-use Rattle.order_clocks.specs.Happenings.{Happening, happening_of, hold_in, axes_freed}
-use Rattle.order_clocks.specs.Watching.{wait_in, begun_shown, wait_shown, begun_at, IsAct, IsNoAct, is_end}
+use Rattle.order_clocks.specs.Happenings.{Happening, happening_of, hold_in}
+use Rattle.order_clocks.specs.Watching.{wait_in, begun_shown, IsAct, IsNoAct, is_end}
 use Rattle.order_clocks.specs.declared.acts.Act.{Act}
-use Rattle.order_clocks.specs.declared.deed.Hold as code
-use Rattle.order_clocks.specs.declared.deed.HoldAtLine.{HoldAtLine}
 use Rattle.sync_types.proofs.BoardTests.{no_truth, passes, not_not}
 use Rattle.sync_types.specs.BoardActions.{hold_of, marks_after, channels_to_start, channels_started, after_own_part, after_part, after_alarm, after_action, after_effects, marks_of_all, state_after_alarm, state_after_action, state_of_actor}
-use Rattle.sync_types.specs.BoardAlarms.{alarm_of, names_no_mark, names_no_channel, names_no_axis, lets_go_of_others, splits_a_zone, finds_own_mark, finds_one_awake, starts_without_program, own_alarm}
-use Rattle.sync_types.specs.Boards.{Hold, AtMarks, AtEnds, AtAxes, State, IsIdle, IsRunning, IsHolding, HasEnded, HasAlarmed, Board, among, is_idle, is_running, has_ended, start_grant}
+use Rattle.sync_types.specs.BoardAlarms.{alarm_of, names_no_mark, names_no_channel, names_no_axis, lets_go_of_others, splits_a_zone, finds_own_mark, finds_one_awake}
+use Rattle.sync_types.specs.Boards.{Hold, State, IsIdle, IsRunning, HasAlarmed, Board, among, is_idle, is_running, has_ended, start_grant}
 use Rattle.sync_types.specs.declared.Action.{Action}
 use Rattle.sync_types.specs.declared.Action.TheVariants.{WaitM, SetM, ClearM, Init, Start, WaitE, Release, Get, End, Alarm}
 use Rattle.sync_types.specs.declared.Step.{Step}
@@ -36,6 +33,10 @@ no_alarm b c action none =
     let six = past_test (finds_own_mark b c action) 26 _ five.1 in
     let seven = past_test (finds_one_awake b action) 27 _ six.1 in
     (one.0, seven.0)
+
+pub named_channels_are : (b : Board) (c : ℕ) (action : Action) → alarm_of b c action ≡ None → names_no_channel b action ≡ false
+unfolding alarm_of
+named_channels_are b c action none = (past_test (names_no_channel b action) 24 _ (past_test (names_no_mark action) 25 _ none).1).0
 
 pub started_idle : (b : Board) (action : Action) (d : ℕ) → finds_one_awake b action ≡ false → among (channels_to_start action) d ≡ true → is_idle (b.state d) ≡ true
 started_idle b (Start named) d off on = passes (λ e. is_idle (b.state e)) (members_of named) d (not_not _ off) on
@@ -122,24 +123,24 @@ none_of false = refl
 change_alarms : (b : Board) (c : ℕ) (step : Step) (code : ℕ) (act : Act) → alarm_of b c step.action ≡ Some code → IsNoAct act → IsChange act (happening_of b c step)
 unfolding state_after_alarm
 change_alarms b c step code act e none = rw e (record {
-      raises = λ m. none.raises m ∙ none_of (b.marks c m);
-      lowers = λ m. none.lowers m ∙ none_of (b.marks c m);
-      frees = none.frees;
-      starts = none.starts;
-      ends = none.ends ∙ sym (ap has_ended (here c (HasAlarmed code step.line) (b.state c)));
-      begins = none.begins ∙ sym (ap hold_in (here c (HasAlarmed code step.line) (b.state c)));
-    })
+  raises = λ m. none.raises m ∙ none_of (b.marks c m);
+  lowers = λ m. none.lowers m ∙ none_of (b.marks c m);
+  frees = none.frees;
+  starts = none.starts;
+  ends = none.ends ∙ sym (ap has_ended (here c (HasAlarmed code step.line) (b.state c)));
+  begins = none.begins ∙ sym (ap hold_in (here c (HasAlarmed code step.line) (b.state c)));
+})
 
 change_acts : (b : Board) (c : ℕ) (step : Step) (own : ℕ → Bool) (act : Act) → alarm_of b c step.action ≡ None → ((m : ℕ) → own m ≡ b.marks c m) → IsAct act c own step.action → IsChange act (happening_of b c step)
 unfolding state_after_action marks_of_all
 change_acts b c step own act e same is = rw e (record {
-      raises = λ m. is.raises m ∙ rw (here c (marks_after (b.marks c) step.action m) (b.marks c m), same m, marks_alike own (b.marks c) step.action m (same m)) refl;
-      lowers = λ m. is.lowers m ∙ rw (here c (marks_after (b.marks c) step.action m) (b.marks c m), same m, marks_alike own (b.marks c) step.action m (same m)) refl;
-      frees = is.frees;
-      starts = is.starts;
-      ends = is.ends ∙ sym (ap has_ended (here c _ _) ∙ actor_ends (after_effects b c step) c step.line step.action);
-      begins = is.begins ∙ sym (ap hold_in (here c _ _) ∙ actor_begins (after_effects b c step) c step.line step.action);
-    })
+  raises = λ m. is.raises m ∙ rw (here c (marks_after (b.marks c) step.action m) (b.marks c m), same m, marks_alike own (b.marks c) step.action m (same m)) refl;
+  lowers = λ m. is.lowers m ∙ rw (here c (marks_after (b.marks c) step.action m) (b.marks c m), same m, marks_alike own (b.marks c) step.action m (same m)) refl;
+  frees = is.frees;
+  starts = is.starts;
+  ends = is.ends ∙ sym (ap has_ended (here c _ _) ∙ actor_ends (after_effects b c step) c step.line step.action);
+  begins = is.begins ∙ sym (ap hold_in (here c _ _) ∙ actor_begins (after_effects b c step) c step.line step.action);
+})
 
 -- in either case
 pub changes_are : (b : Board) (c : ℕ) (step : Step) (own : ℕ → Bool) (act : Act) (alarms : Bool) → alarms ≡ is_some (alarm_of b c step.action) → ((m : ℕ) → own m ≡ b.marks c m)
@@ -178,8 +179,8 @@ unfolding state_after_action
 acted_part b c step d e = rw e (by_case (d == c) (among (channels_to_start step.action) d) (c == c) (eq-eqb c c refl) (λ on. idle_waits (b.state d) (started_idle b step.action d (no_alarm b c step.action e).1 on)))
   where
     by_case : (t s u : Bool) → u ≡ true → (s ≡ true → wait_in (b.state d) ≡ None)
-      → wait_in (if t then state_of_actor (after_effects b c step) c step.line step.action else (if s then IsRunning (start_grant (after_effects b c step) d) else b.state d))
-      ≡ (if t then with_line step.line (hold_in (if u then state_of_actor (after_effects b c step) c step.line step.action else (if among (channels_to_start step.action) c then IsRunning (start_grant (after_effects b c step) c) else b.state c))) else wait_in (b.state d))
+        → wait_in (if t then state_of_actor (after_effects b c step) c step.line step.action else (if s then IsRunning (start_grant (after_effects b c step) d) else b.state d))
+        ≡ (if t then with_line step.line (hold_in (if u then state_of_actor (after_effects b c step) c step.line step.action else (if among (channels_to_start step.action) c then IsRunning (start_grant (after_effects b c step) c) else b.state c))) else wait_in (b.state d))
     by_case true s u on idle = rw on (actor_waits (after_effects b c step) c step.line step.action ∙ sym (ap (with_line step.line) (actor_begins (after_effects b c step) c step.line step.action)))
     by_case false true u on idle = sym (idle refl)
     by_case false false u on idle = refl
@@ -199,8 +200,8 @@ started_waits b c step s running on = by_alarm (alarm_of b c step.action) refl
     by_alarm None e =
         let idle = started_idle b step.action s (no_alarm b c step.action e).1 (rw e at on) in
         part_waits b c step s ∙ elim (cases_Bool (s == c)) [
-        | inl same ↦ no_truth (is_idle (b.state c)) (rw (eqb-true s c same) at idle) (not_idle (b.state c) running)
-        | inr other ↦ rw other (idle_waits (b.state s) idle)
+          | inl same ↦ no_truth (is_idle (b.state c)) (rw (eqb-true s c same) at idle) (not_idle (b.state c) running)
+          | inr other ↦ rw other (idle_waits (b.state s) idle)
         ]
 
 -- the marks after the own part

@@ -1,23 +1,22 @@
 -- What the arrays of a step show.
-use Rattle.std.proofs.Common.{◌≡◌, ℕ, zero, suc, ◌+◌, ◌*◌, ◌^◌, ◌<◌, ◌≤◌, ◌⊎◌, ◌==◌, ◌&&◌, max, Bool, true, false, inl, inr, List, [], ◌∷◌, map, filter, length, Option, Some, None, slice_index, slice_index_or, refl, sym, ap, ◌∙◌, arith, if◌then◌else◌}
+use Rattle.std.proofs.Common.{◌≡◌, ℕ, suc, ◌+◌, ◌^◌, ◌<◌, ◌≤◌, ◌==◌, ◌&&◌, max, Bool, true, false, inl, inr, List, [], ◌∷◌, map, filter, length, Option, Some, None, slice_index, slice_index_or, refl, sym, ap, ◌∙◌, arith, if◌then◌else◌}
 use Rattle.order_clocks.specs.Happenings.{Key, Raised, Freed, Started, Ended}
 use Rattle.order_clocks.specs.Chains.{IsIn}
-use Rattle.std.proofs.lemmas.Bool.{cases_Bool, cases_lt, eqb-true, eq-eqb, and_parts, and_from, and_left, true≢false}
+use Rattle.std.proofs.lemmas.Bool.{cases_Bool, cases_lt, eqb-true, and_parts, and_from, true≢false}
 use Rattle.std.proofs.Math.ListN.{get_or-eq_default}
 use Rattle.std.specs.List.{range_with_len}
 use Rattle.axis_sets.specs.Sets.{has, members_of}
 use Rattle.sync_types.specs.Boards.{among}
 use Rattle.order_clocks.specs.Courses.{Course}
-use Rattle.order_clocks.specs.Counters.{top, LastRows, act_row, rows_after_act, own_row, members, go_row, rows_after_goings, last_rows}
+use Rattle.order_clocks.specs.Counters.{top, LastRows, act_row, rows_after_act, own_row, members, go_row, rows_after_goings}
 use Rattle.order_clocks.specs.Rows.{count_of, in_group, joint_top, joint_count}
 use Rattle.order_clocks.specs.Steps.{is_given, gives_of, keys_of, departure_of, goes_in, IsStep, row_at, Shows, HasRoom}
-use Rattle.order_clocks.specs.declared.deed.Hold.{Hold}
 use Rattle.order_clocks.specs.declared.deed.Hold.TheVariants.{Marks, Ends, Axes}
 use Rattle.order_clocks.specs.declared.deed.HoldAtLine.{HoldAtLine}
 use Rattle.order_clocks.specs.declared.deed.Departure.{Departure}
 use Rattle.order_clocks.specs.declared.deed.Deed.{Deed}
 use Rattle.order_clocks.specs.declared.times.Times.{Times}
-use Rattle.order_clocks.proofs.CounterLaws.{top_above, in_filter, filter_in, is_in, contains_from, member_parts, opened_actor, opened_other, opened_given, opened_kept, closed_goer, closed_other, closed_last}
+use Rattle.order_clocks.proofs.CounterLaws.{top_above, in_filter, filter_in, is_in, contains_from, opened_actor, opened_other, opened_given, opened_kept, closed_goer, closed_other, closed_last}
 use Rattle.order_clocks.proofs.GoRowLaws.{top_same, top_map, in_range, contains_group}
 
 pub past_gone : (goes : List (Option Departure)) (c : ℕ) → length goes ≤ c → is_given (slice_index_or goes c None) ≡ false
@@ -98,7 +97,7 @@ unfolding own_row
 own_shows run i s deed t c x is shows here =
     ap (λ (n : ℕ). max n (top (λ k. count_of (row_at t k) x) (keys_of c (departure_of deed c)))) (shows.past c x)
     ∙ (ap (λ (n : ℕ). max (s.past c x) n) (top_same (λ k. count_of (row_at t k) x) (λ k. s.last k x) (keys_of c (departure_of deed c)) (λ k within. shows.last k x))
-    ∙ ap (λ (ks : List Key). max (s.past c x) (top (λ k. s.last k x) ks)) (sym (is.asks c here)))
+    ∙ ap (λ (n : ℕ). max (s.past c x) n) (top_alike (λ k. s.last k x) (λ k. s.last k x) (keys_of c (departure_of deed c)) (run.asks i c) (λ k w. ((is.asks c here k).1 w, refl)) (λ k w. ((is.asks c here k).0 w, refl))))
 
 pub go_shows : (run : Course) (i : ℕ) (s : LastRows) (deed : Deed) (t : Times) (goes : List Bool) (own : List (List ℕ)) (c x : ℕ)
     → IsStep run i deed → Shows t s → ((d : ℕ) → has goes d ≡ goes_in deed d) → length goes ≡ 9

@@ -1,15 +1,15 @@
 -- What the code keeps of waits and marks stays what the board has.
-use Rattle.std.proofs.Common.{◌≡◌, ℕ, zero, suc, ◌<◌, ◌≤◌, ◌==◌, ◌&&◌, ◌||◌, not, Bool, true, false, cond, inl, inr, length, List, [], ◌∷◌, map, Option, Some, None, refl, sym, ap, ◌∙◌, arith, if◌then◌else◌}
-use Rattle.std.specs.Prelude.{is_some, find, option_map, slice_index_or}
-use Rattle.std.proofs.lemmas.Bool.{cases_Bool, cases_lt, eqb-true, eq-eqb}
+use Rattle.std.proofs.Common.{◌≡◌, ℕ, ◌<◌, ◌==◌, ◌&&◌, ◌||◌, not, Bool, true, false, inl, inr, List, [], ◌∷◌, map, Option, Some, None, refl, sym, ap, ◌∙◌, arith, if◌then◌else◌}
+use Rattle.std.specs.Prelude.{is_some, option_map, slice_index_or}
+use Rattle.std.proofs.lemmas.Bool.{cases_Bool, cases_lt, eqb-true}
 use Rattle.std.proofs.Math.ListN.{get_or-eq_default}
 use Rattle.axis_sets.specs.Positions.{position_of}
-use Rattle.axis_sets.specs.Sets.{has, members_of}
+use Rattle.axis_sets.specs.Sets.{has}
 use Rattle.axis_sets.proofs.SetLaws.{list_any-members_of}
 use Rattle.order_clocks.specs.Chains.{IsIn}
-use Rattle.order_clocks.specs.Happenings.{Happening, happening_of, going_of}
-use Rattle.order_clocks.specs.Places.{lowers_at}
-use Rattle.order_clocks.specs.Watching.{Keeps, GoesFrom, IsGone, IsGoing, IsGoingOf, WaitIsSound, begun_at, begun_shown, go_in, hold_shown, is_at_axes, wait_in, wait_shown}
+use Rattle.order_clocks.specs.Happenings.{happening_of, going_of}
+use Rattle.order_clocks.specs.Watching.{lowers_at}
+use Rattle.order_clocks.specs.Watching.{Keeps, GoesFrom, IsGone, IsGoingOf, WaitIsSound, begun_at, begun_shown, go_in, is_at_axes, wait_in, wait_shown}
 use Rattle.order_clocks.specs.declared.acts.Act.{Act}
 use Rattle.order_clocks.specs.declared.deed.Departure.{Departure}
 use Rattle.order_clocks.specs.declared.deed.Hold as code
@@ -23,7 +23,7 @@ use Rattle.sync_types.specs.BoardActions.{after_own_part, channels_started}
 use Rattle.sync_types.specs.BoardAlarms.{alarm_of}
 use Rattle.sync_types.specs.Boards.{Hold, AtMarks, AtEnds, AtAxes, State, IsHolding, Board, among, is_running}
 use Rattle.sync_types.specs.Events.{channels_in}
-use Rattle.sync_types.specs.GoingOn.{Going, go_of, goings_on, lowers, waits_for_axes, axes_asked}
+use Rattle.sync_types.specs.GoingOn.{Going, go_of, lowers, waits_for_axes, axes_asked}
 use Rattle.sync_types.specs.Turns.{goings_in_step, after_step}
 use Rattle.sync_types.specs.declared.Step.{Step}
 use Rattle.sync_types.specs.declared.runs.Go.{Go}
@@ -108,14 +108,14 @@ keeps_part old mid b c step act keeps running change marks holds = record {
         let e : d ≡ c = eqb-true d c same in
         rw (same, e, keeps.marks c m, change.raises m, change.lowers m) (own_marks (b.marks c m) ((after_own_part b c step).marks c m))
     | inr other ↦ rw (other, part_marks b c step d m other) (keeps.marks d m)
-    ];
+  ];
   holds = λ d. rw (holds d, part_waits b c step d) (elim (cases_Bool (d == c)) [
     | inl same ↦
         let e : d ≡ c = eqb-true d c same in
         let none : wait_shown (slice_index_or old.holds d None) ≡ None = keeps.holds d ∙ rw e (running_waits (b.state c) running) in
         rw same (begun_kept act.begins step.line (slice_index_or old.holds d None) none ∙ ap (with_line step.line) change.begins)
     | inr other ↦ rw other (keeps.holds d)
-    ]);
+  ]);
 }
 
 -- after those that go on
@@ -184,13 +184,13 @@ took_read : (b : Board) (g : Going) (held : Option HoldAtLine) (x : ℕ) → Goe
 took_read b g held x from sound e =
     let same : is_at_axes held ≡ waits_for_axes g.from = kept_axes held ∙ (ap wait_axes e ∙ sym (axes_by_wait g.from)) in
     elim (cases_Bool (waits_for_axes g.from)) [
-    | inl on ↦ rw (same, on) (elim (cases_lt x 16) [
-      | inl below ↦ from.positions on x below
-      | inr past ↦ from.past on x past ∙ sym (false_by (among g.took x) (λ there.
-          let low = asked_below held x sound (rw (asked_by_wait g.from, sym e) at (from.took x there)) in
-          absurd (omega arith)))
+      | inl on ↦ rw (same, on) (elim (cases_lt x 16) [
+        | inl below ↦ from.positions on x below
+        | inr past ↦ from.past on x past ∙ sym (false_by (among g.took x) (λ there.
+            let low = asked_below held x sound (rw (asked_by_wait g.from, sym e) at (from.took x there)) in
+            absurd (omega arith)))
       ])
-    | inr off ↦ rw (same, off) (sym (false_by (among g.took x) (λ there. no_truth false (rw (none_asked g.from off) at (from.took x there)) refl)))
+      | inr off ↦ rw (same, off) (sym (false_by (among g.took x) (λ there. no_truth false (rw (none_asked g.from off) at (from.took x there)) refl)))
     ]
   where
     false_by : (t : Bool) → (t ≡ true → ⊥) → t ≡ false

@@ -1,5 +1,5 @@
 -- Meaning. Which event of a run is before which, however fast each channel is.
-use Rattle.std.specs.Prelude.{◌≡◌, ℕ, ◌+◌, ◌*◌, ◌<◌, ◌≤◌, ◌⊎◌, Bool, true, false, List, [], ◌∷◌, if◌then◌else◌}
+use Rattle.std.specs.Prelude.{◌≡◌, ℕ, ◌+◌, ◌*◌, ◌<◌, ◌≤◌, true, false, List, if◌then◌else◌}
 use Rattle.order_clocks.specs.Chains.{IsIn, Leads}
 use Rattle.order_clocks.specs.Happenings.{Key, Happening, happening_at, gives, going_of, rests_on}
 use Rattle.sync_types.specs.Boards.{Board}

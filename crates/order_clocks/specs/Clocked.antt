@@ -1,5 +1,5 @@
 -- Meaning. What a contract sees of the clocks of a run: which event is before which, and the first race.
-use Rattle.std.specs.Prelude.{◌≡◌, ◌↔◌, Bool, true, List, map, Option}
+use Rattle.std.specs.Prelude.{◌≡◌, ◌↔◌, Bool, true, List, map}
 use Rattle.order_clocks.specs.Before.{Before}
 use Rattle.sync_types.specs.Boards.{Board}
 use Rattle.sync_types.specs.Events.{IsLowestName}

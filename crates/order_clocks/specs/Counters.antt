@@ -1,5 +1,5 @@
 -- Steps. Counters for each event: how many events of each channel are it or before it.
-use Rattle.std.specs.Prelude.{ℕ, zero, suc, ◌+◌, max, Bool, true, false, List, [], ◌∷◌, ◌==◌, ◌&&◌, if◌then◌else◌, filter}
+use Rattle.std.specs.Prelude.{ℕ, zero, suc, max, List, [], ◌∷◌, ◌==◌, if◌then◌else◌, filter}
 use Rattle.order_clocks.specs.Happenings.{Key}
 use Rattle.sync_types.specs.declared.runs.EventId.{EventId}
 use Rattle.sync_types.specs.Boards.{among}

@@ -1,10 +1,8 @@
--- Steps. The course and the tracks of a run.
-use Rattle.std.specs.Prelude.{ℕ, List, map}
+-- Steps. The course of a run.
+use Rattle.std.specs.Prelude.{List}
 use Rattle.order_clocks.specs.Courses.{Course}
 use Rattle.order_clocks.specs.Groups.{labels}
 use Rattle.order_clocks.specs.Happenings.{happening_at, gives, going_of, rests_on}
-use Rattle.order_clocks.specs.Races.{leaves_at, minds_at, line_at}
-use Rattle.order_clocks.specs.Tracks.{Tracks}
 use Rattle.sync_types.specs.Boards.{Board}
 use Rattle.sync_types.specs.Events.{channels_in, pairs_of}
 use Rattle.sync_types.specs.Turns.{Move}
@@ -17,6 +15,3 @@ course_of b moves = record {
   asks = λ i c. rests_on (going_of (happening_at b moves i).goings c);
   group = λ i. labels (pairs_of (happening_at b moves i).goings);
 }
-
-abbrev pub tracks_of : Board → List Move → Tracks
-tracks_of b moves = record { leaves = leaves_at b moves; minds = minds_at b moves; line = line_at b moves }

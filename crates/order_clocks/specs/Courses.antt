@@ -1,6 +1,5 @@
 -- Steps. Events of a run and their order, by numbers for those that go on as one event.
-use Rattle.std.specs.Prelude.{◌≡◌, ℕ, ◌+◌, ◌*◌, ◌<◌, ◌≤◌, ◌⊎◌, ◌==◌, Bool, true, false, List, [], ◌∷◌, if◌then◌else◌}
-use Rattle.std.specs.List.{list_any}
+use Rattle.std.specs.Prelude.{◌≡◌, ℕ, ◌<◌, ◌≤◌, Bool, true, false, List}
 use Rattle.sync_types.specs.Boards.{among}
 use Rattle.order_clocks.specs.Chains.{IsIn, Leads}
 use Rattle.order_clocks.specs.Happenings.{Key}

@@ -1,5 +1,5 @@
 -- Meaning. What happens in each step of a run, as far as events of other channels rest on it or mind it.
-use Rattle.std.specs.Prelude.{ℕ, zero, suc, ◌==◌, ◌&&◌, not, Bool, true, false, List, [], ◌∷◌, map, find, Option, Some, None}
+use Rattle.std.specs.Prelude.{ℕ, zero, suc, ◌==◌, ◌&&◌, not, Bool, false, List, [], ◌∷◌, map, find, Option, Some, None}
 use Rattle.axis_sets.specs.Sets.{members_of}
 use Rattle.sync_types.specs.BoardActions.{after_own_part, axes_to_free, channels_started}
 use Rattle.sync_types.specs.BoardAlarms.{alarm_of}
@@ -93,6 +93,12 @@ nothing = record {
   goings = [];
   after = λ c. IsIdle;
 }
+
+-- the board before the step of this place
+abbrev pub board_at : Board → List Move → ℕ → Board
+board_at b [] i = b
+board_at b (m ∷ ms) zero = b
+board_at b (m ∷ ms) (suc i) = board_at (after_step b m.channel m.step) ms i
 
 -- what happens in the step of this place
 abbrev pub happening_at : Board → List Move → ℕ → Happening

@@ -6,14 +6,11 @@ pub mod CourseOf
 pub mod Courses
 pub mod Groups
 pub mod Happenings
-pub mod Least
-pub mod Pairs
 pub mod Partners
-pub mod Places
 pub mod RaceOrder
 pub mod Races
 pub mod Rows
 pub mod Steps
+pub mod Stops
 pub mod Tells
-pub mod Tracks
 pub mod Watching

@@ -5,7 +5,7 @@ use Rattle.order_clocks.specs.declared.deed.Departure.{Departure}
 use Rattle.order_clocks.specs.declared.deed.Hold.{Hold}
 use Rattle.order_clocks.specs.declared.deed.Hold.TheVariants.{Marks, Ends, Axes}
 use Rattle.order_clocks.specs.declared.deed.HoldAtLine.{HoldAtLine}
-use Rattle.order_clocks.specs.declared.pairs.NamedMarks.{NamedMarks}
+use Rattle.order_clocks.specs.declared.groups.NamedMarks.{NamedMarks}
 use Rattle.sync_types.specs.Events.{AreLinked, ArePaired, Pair}
 
 abbrev pub are_named : Option NamedMarks → Option NamedMarks → ℕ → ℕ → Bool

@@ -1,9 +1,10 @@
 -- Steps. A step of a run as the code has it, and arrays that show the counters.
-use Rattle.std.specs.Prelude.{◌≡◌, ℕ, ◌+◌, ◌<◌, ◌^◌, ◌==◌, ◌&&◌, Bool, true, false, List, [], ◌∷◌, map, Option, Some, None, slice_index, slice_index_or, length}
+use Rattle.std.specs.Prelude.{◌≡◌, ℕ, ◌+◌, ◌<◌, ◌^◌, ◌↔◌, ◌==◌, ◌&&◌, Bool, true, false, List, [], ◌∷◌, map, Option, Some, None, slice_index, slice_index_or, length}
 use Rattle.order_clocks.specs.Happenings.{Key, Raised, Freed, Started, Ended}
 use Rattle.axis_sets.specs.Sets.{has, members_of}
-use Rattle.sync_types.specs.declared.runs.EventId.{EventId}
 use Rattle.sync_types.specs.Boards.{among}
+use Rattle.sync_types.specs.declared.runs.EventId.{EventId}
+use Rattle.order_clocks.specs.Chains.{IsIn}
 use Rattle.order_clocks.specs.Courses.{Course}
 use Rattle.order_clocks.specs.Counters.{LastRows, row}
 use Rattle.order_clocks.specs.Rows.{count_of}
@@ -14,7 +15,12 @@ use Rattle.order_clocks.specs.declared.deed.Departure.{Departure}
 use Rattle.order_clocks.specs.declared.deed.Deed.{Deed}
 use Rattle.order_clocks.specs.declared.times.Times.{Times}
 use Rattle.order_clocks.specs.declared.clocks.StepRows.{StepRows}
-use Rattle.order_clocks.specs.Tracks.{act_name, go_name}
+
+abbrev pub act_name : ℕ → ℕ → EventId
+act_name i c = record { step = i; channel = c; go = false }
+
+abbrev pub go_name : ℕ → ℕ → EventId
+go_name i c = record { step = i; channel = c; go = true }
 
 abbrev pub is_given : {A : Type 0} → Option A → Bool
 is_given (Some x) = true
@@ -66,7 +72,7 @@ pub record IsStep (run : Course) (i : ℕ) (deed : Deed) : Type 0 where
   pub actor : run.actor i ≡ deed.channel
   pub gives : (k : Key) → run.gives i k ≡ gives_of deed k
   pub goers : (c : ℕ) → among (run.goers i) c ≡ goes_in deed c
-  pub asks : (c : ℕ) → goes_in deed c ≡ true → run.asks i c ≡ keys_of c (departure_of deed c)
+  pub asks : (c : ℕ) → goes_in deed c ≡ true → (k : Key) → IsIn k (run.asks i c) ↔ IsIn k (keys_of c (departure_of deed c))
   pub group : (c d : ℕ) → goes_in deed c ≡ true → goes_in deed d ≡ true → (run.group i d == run.group i c) ≡ (slice_index deed.group d == slice_index deed.group c)
 
 -- the row of the last Act that gave a key

@@ -1,13 +1,10 @@
 -- Steps. Counters in lists that tell the events of a run.
-use Rattle.std.specs.Prelude.{◌≡◌, ℕ, ◌<◌, ◌≤◌, List, [], length, slice_index_or, replicate, if◌then◌else◌}
-use Rattle.order_clocks.specs.Courses.{Course, IsEventIn, AreOneIn}
+use Rattle.std.specs.Prelude.{◌≡◌, ℕ, ◌<◌, ◌==◌, ◌&&◌, not, nat_lt, Bool, List, [], length, slice_index_or, if◌then◌else◌}
+use Rattle.order_clocks.specs.Courses.{Course, IsEventIn}
 use Rattle.order_clocks.specs.Counters.{row}
 use Rattle.order_clocks.specs.Rows.{count_of}
 use Rattle.sync_types.specs.declared.runs.EventId.{EventId}
 use Rattle.order_clocks.specs.declared.clocks.StepRows.{StepRows}
-
-abbrev pub name_of : EventId → EventId
-name_of e = e
 
 abbrev pub no_rows : StepRows
 no_rows = record { act = []; goes = [] }
@@ -19,10 +16,11 @@ row_in steps e =
 
 -- the lists have the counters of all events of the run
 pub record Tells (run : Course) (steps : List StepRows) : Type 0 where
-  pub rows : (e : EventId) → IsEventIn run (name_of e) → e.step < length steps → (c : ℕ) → c < 9 → count_of (row_in steps e) c ≡ row run (name_of e) c
+  pub rows : (e : EventId) → IsEventIn run e → e.step < length steps → (c : ℕ) → count_of (row_in steps e) c ≡ row run e c
 
--- an event of the run, named by its lowest channel
-pub record IsEventId (run : Course) (e : EventId) : Type 0 where
-  pub event : IsEventIn run e
-  pub channel : e.channel < 9
-  pub lowest : (other : EventId) → AreOneIn run e other → e.channel ≤ other.channel
+abbrev pub is_same_event : EventId → EventId → Bool
+is_same_event a b = (a.step == b.step) && ((a.channel == b.channel) && (if a.go then b.go else not b.go))
+
+-- another event, which counts the events of the first one's channel up to it
+abbrev pub is_before_in : List StepRows → EventId → EventId → Bool
+is_before_in steps a b = not (is_same_event a b) && not (nat_lt (count_of (row_in steps b) a.channel) (count_of (row_in steps a) a.channel))

@@ -93,7 +93,7 @@ pub record IsRead (deed : Deed) (h : Happening) : Type 0 where
   pub begins : begun_shown deed.begins ≡ h.begins
   pub goings : (c : ℕ) → IsGoingOf (departure_of deed c) (going_of h.goings c)
   pub group : (c d : ℕ) → goes_in deed c ≡ true → goes_in deed d ≡ true
-    → (labels (pairs_of h.goings) d == labels (pairs_of h.goings) c) ≡ (slice_index deed.group d == slice_index deed.group c)
+      → (labels (pairs_of h.goings) d == labels (pairs_of h.goings) c) ≡ (slice_index deed.group d == slice_index deed.group c)
 
 -- the step is one of a running channel, these go on in it, and this is whether it alarms
 pub record IsLawful (b : Board) (c : ℕ) (step : Step) (goes : List Go) (alarms : Bool) : Type 0 where
@@ -150,3 +150,13 @@ WaitIsSound None = Unit {0}
 
 pub record WatchIsSound (w : Watch) : Type 0 where
   pub holds : (c : ℕ) → WaitIsSound (slice_index_or w.holds c None)
+
+-- the mark that the end of a wait lowers
+abbrev pub lowers_in : code.Hold → ℕ → Bool
+lowers_in (Marks n named) m = m == n
+lowers_in (Ends named) m = false
+lowers_in (Axes axes) m = false
+
+abbrev pub lowers_at : Option HoldAtLine → ℕ → Bool
+lowers_at (Some held) m = lowers_in held.hold m
+lowers_at None m = false

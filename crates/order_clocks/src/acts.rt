@@ -8,7 +8,9 @@ ghost use Rattle.sync_types.specs.BoardAlarms.{names_no_mark};
 ghost use Rattle.sync_types.specs.Boards.{among};
 
 use crate::deed::Hold;
-use axis_sets::{AxisSet, ChannelId, ChannelSet, MARK_LIMIT, MarkSet, sets_are_known_by_their_members};
+use axis_sets::{
+    AxisSet, ChannelId, ChannelSet, MARK_LIMIT, MarkSet, sets_are_known_by_their_members,
+};
 use sync_types::Action;
 
 /// What an act of a channel changes.
@@ -174,5 +176,9 @@ pub(crate) fn changes_of(channel: ChannelId, action: &Action, own: MarkSet, alar
     ensures none { alarms ≡ true → IsNoAct result }
     ensures sound { BeginIsSound result.begins }
 {
-    if alarms { no_act() } else { act_of(channel, action, own) }
+    if alarms {
+        no_act()
+    } else {
+        act_of(channel, action, own)
+    }
 }

@@ -43,31 +43,3 @@ pub(crate) fn most_column(rows: &[[Row; 9]; 10], m: usize, chosen: &[bool; 9], s
 {
     most_chosen(&rows[m], chosen, start)
 }
-
-/// The row at a number and a channel.
-pub(crate) fn at_column(rows: &[[Row; 9]; 10], m: usize, channel: usize) -> Row
-    requires number { m < 10 }
-    requires channel { channel < 9 }
-    ensures { result ≡ slice_index_or (slice_index_or rows.now m []) channel [] }
-{
-    at_channel(&rows[m], channel)
-}
-
-/// The greatest numbers of a row and of those of a channel at the chosen numbers.
-pub(crate) fn most_down(
-    rows: &[[Row; 9]; 10],
-    chosen: &[bool; 10],
-    channel: usize,
-    start: Row,
-) -> Row
-    requires { channel < 9 }
-    ensures counts { (c : ℕ) → count_of result c ≡ max (count_of start c) (top (λ m. count_of (slice_index_or (slice_index_or rows.now m []) channel []) c) (members_of chosen.now)) }
-{
-    let mut row = start;
-    for m in 0..10 {
-        if chosen[m] {
-            row = row.most(at_column(rows, m, channel));
-        }
-    }
-    row
-}

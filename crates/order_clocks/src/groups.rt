@@ -3,9 +3,17 @@ ghost use Rattle.std.specs.Prelude.{◌≡◌, List, ℕ, ◌<◌, ◌≤◌, �
 ghost use Rattle.order_clocks.specs.Partners.{are_partners, named_marks, PairsAllPartners, AreAllLinked};
 ghost use Rattle.sync_types.specs.Events.{ArePaired, Pair};
 
-use crate::NamedMarks;
 use crate::deed::{Departure, Hold};
-use axis_sets::ChannelId;
+use axis_sets::{ChannelId, ChannelSet};
+
+/// A mark number and the channels named with it.
+#[derive(Clone, Copy)]
+pub(crate) struct NamedMarks {
+    /// The number.
+    pub(crate) number: u8,
+    /// The channels.
+    pub(crate) named: ChannelSet,
+}
 
 /// The number and the channels for which one that goes on waited, where it waited for marks.
 pub(crate) fn marks_of(gone: &Option<Departure>) -> Option<NamedMarks>
@@ -16,7 +24,10 @@ pub(crate) fn marks_of(gone: &Option<Departure>) -> Option<NamedMarks>
         Some(gone) => match &gone.held {
             None => None,
             Some(held) => match &held.hold {
-                Hold::Marks(mark, named) => Some(NamedMarks { number: *mark, named: *named }),
+                Hold::Marks(mark, named) => Some(NamedMarks {
+                    number: *mark,
+                    named: *named,
+                }),
                 Hold::Ends(_) => None,
                 Hold::Axes(_) => None,
             },

@@ -1,4 +1,4 @@
-//! Counters of the events of a run.
+//! Which events of a run are ordered, however fast each channel is.
 #![tactic(auto)]
 
 mod acts;
@@ -6,27 +6,18 @@ mod clocks;
 mod columns;
 mod counting;
 mod deed;
-mod events;
 mod flags;
 mod gather;
 mod going;
 mod groups;
-mod notes;
-mod pairs;
-mod passes;
-mod places;
-mod races;
 mod row;
-mod still;
+mod stops;
+mod threads;
 mod times;
 mod watch;
 
-pub use clocks::{Clocks, StepRows};
-pub use counting::rows_of;
-pub use deed::{Deed, Departure, Hold, HoldAtLine};
-pub use events::events_of;
-pub use pairs::{Event, NamedMarks, least_between};
-pub use passes::least_at;
-pub use places::Places;
-pub use row::Row;
-pub use times::Times;
+pub use clocks::{Clocks, clocks_of};
+pub(crate) use clocks::StepRows;
+pub(crate) use deed::Deed;
+pub(crate) use row::Row;
+pub(crate) use times::Times;

@@ -1,7 +1,6 @@
 //! Counters of the events of each channel.
 ghost use Rattle.std.specs.Prelude.{◌≡◌, ℕ, suc, ◌+◌, ◌<◌, ◌^◌, ◌==◌, ◌↔◌, IsTrue, max, length, if◌then◌else◌};
 ghost use Rattle.order_clocks.specs.Rows.{count_of};
-ghost use Rattle.order_clocks.specs.Places.{IsMissed};
 
 use std::marker::Model;
 
@@ -60,28 +59,5 @@ impl Row {
     {
         self.counts[channel] += 1;
         self
-    }
-
-    /// This number for a channel.
-    pub fn put(mut self, channel: usize, count: u64) -> Row
-        requires channel { channel < 9 }
-        ensures counts { (c : ℕ) → count_of result c ≡ (if c == channel then count else count_of self c) }
-        ensures size { length result ≡ 9 }
-    {
-        self.counts[channel] = count;
-        self
-    }
-
-    /// Whether the number of some other channel is below its limit.
-    pub fn misses(&self, limit: &Row, but: usize) -> bool
-        ensures { IsTrue result ↔ IsMissed but self.now limit.now }
-    {
-        let _size = limit.at(0);
-        for c in 0..9 {
-            if c != but && self.at(c) < limit.at(c) {
-                return true;
-            }
-        }
-        false
     }
 }

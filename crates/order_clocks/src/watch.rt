@@ -4,15 +4,15 @@ ghost use Rattle.std.specs.Prelude.{◌≡◌, [], List, Option, Some, ℕ, ◌<
 ghost use Rattle.axis_sets.specs.Positions.{position_of};
 ghost use Rattle.axis_sets.specs.Sets.{has};
 ghost use Rattle.order_clocks.specs.Happenings.{happening_of};
-ghost use Rattle.order_clocks.specs.Places.{BeginsAtMark, lowers_at};
+ghost use Rattle.order_clocks.specs.Watching.{lowers_at};
 ghost use Rattle.order_clocks.specs.Steps.{DepartsFromMark, HoldAtLineOfMark, departure_of, goes_in};
 ghost use Rattle.order_clocks.specs.Watching.{Keeps, IsRead, IsLawful, IsGone, WatchIsSound, begun_at, go_in, is_at_axes};
 ghost use Rattle.sync_types.specs.Boards.{Board};
 ghost use Rattle.sync_types.specs.Turns.{after_step};
 
 use crate::acts::{Act, changes_of, touches_of};
-use crate::groups::groups_of;
 use crate::deed::{Deed, Departure, Hold, HoldAtLine};
+use crate::groups::groups_of;
 use axis_sets::{AxisId, AxisSet, ChannelId, ChannelSet, MarkSet, Positions};
 use std::marker::Model;
 use sync_types::{Go, Step};
@@ -68,7 +68,12 @@ impl Watch {
     }
 
     /// A channel goes on, where it is among these.
-    pub(crate) fn let_go_of(&mut self, goes: &[Go], goers: &[bool; 9], number: u8) -> Option<Departure>
+    pub(crate) fn let_go_of(
+        &mut self,
+        goes: &[Go],
+        goers: &[bool; 9],
+        number: u8,
+    ) -> Option<Departure>
         requires from { 1 ≤ number }
         requires below { number < 9 }
         requires goers { (c : ℕ) → has goers.now c ≡ list_any (λ go. go.channel == c) goes.now }
@@ -108,7 +113,13 @@ impl Watch {
 
 impl Watch {
     /// Reads a step, and goes on to the next: who acts, with what, and who goes on.
-    pub(crate) fn tell(&mut self, channel: ChannelId, step: &Step, goes: &[Go], alarms: bool) -> Deed
+    pub(crate) fn tell(
+        &mut self,
+        channel: ChannelId,
+        step: &Step,
+        goes: &[Go],
+        alarms: bool,
+    ) -> Deed
         requires sound { WatchIsSound self.old }
         ensures sound { WatchIsSound self.new }
         ensures reads { (b : Board) → Keeps self.old b → IsLawful b channel step.now goes.now alarms → IsRead result (happening_of b channel step.now) }
@@ -121,7 +132,14 @@ impl Watch {
         self.open(channel, step.line, &act);
         let departures = self.depart(goes);
         let group = groups_of(&departures);
-        deed_of(channel, step.line, &act, touches_of(&step.action), departures, group)
+        deed_of(
+            channel,
+            step.line,
+            &act,
+            touches_of(&step.action),
+            departures,
+            group,
+        )
     }
 
     /// The own marks of a channel.
@@ -133,7 +151,14 @@ impl Watch {
 }
 
 /// A step, made of its parts.
-pub(crate) fn deed_of(channel: ChannelId, line: u32, act: &Act, touches: ChannelSet, goes: [Option<Departure>; 9], group: [u8; 9]) -> Deed
+pub(crate) fn deed_of(
+    channel: ChannelId,
+    line: u32,
+    act: &Act,
+    touches: ChannelSet,
+    goes: [Option<Departure>; 9],
+    group: [u8; 9],
+) -> Deed
     ensures { result ≡ (record { channel = channel; line = line; raises = act.now.raises; lowers = act.now.lowers; frees = act.now.frees; starts = act.now.starts; ends = act.now.ends; touches = touches; begins = act.now.begins; goes = goes; group = group }) }
 {
     Deed {

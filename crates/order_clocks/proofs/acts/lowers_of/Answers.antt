@@ -1,4 +1,4 @@
-use Rattle.std.proofs.Common.{◌≡◌, ℕ, ◌&&◌, not, ◌||◌, true, sym, ap, ◌∙◌, refl}
+use Rattle.std.proofs.Common.{◌&&◌, not, true, sym, ap, ◌∙◌}
 use Rattle.std.proofs.lemmas.Bool.{false≢true}
 use Rattle.axis_sets.specs.Sets.{has, members_of}
 use Rattle.std.specs.List.{list_any}

@@ -1,8 +1,7 @@
-use Rattle.std.proofs.Common.{rules, ◌≡◌, ℕ, ◌==◌, ◌&&◌, not, Bool, true, false, length, inl, inr, sym, ap, ◌∙◌, refl}
+use Rattle.std.proofs.Common.{rules, ◌≡◌, ◌==◌, ◌&&◌, not, Bool, true, false, inl, inr, sym, ◌∙◌, refl}
 use Rattle.std.proofs.lemmas.Bool.{cases_Bool, eqb-true}
 use Rattle.axis_sets.specs.Sets.{has}
 use Rattle.order_clocks.proofs.ActLaws.{without_members}
-use Rattle.sync_types.proofs.BoardTests.{no_truth}
 use Rattle.order_clocks.proofs.acts.others_of.Goals as goal
 
 pub returns-then-contains : goal.returns-then-contains

@@ -1,9 +1,7 @@
-use Rattle.std.proofs.Common.{◌≡◌, ℕ, ◌+◌, ◌-◌, ◌<◌, ◌≤◌, max, filter, length, List, [], get_or, Bool, true, false, refl, sym, ap, ◌∙◌, rules, arith}
+use Rattle.std.proofs.Common.{◌≡◌, ℕ, max, length, List, [], get_or, sym, ap, ◌∙◌, rules, arith}
 use Rattle.std.proofs.lemmas.Bool.{true≢false}
 use Rattle.std.proofs.lemmas.List.{get_or_default}
-use Rattle.std.specs.List.{range_with_len}
 use Rattle.axis_sets.specs.Sets.{has}
-use Rattle.order_clocks.specs.Counters.{top}
 use Rattle.order_clocks.specs.Rows.{count_of}
 use Rattle.order_clocks.proofs.GatherLaws.{gathered_step, gathered_all}
 use Rattle.order_clocks.proofs.gather.most_chosen.Goals as goal

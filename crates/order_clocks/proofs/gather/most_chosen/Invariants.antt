@@ -1,4 +1,4 @@
-use Rattle.std.proofs.Common.{◌≡◌, ℕ, ◌-◌, ◌<◌, ◌≤◌, max, filter, length, [], get_or}
+use Rattle.std.proofs.Common.{◌≡◌, ℕ, ◌-◌, max, filter, [], get_or}
 use Rattle.std.specs.List.{range_with_len}
 use Rattle.axis_sets.specs.Sets.{has}
 use Rattle.order_clocks.specs.Counters.{top}

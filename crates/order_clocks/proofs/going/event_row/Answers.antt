@@ -1,6 +1,4 @@
-use Rattle.std.proofs.Common.{◌≡◌, ℕ, Bool, List, length, refl, sym, ap, ◌∙◌, rules, arith}
-use Rattle.axis_sets.specs.Sets.{has}
-use Rattle.order_clocks.specs.Rows.{count_of, in_group, joint_top, joint_count}
+use Rattle.std.proofs.Common.{◌≡◌, length, ◌∙◌, rules}
 use Rattle.order_clocks.proofs.GoingLaws.{same_test, same_joint, same_count}
 use Rattle.order_clocks.proofs.going.event_row.Goals as goal
 

@@ -1,8 +1,6 @@
-use Rattle.std.proofs.Common.{◌≡◌, ℕ, ◌<◌, length, Bool, false, inl, inr, List, sym, ap, ◌∙◌, refl, rules, arith}
+use Rattle.std.proofs.Common.{◌≡◌, length, false, inl, inr, sym, ◌∙◌, rules, arith}
 use Rattle.std.proofs.lemmas.Bool.{cases_lt}
 use Rattle.std.proofs.Math.ListN.{get_or-eq_default}
-use Rattle.axis_sets.specs.Sets.{has}
-use Rattle.order_clocks.specs.Steps.{goes_in, is_given}
 use Rattle.order_clocks.proofs.StepLaws.{past_gone}
 use Rattle.order_clocks.proofs.going.goers.Goals as goal
 

@@ -1,4 +1,4 @@
-use Rattle.std.proofs.Common.{◌≡◌, ℕ, ◌<◌, ◌≤◌, length, None, get_or, if◌then◌else◌}
+use Rattle.std.proofs.Common.{◌≡◌, ℕ, ◌<◌, length, None, get_or}
 use Rattle.axis_sets.specs.Sets.{has}
 use Rattle.order_clocks.specs.Steps.{is_given}
 use Rattle.order_clocks.proofs.going.goers.Given as goal

@@ -1,6 +1,6 @@
-use Rattle.std.proofs.Common.{◌≡◌, ℕ, ◌+◌, ◌<◌, Bool, true, false, List, [], length, slice_index, slice_index_or, refl, sym, ap, ◌∙◌, rules, arith}
+use Rattle.std.proofs.Common.{◌≡◌, false, slice_index, rules, arith}
 use Rattle.axis_sets.specs.Sets.{has}
-use Rattle.order_clocks.specs.Rows.{count_of, joint_count}
+use Rattle.order_clocks.specs.Rows.{joint_count}
 use Rattle.order_clocks.proofs.GoingLaws.{done_after, done_still}
 use Rattle.order_clocks.proofs.going.joint_rows.Goals as goal
 use Rattle.order_clocks.proofs.going.joint_rows.Goals.{then-goes-c, else-goes-c}

@@ -1,7 +1,5 @@
-use Rattle.std.proofs.Common.{rules, ◌≡◌, ℕ, ◌<◌, ◌≤◌, true, inl, inr, List, sym, ap, ◌∙◌, refl, arith}
-use Rattle.std.specs.Prelude.{slice_index}
+use Rattle.std.proofs.Common.{◌≡◌, inl, inr, sym, arith}
 use Rattle.std.proofs.lemmas.Bool.{cases_lt}
-use Rattle.order_clocks.specs.Partners.{are_partners}
 use Rattle.order_clocks.proofs.groups.groups_of.Goals as goal
 
 pub loop-a-preserved : goal.loop-a-preserved
@@ -12,6 +10,6 @@ loop-a-preserved c = record {
     | inr later ↦
         let same : e ≡ c.loop-a.a = omega arith in
         rw (sym same) at (c.join_to.ensures.joined) f f_from f_below on
-    ];
+  ];
   linked = λ ps pairs. c.join_to.ensures.linked ps pairs (c.loop-a.invariant.linked ps pairs);
 }

@@ -8,5 +8,5 @@ abbrev pub invariant-loop-a : goal.invariant-loop-a
 invariant-loop-a l = record {
   size : length l.group ≡ 9;
   joined : (e f : ℕ) → 1 ≤ e → e < l.a → 1 ≤ f → f < 9 → are_partners l.goes e f ≡ true → slice_index l.group e ≡ slice_index l.group f;
-  linked : (ps : List Pair) → PairsAllPartners ps l.goes → AreAllLinked ps l.group
+  linked : (ps : List Pair) → PairsAllPartners ps l.goes → AreAllLinked ps l.group;
 }

@@ -1,5 +1,4 @@
-use Rattle.std.proofs.Common.{rules, ◌≡◌, ℕ, ◌<◌, sym}
-use Rattle.order_clocks.proofs.GroupLaws.{IsRelabelled, relabel_keeps, relabel_joins, relabel_links}
+use Rattle.order_clocks.proofs.GroupLaws.{relabel_keeps, relabel_joins, relabel_links}
 use Rattle.order_clocks.proofs.groups.join.Goals as goal
 
 pub returns-clause-kept : goal.returns-clause-kept

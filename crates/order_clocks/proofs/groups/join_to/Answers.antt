@@ -1,7 +1,5 @@
-use Rattle.std.proofs.Common.{rules, ◌≡◌, ℕ, ◌<◌, ◌≤◌, true, false, inl, inr, List, sym, ap, ◌∙◌, refl, arith}
-use Rattle.std.specs.Prelude.{slice_index}
+use Rattle.std.proofs.Common.{◌≡◌, inl, inr, arith}
 use Rattle.std.proofs.lemmas.Bool.{cases_lt}
-use Rattle.order_clocks.specs.Partners.{are_partners}
 use Rattle.order_clocks.proofs.groups.join_to.Goals as goal
 
 pub loop-b-preserved : goal.loop-b-preserved
@@ -13,6 +11,6 @@ loop-b-preserved c = record {
     | inr later ↦
         let same : e ≡ c.loop-b.b = omega arith in
         rw same (c.join_partners.ensures.joined (rw same at on))
-    ];
+  ];
   linked = λ ps pairs all. c.join_partners.ensures.linked ps pairs (c.loop-b.invariant.linked ps pairs all);
 }

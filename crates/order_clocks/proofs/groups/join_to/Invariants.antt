@@ -9,5 +9,5 @@ invariant-loop-b l = record {
   size : length l.group ≡ 9;
   kept : (c d : ℕ) → c < 9 → d < 9 → slice_index l.initial.group c ≡ slice_index l.initial.group d → slice_index l.group c ≡ slice_index l.group d;
   joined : (e : ℕ) → 1 ≤ e → e < l.b → are_partners l.goes l.a e ≡ true → slice_index l.group l.a ≡ slice_index l.group e;
-  linked : (ps : List Pair) → PairsAllPartners ps l.goes → AreAllLinked ps l.initial.group → AreAllLinked ps l.group
+  linked : (ps : List Pair) → PairsAllPartners ps l.goes → AreAllLinked ps l.initial.group → AreAllLinked ps l.group;
 }

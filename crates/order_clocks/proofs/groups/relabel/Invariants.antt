@@ -6,5 +6,5 @@ abbrev pub invariant-loop-c : goal.invariant-loop-c
 invariant-loop-c l = record {
   size : length l.group ≡ 9;
   done : (k : ℕ) → k < l.c → slice_index l.group k ≡ (if slice_index l.initial.group k == l.old then l.new else slice_index l.initial.group k);
-  rest : (k : ℕ) → l.c ≤ k → slice_index l.group k ≡ slice_index l.initial.group k
+  rest : (k : ℕ) → l.c ≤ k → slice_index l.group k ≡ slice_index l.initial.group k;
 }

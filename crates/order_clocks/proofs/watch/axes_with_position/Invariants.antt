@@ -8,5 +8,5 @@ abbrev pub invariant-loop-index : goal.invariant-loop-index
 invariant-loop-index l = record {
   size : 0 < l.index → length l.at ≡ 16;
   done : (x : ℕ) → x < l.index → has l.axes x ≡ is_some (position_of l.at x);
-  rest : (x : ℕ) → l.index ≤ x → has l.axes x ≡ false
+  rest : (x : ℕ) → l.index ≤ x → has l.axes x ≡ false;
 }

@@ -1,10 +1,5 @@
-use Rattle.std.proofs.Common.{◌≡◌, ℕ, ◌<◌, max, length, List, [], true, get_or, slice_index, slice_index_or, refl, sym, ap, ◌∙◌, rules, arith}
-use Rattle.order_clocks.specs.Happenings.{Key}
-use Rattle.axis_sets.specs.Sets.{has, members_of}
-use Rattle.order_clocks.specs.Courses.{Course}
-use Rattle.order_clocks.specs.Counters.{top, LastRows, rows_after_goings, go_row, last_rows}
-use Rattle.order_clocks.specs.Rows.{count_of}
-use Rattle.order_clocks.specs.Steps.{DepartsFromMark, IsStep, Shows, HasRoom, keys_of, gives_of, departure_of, goes_in, row_at}
+use Rattle.std.proofs.Common.{◌≡◌, true, refl, ◌∙◌}
+use Rattle.axis_sets.specs.Sets.{has}
 use Rattle.order_clocks.proofs.StepLaws.{joint_room, go_shows, closed_shows, row_at_same, below_nine}
 use Rattle.order_clocks.proofs.times.Times.close.Goals as goal
 

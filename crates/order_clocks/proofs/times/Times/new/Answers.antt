@@ -1,6 +1,4 @@
-use Rattle.std.proofs.Common.{◌≡◌, ℕ, List, [], slice_index_or, refl, sym, ap, ◌∙◌, replicate, rules, arith}
-use Rattle.order_clocks.specs.Rows.{count_of}
-use Rattle.order_clocks.specs.Steps.{row_at}
+use Rattle.std.proofs.Common.{refl, replicate}
 use Rattle.order_clocks.proofs.CountingLaws.{zero_row, zero_at}
 use Rattle.order_clocks.proofs.times.Times.new.Goals as goal
 

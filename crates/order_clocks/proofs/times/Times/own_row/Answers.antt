@@ -1,10 +1,8 @@
-use Rattle.std.proofs.Common.{◌≡◌, ℕ, ◌<◌, max, length, List, [], get_or, slice_index_or, refl, sym, ap, ◌∙◌, rules, arith}
-use Rattle.order_clocks.specs.Happenings.{Key, Raised, Freed, Started, Ended}
-use Rattle.axis_sets.specs.Sets.{has, members_of}
-use Rattle.order_clocks.specs.Counters.{top}
+use Rattle.std.proofs.Common.{ℕ, List, sym, ap, ◌∙◌}
+use Rattle.order_clocks.specs.Happenings.{Raised, Freed, Ended}
 use Rattle.order_clocks.specs.Rows.{count_of}
 use Rattle.order_clocks.specs.declared.deed.Hold.TheVariants.{Marks}
-use Rattle.order_clocks.specs.Steps.{DepartsFromMark, keys_of, gives_of, row_at}
+use Rattle.order_clocks.specs.Steps.{row_at}
 use Rattle.order_clocks.proofs.StepLaws.{most_is, asked_marks, asked_ends, asked_axes}
 use Rattle.order_clocks.proofs.times.Times.own_row.Goals as goal
 

@@ -1,9 +1,5 @@
-use Rattle.std.proofs.Common.{◌≡◌, ℕ, ◌<◌, max, length, List, [], true, get_or, slice_index, slice_index_or, refl, sym, ap, ◌∙◌, rules, arith}
-use Rattle.order_clocks.specs.Happenings.{Key}
-use Rattle.order_clocks.specs.Counters.{top, LastRows, act_row, rows_after_act, rows_after_goings, go_row, last_rows}
-use Rattle.order_clocks.specs.Rows.{count_of}
-use Rattle.order_clocks.specs.Courses.{Course}
-use Rattle.order_clocks.specs.Steps.{DepartsFromMark, IsStep, Shows, HasRoom, AreRows, keys_of, gives_of, departure_of, goes_in, row_at}
+use Rattle.std.proofs.Common.{sym, ◌∙◌}
+use Rattle.order_clocks.specs.Counters.{rows_after_act, last_rows}
 use Rattle.order_clocks.proofs.StepLaws.{opened_room, act_shows, opened_shows}
 use Rattle.order_clocks.proofs.times.Times.step.Goals as goal
 

@@ -1,12 +1,10 @@
-use Rattle.std.proofs.Common.{rules, ◌≡◌, ◌≢◌, ℕ, ◌+◌, ◌<◌, ◌≤◌, ◌==◌, ◌&&◌, ◌||◌, not, Bool, true, false, List, [], None, inl, inr, length, slice_set, sym, ap, ◌∙◌, refl, arith, if◌then◌else◌}
+use Rattle.std.proofs.Common.{rules, ◌≡◌, ◌<◌, ◌==◌, false, [], None, inl, inr, length, sym, ◌∙◌, refl, arith}
 use Rattle.std.specs.Prelude.{is_some, slice_index_or}
 use Rattle.std.proofs.lemmas.Bool.{cases_Bool, eqb-true, eqb-false}
 use Rattle.std.proofs.lemmas.List.{get_or-set_same, get_or-set_other}
 use Rattle.std.proofs.Math.ListN.{get_or-eq_default}
 use Rattle.axis_sets.specs.Sets.{has}
-use Rattle.order_clocks.specs.Places.{lowers_at}
-use Rattle.order_clocks.specs.Watching.{IsGone, go_in}
-use Rattle.order_clocks.specs.declared.deed.HoldAtLine.{HoldAtLine}
+use Rattle.order_clocks.specs.Watching.{go_in}
 use Rattle.order_clocks.proofs.WatchLaws.{is_done, done_more, not_done, wait_more, marks_more, is_absent, all_found, out_of_done}
 use Rattle.order_clocks.proofs.watch.Watch.depart.Goals as goal
 
@@ -28,7 +26,7 @@ loop-number-preserved c =
             rw (e, at, get_or-set_same c.loop-number.gone n c.let_go_of.result None room, sym before) c.let_go_of.ensures.gone
         | inr other ↦
             rw (at, get_or-set_other c.loop-number.gone n k c.let_go_of.result None (eqb-false k n other)) (i.gone k (rw (done_more n k from, other) at on))
-        ];
+      ];
       none = rw (at, get_or-set_other c.loop-number.gone n 0 c.let_go_of.result None (λ zero. absurd (omega arith))) i.none;
       holds = λ k. c.let_go_of.ensures.holds k ∙ rw (i.holds k, done_more n k from) (wait_more (k == n) (is_done n k) (is_some (go_in c.args.goes.now k)) None (slice_index_or c.args.self.now.holds k None));
       marks = λ k m. c.let_go_of.ensures.marks k m ∙ rw (i.marks k m, i.holds k, done_more n k from) (marks_more (k == n) (is_done n k) (is_some (go_in c.args.goes.now k)) (has (slice_index_or c.args.self.now.marks k []) m) (slice_index_or c.args.self.now.holds k None) m);
@@ -42,12 +40,12 @@ returns-clause-goes c = λ k.
     let last : c.loop-number.number ≡ 9 = search rules in
     let goers = c.goers_in-goers.ensures in
     elim (cases_Bool (is_done 9 k)) [
-    | inl on ↦ i.gone k (rw last on)
-    | inr off ↦ elim (out_of_done k off) [
-      | inl zero ↦ rw (zero, i.none, is_absent c.args.goes.now c.goers_in-goers.result 0 goers.members goers.from) (record {})
-      | inr past ↦
-          let no_place : slice_index_or c.loop-number.gone k None ≡ None = get_or-eq_default c.loop-number.gone None (rw i.size past) in
-          rw (no_place, is_absent c.args.goes.now c.goers_in-goers.result k goers.members (get_or-eq_default c.goers_in-goers.result false (rw goers.size past))) (record {})
+      | inl on ↦ i.gone k (rw last on)
+      | inr off ↦ elim (out_of_done k off) [
+        | inl zero ↦ rw (zero, i.none, is_absent c.args.goes.now c.goers_in-goers.result 0 goers.members goers.from) (record {})
+        | inr past ↦
+            let no_place : slice_index_or c.loop-number.gone k None ≡ None = get_or-eq_default c.loop-number.gone None (rw i.size past) in
+            rw (no_place, is_absent c.args.goes.now c.goers_in-goers.result k goers.members (get_or-eq_default c.goers_in-goers.result false (rw goers.size past))) (record {})
       ]
     ]
 

@@ -1,8 +1,7 @@
-use Rattle.std.proofs.Common.{◌≡◌, ℕ, ◌<◌, ◌≤◌, ◌==◌, ◌&&◌, not, Bool, true, false, List, [], None, length, if◌then◌else◌, nat_lt}
-use Rattle.std.specs.List.{list_any}
+use Rattle.std.proofs.Common.{◌≡◌, ℕ, ◌≤◌, ◌&&◌, not, true, [], None, length, if◌then◌else◌}
 use Rattle.std.specs.Prelude.{is_some, slice_index_or}
 use Rattle.axis_sets.specs.Sets.{has}
-use Rattle.order_clocks.specs.Places.{lowers_at}
+use Rattle.order_clocks.specs.Watching.{lowers_at}
 use Rattle.order_clocks.specs.Watching.{IsGone, go_in}
 use Rattle.order_clocks.proofs.WatchLaws.{is_done}
 use Rattle.order_clocks.proofs.watch.Watch.depart.Given as goal
@@ -14,5 +13,5 @@ invariant-loop-number l = record {
   gone : (c : ℕ) → is_done l.number c ≡ true → IsGone (slice_index_or l.gone c None) (slice_index_or l.initial.self.holds c None) (go_in l.goes c);
   none : slice_index_or l.gone 0 None ≡ None;
   holds : (c : ℕ) → slice_index_or l.self.holds c None ≡ (if is_done l.number c && is_some (go_in l.goes c) then None else slice_index_or l.initial.self.holds c None);
-  marks : (c m : ℕ) → has (slice_index_or l.self.marks c []) m ≡ (has (slice_index_or l.initial.self.marks c []) m && not ((is_done l.number c && is_some (go_in l.goes c)) && lowers_at (slice_index_or l.initial.self.holds c None) m))
+  marks : (c m : ℕ) → has (slice_index_or l.self.marks c []) m ≡ (has (slice_index_or l.initial.self.marks c []) m && not ((is_done l.number c && is_some (go_in l.goes c)) && lowers_at (slice_index_or l.initial.self.holds c None) m));
 }

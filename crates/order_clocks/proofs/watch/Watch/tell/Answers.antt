@@ -1,15 +1,13 @@
-use Rattle.std.proofs.Common.{rules, ◌≡◌, ℕ, ◌<◌, ◌≤◌, ◌==◌, Bool, true, false, List, [], None, map, length, sym, ap, ◌∙◌, refl}
-use Rattle.std.specs.Prelude.{is_some, slice_index_or}
+use Rattle.std.proofs.Common.{ℕ, ◌==◌, Bool, List, None, ap, ◌∙◌, refl}
+use Rattle.std.specs.Prelude.{slice_index_or}
 use Rattle.axis_sets.specs.Sets.{has}
 use Rattle.order_clocks.specs.Happenings.{happening_of}
-use Rattle.order_clocks.specs.Steps.{is_given}
-use Rattle.order_clocks.specs.Watching.{Keeps, IsLawful, IsRead, WaitIsSound, begun_at}
+use Rattle.order_clocks.specs.Watching.{WaitIsSound}
 use Rattle.order_clocks.proofs.PartnerLaws.{AreRead, pairs_all, groups_are, given_below, sound_begun}
 use Rattle.order_clocks.proofs.ReadLaws.{IsChange, changes_are}
 use Rattle.order_clocks.proofs.TellLaws.{keeps_part, keeps_goings, goes_from, going_read}
 use Rattle.order_clocks.proofs.watch.Watch.tell.Goals as goal
 use Rattle.sync_types.specs.BoardActions.{after_own_part}
-use Rattle.sync_types.specs.Boards.{Board}
 use Rattle.sync_types.specs.Events.{pairs_of}
 use Rattle.sync_types.specs.Turns.{goings_in_step}
 
@@ -17,7 +15,7 @@ pub returns-clause-reads : goal.returns-clause-reads
 returns-clause-reads c = λ b keeps lawful.
     let own = λ (m : ℕ). ap (λ (s : List Bool). has s m) c.own.ensures ∙ keeps.marks c.args.channel m in
     let change : IsChange c.changes_of-act.result (happening_of b c.args.channel c.args.step.now) =
-      changes_are b c.args.channel c.args.step.now (has c.own.result) c.changes_of-act.result c.args.alarms lawful.alarm own c.changes_of-act.ensures.none c.changes_of-act.ensures.act in
+    changes_are b c.args.channel c.args.step.now (has c.own.result) c.changes_of-act.result c.args.alarms lawful.alarm own c.changes_of-act.ensures.none c.changes_of-act.ensures.act in
     let part = keeps_part c.args.self.now c.open.new.self b c.args.channel c.args.step.now c.changes_of-act.result keeps lawful.running change c.open.ensures.marks c.open.ensures.holds in
     let sound : (d : ℕ) → WaitIsSound (slice_index_or c.open.new.self.holds d None) = λ d. rw (c.open.ensures.holds d) (sound_begun (d == c.args.channel) c.changes_of-act.result.begins c.args.step.now.line (slice_index_or c.args.self.now.holds d None) (c.requires.sound.holds d) c.changes_of-act.ensures.sound) in
     let read = λ (d : ℕ). going_read c.open.new.self b c.args.channel c.args.step.now c.args.goes.now d (slice_index_or c.depart-departures.result d None) lawful.running part (sound d) lawful.goings (c.depart-departures.ensures.goes d) in
@@ -39,15 +37,15 @@ returns-clause-reads c = λ b keeps lawful.
       begins = change.begins;
       goings = read;
       group = λ d e d_on e_on. groups_are c.depart-departures.result (goings_in_step b c.args.channel c.args.step.now) (after_own_part b c.args.channel c.args.step.now) c.groups_of-group.result are
-        c.groups_of-group.ensures.joined
-        (c.groups_of-group.ensures.linked (pairs_of (goings_in_step b c.args.channel c.args.step.now)) (pairs_all c.depart-departures.result (goings_in_step b c.args.channel c.args.step.now) (after_own_part b c.args.channel c.args.step.now) are))
-        d e (given_below c.depart-departures.result d c.depart-departures.ensures.size d_on) (given_below c.depart-departures.result e c.depart-departures.ensures.size e_on);
+          c.groups_of-group.ensures.joined
+          (c.groups_of-group.ensures.linked (pairs_of (goings_in_step b c.args.channel c.args.step.now)) (pairs_all c.depart-departures.result (goings_in_step b c.args.channel c.args.step.now) (after_own_part b c.args.channel c.args.step.now) are))
+          d e (given_below c.depart-departures.result d c.depart-departures.ensures.size d_on) (given_below c.depart-departures.result e c.depart-departures.ensures.size e_on);
     })
 
 pub returns-clause-keeps : goal.returns-clause-keeps
 returns-clause-keeps c = λ b keeps lawful.
     let own = λ (m : ℕ). ap (λ (s : List Bool). has s m) c.own.ensures ∙ keeps.marks c.args.channel m in
     let change : IsChange c.changes_of-act.result (happening_of b c.args.channel c.args.step.now) =
-      changes_are b c.args.channel c.args.step.now (has c.own.result) c.changes_of-act.result c.args.alarms lawful.alarm own c.changes_of-act.ensures.none c.changes_of-act.ensures.act in
+    changes_are b c.args.channel c.args.step.now (has c.own.result) c.changes_of-act.result c.args.alarms lawful.alarm own c.changes_of-act.ensures.none c.changes_of-act.ensures.act in
     let part = keeps_part c.args.self.now c.open.new.self b c.args.channel c.args.step.now c.changes_of-act.result keeps lawful.running change c.open.ensures.marks c.open.ensures.holds in
     keeps_goings c.open.new.self c.depart-departures.new.self b c.args.channel c.args.step.now c.args.goes.now lawful.running part lawful.goings c.depart-departures.ensures.holds c.depart-departures.ensures.marks
