@@ -1,3 +1,4 @@
 pub mod Levels
 pub mod Run
 pub mod Kept
+pub mod StartStates

@@ -7,6 +7,7 @@ mod levels;
 mod limits;
 mod local;
 mod run;
+mod start;
 mod surroundings;
 mod threads;
 
@@ -14,3 +15,4 @@ pub use laws::{alarms_are_listed, motions_are_few, motions_are_sound, motions_fo
 pub use limits::BLOCK_LIMIT;
 pub use local::Local;
 pub use run::{Segment, run_segment};
+pub use start::start_state;
