@@ -11,3 +11,4 @@ pub mod Follows
 pub mod Placed
 pub mod Searching
 pub mod Segments
+pub mod StartLaws

@@ -3,3 +3,4 @@ pub mod Grants
 pub mod Levels
 pub mod Run
 pub mod Kept
+pub mod StartStates

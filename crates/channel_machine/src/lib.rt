@@ -9,6 +9,7 @@ mod levels;
 mod limits;
 mod local;
 mod run;
+mod start;
 mod surroundings;
 mod threads;
 
@@ -20,3 +21,4 @@ pub use laws::{
 pub use limits::BLOCK_LIMIT;
 pub use local::Local;
 pub use run::{Segment, run_on, run_segment};
+pub use start::start_state;

@@ -15,6 +15,8 @@ mod reports;
 #[cfg(test)]
 mod segments;
 #[cfg(test)]
+mod starts;
+#[cfg(test)]
 mod streams;
 #[cfg(test)]
 mod texts;

@@ -18,14 +18,19 @@ carried_side {X = X} P test (x ∷ xs) all some = by_test (test x) refl some (ca
     by_test true is some rest = (x, All-head P x xs all, is)
     by_test false is some rest = rest some
 
--- an axis of a zone is its holder's
-pub carrier_owned : (job : JobView) (zone : ZoneLine) → IsSoundZone job zone → (axis : ℕ) → has_axis zone axis ≡ true → first_owner job axis ≡ zone.holder
+-- an axis that carries a zone is one of the job, and its holder's
+pub carrier_there : (job : JobView) (zone : ZoneLine) → IsSoundZone job zone → (axis : ℕ) → has_axis zone axis ≡ true
+    → (axis < length job.axes) × (first_owner job axis ≡ zone.holder)
 unfolding has_axis
-carrier_owned job zone sound axis has = by_side (carried_side (IsCarriedBy job zone.holder) (λ side. is_carrier axis side.carrier) zone.sides sound.carried has)
+carrier_there job zone sound axis has = by_side (carried_side (IsCarriedBy job zone.holder) (λ side. is_carrier axis side.carrier) zone.sides sound.carried has)
   where
-    by_carrier : (o : Option (ℕ × Bool)) → IfSome o (λ carrier. (carrier.0 < length job.axes) × (first_owner job carrier.0 ≡ zone.holder)) → is_carrier axis o ≡ true → first_owner job axis ≡ zone.holder
+    by_carrier : (o : Option (ℕ × Bool)) → IfSome o (λ carrier. (carrier.0 < length job.axes) × (first_owner job carrier.0 ≡ zone.holder)) → is_carrier axis o ≡ true
+        → (axis < length job.axes) × (first_owner job axis ≡ zone.holder)
     by_carrier None owned is = absurd (false≢true is)
-    by_carrier (Some carrier) owned is = subst (λ a. first_owner job a ≡ zone.holder) (eqb-true carrier.0 axis is) owned.1
+    by_carrier (Some carrier) owned is = subst (λ a. (a < length job.axes) × (first_owner job a ≡ zone.holder)) (eqb-true carrier.0 axis is) owned
 
-    by_side : (side : Side) × IsCarriedBy job zone.holder side × (is_carrier axis side.carrier ≡ true) → first_owner job axis ≡ zone.holder
+    by_side : (side : Side) × IsCarriedBy job zone.holder side × (is_carrier axis side.carrier ≡ true) → (axis < length job.axes) × (first_owner job axis ≡ zone.holder)
     by_side (side, owned, is) = by_carrier side.carrier owned is
+
+pub carrier_owned : (job : JobView) (zone : ZoneLine) → IsSoundZone job zone → (axis : ℕ) → has_axis zone axis ≡ true → first_owner job axis ≡ zone.holder
+carrier_owned job zone sound axis has = (carrier_there job zone sound axis has).1
