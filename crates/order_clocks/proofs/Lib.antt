@@ -13,6 +13,7 @@ pub mod GroupLaws
 pub mod MemberLaws
 pub mod OrderLaws
 pub mod PartnerLaws
+pub mod RaceRows
 pub mod ReadLaws
 pub mod StepLaws
 pub mod StopLaws

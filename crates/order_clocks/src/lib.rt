@@ -16,8 +16,8 @@ mod threads;
 mod times;
 mod watch;
 
-pub use clocks::{Clocks, clocks_of};
 pub(crate) use clocks::StepRows;
+pub use clocks::{Clocks, clocks_of};
 pub(crate) use deed::Deed;
 pub(crate) use row::Row;
 pub(crate) use times::Times;
