@@ -1,14 +1,13 @@
 -- When a start state is sound, by tests of its lines.
-use Rattle.std.proofs.Common.{subst, inl, inr, ◌≡◌, ℕ, ℤ, ◌==◌, ◌&&◌, ◌||◌, not, Bool, true, false, List, [], ◌∷◌, map, Option, Some, None, refl, sym, ap, ◌∙◌, eqb-true}
+use Rattle.std.proofs.Common.{inl, inr, ◌≡◌, ℕ, ℤ, ◌==◌, ◌&&◌, ◌||◌, not, Bool, true, false, List, [], ◌∷◌, map, Option, Some, None, refl, sym, ap, ◌∙◌, eqb-true}
 use Rattle.std.specs.Prelude.{find, is_some}
 use Rattle.std.proofs.lemmas.Bool.{cases_Bool, and_parts}
-use Rattle.std.specs.List.{list_all, list_any}
+use Rattle.std.specs.List.{list_all}
 use Rattle.std.specs.Option.{option_map_or}
 use Rattle.axis_sets.proofs.SetLaws.{list_any-members_of}
 use Rattle.axis_sets.specs.Sets.{has, members_of}
 use Rattle.sync_types.proofs.BoardTests.{no_truth, passes}
-use Rattle.sync_types.specs.Boards.{among}
-use Rattle.sync_types.specs.Starts.{IsSound, axes_of_zone, first_holder, first_owner, has_axis, has_channel, stand_once}
+use Rattle.sync_types.specs.Starts.{IsSound, first_owner, has_axis, has_channel, stand_once}
 use Rattle.sync_types.specs.Views.{StartView}
 
 -- what all lines pass, the one that is found passes
