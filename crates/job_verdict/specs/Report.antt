@@ -109,15 +109,11 @@ channel_place_text place = codes "CHANNEL " ++ (decimal place.0 ++ (codes " LINE
 unfoldable pub race_line : Race → List ℕ
 race_line race = codes "VERDICT RACE " ++ (channel_place_text race.first ++ (codes " " ++ (channel_place_text race.second ++ codes "\n")))
 
--- the verdict line of a channel that waits for good
-unfoldable pub stuck_line : ℕ × ℕ → List ℕ
-stuck_line place = codes "VERDICT STUCK " ++ (channel_place_text place ++ codes "\n")
-
 -- the verdict line
 unfoldable pub verdict_line : Verdict → List ℕ
 verdict_line Yes = codes "VERDICT YES\n"
 verdict_line (verdicts.Race race) = race_line race
-verdict_line (verdicts.Stuck channel line) = stuck_line (channel, line)
+verdict_line (verdicts.Stuck channel line) = codes "VERDICT STUCK CHANNEL " ++ (decimal channel ++ (codes " LINE " ++ (decimal line ++ codes "\n")))
 verdict_line (No place other) = codes "VERDICT NO " ++ (place_text place ++ (codes " " ++ (place_text other ++ codes "\n")))
 verdict_line (Undecided count budget) = codes "VERDICT UNDECIDED COUNT " ++ (decimal count ++ (codes " BUDGET " ++ (decimal budget ++ codes "\n")))
 verdict_line (verdicts.Alarm channel alarm) = codes "VERDICT ALARM CHANNEL " ++ (decimal channel ++ (codes " LINE " ++ (decimal alarm.line ++ (codes " CODE " ++ (decimal alarm.code ++ codes "\n")))))

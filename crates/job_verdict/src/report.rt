@@ -273,16 +273,6 @@ fn push_race_line(out: &mut String, race: &Race) -> Result<(), AllocError>
     out.push_str("\n")
 }
 
-/// Writes the verdict line of a channel that waits for good.
-#[tactic(auto, unfolding(crate::specs::Report::stuck_line))]
-fn push_stuck_line(out: &mut String, place: (ChannelId, u32)) -> Result<(), AllocError>
-    ensures { OnOk result (string_bytes out.new ≡ string_bytes out.old ++ model.stuck_line place) }
-{
-    out.push_str("VERDICT STUCK ")?;
-    push_channel_place(out, place)?;
-    out.push_str("\n")
-}
-
 /// Writes the verdict line.
 #[tactic(auto, unfolding(crate::specs::Report::verdict_line))]
 fn push_verdict_line(out: &mut String, verdict: &Verdict) -> Result<(), AllocError>
@@ -291,7 +281,11 @@ fn push_verdict_line(out: &mut String, verdict: &Verdict) -> Result<(), AllocErr
     match verdict {
         Verdict::Yes => out.push_str("VERDICT YES\n"),
         Verdict::Race(race) => push_race_line(out, race),
-        Verdict::Stuck(channel, line) => push_stuck_line(out, (*channel, *line)),
+        Verdict::Stuck(channel, line) => {
+            let channel = channel.number;
+            let line = *line;
+            write!(out, "VERDICT STUCK CHANNEL {channel} LINE {line}\n")
+        }
         Verdict::No(place, other) => {
             out.push_str("VERDICT NO ")?;
             push_place(out, place)?;
