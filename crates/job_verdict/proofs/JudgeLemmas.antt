@@ -24,9 +24,9 @@ use Rattle.job_verdict.specs.Stretches.{Event, Stretch, spans_of, stretches_from
 use Rattle.job_verdict.specs.StretchView.{StretchView}
 use Rattle.job_verdict.specs.ZoneBoxes.{IsFit, PlaceBox, boxes_of, shown_box, moving_box, standing_box, moves_zone}
 use Rattle.sync_types.specs.declared.Item.{Item}
-use Rattle.job_verdict.specs.declared.stretches.PlaceName.{PlaceName}
-use Rattle.job_verdict.specs.declared.stretches.StretchKind.{StretchKind}
-use Rattle.job_verdict.specs.declared.stretches.StretchKind.TheVariants.{Run, End, Free}
+use Rattle.sync_types.specs.declared.verdicts.PlaceName.{PlaceName}
+use Rattle.sync_types.specs.declared.verdicts.StretchKind.{StretchKind}
+use Rattle.sync_types.specs.declared.verdicts.StretchKind.TheVariants.{Idle, Run, Hold, End, Free}
 use Rattle.job_types.specs.Zones.{zones_in_order, has_axis}
 use Rattle.job_types.specs.SoundJob.{IsRunnable}
 use Rattle.job_types.specs.Axes.{start_position}
@@ -198,10 +198,16 @@ overlap_at None d k m = open_free (last_of d m)
 overlap_at (Some c) None k m = and_true (is_open_at own_clock (last_of (Some c) k) None) ∙ open_free (last_of (Some c) k)
 overlap_at (Some c) (Some d) Run Run = not_both (d == c)
 overlap_at (Some c) (Some d) Run End = and_true (nat_lt (cond {A = ℕ} (c == d) 1 0) 1) ∙ apart (c == d) ∙ ap not (eqb-turned c d ∙ sym (and_true (d == c)))
+overlap_at (Some c) (Some d) Run Idle = not_both (d == c)
+overlap_at (Some c) (Some d) Run Hold = not_both (d == c)
 overlap_at (Some c) (Some d) Run Free = not_both (d == c)
 overlap_at (Some c) (Some d) End Run = apart (d == c) ∙ ap not (sym (and_true (d == c)))
 overlap_at (Some c) (Some d) End End = not_both (d == c)
+overlap_at (Some c) (Some d) End Idle = not_both (d == c)
+overlap_at (Some c) (Some d) End Hold = not_both (d == c)
 overlap_at (Some c) (Some d) End Free = not_both (d == c)
+overlap_at (Some c) (Some d) Idle m = both_open None (last_of (Some d) m) ∙ not_both (d == c)
+overlap_at (Some c) (Some d) Hold m = both_open None (last_of (Some d) m) ∙ not_both (d == c)
 overlap_at (Some c) (Some d) Free m = both_open None (last_of (Some d) m) ∙ not_both (d == c)
 
 pub overlap_is : (job : JobView) (zone other : ZoneLine) (s t : Stretch) → IsTimed s → IsTimed t → may_overlap own_clock s t ≡ do_overlap (shown_stretch job zone s) (shown_stretch job other t)

@@ -28,7 +28,7 @@ use Rattle.job_types.specs.SoundJob.{IsDeclared, IsSoundZone, IsSoundJob}
 use Rattle.job_verdict.specs.Stretches.{Stretch, channel_line, spans_of, stretches_from, free_stretch, stretches_of}
 use Rattle.job_verdict.specs.ZoneBoxes.{PlaceBox, boxes_of, piece_boxes}
 use Rattle.sync_types.specs.declared.Item.{Item}
-use Rattle.job_verdict.specs.declared.stretches.Verdict.TheVariants.{Yes}
+use Rattle.sync_types.specs.declared.verdicts.Verdict.TheVariants.{Yes}
 use Rattle.job_types.specs.Zones.{zones_in_order, has_axis}
 use Rattle.job_types.specs.Axes.{start_position, first_owner}
 

@@ -13,8 +13,8 @@ use Rattle.job_verdict.specs.ChannelRun.{IsListedEnd}
 use Rattle.job_verdict.specs.ChannelRun.{RunView, run_of, runs_of, run_in}
 use Rattle.job_verdict.specs.FirstAnswer.{first_some}
 use Rattle.job_verdict.specs.Clash.{BoxPlace, alarm_of, stop_of, first_alarm, compared_pairs, pair_count, pair_meets, pairs_verdict, boxes_verdict, verdict_of}
-use Rattle.job_verdict.specs.declared.stretches.Verdict.TheVariants.{Yes, Undecided}
-use Rattle.job_verdict.specs.declared.stretches.Verdict.TheVariants as verdicts
+use Rattle.sync_types.specs.declared.verdicts.Verdict.TheVariants.{Yes, Undecided}
+use Rattle.sync_types.specs.declared.verdicts.Verdict.TheVariants as verdicts
 use Rattle.job_types.specs.SoundJob.{IsRunnable}
 
 -- the first answer from a number on that gives none

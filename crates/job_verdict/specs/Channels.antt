@@ -85,7 +85,8 @@ granted_position job line = stands_at_start (start_grant job line)
 unfoldable pub program_run : JobView → ChannelLine → SegmentView
 program_run job line = segment_of (setting_at job line) (channel_at_start (setting_at job line))
 
--- how a run ends whose last block, on this line, asks for this; one that asks for anything of other channels waits for them
+-- how a run ends whose last block, on this line, ends the program or alarms. A job with all its lines built has no run that ends with anything else;
+-- the last case is that of a block with which the channel waits, and says nothing of the blocks after which it goes on
 abbrev pub end_by : ℕ → Action → ChannelEnd
 end_by line action.End = Ended line
 end_by line (action.Alarm code) = Alarmed (record { code = code; line = line })

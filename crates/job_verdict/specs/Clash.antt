@@ -10,10 +10,10 @@ use Rattle.job_verdict.specs.ZoneBoxes.{PlaceBox, piece_boxes}
 use Rattle.job_verdict.specs.ChannelRun.{RunView, runs_of, run_in, alarm_in}
 use Rattle.job_verdict.specs.FirstAnswer.{first_some}
 use Rattle.job_verdict.specs.Stretches.{Event, Stretch, stretches_of}
-use Rattle.job_verdict.specs.declared.stretches.PlaceName.{PlaceName}
-use Rattle.job_verdict.specs.declared.stretches.Verdict.{Verdict}
-use Rattle.job_verdict.specs.declared.stretches.Verdict.TheVariants.{Yes, No, Undecided}
-use Rattle.job_verdict.specs.declared.stretches.Verdict.TheVariants as verdicts
+use Rattle.sync_types.specs.declared.verdicts.PlaceName.{PlaceName}
+use Rattle.sync_types.specs.declared.verdicts.Verdict.{Verdict}
+use Rattle.sync_types.specs.declared.verdicts.Verdict.TheVariants.{Yes, No, Undecided}
+use Rattle.sync_types.specs.declared.verdicts.Verdict.TheVariants as verdicts
 use Rattle.job_types.specs.Zones.{zones_in_order}
 use Rattle.axis_sets.specs.declared.limits.TheConstants.{CHANNEL_LIMIT, ZONE_LIMIT}
 

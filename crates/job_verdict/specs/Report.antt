@@ -18,12 +18,13 @@ use Rattle.sync_types.specs.declared.ChannelEnd.TheVariants.{Idle, Ended, Holdin
 use Rattle.sync_types.specs.declared.Item.{Item}
 use Rattle.sync_types.specs.declared.Part.{Part}
 use Rattle.sync_types.specs.declared.Part.TheVariants.{Move, Switch}
-use Rattle.job_verdict.specs.declared.stretches.PlaceName.{PlaceName}
-use Rattle.job_verdict.specs.declared.stretches.StretchKind.{StretchKind}
-use Rattle.job_verdict.specs.declared.stretches.StretchKind.TheVariants.{Run, End, Free}
-use Rattle.job_verdict.specs.declared.stretches.Verdict.{Verdict}
-use Rattle.job_verdict.specs.declared.stretches.Verdict.TheVariants.{Yes, No, Undecided}
-use Rattle.job_verdict.specs.declared.stretches.Verdict.TheVariants as verdicts
+use Rattle.sync_types.specs.declared.verdicts.PlaceName.{PlaceName}
+use Rattle.sync_types.specs.declared.verdicts.StretchKind.{StretchKind}
+use Rattle.sync_types.specs.declared.verdicts.StretchKind.TheVariants.{Idle as NotStarted, Run, Hold, End, Free}
+use Rattle.sync_types.specs.declared.verdicts.Verdict.{Verdict}
+use Rattle.sync_types.specs.declared.verdicts.Verdict.TheVariants.{Yes, No, Undecided}
+use Rattle.sync_types.specs.declared.verdicts.Verdict.TheVariants as verdicts
+use Rattle.sync_types.specs.declared.runs.Race.{Race}
 use Rattle.axis_sets.specs.declared.limits.TheConstants.{CHANNEL_LIMIT}
 
 -- so many micrometres, as millimetres with three decimals
@@ -100,7 +101,9 @@ all_lines job runs = flat_map (lines_of job runs) (range_with_len 1 CHANNEL_LIMI
 
 -- the name of a kind of stretch
 unfoldable pub kind_text : StretchKind → List ℕ
+kind_text NotStarted = codes "IDLE"
 kind_text Run = codes "RUN"
+kind_text Hold = codes "HOLD"
 kind_text End = codes "END"
 kind_text Free = codes "FREE"
 
@@ -108,9 +111,19 @@ kind_text Free = codes "FREE"
 unfoldable pub place_text : PlaceName → List ℕ
 place_text place = codes "ZONE " ++ (decimal place.zone ++ (codes " CHANNEL " ++ (decimal (unwrap_or place.channel 0) ++ (codes " " ++ (kind_text place.kind ++ (codes " " ++ decimal place.line))))))
 
+-- a line of a channel as the verdict names it
+unfoldable pub channel_place_text : ℕ × ℕ → List ℕ
+channel_place_text place = codes "CHANNEL " ++ (decimal place.0 ++ (codes " LINE " ++ decimal place.1))
+
+-- the verdict line of a race
+unfoldable pub race_line : Race → List ℕ
+race_line race = codes "VERDICT RACE " ++ (channel_place_text race.first ++ (codes " " ++ (channel_place_text race.second ++ codes "\n")))
+
 -- the verdict line
 unfoldable pub verdict_line : Verdict → List ℕ
 verdict_line Yes = codes "VERDICT YES\n"
+verdict_line (verdicts.Race race) = race_line race
+verdict_line (verdicts.Stuck channel line) = codes "VERDICT STUCK CHANNEL " ++ (decimal channel ++ (codes " LINE " ++ (decimal line ++ codes "\n")))
 verdict_line (No place other) = codes "VERDICT NO " ++ (place_text place ++ (codes " " ++ (place_text other ++ codes "\n")))
 verdict_line (Undecided count budget) = codes "VERDICT UNDECIDED COUNT " ++ (decimal count ++ (codes " BUDGET " ++ (decimal budget ++ codes "\n")))
 verdict_line (verdicts.Alarm channel alarm) = codes "VERDICT ALARM CHANNEL " ++ (decimal channel ++ (codes " LINE " ++ (decimal alarm.line ++ (codes " CODE " ++ (decimal alarm.code ++ codes "\n")))))

@@ -12,11 +12,11 @@ use Rattle.job_verdict.specs.StretchView.{StretchView}
 use Rattle.job_verdict.specs.Stretches.{Stretch, stretches_of}
 use Rattle.job_verdict.specs.ZoneBoxes.{boxes_of, shown_box}
 use Rattle.job_verdict.specs.declared.pieces.Measure.{Measure}
-use Rattle.job_verdict.specs.declared.stretches.PlaceName.{PlaceName}
-use Rattle.job_verdict.specs.declared.stretches.StretchKind.{StretchKind}
-use Rattle.job_verdict.specs.declared.stretches.StretchKind.TheVariants.{Run, End}
-use Rattle.job_verdict.specs.declared.stretches.Verdict.{Verdict}
-use Rattle.job_verdict.specs.declared.stretches.Verdict.TheVariants.{Yes, No}
+use Rattle.sync_types.specs.declared.verdicts.PlaceName.{PlaceName}
+use Rattle.sync_types.specs.declared.verdicts.StretchKind.{StretchKind}
+use Rattle.sync_types.specs.declared.verdicts.StretchKind.TheVariants.{Run, End}
+use Rattle.sync_types.specs.declared.verdicts.Verdict.{Verdict}
+use Rattle.sync_types.specs.declared.verdicts.Verdict.TheVariants.{Yes, No}
 use Rattle.job_types.specs.Axes.{start_position, is_of}
 
 -- while the channel runs, and after its end

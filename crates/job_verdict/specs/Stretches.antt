@@ -9,8 +9,8 @@ use Rattle.job_verdict.specs.Channels.{items_of, end_of}
 use Rattle.sync_types.specs.Items.{left_at}
 use Rattle.job_verdict.specs.ZoneBoxes.{PlaceBox, boxes_of}
 use Rattle.sync_types.specs.declared.Item.{Item}
-use Rattle.job_verdict.specs.declared.stretches.StretchKind.{StretchKind}
-use Rattle.job_verdict.specs.declared.stretches.StretchKind.TheVariants.{Run, End, Free}
+use Rattle.sync_types.specs.declared.verdicts.StretchKind.{StretchKind}
+use Rattle.sync_types.specs.declared.verdicts.StretchKind.TheVariants.{Run, End, Free}
 use Rattle.job_types.specs.Axes.{start_position}
 
 -- an event of a channel: the first, the second and so on, counted from 1

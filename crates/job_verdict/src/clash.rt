@@ -7,11 +7,12 @@ ghost use Rattle.job_lines.specs.declared.limits.TheConstants.{DEPTH_LIMIT};
 
 use crate::channels::is_of;
 use crate::pieces::{Measure, do_pieces_meet};
-use crate::stretches::{PlaceName, Stretch, StretchKind, Verdict};
+use crate::stretches::Stretch;
 use crate::zone_boxes::ZoneBox;
 use axis_sets::ChannelId;
 use job_types::ZoneLine;
 use std::marker::Model;
+use sync_types::{PlaceName, StretchKind, Verdict};
 
 /// A zone with its stretches.
 #[derive(Debug, Drop)]
@@ -47,7 +48,7 @@ fn are_run_and_end(left: StretchKind, right: StretchKind) -> bool
     match left {
         StretchKind::Run => matches!(right, StretchKind::End),
         StretchKind::End => matches!(right, StretchKind::Run),
-        StretchKind::Free => false,
+        StretchKind::Idle | StretchKind::Hold | StretchKind::Free => false,
     }
 }
 

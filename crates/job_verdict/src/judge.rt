@@ -12,11 +12,12 @@ use crate::channels::{ChannelRun, alarm_in, run_channel, run_in};
 use crate::clash::{HeldZone, verdict_on};
 use crate::pair_counts::count_pairs;
 use crate::pieces::Measure;
-use crate::stretches::{Stretch, Verdict, free_stretches, stretches_of_run};
+use crate::stretches::{Stretch, free_stretches, stretches_of_run};
 use axis_sets::{CHANNEL_PLACES, ChannelId, ZONE_LIMIT};
 use job_types::{Job, ZoneLine};
 use nc_faults::Alarm;
 use std::alloc::{AllocError, Global};
+use sync_types::Verdict;
 
 /// The stretches of a zone that this channel holds, from its run.
 fn held_stretches<'a>(

@@ -16,4 +16,3 @@ pub use channels::ChannelRun;
 pub use judge::check_job;
 pub use laws::{axes_never_jump, channels_can_end};
 pub use report::{refusal_line, report_text};
-pub use stretches::{PlaceName, StretchKind, Verdict};

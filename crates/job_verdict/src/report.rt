@@ -6,14 +6,13 @@ ghost use Rattle.nc_faults.specs.Texts.{IsAlarmCode, IsRefusalCode};
 ghost use Rattle.job_verdict.specs.Report as model;
 
 use crate::channels::{ChannelRun, run_in};
-use crate::stretches::{PlaceName, StretchKind, Verdict};
 use axis_sets::{AxisId, CHANNEL_PLACES, ChannelId, ZoneId};
 use job_types::Job;
 use micro_units::Um;
 use nc_faults::{Alarm, Refusal, alarm_text, refusal_text};
 use path_geometry::{Arc, Ends, Motion};
 use std::alloc::{AllocError, Global};
-use sync_types::{ChannelEnd, Item, Part};
+use sync_types::{ChannelEnd, Item, Part, PlaceName, Race, StretchKind, Verdict};
 
 /// Writes so many micrometres as millimetres with three decimals.
 #[tactic(auto, unfolding(crate::specs::Report::millimetres_text))]
@@ -243,7 +242,9 @@ fn kind_text(kind: StretchKind) -> &'static str
     ensures { result.now ≡ model.kind_text kind }
 {
     match kind {
+        StretchKind::Idle => "IDLE",
         StretchKind::Run => "RUN",
+        StretchKind::Hold => "HOLD",
         StretchKind::End => "END",
         StretchKind::Free => "FREE",
     }
@@ -271,6 +272,28 @@ fn push_place(out: &mut String, place: &PlaceName) -> Result<(), AllocError>
     write!(out, "ZONE {zone} CHANNEL {channel} {kind} {line}")
 }
 
+/// Writes a line of a channel as the verdict names it.
+#[tactic(auto, unfolding(crate::specs::Report::channel_place_text))]
+fn push_channel_place(out: &mut String, place: (ChannelId, u32)) -> Result<(), AllocError>
+    ensures { OnOk result (string_bytes out.new ≡ string_bytes out.old ++ model.channel_place_text place) }
+{
+    let channel = place.0.number;
+    let line = place.1;
+    write!(out, "CHANNEL {channel} LINE {line}")
+}
+
+/// Writes the verdict line of a race.
+#[tactic(auto, unfolding(crate::specs::Report::race_line))]
+fn push_race_line(out: &mut String, race: &Race) -> Result<(), AllocError>
+    ensures { OnOk result (string_bytes out.new ≡ string_bytes out.old ++ model.race_line race.now) }
+{
+    out.push_str("VERDICT RACE ")?;
+    push_channel_place(out, race.first)?;
+    out.push_str(" ")?;
+    push_channel_place(out, race.second)?;
+    out.push_str("\n")
+}
+
 /// Writes the verdict line.
 #[tactic(auto, unfolding(crate::specs::Report::verdict_line))]
 fn push_verdict_line(out: &mut String, verdict: &Verdict) -> Result<(), AllocError>
@@ -278,6 +301,12 @@ fn push_verdict_line(out: &mut String, verdict: &Verdict) -> Result<(), AllocErr
 {
     match verdict {
         Verdict::Yes => out.push_str("VERDICT YES\n"),
+        Verdict::Race(race) => push_race_line(out, race),
+        Verdict::Stuck(channel, line) => {
+            let channel = channel.number;
+            let line = *line;
+            write!(out, "VERDICT STUCK CHANNEL {channel} LINE {line}\n")
+        }
         Verdict::No(place, other) => {
             out.push_str("VERDICT NO ")?;
             push_place(out, place)?;

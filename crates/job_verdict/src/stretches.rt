@@ -1,4 +1,4 @@
-//! The stretches of each zone, and the verdict's words.
+//! The stretches of each zone.
 ghost use Rattle.std.specs.Prelude.{◌≡◌, ◌≤◌, ℕ, [], ◌∷◌, All, IfOk, length, map};
 ghost use Rattle.sync_types.specs.Items.{left_at};
 ghost use Rattle.job_verdict.specs.Channels.{positions_in};
@@ -10,54 +10,11 @@ ghost use Rattle.axis_sets.specs.declared.limits.TheConstants.{AXIS_LIMIT};
 
 use crate::channels::{ChannelRun, Row, line_of_end, start_positions};
 use crate::zone_boxes::{ZoneBox, boxes_of, settle};
-use axis_sets::{ChannelId, ZoneId};
+use axis_sets::ChannelId;
 use job_types::{Job, ZoneLine};
-use nc_faults::Alarm;
 use std::alloc::{AllocError, Global};
 use std::marker::Model;
-use sync_types::Item;
-
-/// What happens in a stretch of a zone: what the channel does that holds it, or that none does.
-#[derive(Clone, Copy, Debug, PartialEq, Eq)]
-pub enum StretchKind {
-    /// It runs its program.
-    Run,
-    /// Its program has ended, or an alarm has stopped it.
-    End,
-    /// No channel holds the zone.
-    Free,
-}
-
-/// How a box of a stretch is named.
-#[derive(Clone, Copy, Debug, PartialEq, Eq)]
-pub struct PlaceName {
-    /// The zone.
-    pub zone: ZoneId,
-    /// The channel that holds it, or none.
-    pub channel: Option<ChannelId>,
-    /// The kind of the stretch.
-    pub kind: StretchKind,
-    /// The line of the box's motion, or where it stands that of the stretch.
-    pub line: u32,
-}
-
-/// The verdict on a job.
-#[derive(Clone, Copy, Debug, PartialEq, Eq)]
-pub enum Verdict {
-    /// This alarm stops this channel, the lowest that one stops.
-    Alarm(ChannelId, Alarm),
-    /// More pairs of boxes are to be compared than may be.
-    Undecided {
-        /// How many are to be compared.
-        count: u64,
-        /// How many may be compared.
-        budget: u32,
-    },
-    /// These two boxes meet, the first that do.
-    No(PlaceName, PlaceName),
-    /// No two compared boxes meet.
-    Yes,
-}
+use sync_types::{Item, StretchKind};
 
 /// A stretch of a zone, as its boxes are compared.
 #[derive(Debug, Drop)]

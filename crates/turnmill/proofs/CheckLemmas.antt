@@ -18,9 +18,9 @@ use Rattle.turnmill.specs.Output.{Output, output_of, output_by, status_of, Answe
 use Rattle.turnmill.specs.declared.check.Status.{Status}
 use Rattle.turnmill.specs.declared.check.Status.TheVariants as ends
 use Rattle.job_verdict.proofs.Soundness.{sound_at_all_speeds}
-use Rattle.job_verdict.specs.declared.stretches.Verdict.{Verdict}
-use Rattle.job_verdict.specs.declared.stretches.Verdict.TheVariants.{Yes, No, Undecided}
-use Rattle.job_verdict.specs.declared.stretches.Verdict.TheVariants as verdicts
+use Rattle.sync_types.specs.declared.verdicts.Verdict.{Verdict}
+use Rattle.sync_types.specs.declared.verdicts.Verdict.TheVariants.{Yes, No, Undecided}
+use Rattle.sync_types.specs.declared.verdicts.Verdict.TheVariants as verdicts
 
 -- a source that lost as many bytes as are too many had them
 pub TakesTooMany-lost : (old new : Option (List ℕ)) (bytes : List ℕ) → length bytes ≡ 8388609 → Loses old new bytes → TakesTooMany old new
@@ -62,6 +62,8 @@ yes_by (Ok job) is = by_verdict (verdict_of job) is
     by_verdict (No first second) is = absurd cc
     by_verdict (Undecided count budget) is = absurd cc
     by_verdict (verdicts.Alarm channel alarm) is = absurd cc
+    by_verdict (verdicts.Race race) is = absurd cc
+    by_verdict (verdicts.Stuck channel line) is = absurd cc
 yes_by (Err refusal) is = absurd cc
 
 yes_chosen : (long : Bool) (input : List ℕ) → (chosen long input).status ≡ ends.Yes → IsOkAnd (job_or_refusal input) (λ job. verdict_of job ≡ Yes)
@@ -82,6 +84,8 @@ refused_by (Ok job) is = absurd (by_verdict (verdict_of job) is)
     by_verdict (No first second) is = cc
     by_verdict (Undecided count budget) is = cc
     by_verdict (verdicts.Alarm channel alarm) is = cc
+    by_verdict (verdicts.Race race) is = cc
+    by_verdict (verdicts.Stuck channel line) is = cc
 refused_by (Err refusal) is = refl
 
 refused_chosen : (long : Bool) (input : List ℕ) → (chosen long input).status ≡ ends.Refused

@@ -8,9 +8,9 @@ use Rattle.job_verdict.specs.Clash.{verdict_of}
 use Rattle.job_verdict.specs.Report.{report_bytes, refusal_bytes}
 use Rattle.turnmill.specs.declared.check.Status.{Status}
 use Rattle.turnmill.specs.declared.check.Status.TheVariants as ends
-use Rattle.job_verdict.specs.declared.stretches.Verdict.{Verdict}
-use Rattle.job_verdict.specs.declared.stretches.Verdict.TheVariants.{Yes, No, Undecided}
-use Rattle.job_verdict.specs.declared.stretches.Verdict.TheVariants as verdicts
+use Rattle.sync_types.specs.declared.verdicts.Verdict.{Verdict}
+use Rattle.sync_types.specs.declared.verdicts.Verdict.TheVariants.{Yes, No, Undecided}
+use Rattle.sync_types.specs.declared.verdicts.Verdict.TheVariants as verdicts
 use Rattle.job_lines.specs.declared.limits.TheConstants.{INPUT_LIMIT}
 use Rattle.turnmill.specs.Input.{job_or_refusal}
 
@@ -36,6 +36,8 @@ exit_number ends.NoMemory = 11
 -- the status of a verdict
 abbrev pub status_of : Verdict → Status
 status_of Yes = ends.Yes
+status_of (verdicts.Race race) = ends.Race
+status_of (verdicts.Stuck channel line) = ends.Stuck
 status_of (No first second) = ends.No
 status_of (Undecided count budget) = ends.Undecided
 status_of (verdicts.Alarm channel alarm) = ends.Alarm
@@ -68,6 +70,8 @@ IsVerdict status = ⊥
 abbrev pub IsReadWhole : Status → Type 0
 IsReadWhole ends.Yes = ⊤
 IsReadWhole ends.No = ⊤
+IsReadWhole ends.Race = ⊤
+IsReadWhole ends.Stuck = ⊤
 IsReadWhole ends.Alarm = ⊤
 IsReadWhole ends.Undecided = ⊤
 IsReadWhole ends.Refused = ⊤

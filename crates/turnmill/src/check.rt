@@ -13,10 +13,11 @@ ghost use Rattle.job_verdict.specs.Safety.{SafeAlways};
 
 use edge_io::{Failed, Sink, Source, put_all};
 use job_lines::{Code, INPUT_LIMIT};
-use job_verdict::{Verdict, check_job, refusal_line, report_text};
+use job_verdict::{check_job, refusal_line, report_text};
 use nc_faults::Refusal;
 use std::alloc::{AllocError, Global};
 use std::process::ExitCode;
+use sync_types::Verdict;
 use tape_job::{Job, JobFault, not_built, read_job};
 
 /// How a call ends.
@@ -141,7 +142,9 @@ fn status_of(verdict: &Verdict) -> Status
     ensures { result ≡ status_of verdict.now }
 {
     match verdict {
+        Verdict::Race(_) => Status::Race,
         Verdict::Alarm(_, _) => Status::Alarm,
+        Verdict::Stuck(_, _) => Status::Stuck,
         Verdict::Undecided { .. } => Status::Undecided,
         Verdict::No(_, _) => Status::No,
         Verdict::Yes => Status::Yes,
