@@ -139,4 +139,11 @@ impl Board {
     {
         self.entries.as_slice()
     }
+
+    /// All entries, in order, without a copy.
+    pub fn into_entries(self) -> Vec<Entry>
+        ensures { result.items ≡ self.entries }
+    {
+        self.entries
+    }
 }

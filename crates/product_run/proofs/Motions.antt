@@ -1,0 +1,113 @@
+-- Where axes stand from segment to segment, and the run in order as a whole run.
+use Rattle.std.proofs.Common.{◌≡◌, ℕ, suc, ℤ, List, [], ◌∷◌, ◌++◌, append_assoc, length, Some, slice_get, take, unwrap_or, refl, sym, ap, subst, ◌∙◌}
+use mathlib.Core.Path.{fun_ext}
+use Rattle.axis_sets.specs.Positions.{position_of, stands}
+use Rattle.block_motions.specs.Motions.{IsMotionOf}
+use Rattle.channel_machine.specs.Run.{Channel, SurroundingsView, channel_at_start, grant_after, segment_of, stands_after, surroundings_of}
+use Rattle.channel_machine.proofs.Pasts.{grant-got, stands-got}
+use Rattle.channel_machine.proofs.RunLaws.{all_follow, stands_then}
+use Rattle.job_types.specs.Job.{JobView}
+use Rattle.path_geometry.specs.declared.motion.Motion.{Motion}
+use Rattle.sync_types.proofs.Positions.{moved_by}
+use Rattle.sync_types.proofs.Replays.{maximal_runs_come_from, sequential_is_one}
+use Rattle.sync_types.specs.Boards.{State, Board, first_board, grant_in}
+use Rattle.sync_types.specs.Items.{left_at}
+use Rattle.sync_types.specs.Runs.{Script, Stage, after_turn, as_list, first_stage, moves_of, next_move}
+use Rattle.sync_types.specs.Turns.{after_step, entries_of}
+use Rattle.sync_types.specs.Views.{StartView, RunView}
+use Rattle.sync_types.specs.declared.Grant.{Grant}
+use Rattle.sync_types.specs.declared.Item.{Item}
+use Rattle.product_run.proofs.Measures.{grants-push}
+use Rattle.product_run.proofs.Segments.{first_segment, later_segment}
+use Rattle.product_run.proofs.Usage.{accords_first, accords_turns, no_usage, usage_from}
+use Rattle.product_run.specs.RunLaws.{HasGotLast, IsWholeRun, MovesWhatItOwns, RunsInOrderAreWhole, StandsByGrants, stands_at_end, stands_before}
+use Rattle.product_run.specs.Scripts.{channel_after_grants, channel_after_segment, items_of, script_of, segment_after}
+
+-- the segment is one of this channel, which has got this grant last and finds the axes there
+record Begins (job : JobView) (c : ℕ) (grants : List Grant) (grant : Grant) : Type 0 where
+  setting : SurroundingsView
+  channel : Channel
+  segment : segment_after job c grants ≡ segment_of setting channel
+  granted : grant_after setting channel.past ≡ grant
+  stand : (axis : ℕ) → stands_before job c grants axis ≡ stands_after setting channel.past axis
+
+begins : (job : JobView) (c : ℕ) (made : List Grant) (grant : Grant) → Begins job c (made ++ grant ∷ []) grant
+unfolding stands_before segment_after
+begins job c [] grant = record {
+  setting = surroundings_of job c grant;
+  channel = channel_at_start (surroundings_of job c grant);
+  segment = first_segment job c grant;
+  granted = refl;
+  stand = λ axis. refl;
+}
+begins job c (first ∷ rest) grant =
+    let s : SurroundingsView = surroundings_of job c first in
+    let before : Channel = channel_after_grants s rest in
+    record {
+      setting = s;
+      channel = channel_after_segment s before grant;
+      segment = later_segment job c first rest grant;
+      granted = grant-got s (segment_of s before).after.past grant;
+      stand = λ axis. ap (λ (x : Channel). stands_after s x.past axis) (grants-push s (channel_at_start s) rest grant);
+    }
+
+pub moves_what_it_owns : (job : JobView) (c : ℕ) (made : List Grant) (grant : Grant) → MovesWhatItOwns job c made grant
+moves_what_it_owns job c made grant place item motion is moves =
+    let b = begins job c made grant in
+    let items : List Item = (segment_after job c (made ++ grant ∷ [])).items in
+    let same : items ≡ (segment_of b.setting b.channel).items = ap (λ g. g.items) b.segment in
+    let found : slice_get (segment_of b.setting b.channel).items place ≡ Some item = ap (λ (xs : List Item). slice_get xs place) (sym same) ∙ is in
+    let follows = (all_follow b.setting b.channel).follows place item found in
+    let P : Grant → Type 0 = λ g. IsMotionOf g.axes (left_at (take place (segment_of b.setting b.channel).items) (stands_after b.setting b.channel.past)) motion in
+    let Q : List Item → Type 0 = λ xs. IsMotionOf grant.axes (left_at (take place xs) (stands_after b.setting b.channel.past)) motion in
+    let R : (ℕ → ℤ) → Type 0 = λ at. IsMotionOf grant.axes (left_at (take place items) at) motion in
+    let by_motion = subst (λ (m : Motion). IsMotionOf (grant_after b.setting b.channel.past).axes (left_at (take place (segment_of b.setting b.channel).items) (stands_after b.setting b.channel.past)) m) (moved_by item motion moves) follows in
+    subst R (sym (fun_ext b.stand)) (subst Q (sym same) (subst P b.granted by_motion))
+
+stands_first : (job : JobView) (c : ℕ) (grant : Grant) (axis : ℕ) → stands_before job c (grant ∷ []) axis ≡ stands grant.at axis
+unfolding stands_before
+stands_first job c grant axis = refl
+
+-- a channel that has made these segments and goes on with a grant
+stands_next : (job : JobView) (c : ℕ) (first : Grant) (rest : List Grant) (next : Grant) (axis : ℕ)
+    → stands_before job c (first ∷ (rest ++ next ∷ [])) axis ≡ unwrap_or (position_of next.at axis) (stands_at_end job c (first ∷ rest) axis)
+unfolding stands_before segment_after
+stands_next job c first rest next axis =
+    let s : SurroundingsView = surroundings_of job c first in
+    let before : Channel = channel_after_grants s rest in
+    ap (λ (x : Channel). stands_after s x.past axis) (grants-push s (channel_at_start s) rest next)
+    ∙ stands-got s (segment_of s before).after.past next axis
+    ∙ ap (λ (z : ℤ). unwrap_or (position_of next.at axis) z) (stands_then s before axis)
+
+pub stands_by_grants : (job : JobView) (c : ℕ) (made : List Grant) (grant next : Grant) (axis : ℕ) → StandsByGrants job c made grant next axis
+stands_by_grants job c made grant next axis = record { first = stands_first job c grant axis; later = by_made made }
+  where
+    by_made : (made : List Grant) → stands_before job c (made ++ grant ∷ next ∷ []) axis ≡ unwrap_or (position_of next.at axis) (stands_at_end job c (made ++ grant ∷ []) axis)
+    by_made [] = stands_next job c grant [] next axis
+    by_made (first ∷ rest) =
+        ap (λ (gs : List Grant). stands_before job c (first ∷ gs) axis) (sym (append_assoc rest (grant ∷ []) (next ∷ [])))
+        ∙ stands_next job c first (rest ++ grant ∷ []) next axis
+
+pub has_got_last : (job : JobView) (start : StartView) (cs : List ℕ) (c : ℕ) (grant : Grant) → HasGotLast job start cs c grant
+has_got_last job start cs c grant runs =
+    let used : List Grant = usage_from (script_of job) (first_stage start) no_usage cs c in
+    (used, (accords_turns (script_of job) (first_stage start) no_usage cs (accords_first start)).grants c ∙ ap (λ (s : State). used ++ as_list (grant_in s)) runs)
+
+-- as many items as entries
+rows_of : (job : JobView) (stage : Stage) (cs : List ℕ) → length (items_of job stage cs) ≡ length cs
+rows_of job stage [] = refl
+rows_of job stage (c ∷ cs) = ap suc (rows_of job (after_turn (script_of job) stage c) cs)
+
+pub entries_many : (script : Script) (stage : Stage) (b : Board) (cs : List ℕ) → length (entries_of b (moves_of script stage cs)) ≡ length cs
+entries_many script stage b [] = refl
+entries_many script stage b (c ∷ cs) =
+    ap suc (entries_many script (after_turn script stage c) (after_step b c (next_move script stage c).step) cs)
+
+pub runs_in_order_are_whole : (job : JobView) (start : StartView) (run : RunView) → RunsInOrderAreWhole job start run
+runs_in_order_are_whole job start run sound ordered =
+    let cs : List ℕ = ordered.channels in
+    let one = sequential_is_one (script_of job) (first_stage start) cs cs ordered.sequential in
+    subst (λ (r : RunView). IsWholeRun start r) (sym ordered.all) (record {
+      comes = maximal_runs_come_from (script_of job) start cs (items_of job (first_stage start) cs) sound one.maximal;
+      rows = rows_of job (first_stage start) cs ∙ sym (entries_many (script_of job) (first_stage start) (first_board start) cs);
+    })

@@ -1,0 +1,4 @@
+pub mod Scripts
+pub mod RunLaws
+pub mod Kept
+pub mod Ends

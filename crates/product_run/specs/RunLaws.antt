@@ -1,0 +1,66 @@
+-- Law. What is so of all runs of a job.
+use Rattle.std.specs.Prelude.{◌≡◌, ℕ, ℤ, pos, ◌+◌, ◌*◌, ◌≤◌, List, [], ◌∷◌, ◌++◌, length, slice_get, take, Some, unwrap_or}
+use Rattle.axis_sets.specs.Positions.{position_of, stands}
+use Rattle.axis_sets.specs.declared.limits.TheConstants.{CHANNEL_LIMIT}
+use Rattle.block_motions.specs.Motions.{IsMotionOf}
+use Rattle.channel_machine.specs.Run.{stands_after, surroundings_of}
+use Rattle.channel_machine.specs.StartStates.{start_of}
+use Rattle.channel_machine.specs.declared.limits.TheConstants.{BLOCK_LIMIT}
+use Rattle.job_types.specs.Job.{JobView}
+use Rattle.path_geometry.specs.declared.motion.Motion.{Motion}
+use Rattle.product_run.specs.Scripts.{IsRunInOrder, channel_after_grants, script_of, segment_after}
+use Rattle.sync_types.specs.Boards.{IsRunning}
+use Rattle.sync_types.specs.Items.{left_at, motion_of}
+use Rattle.sync_types.specs.Runs.{ComesFrom, IsRun, first_stage, stage_after}
+use Rattle.sync_types.specs.Starts.{IsSound}
+use Rattle.sync_types.specs.Views.{StartView, RunView}
+use Rattle.sync_types.specs.declared.Grant.{Grant}
+use Rattle.sync_types.specs.declared.Item.{Item}
+
+-- ---- how long runs are
+
+-- how many steps all channels together make at most: each but the last of a channel executes a block
+abbrev pub step_limit : ℕ
+step_limit = CHANNEL_LIMIT * (BLOCK_LIMIT + 1)
+
+-- each run of a job is short
+abbrev pub IsShort : JobView → List ℕ → Type 0
+IsShort job cs = IsRun (script_of job) (first_stage (start_of job)) cs → length cs ≤ step_limit
+
+-- ---- where axes stand
+
+-- where an axis stands for a channel that has got these grants, before its segment
+unfoldable pub stands_before : JobView → ℕ → List Grant → ℕ → ℤ
+stands_before job c [] axis = pos 0
+stands_before job c (first ∷ grants) axis = stands_after (surroundings_of job c first) (channel_after_grants (surroundings_of job c first) grants).past axis
+
+-- where it stands after the segment: its motions left it there
+abbrev pub stands_at_end : JobView → ℕ → List Grant → ℕ → ℤ
+stands_at_end job c grants axis = left_at (segment_after job c grants).items (stands_before job c grants) axis
+
+-- each motion of a segment is one of axes that the last grant gives, from where they stand
+abbrev pub MovesWhatItOwns : JobView → ℕ → List Grant → Grant → Type 0
+MovesWhatItOwns job c made grant = (place : ℕ) (item : Item) (motion : Motion)
+    → slice_get (segment_after job c (made ++ grant ∷ [])).items place ≡ Some item → motion_of item ≡ Some motion
+    → IsMotionOf grant.axes (left_at (take place (segment_after job c (made ++ grant ∷ [])).items) (stands_before job c (made ++ grant ∷ []))) motion
+
+-- an axis stands at first where the grant has it; and then where each further grant has it, or where the segment before it left it
+pub record StandsByGrants (job : JobView) (c : ℕ) (made : List Grant) (grant next : Grant) (axis : ℕ) : Type 0 where
+  pub first : stands_before job c (grant ∷ []) axis ≡ stands grant.at axis
+  pub later : stands_before job c (made ++ grant ∷ next ∷ []) axis ≡ unwrap_or (position_of next.at axis) (stands_at_end job c (made ++ grant ∷ []) axis)
+
+-- in each run a channel that runs has got last what it goes on with
+abbrev pub HasGotLast : JobView → StartView → List ℕ → ℕ → Grant → Type 0
+HasGotLast job start cs c grant = (stage_after (script_of job) (first_stage start) cs).board.state c ≡ IsRunning grant
+    → (made : List Grant) × ((stage_after (script_of job) (first_stage start) cs).grants c ≡ made ++ grant ∷ [])
+
+-- ---- the run in order
+
+-- a whole run from this start, with items for each entry
+pub record IsWholeRun (start : StartView) (run : RunView) : Type 0 where
+  pub comes : ComesFrom start run
+  pub rows : length run.items ≡ length run.entries
+
+-- from a sound start it is one
+abbrev pub RunsInOrderAreWhole : JobView → StartView → RunView → Type 0
+RunsInOrderAreWhole job start run = IsSound start → IsRunInOrder job start run → IsWholeRun start run

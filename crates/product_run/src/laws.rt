@@ -1,0 +1,26 @@
+//! What is so of all runs of a job.
+ghost use Rattle.std.specs.Prelude.{ℕ, List};
+ghost use Rattle.job_types.specs.Job.{JobView};
+ghost use Rattle.product_run.specs.RunLaws.{IsShort, MovesWhatItOwns, StandsByGrants, HasGotLast, RunsInOrderAreWhole};
+ghost use Rattle.sync_types.specs.Views.{StartView, RunView};
+ghost use Rattle.sync_types.specs.declared.Grant.{Grant};
+
+/// A law: all channels of a job together make at most 800,008 steps, however they take turns: each step but the last of a
+/// channel is after a block more.
+pub fn runs_are_short()
+    ensures { (job : JobView) (cs : List ℕ) → IsShort job cs }
+{}
+
+/// A law: each motion of a segment is one of axes that the channel's last grant gives, from where they stand. They stand at
+/// first where the grant of the start has them, and then where each further grant has them, or where the segment before it
+/// left them. In each run a channel that runs has got last what the board says that it goes on with.
+pub fn segments_move_what_they_own()
+    ensures moves { (job : JobView) (c : ℕ) (made : List Grant) (grant : Grant) → MovesWhatItOwns job c made grant }
+    ensures stands { (job : JobView) (c : ℕ) (made : List Grant) (grant next : Grant) (axis : ℕ) → StandsByGrants job c made grant next axis }
+    ensures granted { (job : JobView) (start : StartView) (cs : List ℕ) (c : ℕ) (grant : Grant) → HasGotLast job start cs c grant }
+{}
+
+/// A law: from a sound start a run in order is a whole run, with items for each of its entries.
+pub fn runs_in_order_are_whole()
+    ensures { (job : JobView) (start : StartView) (run : RunView) → RunsInOrderAreWhole job start run }
+{}

@@ -1,0 +1,10 @@
+//! The run of a job in which each time the lowest running channel goes on.
+#![tactic(auto)]
+
+mod ends;
+mod laws;
+mod locals;
+mod run;
+
+pub use laws::{runs_are_short, runs_in_order_are_whole, segments_move_what_they_own};
+pub use run::run_in_order;

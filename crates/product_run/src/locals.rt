@@ -1,0 +1,51 @@
+//! What is kept of each channel of a run between two segments.
+ghost use Rattle.std.specs.Prelude.{◌≡◌, ◌≤◌, ◌++◌, ◌∷◌, [], List, length, IfOk, IfSome};
+ghost use Rattle.job_lines.specs.declared.limits.TheConstants.{PROGRAM_LIMIT};
+ghost use Rattle.job_types.specs.SoundJob.{BlocksFit};
+ghost use Rattle.product_run.specs.Kept.{IsReady, IsKeptOf, IsSegmentOf, IsNothingKept};
+ghost use Rattle.sync_types.specs.declared.Grant.{Grant};
+
+use axis_sets::{CHANNEL_PLACES, ChannelId};
+use channel_machine::{Local, Segment, run_on, run_segment};
+use job_types::Job;
+use nc_faults::NoMemory;
+use std::alloc::{AllocError, Global};
+use sync_types::Grant;
+
+/// What is kept of each channel, by its number.
+pub(crate) type Locals = Vec<Option<Local>>;
+
+/// Nothing of any channel.
+pub(crate) fn no_locals(alloc: Global) -> Result<Locals, AllocError>
+    ensures { IfOk result (λ locals. IsNothingKept locals.items) }
+{
+    let mut locals = Vec::new(alloc);
+    for _ in 0..CHANNEL_PLACES {
+        locals.push(None)?;
+    }
+    Ok(locals)
+}
+
+/// The segment of a channel that goes on with a grant: its first, where nothing is kept of it.
+pub(crate) fn next_segment(
+    alloc: Global,
+    job: &Job,
+    channel: ChannelId,
+    local: Option<Local>,
+    grant: &Grant,
+) -> Result<Segment, NoMemory>
+    requires blocks { BlocksFit job.now }
+    requires programs { length job.now.programs ≤ PROGRAM_LIMIT }
+    requires ready { IfSome local (IsReady job.now channel) }
+    ensures told { IfOk result (λ segment. (made : List Grant) → IsKeptOf job.now channel made local
+        → IsSegmentOf job.now channel (made ++ grant.now ∷ []) segment) }
+    ensures ready { IfOk result (λ segment. IsReady job.now channel segment.after) }
+{
+    match local {
+        Some(local) => run_on(alloc, job, local, grant),
+        None => {
+            let local = Local::start(alloc, job, channel, grant)?;
+            run_segment(alloc, job, &local)
+        }
+    }
+}
