@@ -1,0 +1,126 @@
+//! Jobs whose channels meet, take axes from one another and start one another.
+ghost use Rattle.std.specs.Prelude.{IfSome};
+ghost use Rattle.job_types.specs.SoundJob.{BlocksFit, IsSoundJob};
+
+use nc_faults::NoMemory;
+use product_run::run_in_order;
+use std::alloc::Global;
+use std::test::Fail;
+use sync_types::Action;
+use tape_job::{Job, read_job};
+
+/// Jobs, each with its run: of each step the channel, the lines of what the channel did before it, its line and its word; and
+/// then how each channel has stopped.
+const RUNS: [(&str, &str); 11] = [
+    (
+        "JOB 1\nCHANNEL 1 A START\nCHANNEL 2 B START\nCHANNEL 3 C START\n%_N_A_MPF\nFOR R1=1 TO 5\nWAITM(1,2,3)\nENDFOR\nM30\n\
+%_N_B_MPF\nFOR R1=1 TO 5\nWAITM(1,1,3)\nENDFOR\nM30\n%_N_C_MPF\nFOR R1=1 TO 5\nWAITM(1,1,2)\nENDFOR\nM30\n",
+        "1:7 WAITM 2:12 WAITM 3:17 WAITM 1:7 WAITM 2:12 WAITM 3:17 WAITM 1:7 WAITM 2:12 WAITM 3:17 WAITM \
+1:7 WAITM 2:12 WAITM 3:17 WAITM 1:7 WAITM 2:12 WAITM 3:17 WAITM 1:9 END 2:14 END 3:19 END [Ended(9), Ended(14), Ended(19)]",
+    ),
+    (
+        "JOB 1\nCHANNEL 1 A START\nCHANNEL 2 B START\n%_N_A_MPF\nSETM(3)\nCLEARM(3)\nM30\n%_N_B_MPF\nWAITM(3,1)\nM30\n",
+        "1:5 SETM 1:6 CLEARM 1:7 END 2:9 WAITM [Ended(7), Holding(9)]",
+    ),
+    (
+        "JOB 1\nCHANNEL 1 A START\nCHANNEL 2 B START\n%_N_A_MPF\nWAITM(3,2)\nM30\n%_N_B_MPF\nSETM(3)\nCLEARM(3)\nM30\n",
+        "1:5 WAITM 2:8 SETM 1:6 END 2:9 CLEARM 2:10 END [Ended(6), Ended(10)]",
+    ),
+    (
+        "JOB 1\nCHANNEL 1 A START\nCHANNEL 2 B START\nCHANNEL 3 C START\n%_N_A_MPF\nWAITM(1,2,3)\nM30\n%_N_B_MPF\nWAITM(1,1)\nM30\n\
+%_N_C_MPF\nWAITM(1,1,2)\nM30\n",
+        "1:6 WAITM 2:9 WAITM 2:10 END 3:12 WAITM [Holding(6), Ended(10), Holding(12)]",
+    ),
+    (
+        "JOB 1\nCHANNEL 1 A START\nCHANNEL 2 B START\nAXIS Z3 1 10\nZONE 3 3 1 ON - -5 5 - -5 5 +Z3 -5 5\n%_N_A_MPF\nZ3=50\nRELEASE(Z3)\n\
+WAITM(1,2)\nM30\n%_N_B_MPF\nWAITM(1,1)\nGET(Z3)\nZ3=IC(70)\nM30\n",
+        "1:7,8 RELEASE 1:9 WAITM 2:12 WAITM 1:10 END 2:13 GET 2:14,15 END [Ended(10), Ended(15)]",
+    ),
+    (
+        "JOB 1\nCHANNEL 1 A START\nCHANNEL 2 B START\nAXIS Z3 1 10\nZONE 3 3 1 ON - -5 5 - -5 5 +Z3 -5 5\n%_N_A_MPF\nZ3=50\nRELEASE(Z3)\n\
+GET(Z3)\nM30\n%_N_B_MPF\n;\nGET(Z3)\nZ3=IC(70)\nM30\n",
+        "1:7,8 RELEASE 1:9 GET 1:10 END 2:13 GET [Ended(10), Holding(13)]",
+    ),
+    (
+        "JOB 1\nCHANNEL 1 A START\nCHANNEL 2\n%_N_A_MPF\nINIT(2,\"/_N_MPF_DIR/_N_CUT_MPF\",\"S\")\nSTART(2)\nWAITE(2)\nM30\n%_N_CUT_MPF\nM30\n",
+        "1:5 INIT 1:6 START 1:7 WAITE 2:10 END 1:8 END [Ended(8), Ended(10)]",
+    ),
+    (
+        "JOB 1\nCHANNEL 1 A START\nCHANNEL 2\n%_N_A_MPF\nINIT(2,\"/_N_MPF_DIR/_N_CUT_MPF\",\"S\")\nSTART(2)\nSTART(2)\nM30\n%_N_CUT_MPF\nM30\n",
+        "1:5 INIT 1:6 START 1:7 START 2:10 END [Alarmed(Alarm { code: 27, line: 7 }), Ended(10)]",
+    ),
+    (
+        "JOB 1\nCHANNEL 1 A START\nCHANNEL 2\n%_N_A_MPF\nINIT(2,\"/_N_MPF_DIR/_N_CUT_MPF\",\"S\")\nSTART(2)\nWAITM(5,2)\nM30\n%_N_CUT_MPF\nM30\n",
+        "1:5 INIT 1:6 START 1:7 WAITM 2:10 END [Holding(7), Ended(10)]",
+    ),
+    (
+        "JOB 1\nCHANNEL 1 A START\nCHANNEL 2\n%_N_A_MPF\nSETM(2)\nWAITM(2,1)\nM30\n",
+        "1:5 SETM 1:6 WAITM [Alarmed(Alarm { code: 26, line: 6 }), Idle]",
+    ),
+    (
+        "JOB 1\nCHANNEL 1 A START\n%_N_A_MPF\nSETM(2)\nCLEARM(2)\nWAITM(2,1)\nM30\n",
+        "1:4 SETM 1:5 CLEARM 1:6 WAITM 1:7 END [Ended(7)]",
+    ),
+];
+
+/// The job of this text, or none where it is refused or memory runs out.
+fn job_of(alloc: Global, text: &str) -> Option<Job>
+    ensures sound { IfSome result IsSoundJob }
+    ensures fit { IfSome result BlocksFit }
+{
+    let bytes = text.as_bytes();
+    if bytes.len() > 8_388_609 {
+        return None;
+    }
+    match read_job(alloc, bytes) {
+        Ok(job) => Some(job),
+        Err(_) => None,
+    }
+}
+
+/// The word of an action.
+fn word(action: &Action) -> &'static str {
+    match action {
+        Action::WaitM(_, _) => "WAITM",
+        Action::SetM(_) => "SETM",
+        Action::ClearM(_) => "CLEARM",
+        Action::Init(_, _) => "INIT",
+        Action::Start(_) => "START",
+        Action::WaitE(_) => "WAITE",
+        Action::Release(_) => "RELEASE",
+        Action::Get(_) => "GET",
+        Action::End => "END",
+        Action::Alarm(_) => "ALARM",
+    }
+}
+
+/// The run of a job as a text.
+fn run_text(alloc: Global, text: &str) -> Result<String, Fail> {
+    let Some(job) = job_of(alloc, text) else {
+        return Err(Fail::from("no job"));
+    };
+    let run = match run_in_order(alloc, &job) {
+        Ok(run) => run,
+        Err(NoMemory) => return Err(Fail::from("no memory")),
+    };
+    let mut told = String::new(alloc);
+    for (entry, items) in run.entries.iter().zip(run.items.iter()) {
+        write!(told, "{}:", entry.channel.number)?;
+        for item in items {
+            write!(told, "{},", item.line)?;
+        }
+        write!(told, "{} {} ", entry.step.line, word(&entry.step.action))?;
+    }
+    write!(told, "{:?}", run.ends)?;
+    Ok(told)
+}
+
+#[test]
+fn channels_run_in_order(rt: HostRuntime) -> Result<(), Fail> {
+    let alloc = rt.alloc();
+    for (text, wanted) in &RUNS {
+        let told = run_text(alloc, text)?;
+        assert!(rt; told.as_str() == *wanted, "{told}");
+    }
+    Ok(())
+}
