@@ -11,7 +11,7 @@ use tape_job::{Job, read_job};
 
 /// Jobs, each with its run: of each step the channel, the lines of what the channel did before it, its line and its word; and
 /// then how each channel has stopped.
-const RUNS: [(&str, &str); 11] = [
+const RUNS: [(&str, &str); 16] = [
     (
         "JOB 1\nCHANNEL 1 A START\nCHANNEL 2 B START\nCHANNEL 3 C START\n%_N_A_MPF\nFOR R1=1 TO 5\nWAITM(1,2,3)\nENDFOR\nM30\n\
 %_N_B_MPF\nFOR R1=1 TO 5\nWAITM(1,1,3)\nENDFOR\nM30\n%_N_C_MPF\nFOR R1=1 TO 5\nWAITM(1,1,2)\nENDFOR\nM30\n",
@@ -60,6 +60,32 @@ GET(Z3)\nM30\n%_N_B_MPF\n;\nGET(Z3)\nZ3=IC(70)\nM30\n",
     (
         "JOB 1\nCHANNEL 1 A START\n%_N_A_MPF\nSETM(2)\nCLEARM(2)\nWAITM(2,1)\nM30\n",
         "1:4 SETM 1:5 CLEARM 1:6 WAITM 1:7 END [Ended(7)]",
+    ),
+    (
+        "JOB 1\nCHANNEL 1 A START\nCHANNEL 2 B START\nCHANNEL 3 C START\nAXIS X1 1 100\nAXIS X2 2 -100\nGEO 1 X X1\nGEO 2 X X2\n\
+%_N_A_MPF\nG1 X0\nWAITM(1,2)\nG1 X100\nM30\n%_N_B_MPF\nWAITM(5,3)\nG1 X50\nWAITM(1,1)\nM30\n%_N_C_MPF\nWAITM(1,1)\nSETM(5)\nM30\n",
+        "1:10,11 WAITM 2:15 WAITM 3:20 WAITM 3:21 SETM 2:16,17 WAITM 1:12,13 END 2:18 END 3:22 END \
+[Ended(13), Ended(18), Ended(22)]",
+    ),
+    (
+        "JOB 1\nCHANNEL 1 A START\nCHANNEL 2 B START\nAXIS Z3 1 0\nAXIS Z2 2 200\nZONE 1 1 1 ON - -5 5 - -5 5 +Z3 -5 5\n\
+ZONE 2 2 2 ON - -5 5 - -5 5 +Z2 -5 5\n%_N_A_MPF\nZ3=50\nRELEASE(Z3)\nWAITM(1,2)\nM30\n%_N_B_MPF\nWAITM(1,1)\nZ2=20\nM30\n",
+        "1:9,10 RELEASE 1:11 WAITM 2:14 WAITM 1:12 END 2:15,16 END [Ended(12), Ended(16)]",
+    ),
+    (
+        "JOB 1\nCHANNEL 1 A START\nCHANNEL 2 B START\nAXIS Z3 1 10\nZONE 3 3 1 ON - -5 5 - -5 5 +Z3 -5 5\nGEO 1 Z Z3\nGEO 2 Z Z3\n\
+%_N_A_MPF\nR1=1 R2=2\nG1 Z50\nCPROT(R1+2,0)\nRELEASE(Z)\nWAITM(R1,R2)\nCPROT(3,2)\nM30\n\
+%_N_B_MPF\nWAITM(1,1)\nGET(Z)\nCPROT(3,2)\nZ=IC(70)\nM30\n",
+        "1:10,11,12 RELEASE 1:13 WAITM 2:17 WAITM 1:14 ALARM 2:18 GET 2:19,20,21 END [Alarmed(Alarm { code: 29, line: 14 }), Ended(21)]",
+    ),
+    (
+        "JOB 1\nCHANNEL 1 A START\n%_N_A_MPF\nSETM(1)\nLOOP\nENDLOOP\nM30\n",
+        "1:4 SETM 1:6 ALARM [Alarmed(Alarm { code: 8, line: 6 })]",
+    ),
+    (
+        "JOB 1\nCHANNEL 1 A START\nCHANNEL 2 B START\nAXIS X1 1 0\nAXIS Z1 1 0\nAXIS Z2 2 0\nZONE 1 1 1 ON +X1 -5 5 - -5 5 +Z1 -5 5\n\
+%_N_A_MPF\nRELEASE(Z1,Z2)\nM30\n%_N_B_MPF\nGET(Z1)\nM30\n",
+        "1:9 ALARM 2:12 ALARM [Alarmed(Alarm { code: 15, line: 9 }), Alarmed(Alarm { code: 31, line: 12 })]",
     ),
 ];
 
