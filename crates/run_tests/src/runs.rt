@@ -90,7 +90,7 @@ ZONE 2 2 2 ON - -5 5 - -5 5 +Z2 -5 5\n%_N_A_MPF\nZ3=50\nRELEASE(Z3)\nWAITM(1,2)\
 ];
 
 /// The job of this text, or none where it is refused or memory runs out.
-fn job_of(alloc: Global, text: &str) -> Option<Job>
+pub(crate) fn job_of(alloc: Global, text: &str) -> Option<Job>
     ensures sound { IfSome result IsSoundJob }
     ensures fit { IfSome result BlocksFit }
 {
