@@ -179,7 +179,7 @@ no_channel job sound c outside = by (line_of_channel job c) refl
         let high : line.channel ≤ 8 = All-found (λ (l : ChannelLine). l.channel ≤ CHANNEL_LIMIT) (λ l. l.channel == c) job.channels line sound.high_channels at in
         absurd (far outside (omega arith) (omega arith))
 
-channel_found : (job : JobView) → IsSoundJob job → (c : ℕ) → find (λ e. e.0 == c) (first_channels job) ≡ channel_entry job c
+pub channel_found : (job : JobView) → IsSoundJob job → (c : ℕ) → find (λ e. e.0 == c) (first_channels job) ≡ channel_entry job c
 unfolding first_channels
 channel_found job sound c = by (nat_le 1 c) (nat_le c 8) refl refl
   where
@@ -210,7 +210,7 @@ axis_keyed job n e is = by (slice_get job.axes n) is
     by None is = absurd cc
     by (Some line) is = let same : first_axis n line ≡ e = cc in ap (λ x. x.0) (sym same)
 
-axis_found : (job : JobView) → IsSoundJob job → (x : ℕ) → find (λ e. e.0 == x) (first_axes job) ≡ axis_entry job x
+pub axis_found : (job : JobView) → IsSoundJob job → (x : ℕ) → find (λ e. e.0 == x) (first_axes job) ≡ axis_entry job x
 unfolding first_axes
 axis_found job sound x = by (nat_lt x 16) refl
   where
@@ -224,7 +224,7 @@ axis_found job sound x = by (nat_lt x 16) refl
         none_here (λ e. e.0) (axis_entry job) (axis_keyed job) 0 16 x (inr (omega arith))
         ∙ sym (ap (option_map (first_axis x)) (none_past job.axes x (omega arith)))
 
-owner_is : (job : JobView) → IsSoundJob job → (x : ℕ) → start.first_owner (start_of job) x ≡ axes.first_owner job x
+pub owner_is : (job : JobView) → IsSoundJob job → (x : ℕ) → start.first_owner (start_of job) x ≡ axes.first_owner job x
 unfolding start_of axes.first_owner
 owner_is job sound x =
     ap (λ (o : Option (ℕ × Option ℕ × ℤ)). option_map_or (λ line. line.1) o None) (axis_found job sound x) ∙ by (slice_get job.axes x)
@@ -278,7 +278,7 @@ no_zone job sound z outside = by (line_of_zone job z) refl
         let high : zone.zone ≤ 32 = (zone_sound job sound z zone at).high_number in
         absurd (far outside (omega arith) (omega arith))
 
-zone_found : (job : JobView) → IsSoundJob job → (z : ℕ) → find (λ e. e.0 == z) (first_zones job) ≡ zone_entry job z
+pub zone_found : (job : JobView) → IsSoundJob job → (z : ℕ) → find (λ e. e.0 == z) (first_zones job) ≡ zone_entry job z
 unfolding first_zones
 zone_found job sound z = by (nat_le 1 z) (nat_le z 32) refl refl
   where

@@ -132,10 +132,12 @@ impl Board {
         self.state.is_over()
     }
 
-    /// All entries, in order. Each is of a channel that ran then, and has who went on and with what.
+    /// All entries, in order. Each is of a channel that ran then, and has who went on and with what; and the board
+    /// started as it is sound.
     pub fn entries(&self) -> &[Entry]
         ensures all { result.now ≡ self.now.entries }
         ensures lawful { AreEntries (first_board self.now.start) self.now.entries }
+        ensures sound { IsSound self.now.start }
     {
         self.entries.as_slice()
     }

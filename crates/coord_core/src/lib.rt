@@ -4,17 +4,27 @@
 mod activities;
 mod alarms;
 mod board;
+mod desk;
 mod effects;
 mod goings;
+mod laws;
+mod locked;
+mod outcome;
 mod sets;
 mod start;
 mod state;
 mod table;
 mod threads;
+mod turns;
 mod zones;
 
 pub use board::Board;
+pub use desk::Desk;
+pub use laws::{a_look_tells_what_is, others_let_a_channel_run};
+pub use locked::Locked;
 use nc_faults::Alarm;
+pub use outcome::Outcome;
+pub use turns::{act_turn, close_turn, look_turn};
 
 /// What a channel does.
 #[derive(Clone, Copy, Debug, PartialEq, Eq)]

@@ -1,6 +1,6 @@
 //! The types whose values may go to another thread, and that threads may share.
 
-use crate::{Board, ChannelState};
+use crate::{Board, ChannelState, Locked, Outcome};
 
 /// Asks this of a type, and does nothing: each call is proved.
 fn crosses_threads<T: Send + Sync>() {}
@@ -9,4 +9,6 @@ fn crosses_threads<T: Send + Sync>() {}
 fn types_cross_threads() {
     crosses_threads::<Board>();
     crosses_threads::<ChannelState>();
+    crosses_threads::<Locked>();
+    crosses_threads::<Outcome>();
 }

@@ -9,9 +9,11 @@
 ghost use Rattle.std.specs.Prelude.{◌≡◌, ℕ, ◌-◌, ◌^◌, ◌<◌, ◌≤◌, List, Option, length, IfOk, OnOk, OnErr};
 ghost use Rattle.edge_io.specs.Moves.{HasCause, Grows, Counts, Reads, Writes, WritesCount, GrowsByFront};
 
+mod gate;
 mod memory;
 mod standard;
 
+pub use gate::{Gate, OpenGate};
 pub use memory::{CountSink, MemSink, MemSource};
 pub use standard::{StdSink, StdSource};
 

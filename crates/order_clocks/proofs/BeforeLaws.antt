@@ -5,9 +5,9 @@ use Rattle.order_clocks.specs.Before.{Before}
 use Rattle.order_clocks.specs.CourseOf.{course_of}
 use Rattle.order_clocks.specs.Counters.{row}
 use Rattle.order_clocks.specs.Courses.{AreOneIn}
-use Rattle.order_clocks.specs.Rows.{count_of}
+use Rattle.counter_rows.specs.Rows.{count_of}
+use Rattle.counter_rows.specs.Tables.{TableView}
 use Rattle.order_clocks.specs.Tells.{Tells, row_in, is_same_event, is_before_in}
-use Rattle.order_clocks.specs.declared.clocks.StepRows.{StepRows}
 use Rattle.order_clocks.proofs.CounterLaws.{before_from, before_to, one_back, one_itself}
 use Rattle.order_clocks.proofs.OrderLaws.{event_in, event_within, one_from, order_in, order_from}
 use Rattle.sync_types.proofs.BoardTests.{no_truth}
@@ -47,7 +47,7 @@ same_name b moves e f low_e low_f one back =
     ∙ (ap (λ (c : ℕ). let d : EventId = record { step = f.step; channel = c; go = e.go } in d) channel
     ∙ ap (λ (g : Bool). let d : EventId = record { step = f.step; channel = f.channel; go = g } in d) one.go)
 
-pub order_law : (b : Board) (moves : List Move) (steps : List StepRows) (e f : EventId) → length steps ≡ length moves → Tells (course_of b moves) steps → IsLowestName b moves e → IsLowestName b moves f
+pub order_law : (b : Board) (moves : List Move) (steps : TableView) (e f : EventId) → length steps.steps ≡ length moves → Tells (course_of b moves) steps → IsLowestName b moves e → IsLowestName b moves f
     → (is_before_in steps e f ≡ true) ↔ Before b moves e f
 order_law b moves steps e f size tells low_e low_f = (to, back)
   where

@@ -4,7 +4,8 @@ use Rattle.order_clocks.specs.Happenings.{Key}
 use Rattle.std.proofs.lemmas.Bool.{cases_Bool, cases_lt}
 use Rattle.sync_types.specs.Boards.{among}
 use Rattle.order_clocks.specs.Courses.{Course}
-use Rattle.order_clocks.specs.Counters.{top, LastRows, act_row, rows_after_act, own_row, members, go_row, rows_after_goings, last_rows}
+use Rattle.order_clocks.specs.Counters.{LastRows, act_row, rows_after_act, own_row, members, go_row, rows_after_goings, last_rows}
+use Rattle.counter_rows.specs.Rows.{top}
 
 max_below : (a b n : ℕ) → a ≤ n → b ≤ n → max a b ≤ n
 max_below a b n one two = elim (cases_lt a b) [ inl h ↦ omega arith | inr h ↦ omega arith ]

@@ -8,7 +8,8 @@ use Rattle.sync_types.specs.Boards.{among}
 use Rattle.order_clocks.specs.Chains.{IsIn}
 use Rattle.sync_types.specs.declared.runs.EventId.{EventId}
 use Rattle.order_clocks.specs.Courses.{Course, IsEventIn, AreJoinedIn, AreOneIn, IsLastGiftIn, RuleIn, InOrder, GivesKey, FollowsIn, IsBeforeIn}
-use Rattle.order_clocks.specs.Counters.{top, LastRows, act_row, rows_after_act, own_row, members, go_row, rows_after_goings, last_rows, row}
+use Rattle.order_clocks.specs.Counters.{LastRows, act_row, rows_after_act, own_row, members, go_row, rows_after_goings, last_rows, row}
+use Rattle.counter_rows.specs.Rows.{top}
 use Rattle.order_clocks.proofs.ChainLaws.{Counted, leads_from, leads_to}
 
 pub max_either : (a b : ℕ) → (max a b ≡ a) ⊎ (max a b ≡ b)

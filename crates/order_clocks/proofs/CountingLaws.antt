@@ -1,22 +1,24 @@
 -- The counters of all steps.
-use Rattle.std.proofs.Common.{◌≡◌, ℕ, ◌+◌, ◌^◌, ◌<◌, Bool, true, false, inl, inr, List, [], ◌∷◌, ◌++◌, filter, length, slice_index, slice_index_or, replicate, refl, sym, ap, ◌∙◌, length-append, arith, if◌then◌else◌}
+use Rattle.std.proofs.Common.{◌≡◌, ℕ, ◌+◌, ◌^◌, ◌<◌, Bool, true, false, inl, inr, List, [], filter, length, slice_index, slice_index_or, replicate, refl, sym, ap, ◌∙◌, arith, if◌then◌else◌}
 use Rattle.order_clocks.specs.Happenings.{Key, Raised, Freed, Started, Ended}
-use Rattle.std.proofs.lemmas.Bool.{cases_lt}
-use Rattle.std.proofs.lemmas.List.{get_or-replicate, get_or_past, get_or_append_left, length-replicate}
-use Rattle.std.proofs.Math.Seq.{get_or-append_seam}
+use Rattle.std.proofs.lemmas.Bool.{cases_lt, lt-ltb}
+use Rattle.std.proofs.lemmas.List.{get_or-replicate, get_or_past, length-replicate}
 use Rattle.std.specs.List.{range_with_len}
 use Rattle.sync_types.specs.Boards.{among}
 use Rattle.order_clocks.specs.Courses.{Course, IsEventIn}
 use Rattle.order_clocks.specs.Counters.{last_rows, row}
-use Rattle.order_clocks.specs.Rows.{count_of}
-use Rattle.order_clocks.specs.Steps.{gives_of, keys_of, departure_of, goes_in, row_at, Shows, HasRoom, AreRows, AreSteps, deed_at}
-use Rattle.order_clocks.specs.Tells.{Tells, no_rows}
-use Rattle.order_clocks.specs.declared.clocks.StepRows.{StepRows}
-use Rattle.order_clocks.specs.declared.deed.Deed.{Deed}
+use Rattle.axis_sets.specs.Sets.{has}
+use Rattle.counter_rows.specs.Rows.{count_of}
+use Rattle.counter_rows.specs.Tables.{TableView, act_in, go_in, row_at as table_row}
+use Rattle.order_clocks.specs.Steps.{gives_of, keys_of, row_at, Shows, HasRoom, AreRows, AreSteps, deed_at}
+use Rattle.order_clocks.specs.Tells.{Tells}
+use Rattle.counter_rows.specs.declared.table.StepRows.{StepRows}
+use Rattle.step_deeds.specs.declared.deed.Deed.{Deed}
 use Rattle.order_clocks.specs.declared.times.Times.{Times}
 use Rattle.order_clocks.proofs.BoundLaws.{seen_below}
 use Rattle.order_clocks.proofs.GoRowLaws.{listed, unlisted}
-use Rattle.order_clocks.proofs.StepLaws.{past_gone}
+use Rattle.step_deeds.proofs.HoldLaws.{past_gone}
+use Rattle.step_deeds.specs.Holds.{departure_of, goes_in}
 
 -- rows of no event
 pub zero_row : (n c x : ℕ) (row : List ℕ) → ((y : ℕ) → count_of row y ≡ 0) → count_of (slice_index_or (replicate n row) c []) x ≡ 0
@@ -74,27 +76,32 @@ shows_room run i t few shows = record {
 }
 
 -- one step more
-pub tells_more : (run : Course) (steps : List StepRows) (rows : StepRows) → Tells run steps → AreRows run (length steps) rows → Tells run (steps ++ rows ∷ [])
-tells_more run steps rows tells new = record {
-  rows = λ e event within c.
-      elim (cases_lt e.step (length steps)) [
-        | inl early ↦
-            let same : slice_index_or (steps ++ rows ∷ []) e.step no_rows ≡ slice_index_or steps e.step no_rows = get_or_append_left steps (rows ∷ []) no_rows e.step early in
-            ap (λ (r : StepRows). count_of (if e.go then slice_index_or r.goes e.channel [] else r.act) c) same ∙ tells.rows e event early c
-        | inr late ↦
-            let size = length_more steps rows in
-            let here : e.step ≡ length steps = omega arith in
-            let same : slice_index_or (steps ++ rows ∷ []) e.step no_rows ≡ rows = ap (λ (i : ℕ). slice_index_or (steps ++ rows ∷ []) i no_rows) here ∙ get_or-append_seam steps rows [] no_rows in
-            ap (λ (r : StepRows). count_of (if e.go then slice_index_or r.goes e.channel [] else r.act) c) same ∙ by_kind e.step e.channel e.go c here event
-      ];
-}
+pub tells_more : (run : Course) (old new : TableView) (rows : StepRows) (goes : List Bool) → Tells run old → AreRows run (length old.steps) rows → length new.steps ≡ length old.steps + 1
+    → ((i c : ℕ) → i < length old.steps → (act_in new i ≡ act_in old i) × (go_in new i c ≡ go_in old i c))
+    → act_in new (length old.steps) ≡ rows.act
+    → ((c : ℕ) → has goes c ≡ true → go_in new (length old.steps) c ≡ slice_index_or rows.goes c [])
+    → ((c : ℕ) → among (run.goers (length old.steps)) c ≡ has goes c)
+    → Tells run new
+tells_more run old new rows goes tells are size kept act going same = record { rows = λ e event within c. by_kind e.step e.channel e.go c within event }
   where
-    length_more : (xs : List StepRows) (x : StepRows) → length (xs ++ x ∷ []) ≡ length xs + 1
-    length_more xs x = omega (arith, length-append xs (x ∷ []))
+    row_there : (t : TableView) (i d : ℕ) (g : Bool) → i < length t.steps → table_row t i d g ≡ (if g then go_in t i d else act_in t i)
+    row_there t i d g within = rw (lt-ltb i (length t.steps) within) refl
 
-    by_kind : (i d : ℕ) (g : Bool) (c : ℕ) → i ≡ length steps → IsEventIn run (record { step = i; channel = d; go = g }) → count_of (if g then slice_index_or rows.goes d [] else rows.act) c ≡ row run (record { step = i; channel = d; go = g }) c
-    by_kind i d true c here event =
-        let on : among (run.goers (length steps)) d ≡ true = rw here at event in
-        new.goes d c on ∙ ap (λ (j : ℕ). row run (record { step = j; channel = d; go = true }) c) (sym here)
-    by_kind i d false c here event =
-        new.act c ∙ ap (λ (j : ℕ). row run (record { step = j; channel = run.actor j; go = false }) c) (sym here)
+    by_kind : (i d : ℕ) (g : Bool) (c : ℕ) → i < length new.steps → IsEventIn run (record { step = i; channel = d; go = g }) → count_of (table_row new i d g) c ≡ row run (record { step = i; channel = d; go = g }) c
+    by_kind i d g c within event = elim (cases_lt i (length old.steps)) [
+      | inl early ↦
+          ap (λ (r : List ℕ). count_of r c) (row_there new i d g within ∙ (older g early ∙ sym (row_there old i d g early))) ∙ tells.rows (record { step = i; channel = d; go = g }) event early c
+      | inr late ↦
+          let here : i ≡ length old.steps = omega arith in
+          ap (λ (r : List ℕ). count_of r c) (row_there new i d g within) ∙ by_go g here event
+    ]
+      where
+        older : (h : Bool) → i < length old.steps → (if h then go_in new i d else act_in new i) ≡ (if h then go_in old i d else act_in old i)
+        older true early = (kept i d early).1
+        older false early = (kept i d early).0
+
+        by_go : (h : Bool) → i ≡ length old.steps → IsEventIn run (record { step = i; channel = d; go = h }) → count_of (if h then go_in new i d else act_in new i) c ≡ row run (record { step = i; channel = d; go = h }) c
+        by_go true here there =
+            let on : among (run.goers (length old.steps)) d ≡ true = rw here at there in
+            rw here (ap (λ (r : List ℕ). count_of r c) (going d (sym (same d) ∙ on)) ∙ are.goes d c on)
+        by_go false here there = rw here (ap (λ (r : List ℕ). count_of r c) act ∙ are.act c)

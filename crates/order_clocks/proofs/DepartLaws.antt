@@ -1,5 +1,5 @@
 -- Those that go on go from their waits, and what is left of waits and marks.
-use Rattle.std.proofs.Common.{◌≡◌, ℕ, zero, suc, ◌<◌, ◌≤◌, ◌==◌, ◌&&◌, ◌||◌, not, Bool, true, false, inl, inr, List, [], ◌∷◌, ◌++◌, map, Option, Some, None, refl, sym, ap, ◌∙◌, arith, if◌then◌else◌}
+use Rattle.std.proofs.Common.{◌≡◌, ℕ, zero, suc, ◌<◌, ◌≤◌, ◌==◌, ◌&&◌, ◌||◌, not, Bool, true, false, inl, inr, ◌⊎◌, List, [], ◌∷◌, ◌++◌, map, Option, Some, None, refl, sym, ap, ◌∙◌, arith, if◌then◌else◌}
 use Rattle.std.specs.Prelude.{is_some}
 use Rattle.std.proofs.lemmas.Bool.{cases_Bool, and_parts, or_cases, eqb-true, eq-eqb}
 use Rattle.std.proofs.Math.ListN.{get_or-eq_default}
@@ -137,6 +137,14 @@ in_mapped f a (y ∷ ys) (inr later) = let w = in_mapped f a ys later in (w.0, (
     or_second true q on = refl
     or_second false q on = on
 
+-- who goes on at once does not wait for axes
+goer : (b : Board) (c : ℕ) → among (goers_at_once b) c ≡ true → goes_at_once b (b.state c) ≡ true
+goer b c on = (and_parts (among channel_numbers c) (goes_at_once b (b.state c)) (sym (among_kept (λ d. goes_at_once b (b.state d)) channel_numbers c) ∙ on)).1
+
+goes_not_waits : (b : Board) (s : State) → goes_at_once b s ≡ true → waits_for_axes s ≡ false
+goes_not_waits b (IsHolding (AtAxes axes) line) on = no_truth false on refl
+goes_not_waits b other on = refl
+
 -- all that go on
 pub all_go_from : (b : Board) (starts : List ℕ) (g : Going) → ((s : ℕ) → among starts s ≡ true → wait_in (b.state s) ≡ None) → IsIn g (goings_on b starts) → GoesFrom b g
 all_go_from b starts g started within = elim ((in_append g (map (going_of_start b) starts) _).0 within) [
@@ -149,8 +157,8 @@ all_go_from b starts g started within = elim ((in_append g (map (going_of_start 
   | inr rest ↦ elim ((in_append g (map (going_at_once b) (goers_at_once b)) _).0 rest) [
     | inl once ↦ let w = in_mapped (going_at_once b) g (goers_at_once b) once in rw w.1.1 (record {
       from = refl;
-      positions = λ on. no_truth (waits_for_axes (b.state w.0)) on (goes_not_waits (b.state w.0) (goer w.0 w.1.0));
-      past = λ on. no_truth (waits_for_axes (b.state w.0)) on (goes_not_waits (b.state w.0) (goer w.0 w.1.0));
+      positions = λ on. no_truth (waits_for_axes (b.state w.0)) on (goes_not_waits b (b.state w.0) (goer b w.0 w.1.0));
+      past = λ on. no_truth (waits_for_axes (b.state w.0)) on (goes_not_waits b (b.state w.0) (goer b w.0 w.1.0));
       took = λ x on. no_truth false on refl;
     })
     | inr taker ↦
@@ -159,13 +167,6 @@ all_go_from b starts g started within = elim ((in_append g (map (going_of_start 
         record { from = ap wait_in (t.from ∙ back.1); positions = λ on. t.positions; past = λ on. t.past; took = t.took }
   ]
 ]
-  where
-    goer : (c : ℕ) → among (goers_at_once b) c ≡ true → goes_at_once b (b.state c) ≡ true
-    goer c on = (and_parts (among channel_numbers c) (goes_at_once b (b.state c)) (sym (among_kept (λ d. goes_at_once b (b.state d)) channel_numbers c) ∙ on)).1
-
-    goes_not_waits : (s : State) → goes_at_once b s ≡ true → waits_for_axes s ≡ false
-    goes_not_waits (IsHolding (AtAxes axes) line) on = no_truth false on refl
-    goes_not_waits other on = refl
 
 axes_among : (b : Board) (d : ℕ) → among (channels_in (all_takings (after_goes b)).goings) d ≡ true → waits_for_axes ((after_goes b).state d) ≡ true
 axes_among b d on =
@@ -229,3 +230,52 @@ goings_lower b starts d m started = ap (λ (marks : ℕ → ℕ → Bool). marks
     by_cases true false k by_start by_axes = rw (by_start refl) refl
     by_cases false false true by_start by_axes = rw (by_axes refl) refl
     by_cases false false false by_start by_axes = refl
+
+-- a channel takes axes once in a step
+takings_once : (n : ℕ) (b : Board) (g h : Going) → IsIn g (takings n b).goings → IsIn h (takings n b).goings → g.channel ≡ h.channel → g ≡ h
+unfolding state_after_taking
+takings_once zero b g h one two same = absurd one
+takings_once (suc n) b g h one two same = next (takings_once n) (takings_take n) (next_taker b) one two
+  where
+    gone : (c : ℕ) (x : Going) → x.channel ≡ c → TakesFrom (after_taking b c) x → ⊥
+    gone c x is t = no_truth false (ap waits_for_axes (sym (rw (eq-eqb x.channel c is) at t.from)) ∙ t.waits) refl
+
+    next : ((a : Board) (x y : Going) → IsIn x (takings n a).goings → IsIn y (takings n a).goings → x.channel ≡ y.channel → x ≡ y)
+        → ((a : Board) (x : Going) → IsIn x (takings n a).goings → TakesFrom a x)
+        → (taker : Option ℕ) → IsIn g (takings_from (takings n) b taker).goings → IsIn h (takings_from (takings n) b taker).goings → g ≡ h
+    next rest take None there here = absurd there
+    next rest take (Some c) (inl e) (inl f) = e ∙ sym f
+    next rest take (Some c) (inl e) (inr later) = absurd (gone c h (sym same ∙ ap (λ (x : Going). x.channel) e) (take (after_taking b c) h later))
+    next rest take (Some c) (inr later) (inl f) = absurd (gone c g (same ∙ ap (λ (x : Going). x.channel) f) (take (after_taking b c) g later))
+    next rest take (Some c) (inr later) (inr too) = rest (after_taking b c) g h later too same
+
+-- of those that go on the one that is found by its channel has the same wait, and took the same axes
+pub takers_alike : (b : Board) (starts : List ℕ) (g h : Going) → ((s : ℕ) → among starts s ≡ true → wait_in (b.state s) ≡ None)
+    → IsIn g (goings_on b starts) → IsIn h (goings_on b starts) → g.channel ≡ h.channel → (x : ℕ) → among g.took x ≡ true → among h.took x ≡ true
+takers_alike b starts g h started one two same x on = elim (parts g one) [
+  | inl none ↦ no_truth false (sym (ap (λ (xs : List ℕ). among xs x) none.0) ∙ on) refl
+  | inr there ↦ elim (parts h two) [
+    | inl bare ↦ no_truth (waits_for_axes (b.state h.channel)) (waits_both there) bare.1
+    | inr here ↦ rw (takings_once 8 (after_goes b) g h there here same) at on
+  ]
+]
+  where
+    no_wait : (t : State) → wait_in t ≡ None → waits_for_axes t ≡ false
+    no_wait (IsHolding hold line) none = no_truth false (ap is_some (sym none)) refl
+    no_wait other none = refl
+
+    parts : (k : Going) → IsIn k (goings_on b starts) → ((k.took ≡ []) × (waits_for_axes (b.state k.channel) ≡ false)) ⊎ IsIn k (all_takings (after_goes b)).goings
+    parts k within = elim ((in_append k (map (going_of_start b) starts) _).0 within) [
+      | inl start ↦ let w = in_mapped (going_of_start b) k starts start in rw w.1.1 (inl (refl, no_wait (b.state w.0) (started w.0 w.1.0)))
+      | inr rest ↦ elim ((in_append k (map (going_at_once b) (goers_at_once b)) _).0 rest) [
+        | inl once ↦ let w = in_mapped (going_at_once b) k (goers_at_once b) once in rw w.1.1 (inl (refl, goes_not_waits b (b.state w.0) (goer b w.0 w.1.0)))
+        | inr taker ↦ inr taker
+      ]
+    ]
+
+    -- the channel waits for axes on this board
+    waits_both : IsIn g (all_takings (after_goes b)).goings → waits_for_axes (b.state h.channel) ≡ true
+    waits_both there =
+        let t = takings_take 8 (after_goes b) g there in
+        let back = axes_after_goes b g.channel (ap waits_for_axes (sym t.from) ∙ t.waits) in
+        ap (λ (c : ℕ). waits_for_axes (b.state c)) (sym same) ∙ (ap waits_for_axes (sym back.1) ∙ (ap waits_for_axes (sym t.from) ∙ t.waits))

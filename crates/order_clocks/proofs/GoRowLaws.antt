@@ -9,8 +9,8 @@ use Rattle.std.specs.List.{range_with_len}
 use Rattle.axis_sets.specs.Sets.{has, members_of}
 use Rattle.sync_types.specs.Boards.{among}
 use Rattle.order_clocks.specs.Courses.{Course}
-use Rattle.order_clocks.specs.Counters.{top, LastRows, own_row, members, go_row}
-use Rattle.order_clocks.specs.Rows.{count_of, in_group, joint_top, joint_count}
+use Rattle.order_clocks.specs.Counters.{LastRows, own_row, members, go_row}
+use Rattle.counter_rows.specs.Rows.{top, count_of, in_group, joint_top, joint_count}
 
 pub top_same : {A : Type 0} (f h : A → ℕ) (xs : List A) → ((a : A) → IsIn a xs → f a ≡ h a) → top f xs ≡ top h xs
 top_same f h [] same = refl

@@ -6,20 +6,20 @@ use Rattle.std.proofs.Math.ListN.{get_or-eq_default}
 use Rattle.axis_sets.proofs.SetLaws.{list_any-members_of}
 use Rattle.order_clocks.specs.Chains.{IsIn}
 use Rattle.order_clocks.specs.Groups.{labels}
-use Rattle.order_clocks.specs.Partners.{are_named, marks_in, named_marks, are_partners, PairsAllPartners, AreAllLinked}
+use Rattle.order_clocks.specs.Partners.{PairsAllPartners, AreAllLinked}
 use Rattle.order_clocks.specs.Watching.{BeginIsSound, WaitIsSound, begun_at, IsGoingOf, wait_in, wait_shown}
 use Rattle.order_clocks.specs.Happenings.{going_of}
-use Rattle.order_clocks.specs.Steps.{is_given}
-use Rattle.order_clocks.specs.declared.deed.Departure.{Departure}
-use Rattle.order_clocks.specs.declared.deed.Hold as code
-use Rattle.order_clocks.specs.declared.deed.Hold.TheVariants.{Marks, Ends, Axes}
-use Rattle.order_clocks.specs.declared.deed.HoldAtLine.{HoldAtLine}
+use Rattle.step_deeds.specs.declared.deed.Departure.{Departure}
+use Rattle.step_deeds.specs.declared.deed.Hold as code
+use Rattle.step_deeds.specs.declared.deed.Hold.TheVariants.{Marks, Ends, Axes}
+use Rattle.step_deeds.specs.declared.deed.HoldAtLine.{HoldAtLine}
 use Rattle.order_clocks.proofs.GroupLaws.{chained_from, chained_to}
 use Rattle.order_clocks.proofs.TellLaws.{going_some, going_within}
 use Rattle.sync_types.proofs.BoardTests.{no_truth}
 use Rattle.sync_types.specs.Boards.{Hold, AtMarks, AtEnds, AtAxes, State, IsHolding, Board, among}
 use Rattle.sync_types.specs.Events.{Pair, ArePaired, AreLinked, IsChain, channels_in, name_each_other, pairs_with, pairs_between, pairs_of}
 use Rattle.sync_types.specs.GoingOn.{Going}
+use Rattle.step_deeds.specs.Holds.{are_named, are_partners, is_given, marks_in, named_marks}
 
 -- two waits that name each other's channels
 abbrev pub name_both : Option (Hold × ℕ) → Option (Hold × ℕ) → ℕ → ℕ → Bool

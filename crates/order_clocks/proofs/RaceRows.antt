@@ -1,5 +1,5 @@
 -- Worked runs with a race, computed from the definitions.
-use Rattle.std.proofs.Common.{◌≡◌, ℕ, ◌<◌, ◌≤◌, Bool, true, false, List, [], ◌∷◌, Some, refl, arith}
+use Rattle.std.proofs.Common.{◌≡◌, ℕ, ◌<◌, Bool, true, false, List, [], ◌∷◌, Some, refl, arith}
 use Rattle.order_clocks.specs.Before.{Before}
 use Rattle.order_clocks.specs.Counters.{row, act_row, rows_after_act, rows_after_goings, own_row, go_row}
 use Rattle.order_clocks.specs.CourseOf.{course_of}

@@ -8,19 +8,17 @@ use Rattle.std.specs.List.{range_with_len}
 use Rattle.axis_sets.specs.Sets.{has, members_of}
 use Rattle.sync_types.specs.Boards.{among}
 use Rattle.order_clocks.specs.Courses.{Course}
-use Rattle.order_clocks.specs.Counters.{top, LastRows, act_row, rows_after_act, own_row, members, go_row, rows_after_goings}
-use Rattle.order_clocks.specs.Rows.{count_of, in_group, joint_top, joint_count}
-use Rattle.order_clocks.specs.Steps.{is_given, gives_of, keys_of, departure_of, goes_in, IsStep, row_at, Shows, HasRoom}
-use Rattle.order_clocks.specs.declared.deed.Hold.TheVariants.{Marks, Ends, Axes}
-use Rattle.order_clocks.specs.declared.deed.HoldAtLine.{HoldAtLine}
-use Rattle.order_clocks.specs.declared.deed.Departure.{Departure}
-use Rattle.order_clocks.specs.declared.deed.Deed.{Deed}
+use Rattle.order_clocks.specs.Counters.{LastRows, act_row, rows_after_act, own_row, members, go_row, rows_after_goings}
+use Rattle.counter_rows.specs.Rows.{top, count_of, in_group, joint_top, joint_count}
+use Rattle.order_clocks.specs.Steps.{gives_of, keys_of, IsStep, row_at, Shows, HasRoom}
+use Rattle.step_deeds.specs.declared.deed.Hold.TheVariants.{Marks, Ends, Axes}
+use Rattle.step_deeds.specs.declared.deed.HoldAtLine.{HoldAtLine}
+use Rattle.step_deeds.specs.declared.deed.Departure.{Departure}
+use Rattle.step_deeds.specs.declared.deed.Deed.{Deed}
 use Rattle.order_clocks.specs.declared.times.Times.{Times}
 use Rattle.order_clocks.proofs.CounterLaws.{top_above, in_filter, filter_in, is_in, contains_from, opened_actor, opened_other, opened_given, opened_kept, closed_goer, closed_other, closed_last}
 use Rattle.order_clocks.proofs.GoRowLaws.{top_same, top_map, in_range, contains_group}
-
-pub past_gone : (goes : List (Option Departure)) (c : ℕ) → length goes ≤ c → is_given (slice_index_or goes c None) ≡ false
-past_gone goes c past = ap is_given (get_or-eq_default goes None past)
+use Rattle.step_deeds.specs.Holds.{departure_of, goes_in}
 
 pub row_at_same : (t u : Times) → t.raised ≡ u.raised → t.freed ≡ u.freed → t.started ≡ u.started → t.ended ≡ u.ended → (k : Key) → row_at t k ≡ row_at u k
 row_at_same t u raised freed started ended (Raised c m) = ap (λ (r : List (List (List ℕ))). slice_index_or (slice_index_or r m []) c []) raised

@@ -1,22 +1,22 @@
 -- What the code keeps of waits and marks stays what the board has.
 use Rattle.std.proofs.Common.{◌≡◌, ℕ, ◌<◌, ◌==◌, ◌&&◌, ◌||◌, not, Bool, true, false, inl, inr, List, [], ◌∷◌, map, Option, Some, None, refl, sym, ap, ◌∙◌, arith, if◌then◌else◌}
 use Rattle.std.specs.Prelude.{is_some, option_map, slice_index_or}
-use Rattle.std.proofs.lemmas.Bool.{cases_Bool, cases_lt, eqb-true}
+use Rattle.std.proofs.lemmas.Bool.{cases_Bool, cases_lt, eqb-true, eq-eqb}
 use Rattle.std.proofs.Math.ListN.{get_or-eq_default}
 use Rattle.axis_sets.specs.Positions.{position_of}
 use Rattle.axis_sets.specs.Sets.{has}
 use Rattle.axis_sets.proofs.SetLaws.{list_any-members_of}
 use Rattle.order_clocks.specs.Chains.{IsIn}
 use Rattle.order_clocks.specs.Happenings.{happening_of, going_of}
-use Rattle.order_clocks.specs.Watching.{lowers_at}
-use Rattle.order_clocks.specs.Watching.{Keeps, GoesFrom, IsGone, IsGoingOf, WaitIsSound, begun_at, begun_shown, go_in, is_at_axes, wait_in, wait_shown}
+use Rattle.order_clocks.specs.Reading.{IsOnlyOne}
+use Rattle.order_clocks.specs.Watching.{Keeps, GoesFrom, IsGone, IsGoingOf, WaitIsSound, begun_at, begun_shown, go_in, wait_in, wait_shown}
 use Rattle.order_clocks.specs.declared.acts.Act.{Act}
-use Rattle.order_clocks.specs.declared.deed.Departure.{Departure}
-use Rattle.order_clocks.specs.declared.deed.Hold as code
-use Rattle.order_clocks.specs.declared.deed.Hold.TheVariants.{Marks, Ends, Axes}
-use Rattle.order_clocks.specs.declared.deed.HoldAtLine.{HoldAtLine}
+use Rattle.step_deeds.specs.declared.deed.Departure.{Departure}
+use Rattle.step_deeds.specs.declared.deed.Hold as code
+use Rattle.step_deeds.specs.declared.deed.Hold.TheVariants.{Marks, Ends, Axes}
+use Rattle.step_deeds.specs.declared.deed.HoldAtLine.{HoldAtLine}
 use Rattle.order_clocks.specs.declared.watch.Watch.{Watch}
-use Rattle.order_clocks.proofs.DepartLaws.{all_go_from, goings_leave, goings_lower}
+use Rattle.order_clocks.proofs.DepartLaws.{all_go_from, goings_leave, goings_lower, takers_alike}
 use Rattle.order_clocks.proofs.ReadLaws.{IsChange, part_waits, part_marks, started_waits, running_waits, with_line}
 use Rattle.sync_types.proofs.BoardTests.{no_truth}
 use Rattle.sync_types.specs.BoardActions.{after_own_part, channels_started}
@@ -27,6 +27,7 @@ use Rattle.sync_types.specs.GoingOn.{Going, go_of, lowers, waits_for_axes, axes_
 use Rattle.sync_types.specs.Turns.{goings_in_step, after_step}
 use Rattle.sync_types.specs.declared.Step.{Step}
 use Rattle.sync_types.specs.declared.runs.Go.{Go}
+use Rattle.step_deeds.specs.Holds.{is_at_axes, lowers_at}
 
 -- who is found among those that go on
 pub go_found : (gs : List Going) (d : ℕ) → go_in (map go_of gs) d ≡ option_map go_of (going_of gs d)
@@ -137,6 +138,35 @@ keeps_goings mid new b c step goes running keeps are holds marks = record {
 -- each that goes on
 pub goes_from : (b : Board) (c : ℕ) (step : Step) (g : Going) → is_running (b.state c) ≡ true → IsIn g (goings_in_step b c step) → GoesFrom (after_own_part b c step) g
 goes_from b c step g running within = all_go_from (after_own_part b c step) (channels_started (alarm_of b c step.action) step.action) g (λ s on. started_waits b c step s running on) within
+
+or_true : (p q : Bool) → q ≡ true → (p || q) ≡ true
+or_true true q on = refl
+or_true false q on = on
+
+-- that which is found by its channel has the same wait, and took the same axes
+pub only_one : (b : Board) (c : ℕ) (step : Step) (g : Going) → is_running (b.state c) ≡ true → IsIn g (goings_in_step b c step) → IsOnlyOne (goings_in_step b c step) g
+only_one b c step g running within = found (going_of (goings_in_step b c step) g.channel) refl
+  where
+    there : among (channels_in (goings_in_step b c step)) g.channel ≡ true
+    there = listed (goings_in_step b c step) within
+      where
+        listed : (gs : List Going) → IsIn g gs → among (channels_in gs) g.channel ≡ true
+        listed [] here = absurd here
+        listed (h ∷ hs) (inl e) = rw (eq-eqb h.channel g.channel (ap (λ (k : Going). k.channel) (sym e))) refl
+        listed (h ∷ hs) (inr later) = or_true (h.channel == g.channel) _ (listed hs later)
+
+    found : (o : Option Going) → going_of (goings_in_step b c step) g.channel ≡ o → IsOnlyOne (goings_in_step b c step) g
+    found (Some h) e =
+        let w = going_within (goings_in_step b c step) g.channel h e in
+        let one = goes_from b c step g running within in
+        let two = goes_from b c step h running w.0 in
+        record {
+          other = h;
+          found = e;
+          from = two.from ∙ (ap (λ (d : ℕ). wait_in ((after_own_part b c step).state d)) w.1 ∙ sym one.from);
+          took = takers_alike (after_own_part b c step) (channels_started (alarm_of b c step.action) step.action) g h (λ s on. started_waits b c step s running on) within w.0 (sym w.1);
+        }
+    found None e = no_truth false (ap is_some (sym e) ∙ (going_some (goings_in_step b c step) g.channel ∙ there)) refl
 
 abbrev wait_axes : Option (Hold × ℕ) → Bool
 wait_axes (Some (AtAxes axes, line)) = true

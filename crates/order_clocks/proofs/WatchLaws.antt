@@ -5,11 +5,11 @@ use Rattle.std.specs.List.{list_any}
 use Rattle.std.proofs.lemmas.Bool.{cases_Bool, cases_lt, eqb-true, eqb-false, lt-ltb, ltb-true}
 use Rattle.std.proofs.Math.ListN.{get_or-eq_default}
 use Rattle.axis_sets.specs.Sets.{has}
-use Rattle.order_clocks.specs.Watching.{lowers_at}
 use Rattle.order_clocks.specs.Watching.{go_in}
-use Rattle.order_clocks.specs.declared.deed.HoldAtLine.{HoldAtLine}
+use Rattle.step_deeds.specs.declared.deed.HoldAtLine.{HoldAtLine}
 use Rattle.sync_types.specs.declared.runs.Go.{Go}
 use Rattle.sync_types.proofs.BoardTests.{no_truth}
+use Rattle.step_deeds.specs.Holds.{lowers_at}
 
 -- the channels from 1 on below this number
 abbrev pub is_done : ℕ → ℕ → Bool

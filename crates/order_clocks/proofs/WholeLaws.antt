@@ -8,14 +8,14 @@ use Rattle.order_clocks.specs.Chains.{IsIn}
 use Rattle.order_clocks.specs.Clocked.{moves_in}
 use Rattle.order_clocks.specs.CourseOf.{course_of}
 use Rattle.order_clocks.specs.Happenings.{Key, Raised, Freed, Started, Ended, board_at, happening_at, happening_of, gives, going_of, rests_in, rests_on}
-use Rattle.order_clocks.specs.Steps.{IsStep, departure_of, gives_of, is_given, keys_of, rests_at}
+use Rattle.order_clocks.specs.Steps.{IsStep, gives_of, keys_of, rests_at}
 use Rattle.order_clocks.specs.Stops.{AreLastPlaces, IsWhole, TellsAlarms, alarm_at, alarms_in, are_acted, channel_at, channels_of, is_alarm_in, is_alarmed}
 use Rattle.order_clocks.specs.Watching.{IsGoingOf, IsRead, wait_in, wait_shown}
-use Rattle.order_clocks.specs.declared.deed.Deed.{Deed}
-use Rattle.order_clocks.specs.declared.deed.Departure.{Departure}
-use Rattle.order_clocks.specs.declared.deed.Hold as code
-use Rattle.order_clocks.specs.declared.deed.Hold.TheVariants.{Marks, Ends, Axes}
-use Rattle.order_clocks.specs.declared.deed.HoldAtLine.{HoldAtLine}
+use Rattle.step_deeds.specs.declared.deed.Deed.{Deed}
+use Rattle.step_deeds.specs.declared.deed.Departure.{Departure}
+use Rattle.step_deeds.specs.declared.deed.Hold as code
+use Rattle.step_deeds.specs.declared.deed.Hold.TheVariants.{Marks, Ends, Axes}
+use Rattle.step_deeds.specs.declared.deed.HoldAtLine.{HoldAtLine}
 use Rattle.order_clocks.proofs.MemberLaws.{in_members, members_in, in_map, map_in}
 use Rattle.order_clocks.proofs.CounterLaws.{is_in, contains_from}
 use Rattle.order_clocks.proofs.StopLaws.{alarm_ends, no_alarm_ends, acted_awake, fresh_stays, awake_channels, ends_are}
@@ -29,6 +29,7 @@ use Rattle.sync_types.specs.Runs.{ComesFrom}
 use Rattle.sync_types.specs.Starts.{has_channel, runs_at_first}
 use Rattle.sync_types.specs.Views.{EntryView, RunView, StartView}
 use Rattle.sync_types.specs.declared.ChannelEnd.{ChannelEnd}
+use Rattle.step_deeds.specs.Holds.{departure_of, is_given}
 
 -- entries and moves
 pub running_moves : (es : List EntryView) (b : Board) → AreEntries b es → AreOfRunning b (moves_in es)

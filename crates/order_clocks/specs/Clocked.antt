@@ -1,11 +1,18 @@
 -- Meaning. What a contract sees of the clocks of a run: which event is before which, and the first race.
-use Rattle.std.specs.Prelude.{◌≡◌, ◌↔◌, Bool, true, List, map}
+use Rattle.std.specs.Prelude.{◌≡◌, ◌↔◌, Bool, true, List, map, Option}
+use Rattle.counter_rows.specs.Tables.{TableView}
 use Rattle.order_clocks.specs.Before.{Before}
 use Rattle.sync_types.specs.Boards.{Board}
 use Rattle.sync_types.specs.Events.{IsLowestName}
 use Rattle.sync_types.specs.Turns.{Move}
 use Rattle.sync_types.specs.Views.{EntryView}
 use Rattle.sync_types.specs.declared.runs.EventId.{EventId}
+use Rattle.sync_types.specs.declared.runs.Race.{Race}
+
+-- the counters of all events, and the first race
+pub record ClocksView : Type 0 where
+  pub rows : TableView
+  pub race : Option Race
 
 -- the steps of these entries
 abbrev pub moves_in : List EntryView → List Move

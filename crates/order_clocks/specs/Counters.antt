@@ -1,14 +1,10 @@
 -- Steps. Counters for each event: how many events of each channel are it or before it.
-use Rattle.std.specs.Prelude.{ℕ, zero, suc, max, List, [], ◌∷◌, ◌==◌, if◌then◌else◌, filter}
+use Rattle.std.specs.Prelude.{ℕ, zero, suc, max, List, ◌==◌, if◌then◌else◌, filter}
+use Rattle.counter_rows.specs.Rows.{top}
 use Rattle.order_clocks.specs.Happenings.{Key}
 use Rattle.sync_types.specs.declared.runs.EventId.{EventId}
 use Rattle.sync_types.specs.Boards.{among}
 use Rattle.order_clocks.specs.Courses.{Course}
-
--- the greatest value, 0 where there is none
-abbrev pub top : {A : Type 0} → (A → ℕ) → List A → ℕ
-top f [] = 0
-top f (x ∷ xs) = max (f x) (top f xs)
 
 -- the counters of each channel's last event, and of the last Act that gave a key
 pub record LastRows : Type 0 where

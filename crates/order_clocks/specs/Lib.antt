@@ -6,11 +6,15 @@ pub mod CourseOf
 pub mod Courses
 pub mod Groups
 pub mod Happenings
+pub mod LastPlaces
+pub mod Pairs
 pub mod Partners
 pub mod RaceOrder
 pub mod Races
-pub mod Rows
+pub mod Reading
 pub mod Steps
 pub mod Stops
 pub mod Tells
+pub mod Tracks
 pub mod Watching
+pub mod StepReading

@@ -7,24 +7,21 @@ use Rattle.sync_types.specs.declared.runs.EventId.{EventId}
 use Rattle.order_clocks.specs.Chains.{IsIn}
 use Rattle.order_clocks.specs.Courses.{Course}
 use Rattle.order_clocks.specs.Counters.{LastRows, row}
-use Rattle.order_clocks.specs.Rows.{count_of}
-use Rattle.order_clocks.specs.declared.deed.Hold.{Hold}
-use Rattle.order_clocks.specs.declared.deed.Hold.TheVariants.{Marks, Ends, Axes}
-use Rattle.order_clocks.specs.declared.deed.HoldAtLine.{HoldAtLine}
-use Rattle.order_clocks.specs.declared.deed.Departure.{Departure}
-use Rattle.order_clocks.specs.declared.deed.Deed.{Deed}
+use Rattle.counter_rows.specs.Rows.{count_of}
+use Rattle.step_deeds.specs.declared.deed.Hold.{Hold}
+use Rattle.step_deeds.specs.declared.deed.Hold.TheVariants.{Marks, Ends, Axes}
+use Rattle.step_deeds.specs.declared.deed.HoldAtLine.{HoldAtLine}
+use Rattle.step_deeds.specs.declared.deed.Departure.{Departure}
+use Rattle.step_deeds.specs.declared.deed.Deed.{Deed}
 use Rattle.order_clocks.specs.declared.times.Times.{Times}
-use Rattle.order_clocks.specs.declared.clocks.StepRows.{StepRows}
+use Rattle.counter_rows.specs.declared.table.StepRows.{StepRows}
+use Rattle.step_deeds.specs.Holds.{departure_of, goes_in}
 
 abbrev pub act_name : ℕ → ℕ → EventId
 act_name i c = record { step = i; channel = c; go = false }
 
 abbrev pub go_name : ℕ → ℕ → EventId
 go_name i c = record { step = i; channel = c; go = true }
-
-abbrev pub is_given : {A : Type 0} → Option A → Bool
-is_given (Some x) = true
-is_given None = false
 
 -- the keys that an Act gives
 abbrev pub gives_of : Deed → Key → Bool
@@ -46,26 +43,6 @@ rests_at c took (Some held) = rests_of took held.hold
 abbrev pub keys_of : ℕ → Option Departure → List Key
 keys_of c (Some gone) = rests_at c gone.took gone.held
 keys_of c None = []
-
-abbrev pub departure_of : Deed → ℕ → Option Departure
-departure_of deed c = slice_index_or deed.goes c None
-
-abbrev pub goes_in : Deed → ℕ → Bool
-goes_in deed c = is_given (departure_of deed c)
-
--- the number of a hold at marks is a mark's
-abbrev pub HoldOfMark : Hold → Type 0
-HoldOfMark (Marks m named) = m < 10
-HoldOfMark (Ends named) = Unit {0}
-HoldOfMark (Axes axes) = Unit {0}
-
-abbrev pub HoldAtLineOfMark : Option HoldAtLine → Type 0
-HoldAtLineOfMark (Some held) = HoldOfMark held.hold
-HoldAtLineOfMark None = Unit {0}
-
-abbrev pub DepartsFromMark : Option Departure → Type 0
-DepartsFromMark (Some gone) = HoldAtLineOfMark gone.held
-DepartsFromMark None = Unit {0}
 
 -- the step of the run is this deed: the order of those that go is free, and so are the numbers of their groups
 pub record IsStep (run : Course) (i : ℕ) (deed : Deed) : Type 0 where

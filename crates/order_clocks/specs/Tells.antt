@@ -1,26 +1,21 @@
--- Steps. Counters in lists that tell the events of a run.
-use Rattle.std.specs.Prelude.{◌≡◌, ℕ, ◌<◌, ◌==◌, ◌&&◌, not, nat_lt, Bool, List, [], length, slice_index_or, if◌then◌else◌}
+-- Steps. Counters in a table that tell the events of a run.
+use Rattle.std.specs.Prelude.{◌≡◌, ℕ, ◌<◌, ◌==◌, ◌&&◌, not, nat_lt, Bool, List, length, if◌then◌else◌}
+use Rattle.counter_rows.specs.Rows.{count_of}
+use Rattle.counter_rows.specs.Tables.{TableView, row_at}
 use Rattle.order_clocks.specs.Courses.{Course, IsEventIn}
 use Rattle.order_clocks.specs.Counters.{row}
-use Rattle.order_clocks.specs.Rows.{count_of}
 use Rattle.sync_types.specs.declared.runs.EventId.{EventId}
-use Rattle.order_clocks.specs.declared.clocks.StepRows.{StepRows}
 
-abbrev pub no_rows : StepRows
-no_rows = record { act = []; goes = [] }
+abbrev pub row_in : TableView → EventId → List ℕ
+row_in table e = row_at table e.step e.channel e.go
 
-abbrev pub row_in : List StepRows → EventId → List ℕ
-row_in steps e =
-    let rows = slice_index_or steps e.step no_rows in
-    if e.go then slice_index_or rows.goes e.channel [] else rows.act
-
--- the lists have the counters of all events of the run
-pub record Tells (run : Course) (steps : List StepRows) : Type 0 where
-  pub rows : (e : EventId) → IsEventIn run e → e.step < length steps → (c : ℕ) → count_of (row_in steps e) c ≡ row run e c
+-- the table has the counters of all events of the run
+pub record Tells (run : Course) (table : TableView) : Type 0 where
+  pub rows : (e : EventId) → IsEventIn run e → e.step < length table.steps → (c : ℕ) → count_of (row_in table e) c ≡ row run e c
 
 abbrev pub is_same_event : EventId → EventId → Bool
 is_same_event a b = (a.step == b.step) && ((a.channel == b.channel) && (if a.go then b.go else not b.go))
 
 -- another event, which counts the events of the first one's channel up to it
-abbrev pub is_before_in : List StepRows → EventId → EventId → Bool
-is_before_in steps a b = not (is_same_event a b) && not (nat_lt (count_of (row_in steps b) a.channel) (count_of (row_in steps a) a.channel))
+abbrev pub is_before_in : TableView → EventId → EventId → Bool
+is_before_in table a b = not (is_same_event a b) && not (nat_lt (count_of (row_in table b) a.channel) (count_of (row_in table a) a.channel))

@@ -4,13 +4,12 @@ use Rattle.axis_sets.specs.Positions.{position_of}
 use Rattle.axis_sets.specs.Sets.{has, members_of}
 use Rattle.order_clocks.specs.Groups.{labels}
 use Rattle.order_clocks.specs.Happenings.{Happening, going_of}
-use Rattle.order_clocks.specs.Steps.{departure_of, goes_in}
 use Rattle.order_clocks.specs.declared.acts.Act.{Act}
-use Rattle.order_clocks.specs.declared.deed.Deed.{Deed}
-use Rattle.order_clocks.specs.declared.deed.Departure.{Departure}
-use Rattle.order_clocks.specs.declared.deed.Hold.TheVariants.{Marks, Ends, Axes}
-use Rattle.order_clocks.specs.declared.deed.Hold as code
-use Rattle.order_clocks.specs.declared.deed.HoldAtLine.{HoldAtLine}
+use Rattle.step_deeds.specs.declared.deed.Deed.{Deed}
+use Rattle.step_deeds.specs.declared.deed.Departure.{Departure}
+use Rattle.step_deeds.specs.declared.deed.Hold.TheVariants.{Marks, Ends, Axes}
+use Rattle.step_deeds.specs.declared.deed.Hold as code
+use Rattle.step_deeds.specs.declared.deed.HoldAtLine.{HoldAtLine}
 use Rattle.order_clocks.specs.declared.watch.Watch.{Watch}
 use Rattle.sync_types.specs.BoardActions.{marks_after, hold_of, axes_to_free, channels_to_start}
 use Rattle.sync_types.specs.BoardAlarms.{alarm_of}
@@ -22,6 +21,7 @@ use Rattle.sync_types.specs.declared.Action.{Action}
 use Rattle.sync_types.specs.declared.Step.{Step}
 use Rattle.sync_types.specs.declared.runs.Go.{Go}
 use Rattle.sync_types.specs.declared.Action.TheVariants.{End}
+use Rattle.step_deeds.specs.Holds.{departure_of, goes_in, is_at_axes}
 
 -- for what a channel waits, and at which line; none where it does not wait
 abbrev pub wait_in : State → Option (Hold × ℕ)
@@ -109,15 +109,6 @@ pub record GoesFrom (b : Board) (g : Going) : Type 0 where
   pub past : waits_for_axes g.from ≡ true → (x : ℕ) → 16 ≤ x → is_some (position_of g.grant.at x) ≡ false
   pub took : (x : ℕ) → among g.took x ≡ true → among (axes_asked g.from) x ≡ true
 
-abbrev pub is_axes : code.Hold → Bool
-is_axes (Axes axes) = true
-is_axes (Marks m named) = false
-is_axes (Ends named) = false
-
-abbrev pub is_at_axes : Option HoldAtLine → Bool
-is_at_axes (Some held) = is_axes held.hold
-is_at_axes None = false
-
 -- who goes on goes from where the code has it wait, and took the axes of which its grant has positions
 abbrev pub IsGone : Option Departure → Option HoldAtLine → Option Go → Type 0
 IsGone (Some gone) held (Some go) = (gone.held ≡ held) × ((x : ℕ) → has gone.took x ≡ (is_at_axes held && is_some (position_of go.grant.at x)))
@@ -150,13 +141,4 @@ WaitIsSound None = Unit {0}
 
 pub record WatchIsSound (w : Watch) : Type 0 where
   pub holds : (c : ℕ) → WaitIsSound (slice_index_or w.holds c None)
-
--- the mark that the end of a wait lowers
-abbrev pub lowers_in : code.Hold → ℕ → Bool
-lowers_in (Marks n named) m = m == n
-lowers_in (Ends named) m = false
-lowers_in (Axes axes) m = false
-
-abbrev pub lowers_at : Option HoldAtLine → ℕ → Bool
-lowers_at (Some held) m = lowers_in held.hold m
-lowers_at None m = false
+  pub none : slice_index_or w.holds 0 None ≡ None

@@ -7,10 +7,10 @@ ghost use Rattle.sync_types.specs.BoardActions.{others_than, marks_after, hold_o
 ghost use Rattle.sync_types.specs.BoardAlarms.{names_no_mark};
 ghost use Rattle.sync_types.specs.Boards.{among};
 
-use crate::deed::Hold;
 use axis_sets::{
     AxisSet, ChannelId, ChannelSet, MARK_LIMIT, MarkSet, sets_are_known_by_their_members,
 };
+use step_deeds::Hold;
 use sync_types::Action;
 
 /// What an act of a channel changes.

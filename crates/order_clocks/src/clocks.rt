@@ -1,68 +1,67 @@
-//! The order of the events of a run.
-ghost use Rattle.std.specs.Prelude.{◌≡◌, ℕ, ◌<◌, ◌^◌, ◌↔◌, length, IsOk, IfOk, slice_index_or};
+//! The order of the events of a run, and its first race.
+ghost use Rattle.counter_rows.specs.Rows.{count_of};
 ghost use Rattle.order_clocks.specs.Clocked.{IsOrderOf, moves_in};
-ghost use Rattle.order_clocks.specs.Rows.{count_of};
+ghost use Rattle.order_clocks.specs.Races.{IsFirst};
 ghost use Rattle.order_clocks.specs.Tells.{is_before_in, is_same_event, row_in};
+ghost use Rattle.std.specs.Prelude.{◌≡◌, ℕ, ◌<◌, ◌^◌, length, IfOk};
 ghost use Rattle.sync_types.specs.Boards.{first_board};
 ghost use Rattle.sync_types.specs.Runs.{ComesFrom};
 ghost use Rattle.sync_types.specs.Views.{StartView};
 
-use crate::Row;
-use crate::counting::rows_of;
+use crate::counting::read_run;
+use counter_rows::{Row, RowTable};
 use nc_faults::NoMemory;
 use std::alloc::Global;
 use std::marker::Model;
-use sync_types::{ChannelEnd, Entry, EventId, Run};
+use sync_types::{ChannelEnd, Entry, EventId, Race, Run};
 
-/// The counters of the events of one step.
-#[derive(Clone, Copy)]
-pub struct StepRows {
-    /// Of the act.
-    pub act: Row,
-    /// By channel: of the channel that goes on.
-    pub goes: [Row; 9],
-}
-
-/// Which event of a run is before which, however fast each channel is.
+/// Which event of a run is before which, however fast each channel is, and the first race of the run.
 #[derive(Drop)]
 pub struct Clocks {
-    pub(crate) steps: Vec<StepRows>,
+    rows: RowTable,
+    race: Option<Race>,
 }
 
 impl Model for Clocks {
-    ghost use Rattle.std.specs.Prelude.{List};
-    ghost use Rattle.order_clocks.specs.declared.clocks.StepRows.{StepRows};
+    ghost use Rattle.order_clocks.specs.Clocked.{ClocksView};
 
-    ghost Value = { List StepRows };
+    ghost Value = { ClocksView };
 
-    ghost view = { λ c. c.steps.items };
+    ghost view = { λ c. record { rows = c.rows; race = c.race } };
 }
 
 impl Clocks {
+    /// Made of its parts.
+    pub(crate) fn of(rows: RowTable, race: Option<Race>) -> Clocks
+        ensures { result ≡ (record { rows = rows; race = race }) }
+    {
+        Clocks { rows, race }
+    }
+
     /// The counters of an event; none past the end.
     fn row(&self, e: &EventId) -> Row
-        ensures { (c : ℕ) → count_of result c ≡ count_of (row_in self.now e.now) c }
+        ensures { (c : ℕ) → count_of result c ≡ count_of (row_in self.now.rows e.now) c }
     {
-        let step = e.step as usize;
-        if step >= self.steps.len() {
-            return Row::zero();
-        }
-        let rows = &self.steps[step];
-        if e.go {
-            rows.goes[usize::from(e.channel.number)]
-        } else {
-            rows.act
-        }
+        self.rows
+            .row(e.step as usize, usize::from(e.channel.number), e.go)
     }
 
     /// Whether one event of the run is before another, each by its lowest channel. It takes no memory.
     pub fn before(&self, a: EventId, b: EventId) -> bool
-        ensures { result ≡ is_before_in self.now a b }
+        ensures { result ≡ is_before_in self.now.rows a b }
     {
         let c = usize::from(a.channel.number);
         let late = self.row(&b).at(c);
         let early = self.row(&a).at(c);
         !is_same(&a, &b) && !(late < early)
+    }
+
+    /// The first race of the run: the least by its step, then by its letter, then by its four numbers; `None`
+    /// where the run has none. It takes no memory.
+    pub fn first_race(&self) -> Option<Race>
+        ensures { result ≡ self.now.race }
+    {
+        self.race
     }
 }
 
@@ -87,11 +86,12 @@ fn ends_of(run: &Run) -> &[ChannelEnd]
     run.ends.as_slice()
 }
 
-/// The order of the events of a whole run. `NoMemory` where it finds too little.
+/// The order of the events of a whole run, and its first race. `NoMemory` where it finds too little.
 pub fn clocks_of(alloc: Global, run: &Run) -> Result<Clocks, NoMemory>
     requires few { length run.now.entries < 2 ^ 32 }
     requires whole { (start : StartView) × ComesFrom start run.now }
-    ensures order { (start : StartView) → ComesFrom start run.now → IfOk result (λ clocks. IsOrderOf (first_board start) (moves_in run.now.entries) (is_before_in clocks)) }
+    ensures order { (start : StartView) → ComesFrom start run.now → IfOk result (λ clocks. IsOrderOf (first_board start) (moves_in run.now.entries) (is_before_in clocks.rows)) }
+    ensures race { (start : StartView) → ComesFrom start run.now → IfOk result (λ clocks. IsFirst (first_board start) (moves_in run.now.entries) (length run.now.entries) clocks.race) }
 {
-    rows_of(alloc, entries_of(run), ends_of(run))
+    read_run(alloc, entries_of(run), ends_of(run))
 }

@@ -1,78 +1,52 @@
-//! The counters of all events of a run.
-ghost use Rattle.std.specs.Prelude.{◌≡◌, ℕ, ◌<◌, ◌^◌, length, true, IfOk};
-ghost use Rattle.order_clocks.specs.Clocked.{moves_in};
-ghost use Rattle.order_clocks.specs.CourseOf.{course_of};
-ghost use Rattle.order_clocks.specs.Happenings.{happening_of};
-ghost use Rattle.order_clocks.specs.Steps.{DepartsFromMark, departure_of, goes_in};
+//! Reads a whole run.
+ghost use Rattle.order_clocks.specs.Clocked.{IsOrderOf, moves_in};
+ghost use Rattle.order_clocks.specs.Races.{IsFirst};
 ghost use Rattle.order_clocks.specs.Stops.{IsWhole};
-ghost use Rattle.order_clocks.specs.Tells.{Tells};
-ghost use Rattle.order_clocks.specs.Watching.{Keeps, IsLawful, IsRead, WatchIsSound};
+ghost use Rattle.order_clocks.specs.Tells.{is_before_in};
+ghost use Rattle.std.specs.Prelude.{◌≡◌, suc, ◌<◌, ◌^◌, length, map, sum, IfOk};
 ghost use Rattle.sync_types.specs.Boards.{Board};
-ghost use Rattle.sync_types.specs.Turns.{after_step};
 
-use crate::clocks::{Clocks, StepRows};
-use crate::deed::Deed;
-use crate::stops::stops_of;
-use crate::watch::Watch;
-use crate::{Row, Times};
-use axis_sets::ChannelId;
+use crate::clocks::Clocks;
+use crate::reader::{Reader, goes_of};
+use crate::search::Search;
+use counter_rows::{Row, RowTable};
 use nc_faults::NoMemory;
 use std::alloc::Global;
-use sync_types::{ChannelEnd, Entry, Go, Step};
+use step_deeds::goers;
+use sync_types::{ChannelEnd, Entry};
 
-/// Who acts in an entry.
-fn channel_of(entry: &Entry) -> ChannelId
-    ensures { result ≡ entry.now.channel }
+/// How many events the entries have: an act of each, and each that goes on.
+pub(crate) fn event_count(entries: &[Entry]) -> usize
+    requires { length entries.now < 2 ^ 32 }
+    ensures { result ≡ sum (map (λ e. suc (length e.goes)) entries.now) }
 {
-    entry.channel
+    let mut count = 0usize;
+    for place in 0..entries.len() {
+        count += 1 + goes_of(&entries[place]).len();
+    }
+    count
 }
 
-/// What it does.
-fn step_of(entry: &Entry) -> &Step
-    ensures { result.now ≡ entry.now.step }
-{
-    &entry.step
-}
-
-/// Who goes on in it.
-fn goes_of(entry: &Entry) -> &[Go]
-    ensures { result.now ≡ entry.now.goes }
-{
-    entry.goes.as_slice()
-}
-
-/// Reads the next entry.
-pub(crate) fn tell_entry(watch: &mut Watch, entry: &Entry, alarms: bool) -> Deed
-    requires sound { WatchIsSound watch.old }
-    ensures sound { WatchIsSound watch.new }
-    ensures reads { (b : Board) → Keeps watch.old b → IsLawful b entry.now.channel entry.now.step entry.now.goes alarms → IsRead result (happening_of b entry.now.channel entry.now.step) }
-    ensures keeps { (b : Board) → Keeps watch.old b → IsLawful b entry.now.channel entry.now.step entry.now.goes alarms → Keeps watch.new (after_step b entry.now.channel entry.now.step) }
-    ensures departures { (c : ℕ) → DepartsFromMark (departure_of result c) }
-{
-    watch.tell(channel_of(entry), step_of(entry), goes_of(entry), alarms)
-}
-
-/// The counters of the events of a whole run.
-pub(crate) fn rows_of(
+/// The counters of the events of a whole run, and its first race.
+pub(crate) fn read_run(
     alloc: Global,
     entries: &[Entry],
     ends: &[ChannelEnd],
 ) -> Result<Clocks, NoMemory>
     requires few { length entries.now < 2 ^ 32 }
     requires whole { (b : Board) × IsWhole b entries.now ends.now }
-    ensures size { IfOk result (λ clocks. length clocks ≡ length entries.now) }
-    ensures tells { (b : Board) → IsWhole b entries.now ends.now → IfOk result (λ clocks. Tells (course_of b (moves_in entries.now)) clocks) }
+    ensures order { (b : Board) → IsWhole b entries.now ends.now → IfOk result (λ clocks. IsOrderOf b (moves_in entries.now) (is_before_in clocks.rows)) }
+    ensures race { (b : Board) → IsWhole b entries.now ends.now → IfOk result (λ clocks. IsFirst b (moves_in entries.now) (length entries.now) clocks.race) }
 {
     let _zero = Row::zero();
-    let stops = stops_of(entries, ends);
-    let mut watch = Watch::new();
-    let mut times = Times::new();
-    let mut steps: Vec<StepRows> = Vec::new(alloc);
+    let first = Reader::new(entries, ends);
+    let mut reader = first;
+    let mut search = Search::new();
+    let mut table = RowTable::new(alloc, entries.len(), event_count(entries))?;
     for place in 0..entries.len() {
-        let alarms = stops.is_at(&entries[place], place);
-        let deed = tell_entry(&mut watch, &entries[place], alarms);
-        let rows = times.step(&deed);
-        steps.push(rows)?;
+        let read = reader.next(entries, place);
+        search.look(&first, entries, place, &read, &reader.watch);
+        table.push(&read.rows, &goers(&read.deed.goes))?;
     }
-    Ok(Clocks { steps })
+    Ok(Clocks::of(table, search.race))
 }

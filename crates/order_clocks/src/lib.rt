@@ -1,23 +1,21 @@
-//! Which events of a run are ordered, however fast each channel is.
+//! Which events of a run are ordered, however fast each channel is, and its first race.
 #![tactic(auto)]
 
 mod acts;
 mod clocks;
-mod columns;
 mod counting;
-mod deed;
-mod flags;
-mod gather;
-mod going;
+mod events;
 mod groups;
-mod row;
+mod pairs;
+mod places;
+mod reader;
+mod search;
+mod step_reader;
 mod stops;
 mod threads;
 mod times;
 mod watch;
 
-pub(crate) use clocks::StepRows;
 pub use clocks::{Clocks, clocks_of};
-pub(crate) use deed::Deed;
-pub(crate) use row::Row;
+pub use step_reader::{ReadStep, StepReader};
 pub(crate) use times::Times;

@@ -1,28 +1,30 @@
 //! Which channels have acted, and which an alarm has stopped.
+ghost use Rattle.axis_sets.specs.declared.limits.TheConstants.{CHANNEL_PLACES};
 ghost use Rattle.std.specs.Prelude.{◌≡◌, ℕ, ◌+◌, ◌^◌, ◌<◌, ◌≤◌, ◌==◌, ◌&&◌, not, Bool, true, false, List, [], ◌∷◌, map, filter, length, drop, slice_index, slice_index_or};
 ghost use Rattle.axis_sets.specs.Sets.{has};
 ghost use Rattle.order_clocks.specs.Stops.{AreLastPlaces, alarms_in, is_alarm_end, is_idle_end, no_end, are_acted, channel_at, IsWhole, TellsAlarms, is_alarm_in};
 ghost use Rattle.order_clocks.specs.Clocked.{moves_in};
 ghost use Rattle.sync_types.specs.Boards.{Board, channel_numbers};
 
+use axis_sets::CHANNEL_PLACES;
 use sync_types::{ChannelEnd, Entry};
 
 /// The channel of an entry.
 pub(crate) fn actor_of(entry: &Entry) -> usize
     ensures channel { result ≡ entry.now.channel }
     ensures from { 1 ≤ result }
-    ensures below { result < 9 }
+    ensures below { result < CHANNEL_PLACES }
 {
     usize::from(entry.channel.number)
 }
 
 /// For each channel one more than the place of its last entry; 0 where it has none.
-pub(crate) fn last_places(entries: &[Entry]) -> [usize; 9]
+pub(crate) fn last_places(entries: &[Entry]) -> [usize; CHANNEL_PLACES]
     ensures places { AreLastPlaces (map (λ e. e.channel) entries.now) (length entries.now) result }
-    ensures channels { (i : ℕ) → i < length entries.now → (1 ≤ channel_at (map (λ e. e.channel) entries.now) i) × (channel_at (map (λ e. e.channel) entries.now) i < 9) }
-    ensures size { length result ≡ 9 }
+    ensures channels { (i : ℕ) → i < length entries.now → (1 ≤ channel_at (map (λ e. e.channel) entries.now) i) × (channel_at (map (λ e. e.channel) entries.now) i < CHANNEL_PLACES) }
+    ensures size { length result ≡ CHANNEL_PLACES }
 {
-    let mut last = [0; 9];
+    let mut last = [0; CHANNEL_PLACES];
     for i in 0..entries.len() {
         let c = actor_of(&entries[i]);
         last[c] = i + 1;
@@ -84,13 +86,16 @@ pub(crate) fn take_end(ends: &[ChannelEnd], from: usize, acted: bool) -> (bool, 
 }
 
 /// For each channel that has acted whether an alarm has stopped it.
-pub(crate) fn alarmed_of(last: &[usize; 9], ends: &[ChannelEnd]) -> [bool; 9]
+pub(crate) fn alarmed_of(
+    last: &[usize; CHANNEL_PLACES],
+    ends: &[ChannelEnd],
+) -> [bool; CHANNEL_PLACES]
     ensures { (alarmed : ℕ → Bool) → alarms_in ends.now ≡ map alarmed (filter (are_acted last.now) channel_numbers)
-        → (c : ℕ) → 1 ≤ c → c < 9 → are_acted last.now c ≡ true → has result c ≡ alarmed c }
+        → (c : ℕ) → 1 ≤ c → c < CHANNEL_PLACES → are_acted last.now c ≡ true → has result c ≡ alarmed c }
 {
-    let mut alarmed = [false; 9];
+    let mut alarmed = [false; CHANNEL_PLACES];
     let mut next = 0;
-    for c in 1..9 {
+    for c in 1..CHANNEL_PLACES {
         let (flag, after) = take_end(ends, next, last[c] != 0);
         alarmed[c] = flag;
         next = after;
@@ -101,8 +106,8 @@ pub(crate) fn alarmed_of(last: &[usize; 9], ends: &[ChannelEnd]) -> [bool; 9]
 /// Where each channel has acted last, and whether an alarm has stopped it.
 #[derive(Clone, Copy)]
 pub(crate) struct Stops {
-    pub(crate) last: [usize; 9],
-    pub(crate) alarmed: [bool; 9],
+    pub(crate) last: [usize; CHANNEL_PLACES],
+    pub(crate) alarmed: [bool; CHANNEL_PLACES],
 }
 
 impl Stops {

@@ -1,31 +1,33 @@
 //! The counters of the last events.
+ghost use Rattle.axis_sets.specs.declared.limits.TheConstants.{CHANNEL_PLACES};
 ghost use Rattle.std.specs.Prelude.{◌≡◌, ℕ, suc, ◌+◌, ◌<◌, ◌^◌, ◌==◌, max, length, [], None, true, slice_index_or, if◌then◌else◌};
 ghost use Rattle.order_clocks.specs.Happenings.{Key};
 ghost use Rattle.order_clocks.specs.Courses.{Course};
-ghost use Rattle.order_clocks.specs.Counters.{top, LastRows, rows_after_goings, go_row, last_rows};
-ghost use Rattle.order_clocks.specs.Rows.{count_of};
-ghost use Rattle.order_clocks.specs.Steps.{DepartsFromMark, IsStep, Shows, HasRoom, AreRows, keys_of, gives_of, departure_of, goes_in, row_at};
+ghost use Rattle.order_clocks.specs.Counters.{LastRows, rows_after_goings, go_row, last_rows};
+ghost use Rattle.counter_rows.specs.Rows.{top, count_of};
+ghost use Rattle.order_clocks.specs.Steps.{IsStep, Shows, HasRoom, AreRows, keys_of, gives_of, row_at};
+ghost use Rattle.step_deeds.specs.Holds.{DepartsFromMark, departure_of, goes_in};
 
-use crate::columns::{at_channel, most_column, put_at, put_column};
-use crate::deed::{Deed, Departure, Hold};
-use crate::flags::{axis_flags, channel_flags, mark_flags};
-use crate::gather::{most_chosen, put_chosen};
-use crate::going::{goers, joint_rows, put_rows};
-use crate::{Row, StepRows};
+use axis_sets::{AXIS_LIMIT, CHANNEL_PLACES, MARK_LIMIT};
+use counter_rows::{
+    Row, StepRows, at_channel, axis_flags, channel_flags, joint_rows, mark_flags, most_chosen,
+    most_column, put_at, put_chosen, put_column, put_rows,
+};
+use step_deeds::{Deed, Departure, Hold, goers};
 
 /// The counters of the last event of each channel, and of the last Act that gave each key.
 #[derive(Clone, Copy)]
 pub struct Times {
     /// By channel.
-    pub past: [Row; 9],
+    pub past: [Row; CHANNEL_PLACES],
     /// By number and channel: of the raising of a mark.
-    pub raised: [[Row; 9]; 10],
+    pub raised: [[Row; CHANNEL_PLACES]; MARK_LIMIT],
     /// By axis: of the giving away.
-    pub freed: [Row; 16],
+    pub freed: [Row; AXIS_LIMIT],
     /// By channel: of the START.
-    pub started: [Row; 9],
+    pub started: [Row; CHANNEL_PLACES],
     /// By channel: of the program end.
-    pub ended: [Row; 9],
+    pub ended: [Row; CHANNEL_PLACES],
 }
 
 impl Times {
@@ -36,11 +38,11 @@ impl Times {
     {
         let zero = Row::zero();
         Times {
-            past: [zero; 9],
-            raised: [[zero; 9]; 10],
-            freed: [zero; 16],
-            started: [zero; 9],
-            ended: [zero; 9],
+            past: [zero; CHANNEL_PLACES],
+            raised: [[zero; CHANNEL_PLACES]; MARK_LIMIT],
+            freed: [zero; AXIS_LIMIT],
+            started: [zero; CHANNEL_PLACES],
+            ended: [zero; CHANNEL_PLACES],
         }
     }
 
@@ -65,7 +67,7 @@ impl Times {
 
     /// The row of what a Go rests on.
     pub(crate) fn own_row(&self, c: usize, gone: &Option<Departure>) -> Row
-        requires channel { c < 9 }
+        requires channel { c < CHANNEL_PLACES }
         requires number { DepartsFromMark gone.now }
         ensures { (x : ℕ) → count_of result x ≡ max (count_of (slice_index_or self.now.past c []) x) (top (λ k. count_of (row_at self.now k) x) (keys_of c gone.now)) }
     {
@@ -89,20 +91,23 @@ impl Times {
     }
 
     /// For each channel the row of what a Go of it rests on.
-    pub(crate) fn own_rows(&self, goes: &[Option<Departure>; 9]) -> [Row; 9]
+    pub(crate) fn own_rows(
+        &self,
+        goes: &[Option<Departure>; CHANNEL_PLACES],
+    ) -> [Row; CHANNEL_PLACES]
         requires numbers { (c : ℕ) → DepartsFromMark (slice_index_or goes.now c None) }
-        ensures rows { (c x : ℕ) → c < 9 → count_of (slice_index_or result c []) x ≡ max (count_of (slice_index_or self.now.past c []) x) (top (λ k. count_of (row_at self.now k) x) (keys_of c (slice_index_or goes.now c None))) }
-        ensures size { length result ≡ 9 }
+        ensures rows { (c x : ℕ) → c < CHANNEL_PLACES → count_of (slice_index_or result c []) x ≡ max (count_of (slice_index_or self.now.past c []) x) (top (λ k. count_of (row_at self.now k) x) (keys_of c (slice_index_or goes.now c None))) }
+        ensures size { length result ≡ CHANNEL_PLACES }
     {
-        let mut own = [Row::zero(); 9];
-        for c in 0..9 {
+        let mut own = [Row::zero(); CHANNEL_PLACES];
+        for c in 0..CHANNEL_PLACES {
             own[c] = self.own_row(c, &goes[c]);
         }
         own
     }
 
     /// Counts the Gos, and gives their rows.
-    pub(crate) fn close(&mut self, deed: &Deed) -> [Row; 9]
+    pub(crate) fn close(&mut self, deed: &Deed) -> [Row; CHANNEL_PLACES]
         requires room { HasRoom self.old 1 }
         requires numbers { (c : ℕ) → DepartsFromMark (departure_of deed.now c) }
         ensures shows { (run : Course) (i : ℕ) (s : LastRows) → IsStep run i deed.now → Shows self.old s → Shows self.new (rows_after_goings run i s) }

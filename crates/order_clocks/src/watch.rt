@@ -1,27 +1,27 @@
 //! Reads the steps of a run from its entries.
+ghost use Rattle.axis_sets.specs.declared.limits.TheConstants.{CHANNEL_PLACES};
 ghost use Rattle.std.specs.List.{list_any};
 ghost use Rattle.std.specs.Prelude.{◌≡◌, [], List, Option, Some, ℕ, ◌<◌, ◌≤◌, ◌==◌, ◌&&◌, ◌||◌, not, Bool, false, true, find, is_some, None, if◌then◌else◌, slice_index_or, length, map, option_map};
 ghost use Rattle.axis_sets.specs.Positions.{position_of};
 ghost use Rattle.axis_sets.specs.Sets.{has};
 ghost use Rattle.order_clocks.specs.Happenings.{happening_of};
-ghost use Rattle.order_clocks.specs.Watching.{lowers_at};
-ghost use Rattle.order_clocks.specs.Steps.{DepartsFromMark, HoldAtLineOfMark, departure_of, goes_in};
-ghost use Rattle.order_clocks.specs.Watching.{Keeps, IsRead, IsLawful, IsGone, WatchIsSound, begun_at, go_in, is_at_axes};
+ghost use Rattle.order_clocks.specs.Watching.{BeginIsSound, Keeps, IsRead, IsLawful, IsGone, WatchIsSound, begun_at, go_in};
 ghost use Rattle.sync_types.specs.Boards.{Board};
 ghost use Rattle.sync_types.specs.Turns.{after_step};
+ghost use Rattle.step_deeds.specs.Holds.{DepartsFromMark, HoldAtLineOfMark, departure_of, goes_in, is_at_axes, lowers_at};
 
 use crate::acts::{Act, changes_of, touches_of};
-use crate::deed::{Deed, Departure, Hold, HoldAtLine};
 use crate::groups::groups_of;
-use axis_sets::{AxisId, AxisSet, ChannelId, ChannelSet, MarkSet, Positions};
+use axis_sets::{AxisId, AxisSet, CHANNEL_PLACES, ChannelId, ChannelSet, MarkSet, Positions};
 use std::marker::Model;
+use step_deeds::{Deed, Departure, HoldAtLine, marks_left, took_of};
 use sync_types::{Go, Step};
 
 /// The marks that stand and for what channels wait, by their numbers.
 #[derive(Clone, Copy)]
 pub(crate) struct Watch {
-    pub(crate) marks: [MarkSet; 9],
-    pub(crate) holds: [Option<HoldAtLine>; 9],
+    pub(crate) marks: [MarkSet; CHANNEL_PLACES],
+    pub(crate) holds: [Option<HoldAtLine>; CHANNEL_PLACES],
 }
 
 impl Watch {
@@ -31,8 +31,8 @@ impl Watch {
         ensures holds { (c : ℕ) → slice_index_or result.holds c None ≡ None }
     {
         Watch {
-            marks: [MarkSet::empty(); 9],
-            holds: [None; 9],
+            marks: [MarkSet::empty(); CHANNEL_PLACES],
+            holds: [None; CHANNEL_PLACES],
         }
     }
 
@@ -53,7 +53,7 @@ impl Watch {
 
     /// A channel goes on.
     pub(crate) fn let_go(&mut self, c: usize, at: &Positions) -> Departure
-        requires { c < 9 }
+        requires { c < CHANNEL_PLACES }
         ensures held { result.held ≡ slice_index_or self.old.holds c None }
         ensures took { (x : ℕ) → has result.took x ≡ (is_at_axes (slice_index_or self.old.holds c None) && is_some (position_of at.now x)) }
         ensures holds { (d : ℕ) → slice_index_or self.new.holds d None ≡ (if d == c then None else slice_index_or self.old.holds d None) }
@@ -71,11 +71,11 @@ impl Watch {
     pub(crate) fn let_go_of(
         &mut self,
         goes: &[Go],
-        goers: &[bool; 9],
+        goers: &[bool; CHANNEL_PLACES],
         number: u8,
     ) -> Option<Departure>
         requires from { 1 ≤ number }
-        requires below { number < 9 }
+        requires below { number < CHANNEL_PLACES }
         requires goers { (c : ℕ) → has goers.now c ≡ list_any (λ go. go.channel == c) goes.now }
         ensures gone { IsGone result (slice_index_or self.old.holds number None) (go_in goes.now number) }
         ensures holds { (d : ℕ) → slice_index_or self.new.holds d None
@@ -94,17 +94,17 @@ impl Watch {
     }
 
     /// All that go on.
-    pub(crate) fn depart(&mut self, goes: &[Go]) -> [Option<Departure>; 9]
+    pub(crate) fn depart(&mut self, goes: &[Go]) -> [Option<Departure>; CHANNEL_PLACES]
         ensures goes { (c : ℕ) → IsGone (slice_index_or result c None) (slice_index_or self.old.holds c None) (go_in goes.now c) }
         ensures holds { (c : ℕ) → slice_index_or self.new.holds c None ≡ (if is_some (go_in goes.now c) then None else slice_index_or self.old.holds c None) }
         ensures marks { (c m : ℕ) → has (slice_index_or self.new.marks c []) m
             ≡ (has (slice_index_or self.old.marks c []) m && not (is_some (go_in goes.now c) && lowers_at (slice_index_or self.old.holds c None) m)) }
         ensures none { slice_index_or result 0 None ≡ None }
-        ensures size { length result ≡ 9 }
+        ensures size { length result ≡ CHANNEL_PLACES }
     {
         let goers = goers_in(goes);
-        let mut gone = [None; 9];
-        for number in 1..9u8 {
+        let mut gone = [None; CHANNEL_PLACES];
+        for number in 1..CHANNEL_PLACES as u8 {
             gone[usize::from(number)] = self.let_go_of(goes, &goers, number);
         }
         gone
@@ -125,8 +125,9 @@ impl Watch {
         ensures reads { (b : Board) → Keeps self.old b → IsLawful b channel step.now goes.now alarms → IsRead result (happening_of b channel step.now) }
         ensures keeps { (b : Board) → Keeps self.old b → IsLawful b channel step.now goes.now alarms → Keeps self.new (after_step b channel step.now) }
         ensures departures { (c : ℕ) → DepartsFromMark (departure_of result c) }
+        ensures begins { BeginIsSound result.begins }
         ensures none { goes_in result 0 ≡ false }
-        ensures size { length result.goes ≡ 9 }
+        ensures size { length result.goes ≡ CHANNEL_PLACES }
     {
         let act = changes_of(channel, &step.action, self.own(channel), alarms);
         self.open(channel, step.line, &act);
@@ -156,8 +157,8 @@ pub(crate) fn deed_of(
     line: u32,
     act: &Act,
     touches: ChannelSet,
-    goes: [Option<Departure>; 9],
-    group: [u8; 9],
+    goes: [Option<Departure>; CHANNEL_PLACES],
+    group: [u8; CHANNEL_PLACES],
 ) -> Deed
     ensures { result ≡ (record { channel = channel; line = line; raises = act.now.raises; lowers = act.now.lowers; frees = act.now.frees; starts = act.now.starts; ends = act.now.ends; touches = touches; begins = act.now.begins; goes = goes; group = group }) }
 {
@@ -176,55 +177,13 @@ pub(crate) fn deed_of(
     }
 }
 
-/// The axes that have a position.
-pub(crate) fn axes_with_position(at: &Positions) -> AxisSet
-    ensures { (x : ℕ) → has result x ≡ is_some (position_of at.now x) }
-{
-    let mut axes = AxisSet::empty();
-    for index in 0..16u8 {
-        let axis = AxisId { index };
-        if at.get(axis).is_some() {
-            axes = axes.with(axis);
-        }
-    }
-    axes
-}
-
-/// The axes that a channel took which waited so.
-pub(crate) fn took_of(held: &Option<HoldAtLine>, at: &Positions) -> AxisSet
-    ensures { (x : ℕ) → has result x ≡ (is_at_axes held.now && is_some (position_of at.now x)) }
-{
-    match held {
-        None => AxisSet::empty(),
-        Some(held) => match &held.hold {
-            Hold::Marks(_, _) => AxisSet::empty(),
-            Hold::Ends(_) => AxisSet::empty(),
-            Hold::Axes(_) => axes_with_position(at),
-        },
-    }
-}
-
-/// The marks without that for which a channel waited.
-pub(crate) fn marks_left(marks: MarkSet, held: &Option<HoldAtLine>) -> MarkSet
-    ensures { (m : ℕ) → has result m ≡ (has marks m && not (lowers_at held.now m)) }
-{
-    match held {
-        None => marks,
-        Some(held) => match &held.hold {
-            Hold::Marks(mark, _) => marks.without(*mark),
-            Hold::Ends(_) => marks,
-            Hold::Axes(_) => marks,
-        },
-    }
-}
-
 /// For each channel whether it is among those that go on.
-pub(crate) fn goers_in(goes: &[Go]) -> [bool; 9]
+pub(crate) fn goers_in(goes: &[Go]) -> [bool; CHANNEL_PLACES]
     ensures members { (c : ℕ) → has result c ≡ list_any (λ go. go.channel == c) goes.now }
     ensures from { has result 0 ≡ false }
-    ensures size { length result ≡ 9 }
+    ensures size { length result ≡ CHANNEL_PLACES }
 {
-    let mut goers = [false; 9];
+    let mut goers = [false; CHANNEL_PLACES];
     for go in goes {
         goers[usize::from(go.channel.number)] = true;
     }

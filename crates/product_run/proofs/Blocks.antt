@@ -10,7 +10,7 @@ use Rattle.nc_faults.specs.declared.alarms.TheConstants.{TOO_MANY_BLOCKS}
 use Rattle.coordination_words.specs.declared.asked.Request.{Request}
 use Rattle.coordination_words.specs.declared.asked.Request.TheVariants.{Act, Switch}
 use Rattle.nc_blocks.specs.Statement.{BlockView}
-use Rattle.product_run.proofs.Staying.{stops}
+use Rattle.coord_core.proofs.Staying.{stops}
 
 -- the segment stops the channel, or leaves at least one block more than these deeds have
 abbrev pub Grows : List Deed → SegmentView → Type 0

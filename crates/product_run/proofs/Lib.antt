@@ -1,4 +1,3 @@
-pub mod Staying
 pub mod Usage
 pub mod Pushes
 pub mod Blocks
@@ -10,3 +9,6 @@ pub mod ChannelEnds
 pub mod Motions
 pub mod Turns
 pub mod Short
+pub mod StepPlaces
+pub mod GoodBoards
+pub mod GoodRuns

@@ -11,7 +11,7 @@ use Rattle.sync_types.specs.Boards.{State, IsRunning, Board, among, channel_numb
 use Rattle.sync_types.specs.Runs.{Stage, after_turn, as_list}
 use Rattle.sync_types.specs.declared.Grant.{Grant}
 use Rattle.product_run.proofs.Blocks.{segment_grows}
-use Rattle.product_run.proofs.Staying.{has_stopped, stays_in_step, stopped_in_step, stopped_stays, stops}
+use Rattle.coord_core.proofs.Staying.{has_stopped, stays_in_step, stopped_in_step, stopped_stays, stops}
 use Rattle.product_run.proofs.Usage.{Usage, Accords, usage_after}
 use Rattle.product_run.specs.Scripts.{channel_after_grants, channel_after_segment, script_of, segment_after}
 

@@ -15,7 +15,7 @@ use Rattle.sync_types.specs.Views.{StartView, EntryView}
 use Rattle.sync_types.specs.declared.Action.{Action}
 use Rattle.sync_types.specs.declared.Action.TheVariants.{Start}
 use Rattle.sync_types.specs.declared.Step.{Step}
-use Rattle.product_run.proofs.Staying.{no_alarm}
+use Rattle.coord_core.proofs.Staying.{no_alarm}
 
 -- a channel of the machine has one of the eight numbers
 abbrev pub HasNumbers : StartView → Type 0

@@ -7,7 +7,7 @@ use Rattle.sync_types.specs.Runs.{Script, Stage, after_move, after_turn, as_list
 use Rattle.sync_types.specs.Turns.{Move, after_step}
 use Rattle.sync_types.specs.Views.{StartView}
 use Rattle.sync_types.specs.declared.Grant.{Grant}
-use Rattle.product_run.proofs.Staying.{stays, stays_in_step}
+use Rattle.coord_core.proofs.Staying.{stays, stays_in_step}
 
 -- the grants that each channel has used
 abbrev pub Usage : Type 0

@@ -1,19 +1,24 @@
 -- Law. What is so of all runs of a job.
-use Rattle.std.specs.Prelude.{◌≡◌, ℕ, ℤ, pos, ◌+◌, ◌*◌, ◌≤◌, List, [], ◌∷◌, ◌++◌, length, slice_get, take, Some, unwrap_or}
+use Rattle.std.specs.Prelude.{◌≡◌, ℕ, ℤ, pos, ◌+◌, ◌*◌, ◌<◌, ◌≤◌, All, List, [], ◌∷◌, ◌++◌, length, slice_get, take, Some, unwrap_or}
 use Rattle.axis_sets.specs.Positions.{position_of, stands}
-use Rattle.axis_sets.specs.declared.limits.TheConstants.{CHANNEL_LIMIT}
+use Rattle.axis_sets.specs.declared.limits.TheConstants.{AXIS_LIMIT, CHANNEL_LIMIT}
 use Rattle.block_motions.specs.Motions.{IsMotionOf}
 use Rattle.channel_machine.specs.Run.{stands_after, surroundings_of}
 use Rattle.channel_machine.specs.StartStates.{start_of}
 use Rattle.channel_machine.specs.declared.limits.TheConstants.{BLOCK_LIMIT}
 use Rattle.job_types.specs.Job.{JobView}
+use Rattle.job_types.specs.SoundJob.{IsSoundJob}
+use Rattle.nc_faults.specs.Texts.{IsAlarmCode}
+use Rattle.path_geometry.specs.Motions.{axes_of, IsSound as IsSoundMotion}
 use Rattle.path_geometry.specs.declared.motion.Motion.{Motion}
 use Rattle.product_run.specs.Scripts.{IsRunInOrder, channel_after_grants, script_of, segment_after}
 use Rattle.sync_types.specs.Boards.{IsRunning}
-use Rattle.sync_types.specs.Items.{left_at, motion_of}
+use Rattle.sync_types.specs.Items.{left_at, motion_of, movement_of}
 use Rattle.sync_types.specs.Runs.{ComesFrom, IsRun, first_stage, stage_after}
 use Rattle.sync_types.specs.Starts.{IsSound}
 use Rattle.sync_types.specs.Views.{StartView, RunView}
+use Rattle.sync_types.specs.declared.ChannelEnd.{ChannelEnd}
+use Rattle.sync_types.specs.declared.ChannelEnd.TheVariants.{Alarmed}
 use Rattle.sync_types.specs.declared.Grant.{Grant}
 use Rattle.sync_types.specs.declared.Item.{Item}
 
@@ -64,3 +69,23 @@ pub record IsWholeRun (start : StartView) (run : RunView) : Type 0 where
 -- from a sound start it is one
 abbrev pub RunsInOrderAreWhole : JobView → StartView → RunView → Type 0
 RunsInOrderAreWhole job start run = IsSound start → IsRunInOrder job start run → IsWholeRun start run
+
+-- an item moves axes that there are, on a sound way
+pub record MovesSoundly (item : Item) : Type 0 where
+  pub sound : IsSoundMotion (movement_of item)
+  pub within : All (λ e. e.0 < AXIS_LIMIT) (axes_of (movement_of item))
+
+-- the alarm that has stopped a channel is in the table of alarms
+abbrev pub IsListedEnd : ChannelEnd → Type 0
+IsListedEnd (Alarmed alarm) = IsAlarmCode alarm.code
+IsListedEnd end = Unit {0}
+
+-- each motion is sound, what comes before a step is at most as much as blocks may be executed, and each alarm is in the table
+pub record IsSoundRun (run : RunView) : Type 0 where
+  pub items : All (All MovesSoundly) run.items
+  pub few : All (λ items. length items ≤ BLOCK_LIMIT) run.items
+  pub ends : All IsListedEnd run.ends
+
+-- so is the run in order of an accepted job
+abbrev pub RunsAreSound : JobView → RunView → Type 0
+RunsAreSound job run = IsSoundJob job → IsRunInOrder job (start_of job) run → IsSoundRun run

@@ -1,7 +1,7 @@
 //! What is so of all runs of a job.
 ghost use Rattle.std.specs.Prelude.{ℕ, List};
 ghost use Rattle.job_types.specs.Job.{JobView};
-ghost use Rattle.product_run.specs.RunLaws.{IsShort, MovesWhatItOwns, StandsByGrants, HasGotLast, RunsInOrderAreWhole};
+ghost use Rattle.product_run.specs.RunLaws.{IsShort, MovesWhatItOwns, StandsByGrants, HasGotLast, RunsAreSound, RunsInOrderAreWhole};
 ghost use Rattle.sync_types.specs.Views.{StartView, RunView};
 ghost use Rattle.sync_types.specs.declared.Grant.{Grant};
 
@@ -23,4 +23,10 @@ pub fn segments_move_what_they_own()
 /// A law: from a sound start a run in order is a whole run, with items for each of its entries.
 pub fn runs_in_order_are_whole()
     ensures { (job : JobView) (start : StartView) (run : RunView) → RunsInOrderAreWhole job start run }
+{}
+
+/// A law: in the run in order of an accepted job each motion is sound and has axes that there are, and each alarm that stops
+/// a channel is in the table of alarms.
+pub fn runs_in_order_are_sound()
+    ensures { (job : JobView) (run : RunView) → RunsAreSound job run }
 {}

@@ -6,5 +6,7 @@ mod laws;
 mod locals;
 mod run;
 
-pub use laws::{runs_are_short, runs_in_order_are_whole, segments_move_what_they_own};
+pub use laws::{
+    runs_are_short, runs_in_order_are_sound, runs_in_order_are_whole, segments_move_what_they_own,
+};
 pub use run::run_in_order;

@@ -31,7 +31,7 @@ fn order_in(alloc: Global, job: &Job) -> Result<Clocks, NoMemory>
 }
 
 /// The order of the events of the run of the job of this text.
-fn order_of(alloc: Global, text: &str) -> Result<Clocks, Fail> {
+pub(crate) fn order_of(alloc: Global, text: &str) -> Result<Clocks, Fail> {
     let Some(job) = job_of(alloc, text) else {
         return Err(Fail::from("no job"));
     };

@@ -1,8 +1,9 @@
 use Rattle.std.proofs.Common.{◌≡◌, ℕ, ◌<◌, ◌≤◌, true, List, length}
 use Rattle.std.specs.Prelude.{slice_index}
-use Rattle.order_clocks.specs.Partners.{are_partners, PairsAllPartners, AreAllLinked}
+use Rattle.order_clocks.specs.Partners.{PairsAllPartners, AreAllLinked}
 use Rattle.order_clocks.proofs.groups.groups_of.Given as goal
 use Rattle.sync_types.specs.Events.{Pair}
+use Rattle.step_deeds.specs.Holds.{are_partners}
 
 abbrev pub invariant-loop-a : goal.invariant-loop-a
 invariant-loop-a l = record {

@@ -1,8 +1,9 @@
 use Rattle.std.proofs.Common.{◌≡◌, ℕ, ◌<◌, ◌≤◌, true, List, length}
 use Rattle.std.specs.Prelude.{slice_index}
-use Rattle.order_clocks.specs.Partners.{are_partners, PairsAllPartners, AreAllLinked}
+use Rattle.order_clocks.specs.Partners.{PairsAllPartners, AreAllLinked}
 use Rattle.order_clocks.proofs.groups.join_to.Given as goal
 use Rattle.sync_types.specs.Events.{Pair}
+use Rattle.step_deeds.specs.Holds.{are_partners}
 
 abbrev pub invariant-loop-b : goal.invariant-loop-b
 invariant-loop-b l = record {

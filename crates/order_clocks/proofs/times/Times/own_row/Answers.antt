@@ -1,7 +1,7 @@
 use Rattle.std.proofs.Common.{ℕ, List, sym, ap, ◌∙◌}
 use Rattle.order_clocks.specs.Happenings.{Raised, Freed, Ended}
-use Rattle.order_clocks.specs.Rows.{count_of}
-use Rattle.order_clocks.specs.declared.deed.Hold.TheVariants.{Marks}
+use Rattle.counter_rows.specs.Rows.{count_of}
+use Rattle.step_deeds.specs.declared.deed.Hold.TheVariants.{Marks}
 use Rattle.order_clocks.specs.Steps.{row_at}
 use Rattle.order_clocks.proofs.StepLaws.{most_is, asked_marks, asked_ends, asked_axes}
 use Rattle.order_clocks.proofs.times.Times.own_row.Goals as goal

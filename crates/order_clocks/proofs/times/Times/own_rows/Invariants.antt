@@ -1,6 +1,5 @@
 use Rattle.std.proofs.Common.{◌≡◌, ℕ, ◌<◌, max, length, [], None, get_or}
-use Rattle.order_clocks.specs.Counters.{top}
-use Rattle.order_clocks.specs.Rows.{count_of}
+use Rattle.counter_rows.specs.Rows.{top, count_of}
 use Rattle.order_clocks.specs.Steps.{keys_of, row_at}
 use Rattle.order_clocks.proofs.times.Times.own_rows.Given as goal
 

@@ -1,10 +1,10 @@
 use Rattle.std.proofs.Common.{◌≡◌, ℕ, ◌≤◌, ◌&&◌, not, true, [], None, length, if◌then◌else◌}
 use Rattle.std.specs.Prelude.{is_some, slice_index_or}
 use Rattle.axis_sets.specs.Sets.{has}
-use Rattle.order_clocks.specs.Watching.{lowers_at}
 use Rattle.order_clocks.specs.Watching.{IsGone, go_in}
 use Rattle.order_clocks.proofs.WatchLaws.{is_done}
 use Rattle.order_clocks.proofs.watch.Watch.depart.Given as goal
+use Rattle.step_deeds.specs.Holds.{lowers_at}
 
 abbrev pub invariant-loop-number : goal.invariant-loop-number
 invariant-loop-number l = record {

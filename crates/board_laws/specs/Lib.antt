@@ -1,0 +1,5 @@
+pub mod Clean
+pub mod Laws
+pub mod Machine
+pub mod Sequences
+pub mod Zones

@@ -1,0 +1,32 @@
+//! Laws of the board on which the channels of a run meet: two steps without a race may be taken in the other
+//! order, and so one run without a race speaks for all runs. It runs no code.
+#![tactic(auto)]
+
+ghost use Rattle.std.specs.Prelude.{ℕ, List};
+ghost use Rattle.board_laws.specs.Laws.{GoesAtOnce, SpeaksForAll, StepsSwap, ZonesGoWithAxes};
+ghost use Rattle.board_laws.specs.Machine.{State};
+ghost use Rattle.sync_types.specs.Boards.{Board};
+ghost use Rattle.sync_types.specs.Runs.{Script};
+ghost use Rattle.sync_types.specs.Views.{StartView};
+ghost use Rattle.sync_types.specs.declared.Step.{Step};
+
+/// A law: two steps of running channels that are clean in one order are clean in the other, and lead to the same
+/// state.
+pub fn clean_steps_may_be_swapped()
+    ensures { (b : State) (p q : ℕ) (p_step q_step : Step) → StepsSwap b p q p_step q_step }
+{}
+
+/// A law: where one run after which nobody runs is clean, every run is, and goes on to the same state.
+pub fn one_clean_run_speaks_for_all()
+    ensures { (script : Script) (x z : State) (ps vs : List ℕ) → SpeaksForAll script x ps z vs }
+{}
+
+/// A law: the rules of who goes on, one after another, are all at once in a clean step.
+pub fn who_goes_on_goes_at_once()
+    ensures { (b : State) (p : ℕ) (step : Step) → GoesAtOnce b p step }
+{}
+
+/// A law: zones go with the axes that carry them.
+pub fn zones_go_with_axes()
+    ensures { (start : StartView) (b : Board) (c : ℕ) (step : Step) → ZonesGoWithAxes start b c step }
+{}

@@ -1,0 +1,3 @@
+pub mod GatherLaws
+pub mod GoingLaws
+pub mod TableLaws

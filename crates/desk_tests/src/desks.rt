@@ -1,0 +1,47 @@
+//! Passes of boards.
+use crate::steps::{ONE, THREE, TWO, end, three_channels};
+use coord_core::{Board, Desk, Outcome};
+use shared_board::{Locked, MemoryDesk, MemoryPass, SharedBoard};
+
+/// What one pass does is told to the others.
+#[test]
+fn closing_is_told_to_others(rt: HostRuntime) {
+    let start = three_channels();
+    let (desk, mut passes) = SharedBoard::new(rt.alloc(), &start).expect(&rt, "no memory");
+    assert!(rt; passes.len() == 3);
+    let (Some(mut three), Some(mut two), Some(mut one)) = (passes.pop(), passes.pop(), passes.pop())
+    else {
+        return assert!(rt; false, "three passes");
+    };
+    assert!(rt; one.channel == ONE && two.channel == TWO && three.channel == THREE);
+    assert!(rt; desk.act_and_wait(&rt, &mut three, end(19)) == Outcome::Done);
+    assert!(rt; desk.wait_start(&rt, &mut three) == Outcome::Done);
+    desk.close(&rt, &mut one);
+    assert!(rt; desk.wait_start(&rt, &mut two) == Outcome::Closed);
+    assert!(rt; desk.act_and_wait(&rt, &mut two, end(14)) == Outcome::Closed);
+    let board = desk.finish();
+    assert!(rt; board.entries().len() == 1);
+}
+
+/// A pass that has its board for itself.
+#[test]
+fn a_pass_has_its_board_for_itself(rt: HostRuntime) {
+    let start = three_channels();
+    let desk = MemoryDesk { number: 5 };
+    let mut pass = MemoryPass {
+        number: 5,
+        channel: TWO,
+        locked: Locked {
+            board: Board::new(rt.alloc(), &start).expect(&rt, "no memory"),
+            closed: false,
+        },
+    };
+    let Outcome::Granted(grant) = desk.wait_start(&rt, &mut pass) else {
+        return assert!(rt; false, "the channel 2 runs");
+    };
+    assert!(rt; grant.program == Some(1));
+    assert!(rt; desk.act_and_wait(&rt, &mut pass, end(14)) == Outcome::Done);
+    assert!(rt; pass.locked.board.entries().len() == 1);
+    desk.close(&rt, &mut pass);
+    assert!(rt; desk.wait_start(&rt, &mut pass) == Outcome::Closed);
+}

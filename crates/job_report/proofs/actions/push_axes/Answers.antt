@@ -1,0 +1,22 @@
+use Rattle.std.proofs.Common.{◌≡◌, ◌∙◌, ◌+◌, sym, arith}
+use Rattle.axis_sets.specs.Sets.{has}
+use Rattle.job_report.specs.Actions.{next_axis}
+use Rattle.job_report.proofs.RowLemmas.{text-taken, text-passed}
+use Rattle.job_report.proofs.actions.push_axes.Goals as goal
+use Rattle.job_report.proofs.actions.push_axes.Goals.{then-contains, else-contains}
+
+pub loop-index-preserved : goal.loop-index-preserved
+loop-index-preserved c =
+    let number : 0 + c.loop-index.index ≡ c.loop-index.index = omega arith in
+    elim c.if-contains.branch [
+      | then-contains w ↦ record {
+        text = text-taken (next_axis c.args.job.now) (has c.args.set.now) 0 c.loop-index.index _ _ _ _ number (sym c.contains.ensures.member ∙ w.if-contains.true)
+            c.loop-index.invariant.text (w.page-is ∙ w.push_next_axis.ensures.text);
+        room = rw w.page-is (omega (arith, w.push_next_axis.ensures.room, c.loop-index.invariant.room));
+      }
+      | else-contains w ↦ record {
+        text = text-passed (next_axis c.args.job.now) (has c.args.set.now) 0 c.loop-index.index _ _ _ _ number (sym c.contains.ensures.member ∙ w.if-contains.false)
+            c.loop-index.invariant.text w.page-is;
+        room = rw w.page-is (omega (arith, c.loop-index.invariant.room));
+      }
+    ]

@@ -1,0 +1,11 @@
+use Rattle.std.proofs.Common.{◌≡◌, ℕ, ◌<◌, length, None, slice_index_or}
+use Rattle.order_clocks.specs.Pairs.{IsWaitAt}
+use Rattle.order_clocks.proofs.events.waits_of.Given as goal
+
+abbrev pub invariant-loop-number : goal.invariant-loop-number
+invariant-loop-number l = record {
+  size : length l.waits ≡ 10;
+  first : slice_index_or l.waits 0 None ≡ None;
+  last : slice_index_or l.waits 9 None ≡ None;
+  done : (k : ℕ) → 0 < k → k < l.number → IsWaitAt (slice_index_or l.holds k None) k (slice_index_or l.waits k None);
+}

@@ -1,0 +1,15 @@
+use Rattle.std.proofs.Common.{◌≡◌, length, None, slice_index_or, sym, ◌∙◌, rules, arith}
+use Rattle.std.proofs.lemmas.List.{get_or_default}
+use Rattle.order_clocks.proofs.PairLaws.{between_step, between_skip}
+use Rattle.order_clocks.proofs.pairs.least_between.Goals as goal
+use Rattle.order_clocks.proofs.pairs.least_between.Goals.{in-None, in-Some}
+
+pub loop-k-preserved : goal.loop-k-preserved
+loop-k-preserved c =
+    let size : length c.args.lates.now ≡ 10 = search rules in
+    let low = c.loop-k-test.true in
+    let back : slice_index_or c.args.lates.now c.loop-k.k None ≡ slice_index_or c.args.lates.now c.loop-k.k c.index-lates-k.result = sym (get_or_default c.args.lates.now c.loop-k.k c.index-lates-k.result None (omega arith)) in
+    elim c.match-lates-k.branch [
+      | in-None w ↦ rw w.least-is (between_skip c.args.meeting.now c.args.earlies.now c.args.lates.now c.loop-k.k c.args.start c.loop-k.least (back ∙ w.in-None.is) c.loop-k.invariant)
+      | in-Some w ↦ rw w.least-is (between_step c.args.meeting.now c.args.earlies.now c.args.lates.now c.loop-k.k w.in-Some.late c.args.start c.loop-k.least w.least_over-least.result (back ∙ w.in-Some.is) c.loop-k.invariant w.least_over-least.ensures)
+    ]

@@ -1,0 +1,16 @@
+use Rattle.order_clocks.specs.Clocked.{moves_in}
+use Rattle.order_clocks.specs.CourseOf.{course_of}
+use Rattle.order_clocks.specs.Pairs.{AreEvents, IsKnownStep, IsLeastWith}
+use Rattle.order_clocks.specs.Reading.{IsReaderAt}
+use Rattle.order_clocks.specs.Tracks.{IsEarlierRace, tracks_of}
+use Rattle.step_deeds.specs.declared.deed.Deed.{Deed}
+use Rattle.counter_rows.specs.declared.table.StepRows.{StepRows}
+use Rattle.order_clocks.proofs.search.least_before.Given as goal
+use Rattle.sync_types.specs.Boards.{Board}
+
+abbrev pub invariant-loop-j : goal.invariant-loop-j
+invariant-loop-j l = record {
+  reader : (b : Board) → IsReaderAt b l.entries 0 l.first → IsReaderAt b l.entries l.j l.reader;
+  least : (b : Board) (late : Deed) (rows : StepRows) → IsReaderAt b l.entries 0 l.first → IsKnownStep (course_of b (moves_in l.entries)) (tracks_of b (moves_in l.entries)) l.place late rows → AreEvents late rows l.lates
+      → IsLeastWith (IsEarlierRace (course_of b (moves_in l.entries)) (tracks_of b (moves_in l.entries)) l.j l.place) l.fn.start l.least;
+}

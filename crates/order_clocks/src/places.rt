@@ -1,0 +1,181 @@
+//! For each trace the last events that left it.
+ghost use Rattle.axis_sets.specs.Sets.{has, members_of};
+ghost use Rattle.axis_sets.specs.declared.limits.TheConstants.{CHANNEL_PLACES};
+ghost use Rattle.counter_rows.specs.Rows.{count_of, top, IsMissed};
+ghost use Rattle.order_clocks.specs.Courses.{Course};
+ghost use Rattle.order_clocks.specs.Happenings.{Trace};
+ghost use Rattle.order_clocks.specs.LastPlaces.{AreLast, IsTracked, deed_leaves, deed_minds, departure_leaves, departure_minds, hold_minds, leaves_of, spot_at};
+ghost use Rattle.order_clocks.specs.Steps.{AreRows, IsStep};
+ghost use Rattle.order_clocks.specs.Tracks.{IsRacyAt, Tracks};
+ghost use Rattle.std.specs.Prelude.{◌≡◌, ℕ, suc, true, false, ◌<◌, ◌==◌, ◌&&◌, ◌↔◌, IsTrue, length, [], None, Some, slice_index_or, if◌then◌else◌};
+ghost use Rattle.step_deeds.specs.Holds.{BeginsAtMark, DepartsFromMark, departure_of};
+
+use axis_sets::{AXIS_LIMIT, CHANNEL_PLACES, MARK_LIMIT};
+use counter_rows::{
+    Row, StepRows, at_column, axis_flags, channel_flags, mark_flags, most_chosen, most_column,
+    most_down, note_chosen, note_column, note_one, note_row,
+};
+use step_deeds::{Deed, Departure, Hold};
+
+/// For each trace and each channel the counter of its last event that left the trace; 0 for none.
+#[derive(Clone, Copy)]
+pub struct Places {
+    /// By number and channel: its mark was lowered.
+    pub lowered: [[Row; CHANNEL_PLACES]; MARK_LIMIT],
+    /// By number and channel: its mark was needed.
+    pub needed: [[Row; CHANNEL_PLACES]; MARK_LIMIT],
+    /// By axis: it was taken.
+    pub took: [Row; AXIS_LIMIT],
+    /// By channel: INIT or START named it.
+    pub touched: [Row; CHANNEL_PLACES],
+}
+
+impl Places {
+    /// Before all events.
+    pub(crate) fn new() -> Places
+        ensures { (t : Trace) (c : ℕ) → count_of (spot_at result t) c ≡ 0 }
+    {
+        let zero = Row::zero();
+        Places {
+            lowered: [[zero; CHANNEL_PLACES]; MARK_LIMIT],
+            needed: [[zero; CHANNEL_PLACES]; MARK_LIMIT],
+            took: [zero; AXIS_LIMIT],
+            touched: [zero; CHANNEL_PLACES],
+        }
+    }
+
+    /// Notes the act.
+    pub(crate) fn note_act(&mut self, deed: &Deed, place: u64)
+        ensures { (t : Trace) (c : ℕ) → count_of (spot_at self.new t) c ≡ (if deed_leaves deed.now t && (c == deed.now.channel) then place else count_of (spot_at self.old t) c) }
+    {
+        let c = usize::from(deed.channel.number);
+        note_column(&mut self.lowered, &mark_flags(&deed.lowers), c, place);
+        note_chosen(&mut self.touched, &channel_flags(&deed.touches), c, place);
+    }
+
+    /// Notes that a channel goes on.
+    pub(crate) fn note_go(&mut self, c: usize, gone: &Departure, place: u64)
+        requires channel { c < CHANNEL_PLACES }
+        requires number { DepartsFromMark (Some gone.now) }
+        ensures { (t : Trace) (d : ℕ) → count_of (spot_at self.new t) d ≡ (if departure_leaves c gone.now t && (d == c) then place else count_of (spot_at self.old t) d) }
+    {
+        note_chosen(&mut self.took, &axis_flags(&gone.took), c, place);
+        if let Some(held) = &gone.held {
+            if let Hold::Marks(m, named) = &held.hold {
+                note_one(&mut self.lowered, usize::from(*m), c, place);
+                note_row(
+                    &mut self.needed,
+                    usize::from(*m),
+                    &channel_flags(named),
+                    c,
+                    place,
+                );
+            }
+        }
+    }
+
+    /// Notes all that go on.
+    pub(crate) fn note_goes(
+        &mut self,
+        goes: &[Option<Departure>; CHANNEL_PLACES],
+        rows: &[Row; CHANNEL_PLACES],
+    )
+        requires numbers { (c : ℕ) → DepartsFromMark (slice_index_or goes.now c None) }
+        ensures { (t : Trace) (c : ℕ) → count_of (spot_at self.new t) c ≡ (if leaves_of c (slice_index_or goes.now c None) t then count_of (slice_index_or rows.now c []) c else count_of (spot_at self.old t) c) }
+    {
+        for c in 0..CHANNEL_PLACES {
+            if let Some(gone) = &goes[c] {
+                self.note_go(c, gone, rows[c].at(c));
+            }
+        }
+    }
+
+    /// Notes the events of a step.
+    pub(crate) fn note(&mut self, deed: &Deed, rows: &StepRows)
+        requires numbers { (c : ℕ) → DepartsFromMark (departure_of deed.now c) }
+        ensures { (run : Course) (tracks : Tracks) (i : ℕ) → IsStep run i deed.now → IsTracked tracks i deed.now → AreRows run i rows.now → AreLast run tracks i self.old → AreLast run tracks (suc i) self.new }
+    {
+        let c = deed.actor();
+        self.note_act(deed, rows.act.at(c));
+        self.note_goes(&deed.goes, &rows.goes);
+    }
+
+    /// The greatest places of what a hold minds.
+    pub(crate) fn hold_limit(&self, begins: &Option<Hold>) -> Row
+        requires number { BeginsAtMark begins.now }
+        ensures { (x : ℕ) → count_of result x ≡ top (λ t. count_of (spot_at self.now t) x) (hold_minds begins.now) }
+    {
+        match begins {
+            None => Row::zero(),
+            Some(hold) => match hold {
+                Hold::Marks(m, named) => most_column(
+                    &self.lowered,
+                    usize::from(*m),
+                    &channel_flags(named),
+                    Row::zero(),
+                ),
+                Hold::Ends(_) => Row::zero(),
+                Hold::Axes(axes) => most_chosen(&self.took, &axis_flags(axes), Row::zero()),
+            },
+        }
+    }
+
+    /// The greatest places of what an act minds.
+    pub(crate) fn act_limit(&self, deed: &Deed) -> Row
+        requires number { BeginsAtMark deed.now.begins }
+        ensures { (x : ℕ) → count_of result x ≡ top (λ t. count_of (spot_at self.now t) x) (deed_minds deed.now) }
+    {
+        let c = deed.actor();
+        let hold = self.hold_limit(&deed.begins);
+        let touched = most_chosen(&self.touched, &channel_flags(&deed.touches), hold);
+        most_down(&self.needed, &mark_flags(&deed.lowers), c, touched)
+    }
+
+    /// The greatest places of what one that goes on minds.
+    pub(crate) fn go_limit(&self, c: usize, gone: &Option<Departure>) -> Row
+        requires channel { c < CHANNEL_PLACES }
+        requires number { DepartsFromMark gone.now }
+        ensures { (x : ℕ) → count_of result x ≡ top (λ t. count_of (spot_at self.now t) x) (departure_minds c gone.now) }
+    {
+        match gone {
+            None => Row::zero(),
+            Some(gone) => match &gone.held {
+                None => Row::zero(),
+                Some(held) => match &held.hold {
+                    Hold::Marks(m, _) => at_column(&self.needed, usize::from(*m), c),
+                    Hold::Ends(_) => Row::zero(),
+                    Hold::Axes(_) => Row::zero(),
+                },
+            },
+        }
+    }
+
+    /// Whether one that goes on is apart from an earlier event.
+    pub(crate) fn has_racy_go(
+        &self,
+        goes: &[Option<Departure>; CHANNEL_PLACES],
+        rows: &[Row; CHANNEL_PLACES],
+    ) -> bool
+        requires numbers { (c : ℕ) → DepartsFromMark (slice_index_or goes.now c None) }
+        ensures { IsTrue result ↔ ((c d : ℕ) × (((d == c) ≡ false) × (count_of (slice_index_or rows.now c []) d < top (λ t. count_of (spot_at self.now t) d) (departure_minds c (slice_index_or goes.now c None))))) }
+    {
+        for c in 0..CHANNEL_PLACES {
+            let limit = self.go_limit(c, &goes[c]);
+            if rows[c].misses(&limit, c) {
+                return true;
+            }
+        }
+        false
+    }
+
+    /// Whether an event of the step is apart from one of an earlier step.
+    pub(crate) fn is_racy(&self, deed: &Deed, rows: &StepRows) -> bool
+        requires number { BeginsAtMark deed.now.begins }
+        requires numbers { (c : ℕ) → DepartsFromMark (departure_of deed.now c) }
+        ensures { (run : Course) (tracks : Tracks) (i : ℕ) → IsStep run i deed.now → IsTracked tracks i deed.now → AreRows run i rows.now → AreLast run tracks i self.now → (IsTrue result ↔ IsRacyAt run tracks i) }
+    {
+        let c = deed.actor();
+        let limit = self.act_limit(deed);
+        rows.act.misses(&limit, c) || self.has_racy_go(&deed.goes, &rows.goes)
+    }
+}

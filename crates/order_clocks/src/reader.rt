@@ -1,0 +1,103 @@
+//! Reads a run step by step: what happens in each, and the counters of its events.
+ghost use Rattle.axis_sets.specs.declared.limits.TheConstants.{CHANNEL_LIMIT, CHANNEL_PLACES};
+ghost use Rattle.order_clocks.specs.Clocked.{moves_in};
+ghost use Rattle.order_clocks.specs.Happenings.{board_at, happening_of};
+ghost use Rattle.order_clocks.specs.Reading.{IsReadAt, IsReaderAt};
+ghost use Rattle.order_clocks.specs.Stops.{IsWhole};
+ghost use Rattle.order_clocks.specs.Watching.{BeginIsSound, IsLawful, IsRead, Keeps, WatchIsSound};
+ghost use Rattle.std.specs.Prelude.{◌≡◌, ℕ, suc, ◌<◌, ◌≤◌, ◌^◌, false, length};
+ghost use Rattle.sync_types.specs.Boards.{Board};
+ghost use Rattle.sync_types.specs.Turns.{after_step};
+ghost use Rattle.step_deeds.specs.Holds.{BeginsAtMark, DepartsFromMark, departure_of, goes_in};
+
+use crate::Times;
+use crate::stops::{Stops, stops_of};
+use crate::watch::Watch;
+use axis_sets::ChannelId;
+use counter_rows::{Row, StepRows};
+use step_deeds::Deed;
+use sync_types::{ChannelEnd, Entry, Go, Step};
+
+/// What happens in a step, and the counters of its events.
+#[derive(Clone, Copy)]
+pub(crate) struct StepRead {
+    /// What happens.
+    pub(crate) deed: Deed,
+    /// The counters.
+    pub(crate) rows: StepRows,
+}
+
+/// What is known of a run up to some step.
+#[derive(Clone, Copy)]
+pub(crate) struct Reader {
+    pub(crate) stops: Stops,
+    pub(crate) watch: Watch,
+    pub(crate) times: Times,
+}
+
+/// Who acts in an entry.
+fn channel_of(entry: &Entry) -> ChannelId
+    ensures { result ≡ entry.now.channel }
+{
+    entry.channel
+}
+
+/// What it does.
+fn step_of(entry: &Entry) -> &Step
+    ensures { result.now ≡ entry.now.step }
+{
+    &entry.step
+}
+
+/// Who goes on in it: at most eight.
+pub(crate) fn goes_of(entry: &Entry) -> &[Go]
+    ensures goes { result.now ≡ entry.now.goes }
+    ensures few { length result.now ≤ CHANNEL_LIMIT }
+{
+    entry.goes.as_slice()
+}
+
+/// Reads the next entry.
+pub(crate) fn tell_entry(watch: &mut Watch, entry: &Entry, alarms: bool) -> Deed
+    requires sound { WatchIsSound watch.old }
+    ensures sound { WatchIsSound watch.new }
+    ensures reads { (b : Board) → Keeps watch.old b → IsLawful b entry.now.channel entry.now.step entry.now.goes alarms → IsRead result (happening_of b entry.now.channel entry.now.step) }
+    ensures keeps { (b : Board) → Keeps watch.old b → IsLawful b entry.now.channel entry.now.step entry.now.goes alarms → Keeps watch.new (after_step b entry.now.channel entry.now.step) }
+    ensures departures { (c : ℕ) → DepartsFromMark (departure_of result c) }
+    ensures begins { BeginIsSound result.begins }
+    ensures none { goes_in result 0 ≡ false }
+    ensures size { length result.goes ≡ CHANNEL_PLACES }
+{
+    watch.tell(channel_of(entry), step_of(entry), goes_of(entry), alarms)
+}
+
+impl Reader {
+    /// Before the first step of a run.
+    pub(crate) fn new(entries: &[Entry], ends: &[ChannelEnd]) -> Reader
+        ensures { (b : Board) → IsWhole b entries.now ends.now → IsReaderAt b entries.now 0 result }
+    {
+        Reader {
+            stops: stops_of(entries, ends),
+            watch: Watch::new(),
+            times: Times::new(),
+        }
+    }
+
+    /// Reads the next step.
+    pub(crate) fn next(&mut self, entries: &[Entry], place: usize) -> StepRead
+        requires place { place < length entries.now }
+        requires few { length entries.now < 2 ^ 32 }
+        requires reader { (b : Board) × IsReaderAt b entries.now place self.old }
+        ensures next { (b : Board) → IsReaderAt b entries.now place self.old → IsReaderAt b entries.now (suc place) self.new }
+        ensures read { (b : Board) → IsReaderAt b entries.now place self.old → IsReadAt b (moves_in entries.now) place result self.new.watch }
+        ensures departures { (c : ℕ) → DepartsFromMark (departure_of result.deed c) }
+        ensures begins { BeginsAtMark result.deed.begins }
+    {
+        let _zero = Row::zero();
+        let entry = &entries[place];
+        let alarms = self.stops.is_at(entry, place);
+        let deed = tell_entry(&mut self.watch, entry, alarms);
+        let rows = self.times.step(&deed);
+        StepRead { deed, rows }
+    }
+}

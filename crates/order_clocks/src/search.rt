@@ -1,0 +1,129 @@
+//! The search for the first race of a run.
+ghost use Rattle.order_clocks.specs.Clocked.{moves_in};
+ghost use Rattle.order_clocks.specs.CourseOf.{course_of};
+ghost use Rattle.order_clocks.specs.LastPlaces.{AreLast};
+ghost use Rattle.order_clocks.specs.Pairs.{AreEvents, AreWaits, IsKnownStep, IsLeastWith, IsRaceBetween};
+ghost use Rattle.order_clocks.specs.Races.{IsRace};
+ghost use Rattle.order_clocks.specs.Reading.{IsReadAt, IsReaderAt, IsSearched};
+ghost use Rattle.order_clocks.specs.Tracks.{IsEarlierRace, tracks_of};
+ghost use Rattle.step_deeds.specs.declared.deed.Deed.{Deed};
+ghost use Rattle.counter_rows.specs.declared.table.StepRows.{StepRows};
+ghost use Rattle.order_clocks.specs.declared.pairs.Meeting.TheVariants.{Together, Waiting};
+ghost use Rattle.std.specs.Prelude.{◌≡◌, ℕ, suc, ◌<◌, ◌≤◌, ◌^◌, ◌⊎◌, List, None, length};
+ghost use Rattle.sync_types.specs.Boards.{Board};
+ghost use Rattle.sync_types.specs.Turns.{Move};
+ghost use Rattle.step_deeds.specs.Holds.{BeginsAtMark, DepartsFromMark, departure_of};
+
+use crate::events::{EVENT_PLACES, Event, events_of, waits_of};
+use crate::pairs::{Meeting, least_between};
+use crate::places::Places;
+use crate::reader::{Reader, StepRead};
+use crate::watch::Watch;
+use sync_types::{Entry, Race};
+
+/// The first race so far; and the last events that left a trace, as long as there is none.
+#[derive(Clone, Copy)]
+pub(crate) struct Search {
+    pub(crate) places: Places,
+    pub(crate) race: Option<Race>,
+}
+
+/// The least of the races of one step alone: c, d and f.
+pub(crate) fn least_within(
+    events: &[Option<Event>; EVENT_PLACES],
+    waits: &[Option<Event>; EVENT_PLACES],
+) -> Option<Race>
+    ensures { IsLeastWith (λ race. IsRaceBetween Waiting events.now waits.now EVENT_PLACES race ⊎ IsRaceBetween Together events.now events.now EVENT_PLACES race) None result }
+{
+    let waiting = least_between(&Meeting::Waiting, events, waits, None);
+    least_between(&Meeting::Together, events, events, waiting)
+}
+
+/// The least of the races so far and those of a step with the steps before it.
+pub(crate) fn least_before(
+    first: &Reader,
+    entries: &[Entry],
+    place: usize,
+    lates: &[Option<Event>; EVENT_PLACES],
+    start: Option<Race>,
+) -> Option<Race>
+    requires place { place ≤ length entries.now }
+    requires few { length entries.now < 2 ^ 32 }
+    requires reader { (b : Board) × IsReaderAt b entries.now 0 first.now }
+    ensures { (b : Board) (late : Deed) (rows : StepRows) → IsReaderAt b entries.now 0 first.now → IsKnownStep (course_of b (moves_in entries.now)) (tracks_of b (moves_in entries.now)) place late rows → AreEvents late rows lates.now
+        → IsLeastWith (IsEarlierRace (course_of b (moves_in entries.now)) (tracks_of b (moves_in entries.now)) place place) start result }
+{
+    let mut reader = *first;
+    let mut least = start;
+    for j in 0..place {
+        let read = reader.next(entries, j);
+        let earlies = events_of(&read.deed, &read.rows);
+        least = least_between(&Meeting::Later, &earlies, lates, least);
+    }
+    least
+}
+
+impl Search {
+    /// Before the first step.
+    pub(crate) fn new() -> Search
+        ensures { (b : Board) (moves : List Move) → IsSearched b moves 0 result }
+    {
+        Search {
+            places: Places::new(),
+            race: None,
+        }
+    }
+
+    /// The least race of a step, where there was none before it. The steps before it are read once more only
+    /// where there is one with them.
+    pub(crate) fn least_at(
+        &self,
+        first: &Reader,
+        entries: &[Entry],
+        place: usize,
+        read: &StepRead,
+        watch: &Watch,
+    ) -> Option<Race>
+        requires place { place ≤ length entries.now }
+        requires few { length entries.now < 2 ^ 32 }
+        requires reader { (b : Board) × IsReaderAt b entries.now 0 first.now }
+        requires departures { (c : ℕ) → DepartsFromMark (departure_of read.now.deed c) }
+        requires begins { BeginsAtMark read.now.deed.begins }
+        ensures { (b : Board) → IsReaderAt b entries.now 0 first.now → IsReadAt b (moves_in entries.now) place read.now watch.now → AreLast (course_of b (moves_in entries.now)) (tracks_of b (moves_in entries.now)) place self.now.places
+            → place < length entries.now → IsLeastWith (IsRace b (moves_in entries.now) place) None result }
+    {
+        let events = events_of(&read.deed, &read.rows);
+        let waits = waits_of(&watch.holds);
+        let within = least_within(&events, &waits);
+        if self.places.is_racy(&read.deed, &read.rows) {
+            least_before(first, entries, place, &events, within)
+        } else {
+            within
+        }
+    }
+
+    /// Searches the next step.
+    pub(crate) fn look(
+        &mut self,
+        first: &Reader,
+        entries: &[Entry],
+        place: usize,
+        read: &StepRead,
+        watch: &Watch,
+    )
+        requires place { place < length entries.now }
+        requires few { length entries.now < 2 ^ 32 }
+        requires reader { (b : Board) × IsReaderAt b entries.now 0 first.now }
+        requires departures { (c : ℕ) → DepartsFromMark (departure_of read.now.deed c) }
+        requires begins { BeginsAtMark read.now.deed.begins }
+        ensures { (b : Board) → IsReaderAt b entries.now 0 first.now → IsReadAt b (moves_in entries.now) place read.now watch.now → IsSearched b (moves_in entries.now) place self.old → IsSearched b (moves_in entries.now) (suc place) self.new }
+    {
+        match self.race {
+            Some(_) => {}
+            None => {
+                self.race = self.least_at(first, entries, place, read, watch);
+                self.places.note(&read.deed, &read.rows);
+            }
+        }
+    }
+}

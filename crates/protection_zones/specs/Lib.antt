@@ -1,0 +1,12 @@
+pub mod Occurrences
+pub mod Spans
+pub mod Tenures
+pub mod ZoneBoxes
+pub mod Stretches
+pub mod Overlaps
+pub mod Rows
+pub mod Sweeps
+pub mod Pieces
+pub mod Notes
+pub mod Beginnings
+pub mod Terms

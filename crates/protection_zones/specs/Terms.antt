@@ -1,0 +1,26 @@
+-- Steps. The tenures of a zone as the code keeps them.
+use Rattle.std.specs.Prelude.{ℕ, Bool, List, slice_index}
+use Rattle.axis_sets.specs.Sets.{has}
+use Rattle.job_types.specs.declared.job.ZoneLine.{ZoneLine}
+use Rattle.protection_zones.specs.Rows.{positions_in}
+use Rattle.protection_zones.specs.Tenures.{Tenure, carry}
+use Rattle.protection_zones.specs.declared.notes.Note.{Note}
+use Rattle.protection_zones.specs.declared.tenures.Term.{Term}
+use Rattle.sync_types.specs.declared.verdicts.StretchKind.TheVariants.{Free}
+
+abbrev pub shown_term : Term → Tenure
+shown_term t = record {
+  owner = t.owner;
+  from = t.from;
+  upto = t.upto;
+  begins = record { kind = Free; line = t.line; at = positions_in t.at; on = has t.on; first = t.first };
+  last = t.last;
+}
+
+-- how many events of each channel have been
+abbrev pub counts_in : List ℕ → ℕ → ℕ
+counts_in counts c = slice_index counts c
+
+-- axes of the zone change hands
+abbrev pub changes : ZoneLine → Note → Bool
+changes zone note = carry zone (has note.axes)

@@ -1,0 +1,18 @@
+//! The time of each protection zone in a run: the stretches into which it falls, and the boxes of each.
+#![tactic(auto)]
+
+mod notes;
+mod rows;
+mod sights;
+mod spans;
+mod stretches;
+mod sweeps;
+mod tenures;
+mod times;
+mod zone_boxes;
+mod zone_time;
+
+pub(crate) use rows::Row;
+pub use sights::Sight;
+pub use stretches::{Stretch, Stretches, ZoneBox};
+pub use times::stretches_of;

@@ -1,0 +1,14 @@
+//! Worked steps of two channels in either order, through the call that makes them on two boards.
+#![tactic(auto)]
+
+ghost use Rattle.schedule_tests.specs.Starts.{one_axis, three_channels};
+ghost use Rattle.sync_types.specs.Starts.{IsSound};
+
+#[cfg(test)]
+mod swaps;
+
+/// Start states that are sound.
+pub fn starts_are_sound()
+    ensures three { IsSound three_channels }
+    ensures axis { IsSound one_axis }
+{}

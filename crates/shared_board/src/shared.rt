@@ -1,0 +1,120 @@
+//! A board under a lock.
+ghost use Rattle.std.specs.Prelude.{◌≡◌, ◌≢◌, None, IfOk};
+ghost use Rattle.coord_core.specs.declared.outcome.Outcome.TheVariants as outcomes;
+ghost use Rattle.shared_board.specs.Passes.{passes_of};
+ghost use Rattle.sync_types.specs.Boards.{first_board};
+ghost use Rattle.sync_types.specs.Starts.{IsSound, has_channel};
+ghost use Rattle.sync_types.specs.Turns.{AreEntries};
+
+use axis_sets::{CHANNEL_PLACES, ChannelId};
+use coord_core::{Board, Desk, Locked, Outcome, act_turn, close_turn, look_turn};
+use nc_faults::NoMemory;
+use std::alloc::Global;
+use std::sync::{Condvar, Mutex, Wait};
+use sync_types::{StartState, Step};
+
+/// A board that workers share under a lock. Who waits at it sleeps until another makes a turn.
+#[derive(Drop)]
+pub struct SharedBoard {
+    locked: Mutex<Locked>,
+    // Wakes those that wait, after each turn that may have changed what they are told.
+    changed: Condvar,
+}
+
+/// Names a channel at a [`SharedBoard`].
+#[derive(Debug, PartialEq, Eq, Drop)]
+pub struct Pass {
+    /// The channel.
+    pub channel: ChannelId,
+}
+
+/// Whether the start has the channel.
+fn has_channel(start: &StartState, channel: ChannelId) -> bool
+    ensures { result ≡ has_channel start.now channel }
+{
+    start.channels.iter().any(|line| line.0 == channel)
+}
+
+/// The pass of each channel of the start, the lowest first.
+fn passes_of(alloc: Global, start: &StartState) -> Result<Vec<Pass>, NoMemory>
+    ensures { IfOk result (λ passes. passes.items ≡ passes_of start.now) }
+{
+    let mut passes = Vec::new(alloc);
+    for number in 1..CHANNEL_PLACES {
+        let channel = ChannelId {
+            number: number as u8,
+        };
+        if has_channel(start, channel) {
+            passes.push(Pass { channel })?;
+        }
+    }
+    Ok(passes)
+}
+
+impl SharedBoard {
+    /// A board at this start, and a pass for each of its channels, the lowest first.
+    pub fn new(alloc: Global, start: &StartState) -> Result<(SharedBoard, Vec<Pass>), NoMemory>
+        requires sound { IsSound start.now }
+        ensures passes { IfOk result (λ made. made.1.items ≡ passes_of start.now) }
+    {
+        let passes = passes_of(alloc, start)?;
+        let locked = Locked {
+            board: Board::new(alloc, start)?,
+            closed: false,
+        };
+        let shared = SharedBoard {
+            locked: Mutex::new(locked),
+            changed: Condvar::new(),
+        };
+        Ok((shared, passes))
+    }
+
+    /// The board, once all its passes are back. Its entries are lawful.
+    pub fn finish(self) -> Board
+        ensures lawful { AreEntries (first_board result.start) result.entries }
+    {
+        let board = self.locked.into_inner().board;
+        let _lawful = board.entries();
+        board
+    }
+
+    // Looks after each turn of another, until the channel is told anything.
+    fn look_and_wait<R: Wait>(&self, rt: &R, channel: ChannelId) -> Outcome
+        ensures { result ≢ outcomes.NoMemory }
+    {
+        let mut locked = self.locked.lock(rt);
+        for _ in rt.forever() {
+            if let Some(outcome) = look_turn(&locked, channel) {
+                return outcome;
+            }
+            locked = self.changed.wait(rt, locked);
+        }
+        unreachable!()
+    }
+}
+
+impl Desk for SharedBoard {
+    type Pass = Pass;
+
+    ghost fits = { λ desk pass. Unit {0} };
+
+    ghost tells = { λ pass. None };
+
+    fn wait_start<R: Wait>(&self, rt: &R, pass: &mut Pass) -> Outcome {
+        self.look_and_wait(rt, pass.channel)
+    }
+
+    fn act_and_wait<R: Wait>(&self, rt: &R, pass: &mut Pass, step: Step) -> Outcome {
+        let first = act_turn(&mut *self.locked.lock(rt), pass.channel, step);
+        self.changed.notify_all();
+        match first {
+            Some(outcome) => outcome,
+            None => self.look_and_wait(rt, pass.channel),
+        }
+    }
+
+    fn close<R: Wait>(&self, rt: &R, _pass: &mut Pass) {
+        close_turn(&mut *self.locked.lock(rt));
+        self.changed.notify_all();
+    }
+}

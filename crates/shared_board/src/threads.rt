@@ -1,0 +1,12 @@
+//! The types whose values may go to another thread, and the one that threads may share.
+
+use crate::{Pass, SharedBoard};
+
+/// Asks this of a type, and does nothing: each call is proved.
+fn crosses_threads<T: Send + Sync>() {}
+
+/// Asks it of each of them.
+fn types_cross_threads() {
+    crosses_threads::<Pass>();
+    crosses_threads::<SharedBoard>();
+}

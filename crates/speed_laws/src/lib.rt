@@ -1,0 +1,39 @@
+//! Laws of all speeds: what a verdict on the run in order says of every state that the channels of a job pass through. It
+//! runs no code.
+#![tactic(auto)]
+
+ghost use Rattle.std.specs.Prelude.{◌≡◌, None, find};
+ghost use Rattle.channel_machine.specs.StartStates.{start_of};
+ghost use Rattle.job_types.specs.Job.{JobView};
+ghost use Rattle.job_types.specs.SoundJob.{IsSoundJob};
+ghost use Rattle.order_clocks.specs.Clocked.{IsOrderOf, moves_in};
+ghost use Rattle.protection_zones.specs.Overlaps.{Order, compared_pairs};
+ghost use Rattle.protection_zones.specs.Pieces.{pair_meets};
+ghost use Rattle.protection_zones.specs.Stretches.{all_stretches};
+ghost use Rattle.speed_laws.specs.EachOnce.{IsEachOnce};
+ghost use Rattle.speed_laws.specs.Safety.{CanEnd, NoJump, SafeAlways};
+ghost use Rattle.speed_laws.specs.Uncoordinated.{IsUncoordinated};
+ghost use Rattle.sync_types.specs.Boards.{first_board};
+ghost use Rattle.sync_types.specs.Views.{RunView};
+
+/// A law: where no compared pair of an accepted job without coordination meets, no two zones of different groups meet in any
+/// state that small steps reach, however fast each channel is, and each axis has one owner there.
+pub fn zones_never_meet()
+    ensures { (job : JobView) (run : RunView) (before : Order)
+        → IsSoundJob job → IsUncoordinated job → IsEachOnce job run
+        → IsOrderOf (first_board (start_of job)) (moves_in run.entries) before
+        → find (pair_meets job run) (compared_pairs before job (all_stretches job (first_board (start_of job)) run)) ≡ None
+        → SafeAlways job }
+{}
+
+/// A law: no axis of an accepted job without coordination jumps: each motion begins where the motions before it left its
+/// axes, and where a channel ends its program each axis is afterwards where it was.
+pub fn axes_never_jump()
+    ensures { (job : JobView) → IsSoundJob job → IsUncoordinated job → NoJump job }
+{}
+
+/// A law: small steps of an accepted job without coordination do not get stuck: from every state that they reach each
+/// running channel can go on to its end.
+pub fn channels_can_end()
+    ensures { (job : JobView) → IsSoundJob job → IsUncoordinated job → CanEnd job }
+{}

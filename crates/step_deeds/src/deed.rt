@@ -1,0 +1,71 @@
+//! What a step does.
+ghost use Rattle.axis_sets.specs.declared.limits.TheConstants.{CHANNEL_PLACES};
+ghost use Rattle.std.specs.Prelude.{◌≡◌, ◌<◌};
+
+use axis_sets::{AxisSet, CHANNEL_PLACES, ChannelId, ChannelSet, MarkSet};
+
+/// At what a channel holds.
+#[derive(Clone, Copy)]
+pub enum Hold {
+    /// Until this mark of each of these other channels stands.
+    Marks(u8, ChannelSet),
+    /// Until these channels are ended.
+    Ends(ChannelSet),
+    /// Until these axes are free or owned.
+    Axes(AxisSet),
+}
+
+/// A hold and the line of its block.
+#[derive(Clone, Copy)]
+pub struct HoldAtLine {
+    /// At what.
+    pub hold: Hold,
+    /// The line.
+    pub line: u32,
+}
+
+/// The end of a hold, or a start.
+#[derive(Clone, Copy)]
+pub struct Departure {
+    /// The hold that ends; none at a start.
+    pub held: Option<HoldAtLine>,
+    /// The axes that the channel took.
+    pub took: AxisSet,
+}
+
+/// What happens in one step.
+#[derive(Clone, Copy)]
+pub struct Deed {
+    /// The channel that acts.
+    pub channel: ChannelId,
+    /// The line of its block.
+    pub line: u32,
+    /// Its marks that did not stand and now stand.
+    pub raises: MarkSet,
+    /// Its marks that stood and now do not.
+    pub lowers: MarkSet,
+    /// The axes that it gives away.
+    pub frees: AxisSet,
+    /// The channels that it starts.
+    pub starts: ChannelSet,
+    /// Whether its program ends.
+    pub ends: bool,
+    /// The channels of an INIT or START, also of one that alarms.
+    pub touches: ChannelSet,
+    /// The hold that begins.
+    pub begins: Option<Hold>,
+    /// By channel: its start or the end of its hold in this step.
+    pub goes: [Option<Departure>; CHANNEL_PLACES],
+    /// By channel: those that go with one number go as one event.
+    pub group: [u8; CHANNEL_PLACES],
+}
+
+impl Deed {
+    /// The number of the channel that acts.
+    pub fn actor(&self) -> usize
+        ensures channel { result ≡ self.now.channel }
+        ensures within { result < CHANNEL_PLACES }
+    {
+        usize::from(self.channel.number)
+    }
+}
