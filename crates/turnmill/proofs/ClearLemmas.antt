@@ -97,7 +97,7 @@ budget_few : (before : Order) (job : JobView) (stretches : StretchesView) → bu
 unfolding budget_verdict
 budget_few before job stretches is =
     let within : nat_lt job.budget (count_of before job stretches) ≡ false =
-        where_none (nat_lt job.budget (count_of before job stretches)) (verdicts.Undecided (count_of before job stretches) job.budget) is in
+    where_none (nat_lt job.budget (count_of before job stretches)) (verdicts.Undecided (count_of before job stretches) job.budget) is in
     ltb-false job.budget (count_of before job stretches) within
 
 no_no_yes : (pair : Option Pair) → IsNoYes (no_by pair)
@@ -132,9 +132,9 @@ unfolding verdict_by
 none_fits before race job run stretches is =
     let past_race = yes_later (race_verdict race) _ (race_no_yes race) is in
     let past_alarm = yes_later (first_some (λ stop. alarm_by stop.0 stop.1) (stops_of job run)) _
-        (first_no_yes (λ stop. alarm_by stop.0 stop.1) (stops_of job run) (λ stop. alarm_no_yes stop.0 stop.1)) past_race.1 in
+    (first_no_yes (λ stop. alarm_by stop.0 stop.1) (stops_of job run) (λ stop. alarm_no_yes stop.0 stop.1)) past_race.1 in
     let past_stuck = yes_later (first_some (λ stop. stuck_by stop.0 stop.1) (stops_of job run)) _
-        (first_no_yes (λ stop. stuck_by stop.0 stop.1) (stops_of job run) (λ stop. stuck_no_yes stop.0 stop.1)) past_alarm.1 in
+    (first_no_yes (λ stop. stuck_by stop.0 stop.1) (stops_of job run) (λ stop. stuck_no_yes stop.0 stop.1)) past_alarm.1 in
     let past_budget = yes_later (budget_verdict before job stretches) _ (budget_no_yes before job stretches) past_stuck.1 in
     let past_meeting = yes_later (meeting_verdict before job run stretches) verdicts.Yes (meeting_no_yes before job run stretches) past_budget.1 in
     record {
