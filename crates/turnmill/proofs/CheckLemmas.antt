@@ -1,9 +1,9 @@
 -- What an input calls for, by how it was read.
-use Rattle.std.proofs.Common.{◌≡◌, ℕ, ◌+◌, ◌<◌, ◌≤◌, List, [], length, drop, Option, None, Some, Result, Ok, Err, IfSome, IfOk, IsErr, IsErrAnd, IsOkAnd, refl, ap, sym, ◌∙◌, ◌⊎◌, inl, inr, arith, length-append}
+use Rattle.std.proofs.Common.{◌≡◌, ℕ, ◌+◌, ◌<◌, ◌≤◌, List, [], length, drop, Option, None, Some, Result, Ok, Err, IfSome, IfOk, IsErr, IsErrAnd, IsOkAnd, refl, ap, sym, subst, ◌∙◌, ◌⊎◌, inl, inr, arith, length-append}
 use Rattle.std.proofs.Math.Seq.{drop-append_seam}
 use Rattle.std.proofs.lemmas.List.{append-nil}
-use Rattle.edge_io.specs.Moves.{Loses, Grows}
-use Rattle.job_report.specs.Report.{refusal_bytes}
+use Rattle.edge_io.specs.Moves.{Loses, Grows, GrowsByFront}
+use Rattle.job_report.specs.Report.{refusal_bytes, report_bytes}
 use Rattle.job_types.specs.Job.{JobView}
 use Rattle.job_types.specs.SoundJob.{IsSoundJob}
 use Rattle.nc_faults.specs.declared.Refusal.{Refusal}
@@ -81,9 +81,21 @@ pub of_whole_input : (P : List ℕ → Type 0) (left after : Option (List ℕ)) 
 of_whole_input P None after bytes reads so = tt
 of_whole_input P (Some input) after bytes reads so = (rw reads.0 so, reads.1)
 
+-- ---- the output of a job
+
+-- a front of its report
+pub front_of_report : (job : JobView) (run : RunView) (verdict : Verdict) (old new : Option (List ℕ)) → IsJudged job run verdict
+    → GrowsByFront old new (report_bytes job run verdict) → WritesFront (IsOutputOf (Ok job)) old new
+front_of_report job run verdict old new judged grows = record {
+  status = status_of verdict;
+  bytes = report_bytes job run verdict;
+  called_for = record { run = run; verdict = verdict; judged = judged; status_is = refl; bytes_are = refl };
+  grows = grows;
+}
+
 -- ---- how the call ends
 
-whole_verdict : (status : Status) → IsVerdict status → IsReadWhole status
+pub whole_verdict : (status : Status) → IsVerdict status → IsReadWhole status
 whole_verdict ends.Yes is = tt
 whole_verdict ends.No is = tt
 whole_verdict ends.Race is = tt
@@ -125,7 +137,7 @@ front_of_input left after old new bytes reads front = of_input (λ input. Writes
 
 -- an input that calls for YES is a job of which the verdict is YES
 yes_by : (read : Result JobView Refusal) (bytes : List ℕ) → IsOutputOf read ends.Yes bytes → IsOkAnd read (λ job. (run : RunView) × IsJudged job run verdicts.Yes)
-yes_by (Ok job) bytes is = (is.run, rw by_verdict is.verdict (sym is.status_is) at is.judged)
+yes_by (Ok job) bytes is = (is.run, subst (λ verdict. IsJudged job is.run verdict) (by_verdict is.verdict (sym is.status_is)) is.judged)
   where
     by_verdict : (verdict : Verdict) → status_of verdict ≡ ends.Yes → verdict ≡ verdicts.Yes
     by_verdict verdicts.Yes same = refl

@@ -1,6 +1,7 @@
 -- What a verdict YES says of the run that it is on.
 use Rattle.std.proofs.Common.{◌≡◌, ℕ, ◌<◌, ◌≤◌, nat_lt, Bool, true, false, if◌then◌else◌, List, [], ◌∷◌, All, length, find, Option, None, Some, refl, ap, sym, subst}
 use Rattle.std.proofs.lemmas.Bool.{ltb-false}
+use Rattle.std.proofs.lemmas.List.Elements.{All-cons, All-head, All-nil, All-tail}
 use Rattle.std.specs.Option.{option_or}
 use Rattle.channel_machine.specs.StartStates.{start_of}
 use Rattle.clash_check.specs.Counts.{count_of}
@@ -44,8 +45,8 @@ or_none None later is = (refl, is)
 or_none (Some verdict) later is = absurd cc
 
 all_none : {X : Type 0} (f : X → Option Verdict) (xs : List X) → first_some f xs ≡ None → All (λ x. f x ≡ None) xs
-all_none f [] is = tt
-all_none f (x ∷ xs) is = let both = or_none (f x) (first_some f xs) is in (both.0, all_none f xs both.1)
+all_none f [] is = All-nil (λ x. f x ≡ None)
+all_none f (x ∷ xs) is = let both = or_none (f x) (first_some f xs) is in All-cons (λ y. f y ≡ None) x xs both.0 (all_none f xs both.1)
 
 -- ---- each verdict but YES
 
@@ -78,8 +79,15 @@ has_finished channel (end.Alarmed alarm) no_alarm no_wait = absurd cc
 
 all_finished : (stops : List (ℕ × ChannelEnd)) → All (λ stop. alarm_by stop.0 stop.1 ≡ None) stops → All (λ stop. stuck_by stop.0 stop.1 ≡ None) stops
     → All (λ stop. HasFinished stop.1) stops
-all_finished [] no_alarm no_wait = tt
-all_finished (stop ∷ stops) no_alarm no_wait = (has_finished stop.0 stop.1 no_alarm.0 no_wait.0, all_finished stops no_alarm.1 no_wait.1)
+all_finished [] no_alarm no_wait = All-nil (λ stop. HasFinished stop.1)
+all_finished (stop ∷ stops) no_alarm no_wait =
+    All-cons (λ s. HasFinished s.1) stop stops
+    (has_finished stop.0 stop.1
+    (All-head (λ s. alarm_by s.0 s.1 ≡ None) stop stops no_alarm)
+    (All-head (λ s. stuck_by s.0 s.1 ≡ None) stop stops no_wait))
+    (all_finished stops
+    (All-tail (λ s. alarm_by s.0 s.1 ≡ None) stop stops no_alarm)
+    (All-tail (λ s. stuck_by s.0 s.1 ≡ None) stop stops no_wait))
 
 where_no_yes : (test : Bool) (count budget : ℕ) → IsNoYes (if test then Some (verdicts.Undecided count budget) else None)
 where_no_yes true count budget = λ is. absurd cc

@@ -1,4 +1,7 @@
 pub mod ClearLemmas
 pub mod UncoordinatedRuns
+pub mod JudgeLemmas
+pub mod TurnLemmas
 pub mod CheckLemmas
+pub mod ResultLemmas
 pub mod ArgumentLemmas

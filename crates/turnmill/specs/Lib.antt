@@ -1,4 +1,5 @@
 pub mod Judged
+pub mod OneResult
 pub mod Output
 pub mod Input
 pub mod Arguments

@@ -1,5 +1,5 @@
 //! The check of an input, from the words of the call to the bytes of the answer.
-ghost use Rattle.std.specs.Prelude.{◌≡◌, ◌↔◌, ◌⊎◌, ℕ, ◌-◌, ◌^◌, ◌<◌, ◌≤◌, Bool, true, false, [], length, map, None, IfSome, IfOk, IsOkAnd, IsErr, IsErrAnd, Some, Ok, Err};
+ghost use Rattle.std.specs.Prelude.{◌≡◌, ◌≢◌, ◌↔◌, ◌⊎◌, ℕ, ◌-◌, ◌^◌, ◌<◌, ◌≤◌, Bool, true, false, [], length, map, None, IfSome, IfOk, IsOkAnd, IsErr, IsErrAnd, Some, Ok, Err};
 ghost use Rattle.edge_io.specs.Moves.{Grows};
 ghost use Rattle.job_report.specs.Report.{refusal_bytes};
 ghost use Rattle.job_types.specs.SoundJob.{BlocksFit, IsSoundJob};
@@ -9,6 +9,7 @@ ghost use Rattle.speed_laws.specs.Uncoordinated.{IsUncoordinated};
 ghost use Rattle.tape_job.specs.Read.{read_of};
 ghost use Rattle.turnmill.specs.Input.{is_check, ReadsInput, TakesTooMany};
 ghost use Rattle.turnmill.specs.Judged.{IsClear, IsJudged};
+ghost use Rattle.turnmill.specs.OneResult.{HasOneResult};
 ghost use Rattle.turnmill.specs.Output.{status_of, IsAnswer, IsOutput, IsOutputOf, IsReadWhole, IsVerdict, Writes, WritesFront};
 
 use clash_check::judge;
@@ -243,6 +244,11 @@ pub fn check_words<S: Source, K: Sink>(
     // At YES the input is a job whose run in order has no race and leaves no channel alarmed or waiting, and of which no two
     // boxes that are compared meet.
     ensures yes { result ≡ Status.Yes → IfSome (S.left source.old) (λ input. IsOkAnd (read_of input) IsClear) }
+
+    // Where the verdict is not RACE, the job has one result, however its channels take turns: there is no race in any run, each
+    // run goes on until no channel runs, and all of these come to the same.
+    ensures schedules { IsVerdict result → result ≢ Status.Race → IfSome (S.left source.old) (λ input.
+        IsOkAnd (read_of input) HasOneResult) }
 
     // At YES a job without coordination is safe whatever the feed overrides: no axis has two owners, and no two zones of
     // different groups meet.

@@ -1,0 +1,94 @@
+-- What the parts of a verdict need of the run in order of an accepted job.
+use Rattle.std.proofs.Common.{◌≡◌, ℕ, ◌+◌, ◌*◌, ◌<◌, ◌≤◌, All, List, length, ap, ◌∙◌, arith}
+use Rattle.std.proofs.lemmas.List.Elements.{All-weaker}
+use Rattle.std.specs.Prelude.{sum_by}
+use Rattle.channel_machine.proofs.StartLaws.{start_sound}
+use Rattle.channel_machine.specs.StartStates.{start_of}
+use Rattle.clash_check.specs.Judged.{IsTold}
+use Rattle.clash_check.specs.Verdicts.{verdict_by}
+use Rattle.job_report.specs.Channels.{IsListedEnd}
+use Rattle.job_types.specs.Job.{JobView}
+use Rattle.job_types.specs.SoundJob.{IsSoundJob}
+use Rattle.order_clocks.specs.Clocked.{ClocksView, IsOrderOf, moves_in}
+use Rattle.order_clocks.specs.Races.{IsFirst}
+use Rattle.order_clocks.specs.Tells.{is_before_in}
+use Rattle.product_run.proofs.GoodRuns.{runs_are_sound}
+use Rattle.product_run.proofs.Motions.{runs_in_order_are_whole}
+use Rattle.product_run.specs.RunLaws.{IsSoundRun, MovesSoundly}
+use Rattle.product_run.specs.RunLaws as law
+use Rattle.product_run.specs.Scripts.{IsRunInOrder}
+use Rattle.protection_zones.specs.Stretches.{StretchesView, all_stretches}
+use Rattle.protection_zones.specs.ZoneBoxes.{IsFit}
+use Rattle.sync_types.specs.Boards.{first_board}
+use Rattle.sync_types.specs.Runs.{ComesFrom}
+use Rattle.sync_types.specs.Views.{RunView, StartView}
+use Rattle.sync_types.specs.declared.ChannelEnd.{ChannelEnd}
+use Rattle.sync_types.specs.declared.ChannelEnd.TheVariants.{Idle, Ended, Holding, Alarmed}
+use Rattle.sync_types.specs.declared.Item.{Item}
+use Rattle.sync_types.specs.declared.verdicts.Verdict.{Verdict}
+use Rattle.turnmill.specs.Judged.{IsJudged, IsFirstRaceIn, IsOrderIn, zone_time_in}
+
+module _ (job : JobView) (run : RunView) (sound : IsSoundJob job) (in_order : IsRunInOrder job (start_of job) run) where
+  -- it comes from the start of the job
+  pub comes : ComesFrom (start_of job) run
+  comes = (runs_in_order_are_whole job (start_of job) run (start_sound job sound) in_order).comes
+
+  pub comes_from_one : (start : StartView) × ComesFrom start run
+  comes_from_one = (start_of job, comes)
+
+  good : IsSoundRun run
+  good = runs_are_sound job run sound in_order
+
+  fits : (item : Item) → MovesSoundly item → IsFit item
+  fits item moves = record { sound = moves.sound; within = moves.within }
+
+  -- its items fit, and they are few
+  pub all_fit : All (All IsFit) run.items
+  all_fit = All-weaker (All MovesSoundly) (All IsFit) (All-weaker MovesSoundly IsFit fits) run.items good.items
+
+  pub few_in_each : All (λ items. length items < 4294967296) run.items
+  few_in_each =
+      All-weaker (λ (items : List Item). length items ≤ 100000) (λ items. length items < 4294967296) (λ items few. omega arith) run.items good.few
+
+  pub few_in_all : sum_by (λ (items : List Item). length items) run.items < 1048576
+  few_in_all = let few = good.total in omega (arith, few)
+
+  -- what its clocks and stretches tell
+  pub told : (stretches : StretchesView) (clocks : ClocksView)
+      → ((start : StartView) → ComesFrom start run → stretches ≡ all_stretches job (first_board start) run)
+      → ((start : StartView) → ComesFrom start run → IsOrderOf (first_board start) (moves_in run.entries) (is_before_in clocks.rows))
+      → IsTold job run stretches clocks
+  told stretches clocks time order = record {
+    start = start_of job;
+    whole = comes;
+    told = time (start_of job) comes;
+    order = order (start_of job) comes;
+  }
+
+  -- and so the verdict that rests on them is that on the job
+  pub judged : (stretches : StretchesView) (clocks : ClocksView) (verdict : Verdict)
+      → ((start : StartView) → ComesFrom start run → stretches ≡ all_stretches job (first_board start) run)
+      → ((start : StartView) → ComesFrom start run → IsOrderOf (first_board start) (moves_in run.entries) (is_before_in clocks.rows))
+      → ((start : StartView) → ComesFrom start run → IsFirst (first_board start) (moves_in run.entries) (length run.entries) clocks.race)
+      → verdict ≡ verdict_by (is_before_in clocks.rows) clocks.race job run stretches
+      → IsJudged job run verdict
+  judged stretches clocks verdict time order race is = record {
+    in_order = in_order;
+    before = is_before_in clocks.rows;
+    ordered = order (start_of job) comes;
+    race = clocks.race;
+    first = race (start_of job) comes;
+    verdict_is = is ∙ ap (λ (s : StretchesView). verdict_by (is_before_in clocks.rows) clocks.race job run s) (time (start_of job) comes);
+  }
+
+-- ---- how the channels have stopped
+
+listed : (end : ChannelEnd) → law.IsListedEnd end → IsListedEnd end
+listed Idle is = tt
+listed (Ended line) is = tt
+listed (Holding line) is = tt
+listed (Alarmed alarm) is = is
+
+-- each alarm is in the table
+pub listed_ends : (job : JobView) (run : RunView) (verdict : Verdict) → IsSoundJob job → IsJudged job run verdict → All IsListedEnd run.ends
+listed_ends job run verdict sound is = All-weaker law.IsListedEnd IsListedEnd listed run.ends (runs_are_sound job run sound is.in_order).ends

@@ -1,0 +1,106 @@
+-- A job has one result where its run in order has no race.
+use Rattle.std.proofs.Common.{◌≡◌, ◌≢◌, ℕ, suc, ◌<◌, ◌≤◌, List, [], ◌∷◌, length, map, Option, None, Some, Result, Ok, Err, IfSome, IfOk, IsOkAnd, refl, sym, ap, ap₂, subst, ◌∙◌}
+use Rattle.channel_machine.proofs.StartLaws.{start_sound}
+use Rattle.channel_machine.specs.StartStates.{start_of}
+use Rattle.clash_check.specs.Verdicts.{verdict_by}
+use Rattle.job_types.specs.Job.{JobView}
+use Rattle.job_types.specs.SoundJob.{IsSoundJob}
+use Rattle.nc_faults.specs.declared.Refusal.{Refusal}
+use Rattle.order_clocks.specs.Clocked.{moves_in}
+use Rattle.order_clocks.specs.Races.{IsRace}
+use Rattle.product_run.proofs.Short.{start_numbers}
+use Rattle.product_run.specs.Scripts.{IsRunInOrder, run_of, script_of}
+use Rattle.protection_zones.specs.Overlaps.{Order}
+use Rattle.protection_zones.specs.Stretches.{StretchesView}
+use Rattle.schedule_laws.proofs.RunLaws.{all_agree, speaks}
+use Rattle.schedule_laws.specs.Schedules.{HasNoRace, IsQuietRun, moves_by}
+use Rattle.sync_types.proofs.Replays.{sequential_is_one}
+use Rattle.sync_types.specs.Boards.{Board, first_board}
+use Rattle.sync_types.specs.Runs.{first_stage}
+use Rattle.sync_types.specs.Turns.{Move, after_step, entries_of}
+use Rattle.sync_types.specs.Views.{RunView}
+use Rattle.sync_types.specs.declared.runs.Race.{Race}
+use Rattle.sync_types.specs.declared.verdicts.Verdict.{Verdict}
+use Rattle.sync_types.specs.declared.verdicts.Verdict.TheVariants as verdicts
+use Rattle.tape_job.proofs.SoundJobs.{read_sound}
+use Rattle.tape_job.specs.Read.{read_of}
+use Rattle.turnmill.proofs.CheckLemmas.{of_input, whole_verdict}
+use Rattle.turnmill.proofs.TurnLemmas.{same_motions}
+use Rattle.turnmill.specs.Input.{ReadsAll}
+use Rattle.turnmill.specs.Judged.{IsFirstRaceIn, IsJudged, zone_time_in}
+use Rattle.turnmill.specs.OneResult.{HasOneResult, LeadToTheSame, TakeAllTurns, TakeTurns}
+use Rattle.turnmill.specs.Output.{IsOutput, IsOutputOf, IsReadWhole, IsVerdict, Writes, status_of}
+use Rattle.turnmill.specs.declared.check.Status.{Status}
+use Rattle.turnmill.specs.declared.check.Status.TheVariants as ends
+
+-- the entries of steps are those of these steps, and as many
+its_moves : (b : Board) (moves : List Move) → moves_in (entries_of b moves) ≡ moves
+its_moves b [] = refl
+its_moves b (m ∷ ms) = ap (λ rest. m ∷ rest) (its_moves (after_step b m.channel m.step) ms)
+
+as_many : (b : Board) (moves : List Move) → length (entries_of b moves) ≡ length moves
+as_many b [] = refl
+as_many b (m ∷ ms) = ap (λ n. suc n) (as_many (after_step b m.channel m.step) ms)
+
+module _ (job : JobView) (sound : IsSoundJob job) where
+  -- a run of all turns without a race
+  quiet_run : (turns : List ℕ) → TakeAllTurns job turns → HasNoRace (script_of job) (start_of job) turns → IsQuietRun (script_of job) (start_of job) turns
+  quiet_run turns whole quiet = record { sound = start_sound job sound; numbers = start_numbers job; maximal = whole; quiet = quiet }
+
+  one_result_by : (cs : List ℕ) → IsQuietRun (script_of job) (start_of job) cs → HasOneResult job
+  one_result_by cs quiet = record {
+    no_race = λ turns taken. (speaks (script_of job) (start_of job) cs turns quiet taken).quiet;
+    goes_on = λ turns taken. let on = speaks (script_of job) (start_of job) cs turns quiet taken in (on.rest, on.maximal);
+    same = same;
+  }
+    where
+      same : (turns others : List ℕ) → TakeAllTurns job turns → TakeAllTurns job others → LeadToTheSame job turns others
+      same turns others whole other_whole =
+          let quiet_too = quiet_run turns whole (speaks (script_of job) (start_of job) cs turns quiet whole.run).quiet in
+          let result = all_agree (script_of job) (start_of job) turns others quiet_too other_whole in
+          record { result = result; motions = λ channel. same_motions job turns others whole other_whole channel (result.grants channel) }
+
+  pub one_result : (run : RunView) → IsRunInOrder job (start_of job) run → IsFirstRaceIn job run None → HasOneResult job
+  one_result run in_order none = one_result_by cs (quiet_run cs (sequential_is_one (script_of job) (first_stage (start_of job)) cs cs in_order.sequential).maximal quiet)
+    where
+      cs : List ℕ
+      cs = in_order.channels
+
+      b : Board
+      b = first_board (start_of job)
+
+      moves : List Move
+      moves = moves_by (script_of job) (start_of job) cs
+
+      -- the entries are those of the turns
+      none_there : (i : ℕ) (race : Race) → i < length (entries_of b moves) → IsRace b (moves_in (entries_of b moves)) i race → ⊥
+      none_there = subst (λ (r : RunView). IsFirstRaceIn job r None) in_order.all none
+
+      quiet : HasNoRace (script_of job) (start_of job) cs
+      quiet i within race is =
+          none_there i race (subst (λ n. i < n) (sym (as_many b moves)) within) (subst (λ (ms : List Move). IsRace b ms i race) (sym (its_moves b moves)) is)
+
+-- ---- a verdict that is not RACE
+
+-- it is one on a run without a race
+no_race : (before : Order) (race : Option Race) (job : JobView) (run : RunView) (stretches : StretchesView) → status_of (verdict_by before race job run stretches) ≢ ends.Race → race ≡ None
+unfolding verdict_by
+no_race before None job run stretches other = refl
+no_race before (Some race) job run stretches other = absurd (other refl)
+
+result_by : (read : Result JobView Refusal) (status : Status) (bytes : List ℕ) → IfOk read IsSoundJob → IsVerdict status → status ≢ ends.Race
+    → IsOutputOf read status bytes → IsOkAnd read HasOneResult
+result_by (Ok job) status bytes sound is other output =
+    let judged = output.judged in
+    let not_race : status_of (verdict_by judged.before judged.race job output.run (zone_time_in job output.run)) ≢ ends.Race = λ same.
+    other (output.status_is ∙ ap status_of judged.verdict_is ∙ same) in
+    let none : judged.race ≡ None = no_race judged.before judged.race job output.run (zone_time_in job output.run) not_race in
+    one_result job sound output.run judged.in_order (subst (λ (r : Option Race). IsFirstRaceIn job output.run r) none judged.first)
+result_by (Err refusal) status bytes sound is other output = absurd (subst IsVerdict output.status_is is)
+
+pub one_result_at : (left after old new : Option (List ℕ)) (bytes : List ℕ) (status : Status) → ReadsAll left after bytes → length bytes ≤ 8388608
+    → (IsReadWhole status → Writes (IsOutput bytes) status old new) → IsVerdict status → status ≢ ends.Race
+    → IfSome left (λ input. IsOkAnd (read_of input) HasOneResult)
+one_result_at left after old new bytes status reads short writes is other =
+    of_input (λ input. IsOkAnd (read_of input) HasOneResult) left after bytes reads
+    (result_by (read_of bytes) status (writes (whole_verdict status is)).bytes (read_sound bytes) is other ((writes (whole_verdict status is)).called_for.short short))

@@ -1,0 +1,10 @@
+-- A job is answered by the report of its run.
+use Rattle.turnmill.proofs.CheckLemmas.{front_of_report}
+use Rattle.turnmill.proofs.JudgeLemmas.{listed_ends}
+use Rattle.turnmill.proofs.check.answer_job.Goals as goal
+
+pub report-requires-clause-listed : goal.report-requires-clause-listed
+report-requires-clause-listed g c = listed_ends c.args.job.now c.in-Ok.run' c.in-Ok.verdict c.requires.accepted c.in-Ok.ensures
+
+pub returns-clause-front : goal.returns-clause-front
+returns-clause-front g c = λ is. front_of_report c.args.job.now c.in-Ok.run' c.in-Ok.verdict _ _ c.in-Ok.ensures c.in-Err.ensures.front
