@@ -1,9 +1,8 @@
 -- What a verdict YES says of the run that it is on.
-use Rattle.std.proofs.Common.{◌≡◌, ℕ, ◌<◌, ◌≤◌, nat_lt, Bool, true, false, if◌then◌else◌, List, [], ◌∷◌, All, length, find, Option, None, Some, refl, ap, sym, subst}
+use Rattle.std.proofs.Common.{◌≡◌, ℕ, ◌≤◌, nat_lt, Bool, true, false, if◌then◌else◌, List, [], ◌∷◌, All, find, Option, None, Some, refl, ap, sym, subst}
 use Rattle.std.proofs.lemmas.Bool.{ltb-false}
 use Rattle.std.proofs.lemmas.List.Elements.{All-cons, All-head, All-nil, All-tail}
 use Rattle.std.specs.Option.{option_or}
-use Rattle.channel_machine.specs.StartStates.{start_of}
 use Rattle.clash_check.specs.Counts.{count_of}
 use Rattle.clash_check.specs.FirstAnswer.{first_some}
 use Rattle.clash_check.specs.Verdicts.{alarm_by, budget_verdict, meeting_verdict, no_by, or_else, race_verdict, stops_of, stuck_by, verdict_by}
@@ -17,7 +16,7 @@ use Rattle.sync_types.specs.declared.ChannelEnd.TheVariants as end
 use Rattle.sync_types.specs.declared.runs.Race.{Race}
 use Rattle.sync_types.specs.declared.verdicts.Verdict.{Verdict}
 use Rattle.sync_types.specs.declared.verdicts.Verdict.TheVariants as verdicts
-use Rattle.turnmill.specs.Judged.{HasFinished, IsClear, IsFirstRaceIn, IsJudged, IsOrderIn, zone_time_in}
+use Rattle.turnmill.specs.Judged.{HasFinished, IsClear, IsFirstRaceIn, IsJudged, zone_time_in}
 
 -- ---- the first that fits
 

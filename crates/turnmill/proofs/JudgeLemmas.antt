@@ -1,5 +1,5 @@
 -- What the parts of a verdict need of the run in order of an accepted job.
-use Rattle.std.proofs.Common.{◌≡◌, ℕ, ◌+◌, ◌*◌, ◌<◌, ◌≤◌, All, List, length, ap, ◌∙◌, arith}
+use Rattle.std.proofs.Common.{◌≡◌, ◌<◌, ◌≤◌, All, List, length, ap, ◌∙◌, arith}
 use Rattle.std.proofs.lemmas.List.Elements.{All-weaker}
 use Rattle.std.specs.Prelude.{sum_by}
 use Rattle.channel_machine.proofs.StartLaws.{start_sound}
@@ -26,7 +26,7 @@ use Rattle.sync_types.specs.declared.ChannelEnd.{ChannelEnd}
 use Rattle.sync_types.specs.declared.ChannelEnd.TheVariants.{Idle, Ended, Holding, Alarmed}
 use Rattle.sync_types.specs.declared.Item.{Item}
 use Rattle.sync_types.specs.declared.verdicts.Verdict.{Verdict}
-use Rattle.turnmill.specs.Judged.{IsJudged, IsFirstRaceIn, IsOrderIn, zone_time_in}
+use Rattle.turnmill.specs.Judged.{IsJudged}
 
 module _ (job : JobView) (run : RunView) (sound : IsSoundJob job) (in_order : IsRunInOrder job (start_of job) run) where
   -- it comes from the start of the job

@@ -1,5 +1,5 @@
 -- A job has one result where its run in order has no race.
-use Rattle.std.proofs.Common.{◌≡◌, ◌≢◌, ℕ, suc, ◌<◌, ◌≤◌, List, [], ◌∷◌, length, map, Option, None, Some, Result, Ok, Err, IfSome, IfOk, IsOkAnd, refl, sym, ap, ap₂, subst, ◌∙◌}
+use Rattle.std.proofs.Common.{◌≡◌, ◌≢◌, ℕ, suc, ◌<◌, ◌≤◌, List, [], ◌∷◌, length, Option, None, Some, Result, Ok, Err, IfSome, IfOk, IsOkAnd, refl, sym, ap, subst, ◌∙◌}
 use Rattle.channel_machine.proofs.StartLaws.{start_sound}
 use Rattle.channel_machine.specs.StartStates.{start_of}
 use Rattle.clash_check.specs.Verdicts.{verdict_by}
@@ -9,7 +9,7 @@ use Rattle.nc_faults.specs.declared.Refusal.{Refusal}
 use Rattle.order_clocks.specs.Clocked.{moves_in}
 use Rattle.order_clocks.specs.Races.{IsRace}
 use Rattle.product_run.proofs.Short.{start_numbers}
-use Rattle.product_run.specs.Scripts.{IsRunInOrder, run_of, script_of}
+use Rattle.product_run.specs.Scripts.{IsRunInOrder, script_of}
 use Rattle.protection_zones.specs.Overlaps.{Order}
 use Rattle.protection_zones.specs.Stretches.{StretchesView}
 use Rattle.schedule_laws.proofs.RunLaws.{all_agree, speaks}
@@ -20,15 +20,13 @@ use Rattle.sync_types.specs.Runs.{first_stage}
 use Rattle.sync_types.specs.Turns.{Move, after_step, entries_of}
 use Rattle.sync_types.specs.Views.{RunView}
 use Rattle.sync_types.specs.declared.runs.Race.{Race}
-use Rattle.sync_types.specs.declared.verdicts.Verdict.{Verdict}
-use Rattle.sync_types.specs.declared.verdicts.Verdict.TheVariants as verdicts
 use Rattle.tape_job.proofs.SoundJobs.{read_sound}
 use Rattle.tape_job.specs.Read.{read_of}
 use Rattle.turnmill.proofs.CheckLemmas.{of_input, whole_verdict}
 use Rattle.turnmill.proofs.TurnLemmas.{same_motions}
 use Rattle.turnmill.specs.Input.{ReadsAll}
-use Rattle.turnmill.specs.Judged.{IsFirstRaceIn, IsJudged, zone_time_in}
-use Rattle.turnmill.specs.OneResult.{HasOneResult, LeadToTheSame, TakeAllTurns, TakeTurns}
+use Rattle.turnmill.specs.Judged.{IsFirstRaceIn, zone_time_in}
+use Rattle.turnmill.specs.OneResult.{HasOneResult, LeadToTheSame, TakeAllTurns}
 use Rattle.turnmill.specs.Output.{IsOutput, IsOutputOf, IsReadWhole, IsVerdict, Writes, status_of}
 use Rattle.turnmill.specs.declared.check.Status.{Status}
 use Rattle.turnmill.specs.declared.check.Status.TheVariants as ends

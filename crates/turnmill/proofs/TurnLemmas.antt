@@ -1,5 +1,5 @@
 -- The motions of each channel, by the grants that it has got.
-use Rattle.std.proofs.Common.{◌≡◌, ℕ, ◌==◌, Bool, true, false, List, [], ◌∷◌, ◌++◌, Option, None, Some, if◌then◌else◌, cond, refl, sym, ap, ap₂, subst, ◌∙◌, ◌⊎◌, inl, inr, append_assoc, append-nil, eqb-true}
+use Rattle.std.proofs.Common.{◌≡◌, ℕ, ◌==◌, Bool, true, false, List, [], ◌∷◌, ◌++◌, Option, None, refl, sym, ap, ap₂, subst, ◌∙◌, ◌⊎◌, inl, inr, append_assoc, append-nil, eqb-true}
 use Rattle.std.proofs.lemmas.Bool.{cases_Bool}
 use Rattle.std.specs.Prelude.{not}
 use Rattle.std.specs.List.{list_any}
@@ -10,7 +10,7 @@ use Rattle.product_run.proofs.Short.{start_numbers}
 use Rattle.product_run.proofs.Usage.{Accords, Usage, accords_first, accords_turn, accords_turns, no_usage, usage_after, usage_from}
 use Rattle.product_run.specs.Scripts.{items_of, run_of, script_of, segment_after}
 use Rattle.sync_types.specs.Boards.{Board, State, IsIdle, IsRunning, IsHolding, HasEnded, HasAlarmed, among, channel_numbers, first_board, grant_in, is_running}
-use Rattle.sync_types.specs.Runs.{IsMaximal, IsRun, Stage, after_turn, as_list, first_stage, is_over, moves_of, stage_after}
+use Rattle.sync_types.specs.Runs.{IsRun, Stage, after_turn, as_list, first_stage, is_over, moves_of, stage_after}
 use Rattle.sync_types.specs.Turns.{after_step, entries_of}
 use Rattle.sync_types.specs.declared.Grant.{Grant}
 use Rattle.sync_types.specs.declared.Item.{Item}
