@@ -4,3 +4,6 @@ pub mod NoteLaws
 pub mod SpanLaws
 pub mod TenureLaws
 pub mod TimeLaws
+pub mod StretchLaws
+pub mod CoverLaws
+pub mod NameLaws

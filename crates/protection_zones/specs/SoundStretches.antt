@@ -1,0 +1,58 @@
+-- Law. What is so of the stretches of all runs.
+use Rattle.std.specs.Prelude.{◌≡◌, ℕ, ℤ, ◌-◌, ◌<◌, All, IfSome, List, [], slice_get, slice_index_or, Option, Some, None}
+use Rattle.job_types.specs.Job.{JobView}
+use Rattle.job_types.specs.declared.job.ZoneLine.{ZoneLine}
+use Rattle.order_clocks.specs.Clocked.{moves_in}
+use Rattle.protection_zones.specs.Overlaps.{zone_times}
+use Rattle.protection_zones.specs.Stretches.{StretchView, StretchesView, all_stretches}
+use Rattle.protection_zones.specs.ZoneBoxes.{zone_box, low_in, high_in}
+use Rattle.protection_zones.specs.declared.stretches.ZoneBox.{ZoneBox}
+use Rattle.swept_boxes.specs.Cover.{cover_of}
+use Rattle.swept_boxes.specs.declared.Box3.{Box3}
+use Rattle.sync_types.specs.Boards.{Board}
+use Rattle.sync_types.specs.Events.{IsLowestName}
+use Rattle.sync_types.specs.Items.{motion_of, movement_of}
+use Rattle.sync_types.specs.Turns.{Move}
+use Rattle.sync_types.specs.Views.{RunView}
+use Rattle.sync_types.specs.declared.Item.{Item}
+
+-- ---- covers
+
+-- A box of a motion: its place is that of an item among these, which has a motion, and it is the zone box of what this motion
+-- covers, with the axes that the motion has not somewhere.
+pub record IsOfMotion (margin : ℤ) (zone : ZoneLine) (items : List Item) (place : ℕ) (cover : Box3) : Type 0 where
+  pub item : Item
+  pub at : ℕ → ℤ
+  pub counted : 0 < place
+  pub there : slice_get items (place - 1) ≡ Some item
+  pub moves : motion_of item ≡ Some (movement_of item)
+  pub covers : cover ≡ zone_box margin zone (low_in (cover_of (movement_of item)) at) (high_in (cover_of (movement_of item)) at)
+
+-- a box belongs to the motion of its place, or is the zone box of where the zone stands
+abbrev pub IsCoverBy : ℤ → ZoneLine → List Item → Box3 → Option ℕ → Type 0
+IsCoverBy margin zone items cover None = (at : ℕ → ℤ) × (cover ≡ zone_box margin zone at at)
+IsCoverBy margin zone items cover (Some place) = IsOfMotion margin zone items place cover
+
+-- the places of a box are those of the entry of its stretch
+abbrev pub HasCover : JobView → RunView → ZoneLine → StretchView → ZoneBox → Type 0
+HasCover job run zone stretch box = IsCoverBy job.margin zone (slice_index_or run.items stretch.entry []) box.cover box.motion
+
+-- each box of each stretch of each zone
+abbrev pub HaveCovers : JobView → RunView → StretchesView → Type 0
+HaveCovers job run stretches = All (λ time. All (λ stretch. All (HasCover job run time.zone stretch) stretch.boxes) time.stretches) (zone_times job stretches)
+
+abbrev pub BoxesHaveCovers : JobView → Board → RunView → Type 0
+BoxesHaveCovers job b run = HaveCovers job run (all_stretches job b run)
+
+-- ---- names of events
+
+-- a stretch begins and ends with an event by its lowest channel, or begins with the job or lasts
+pub record HasLowNames (b : Board) (moves : List Move) (stretch : StretchView) : Type 0 where
+  pub first : IfSome stretch.first (IsLowestName b moves)
+  pub last : IfSome stretch.last (IsLowestName b moves)
+
+abbrev pub HaveLowNames : JobView → Board → List Move → StretchesView → Type 0
+HaveLowNames job b moves stretches = All (λ time. All (HasLowNames b moves) time.stretches) (zone_times job stretches)
+
+abbrev pub EndsAreLowestNames : JobView → Board → RunView → Type 0
+EndsAreLowestNames job b run = HaveLowNames job b (moves_in run.entries) (all_stretches job b run)

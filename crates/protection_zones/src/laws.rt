@@ -1,0 +1,16 @@
+//! What is so of the time of zones in all runs.
+ghost use Rattle.job_types.specs.Job.{JobView};
+ghost use Rattle.protection_zones.specs.SoundStretches.{BoxesHaveCovers, EndsAreLowestNames};
+ghost use Rattle.sync_types.specs.Boards.{Board};
+ghost use Rattle.sync_types.specs.Views.{RunView};
+
+/// A law: each box of each stretch is the zone box of what the motion of its place covers, which is that of an item of the
+/// stretch's entry, or of where the zone stands.
+pub fn boxes_have_covers()
+    ensures { (job : JobView) (b : Board) (run : RunView) → BoxesHaveCovers job b run }
+{}
+
+/// A law: each stretch begins and ends with an event by its lowest channel, where it does not begin with the job or last.
+pub fn ends_are_lowest_names()
+    ensures { (job : JobView) (b : Board) (run : RunView) → EndsAreLowestNames job b run }
+{}
