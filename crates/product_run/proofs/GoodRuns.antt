@@ -19,6 +19,7 @@ use Rattle.micro_units.specs.Position.{IsPosition}
 use Rattle.number_laws.proofs.Lists.{by_places}
 use Rattle.path_geometry.specs.Motions.{axes_of}
 use Rattle.sync_types.proofs.BoardTests.{by_test, no_truth}
+use Rattle.sync_types.proofs.Replays.{sequential_is_one}
 use Rattle.sync_types.specs.BoardEnds.{end_of, ends_among, with_end}
 use Rattle.sync_types.specs.Boards.{State, IsIdle, IsRunning, IsHolding, HasEnded, HasAlarmed, Board, channel_numbers, first_board, grant_in}
 use Rattle.sync_types.specs.Items.{movement_of}
@@ -29,6 +30,7 @@ use Rattle.sync_types.specs.Views.{RunView}
 use Rattle.sync_types.specs.declared.ChannelEnd.{ChannelEnd}
 use Rattle.sync_types.specs.declared.Grant.{Grant}
 use Rattle.sync_types.specs.declared.Item.{Item}
+use Rattle.product_run.proofs.FewItems.{items_are_few}
 use Rattle.product_run.proofs.GoodBoards.{AreInRange, IsGood, IsGoodGrant, IsGoodState, IsGoodStep, good_first, good_step, none_in_range, row_in_range, zero_in_range}
 use Rattle.product_run.proofs.StepPlaces.{step_tells}
 use Rattle.product_run.specs.RunLaws.{IsListedEnd, IsSoundRun, MovesSoundly, RunsAreSound}
@@ -206,5 +208,6 @@ runs_are_sound job run sound ordered =
     subst IsSoundRun (sym ordered.all) (record {
       items = run_moves job (first_stage (start_of job)) cs first;
       few = run_few job (first_stage (start_of job)) cs;
+      total = items_are_few job cs (sequential_is_one (script_of job) (first_stage (start_of job)) cs cs ordered.sequential).maximal.run;
       ends = ends_good (stage_after (script_of job) (first_stage (start_of job)) cs).board channel_numbers last.board;
     })

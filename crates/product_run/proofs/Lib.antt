@@ -11,4 +11,5 @@ pub mod Turns
 pub mod Short
 pub mod StepPlaces
 pub mod GoodBoards
+pub mod FewItems
 pub mod GoodRuns

@@ -69,7 +69,7 @@ numbers_in job (x ∷ xs) c has = by_entry (channel_entry job x) refl (λ rest. 
         ]
 
 -- the channels of a job have the numbers 1 to 8
-start_numbers : (job : JobView) → HasNumbers (start_of job)
+pub start_numbers : (job : JobView) → HasNumbers (start_of job)
 unfolding start_of first_channels
 start_numbers job d has = numbers_in job channel_numbers d has
 

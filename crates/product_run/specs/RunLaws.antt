@@ -1,5 +1,5 @@
 -- Law. What is so of all runs of a job.
-use Rattle.std.specs.Prelude.{◌≡◌, ℕ, ℤ, pos, ◌+◌, ◌*◌, ◌<◌, ◌≤◌, All, List, [], ◌∷◌, ◌++◌, length, slice_get, take, Some, unwrap_or}
+use Rattle.std.specs.Prelude.{◌≡◌, ℕ, ℤ, pos, ◌+◌, ◌*◌, ◌<◌, ◌≤◌, All, List, [], ◌∷◌, ◌++◌, length, slice_get, sum_by, take, Some, unwrap_or}
 use Rattle.axis_sets.specs.Positions.{position_of, stands}
 use Rattle.axis_sets.specs.declared.limits.TheConstants.{AXIS_LIMIT, CHANNEL_LIMIT}
 use Rattle.block_motions.specs.Motions.{IsMotionOf}
@@ -80,10 +80,11 @@ abbrev pub IsListedEnd : ChannelEnd → Type 0
 IsListedEnd (Alarmed alarm) = IsAlarmCode alarm.code
 IsListedEnd end = Unit {0}
 
--- each motion is sound, what comes before a step is at most as much as blocks may be executed, and each alarm is in the table
+-- each motion is sound; what comes before a step is at most as much as a channel may execute blocks, and all that is done as much as all channels may; and each alarm is in the table
 pub record IsSoundRun (run : RunView) : Type 0 where
   pub items : All (All MovesSoundly) run.items
   pub few : All (λ items. length items ≤ BLOCK_LIMIT) run.items
+  pub total : sum_by length run.items ≤ CHANNEL_LIMIT * BLOCK_LIMIT
   pub ends : All IsListedEnd run.ends
 
 -- so is the run in order of an accepted job

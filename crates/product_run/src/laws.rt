@@ -25,8 +25,9 @@ pub fn runs_in_order_are_whole()
     ensures { (job : JobView) (start : StartView) (run : RunView) → RunsInOrderAreWhole job start run }
 {}
 
-/// A law: in the run in order of an accepted job each motion is sound and has axes that there are, and each alarm that stops
-/// a channel is in the table of alarms.
+/// A law: in the run in order of an accepted job each motion is sound and has axes that there are, all channels together do
+/// at most 800,000 things, one for each block that they may execute, and each alarm that stops a channel is in the table of
+/// alarms.
 pub fn runs_in_order_are_sound()
     ensures { (job : JobView) (run : RunView) → RunsAreSound job run }
 {}
