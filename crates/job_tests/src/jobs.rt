@@ -122,26 +122,6 @@ fn refuses_in_the_order_of_the_rules(rt: HostRuntime) -> Result<(), Fail> {
     Ok(())
 }
 
-/// Texts of jobs in marks, each with its least line that is not built.
-const UNBUILT: &str =
-    "JOB 1~CHANNEL 1 A START~ZONE 1 1 1 ON - 0 0 - 0 0 - 0 0~ZONE 2 1 FREE ON - 0 0 - 0 0 - 0 0~%_N_A_MPF~M30~ => None
-JOB 1~CHANNEL 1 A START~AXIS X1 FREE 0~CHANNEL 2~%_N_A_MPF~M30~ => Some(3)
-JOB 1~CHANNEL 1 A START~ZONE 1 1 1 ON - 0 0 - 0 0 - 0 0~ZONE 2 1 1 ON - 0 0 - 0 0 - 0 0~%_N_A_MPF~M30~ => Some(4)
-JOB 1~CHANNEL 1 A START~%_N_B_MPF~M30~%_N_A_MPF~CPROT(1,0)~SETM(1)~M30~ => Some(6)
-";
-
-#[test]
-fn finds_what_is_not_built(rt: HostRuntime) -> Result<(), Fail> {
-    let alloc = rt.alloc();
-    for row in UNBUILT.lines() {
-        let (marks, want) = row.split_once(" => ").ok_or("no row")?;
-        let job = read_text(alloc, &text_of(alloc, marks)?)?;
-        let got = format!(in alloc; "{:?}", not_built(&job))?;
-        assert!(rt; got.as_str() == want, "of {row}");
-    }
-    Ok(())
-}
-
 /// A job with two programs, of which the last has no block.
 const TWO_PROGRAMS: &str = "JOB 1
 %_n_a_1_spf ; a subprogram

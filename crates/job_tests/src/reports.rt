@@ -1,5 +1,6 @@
 //! The line of a refusal.
-use job_verdict::refusal_line;
+use edge_io::MemSink;
+use job_report::refused;
 use nc_faults::Refusal;
 use std::test::Fail;
 
@@ -7,7 +8,10 @@ use std::test::Fail;
 #[test]
 fn refusals(rt: HostRuntime) -> Result<(), Fail> {
     let refusal = Refusal { code: 1, line: 1 };
-    let line = refusal_line(rt.alloc(), &refusal)?;
-    assert!(rt; line.as_str() == "REFUSED 1 1 no job line\n");
+    let mut sink = MemSink::new(rt.alloc(), 1000, Vec::new(rt.alloc()));
+    let Ok(()) = refused(&refusal, &mut sink) else {
+        return Err(Fail::from("not written"));
+    };
+    assert!(rt; str::from_utf8(sink.bytes())? == "REFUSED 1 1 no job line\n");
     Ok(())
 }

@@ -11,4 +11,3 @@ pub mod SoundLists
 pub mod SoundPrograms
 pub mod SoundReadings
 pub mod TellingLemmas
-pub mod UnbuiltLines

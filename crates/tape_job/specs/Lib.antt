@@ -6,4 +6,3 @@ pub mod Reading
 pub mod Rules
 pub mod Steps
 pub mod Told
-pub mod Unbuilt

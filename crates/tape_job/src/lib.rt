@@ -2,7 +2,6 @@
 #![tactic(auto)]
 
 mod adding;
-mod built;
 mod draft;
 mod fault;
 mod laws;
@@ -14,7 +13,6 @@ mod reader;
 mod reading;
 mod rules;
 
-pub use built::not_built;
 pub use fault::JobFault;
 pub use job_types::{AxisLine, ChannelLine, GeoLine, Job, OffsetLine, Program, Side, ZoneLine};
 pub use laws::{accepted_jobs_are_sound, refusals_are_first};

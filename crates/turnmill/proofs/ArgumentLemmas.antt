@@ -5,7 +5,7 @@ use Rattle.std.specs.declared.io.Error.{Error}
 use Rattle.std.specs.declared.string.String.{String}
 use Rattle.turnmill.specs.Arguments.{Arguments, GivesWords, asks_for_check}
 use Rattle.turnmill.specs.Input.{is_check}
-use Rattle.turnmill.specs.Output.{Answers}
+use Rattle.turnmill.specs.Output.{IsOutput, Writes}
 use Rattle.turnmill.specs.declared.check.Status.{Status}
 
 -- the words are `check` alone where the arguments ask for it
@@ -16,7 +16,7 @@ asked_words (Err error) words texts given same = absurd given
 
 -- what is known of an input where a test holds is known where another test does that is the same
 pub asked_answers : (asks is : Bool) (A B N : Type 0) (left old new : Option (List ℕ)) (status : Status) → is ≡ asks
-    → IfSome left (λ input. is ≡ true → A → B → N ⊎ Answers input status old new)
-    → IfSome left (λ input. asks ≡ true → A → B → N ⊎ Answers input status old new)
+    → IfSome left (λ input. is ≡ true → A → B → N ⊎ Writes (IsOutput input) status old new)
+    → IfSome left (λ input. asks ≡ true → A → B → N ⊎ Writes (IsOutput input) status old new)
 asked_answers asks is A B N None old new status same holds = tt
 asked_answers asks is A B N (Some input) old new status same holds = λ yes. holds (same ∙ yes)

@@ -1,26 +1,27 @@
 -- What an input calls for, by how it was read.
-use Rattle.std.proofs.Common.{◌≡◌, ℕ, ◌+◌, ◌≤◌, nat_le, Bool, true, false, if◌then◌else◌, List, [], length, drop, Option, None, Some, Result, Ok, Err, IfSome, IfOk, IsErr, IsErrAnd, IsOkAnd, refl, ap, sym, ◌∙◌, ◌⊎◌, inr, arith, length-append}
+use Rattle.std.proofs.Common.{◌≡◌, ℕ, ◌+◌, ◌<◌, ◌≤◌, List, [], length, drop, Option, None, Some, Result, Ok, Err, IfSome, IfOk, IsErr, IsErrAnd, IsOkAnd, refl, ap, sym, ◌∙◌, ◌⊎◌, inl, inr, arith, length-append}
 use Rattle.std.proofs.Math.Seq.{drop-append_seam}
 use Rattle.std.proofs.lemmas.List.{append-nil}
-use Rattle.std.proofs.lemmas.Bool.{le-leb, leb-true}
 use Rattle.edge_io.specs.Moves.{Loses, Grows}
-use Rattle.nc_faults.specs.declared.Refusal.{Refusal}
+use Rattle.job_report.specs.Report.{refusal_bytes}
 use Rattle.job_types.specs.Job.{JobView}
+use Rattle.job_types.specs.SoundJob.{IsSoundJob}
+use Rattle.nc_faults.specs.declared.Refusal.{Refusal}
+use Rattle.speed_laws.proofs.Soundness.{none_ever_meet}
+use Rattle.speed_laws.specs.Safety.{SafeAlways}
+use Rattle.speed_laws.specs.Uncoordinated.{IsUncoordinated}
+use Rattle.sync_types.specs.Views.{RunView}
+use Rattle.sync_types.specs.declared.verdicts.Verdict.{Verdict}
+use Rattle.sync_types.specs.declared.verdicts.Verdict.TheVariants as verdicts
 use Rattle.tape_job.proofs.SoundJobs.{read_sound}
 use Rattle.tape_job.specs.Read.{read_of}
-use Rattle.job_types.specs.Built.{not_built}
-use Rattle.job_types.specs.SoundJob.{IsSoundJob}
-use Rattle.job_verdict.specs.Clash.{verdict_of}
-use Rattle.job_verdict.specs.Report.{refusal_bytes}
-use Rattle.turnmill.specs.Input.{ReadsAll, TakesTooMany, unless_unbuilt, built_by, job_or_refusal}
-use Rattle.job_verdict.specs.Safety.{SafeAlways}
-use Rattle.turnmill.specs.Output.{Output, output_of, output_by, status_of, Answers}
+use Rattle.turnmill.proofs.ClearLemmas.{clear_by}
+use Rattle.turnmill.proofs.UncoordinatedRuns.{is_each_once}
+use Rattle.turnmill.specs.Input.{ReadsAll, TakesTooMany}
+use Rattle.turnmill.specs.Judged.{IsClear, IsJudged}
+use Rattle.turnmill.specs.Output.{IsAnswer, IsOutput, IsOutputOf, IsReadWhole, IsVerdict, Writes, WritesFront, status_of}
 use Rattle.turnmill.specs.declared.check.Status.{Status}
 use Rattle.turnmill.specs.declared.check.Status.TheVariants as ends
-use Rattle.job_verdict.proofs.Soundness.{sound_at_all_speeds}
-use Rattle.sync_types.specs.declared.verdicts.Verdict.{Verdict}
-use Rattle.sync_types.specs.declared.verdicts.Verdict.TheVariants.{Yes, No, Undecided}
-use Rattle.sync_types.specs.declared.verdicts.Verdict.TheVariants as verdicts
 
 -- a source that lost as many bytes as are too many had them
 pub TakesTooMany-lost : (old new : Option (List ℕ)) (bytes : List ℕ) → length bytes ≡ 8388609 → Loses old new bytes → TakesTooMany old new
@@ -31,130 +32,184 @@ TakesTooMany-lost (Some xs) (Some ys) bytes many lost =
     let rest : drop 8388609 xs ≡ ys = rw (lost, ← many) (drop-append_seam bytes ys) in
     (omega arith, ap Some (sym rest))
 
--- an input that is too long calls for no bytes
-output_of-long : (input : List ℕ) → 8388609 ≤ length input → output_of input ≡ record { status = ends.TooLong; bytes = [] }
-unfolding output_of
-output_of-long input long = rw (le-leb 8388609 (length input) long) refl
-
 Grows-none : (old : Option (List ℕ)) → Grows old old []
 Grows-none None = tt
 Grows-none (Some xs) = ap Some (sym (append-nil xs))
 
--- an input that is too long is answered by writing nothing
-pub Answers-long : (A B C N : Type 0) (left new written : Option (List ℕ)) → TakesTooMany left new
-    → IfSome left (λ input. A → B → C → N ⊎ Answers input ends.TooLong written written)
-Answers-long A B C N None new written many = tt
-Answers-long A B C N (Some input) new written many = λ _ _ _.
-    let long = output_of-long input many.0 in
-    inr (record { status_is = rw long refl; bytes = rw long (Grows-none written) })
+-- ---- an input that is too long
 
--- what an input calls for, where it is known whether it is too long
-abbrev chosen : Bool → List ℕ → Output
-chosen long input = if long then record { status = ends.TooLong; bytes = [] } else output_by (job_or_refusal input)
+-- it calls for no bytes
+long_output : (input : List ℕ) → 8388609 ≤ length input → IsOutput input ends.TooLong []
+long_output input long = record { long = λ _. (refl, refl); short = λ short. absurd (omega arith) }
 
--- an input that calls for YES is a job whose verdict is YES
-yes_by : (read : Result JobView Refusal) → (output_by read).status ≡ ends.Yes → IsOkAnd read (λ job. verdict_of job ≡ Yes)
-unfolding output_by
-yes_by (Ok job) is = by_verdict (verdict_of job) is
+-- it is answered by writing nothing
+pub writes-long : (A B C N : Type 0) (left new written : Option (List ℕ)) → TakesTooMany left new
+    → IfSome left (λ input. A → B → C → N ⊎ Writes (IsOutput input) ends.TooLong written written)
+writes-long A B C N None new written many = tt
+writes-long A B C N (Some input) new written many = λ _ _ _.
+    inr (record { bytes = []; called_for = long_output input many.0; grows = Grows-none written })
+
+-- ---- an input that is not too long
+
+-- it calls for what it is read as
+short_output : (input : List ℕ) (read : Result JobView Refusal) (status : Status) (bytes : List ℕ) → length input ≤ 8388608 → read_of input ≡ read
+    → IsOutputOf read status bytes → IsOutput input status bytes
+short_output input read status bytes short is of_read = record { long = λ long. absurd (omega arith); short = λ _. rw is of_read }
+
+pub writes-short : (input : List ℕ) (read : Result JobView Refusal) (status : Status) (old new : Option (List ℕ)) → length input ≤ 8388608 → read_of input ≡ read
+    → Writes (IsOutputOf read) status old new → Writes (IsOutput input) status old new
+writes-short input read status old new short is writes =
+    record { bytes = writes.bytes; called_for = short_output input read status writes.bytes short is writes.called_for; grows = writes.grows }
+
+pub front-short : (input : List ℕ) (read : Result JobView Refusal) (old new : Option (List ℕ)) → length input ≤ 8388608 → read_of input ≡ read
+    → WritesFront (IsOutputOf read) old new → WritesFront (IsOutput input) old new
+front-short input read old new short is writes = record {
+  status = writes.status;
+  bytes = writes.bytes;
+  called_for = short_output input read writes.status writes.bytes short is writes.called_for;
+  grows = writes.grows;
+}
+
+-- ---- what is so of the bytes that were read is so of the input
+
+pub of_input : (P : List ℕ → Type 0) (left after : Option (List ℕ)) (bytes : List ℕ) → ReadsAll left after bytes → P bytes → IfSome left P
+of_input P None after bytes reads so = tt
+of_input P (Some input) after bytes reads so = rw reads.0 so
+
+pub of_whole_input : (P : List ℕ → Type 0) (left after : Option (List ℕ)) (bytes : List ℕ) → ReadsAll left after bytes → P bytes
+    → IfSome left (λ input. P input × (after ≡ Some []))
+of_whole_input P None after bytes reads so = tt
+of_whole_input P (Some input) after bytes reads so = (rw reads.0 so, reads.1)
+
+-- ---- how the call ends
+
+whole_verdict : (status : Status) → IsVerdict status → IsReadWhole status
+whole_verdict ends.Yes is = tt
+whole_verdict ends.No is = tt
+whole_verdict ends.Race is = tt
+whole_verdict ends.Stuck is = tt
+whole_verdict ends.Alarm is = tt
+whole_verdict ends.Undecided is = tt
+whole_verdict ends.Refused is = absurd is
+whole_verdict ends.Usage is = absurd is
+whole_verdict ends.ReadFault is = absurd is
+whole_verdict ends.WriteFault is = absurd is
+whole_verdict ends.TooLong is = absurd is
+whole_verdict ends.NoMemory is = absurd is
+
+-- a call that has read its whole input and in which no write fails ends as it calls for
+answered : (W : Type 0) (status : Status) (before now : ℕ) → IsAnswer status → (IsReadWhole status → W) → (status ≡ ends.WriteFault → before < now)
+    → now ≡ before → (status ≡ ends.NoMemory) ⊎ W
+answered W status before now (inl whole) writes fault same = inr (writes whole)
+answered W status before now (inr (inl is)) writes fault same = let less = fault is in absurd (omega (arith, same, less))
+answered W status before now (inr (inr is)) writes fault same = inl is
+
+pub exact_answer : (A B : Type 0) (left after old new : Option (List ℕ)) (bytes : List ℕ) (status : Status) (before now : ℕ) → ReadsAll left after bytes
+    → IsAnswer status → (IsReadWhole status → Writes (IsOutput bytes) status old new) → (status ≡ ends.WriteFault → before < now)
+    → IfSome left (λ input. A → B → now ≡ before → (status ≡ ends.NoMemory) ⊎ Writes (IsOutput input) status old new)
+exact_answer A B left after old new bytes status before now reads is writes fault =
+    of_input (λ input. A → B → now ≡ before → (status ≡ ends.NoMemory) ⊎ Writes (IsOutput input) status old new) left after bytes reads
+    (λ _ _ same. answered (Writes (IsOutput bytes) status old new) status before now is writes fault same)
+
+pub whole_report : (left after old new : Option (List ℕ)) (bytes : List ℕ) (status : Status) → ReadsAll left after bytes
+    → (IsReadWhole status → Writes (IsOutput bytes) status old new) → IsVerdict status
+    → IfSome left (λ input. Writes (IsOutput input) status old new × (after ≡ Some []))
+whole_report left after old new bytes status reads writes is =
+    of_whole_input (λ input. Writes (IsOutput input) status old new) left after bytes reads (writes (whole_verdict status is))
+
+pub front_of_input : (left after old new : Option (List ℕ)) (bytes : List ℕ) → ReadsAll left after bytes → WritesFront (IsOutput bytes) old new
+    → IfSome left (λ input. WritesFront (IsOutput input) old new)
+front_of_input left after old new bytes reads front = of_input (λ input. WritesFront (IsOutput input) old new) left after bytes reads front
+
+-- ---- YES
+
+-- an input that calls for YES is a job of which the verdict is YES
+yes_by : (read : Result JobView Refusal) (bytes : List ℕ) → IsOutputOf read ends.Yes bytes → IsOkAnd read (λ job. (run : RunView) × IsJudged job run verdicts.Yes)
+yes_by (Ok job) bytes is = (is.run, rw by_verdict is.verdict (sym is.status_is) at is.judged)
   where
-    by_verdict : (verdict : Verdict) → status_of verdict ≡ ends.Yes → verdict ≡ Yes
-    by_verdict Yes is = refl
-    by_verdict (No first second) is = absurd cc
-    by_verdict (Undecided count budget) is = absurd cc
-    by_verdict (verdicts.Alarm channel alarm) is = absurd cc
-    by_verdict (verdicts.Race race) is = absurd cc
-    by_verdict (verdicts.Stuck channel line) is = absurd cc
-yes_by (Err refusal) is = absurd cc
+    by_verdict : (verdict : Verdict) → status_of verdict ≡ ends.Yes → verdict ≡ verdicts.Yes
+    by_verdict verdicts.Yes same = refl
+    by_verdict (verdicts.No first second) same = absurd cc
+    by_verdict (verdicts.Undecided count budget) same = absurd cc
+    by_verdict (verdicts.Alarm channel alarm) same = absurd cc
+    by_verdict (verdicts.Race race) same = absurd cc
+    by_verdict (verdicts.Stuck channel line) same = absurd cc
+yes_by (Err refusal) bytes is = let no : ends.Yes ≡ ends.Refused = is.status_is in absurd cc
 
-yes_chosen : (long : Bool) (input : List ℕ) → (chosen long input).status ≡ ends.Yes → IsOkAnd (job_or_refusal input) (λ job. verdict_of job ≡ Yes)
-yes_chosen true input is = absurd cc
-yes_chosen false input is = yes_by (job_or_refusal input) is
+-- the job is clear
+clear_where : (read : Result JobView Refusal) → IsOkAnd read (λ job. (run : RunView) × IsJudged job run verdicts.Yes) → IsOkAnd read IsClear
+clear_where (Ok job) is = clear_by job is.0 is.1
+clear_where (Err refusal) is = is
 
-yes_is : (input : List ℕ) → (output_of input).status ≡ ends.Yes → IsOkAnd (job_or_refusal input) (λ job. verdict_of job ≡ Yes)
-unfolding output_of
-yes_is input is = yes_chosen (nat_le 8388609 (length input)) input is
+-- without coordination it is safe at all speeds
+safe_if_clear : (job : JobView) → IsSoundJob job → IsClear job → IsUncoordinated job → SafeAlways job
+safe_if_clear job sound clear plain =
+    none_ever_meet job clear.run clear.before sound plain (is_each_once job clear.run sound plain clear.in_order) clear.ordered clear.apart
+
+safe_where : (read : Result JobView Refusal) → IfOk read IsSoundJob → IsOkAnd read IsClear → IsOkAnd read (λ job. IsUncoordinated job → SafeAlways job)
+safe_where (Ok job) sound clear = safe_if_clear job sound clear
+safe_where (Err refusal) sound clear = clear
+
+clear_read : (bytes : List ℕ) (status : Status) (old new : Option (List ℕ)) → length bytes ≤ 8388608
+    → (IsReadWhole status → Writes (IsOutput bytes) status old new) → status ≡ ends.Yes → IsOkAnd (read_of bytes) IsClear
+clear_read bytes status old new short writes is =
+    let whole : IsReadWhole status = rw is tt in
+    let output : IsOutputOf (read_of bytes) ends.Yes (writes whole).bytes = rw is at ((writes whole).called_for.short short) in
+    clear_where (read_of bytes) (yes_by (read_of bytes) (writes whole).bytes output)
+
+pub clear_at_yes : (left after old new : Option (List ℕ)) (bytes : List ℕ) (status : Status) → ReadsAll left after bytes → length bytes ≤ 8388608
+    → (IsReadWhole status → Writes (IsOutput bytes) status old new) → status ≡ ends.Yes → IfSome left (λ input. IsOkAnd (read_of input) IsClear)
+clear_at_yes left after old new bytes status reads short writes is =
+    of_input (λ input. IsOkAnd (read_of input) IsClear) left after bytes reads (clear_read bytes status old new short writes is)
+
+pub safe_at_yes : (left after old new : Option (List ℕ)) (bytes : List ℕ) (status : Status) → ReadsAll left after bytes → length bytes ≤ 8388608
+    → (IsReadWhole status → Writes (IsOutput bytes) status old new) → status ≡ ends.Yes
+    → IfSome left (λ input. IsOkAnd (read_of input) (λ job. IsUncoordinated job → SafeAlways job))
+safe_at_yes left after old new bytes status reads short writes is =
+    of_input (λ input. IsOkAnd (read_of input) (λ job. IsUncoordinated job → SafeAlways job)) left after bytes reads
+    (safe_where (read_of bytes) (read_sound bytes) (clear_read bytes status old new short writes is))
+
+-- ---- REFUSED
 
 -- an input that calls for REFUSED is refused, and calls for the line of its refusal
-refused_by : (read : Result JobView Refusal) → (output_by read).status ≡ ends.Refused → IsErrAnd read (λ refusal. (output_by read).bytes ≡ refusal_bytes refusal)
-unfolding output_by
-refused_by (Ok job) is = absurd (by_verdict (verdict_of job) is)
+refused_by : (read : Result JobView Refusal) (bytes : List ℕ) → IsOutputOf read ends.Refused bytes → IsErrAnd read (λ refusal. bytes ≡ refusal_bytes refusal)
+refused_by (Ok job) bytes is = absurd (by_verdict is.verdict (sym is.status_is))
   where
     by_verdict : (verdict : Verdict) → status_of verdict ≡ ends.Refused → ⊥
-    by_verdict Yes is = cc
-    by_verdict (No first second) is = cc
-    by_verdict (Undecided count budget) is = cc
-    by_verdict (verdicts.Alarm channel alarm) is = cc
-    by_verdict (verdicts.Race race) is = cc
-    by_verdict (verdicts.Stuck channel line) is = cc
-refused_by (Err refusal) is = refl
+    by_verdict verdicts.Yes same = cc
+    by_verdict (verdicts.No first second) same = cc
+    by_verdict (verdicts.Undecided count budget) same = cc
+    by_verdict (verdicts.Alarm channel alarm) same = cc
+    by_verdict (verdicts.Race race) same = cc
+    by_verdict (verdicts.Stuck channel line) same = cc
+refused_by (Err refusal) bytes is = is.bytes_are
 
-refused_chosen : (long : Bool) (input : List ℕ) → (chosen long input).status ≡ ends.Refused
-    → IsErrAnd (job_or_refusal input) (λ refusal. (chosen long input).bytes ≡ refusal_bytes refusal)
-refused_chosen true input is = absurd cc
-refused_chosen false input is = refused_by (job_or_refusal input) is
-
-refused_is : (input : List ℕ) → (output_of input).status ≡ ends.Refused → IsErrAnd (job_or_refusal input) (λ refusal. (output_of input).bytes ≡ refusal_bytes refusal)
-unfolding output_of
-refused_is input is = refused_chosen (nat_le 8388609 (length input)) input is
-
--- an input that is not too long and is refused calls for REFUSED
-refused_calls : (read : Result JobView Refusal) → IsErr read → (output_by read).status ≡ ends.Refused
-unfolding output_by
-refused_calls (Ok job) refused = absurd cc
-refused_calls (Err refusal) refused = refl
-
-short_chosen : (long : Bool) (input : List ℕ) → nat_le 8388609 (length input) ≡ long → length input ≤ 8388608 → chosen long input ≡ output_by (job_or_refusal input)
-short_chosen true input is short = let long : 8388609 ≤ length input = leb-true 8388609 (length input) is in absurd (omega arith)
-short_chosen false input is short = refl
-
--- an input that is not too long calls for what it is read as
-pub output_of-short : (input : List ℕ) → length input ≤ 8388608 → output_of input ≡ output_by (job_or_refusal input)
-unfolding output_of
-output_of-short input short = short_chosen (nat_le 8388609 (length input)) input refl short
-
-refused_comes : (input : List ℕ) → length input ≤ 8388608 → IsErr (job_or_refusal input) → (output_of input).status ≡ ends.Refused
-refused_comes input short refused = rw (output_of-short input short) (refused_calls (job_or_refusal input) refused)
-
--- at REFUSED the line of the refusal is written, and no byte of the input is left
 wrote_line : (read : Result JobView Refusal) (old new : Option (List ℕ)) (bytes : List ℕ) → Grows old new bytes
     → IsErrAnd read (λ refusal. bytes ≡ refusal_bytes refusal) → IsErrAnd read (λ refusal. Grows old new (refusal_bytes refusal))
 wrote_line (Ok job) old new bytes grows is = is
 wrote_line (Err refusal) old new bytes grows is = rw is at grows
 
-pub refused_wrote : (left after old new : Option (List ℕ)) (bytes : List ℕ) → ReadsAll left after bytes → Grows old new (output_of bytes).bytes
-    → (output_of bytes).status ≡ ends.Refused
-    → IfSome left (λ input. IsErrAnd (job_or_refusal input) (λ refusal. Grows old new (refusal_bytes refusal)) × (after ≡ Some []))
-refused_wrote None after old new bytes reads grows is = tt
-refused_wrote (Some input) after old new bytes reads grows is =
-    (rw reads.0 (wrote_line (job_or_refusal bytes) old new (output_of bytes).bytes grows (refused_is bytes is)), reads.1)
+-- at REFUSED the line of the refusal is written, and no byte of the input is left
+pub refused_wrote : (left after old new : Option (List ℕ)) (bytes : List ℕ) (status : Status) → ReadsAll left after bytes → length bytes ≤ 8388608
+    → (IsReadWhole status → Writes (IsOutput bytes) status old new) → status ≡ ends.Refused
+    → IfSome left (λ input. IsErrAnd (read_of input) (λ refusal. Grows old new (refusal_bytes refusal)) × (after ≡ Some []))
+refused_wrote left after old new bytes status reads short writes is =
+    let whole : IsReadWhole status = rw is tt in
+    let output : IsOutputOf (read_of bytes) ends.Refused (writes whole).bytes = rw is at ((writes whole).called_for.short short) in
+    of_whole_input (λ input. IsErrAnd (read_of input) (λ refusal. Grows old new (refusal_bytes refusal))) left after bytes reads
+    (wrote_line (read_of bytes) old new (writes whole).bytes (writes whole).grows (refused_by (read_of bytes) (writes whole).bytes output))
 
--- where the input that was read is refused, the call ends with REFUSED
-pub refused_ends : (A B C N : Type 0) (left after : Option (List ℕ)) (bytes : List ℕ) (status : Status) → ReadsAll left after bytes → status ≡ (output_of bytes).status
-    → IfSome left (λ input. A → B → C → length input ≤ 8388608 → IsErr (job_or_refusal input) → N ⊎ (status ≡ ends.Refused))
-refused_ends A B C N None after bytes status reads is = tt
-refused_ends A B C N (Some input) after bytes status reads is = λ _ _ _ short refused.
-    inr (is ∙ refused_comes bytes (rw reads.0 at short) (rw reads.0 at refused))
+-- an input that is refused calls for REFUSED
+refused_calls : (read : Result JobView Refusal) (status : Status) (bytes : List ℕ) → IsErr read → IsOutputOf read status bytes → status ≡ ends.Refused
+refused_calls (Ok job) status bytes refused is = absurd cc
+refused_calls (Err refusal) status bytes refused is = is.status_is
 
--- a job with all its lines built is a job that was read
-unless_sound : (job : JobView) (line : Option ℕ) → IsSoundJob job → IfOk (unless_unbuilt job line) IsSoundJob
-unless_sound job None sound = sound
-unless_sound job (Some line) sound = tt
-
-built_sound : (read : Result JobView Refusal) → IfOk read IsSoundJob → IfOk (built_by read) IsSoundJob
-unfolding built_by
-built_sound (Ok job) sound = unless_sound job (not_built job) sound
-built_sound (Err refusal) sound = tt
-
-accepted_sound : (input : List ℕ) → IfOk (job_or_refusal input) IsSoundJob
-unfolding job_or_refusal
-accepted_sound input = built_sound (read_of input) (read_sound input)
-
--- at YES the job that was read is safe at all speeds
-safe_by : (read : Result JobView Refusal) → IfOk read IsSoundJob → IsOkAnd read (λ job. verdict_of job ≡ Yes) → IsOkAnd read SafeAlways
-safe_by (Ok job) sound says = sound_at_all_speeds job sound says
-safe_by (Err refusal) sound says = says
-
-pub safe_at_yes : (left after : Option (List ℕ)) (bytes : List ℕ) → ReadsAll left after bytes → (output_of bytes).status ≡ ends.Yes
-    → IfSome left (λ input. IsOkAnd (job_or_refusal input) SafeAlways)
-safe_at_yes None after bytes reads is = tt
-safe_at_yes (Some input) after bytes reads is = rw reads.0 (safe_by (job_or_refusal bytes) (accepted_sound bytes) (yes_is bytes is))
+-- where the input that was read is refused and no write fails, the call ends with REFUSED
+pub refused_ends : (A B : Type 0) (left after old new : Option (List ℕ)) (bytes : List ℕ) (status : Status) (before now : ℕ) → ReadsAll left after bytes
+    → length bytes ≤ 8388608 → IsAnswer status → (IsReadWhole status → Writes (IsOutput bytes) status old new) → (status ≡ ends.WriteFault → before < now)
+    → IfSome left (λ input. A → B → now ≡ before → length input ≤ 8388608 → IsErr (read_of input) → (status ≡ ends.NoMemory) ⊎ (status ≡ ends.Refused))
+refused_ends A B left after old new bytes status before now reads short is writes fault =
+    of_input (λ input. A → B → now ≡ before → length input ≤ 8388608 → IsErr (read_of input) → (status ≡ ends.NoMemory) ⊎ (status ≡ ends.Refused))
+    left after bytes reads
+    (λ _ _ same few refused. answered (status ≡ ends.Refused) status before now is
+    (λ whole. refused_calls (read_of bytes) status (writes whole).bytes refused ((writes whole).called_for.short short)) fault same)

@@ -1,2 +1,4 @@
+pub mod ClearLemmas
+pub mod UncoordinatedRuns
 pub mod CheckLemmas
 pub mod ArgumentLemmas

@@ -1,3 +1,4 @@
+pub mod Judged
 pub mod Output
 pub mod Input
 pub mod Arguments

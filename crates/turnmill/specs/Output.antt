@@ -1,22 +1,18 @@
 -- Meaning. What an input calls for: how the call ends, and the bytes that it writes.
-use Rattle.std.specs.Prelude.{◌≡◌, ℕ, nat_lt, if◌then◌else◌, List, [], length, Option, Result, Ok, Err, ⊤}
-use Rattle.edge_io.specs.Moves.{Grows}
+use Rattle.std.specs.Prelude.{◌≡◌, ◌⊎◌, ℕ, ◌<◌, ◌≤◌, List, [], length, Option, Result, Ok, Err, ⊤}
+use Rattle.edge_io.specs.Moves.{Grows, GrowsByFront}
 use Rattle.nc_faults.specs.declared.Refusal.{Refusal}
+use Rattle.job_lines.specs.declared.limits.TheConstants.{INPUT_LIMIT}
+use Rattle.job_report.specs.Report.{report_bytes, refusal_bytes}
 use Rattle.job_types.specs.Job.{JobView}
-use Rattle.job_verdict.specs.ChannelRun.{runs_of}
-use Rattle.job_verdict.specs.Clash.{verdict_of}
-use Rattle.job_verdict.specs.Report.{report_bytes, refusal_bytes}
-use Rattle.turnmill.specs.declared.check.Status.{Status}
-use Rattle.turnmill.specs.declared.check.Status.TheVariants as ends
+use Rattle.sync_types.specs.Views.{RunView}
 use Rattle.sync_types.specs.declared.verdicts.Verdict.{Verdict}
 use Rattle.sync_types.specs.declared.verdicts.Verdict.TheVariants.{Yes, No, Undecided}
 use Rattle.sync_types.specs.declared.verdicts.Verdict.TheVariants as verdicts
-use Rattle.job_lines.specs.declared.limits.TheConstants.{INPUT_LIMIT}
-use Rattle.turnmill.specs.Input.{job_or_refusal}
-
-pub record Output : Type 0 where
-  pub status : Status
-  pub bytes : List ℕ
+use Rattle.tape_job.specs.Read.{read_of}
+use Rattle.turnmill.specs.Judged.{IsJudged}
+use Rattle.turnmill.specs.declared.check.Status.{Status}
+use Rattle.turnmill.specs.declared.check.Status.TheVariants as ends
 
 -- the number that the program ends with
 abbrev pub exit_number : Status → ℕ
@@ -42,19 +38,41 @@ status_of (No first second) = ends.No
 status_of (Undecided count budget) = ends.Undecided
 status_of (verdicts.Alarm channel alarm) = ends.Alarm
 
--- a job calls for its report, a refusal for its line
-unfoldable pub output_by : Result JobView Refusal → Output
-output_by (Ok job) = record { status = status_of (verdict_of job); bytes = report_bytes job (runs_of job) (verdict_of job) }
-output_by (Err refusal) = record { status = ends.Refused; bytes = refusal_bytes refusal }
+-- a job calls for the report of its run in order, and for the status of the verdict on it
+pub record IsReportOf (job : JobView) (status : Status) (bytes : List ℕ) : Type 0 where
+  pub run : RunView
+  pub verdict : Verdict
+  pub judged : IsJudged job run verdict
+  pub status_is : status ≡ status_of verdict
+  pub bytes_are : bytes ≡ report_bytes job run verdict
 
--- an input of more bytes than it may have calls for no bytes, whatever it says
-unfoldable pub output_of : List ℕ → Output
-output_of input = if nat_lt INPUT_LIMIT (length input) then record { status = ends.TooLong; bytes = [] } else output_by (job_or_refusal input)
+-- a refusal calls for its line
+pub record IsLineOf (refusal : Refusal) (status : Status) (bytes : List ℕ) : Type 0 where
+  pub status_is : status ≡ ends.Refused
+  pub bytes_are : bytes ≡ refusal_bytes refusal
 
--- the call ends as the input calls for, and what is written has grown by the bytes that it calls for
-pub record Answers (input : List ℕ) (status : Status) (old new : Option (List ℕ)) : Type 0 where
-  pub status_is : status ≡ (output_of input).status
-  pub bytes : Grows old new (output_of input).bytes
+abbrev pub IsOutputOf : Result JobView Refusal → Status → List ℕ → Type 0
+IsOutputOf (Ok job) status bytes = IsReportOf job status bytes
+IsOutputOf (Err refusal) status bytes = IsLineOf refusal status bytes
+
+-- What an input calls for: how the call ends, and the bytes that it writes. An input of more bytes than it may have calls for
+-- no bytes, whatever it says.
+pub record IsOutput (input : List ℕ) (status : Status) (bytes : List ℕ) : Type 0 where
+  pub long : INPUT_LIMIT < length input → (status ≡ ends.TooLong) × (bytes ≡ [])
+  pub short : length input ≤ INPUT_LIMIT → IsOutputOf (read_of input) status bytes
+
+-- the call ends as is called for, and what is written has grown by the bytes that are called for
+pub record Writes (calls_for : Status → List ℕ → Type 0) (status : Status) (old new : Option (List ℕ)) : Type 0 where
+  pub bytes : List ℕ
+  pub called_for : calls_for status bytes
+  pub grows : Grows old new bytes
+
+-- a front of the bytes that are called for is written
+pub record WritesFront (calls_for : Status → List ℕ → Type 0) (old new : Option (List ℕ)) : Type 0 where
+  pub status : Status
+  pub bytes : List ℕ
+  pub called_for : calls_for status bytes
+  pub grows : GrowsByFront old new bytes
 
 -- the status is that of a verdict
 abbrev pub IsVerdict : Status → Type 0
@@ -77,8 +95,6 @@ IsReadWhole ends.Undecided = ⊤
 IsReadWhole ends.Refused = ⊤
 IsReadWhole status = ⊥
 
--- the status and the bytes are those of the output, which is that of an input which was read whole
-pub record Makes (status : Status) (bytes : List ℕ) (output : Output) : Type 0 where
-  pub status_is : status ≡ output.status
-  pub bytes_are : bytes ≡ output.bytes
-  pub whole : IsReadWhole status
+-- a call that has read its whole input ends so, or a write fails, or memory is wanted and not found
+abbrev pub IsAnswer : Status → Type 0
+IsAnswer status = IsReadWhole status ⊎ ((status ≡ ends.WriteFault) ⊎ (status ≡ ends.NoMemory))

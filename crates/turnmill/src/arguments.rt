@@ -1,9 +1,11 @@
 //! The check by the arguments of the command line.
 ghost use Rattle.std.specs.Prelude.{◌≡◌, ◌↔◌, ◌⊎◌, ◌-◌, ◌^◌, ◌<◌, ◌≤◌, true, false, map, IfSome, IfOk, IsOkAnd, string_bytes, [], Some};
-ghost use Rattle.job_verdict.specs.Safety.{SafeAlways};
+ghost use Rattle.speed_laws.specs.Safety.{SafeAlways};
+ghost use Rattle.speed_laws.specs.Uncoordinated.{IsUncoordinated};
+ghost use Rattle.tape_job.specs.Read.{read_of};
 ghost use Rattle.turnmill.specs.Arguments.{GivesWords, HasNoText, asks_for_check};
-ghost use Rattle.turnmill.specs.Input.{job_or_refusal};
-ghost use Rattle.turnmill.specs.Output.{Answers, IsVerdict};
+ghost use Rattle.turnmill.specs.Judged.{IsClear};
+ghost use Rattle.turnmill.specs.Output.{IsOutput, IsVerdict, Writes};
 
 use crate::check::{Status, check_words};
 use edge_io::{Sink, Source};
@@ -49,10 +51,12 @@ pub fn check_arguments<S: Source, K: Sink>(
     ensures exact { IfSome (S.left source.old) (λ input.
         asks_for_check arguments ≡ true
         → S.faults source.new ≡ S.faults source.old → K.faults sink.new ≡ K.faults sink.old
-        → (result ≡ Status.NoMemory) ⊎ Answers input result (K.written sink.old) (K.written sink.new)) }
+        → (result ≡ Status.NoMemory) ⊎ Writes (IsOutput input) result (K.written sink.old) (K.written sink.new)) }
     ensures verdict { IsVerdict result → IfSome (S.left source.old) (λ input.
-        Answers input result (K.written sink.old) (K.written sink.new) × (S.left source.new ≡ Some [])) }
-    ensures speeds { result ≡ Status.Yes → IfSome (S.left source.old) (λ input. IsOkAnd (job_or_refusal input) SafeAlways) }
+        Writes (IsOutput input) result (K.written sink.old) (K.written sink.new) × (S.left source.new ≡ Some [])) }
+    ensures yes { result ≡ Status.Yes → IfSome (S.left source.old) (λ input. IsOkAnd (read_of input) IsClear) }
+    ensures speeds { result ≡ Status.Yes → IfSome (S.left source.old) (λ input.
+        IsOkAnd (read_of input) (λ job. IsUncoordinated job → SafeAlways job)) }
     ensures read_fault { (result ≡ Status.ReadFault) ↔ (S.faults source.old < S.faults source.new) }
     ensures write_fault { (result ≡ Status.WriteFault) ↔ (K.faults sink.old < K.faults sink.new) }
     ensures read_faults_never_fall { S.faults source.old ≤ S.faults source.new }

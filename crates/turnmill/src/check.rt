@@ -1,24 +1,28 @@
 //! The check of an input, from the words of the call to the bytes of the answer.
-ghost use Rattle.std.specs.Prelude.{◌≡◌, ◌↔◌, ◌⊎◌, ℕ, ◌-◌, ◌^◌, ◌<◌, ◌≤◌, Bool, true, false, [], length, map, None, IfSome, IfOk, IsOkAnd, IsErr, IsErrAnd, Some, Ok, Err, string_bytes};
-ghost use Rattle.edge_io.specs.Moves.{Grows, GrowsByFront};
-ghost use Rattle.job_types.specs.Built.{not_built};
+ghost use Rattle.std.specs.Prelude.{◌≡◌, ◌↔◌, ◌⊎◌, ℕ, ◌-◌, ◌^◌, ◌<◌, ◌≤◌, Bool, true, false, [], length, map, None, IfSome, IfOk, IsOkAnd, IsErr, IsErrAnd, Some, Ok, Err};
+ghost use Rattle.edge_io.specs.Moves.{Grows};
+ghost use Rattle.job_report.specs.Report.{refusal_bytes};
 ghost use Rattle.job_types.specs.SoundJob.{BlocksFit, IsSoundJob};
-ghost use Rattle.turnmill.specs.Input.{is_check, ReadsInput, TakesTooMany, built_by, job_or_refusal};
-ghost use Rattle.turnmill.specs.Output.{output_of, output_by, status_of, Answers, IsVerdict, Makes};
-ghost use Rattle.job_lines.specs.Code.{refusal_code};
-ghost use Rattle.job_lines.specs.declared.code.Code.TheVariants.{NotBuilt};
 ghost use Rattle.nc_faults.specs.Texts.{IsRefusalCode};
-ghost use Rattle.job_verdict.specs.Report.{refusal_bytes};
-ghost use Rattle.job_verdict.specs.Safety.{SafeAlways};
+ghost use Rattle.speed_laws.specs.Safety.{SafeAlways};
+ghost use Rattle.speed_laws.specs.Uncoordinated.{IsUncoordinated};
+ghost use Rattle.tape_job.specs.Read.{read_of};
+ghost use Rattle.turnmill.specs.Input.{is_check, ReadsInput, TakesTooMany};
+ghost use Rattle.turnmill.specs.Judged.{IsClear, IsJudged};
+ghost use Rattle.turnmill.specs.Output.{status_of, IsAnswer, IsOutput, IsOutputOf, IsReadWhole, IsVerdict, Writes, WritesFront};
 
-use edge_io::{Failed, Sink, Source, put_all};
-use job_lines::{Code, INPUT_LIMIT};
-use job_verdict::{check_job, refusal_line, report_text};
-use nc_faults::Refusal;
+use clash_check::judge;
+use edge_io::{Failed, Sink, Source};
+use job_lines::INPUT_LIMIT;
+use job_report::{refused, report};
+use nc_faults::{NoMemory, Refusal};
+use order_clocks::clocks_of;
+use product_run::run_in_order;
+use protection_zones::stretches_of;
 use std::alloc::{AllocError, Global};
 use std::process::ExitCode;
-use sync_types::Verdict;
-use tape_job::{Job, JobFault, not_built, read_job};
+use sync_types::{Run, Verdict};
+use tape_job::{Job, JobFault, read_job};
 
 /// How a call ends.
 #[derive(Clone, Copy, Debug, PartialEq, Eq)]
@@ -130,13 +134,6 @@ fn read_input<S: Source>(alloc: Global, source: &mut S) -> Result<Vec<u8>, Input
     Err(InputFault::TooLong)
 }
 
-/// How a call ends, and all that it writes.
-#[derive(Debug, Drop)]
-struct MadeOutput {
-    status: Status,
-    text: String,
-}
-
 /// The status of a verdict.
 fn status_of(verdict: &Verdict) -> Status
     ensures { result ≡ status_of verdict.now }
@@ -151,68 +148,72 @@ fn status_of(verdict: &Verdict) -> Status
     }
 }
 
-/// Makes the output of a job with all its lines built.
-#[tactic(auto, unfolding(crate::specs::Output::output_by))]
-fn job_output(alloc: Global, job: &Job) -> Result<MadeOutput, AllocError>
+/// Runs a job and judges the run.
+fn judge_job(alloc: Global, job: &Job) -> Result<(Run, Verdict), NoMemory>
     requires accepted { IsSoundJob job.now }
     requires indices { BlocksFit job.now }
-    requires built { not_built job.now ≡ None }
-    ensures { IfOk result (λ made. Makes made.status (string_bytes made.text) (output_by (Ok job.now))) }
+    ensures { IfOk result (λ judged. IsJudged job.now judged.0 judged.1) }
 {
-    let (runs, verdict) = check_job(alloc, job)?;
-    let text = report_text(alloc, job, &runs, &verdict)?;
-    Ok(MadeOutput {
-        status: status_of(&verdict),
-        text,
-    })
+    let run = run_in_order(alloc, job)?;
+    let clocks = clocks_of(alloc, &run)?;
+    let stretches = stretches_of(alloc, job, &run, &clocks)?;
+    let verdict = judge(alloc, job, &run, &stretches, &clocks)?;
+    Ok((run, verdict))
 }
 
-/// Makes the output of a refused input.
-#[tactic(auto, unfolding(crate::specs::Output::output_by))]
-fn refusal_output(alloc: Global, refusal: &Refusal) -> Result<MadeOutput, AllocError>
-    requires { IsRefusalCode refusal.now.code }
-    ensures { IfOk result (λ made. Makes made.status (string_bytes made.text) (output_by (Err refusal.now))) }
+/// Answers an accepted job: judges it, and then writes its report. No byte is written before all memory is taken.
+fn answer_job<K: Sink>(alloc: Global, job: &Job, sink: &mut K) -> Status
+    requires accepted { IsSoundJob job.now }
+    requires indices { BlocksFit job.now }
+    requires few { K.faults sink.old < 2 ^ 64 - 1 }
+    ensures whole { IsReadWhole result → Writes (IsOutputOf (Ok job.now)) result (K.written sink.old) (K.written sink.new) }
+    ensures front { result ≡ Status.WriteFault → WritesFront (IsOutputOf (Ok job.now)) (K.written sink.old) (K.written sink.new) }
+    ensures silent { result ≡ Status.NoMemory → sink.new ≡ sink.old }
+    ensures cause { (result ≡ Status.WriteFault) ↔ (K.faults sink.old < K.faults sink.new) }
+    ensures never_fall { K.faults sink.old ≤ K.faults sink.new }
+    ensures ends { IsAnswer result }
 {
-    let text = refusal_line(alloc, refusal)?;
-    Ok(MadeOutput {
-        status: Status::Refused,
-        text,
-    })
-}
-
-/// The refusal of a line that is not built yet.
-fn unbuilt_refusal(line: u32) -> Refusal
-    ensures value { result ≡ record { code = refusal_code NotBuilt; line = line } }
-    ensures listed { IsRefusalCode result.code }
-{
-    Refusal {
-        code: Code::NotBuilt.shown(),
-        line,
+    let Ok((run, verdict)) = judge_job(alloc, job) else {
+        return Status::NoMemory;
+    };
+    match report(job, &run, &verdict, sink) {
+        Ok(()) => status_of(&verdict),
+        Err(_) => Status::WriteFault,
     }
 }
 
-/// Makes the output of an accepted job, which is a refusal where some line of the job is not built yet.
-#[tactic(auto, unfolding(crate::specs::Input::built_by))]
-fn accepted_output(alloc: Global, job: &Job) -> Result<MadeOutput, AllocError>
-    requires accepted { IsSoundJob job.now }
-    requires indices { BlocksFit job.now }
-    ensures { IfOk result (λ made. Makes made.status (string_bytes made.text) (output_by (built_by (Ok job.now)))) }
+/// Answers a refused input: writes the line of its refusal.
+fn answer_refusal<K: Sink>(refusal: &Refusal, sink: &mut K) -> Status
+    requires listed { IsRefusalCode refusal.now.code }
+    requires few { K.faults sink.old < 2 ^ 64 - 1 }
+    ensures whole { IsReadWhole result → Writes (IsOutputOf (Err refusal.now)) result (K.written sink.old) (K.written sink.new) }
+    ensures front { result ≡ Status.WriteFault → WritesFront (IsOutputOf (Err refusal.now)) (K.written sink.old) (K.written sink.new) }
+    ensures silent { result ≡ Status.NoMemory → sink.new ≡ sink.old }
+    ensures cause { (result ≡ Status.WriteFault) ↔ (K.faults sink.old < K.faults sink.new) }
+    ensures never_fall { K.faults sink.old ≤ K.faults sink.new }
+    ensures ends { IsAnswer result }
 {
-    match not_built(job) {
-        Some(line) => refusal_output(alloc, &unbuilt_refusal(line)),
-        None => job_output(alloc, job),
+    match refused(refusal, sink) {
+        Ok(()) => Status::Refused,
+        Err(_) => Status::WriteFault,
     }
 }
 
-/// Makes the output that an input calls for.
-fn make_output(alloc: Global, bytes: &[u8]) -> Result<MadeOutput, AllocError>
-    requires { length bytes.now ≤ INPUT_LIMIT }
-    ensures { IfOk result (λ made. Makes made.status (string_bytes made.text) (output_of bytes.now)) }
+/// Answers an input that is not too long.
+fn answer_input<K: Sink>(alloc: Global, bytes: &[u8], sink: &mut K) -> Status
+    requires short { length bytes.now ≤ INPUT_LIMIT }
+    requires few { K.faults sink.old < 2 ^ 64 - 1 }
+    ensures whole { IsReadWhole result → Writes (IsOutput bytes.now) result (K.written sink.old) (K.written sink.new) }
+    ensures front { result ≡ Status.WriteFault → WritesFront (IsOutput bytes.now) (K.written sink.old) (K.written sink.new) }
+    ensures silent { result ≡ Status.NoMemory → sink.new ≡ sink.old }
+    ensures cause { (result ≡ Status.WriteFault) ↔ (K.faults sink.old < K.faults sink.new) }
+    ensures never_fall { K.faults sink.old ≤ K.faults sink.new }
+    ensures ends { IsAnswer result }
 {
     match read_job(alloc, bytes) {
-        Ok(job) => accepted_output(alloc, &job),
-        Err(JobFault::Refused(refusal)) => refusal_output(alloc, &refusal),
-        Err(JobFault::NoMemory) => Err(AllocError),
+        Ok(job) => answer_job(alloc, &job, sink),
+        Err(JobFault::Refused(refusal)) => answer_refusal(&refusal, sink),
+        Err(JobFault::NoMemory) => Status::NoMemory,
     }
 }
 
@@ -233,25 +234,29 @@ pub fn check_words<S: Source, K: Sink>(
     ensures exact { IfSome (S.left source.old) (λ input.
         is_check (map (λ word. word.now) words.now) ≡ true
         → S.faults source.new ≡ S.faults source.old → K.faults sink.new ≡ K.faults sink.old
-        → (result ≡ Status.NoMemory) ⊎ Answers input result (K.written sink.old) (K.written sink.new)) }
+        → (result ≡ Status.NoMemory) ⊎ Writes (IsOutput input) result (K.written sink.old) (K.written sink.new)) }
 
     // A verdict comes with its whole report, and no byte of the input is left.
     ensures verdict { IsVerdict result → IfSome (S.left source.old) (λ input.
-        Answers input result (K.written sink.old) (K.written sink.new) × (S.left source.new ≡ Some [])) }
+        Writes (IsOutput input) result (K.written sink.old) (K.written sink.new) × (S.left source.new ≡ Some [])) }
 
-    // At YES the input is a job with all its lines built in which, whatever the feed overrides, no axis has two owners and no
-    // two zones of different groups meet.
-    ensures speeds { result ≡ Status.Yes → IfSome (S.left source.old) (λ input. IsOkAnd (job_or_refusal input) SafeAlways) }
+    // At YES the input is a job whose run in order has no race and leaves no channel alarmed or waiting, and of which no two
+    // boxes that are compared meet.
+    ensures yes { result ≡ Status.Yes → IfSome (S.left source.old) (λ input. IsOkAnd (read_of input) IsClear) }
 
-    // A refusal comes with its whole line, and no byte of the input is left. An accepted job of which a line is not built yet
-    // is refused too, at its least such line.
+    // At YES a job without coordination is safe whatever the feed overrides: no axis has two owners, and no two zones of
+    // different groups meet.
+    ensures speeds { result ≡ Status.Yes → IfSome (S.left source.old) (λ input.
+        IsOkAnd (read_of input) (λ job. IsUncoordinated job → SafeAlways job)) }
+
+    // A refusal comes with its whole line, and no byte of the input is left.
     ensures refused { result ≡ Status.Refused → IfSome (S.left source.old) (λ input.
-        IsErrAnd (job_or_refusal input) (λ refusal. Grows (K.written sink.old) (K.written sink.new) (refusal_bytes refusal))
+        IsErrAnd (read_of input) (λ refusal. Grows (K.written sink.old) (K.written sink.new) (refusal_bytes refusal))
         × (S.left source.new ≡ Some [])) }
     ensures refused_comes { IfSome (S.left source.old) (λ input.
         is_check (map (λ word. word.now) words.now) ≡ true
         → S.faults source.new ≡ S.faults source.old → K.faults sink.new ≡ K.faults sink.old
-        → length input ≤ INPUT_LIMIT → IsErr (job_or_refusal input)
+        → length input ≤ INPUT_LIMIT → IsErr (read_of input)
         → (result ≡ Status.NoMemory) ⊎ (result ≡ Status.Refused)) }
     ensures usage { (result ≡ Status.Usage) ↔ (is_check (map (λ word. word.now) words.now) ≡ false) }
     ensures usage_reads_nothing { result ≡ Status.Usage → source.new ≡ source.old }
@@ -262,7 +267,7 @@ pub fn check_words<S: Source, K: Sink>(
 
     // Where a write fails, a front of the output is written.
     ensures written_front { result ≡ Status.WriteFault → IfSome (S.left source.old) (λ input.
-        GrowsByFront (K.written sink.old) (K.written sink.new) (output_of input).bytes) }
+        WritesFront (IsOutput input) (K.written sink.old) (K.written sink.new)) }
     ensures too_long { result ≡ Status.TooLong → TakesTooMany (S.left source.old) (S.left source.new) }
     ensures too_long_comes { IfSome (S.left source.old) (λ input.
         is_check (map (λ word. word.now) words.now) ≡ true
@@ -282,12 +287,5 @@ pub fn check_words<S: Source, K: Sink>(
         Err(InputFault::TooLong) => return Status::TooLong,
         Err(InputFault::NoMemory) => return Status::NoMemory,
     };
-    let made = match make_output(alloc, &bytes) {
-        Ok(made) => made,
-        Err(_) => return Status::NoMemory,
-    };
-    match put_all(sink, made.text.as_bytes()) {
-        Ok(()) => made.status,
-        Err(_) => Status::WriteFault,
-    }
+    answer_input(alloc, &bytes, sink)
 }

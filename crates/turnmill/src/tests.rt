@@ -136,7 +136,7 @@ fn answers_inputs(rt: HostRuntime) -> Result<(), Fail> {
     Ok(())
 }
 
-// Codes, each with the blocks that it refuses: each word that no block may have, and forms that are read but not built.
+// Codes, each with the blocks that it refuses: each word that no block may have.
 const REFUSED_BLOCKS: &str = r#"40 ID IDS WHEN WHENEVER FROM EVERY DO
 41 MEAS MEAW
 42 CYCLE95 MCALL
@@ -155,7 +155,6 @@ const REFUSED_BLOCKS: &str = r#"40 ID IDS WHEN WHENEVER FROM EVERY DO
 55 GETD
 56 G41 G42
 57 G7 GOTOS CALL PCALL EXTCALL EXTERN ENDLABEL
-60 WAITM(1,1) WAITMC(1,2) SETM(3) CLEARM(3) INIT(2,"/_N_B_MPF") START(2) WAITE(2) RELEASE(X1) GET(X1) CPROT(1,1)
 "#;
 
 // Asserts that an input of each of these blocks alone is refused by this code, at the line of the block.
