@@ -7,3 +7,5 @@ pub mod TimeLaws
 pub mod StretchLaws
 pub mod CoverLaws
 pub mod NameLaws
+pub mod CostLaws
+pub mod BoxCounts

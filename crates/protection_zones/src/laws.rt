@@ -1,8 +1,9 @@
 //! What is so of the time of zones in all runs.
 ghost use Rattle.job_types.specs.Job.{JobView};
-ghost use Rattle.protection_zones.specs.SoundStretches.{BoxesHaveCovers, EndsAreLowestNames};
+ghost use Rattle.protection_zones.specs.SoundStretches.{BoxesAreFew, BoxesHaveCovers, EndsAreLowestNames, PairsAreFew};
+ghost use Rattle.protection_zones.specs.Overlaps.{Order};
 ghost use Rattle.sync_types.specs.Boards.{Board};
-ghost use Rattle.sync_types.specs.Views.{RunView};
+ghost use Rattle.sync_types.specs.Views.{RunView, StartView};
 
 /// A law: each box of each stretch is the zone box of what the motion of its place covers, which is that of an item of the
 /// stretch's entry, or of where the zone stands.
@@ -13,4 +14,11 @@ pub fn boxes_have_covers()
 /// A law: each stretch begins and ends with an event by its lowest channel, where it does not begin with the job or last.
 pub fn ends_are_lowest_names()
     ensures { (job : JobView) (b : Board) (run : RunView) → EndsAreLowestNames job b run }
+{}
+
+/// A law: in a whole run of fewer than 2^20 steps and 2^20 items each zone has fewer than 2^25 boxes, since a span has at most
+/// one box more than items, and serves one zone at one time; so the pairs that are compared can be counted.
+pub fn boxes_are_few()
+    ensures boxes { (job : JobView) (start : StartView) (run : RunView) → BoxesAreFew job start run }
+    ensures pairs { (before : Order) (job : JobView) (start : StartView) (run : RunView) → PairsAreFew before job start run }
 {}
