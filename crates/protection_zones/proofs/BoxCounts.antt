@@ -227,7 +227,7 @@ zone_pairs_few before one two =
         )
 
 -- what holds of each zone holds of both of a pair
-each_pair : (P : ZoneTime → Type 0) (times : List ZoneTime) → All P times → All (λ pair. P pair.0 × P pair.1) (pairs_by_group times)
+pub each_pair : (P : ZoneTime → Type 0) (times : List ZoneTime) → All P times → All (λ pair. P pair.0 × P pair.1) (pairs_by_group times)
 each_pair P [] all = All-nil (λ pair. P pair.0 × P pair.1)
 each_pair P (one ∷ others) all =
     All-append (λ pair. P pair.0 × P pair.1) (map (λ two. (one, two)) (filter (λ two. not (one.zone.group == two.zone.group)) others)) (pairs_by_group others)

@@ -9,3 +9,4 @@ pub mod CoverLaws
 pub mod NameLaws
 pub mod CostLaws
 pub mod BoxCounts
+pub mod OneOrder

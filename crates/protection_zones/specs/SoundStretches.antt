@@ -4,7 +4,7 @@ use Rattle.std.specs.List.{sum_by}
 use Rattle.axis_sets.specs.declared.limits.TheConstants.{CHANNEL_LIMIT}
 use Rattle.job_types.specs.Job.{JobView}
 use Rattle.job_types.specs.declared.job.ZoneLine.{ZoneLine}
-use Rattle.order_clocks.specs.Clocked.{moves_in}
+use Rattle.order_clocks.specs.Clocked.{IsOrderOf, moves_in}
 use Rattle.protection_zones.specs.Overlaps.{Order, compared_pairs, zone_times}
 use Rattle.protection_zones.specs.Stretches.{StretchView, StretchesView, all_stretches}
 use Rattle.protection_zones.specs.ZoneBoxes.{zone_box, low_in, high_in}
@@ -85,3 +85,11 @@ BoxesAreFew job start run = IsOfSize run → ComesFrom start run → AreFewBoxes
 -- and fewer pairs are compared than a number of 64 bits can count
 abbrev pub PairsAreFew : Order → JobView → StartView → RunView → Type 0
 PairsAreFew before job start run = IsOfSize run → ComesFrom start run → length (compared_pairs before job (all_stretches job (first_board start) run)) < 2 ^ 64
+
+-- ---- one order
+
+-- two tests that both tell the order of the events let the same boxes be compared
+abbrev pub OrdersCompareTheSame : Order → Order → JobView → Board → RunView → Type 0
+OrdersCompareTheSame before other job b run =
+    IsOrderOf b (moves_in run.entries) before → IsOrderOf b (moves_in run.entries) other
+    → compared_pairs before job (all_stretches job b run) ≡ compared_pairs other job (all_stretches job b run)

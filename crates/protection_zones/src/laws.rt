@@ -1,6 +1,6 @@
 //! What is so of the time of zones in all runs.
 ghost use Rattle.job_types.specs.Job.{JobView};
-ghost use Rattle.protection_zones.specs.SoundStretches.{BoxesAreFew, BoxesHaveCovers, EndsAreLowestNames, PairsAreFew};
+ghost use Rattle.protection_zones.specs.SoundStretches.{BoxesAreFew, BoxesHaveCovers, EndsAreLowestNames, OrdersCompareTheSame, PairsAreFew};
 ghost use Rattle.protection_zones.specs.Overlaps.{Order};
 ghost use Rattle.sync_types.specs.Boards.{Board};
 ghost use Rattle.sync_types.specs.Views.{RunView, StartView};
@@ -21,4 +21,10 @@ pub fn ends_are_lowest_names()
 pub fn boxes_are_few()
     ensures boxes { (job : JobView) (start : StartView) (run : RunView) → BoxesAreFew job start run }
     ensures pairs { (before : Order) (job : JobView) (start : StartView) (run : RunView) → PairsAreFew before job start run }
+{}
+
+/// A law: two tests that both tell the order of the events of a run compare the same boxes, since each stretch begins and ends
+/// with an event by its lowest channel.
+pub fn orders_compare_the_same()
+    ensures { (before other : Order) (job : JobView) (b : Board) (run : RunView) → OrdersCompareTheSame before other job b run }
 {}
