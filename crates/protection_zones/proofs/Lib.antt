@@ -10,3 +10,6 @@ pub mod NameLaws
 pub mod CostLaws
 pub mod BoxCounts
 pub mod OneOrder
+pub mod EventLaws
+pub mod HandLaws
+pub mod AscentLaws

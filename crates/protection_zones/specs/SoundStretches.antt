@@ -1,9 +1,12 @@
 -- Law. What is so of the stretches of all runs.
-use Rattle.std.specs.Prelude.{◌≡◌, ℕ, ℤ, ◌-◌, ◌^◌, ◌<◌, ◌≤◌, All, IfSome, List, [], length, slice_get, slice_index_or, Option, Some, None}
+use Rattle.std.specs.Prelude.{◌≡◌, ℕ, ℤ, ◌-◌, ◌^◌, ◌<◌, ◌≤◌, All, IfSome, List, [], ◌∷◌, length, slice_get, slice_index_or, Option, Some, None}
 use Rattle.std.specs.List.{sum_by}
 use Rattle.axis_sets.specs.declared.limits.TheConstants.{CHANNEL_LIMIT}
+use Rattle.axis_sets.specs.Sets.{has}
 use Rattle.job_types.specs.Job.{JobView}
+use Rattle.job_types.specs.Zones.{has_axis, zones_in_order}
 use Rattle.job_types.specs.declared.job.ZoneLine.{ZoneLine}
+use Rattle.order_clocks.specs.Before.{Before}
 use Rattle.order_clocks.specs.Clocked.{IsOrderOf, moves_in}
 use Rattle.protection_zones.specs.Overlaps.{Order, compared_pairs, zone_times}
 use Rattle.protection_zones.specs.Stretches.{StretchView, StretchesView, all_stretches}
@@ -15,9 +18,11 @@ use Rattle.sync_types.specs.Boards.{Board, first_board}
 use Rattle.sync_types.specs.Events.{IsLowestName}
 use Rattle.sync_types.specs.Items.{motion_of, movement_of}
 use Rattle.sync_types.specs.Runs.{ComesFrom}
+use Rattle.sync_types.specs.Starts.{axes_of_zone, first_holder}
 use Rattle.sync_types.specs.Turns.{Move}
 use Rattle.sync_types.specs.Views.{StartView, RunView}
 use Rattle.sync_types.specs.declared.Item.{Item}
+use Rattle.sync_types.specs.declared.runs.EventId.{EventId}
 
 -- ---- covers
 
@@ -93,3 +98,31 @@ abbrev pub OrdersCompareTheSame : Order → Order → JobView → Board → RunV
 OrdersCompareTheSame before other job b run =
     IsOrderOf b (moves_in run.entries) before → IsOrderOf b (moves_in run.entries) other
     → compared_pairs before job (all_stretches job b run) ≡ compared_pairs other job (all_stretches job b run)
+
+-- ---- the order of stretches
+
+-- an event is before another, where there are both
+abbrev pub IsBefore : Board → List Move → Option EventId → Option EventId → Type 0
+IsBefore b moves None last = Unit {0}
+IsBefore b moves (Some e) None = Unit {0}
+IsBefore b moves (Some e) (Some f) = Before b moves e f
+
+-- each stretch begins with the event with which the one before it ends, and ends after it; none comes after one that lasts
+abbrev pub AreInOrder : Board → List Move → Option EventId → List StretchView → Type 0
+AreInOrder b moves from [] = Unit {0}
+AreInOrder b moves from (stretch ∷ stretches) =
+    (stretch.first ≡ from) × IsBefore b moves stretch.first stretch.last × (stretch.last ≡ None → stretches ≡ []) × AreInOrder b moves stretch.last stretches
+
+-- the start has the zones of the job, each with its holder and its axes
+pub record IsZoneOf (start : StartView) (zone : ZoneLine) : Type 0 where
+  pub holder : first_holder start zone.zone ≡ zone.holder
+  pub axes : (axis : ℕ) → has (axes_of_zone start zone.zone) axis ≡ has_axis zone axis
+
+abbrev pub HasZones : JobView → StartView → Type 0
+HasZones job start = All (IsZoneOf start) (zones_in_order job)
+
+-- so are the stretches of each zone of a whole run from such a start, the first of which begins with the job
+abbrev pub StretchesAscend : JobView → StartView → RunView → Type 0
+StretchesAscend job start run =
+    HasZones job start → ComesFrom start run
+    → All (λ time. AreInOrder (first_board start) (moves_in run.entries) None time.stretches) (zone_times job (all_stretches job (first_board start) run))

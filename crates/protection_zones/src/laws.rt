@@ -1,6 +1,6 @@
 //! What is so of the time of zones in all runs.
 ghost use Rattle.job_types.specs.Job.{JobView};
-ghost use Rattle.protection_zones.specs.SoundStretches.{BoxesAreFew, BoxesHaveCovers, EndsAreLowestNames, OrdersCompareTheSame, PairsAreFew};
+ghost use Rattle.protection_zones.specs.SoundStretches.{BoxesAreFew, BoxesHaveCovers, EndsAreLowestNames, OrdersCompareTheSame, PairsAreFew, StretchesAscend};
 ghost use Rattle.protection_zones.specs.Overlaps.{Order};
 ghost use Rattle.sync_types.specs.Boards.{Board};
 ghost use Rattle.sync_types.specs.Views.{RunView, StartView};
@@ -27,4 +27,10 @@ pub fn boxes_are_few()
 /// with an event by its lowest channel.
 pub fn orders_compare_the_same()
     ensures { (before other : Order) (job : JobView) (b : Board) (run : RunView) → OrdersCompareTheSame before other job b run }
+{}
+
+/// A law: each stretch of a zone begins with the event with which the one before it ends, and ends with a later event, where it
+/// does not last; so the stretches of a zone never overlap.
+pub fn stretches_ascend()
+    ensures { (job : JobView) (start : StartView) (run : RunView) → StretchesAscend job start run }
 {}
