@@ -1,4 +1,4 @@
--- The stretches of a zone follow each other: each begins with the event with which the one before it ends, and events go on.
+-- The stretches of a zone come one after another: each begins with the event with which the one before it ends, and ends with a later one.
 use Rattle.std.proofs.Common.{◌≡◌, ◌∙◌, inl, inr, ℕ, zero, suc, ◌+◌, ◌-◌, ◌<◌, ◌≤◌, ◌==◌, ◌||◌, Bool, true, false, cond, List, [], ◌∷◌, ◌++◌, map, take, drop, filter, Option, None, Some, All, refl, sym, ap, subst, append_assoc, append-nil, arith, if◌then◌else◌}
 use Rattle.std.specs.Prelude.{⊤, unwrap_or}
 use Rattle.std.specs.List.{flat_map}
@@ -8,29 +8,29 @@ use Rattle.std.proofs.lemmas.List.{drop-drop}
 use Rattle.std.proofs.lemmas.List.Elements.{All-head, All-tail}
 use Rattle.axis_sets.specs.Positions.{stands}
 use Rattle.axis_sets.specs.Sets.{has}
+use Rattle.board_laws.proofs.Zones.{zones_first}
 use Rattle.job_types.specs.Job.{JobView}
 use Rattle.job_types.specs.Zones.{has_axis}
 use Rattle.job_types.specs.declared.job.ZoneLine.{ZoneLine}
-use Rattle.order_clocks.specs.Before.{Gives, InChannel, moment}
-use Rattle.order_clocks.specs.Happenings.{Freed, gives, happening_at}
-use Rattle.board_laws.proofs.Zones.{zones_first}
-use Rattle.order_clocks.specs.Clocked.{moves_in}
 use Rattle.order_clocks.proofs.WholeLaws.{running_moves}
+use Rattle.order_clocks.specs.Before.{Gives, InChannel, moment}
+use Rattle.order_clocks.specs.Clocked.{moves_in}
+use Rattle.order_clocks.specs.Happenings.{Freed, gives, happening_at}
 use Rattle.protection_zones.proofs.EventLaws.{AreRising, InSteps, IsTold, all_told, in_steps, own_name, rising}
-use Rattle.protection_zones.proofs.StretchLaws.{each_zone_time}
 use Rattle.protection_zones.proofs.HandLaws.{HandsAre, carry_from, carry_to, run_hands}
+use Rattle.protection_zones.proofs.StretchLaws.{each_zone_time}
 use Rattle.protection_zones.specs.Occurrences.{Occurrence, occurrences_from, occurrences_of}
-use Rattle.protection_zones.specs.SoundStretches.{AreInOrder, IsBefore, IsZoneOf, StretchesAscend}
+use Rattle.protection_zones.specs.SoundStretches.{AreInOrder, IsAfter, IsZoneOf, StretchesAscend}
 use Rattle.protection_zones.specs.Spans.{Beginning, Span, beginning_after, entry_of_beginning, first_beginning, span_to_end, span_until, spans_from, spans_of}
 use Rattle.protection_zones.specs.Stretches.{StretchView, stretch_between, stretch_of_span, stretches_held_by, stretches_in_tenure, stretches_of_zone}
 use Rattle.protection_zones.specs.Tenures.{Tenure, carry, changes_hands, counted, first_tenure, tenure_after, tenure_until, tenures_from, tenures_of}
 use Rattle.sync_types.proofs.BoardTests.{no_truth}
 use Rattle.sync_types.proofs.Links.{are_one_alike}
 use Rattle.sync_types.specs.Boards.{Board, first_board, is_this}
-use Rattle.sync_types.specs.Runs.{ComesFrom}
-use Rattle.sync_types.specs.Views.{RunView, StartView}
 use Rattle.sync_types.specs.Events.{AreOne}
+use Rattle.sync_types.specs.Runs.{ComesFrom}
 use Rattle.sync_types.specs.Turns.{AreOfRunning, Move}
+use Rattle.sync_types.specs.Views.{RunView, StartView}
 use Rattle.sync_types.specs.declared.Item.{Item}
 use Rattle.sync_types.specs.declared.runs.EventId.{EventId}
 use Rattle.sync_types.specs.declared.verdicts.StretchKind.TheVariants.{Free}
@@ -268,25 +268,17 @@ module _ (job : JobView) (zone : ZoneLine) (items : List (List Item)) where
     first_now times free None = free.first
     first_now times free (Some c) = (times c).first
 
-    ended_in_order : (times : ℕ → Beginning) (free : Beginning) (owner : Option ℕ) (e : EventId) (rest : List StretchView) → IsBefore b moves (first_now times free owner) (Some e) → AreInOrder b moves (Some e) rest
+    ended_in_order : (times : ℕ → Beginning) (free : Beginning) (owner : Option ℕ) (e : EventId) (rest : List StretchView) → IsAfter b moves (first_now times free owner) e → AreInOrder b moves (Some e) rest
         → AreInOrder b moves (first_now times free owner) (ended times free owner e ∷ rest)
-    ended_in_order times free None e rest goes order = (refl, goes, (λ bad. absurd cc), order)
-    ended_in_order times free (Some c) e rest goes order = (refl, goes, (λ bad. absurd cc), order)
+    ended_in_order times free None e rest goes order = (refl, (goes, order))
+    ended_in_order times free (Some c) e rest goes order = (refl, (goes, order))
 
     lasting_in_order : (times : ℕ → Beginning) (free : Beginning) (owner : Option ℕ) → AreInOrder b moves (first_now times free owner) (lasting times free owner ∷ [])
-    lasting_in_order times free None = (refl, nothing free.first, (λ lasts. refl), tt)
-      where
-        nothing : (o : Option EventId) → IsBefore b moves o None
-        nothing None = tt
-        nothing (Some e) = tt
-    lasting_in_order times free (Some c) = (refl, nothing (times c).first, (λ lasts. refl), tt)
-      where
-        nothing : (o : Option EventId) → IsBefore b moves o None
-        nothing None = tt
-        nothing (Some e) = tt
+    lasting_in_order times free None = (refl, refl)
+    lasting_in_order times free (Some c) = (refl, refl)
 
     -- from one event of a channel on to its next
-    channel_goes : (first : Option EventId) (c : ℕ) (o : Occurrence) (os : List Occurrence) → IsTold b moves o → Since first c (o ∷ os) → o.channel ≡ c → IsBefore b moves first (Some o.name)
+    channel_goes : (first : Option EventId) (c : ℕ) (o : Occurrence) (os : List Occurrence) → IsTold b moves o → Since first c (o ∷ os) → o.channel ≡ c → IsAfter b moves first o.name
     channel_goes None c o os told since same = tt
     channel_goes (Some e) c o os told since same = (
       [],
@@ -300,7 +292,7 @@ module _ (job : JobView) (zone : ZoneLine) (items : List (List Item)) where
     )
 
     -- from the act that let the axes go on to who takes them
-    free_goes : (first : Option EventId) (n : ℕ) (o : Occurrence) → IsTold b moves o → FreeSince n first → suc o.name.step ≡ n → carry zone o.takes ≡ true → IsBefore b moves first (Some o.name)
+    free_goes : (first : Option EventId) (n : ℕ) (o : Occurrence) → IsTold b moves o → FreeSince n first → suc o.name.step ≡ n → carry zone o.takes ≡ true → IsAfter b moves first o.name
     free_goes None n o told freed here on = tt
     free_goes (Some e) n o told freed here on =
         let w = carry_from zone o.takes on in (
@@ -404,7 +396,7 @@ module _ (job : JobView) (zone : ZoneLine) (items : List (List Item)) where
         since = own_since times o os (All-head (IsTold b moves) o os is.told) is.rising is.since
 
         -- who holds the zone goes on to this event, or who takes it goes on from its being let go
-        goes : (p : Option ℕ) → owner ≡ p → ((c : ℕ) → p ≡ Some c → o.channel ≡ c) → (p ≡ None → carry zone o.takes ≡ true) → IsBefore b moves (first_now times free p) (Some o.name)
+        goes : (p : Option ℕ) → owner ≡ p → ((c : ℕ) → p ≡ Some c → o.channel ≡ c) → (p ≡ None → carry zone o.takes ≡ true) → IsAfter b moves (first_now times free p) o.name
         goes None same own taken =
             let on = taken refl in
             let w = carry_from zone o.takes on in

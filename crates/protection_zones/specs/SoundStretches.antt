@@ -1,5 +1,5 @@
 -- Law. What is so of the stretches of all runs.
-use Rattle.std.specs.Prelude.{◌≡◌, ℕ, ℤ, ◌-◌, ◌^◌, ◌<◌, ◌≤◌, All, IfSome, List, [], ◌∷◌, length, slice_get, slice_index_or, Option, Some, None}
+use Rattle.std.specs.Prelude.{◌≡◌, ℕ, ℤ, ◌-◌, ◌^◌, ◌<◌, ◌≤◌, All, IfSome, MatchOption, List, [], ◌∷◌, length, slice_get, slice_index_or, Option, Some, None}
 use Rattle.std.specs.List.{sum_by}
 use Rattle.axis_sets.specs.declared.limits.TheConstants.{CHANNEL_LIMIT}
 use Rattle.axis_sets.specs.Sets.{has}
@@ -101,17 +101,17 @@ OrdersCompareTheSame before other job b run =
 
 -- ---- the order of stretches
 
--- an event is before another, where there are both
-abbrev pub IsBefore : Board → List Move → Option EventId → Option EventId → Type 0
-IsBefore b moves None last = Unit {0}
-IsBefore b moves (Some e) None = Unit {0}
-IsBefore b moves (Some e) (Some f) = Before b moves e f
+-- the event comes after the one with which a stretch begins, where it does not begin with the job
+abbrev pub IsAfter : Board → List Move → Option EventId → EventId → Type 0
+IsAfter b moves None e = Unit {0}
+IsAfter b moves (Some f) e = Before b moves f e
 
--- each stretch begins with the event with which the one before it ends, and ends after it; none comes after one that lasts
+-- The time from this event on, or from the beginning of the job on, falls into these stretches: the first begins so, and ends with
+-- a later event from which the time falls into the others, or lasts, and then there is no other.
 abbrev pub AreInOrder : Board → List Move → Option EventId → List StretchView → Type 0
-AreInOrder b moves from [] = Unit {0}
+AreInOrder b moves from [] = ⊥
 AreInOrder b moves from (stretch ∷ stretches) =
-    (stretch.first ≡ from) × IsBefore b moves stretch.first stretch.last × (stretch.last ≡ None → stretches ≡ []) × AreInOrder b moves stretch.last stretches
+    (stretch.first ≡ from) × MatchOption stretch.last (stretches ≡ []) (λ e. IsAfter b moves from e × AreInOrder b moves (Some e) stretches)
 
 -- the start has the zones of the job, each with its holder and its axes
 pub record IsZoneOf (start : StartView) (zone : ZoneLine) : Type 0 where
@@ -121,7 +121,7 @@ pub record IsZoneOf (start : StartView) (zone : ZoneLine) : Type 0 where
 abbrev pub HasZones : JobView → StartView → Type 0
 HasZones job start = All (IsZoneOf start) (zones_in_order job)
 
--- so are the stretches of each zone of a whole run from such a start, the first of which begins with the job
+-- so does the time of each zone in a whole run from such a start
 abbrev pub StretchesAscend : JobView → StartView → RunView → Type 0
 StretchesAscend job start run =
     HasZones job start → ComesFrom start run
