@@ -7,3 +7,9 @@ pub mod TimeLaws
 pub mod StretchLaws
 pub mod CoverLaws
 pub mod NameLaws
+pub mod CostLaws
+pub mod BoxCounts
+pub mod OneOrder
+pub mod EventLaws
+pub mod HandLaws
+pub mod AscentLaws

@@ -29,6 +29,19 @@ pub each_time : (job : JobView) (b : Board) (run : RunView) (P : ZoneTime → Ty
 unfolding zone_times all_stretches
 each_time job b run P each = paired (stretches_of_zone job run.items (occurrences_of b (moves_in run.entries))) P each (zones_in_order job)
 
+-- the same where something holds of each zone of the job
+paired_where : (f : ZoneLine → List StretchView) (P : ZoneTime → Type 0) (Q : ZoneLine → Type 0) → ((zone : ZoneLine) → Q zone → P (record { zone = zone; stretches = f zone })) → (zones : List ZoneLine) → All Q zones
+    → All P (map (λ p. record { zone = p.0; stretches = p.1 }) (zip zones (map f zones)))
+paired_where f P Q each [] all = All-nil P
+paired_where f P Q each (zone ∷ zones) all =
+    All-cons P (record { zone = zone; stretches = f zone }) _ (each zone (All-head Q zone zones all)) (paired_where f P Q each zones (All-tail Q zone zones all))
+
+pub each_zone_time : (job : JobView) (b : Board) (run : RunView) (P : ZoneTime → Type 0) (Q : ZoneLine → Type 0)
+    → ((zone : ZoneLine) → Q zone → P (record { zone = zone; stretches = stretches_of_zone job run.items (occurrences_of b (moves_in run.entries)) zone })) → All Q (zones_in_order job)
+    → All P (zone_times job (all_stretches job b run))
+unfolding zone_times all_stretches
+each_zone_time job b run P Q each all = paired_where (stretches_of_zone job run.items (occurrences_of b (moves_in run.entries))) P Q each (zones_in_order job) all
+
 -- ---- stretches
 
 -- what holds of the spans of each channel, and of the time while nobody holds the zone

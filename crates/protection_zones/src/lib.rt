@@ -13,7 +13,10 @@ mod times;
 mod zone_boxes;
 mod zone_time;
 
-pub use laws::{boxes_have_covers, ends_are_lowest_names};
+pub use laws::{
+    boxes_are_few, boxes_have_covers, ends_are_lowest_names, orders_compare_the_same,
+    stretches_ascend,
+};
 pub(crate) use rows::Row;
 pub use sights::Sight;
 pub use stretches::{Stretch, Stretches, ZoneBox};
