@@ -1,6 +1,7 @@
 -- The count by the numbers of boxes is the number of the compared pairs.
 use Rattle.std.proofs.Common.{◌≡◌, ◌∙◌, ℕ, ◌+◌, ◌*◌, ◌-◌, ◌^◌, ◌≤◌, ◌<◌, ◌==◌, ◌||◌, not, min, cond, Bool, true, false, List, [], ◌∷◌, ◌++◌, map, filter, length, refl, sym, ap, arith, zero-add}
 use Rattle.std.specs.List.{sum_by, count_by, flat_map}
+use Rattle.std.proofs.lemmas.Bool.{ne_eqb}
 use Rattle.std.proofs.lemmas.List.{length-map}
 use Rattle.std.proofs.lemmas.List.Concat.{length-flat_map}
 use Rattle.std.proofs.lemmas.List.Sums.{sum_by-append, sum_by-cons, length-filter}
@@ -45,7 +46,7 @@ kept_all (x ∷ xs) = let rest = kept_all xs in omega arith
 -- where an empty list counts nothing, it may be looked at first
 unless_empty : {X : Type 0} (xs : List X) (n : ℕ) → (xs ≡ [] → n ≡ 0) → n ≡ cond (length xs == 0) 0 n
 unless_empty [] n none = none refl
-unless_empty (x ∷ xs) n none = refl
+unless_empty (x ∷ xs) n none = let some : (length (x ∷ xs) == 0) ≡ false = ne_eqb (length (x ∷ xs)) 0 (λ e. omega arith) in rw some refl
 
 unless : (b : Bool) (m n : ℕ) → m ≡ n → cond (not b) m 0 ≡ cond b 0 n
 unless true m n e = refl

@@ -1,5 +1,6 @@
 -- The first answer that a list gives.
-use Rattle.std.proofs.Common.{◌≡◌, ◌∙◌, ◌==◌, ◌&&◌, ◌||◌, Bool, true, false, cond, not, List, [], ◌∷◌, ◌++◌, map, filter, find, length, Option, None, Some, refl, sym, ap}
+use Rattle.std.proofs.Common.{◌≡◌, ◌∙◌, ◌==◌, ◌&&◌, ◌||◌, Bool, true, false, cond, not, List, [], ◌∷◌, ◌++◌, map, filter, find, length, Option, None, Some, refl, sym, ap, arith}
+use Rattle.std.proofs.lemmas.Bool.{ne_eqb}
 use Rattle.std.proofs.lemmas.List.Folds.{find-append}
 use Rattle.std.specs.List.{flat_map, list_any}
 use Rattle.std.specs.Option.{option_map, option_or}
@@ -47,14 +48,21 @@ find-flat_map g test f (x ∷ xs) =
 pub find-made : {X Y Z : Type 0} (g : Y → Z) (test : Y → Bool) (made : X → Y) (kept : X → Bool) (xs : List X)
     → option_map g (find test (map made (filter kept xs))) ≡ first_some (λ x. cond (kept x && test (made x)) (Some (g (made x))) None) xs
 find-made g test made kept [] = refl
-find-made g test made kept (x ∷ xs) = by_kept (kept x) (test (made x)) (find-made g test made kept xs)
+find-made {Z = Z} g test made kept (x ∷ xs) = by_kept (kept x) (find-made g test made kept xs)
   where
-    by_kept : (k t : Bool) → option_map g (find test (map made (filter kept xs))) ≡ first_some (λ x. cond (kept x && test (made x)) (Some (g (made x))) None) xs
-        → option_map g (cond k (cond t (Some (made x)) (find test (map made (filter kept xs)))) (find test (map made (filter kept xs))))
-        ≡ option_or (cond (k && t) (Some (g (made x))) None) (first_some (λ x. cond (kept x && test (made x)) (Some (g (made x))) None) xs)
-    by_kept true true rest = refl
-    by_kept true false rest = rest
-    by_kept false t rest = rest
+    given : Option Z
+    given = option_map g (find test (map made (filter kept xs)))
+
+    rest : Option Z
+    rest = first_some (λ x. cond (kept x && test (made x)) (Some (g (made x))) None) xs
+
+    by_test : (t : Bool) → given ≡ rest → option_map g (cond t (Some (made x)) (find test (map made (filter kept xs)))) ≡ option_or (cond t (Some (g (made x))) None) rest
+    by_test true same = refl
+    by_test false same = same
+
+    by_kept : (k : Bool) → given ≡ rest → option_map g (find test (map made (cond k (x ∷ filter kept xs) (filter kept xs)))) ≡ option_or (cond (k && test (made x)) (Some (g (made x))) None) rest
+    by_kept true same = by_test (test (made x)) same
+    by_kept false same = same
 
 -- of the elements that a filter keeps
 pub first_some-filter : {X Y : Type 0} (f : X → Option Y) (test : X → Bool) (xs : List X) → first_some f (filter test xs) ≡ first_some (λ x. cond (test x) (f x) None) xs
@@ -80,7 +88,7 @@ guarded_first near f none (x ∷ xs) = by_near (near x) refl (guarded_first near
 -- where an empty list gives no answer, it may be looked at first
 pub unless_empty : {X Y : Type 0} (xs : List X) (r : Option Y) → (xs ≡ [] → r ≡ None) → cond (length xs == 0) None r ≡ r
 unless_empty [] r none = sym (none refl)
-unless_empty (x ∷ xs) r none = refl
+unless_empty (x ∷ xs) r none = let some : (length (x ∷ xs) == 0) ≡ false = ne_eqb (length (x ∷ xs)) 0 (λ e. omega arith) in rw some refl
 
 pub unless : {Y : Type 0} (b : Bool) (r s : Option Y) → r ≡ s → cond (not b) r None ≡ cond b None s
 unless true r s e = refl

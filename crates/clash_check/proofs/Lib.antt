@@ -5,6 +5,7 @@ pub mod PieceLaws
 pub mod CoverLaws
 pub mod FirstLaws
 pub mod TimeLaws
+pub mod ZoneLaws
 pub mod MeetLaws
 pub mod CountLaws
 pub mod StopLaws

@@ -144,8 +144,8 @@ stretches_are case zone left other right in_left in_right =
 -- ---- two zones
 
 against_none : (case : Case) (zone : ZoneLine) (left : StretchView) (other : ZoneLine) (right : StretchView) → left.boxes ≡ [] → first_in_stretches case zone left other right ≡ None
-unfolding first_in_stretches
-against_none case zone left other right none = rw none (by_tests (length right.boxes == 0) (may_overlap case.before left right))
+unfolding first_in_stretches may_overlap
+against_none case zone left other right none = rw none (by_tests (length right.boxes == 0) _)
   where
     by_tests : (e o : Bool) → cond {A = Option Names} e None (cond {A = Option Names} o None None) ≡ None
     by_tests true o = refl

@@ -1,5 +1,5 @@
 -- The channels of a job with how each has stopped, one by one.
-use Rattle.std.proofs.Common.{◌≡◌, ◌∙◌, ℕ, zero, suc, ◌+◌, ◌-◌, ◌<◌, ◌≤◌, Bool, true, false, cond, List, [], ◌∷◌, ◌++◌, drop, filter, length, get_or, refl, sym, ap, subst, append_assoc, arith}
+use Rattle.std.proofs.Common.{◌≡◌, ◌∙◌, ℕ, zero, suc, ◌+◌, ◌-◌, ◌<◌, ◌≤◌, Bool, true, false, cond, List, [], ◌∷◌, ◌++◌, drop, filter, length, length-append, get_or, refl, sym, ap, subst, append_assoc, arith}
 use Rattle.std.specs.List.{range_with_len, zip}
 
 -- the numbers left, from one that passes the test, or does not
@@ -14,9 +14,9 @@ module _ {X : Type 0} (test : ℕ → Bool) (over : ℕ) (ends : List X) where
   abbrev pub Rest : ℕ → ℕ → List (ℕ × X)
   Rest number place = zip (filter test (range_with_len number (over - number))) (drop place ends)
 
-  zip_end : (ns : List ℕ) → zip ns [] ≡ []
-  zip_end [] = refl
-  zip_end (n ∷ ns) = refl
+  zip_end : (ns : List ℕ) (xs : List X) → xs ≡ [] → zip ns xs ≡ []
+  zip_end [] xs none = refl
+  zip_end (n ∷ ns) xs none = rw none refl
 
   dropped : (place : ℕ) (d : X) (xs : List X) → place < length xs → drop place xs ≡ get_or xs place d ∷ drop (suc place) xs
   dropped place d [] within = absurd (omega arith)
@@ -48,5 +48,37 @@ module _ {X : Type 0} (test : ℕ → Bool) (over : ℕ) (ends : List X) where
 
   -- no end is left
   pub rest_over : (number place : ℕ) → length ends ≤ place → Rest number place ≡ []
-  rest_over number place far =
-      ap (λ (xs : List X). zip (filter test (range_with_len number (over - number))) xs) (dropped_all place ends far) ∙ zip_end (filter test (range_with_len number (over - number)))
+  rest_over number place far = zip_end (filter test (range_with_len number (over - number))) (drop place ends) (dropped_all place ends far)
+
+  -- the list so far and the rest, one number on
+  abbrev pub IsSoFar : List (ℕ × X) → ℕ → List (ℕ × X) → Type 0
+  IsSoFar stops number all = (length stops + 1 ≤ number) × (stops ++ Rest number (length stops) ≡ all)
+
+  pub taken : (stops next all : List (ℕ × X)) (number : ℕ) (d : X) → number < over → test number ≡ true → length stops < length ends → next ≡ stops ++ (number, get_or ends (length stops) d) ∷ []
+      → IsSoFar stops number all → IsSoFar next (number + 1) all
+  taken stops next all number d below passes within is so_far =
+      let longer : length next ≡ length stops + 1 = ap (λ (xs : List (ℕ × X)). length xs) is ∙ length-append stops ((number, get_or ends (length stops) d) ∷ []) in
+      let split : next ++ Rest (number + 1) (length next) ≡ stops ++ Rest number (length stops) =
+      ap (λ (xs : List (ℕ × X)). xs ++ Rest (number + 1) (length next)) is
+      ∙ append_assoc stops ((number, get_or ends (length stops) d) ∷ []) (Rest (number + 1) (length next))
+      ∙ ap (λ (xs : List (ℕ × X)). stops ++ xs) (sym (rest_taken number (length stops) (length next) d below passes within longer)) in
+      let few : length stops + 1 ≤ number = so_far.0 in
+      (omega (arith, longer, few), split ∙ so_far.1)
+
+  -- the same, of the ends under another name
+  pub taken_from : (others : List X) (place : ℕ) (d : X) → others ≡ ends → (stops next all : List (ℕ × X)) (number : ℕ) → place ≡ length stops → number < over → test number ≡ true → place < length others
+      → next ≡ stops ++ (number, get_or others place d) ∷ [] → IsSoFar stops number all → IsSoFar next (number + 1) all
+  taken_from others place d same stops next all number is_place below passes within is so_far =
+      let long : length others ≡ length ends = ap (λ (xs : List X). length xs) same in
+      taken stops next all number d below passes (omega (arith, long, is_place))
+      (is ∙ ap (λ (x : X). stops ++ (number, x) ∷ []) (ap (λ (xs : List X). get_or xs place d) same ∙ ap (λ (k : ℕ). get_or ends k d) is_place)) so_far
+
+  pub passed : (stops all : List (ℕ × X)) (number : ℕ) → number < over → test number ≡ false → IsSoFar stops number all → IsSoFar stops (number + 1) all
+  passed stops all number below fails so_far =
+      let few : length stops + 1 ≤ number = so_far.0 in
+      (omega (arith, few), ap (λ (xs : List (ℕ × X)). stops ++ xs) (sym (rest_passed number (length stops) below fails)) ∙ so_far.1)
+
+  pub full : (stops all : List (ℕ × X)) (number : ℕ) → length ends ≤ length stops → IsSoFar stops number all → IsSoFar stops (number + 1) all
+  full stops all number far so_far =
+      let few : length stops + 1 ≤ number = so_far.0 in
+      (omega (arith, few), ap (λ (xs : List (ℕ × X)). stops ++ xs) (rest_over (number + 1) (length stops) far ∙ sym (rest_over number (length stops) far)) ∙ so_far.1)

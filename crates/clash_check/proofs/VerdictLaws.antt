@@ -49,7 +49,7 @@ by_names job run stretches clocks before told fit =
     ap verdict_by_names (sym (meetings_are (record { job = job; run = run; before = before }) stretches in_cover)) ∙ by_found (find (pair_meets job run) (compared_pairs before job stretches))
   where
     in_cover : Each (IsTimeInCover job run) (zone_times job stretches)
-    in_cover = subst (λ (s : StretchesView). Each (IsTimeInCover job run) (zone_times job s)) (sym told.stretches) (times_in_cover job (first_board told.start) run fit)
+    in_cover = subst (λ (s : StretchesView). Each (IsTimeInCover job run) (zone_times job s)) (sym told.told) (times_in_cover job (first_board told.start) run fit)
 
     by_found : (o : Option Pair) → verdict_by_names (option_map names_of o) ≡ or_else (no_by o) verdicts.Yes
     by_found None = refl

@@ -12,5 +12,5 @@ use Rattle.sync_types.specs.Views.{RunView, StartView}
 pub record IsTold (job : JobView) (run : RunView) (stretches : StretchesView) (clocks : ClocksView) : Type 0 where
   pub start : StartView
   pub whole : ComesFrom start run
-  pub stretches : stretches ≡ all_stretches job (first_board start) run
+  pub told : stretches ≡ all_stretches job (first_board start) run
   pub order : IsOrderOf (first_board start) (moves_in run.entries) (is_before_in clocks.rows)

@@ -8,7 +8,6 @@ ghost use Rattle.swept_boxes.specs.declared.Box3.{Box3};
 use swept_boxes::Box3;
 
 /// Whether two boxes share a point.
-#[tactic(auto, using(swept_boxes::proofs::MeetTests::meets_is))]
 pub(crate) fn do_meet(left: &Box3, right: &Box3) -> bool
     ensures { result ≡ boxes_meet left.now right.now }
 {

@@ -47,9 +47,10 @@ pub(crate) struct Held<'a> {
 fn named(held: &Held, own: &ZoneBox) -> PlaceName
     ensures { result ≡ name_of (model.place_of held.now.zone.now held.now.stretch.now own.now) }
 {
+    let stretch = held.stretch;
     PlaceName {
         line: own.line,
-        ..held.stretch.name
+        ..stretch.name
     }
 }
 
@@ -114,7 +115,8 @@ fn first_by_pieces(
     ensures { result ≡ first_some (λ later. model.names_where_met (record { job = scene.now.job.now; run = scene.now.run.now; before = is_before_in scene.now.clocks.now.rows }) shared
         (model.place_of left.now.zone.now left.now.stretch.now own.now) (model.place_of right.now.zone.now right.now.stretch.now later)) right.now.stretch.now.boxes }
 {
-    for later in &right.stretch.boxes {
+    let stretch = right.stretch;
+    for later in &stretch.boxes {
         if let Some(names) = names_where_met(scene, shared, left, own, pieces, right, later) {
             return Some(names);
         }
@@ -137,7 +139,8 @@ fn first_touched(
     ensures { result ≡ model.first_touched (record { job = scene.now.job.now; run = scene.now.run.now; before = is_before_in scene.now.clocks.now.rows }) shared
         (model.place_of left.now.zone.now left.now.stretch.now own.now) right.now.zone.now right.now.stretch.now }
 {
-    if !is_near_any(shared, own, &right.stretch.boxes) {
+    let stretch = right.stretch;
+    if !is_near_any(shared, own, &stretch.boxes) {
         return None;
     }
     let pieces = boxes_by_pieces(scene.job, scene.run, left, own);
@@ -156,7 +159,8 @@ fn first_in_boxes(
     ensures { result ≡ first_some (λ own. model.first_touched (record { job = scene.now.job.now; run = scene.now.run.now; before = is_before_in scene.now.clocks.now.rows }) shared
         (model.place_of left.now.zone.now left.now.stretch.now own) right.now.zone.now right.now.stretch.now) left.now.stretch.now.boxes }
 {
-    for own in &left.stretch.boxes {
+    let stretch = left.stretch;
+    for own in &stretch.boxes {
         if let Some(names) = first_touched(scene, shared, left, own, right) {
             return Some(names);
         }
@@ -172,7 +176,11 @@ fn first_in_stretches(scene: &Scene, left: &Held, right: &Held) -> Option<(Place
     ensures { result ≡ model.first_in_stretches (record { job = scene.now.job.now; run = scene.now.run.now; before = is_before_in scene.now.clocks.now.rows })
         left.now.zone.now left.now.stretch.now right.now.zone.now right.now.stretch.now }
 {
-    if right.stretch.boxes.is_empty() || !may_overlap(scene.clocks, left.stretch, right.stretch) {
+    let stretch = right.stretch;
+    if stretch.boxes.is_empty() {
+        return None;
+    }
+    if !may_overlap(scene.clocks, left.stretch, stretch) {
         return None;
     }
     first_in_boxes(
@@ -185,18 +193,19 @@ fn first_in_stretches(scene: &Scene, left: &Held, right: &Held) -> Option<(Place
 
 /// The names of the first boxes of a stretch and the stretches of another zone that meet.
 #[tactic(auto, unfolding(crate::specs::Meetings::first_against))]
-fn first_against(
+fn first_against<'a>(
     scene: &Scene,
     left: &Held,
-    other: &ZoneLine,
-    others: &[Stretch],
+    other: &'a ZoneLine,
+    others: &'a [Stretch],
 ) -> Option<(PlaceName, PlaceName)>
     requires fit { All (All IsFit) scene.now.run.now.items }
     requires deep { scene.now.job.now.depth ≤ DEPTH_LIMIT }
     ensures { result ≡ model.first_against (record { job = scene.now.job.now; run = scene.now.run.now; before = is_before_in scene.now.clocks.now.rows })
         left.now.zone.now (record { zone = other.now; stretches = others.now }) left.now.stretch.now }
 {
-    if left.stretch.boxes.is_empty() {
+    let own = left.stretch;
+    if own.boxes.is_empty() {
         return None;
     }
     for stretch in others {
@@ -213,10 +222,10 @@ fn first_against(
 
 /// The names of the first two boxes of two zones that meet, where they are of different groups.
 #[tactic(auto, unfolding(crate::specs::Meetings::first_of_zones))]
-fn first_of_zones(
+fn first_of_zones<'a>(
     scene: &Scene,
-    zone: &ZoneLine,
-    own: &[Stretch],
+    zone: &'a ZoneLine,
+    own: &'a [Stretch],
     other: &ZoneLine,
     others: &[Stretch],
 ) -> Option<(PlaceName, PlaceName)>

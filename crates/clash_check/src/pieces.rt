@@ -82,7 +82,8 @@ pub(crate) fn boxes_by_pieces(
     requires deep { job.now.depth ≤ DEPTH_LIMIT }
     ensures { result.items ≡ piece_boxes job.now run.now (record { zone = held.now.zone.now; stretch = held.now.stretch.now; box = own.now }) }
 {
-    match motion_at(run, held.stretch.entry, own.motion) {
+    let stretch = held.stretch;
+    match motion_at(run, stretch.entry, own.motion) {
         None => one_box(own.cover),
         Some(motion) => boxes_of_pieces(job, held.zone, motion, &own.cover),
     }
