@@ -1,15 +1,15 @@
 -- The count by the numbers of boxes is the number of the compared pairs.
-use Rattle.std.proofs.Common.{◌≡◌, ◌∙◌, ℕ, ◌+◌, ◌*◌, ◌-◌, ◌^◌, ◌≤◌, ◌<◌, ◌==◌, ◌||◌, not, min, cond, Bool, true, false, List, [], ◌∷◌, ◌++◌, map, filter, length, refl, sym, ap, arith, zero-add}
+use Rattle.std.proofs.Common.{◌≡◌, ◌∙◌, ℕ, ◌+◌, ◌*◌, ◌==◌, ◌||◌, not, cond, Bool, true, false, List, [], ◌∷◌, map, filter, length, refl, sym, ap, arith, zero-add}
 use Rattle.std.specs.List.{sum_by, count_by, flat_map}
 use Rattle.std.proofs.lemmas.Bool.{ne_eqb}
 use Rattle.std.proofs.lemmas.List.{length-map}
 use Rattle.std.proofs.lemmas.List.Concat.{length-flat_map}
 use Rattle.std.proofs.lemmas.List.Sums.{sum_by-append, sum_by-cons, length-filter}
 use Rattle.clash_check.specs.Counts.{count_of}
-use Rattle.clash_check.specs.PairCounts.{capped, count_sharing, count_in_boxes, count_in_stretches, count_against, count_of_zones, count_in_times}
+use Rattle.clash_check.specs.PairCounts.{count_sharing, count_in_boxes, count_in_stretches, count_against, count_of_zones, count_in_times}
 use Rattle.job_types.specs.Job.{JobView}
 use Rattle.job_types.specs.declared.job.ZoneLine.{ZoneLine}
-use Rattle.protection_zones.specs.Overlaps.{Order, BoxPlace, Pair, ZoneTime, may_overlap, share_channel, share_place, are_compared, box_pairs, stretch_pairs, pairs_of_zones, pairs_by_group, zone_times, compared_pairs}
+use Rattle.protection_zones.specs.Overlaps.{Order, Pair, ZoneTime, may_overlap, share_channel, share_place, are_compared, box_pairs, stretch_pairs, pairs_of_zones, pairs_by_group, zone_times, compared_pairs}
 use Rattle.protection_zones.specs.Stretches.{StretchView, StretchesView}
 use Rattle.protection_zones.specs.declared.stretches.ZoneBox.{ZoneBox}
 

@@ -1,10 +1,10 @@
 -- The boxes by which a box of a stretch is compared lie in its cover.
-use Rattle.std.proofs.Common.{◌≡◌, ◌∙◌, ℕ, zero, suc, ℤ, ◌+◌, ◌-◌, ◌≤ℤ◌, Bool, true, false, cond, List, [], ◌∷◌, ◌++◌, map, take, drop, get_or, slice_get, Option, None, Some, option_and_then, All, refl, sym, ap, subst, arith}
+use Rattle.std.proofs.Common.{◌≡◌, ◌∙◌, ℕ, suc, ℤ, ◌+◌, ◌-◌, ◌≤ℤ◌, Bool, true, false, cond, List, [], ◌∷◌, map, drop, get_or, slice_get, Option, None, Some, option_and_then, All, refl, sym, ap, subst, arith}
 use Rattle.std.proofs.lemmas.Int.{ints}
 use Rattle.std.proofs.lemmas.List.Elements.{All-nil, All-cons, All-map, All-weaker}
 use Rattle.std.specs.Prelude.{⊤}
-use Rattle.std.specs.List.{flat_map, zip}
-use Rattle.std.specs.Option.{option_map, option_map_or}
+use Rattle.std.specs.List.{zip}
+use Rattle.std.specs.Option.{option_map}
 use Rattle.clash_check.proofs.Each.{Each, Each-weaker, Each-append, Each-map, Each-flat_map, Each-drop, Each-take}
 use Rattle.clash_check.proofs.FitLaws.{fit_items, holds_at}
 use Rattle.clash_check.proofs.PieceLaws.{LiesIn, piece_box_is, piece_lies}
@@ -17,21 +17,20 @@ use Rattle.path_geometry.specs.declared.motion.Motion.{Motion}
 use Rattle.protection_zones.specs.Occurrences.{Occurrence, occurrences_of}
 use Rattle.protection_zones.specs.Overlaps.{BoxPlace, ZoneTime, zone_times}
 use Rattle.protection_zones.specs.Pieces.{motion_at, piece_box, piece_boxes, boxes_in_pieces}
-use Rattle.protection_zones.specs.Spans.{Beginning, Span, beginning_after, entry_of_beginning, first_beginning, span_to_end, span_until, spans_from, spans_of}
-use Rattle.protection_zones.specs.Stretches.{StretchView, stretch_between, stretch_of_span, free_stretch, spans_between, stretches_held_by, stretches_in_tenure, stretches_of_zone, all_stretches}
+use Rattle.protection_zones.specs.Spans.{Beginning, Span, beginning_after, entry_of_beginning, first_beginning, span_until, spans_from, spans_of}
+use Rattle.protection_zones.specs.Stretches.{StretchView, stretch_between, stretch_of_span, spans_between, stretches_held_by, stretches_in_tenure, stretches_of_zone, all_stretches}
 use Rattle.protection_zones.specs.Tenures.{Tenure, tenures_of}
 use Rattle.protection_zones.specs.ZoneBoxes.{IsFit, PlaceBox, Opened, Shut, Waiting, Moving, closed, closed_before, next_open, walk, boxes_of, shown_box, cover_during, seen, stand_after, low_in, high_in, zone_box}
 use Rattle.protection_zones.specs.declared.sights.Sight.{Sight}
 use Rattle.protection_zones.specs.declared.sights.Sight.TheVariants.{Nothing, Turns, Moves}
-use Rattle.protection_zones.specs.declared.stretches.ZoneBox.{ZoneBox}
 use Rattle.swept_boxes.proofs.PieceLaws.{in_cover}
 use Rattle.swept_boxes.specs.Boxes.{low_of, high_of}
 use Rattle.swept_boxes.specs.Cover.{cover_of}
 use Rattle.swept_boxes.specs.Pieces.{pieces_at}
-use Rattle.swept_boxes.specs.Ranges.{RangesView, LieIn}
+use Rattle.swept_boxes.specs.Ranges.{LieIn}
 use Rattle.swept_boxes.specs.declared.Box3.{Box3}
 use Rattle.sync_types.specs.Boards.{Board}
-use Rattle.sync_types.specs.Items.{motion_in, motion_of, movement_in, movement_of}
+use Rattle.sync_types.specs.Items.{motion_in, motion_of, movement_in}
 use Rattle.sync_types.specs.Views.{RunView}
 use Rattle.sync_types.specs.declared.Item.{Item}
 use Rattle.sync_types.specs.declared.Part.{Part}

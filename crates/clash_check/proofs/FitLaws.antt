@@ -1,5 +1,5 @@
 -- The motions of a run are sound.
-use Rattle.std.proofs.Common.{◌≡◌, ℕ, zero, suc, ◌-◌, ◌<◌, List, [], ◌∷◌, get_or, slice_get, Option, None, Some, option_and_then, All, refl, subst, arith}
+use Rattle.std.proofs.Common.{◌≡◌, ℕ, zero, suc, ◌-◌, List, [], ◌∷◌, get_or, slice_get, Option, None, Some, option_and_then, All, refl, subst, arith}
 use Rattle.std.proofs.lemmas.List.Elements.{All-nil}
 use Rattle.path_geometry.specs.Motions.{IsSound}
 use Rattle.path_geometry.specs.declared.motion.Motion.{Motion}

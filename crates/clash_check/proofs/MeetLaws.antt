@@ -1,18 +1,18 @@
 -- The first two boxes that meet, as they are sought, are the first compared pair that meets.
-use Rattle.std.proofs.Common.{◌≡◌, ◌∙◌, ℕ, ◌==◌, ◌&&◌, ◌||◌, not, Bool, true, false, cond, List, [], ◌∷◌, ◌++◌, map, filter, find, length, Option, None, Some, All, refl, sym, ap}
+use Rattle.std.proofs.Common.{◌≡◌, ◌∙◌, ◌==◌, ◌&&◌, ◌||◌, not, Bool, true, false, cond, List, [], ◌∷◌, map, filter, find, length, Option, None, Some, All, refl, sym, ap}
 use Rattle.std.proofs.lemmas.List.Elements.{All-head, All-tail, All-weaker}
 use Rattle.std.specs.List.{flat_map, list_any}
 use Rattle.std.specs.Option.{option_map, option_or}
 use Rattle.clash_check.proofs.CoverLaws.{IsInCover, AreInCover, IsTimeInCover}
 use Rattle.clash_check.proofs.Each.{Each}
-use Rattle.clash_check.proofs.FirstLaws.{find-flat_map, find-made, first_some-append, first_some-each, first_some-filter, first_some-map, first_some-none, first_some-same, guarded_first, unless, unless_empty}
+use Rattle.clash_check.proofs.FirstLaws.{find-flat_map, find-made, first_some-append, first_some-each, first_some-filter, first_some-map, first_some-none, guarded_first, unless, unless_empty}
 use Rattle.clash_check.proofs.PieceLaws.{LiesIn, meet_wider, meet_wider_last}
 use Rattle.clash_check.specs.FirstAnswer.{first_some}
-use Rattle.clash_check.specs.Meetings.{Names, Case, place_of, touches, compared, names_where_met, is_near_any, first_touched, first_in_stretches, first_against, first_of_zones, first_in_times}
+use Rattle.clash_check.specs.Meetings.{Names, Case, place_of, touches, compared, names_where_met, first_touched, first_in_stretches, first_against, first_of_zones, first_in_times}
 use Rattle.clash_check.specs.Verdicts.{name_of}
 use Rattle.job_types.specs.Job.{JobView}
 use Rattle.job_types.specs.declared.job.ZoneLine.{ZoneLine}
-use Rattle.protection_zones.specs.Overlaps.{Order, BoxPlace, Pair, ZoneTime, may_overlap, share_channel, share_place, box_pairs, stretch_pairs, pairs_of_zones, pairs_by_group, zone_times, compared_pairs}
+use Rattle.protection_zones.specs.Overlaps.{BoxPlace, Pair, ZoneTime, may_overlap, share_channel, box_pairs, stretch_pairs, pairs_of_zones, pairs_by_group, zone_times, compared_pairs}
 use Rattle.protection_zones.specs.Pieces.{piece_boxes, pair_meets}
 use Rattle.protection_zones.specs.Stretches.{StretchView, StretchesView}
 use Rattle.protection_zones.specs.declared.stretches.ZoneBox.{ZoneBox}

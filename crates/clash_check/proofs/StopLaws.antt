@@ -1,5 +1,5 @@
 -- The channels of a job with how each has stopped, one by one.
-use Rattle.std.proofs.Common.{◌≡◌, ◌∙◌, ℕ, zero, suc, ◌+◌, ◌-◌, ◌<◌, ◌≤◌, Bool, true, false, cond, List, [], ◌∷◌, ◌++◌, drop, filter, length, length-append, get_or, refl, sym, ap, subst, append_assoc, arith}
+use Rattle.std.proofs.Common.{◌≡◌, ◌∙◌, ℕ, zero, suc, ◌+◌, ◌-◌, ◌<◌, ◌≤◌, Bool, true, false, List, [], ◌∷◌, ◌++◌, drop, filter, length, length-append, get_or, refl, sym, ap, append_assoc, arith}
 use Rattle.std.specs.List.{range_with_len, zip}
 
 -- the numbers left, from one that passes the test, or does not

@@ -7,7 +7,7 @@ use Rattle.std.proofs.lemmas.List.{length-map}
 use Rattle.std.specs.Option.{option_map_or, option_or}
 use Rattle.std.proofs.lemmas.List.Sums.{sum_by-cons}
 use Rattle.clash_check.specs.FirstAnswer.{first_some}
-use Rattle.clash_check.specs.Meetings.{Case, Names, first_of_zones, first_in_times, first_with_place, first_from_place}
+use Rattle.clash_check.specs.Meetings.{Case, first_of_zones, first_in_times, first_with_place, first_from_place}
 use Rattle.clash_check.specs.PairCounts.{capped, count_of_zones, count_in_times, count_with_place, count_from_place}
 use Rattle.clash_check.specs.Times.{lists_in, times_in, times_from}
 use Rattle.job_types.specs.Job.{JobView}

@@ -8,13 +8,13 @@ use Rattle.clash_check.proofs.Each.{Each}
 use Rattle.clash_check.proofs.MeetLaws.{names_of, meetings_are}
 use Rattle.clash_check.specs.Counts.{count_of}
 use Rattle.clash_check.specs.Judged.{IsTold}
-use Rattle.clash_check.specs.Meetings.{Case, Names, first_in_times}
+use Rattle.clash_check.specs.Meetings.{Names, first_in_times}
 use Rattle.clash_check.specs.Verdicts.{budget_verdict, meeting_verdict, no_by, or_else}
 use Rattle.job_types.specs.Job.{JobView}
 use Rattle.order_clocks.specs.Clocked.{ClocksView}
 use Rattle.protection_zones.specs.Overlaps.{Order, Pair, compared_pairs, zone_times}
 use Rattle.protection_zones.specs.Pieces.{pair_meets}
-use Rattle.protection_zones.specs.Stretches.{StretchesView, all_stretches}
+use Rattle.protection_zones.specs.Stretches.{StretchesView}
 use Rattle.protection_zones.specs.ZoneBoxes.{IsFit}
 use Rattle.sync_types.specs.Boards.{first_board}
 use Rattle.sync_types.specs.Views.{RunView}

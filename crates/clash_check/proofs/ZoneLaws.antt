@@ -1,5 +1,5 @@
 -- What a range of numbers gives, from the first on.
-use Rattle.std.proofs.Common.{◌≡◌, ◌∙◌, ℕ, zero, suc, ◌+◌, ◌-◌, ◌<◌, List, [], ◌∷◌, slice_get, Option, None, Some, refl, sym, ap, arith}
+use Rattle.std.proofs.Common.{◌≡◌, ◌∙◌, ℕ, suc, ◌+◌, ◌-◌, ◌<◌, List, slice_get, Option, None, Some, sym, ap, arith}
 use Rattle.std.specs.List.{cons_option, filter_map, range_with_len}
 
 module _ {X : Type 0} (h : ℕ → Option X) (over : ℕ) where

@@ -62,3 +62,28 @@ pub(crate) fn any_meet(boxes: &[Box3], others: &[Box3]) -> bool
 {
     boxes.iter().any(|piece| meets_any(piece, others))
 }
+
+#[cfg(test)]
+mod tests {
+    use super::plain_first;
+    use std::test::Fail;
+    use swept_boxes::Box3;
+
+    /// A cube of this side whose lowest corner is there three times.
+    fn cube(at: i32, side: u8) -> Box3 {
+        let end = at.saturating_add(i32::from(side));
+        Box3 {
+            lo: [at, at, at],
+            hi: [end, end, end],
+        }
+    }
+
+    #[test]
+    fn the_first_two_that_touch(rt: HostRuntime) -> Result<(), Fail> {
+        let left = [cube(0, 1), cube(10, 2), cube(20, 2)];
+        let right = [cube(30, 1), cube(22, 1), cube(12, 9)];
+        assert_eq!(rt; plain_first(&left, &right), Some((1, 2)));
+        assert_eq!(rt; plain_first(&left, &right[..1]), None);
+        Ok(())
+    }
+}

@@ -1,7 +1,7 @@
-use Rattle.std.proofs.Common.{◌≡◌, ◌∙◌, List, Option, sym, ap}
+use Rattle.std.proofs.Common.{◌∙◌, List, sym, ap}
 use Rattle.order_clocks.specs.Tells.{is_before_in}
 use Rattle.clash_check.proofs.VerdictLaws.{by_names, verdict_by_names}
-use Rattle.clash_check.specs.Meetings.{Case, Names, first_in_times}
+use Rattle.clash_check.specs.Meetings.{Case, first_in_times}
 use Rattle.clash_check.specs.Times.{times_from}
 use Rattle.protection_zones.specs.Overlaps.{zone_times}
 use Rattle.protection_zones.specs.Stretches.{StretchView}

@@ -1,4 +1,4 @@
-use Rattle.std.proofs.Common.{◌+◌, ◌∙◌, List, Option, refl, sym, ap, arith}
+use Rattle.std.proofs.Common.{◌+◌, ◌∙◌, Option, refl, sym, ap, arith}
 use Rattle.std.specs.Option.{option_or}
 use Rattle.order_clocks.specs.Tells.{is_before_in}
 use Rattle.clash_check.proofs.TimeLaws.{first_with_left, no_times_left, within_lists, past_lists}

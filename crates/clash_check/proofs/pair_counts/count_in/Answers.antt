@@ -1,4 +1,4 @@
-use Rattle.std.proofs.Common.{◌+◌, List, refl, ap, arith}
+use Rattle.std.proofs.Common.{◌+◌, refl, ap, arith}
 use Rattle.order_clocks.specs.Tells.{is_before_in}
 use Rattle.clash_check.proofs.TimeLaws.{counted_more, counted_all, counted_from_place, no_times_left, within_lists, past_lists}
 use Rattle.clash_check.specs.PairCounts.{count_in_times}
