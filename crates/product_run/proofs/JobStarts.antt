@@ -15,6 +15,7 @@ use Rattle.axis_sets.specs.Sets.{has}
 use Rattle.block_motions.proofs.Ends.{le_or_lt}
 use Rattle.channel_machine.proofs.StartLaws.{axis_found, channel_found, zone_found}
 use Rattle.channel_machine.specs.Coordination.{has_all_of, is_carried, is_side_of}
+use Rattle.channel_machine.specs.Grants.{has_none_of, is_side_apart}
 use Rattle.channel_machine.specs.StartStates.{carriers, first_axes, first_axis, first_channel, first_zone, first_zones, line_of_channel, line_of_zone, place_of_name, start_of}
 use Rattle.job_types.proofs.Owners.{carrier_there}
 use Rattle.job_types.specs.Job.{JobView, ProgramView}
@@ -34,6 +35,10 @@ use Rattle.sync_types.specs.Starts as start
 -- what passes a test is found
 found_some : {X : Type 0} (test : X → Bool) (xs : List X) → list_any test xs ≡ true → find test xs ≡ None → ⊥
 found_some test xs some none = none_found test xs none (some-list_any test xs some)
+
+or_true : (a b : Bool) → a ≡ true → (a || b) ≡ true
+or_true true b on = refl
+or_true false b on = no_truth false on refl
 
 or_more : (a b : Bool) → b ≡ true → (a || b) ≡ true
 or_more true b on = refl
@@ -62,6 +67,16 @@ found_once {X} key test (x ∷ xs) n pairs some = by_key (key x == n) (test x) r
     by_key true true at is more rest = (x, refl, is)
     by_key true false at is more rest = no_truth (list_any (λ y. (key y == n) && test y) xs) more (none_later xs others (eqb-true (key x) n at))
     by_key false passes at is more rest = rest more
+
+-- what is found and passes
+pub passes_found : {X : Type 0} (key test : X → Bool) (xs : List X) (x : X) → find key xs ≡ Some x → test x ≡ true → list_any (λ y. key y && test y) xs ≡ true
+passes_found key test [] x is on = absurd cc
+passes_found {X} key test (y ∷ ys) x is on = by_key (key y) is (λ found. passes_found key test ys x found on)
+  where
+    by_key : (here : Bool) → cond here (Some y) (find key ys) ≡ Some x → (find key ys ≡ Some x → list_any (λ z. key z && test z) ys ≡ true)
+        → ((here && test y) || list_any (λ z. key z && test z) ys) ≡ true
+    by_key true is rest = let same : y ≡ x = cc in or_true (test y) (list_any (λ z. key z && test z) ys) (ap test same ∙ on)
+    by_key false is rest = rest is
 
 -- what passes wherever it is found by its key
 pub each_by_key : {X : Type 0} (key : X → ℕ) (test : X → Bool) (xs : List X) → AllPairs (λ x y. key x ≢ key y) xs
@@ -156,6 +171,34 @@ in_all axes zone x all on = by_sides zone.sides all on
             → (list_any (λ s. is_carrier x s.carrier) sides ≡ true → has axes x ≡ true) → has axes x ≡ true
         by_here true is on rest = by_carrier side.carrier (and_parts (is_side_of axes side.carrier) (list_all (λ s. is_side_of axes s.carrier) sides) all).0 is
         by_here false is on rest = rest on
+
+-- and a set that has each of them has all of it
+pub all_of : (axes : List Bool) (zone : ZoneLine) → ((x : ℕ) → has_axis zone x ≡ true → has axes x ≡ true) → has_all_of axes zone ≡ true
+unfolding has_all_of has_axis
+all_of axes zone each = by_sides zone.sides each
+  where
+    by_carrier : (o : Option (ℕ × Bool)) → ((x : ℕ) → is_carrier x o ≡ true → has axes x ≡ true) → is_side_of axes o ≡ true
+    by_carrier None each = refl
+    by_carrier (Some carrier) each = each carrier.0 (eq-eqb carrier.0 carrier.0 refl)
+
+    by_sides : (sides : List Side) → ((x : ℕ) → list_any (λ side. is_carrier x side.carrier) sides ≡ true → has axes x ≡ true) → list_all (λ side. is_side_of axes side.carrier) sides ≡ true
+    by_sides [] each = refl
+    by_sides (side ∷ sides) each =
+        rw (by_carrier side.carrier (λ x on. each x (or_true (is_carrier x side.carrier) (list_any (λ s. is_carrier x s.carrier) sides) on))) (by_sides sides (λ x on. each x (or_more (is_carrier x side.carrier) (list_any (λ s. is_carrier x s.carrier) sides) on)))
+
+-- one that has none of them has none of it
+pub none_of : (axes : List Bool) (zone : ZoneLine) → ((x : ℕ) → has_axis zone x ≡ true → has axes x ≡ false) → has_none_of axes zone ≡ true
+unfolding has_none_of has_axis
+none_of axes zone each = by_sides zone.sides each
+  where
+    by_carrier : (o : Option (ℕ × Bool)) → ((x : ℕ) → is_carrier x o ≡ true → has axes x ≡ false) → is_side_apart axes o ≡ true
+    by_carrier None each = refl
+    by_carrier (Some carrier) each = ap not (each carrier.0 (eq-eqb carrier.0 carrier.0 refl))
+
+    by_sides : (sides : List Side) → ((x : ℕ) → list_any (λ side. is_carrier x side.carrier) sides ≡ true → has axes x ≡ false) → list_all (λ side. is_side_apart axes side.carrier) sides ≡ true
+    by_sides [] each = refl
+    by_sides (side ∷ sides) each =
+        rw (by_carrier side.carrier (λ x on. each x (or_true (is_carrier x side.carrier) (list_any (λ s. is_carrier x s.carrier) sides) on))) (by_sides sides (λ x on. each x (or_more (is_carrier x side.carrier) (list_any (λ s. is_carrier x s.carrier) sides) on)))
 
 -- an axis of a zone that some axis carries
 pub carried_by : (zone : ZoneLine) → is_carried zone ≡ true → (x : ℕ) × (has_axis zone x ≡ true)

@@ -19,3 +19,4 @@ pub mod Owning
 pub mod JobStarts
 pub mod OwnedRuns
 pub mod Switching
+pub mod FittingGrants

@@ -30,7 +30,7 @@ held_at setting [] all place item is = absurd cc
 held_at setting (first ∷ items) all zero item is = let same : first ≡ item = cc in subst (λ (i : Item). SwitchesHeld setting i.part) same all.0
 held_at setting (first ∷ items) all (suc place) item is = held_at setting items all.1 place item is
 
-owner_is : (o : Option ℕ) (c : ℕ) → is_this o c ≡ true → o ≡ Some c
+pub owner_is : (o : Option ℕ) (c : ℕ) → is_this o c ≡ true → o ≡ Some c
 owner_is None c is = no_truth false is refl
 owner_is (Some d) c is = ap (λ (n : ℕ). Some n) (eqb-true d c is)
 

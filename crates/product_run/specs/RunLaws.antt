@@ -1,9 +1,11 @@
 -- Law. What is so of all runs of a job.
-use Rattle.std.specs.Prelude.{◌≡◌, ℕ, ℤ, pos, ◌+◌, ◌*◌, ◌<◌, ◌≤◌, true, Bool, All, List, [], ◌∷◌, ◌++◌, length, slice_get, sum_by, take, Some, unwrap_or}
+use Rattle.std.specs.Prelude.{◌≡◌, ℕ, ℤ, pos, ◌+◌, ◌*◌, ◌<◌, ◌≤◌, true, Bool, All, List, [], ◌∷◌, ◌++◌, length, slice_get, sum_by, take, Option, Some, unwrap_or}
 use Rattle.axis_sets.specs.Positions.{position_of, stands}
 use Rattle.axis_sets.specs.Sets.{has}
 use Rattle.axis_sets.specs.declared.limits.TheConstants.{AXIS_LIMIT, CHANNEL_LIMIT}
 use Rattle.block_motions.specs.Motions.{IsMotionOf}
+use Rattle.channel_machine.specs.Grants.{grant_fits}
+use Rattle.channel_machine.specs.Kept.{StateView}
 use Rattle.channel_machine.specs.Run.{stands_after, surroundings_of}
 use Rattle.channel_machine.specs.StartStates.{start_of}
 use Rattle.channel_machine.specs.declared.limits.TheConstants.{BLOCK_LIMIT}
@@ -12,6 +14,7 @@ use Rattle.job_types.specs.SoundJob.{IsSoundJob}
 use Rattle.nc_faults.specs.Texts.{IsAlarmCode}
 use Rattle.path_geometry.specs.Motions.{axes_of, IsSound as IsSoundMotion}
 use Rattle.path_geometry.specs.declared.motion.Motion.{Motion}
+use Rattle.product_run.specs.Kept.{IsKeptOf}
 use Rattle.product_run.specs.Scripts.{IsRunInOrder, channel_after_grants, script_of, segment_after}
 use Rattle.sync_types.specs.Boards.{IsRunning, Board, is_running, owns}
 use Rattle.sync_types.specs.Items.{left_at, motion_of, movement_of}
@@ -87,6 +90,15 @@ SwitchesWhatItHolds job cs c = IsRunOf job cs → is_running ((run_stage job cs)
     → (place : ℕ) (item : Item) (zone : ℕ) (on : Bool)
     → slice_get (segment_after job c ((run_stage job cs).grants c)).items place ≡ Some item → item.part ≡ Switch zone on
     → HoldsZone (run_stage job cs).board c zone
+
+-- the grant fits whatever is kept of a channel after its segments with these grants, and where there are none a channel that starts
+abbrev pub FitsAfter : JobView → ℕ → List Grant → Grant → Type 0
+FitsAfter job c made grant = (kept : Option StateView) → IsKeptOf job c made kept → grant_fits job kept grant ≡ true
+
+-- the last grant of a channel that runs fits what is kept of the channel
+abbrev pub GrantsFit : JobView → List ℕ → ℕ → Grant → Type 0
+GrantsFit job cs c grant = IsRunOf job cs → (run_stage job cs).board.state c ≡ IsRunning grant
+    → (made : List Grant) → (run_stage job cs).grants c ≡ made ++ grant ∷ [] → FitsAfter job c made grant
 
 -- ---- the run in order
 
