@@ -1,7 +1,6 @@
 -- Meaning. The verdict on a run of a job: the first that fits of RACE, ALARM, STUCK, UNDECIDED, NO and YES.
 use Rattle.std.specs.Prelude.{ℕ, ◌==◌, nat_lt, Bool, if◌then◌else◌, List, filter, find, Option, None, Some}
 use Rattle.std.specs.List.{list_any, zip}
-use Rattle.std.specs.Option.{option_map_or}
 use Rattle.clash_check.specs.Counts.{count_of}
 use Rattle.clash_check.specs.FirstAnswer.{first_some}
 use Rattle.job_types.specs.Job.{JobView}

@@ -113,9 +113,9 @@ script_few job c (first ∷ rest) =
 
 -- ---- the stages of a run
 
-record IsGoodStage (stage : Stage) : Type 0 where
-  board : IsGood stage.board
-  grants : (d : ℕ) → All IsGoodGrant (stage.grants d)
+pub record IsGoodStage (stage : Stage) : Type 0 where
+  pub board : IsGood stage.board
+  pub grants : (d : ℕ) → All IsGoodGrant (stage.grants d)
 
 state_grants : (s : State) → IsGoodState s → All IsGoodGrant (as_list (grant_in s))
 state_grants (IsRunning grant) good = All-cons IsGoodGrant grant [] good (All-nil IsGoodGrant)
@@ -135,7 +135,7 @@ good_turn job stage c good =
           (λ keeps. good.grants d);
     }
 
-good_stage : (job : JobView) (stage : Stage) (cs : List ℕ) → IsGoodStage stage → IsGoodStage (stage_after (script_of job) stage cs)
+pub good_stage : (job : JobView) (stage : Stage) (cs : List ℕ) → IsGoodStage stage → IsGoodStage (stage_after (script_of job) stage cs)
 good_stage job stage [] good = good
 good_stage job stage (c ∷ cs) good = good_stage job (after_turn (script_of job) stage c) cs (good_turn job stage c good)
 
@@ -195,7 +195,7 @@ unfolding start_of first_axes
 starts_in_range job sound x = found_in_range x (first_axes job)
     (given_all (λ line. IsPosition line.2) (axis_entry job) (λ axis. line_in_range axis (slice_get job.axes axis) (got (λ line. IsPosition line.at) job.axes axis sound.positions)) (range_with_len 0 AXIS_LIMIT))
 
-good_beginning : (job : JobView) → IsSoundJob job → IsGoodStage (first_stage (start_of job))
+pub good_beginning : (job : JobView) → IsSoundJob job → IsGoodStage (first_stage (start_of job))
 good_beginning job sound =
     let board : IsGood (first_board (start_of job)) = good_first (start_of job) (starts_in_range job sound) in
     record { board = board; grants = λ d. state_grants ((first_board (start_of job)).state d) (board.states d) }

@@ -13,3 +13,10 @@ pub mod StepPlaces
 pub mod GoodBoards
 pub mod FewItems
 pub mod GoodRuns
+pub mod AskedSegments
+pub mod KeptMachines
+pub mod Owning
+pub mod JobStarts
+pub mod OwnedRuns
+pub mod Switching
+pub mod FittingGrants

@@ -1,8 +1,11 @@
 -- Law. What is so of all runs of a job.
-use Rattle.std.specs.Prelude.{◌≡◌, ℕ, ℤ, pos, ◌+◌, ◌*◌, ◌<◌, ◌≤◌, All, List, [], ◌∷◌, ◌++◌, length, slice_get, sum_by, take, Some, unwrap_or}
+use Rattle.std.specs.Prelude.{◌≡◌, ℕ, ℤ, pos, ◌+◌, ◌*◌, ◌<◌, ◌≤◌, true, Bool, All, List, [], ◌∷◌, ◌++◌, length, slice_get, sum_by, take, Option, Some, unwrap_or}
 use Rattle.axis_sets.specs.Positions.{position_of, stands}
+use Rattle.axis_sets.specs.Sets.{has}
 use Rattle.axis_sets.specs.declared.limits.TheConstants.{AXIS_LIMIT, CHANNEL_LIMIT}
 use Rattle.block_motions.specs.Motions.{IsMotionOf}
+use Rattle.channel_machine.specs.Grants.{grant_fits}
+use Rattle.channel_machine.specs.Kept.{StateView}
 use Rattle.channel_machine.specs.Run.{stands_after, surroundings_of}
 use Rattle.channel_machine.specs.StartStates.{start_of}
 use Rattle.channel_machine.specs.declared.limits.TheConstants.{BLOCK_LIMIT}
@@ -11,16 +14,18 @@ use Rattle.job_types.specs.SoundJob.{IsSoundJob}
 use Rattle.nc_faults.specs.Texts.{IsAlarmCode}
 use Rattle.path_geometry.specs.Motions.{axes_of, IsSound as IsSoundMotion}
 use Rattle.path_geometry.specs.declared.motion.Motion.{Motion}
+use Rattle.product_run.specs.Kept.{IsKeptOf}
 use Rattle.product_run.specs.Scripts.{IsRunInOrder, channel_after_grants, script_of, segment_after}
-use Rattle.sync_types.specs.Boards.{IsRunning}
+use Rattle.sync_types.specs.Boards.{IsRunning, Board, is_running, owns}
 use Rattle.sync_types.specs.Items.{left_at, motion_of, movement_of}
-use Rattle.sync_types.specs.Runs.{ComesFrom, IsRun, first_stage, stage_after}
-use Rattle.sync_types.specs.Starts.{IsSound}
+use Rattle.sync_types.specs.Runs.{ComesFrom, IsRun, Stage, first_stage, stage_after}
+use Rattle.sync_types.specs.Starts.{IsSound, axes_of_zone}
 use Rattle.sync_types.specs.Views.{StartView, RunView}
 use Rattle.sync_types.specs.declared.ChannelEnd.{ChannelEnd}
 use Rattle.sync_types.specs.declared.ChannelEnd.TheVariants.{Alarmed}
 use Rattle.sync_types.specs.declared.Grant.{Grant}
 use Rattle.sync_types.specs.declared.Item.{Item}
+use Rattle.sync_types.specs.declared.Part.TheVariants.{Switch}
 
 -- ---- how long runs are
 
@@ -58,6 +63,42 @@ pub record StandsByGrants (job : JobView) (c : ℕ) (made : List Grant) (grant n
 abbrev pub HasGotLast : JobView → StartView → List ℕ → ℕ → Grant → Type 0
 HasGotLast job start cs c grant = (stage_after (script_of job) (first_stage start) cs).board.state c ≡ IsRunning grant
     → (made : List Grant) × ((stage_after (script_of job) (first_stage start) cs).grants c ≡ made ++ grant ∷ [])
+
+-- ---- axes and zones in any run
+
+-- how far a run of a job is after the steps of these channels
+abbrev pub run_stage : JobView → List ℕ → Stage
+run_stage job cs = stage_after (script_of job) (first_stage (start_of job)) cs
+
+-- in a run of an accepted job these channels make their steps, one after another
+abbrev pub IsRunOf : JobView → List ℕ → Type 0
+IsRunOf job cs = IsSoundJob job × IsRun (script_of job) (first_stage (start_of job)) cs
+
+-- a channel that runs owns the axes of its grant, and no others
+abbrev pub OwnsItsGrant : JobView → List ℕ → ℕ → Grant → Type 0
+OwnsItsGrant job cs c grant = IsRunOf job cs → (run_stage job cs).board.state c ≡ IsRunning grant
+    → (axis : ℕ) → axis < AXIS_LIMIT → has grant.axes axis ≡ owns (run_stage job cs).board c axis
+
+-- the channel holds the zone, and owns each axis that carries it
+pub record HoldsZone (b : Board) (c zone : ℕ) : Type 0 where
+  pub holder : b.holder zone ≡ Some c
+  pub axes : (axis : ℕ) → has (axes_of_zone b.start zone) axis ≡ true → owns b c axis ≡ true
+
+-- each zone that the segment of a channel switches is one that the channel holds while it runs
+abbrev pub SwitchesWhatItHolds : JobView → List ℕ → ℕ → Type 0
+SwitchesWhatItHolds job cs c = IsRunOf job cs → is_running ((run_stage job cs).board.state c) ≡ true
+    → (place : ℕ) (item : Item) (zone : ℕ) (on : Bool)
+    → slice_get (segment_after job c ((run_stage job cs).grants c)).items place ≡ Some item → item.part ≡ Switch zone on
+    → HoldsZone (run_stage job cs).board c zone
+
+-- the grant fits whatever is kept of a channel after its segments with these grants, and where there are none a channel that starts
+abbrev pub FitsAfter : JobView → ℕ → List Grant → Grant → Type 0
+FitsAfter job c made grant = (kept : Option StateView) → IsKeptOf job c made kept → grant_fits job kept grant ≡ true
+
+-- the last grant of a channel that runs fits what is kept of the channel
+abbrev pub GrantsFit : JobView → List ℕ → ℕ → Grant → Type 0
+GrantsFit job cs c grant = IsRunOf job cs → (run_stage job cs).board.state c ≡ IsRunning grant
+    → (made : List Grant) → (run_stage job cs).grants c ≡ made ++ grant ∷ [] → FitsAfter job c made grant
 
 -- ---- the run in order
 

@@ -1,7 +1,7 @@
 //! What is so of all runs of a job.
 ghost use Rattle.std.specs.Prelude.{ℕ, List};
 ghost use Rattle.job_types.specs.Job.{JobView};
-ghost use Rattle.product_run.specs.RunLaws.{IsShort, MovesWhatItOwns, StandsByGrants, HasGotLast, RunsAreSound, RunsInOrderAreWhole};
+ghost use Rattle.product_run.specs.RunLaws.{IsShort, MovesWhatItOwns, StandsByGrants, HasGotLast, GrantsFit, OwnsItsGrant, SwitchesWhatItHolds, RunsAreSound, RunsInOrderAreWhole};
 ghost use Rattle.sync_types.specs.Views.{StartView, RunView};
 ghost use Rattle.sync_types.specs.declared.Grant.{Grant};
 
@@ -18,6 +18,19 @@ pub fn segments_move_what_they_own()
     ensures moves { (job : JobView) (c : ℕ) (made : List Grant) (grant : Grant) → MovesWhatItOwns job c made grant }
     ensures stands { (job : JobView) (c : ℕ) (made : List Grant) (grant next : Grant) (axis : ℕ) → StandsByGrants job c made grant next axis }
     ensures granted { (job : JobView) (start : StartView) (cs : List ℕ) (c : ℕ) (grant : Grant) → HasGotLast job start cs c grant }
+{}
+
+/// A law: in each run of an accepted job, however its channels take turns, a channel that runs owns the axes of its grant and
+/// no others, and its segment switches only zones that it holds: each axis that carries such a zone is its own.
+pub fn segments_switch_what_they_hold()
+    ensures owns { (job : JobView) (cs : List ℕ) (c : ℕ) (grant : Grant) → OwnsItsGrant job cs c grant }
+    ensures holds { (job : JobView) (cs : List ℕ) (c : ℕ) → SwitchesWhatItHolds job cs c }
+{}
+
+/// A law: in each run of an accepted job, however its channels take turns, the grant with which a channel runs fits what is
+/// kept of the channel after its segments so far, or a channel that starts where it has made none.
+pub fn grants_fit_their_channels()
+    ensures { (job : JobView) (cs : List ℕ) (c : ℕ) (grant : Grant) → GrantsFit job cs c grant }
 {}
 
 /// A law: from a sound start a run in order is a whole run, with items for each of its entries.

@@ -4,3 +4,12 @@ pub mod NoteLaws
 pub mod SpanLaws
 pub mod TenureLaws
 pub mod TimeLaws
+pub mod StretchLaws
+pub mod CoverLaws
+pub mod NameLaws
+pub mod CostLaws
+pub mod BoxCounts
+pub mod OneOrder
+pub mod EventLaws
+pub mod HandLaws
+pub mod AscentLaws

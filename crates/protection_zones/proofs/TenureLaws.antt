@@ -29,7 +29,7 @@ any_none : (sides : List Side) → list_any (λ side. is_carried_by (λ axis. fa
 any_none [] = refl
 any_none (side ∷ sides) = rw (carries_none side.carrier) (any_none sides)
 
-carry_none : (zone : ZoneLine) → carry zone (λ axis. false) ≡ false
+pub carry_none : (zone : ZoneLine) → carry zone (λ axis. false) ≡ false
 carry_none zone = any_none zone.sides
 
 or_false : (b : Bool) → (b || false) ≡ b

@@ -10,3 +10,4 @@ pub mod Pieces
 pub mod Notes
 pub mod Beginnings
 pub mod Terms
+pub mod SoundStretches

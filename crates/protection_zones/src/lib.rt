@@ -1,6 +1,7 @@
 //! The time of each protection zone in a run: the stretches into which it falls, and the boxes of each.
 #![tactic(auto)]
 
+mod laws;
 mod notes;
 mod rows;
 mod sights;
@@ -12,6 +13,10 @@ mod times;
 mod zone_boxes;
 mod zone_time;
 
+pub use laws::{
+    boxes_are_few, boxes_have_covers, ends_are_lowest_names, orders_compare_the_same,
+    stretches_ascend,
+};
 pub(crate) use rows::Row;
 pub use sights::Sight;
 pub use stretches::{Stretch, Stretches, ZoneBox};

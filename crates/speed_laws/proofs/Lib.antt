@@ -17,3 +17,4 @@ pub mod Owners
 pub mod NoJumps
 pub mod Ends
 pub mod Soundness
+pub mod StartZones

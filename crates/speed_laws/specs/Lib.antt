@@ -4,3 +4,4 @@ pub mod Channels
 pub mod SmallSteps
 pub mod Safety
 pub mod EachOnce
+pub mod ZoneTimes

@@ -13,6 +13,7 @@ ghost use Rattle.protection_zones.specs.Stretches.{all_stretches};
 ghost use Rattle.speed_laws.specs.EachOnce.{IsEachOnce};
 ghost use Rattle.speed_laws.specs.Safety.{CanEnd, NoJump, SafeAlways};
 ghost use Rattle.speed_laws.specs.Uncoordinated.{IsUncoordinated};
+ghost use Rattle.speed_laws.specs.ZoneTimes.{ZoneTimesInOrder};
 ghost use Rattle.sync_types.specs.Boards.{first_board};
 ghost use Rattle.sync_types.specs.Views.{RunView};
 
@@ -36,4 +37,10 @@ pub fn axes_never_jump()
 /// running channel can go on to its end.
 pub fn channels_can_end()
     ensures { (job : JobView) → IsSoundJob job → IsUncoordinated job → CanEnd job }
+{}
+
+/// A law: in each whole run of an accepted job the time of each zone falls into its stretches: the first begins with the job,
+/// each ends with a later event, with which the next one begins, and the last one lasts.
+pub fn zone_times_are_in_order()
+    ensures { (job : JobView) (run : RunView) → ZoneTimesInOrder job run }
 {}

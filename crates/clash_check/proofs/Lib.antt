@@ -1,0 +1,12 @@
+pub mod FitLaws
+pub mod Each
+pub mod Directions
+pub mod PieceLaws
+pub mod CoverLaws
+pub mod FirstLaws
+pub mod TimeLaws
+pub mod ZoneLaws
+pub mod MeetLaws
+pub mod CountLaws
+pub mod StopLaws
+pub mod VerdictLaws

@@ -1,0 +1,56 @@
+-- The verdict, by what comes first.
+use Rattle.std.proofs.Common.{◌≡◌, ◌∙◌, ℕ, ◌<◌, ◌≤◌, Bool, true, false, cond, nat_lt, Option, None, Some, find, refl, sym, ap, subst, arith}
+use Rattle.std.proofs.lemmas.Bool.{lt-ltb, ltb-true}
+use Rattle.std.specs.Option.{option_map}
+use Rattle.std.specs.List.{All}
+use Rattle.clash_check.proofs.CoverLaws.{IsTimeInCover, times_in_cover}
+use Rattle.clash_check.proofs.Each.{Each}
+use Rattle.clash_check.proofs.MeetLaws.{names_of, meetings_are}
+use Rattle.clash_check.specs.Counts.{count_of}
+use Rattle.clash_check.specs.Judged.{IsTold}
+use Rattle.clash_check.specs.Meetings.{Names, first_in_times}
+use Rattle.clash_check.specs.Verdicts.{budget_verdict, meeting_verdict, no_by, or_else}
+use Rattle.job_types.specs.Job.{JobView}
+use Rattle.order_clocks.specs.Clocked.{ClocksView}
+use Rattle.protection_zones.specs.Overlaps.{Order, Pair, compared_pairs, zone_times}
+use Rattle.protection_zones.specs.Pieces.{pair_meets}
+use Rattle.protection_zones.specs.Stretches.{StretchesView}
+use Rattle.protection_zones.specs.ZoneBoxes.{IsFit}
+use Rattle.sync_types.specs.Boards.{first_board}
+use Rattle.sync_types.specs.Views.{RunView}
+use Rattle.sync_types.specs.declared.verdicts.Verdict.{Verdict}
+use Rattle.sync_types.specs.declared.verdicts.Verdict.TheVariants as verdicts
+
+-- UNDECIDED
+pub too_many : (before : Order) (job : JobView) (stretches : StretchesView) (n : ℕ) (later : Verdict) → n ≡ count_of before job stretches → job.budget < n
+    → or_else (budget_verdict before job stretches) later ≡ verdicts.Undecided n job.budget
+unfolding budget_verdict
+too_many before job stretches n later counted many = let more : nat_lt job.budget n ≡ true = lt-ltb job.budget n many in rw (← counted, more) refl
+
+pub few_enough : (before : Order) (job : JobView) (stretches : StretchesView) (n : ℕ) (later : Verdict) → n ≡ count_of before job stretches → n ≤ job.budget
+    → or_else (budget_verdict before job stretches) later ≡ later
+unfolding budget_verdict
+few_enough before job stretches n later counted few = by_count (nat_lt job.budget (count_of before job stretches)) refl
+  where
+    by_count : (b : Bool) → nat_lt job.budget (count_of before job stretches) ≡ b
+        → or_else (cond b (Some (verdicts.Undecided (count_of before job stretches) job.budget)) None) later ≡ later
+    by_count true e = let many : job.budget < count_of before job stretches = ltb-true job.budget (count_of before job stretches) e in absurd (omega arith)
+    by_count false e = refl
+
+-- NO by the names of two boxes, or YES
+abbrev pub verdict_by_names : Option Names → Verdict
+verdict_by_names None = verdicts.Yes
+verdict_by_names (Some names) = verdicts.No names.0 names.1
+
+pub by_names : (job : JobView) (run : RunView) (stretches : StretchesView) (clocks : ClocksView) (before : Order) → IsTold job run stretches clocks → All (All IsFit) run.items
+    → verdict_by_names (first_in_times (record { job = job; run = run; before = before }) (zone_times job stretches)) ≡ or_else (meeting_verdict before job run stretches) verdicts.Yes
+unfolding meeting_verdict
+by_names job run stretches clocks before told fit =
+    ap verdict_by_names (sym (meetings_are (record { job = job; run = run; before = before }) stretches in_cover)) ∙ by_found (find (pair_meets job run) (compared_pairs before job stretches))
+  where
+    in_cover : Each (IsTimeInCover job run) (zone_times job stretches)
+    in_cover = subst (λ (s : StretchesView). Each (IsTimeInCover job run) (zone_times job s)) (sym told.told) (times_in_cover job (first_board told.start) run fit)
+
+    by_found : (o : Option Pair) → verdict_by_names (option_map names_of o) ≡ or_else (no_by o) verdicts.Yes
+    by_found None = refl
+    by_found (Some pair) = refl

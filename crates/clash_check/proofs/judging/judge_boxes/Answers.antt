@@ -1,0 +1,22 @@
+use Rattle.std.proofs.Common.{◌∙◌, List, sym, ap}
+use Rattle.order_clocks.specs.Tells.{is_before_in}
+use Rattle.clash_check.proofs.VerdictLaws.{by_names, verdict_by_names}
+use Rattle.clash_check.specs.Meetings.{Case, first_in_times}
+use Rattle.clash_check.specs.Times.{times_from}
+use Rattle.protection_zones.specs.Overlaps.{zone_times}
+use Rattle.protection_zones.specs.Stretches.{StretchView}
+use Rattle.clash_check.proofs.judging.judge_boxes.Goals as goal
+
+pub returns-in-Some : goal.returns-in-Some
+unfolding zone_times
+returns-in-Some c =
+    let case : Case = record { job = c.args.job.now; run = c.args.run.now; before = is_before_in c.args.clocks.now.rows } in
+    ap verdict_by_names (sym c.in-Some.is ∙ c.first_meeting.ensures ∙ ap (λ (lists : List (List StretchView)). first_in_times case (times_from case.job lists 0)) c.lists_of.ensures)
+    ∙ by_names c.args.job.now c.args.run.now c.args.stretches.now c.args.clocks.now case.before c.requires.told c.requires.fit
+
+pub returns-in-None : goal.returns-in-None
+unfolding zone_times
+returns-in-None c =
+    let case : Case = record { job = c.args.job.now; run = c.args.run.now; before = is_before_in c.args.clocks.now.rows } in
+    ap verdict_by_names (sym c.in-None.is ∙ c.first_meeting.ensures ∙ ap (λ (lists : List (List StretchView)). first_in_times case (times_from case.job lists 0)) c.lists_of.ensures)
+    ∙ by_names c.args.job.now c.args.run.now c.args.stretches.now c.args.clocks.now case.before c.requires.told c.requires.fit

@@ -1,0 +1,51 @@
+-- Steps. How many pairs of boxes are compared, zone by zone.
+use Rattle.std.specs.Prelude.{ℕ, ◌+◌, ◌*◌, ◌-◌, ◌^◌, ◌==◌, min, if◌then◌else◌, List, [], ◌∷◌, length, slice_get, slice_index_or, sum_by}
+use Rattle.std.specs.List.{count_by}
+use Rattle.std.specs.Option.{option_map_or}
+use Rattle.clash_check.specs.Times.{times_from}
+use Rattle.job_types.specs.Job.{JobView}
+use Rattle.job_types.specs.Zones.{zones_in_order}
+use Rattle.protection_zones.specs.Overlaps.{Order, ZoneTime, may_overlap, share_channel, share_place}
+use Rattle.protection_zones.specs.Stretches.{StretchView}
+use Rattle.protection_zones.specs.declared.stretches.ZoneBox.{ZoneBox}
+
+-- a number, or the greatest that is counted
+abbrev pub capped : ℕ → ℕ
+capped n = min n (2 ^ 64 - 1)
+
+-- the pairs of boxes with a place in common
+unfoldable pub count_sharing : List ZoneBox → List ZoneBox → ℕ
+count_sharing left right = sum_by (λ own. count_by (share_place own) right) left
+
+-- the pairs of two stretches that may overlap
+unfoldable pub count_in_boxes : StretchView → StretchView → ℕ
+count_in_boxes left right =
+    if share_channel left.name.channel right.name.channel then count_sharing left.boxes right.boxes else length left.boxes * length right.boxes
+
+-- the pairs of two stretches; one with no boxes is looked at once
+unfoldable pub count_in_stretches : Order → StretchView → StretchView → ℕ
+count_in_stretches before left right = if length right.boxes == 0 then 0 else (if may_overlap before left right then count_in_boxes left right else 0)
+
+-- the pairs of a stretch with the stretches of the other zone
+unfoldable pub count_against : Order → List StretchView → StretchView → ℕ
+count_against before others left = if length left.boxes == 0 then 0 else sum_by (count_in_stretches before left) others
+
+-- the pairs of two zones
+unfoldable pub count_of_zones : Order → ZoneTime → ZoneTime → ℕ
+count_of_zones before one two = if one.zone.group == two.zone.group then 0 else sum_by (count_against before two.stretches) one.stretches
+
+-- the pairs of each zone with each later one
+abbrev pub count_in_times : Order → List ZoneTime → ℕ
+count_in_times before [] = 0
+count_in_times before (one ∷ others) = sum_by (count_of_zones before one) others + count_in_times before others
+
+-- the pairs of a zone with that of this place
+abbrev pub count_with_place : Order → ZoneTime → JobView → List (List StretchView) → ℕ → ℕ
+count_with_place before one job lists place =
+    option_map_or (λ zone. count_of_zones before one (record { zone = zone; stretches = slice_index_or lists place [] })) (slice_get (zones_in_order job) place) 0
+
+-- the pairs of the zone of this place with each later one
+abbrev pub count_from_place : Order → JobView → List (List StretchView) → ℕ → ℕ
+count_from_place before job lists place =
+    option_map_or (λ zone. sum_by (count_of_zones before (record { zone = zone; stretches = slice_index_or lists place [] })) (times_from job lists (place + 1)))
+    (slice_get (zones_in_order job) place) 0

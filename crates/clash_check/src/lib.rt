@@ -1,0 +1,16 @@
+//! The verdict on a run of a job: whether two of its zones may meet, and the first two boxes that do.
+#![tactic(auto)]
+
+mod bounds;
+mod boxes;
+mod judging;
+mod meetings;
+mod overlaps;
+mod pair_counts;
+mod pieces;
+mod stops;
+mod zones;
+
+pub use boxes::plain_first;
+pub use judging::judge;
+pub use pair_counts::count;

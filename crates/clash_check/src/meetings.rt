@@ -1,0 +1,320 @@
+//! The first two boxes that meet, of zones that may not.
+ghost use Rattle.std.specs.Prelude.{◌≡◌, ◌≤◌, ◌<◌, ◌&&◌, All, length};
+ghost use Rattle.std.specs.List.{list_any};
+ghost use Rattle.clash_check.specs.FirstAnswer.{first_some};
+ghost use Rattle.clash_check.specs.Meetings as model;
+ghost use Rattle.clash_check.specs.Times.{lists_in, times_from};
+ghost use Rattle.clash_check.specs.Verdicts.{name_of};
+ghost use Rattle.job_lines.specs.declared.limits.TheConstants.{DEPTH_LIMIT};
+ghost use Rattle.order_clocks.specs.Tells.{is_before_in};
+ghost use Rattle.protection_zones.specs.Overlaps.{share_channel};
+ghost use Rattle.protection_zones.specs.Pieces.{piece_boxes};
+ghost use Rattle.protection_zones.specs.ZoneBoxes.{IsFit};
+ghost use Rattle.swept_boxes.specs.Boxes.{boxes_meet};
+
+use crate::boxes::{any_meet, any_meets, do_meet};
+use crate::overlaps::{are_compared, may_overlap, share_channel};
+use crate::pieces::boxes_by_pieces;
+use crate::zones::zone_at;
+use job_types::{Job, ZoneLine};
+use order_clocks::Clocks;
+use protection_zones::{Stretch, ZoneBox};
+use swept_boxes::Box3;
+use sync_types::{PlaceName, Run};
+
+/// A job with a run of it and the order of its events.
+#[derive(Clone, Copy)]
+pub(crate) struct Scene<'a> {
+    /// The job.
+    pub(crate) job: &'a Job,
+    /// The run.
+    pub(crate) run: &'a Run,
+    /// The order of its events.
+    pub(crate) clocks: &'a Clocks,
+}
+
+/// A stretch of a zone.
+#[derive(Clone, Copy)]
+pub(crate) struct Held<'a> {
+    /// The zone.
+    pub(crate) zone: &'a ZoneLine,
+    /// The stretch.
+    pub(crate) stretch: &'a Stretch,
+}
+
+/// How a box of a stretch is named.
+#[tactic(auto, unfolding(crate::specs::Verdicts::name_of))]
+fn named(held: &Held, own: &ZoneBox) -> PlaceName
+    ensures { result ≡ name_of (model.place_of held.now.zone.now held.now.stretch.now own.now) }
+{
+    let stretch = held.stretch;
+    PlaceName {
+        line: own.line,
+        ..stretch.name
+    }
+}
+
+/// Whether some boxes in this cover, and the boxes by which a box of a stretch is compared, meet: the covers first, then the
+/// boxes with the cover of the other, and then with its boxes.
+fn touches(scene: &Scene, cover: &Box3, pieces: &[Box3], held: &Held, later: &ZoneBox) -> bool
+    requires fit { All (All IsFit) scene.now.run.now.items }
+    requires deep { scene.now.job.now.depth ≤ DEPTH_LIMIT }
+    ensures { result ≡ model.touches cover.now pieces.now later.now.cover
+        (piece_boxes scene.now.job.now scene.now.run.now (model.place_of held.now.zone.now held.now.stretch.now later.now)) }
+{
+    if !do_meet(cover, &later.cover) || !any_meets(pieces, &later.cover) {
+        return false;
+    }
+    let others = boxes_by_pieces(scene.job, scene.run, held, later);
+    any_meet(pieces, others.as_slice())
+}
+
+/// Whether a box is compared with one of these whose cover meets its own.
+fn is_near_any(shared: bool, own: &ZoneBox, others: &[ZoneBox]) -> bool
+    ensures { result ≡ model.is_near_any shared own.now others.now }
+{
+    others.iter().any(|later| are_compared(shared, own, later) && do_meet(&own.cover, &later.cover))
+}
+
+/// The names of two boxes, where they are compared and meet; these are the boxes by which the first is compared.
+#[tactic(auto, unfolding(crate::specs::Meetings::names_where_met))]
+fn names_where_met(
+    scene: &Scene,
+    shared: bool,
+    left: &Held,
+    own: &ZoneBox,
+    pieces: &[Box3],
+    right: &Held,
+    later: &ZoneBox,
+) -> Option<(PlaceName, PlaceName)>
+    requires fit { All (All IsFit) scene.now.run.now.items }
+    requires deep { scene.now.job.now.depth ≤ DEPTH_LIMIT }
+    requires pieces { pieces.now ≡ piece_boxes scene.now.job.now scene.now.run.now (model.place_of left.now.zone.now left.now.stretch.now own.now) }
+    ensures { result ≡ model.names_where_met (record { job = scene.now.job.now; run = scene.now.run.now; before = is_before_in scene.now.clocks.now.rows }) shared
+        (model.place_of left.now.zone.now left.now.stretch.now own.now) (model.place_of right.now.zone.now right.now.stretch.now later.now) }
+{
+    if are_compared(shared, own, later) && touches(scene, &own.cover, pieces, right, later) {
+        Some((named(left, own), named(right, later)))
+    } else {
+        None
+    }
+}
+
+/// The names of a box and of the first of a stretch that it meets; these are the boxes by which it is compared.
+fn first_by_pieces(
+    scene: &Scene,
+    shared: bool,
+    left: &Held,
+    own: &ZoneBox,
+    pieces: &[Box3],
+    right: &Held,
+) -> Option<(PlaceName, PlaceName)>
+    requires fit { All (All IsFit) scene.now.run.now.items }
+    requires deep { scene.now.job.now.depth ≤ DEPTH_LIMIT }
+    requires pieces { pieces.now ≡ piece_boxes scene.now.job.now scene.now.run.now (model.place_of left.now.zone.now left.now.stretch.now own.now) }
+    ensures { result ≡ first_some (λ later. model.names_where_met (record { job = scene.now.job.now; run = scene.now.run.now; before = is_before_in scene.now.clocks.now.rows }) shared
+        (model.place_of left.now.zone.now left.now.stretch.now own.now) (model.place_of right.now.zone.now right.now.stretch.now later)) right.now.stretch.now.boxes }
+{
+    let stretch = right.stretch;
+    for later in &stretch.boxes {
+        if let Some(names) = names_where_met(scene, shared, left, own, pieces, right, later) {
+            return Some(names);
+        }
+    }
+    None
+}
+
+/// The names of a box and of the first of a stretch that it meets. The boxes by which it is compared are made once, and only where
+/// its cover meets another.
+#[tactic(auto, unfolding(crate::specs::Meetings::first_touched))]
+fn first_touched(
+    scene: &Scene,
+    shared: bool,
+    left: &Held,
+    own: &ZoneBox,
+    right: &Held,
+) -> Option<(PlaceName, PlaceName)>
+    requires fit { All (All IsFit) scene.now.run.now.items }
+    requires deep { scene.now.job.now.depth ≤ DEPTH_LIMIT }
+    ensures { result ≡ model.first_touched (record { job = scene.now.job.now; run = scene.now.run.now; before = is_before_in scene.now.clocks.now.rows }) shared
+        (model.place_of left.now.zone.now left.now.stretch.now own.now) right.now.zone.now right.now.stretch.now }
+{
+    let stretch = right.stretch;
+    if !is_near_any(shared, own, &stretch.boxes) {
+        return None;
+    }
+    let pieces = boxes_by_pieces(scene.job, scene.run, left, own);
+    first_by_pieces(scene, shared, left, own, pieces.as_slice(), right)
+}
+
+/// The names of the first two boxes of two stretches that meet, where they share a channel or not.
+fn first_in_boxes(
+    scene: &Scene,
+    shared: bool,
+    left: &Held,
+    right: &Held,
+) -> Option<(PlaceName, PlaceName)>
+    requires fit { All (All IsFit) scene.now.run.now.items }
+    requires deep { scene.now.job.now.depth ≤ DEPTH_LIMIT }
+    ensures { result ≡ first_some (λ own. model.first_touched (record { job = scene.now.job.now; run = scene.now.run.now; before = is_before_in scene.now.clocks.now.rows }) shared
+        (model.place_of left.now.zone.now left.now.stretch.now own) right.now.zone.now right.now.stretch.now) left.now.stretch.now.boxes }
+{
+    let stretch = left.stretch;
+    for own in &stretch.boxes {
+        if let Some(names) = first_touched(scene, shared, left, own, right) {
+            return Some(names);
+        }
+    }
+    None
+}
+
+/// The names of the first two boxes of two stretches that meet. One with no boxes is looked at once.
+#[tactic(auto, unfolding(crate::specs::Meetings::first_in_stretches))]
+fn first_in_stretches(scene: &Scene, left: &Held, right: &Held) -> Option<(PlaceName, PlaceName)>
+    requires fit { All (All IsFit) scene.now.run.now.items }
+    requires deep { scene.now.job.now.depth ≤ DEPTH_LIMIT }
+    ensures { result ≡ model.first_in_stretches (record { job = scene.now.job.now; run = scene.now.run.now; before = is_before_in scene.now.clocks.now.rows })
+        left.now.zone.now left.now.stretch.now right.now.zone.now right.now.stretch.now }
+{
+    let stretch = right.stretch;
+    if stretch.boxes.is_empty() {
+        return None;
+    }
+    if !may_overlap(scene.clocks, left.stretch, stretch) {
+        return None;
+    }
+    first_in_boxes(
+        scene,
+        share_channel(left.stretch, right.stretch),
+        left,
+        right,
+    )
+}
+
+/// The names of the first boxes of a stretch and the stretches of another zone that meet.
+#[tactic(auto, unfolding(crate::specs::Meetings::first_against))]
+fn first_against<'a>(
+    scene: &Scene,
+    left: &Held,
+    other: &'a ZoneLine,
+    others: &'a [Stretch],
+) -> Option<(PlaceName, PlaceName)>
+    requires fit { All (All IsFit) scene.now.run.now.items }
+    requires deep { scene.now.job.now.depth ≤ DEPTH_LIMIT }
+    ensures { result ≡ model.first_against (record { job = scene.now.job.now; run = scene.now.run.now; before = is_before_in scene.now.clocks.now.rows })
+        left.now.zone.now (record { zone = other.now; stretches = others.now }) left.now.stretch.now }
+{
+    let own = left.stretch;
+    if own.boxes.is_empty() {
+        return None;
+    }
+    for stretch in others {
+        let right = Held {
+            zone: other,
+            stretch,
+        };
+        if let Some(names) = first_in_stretches(scene, left, &right) {
+            return Some(names);
+        }
+    }
+    None
+}
+
+/// The names of the first two boxes of two zones that meet, where they are of different groups.
+#[tactic(auto, unfolding(crate::specs::Meetings::first_of_zones))]
+fn first_of_zones<'a>(
+    scene: &Scene,
+    zone: &'a ZoneLine,
+    own: &'a [Stretch],
+    other: &ZoneLine,
+    others: &[Stretch],
+) -> Option<(PlaceName, PlaceName)>
+    requires fit { All (All IsFit) scene.now.run.now.items }
+    requires deep { scene.now.job.now.depth ≤ DEPTH_LIMIT }
+    ensures { result ≡ model.first_of_zones (record { job = scene.now.job.now; run = scene.now.run.now; before = is_before_in scene.now.clocks.now.rows })
+        (record { zone = zone.now; stretches = own.now }) (record { zone = other.now; stretches = others.now }) }
+{
+    if zone.group == other.group {
+        return None;
+    }
+    for stretch in own {
+        let left = Held { zone, stretch };
+        if let Some(names) = first_against(scene, &left, other, others) {
+            return Some(names);
+        }
+    }
+    None
+}
+
+/// The names of the first two boxes of a zone and that of this place that meet.
+fn first_with_place(
+    scene: &Scene,
+    lists: &[Vec<Stretch>],
+    zone: &ZoneLine,
+    own: &[Stretch],
+    place: usize,
+) -> Option<(PlaceName, PlaceName)>
+    requires fit { All (All IsFit) scene.now.run.now.items }
+    requires deep { scene.now.job.now.depth ≤ DEPTH_LIMIT }
+    requires place { place < length lists.now }
+    ensures { result ≡ model.first_with_place (record { job = scene.now.job.now; run = scene.now.run.now; before = is_before_in scene.now.clocks.now.rows })
+        (record { zone = zone.now; stretches = own.now }) (lists_in lists.now) place }
+{
+    match zone_at(scene.job, place) {
+        None => None,
+        Some(other) => first_of_zones(scene, zone, own, &other, lists[place].as_slice()),
+    }
+}
+
+/// The names of the first two boxes of a zone and one from this place on that meet.
+fn first_with(
+    scene: &Scene,
+    lists: &[Vec<Stretch>],
+    zone: &ZoneLine,
+    own: &[Stretch],
+    from: usize,
+) -> Option<(PlaceName, PlaceName)>
+    requires fit { All (All IsFit) scene.now.run.now.items }
+    requires deep { scene.now.job.now.depth ≤ DEPTH_LIMIT }
+    ensures { result ≡ first_some (model.first_of_zones (record { job = scene.now.job.now; run = scene.now.run.now; before = is_before_in scene.now.clocks.now.rows })
+        (record { zone = zone.now; stretches = own.now })) (times_from scene.now.job.now (lists_in lists.now) from) }
+{
+    for place in from..lists.len() {
+        if let Some(names) = first_with_place(scene, lists, zone, own, place) {
+            return Some(names);
+        }
+    }
+    None
+}
+
+/// The names of the first two boxes of the zone of this place and a later one that meet.
+fn first_from_place(
+    scene: &Scene,
+    lists: &[Vec<Stretch>],
+    place: usize,
+) -> Option<(PlaceName, PlaceName)>
+    requires fit { All (All IsFit) scene.now.run.now.items }
+    requires deep { scene.now.job.now.depth ≤ DEPTH_LIMIT }
+    requires place { place < length lists.now }
+    ensures { result ≡ model.first_from_place (record { job = scene.now.job.now; run = scene.now.run.now; before = is_before_in scene.now.clocks.now.rows }) (lists_in lists.now) place }
+{
+    match zone_at(scene.job, place) {
+        None => None,
+        Some(zone) => first_with(scene, lists, &zone, lists[place].as_slice(), place + 1),
+    }
+}
+
+/// The names of the first two boxes of two zones of different groups that meet.
+pub(crate) fn first_meeting(scene: &Scene, lists: &[Vec<Stretch>]) -> Option<(PlaceName, PlaceName)>
+    requires fit { All (All IsFit) scene.now.run.now.items }
+    requires deep { scene.now.job.now.depth ≤ DEPTH_LIMIT }
+    ensures { result ≡ model.first_in_times (record { job = scene.now.job.now; run = scene.now.run.now; before = is_before_in scene.now.clocks.now.rows })
+        (times_from scene.now.job.now (lists_in lists.now) 0) }
+{
+    for place in 0..lists.len() {
+        if let Some(names) = first_from_place(scene, lists, place) {
+            return Some(names);
+        }
+    }
+    None
+}

@@ -1,0 +1,182 @@
+//! How many pairs of boxes are compared.
+ghost use Rattle.std.specs.Prelude.{◌≡◌, ◌<◌, ◌+◌, ◌^◌, length, sum_by};
+ghost use Rattle.std.specs.List.{count_by};
+ghost use Rattle.clash_check.specs.Counts.{count_of};
+ghost use Rattle.clash_check.specs.PairCounts as model;
+ghost use Rattle.clash_check.specs.Times.{lists_in, times_from};
+ghost use Rattle.order_clocks.specs.Tells.{is_before_in};
+ghost use Rattle.protection_zones.specs.Overlaps.{ZoneTime, share_place};
+
+use crate::overlaps::{may_overlap, share_channel, share_place};
+use crate::zones::{lists_of, zone_at};
+use job_types::{Job, ZoneLine};
+use order_clocks::Clocks;
+use protection_zones::{Stretch, Stretches, ZoneBox};
+
+/// With how many of these a box holds a place in common.
+fn count_near(own: &ZoneBox, others: &[ZoneBox]) -> u64
+    ensures { result ≡ model.capped (count_by (share_place own.now) others.now) }
+{
+    let mut count: u64 = 0;
+    for later in others {
+        if share_place(own, later) {
+            count = count.saturating_add(1);
+        }
+    }
+    count
+}
+
+/// How many pairs of boxes hold a place in common.
+#[tactic(auto, unfolding(crate::specs::PairCounts::count_sharing))]
+fn count_sharing(left: &[ZoneBox], right: &[ZoneBox]) -> u64
+    ensures { result ≡ model.capped (model.count_sharing left.now right.now) }
+{
+    let mut count: u64 = 0;
+    for own in left {
+        count = count.saturating_add(count_near(own, right));
+    }
+    count
+}
+
+/// The pairs of two stretches that may overlap.
+#[tactic(auto, unfolding(crate::specs::PairCounts::count_in_boxes))]
+fn count_in_boxes(left: &Stretch, right: &Stretch) -> u64
+    ensures { result ≡ model.capped (model.count_in_boxes left.now right.now) }
+{
+    if share_channel(left, right) {
+        count_sharing(&left.boxes, &right.boxes)
+    } else {
+        (left.boxes.len() as u64).saturating_mul(right.boxes.len() as u64)
+    }
+}
+
+/// The pairs of two stretches. One with no boxes is looked at once.
+#[tactic(auto, unfolding(crate::specs::PairCounts::count_in_stretches))]
+fn count_in_stretches(clocks: &Clocks, left: &Stretch, right: &Stretch) -> u64
+    ensures { result ≡ model.capped (model.count_in_stretches (is_before_in clocks.now.rows) left.now right.now) }
+{
+    if right.boxes.is_empty() {
+        return 0;
+    }
+    if may_overlap(clocks, left, right) {
+        count_in_boxes(left, right)
+    } else {
+        0
+    }
+}
+
+/// The pairs of a stretch with the stretches of the other zone.
+#[tactic(auto, unfolding(crate::specs::PairCounts::count_against))]
+fn count_against(clocks: &Clocks, others: &[Stretch], left: &Stretch) -> u64
+    ensures { result ≡ model.capped (model.count_against (is_before_in clocks.now.rows) others.now left.now) }
+{
+    if left.boxes.is_empty() {
+        return 0;
+    }
+    let mut count: u64 = 0;
+    for right in others {
+        count = count.saturating_add(count_in_stretches(clocks, left, right));
+    }
+    count
+}
+
+/// The pairs of two zones with these stretches.
+#[tactic(auto, unfolding(crate::specs::PairCounts::count_of_zones))]
+fn count_of_zones(
+    clocks: &Clocks,
+    zone: &ZoneLine,
+    own: &[Stretch],
+    other: &ZoneLine,
+    others: &[Stretch],
+) -> u64
+    ensures { result ≡ model.capped (model.count_of_zones (is_before_in clocks.now.rows) (record { zone = zone.now; stretches = own.now }) (record { zone = other.now; stretches = others.now })) }
+{
+    if zone.group == other.group {
+        return 0;
+    }
+    let mut count: u64 = 0;
+    for left in own {
+        count = count.saturating_add(count_against(clocks, others, left));
+    }
+    count
+}
+
+/// The pairs of a zone with that of this place.
+fn count_with_place(
+    job: &Job,
+    lists: &[Vec<Stretch>],
+    clocks: &Clocks,
+    zone: &ZoneLine,
+    own: &[Stretch],
+    place: usize,
+) -> u64
+    requires { place < length lists.now }
+    ensures { result ≡ model.capped (model.count_with_place (is_before_in clocks.now.rows) (record { zone = zone.now; stretches = own.now }) job.now (lists_in lists.now) place) }
+{
+    match zone_at(job, place) {
+        None => 0,
+        Some(other) => count_of_zones(clocks, zone, own, &other, lists[place].as_slice()),
+    }
+}
+
+/// The pairs of a zone with those from this place on.
+fn count_with(
+    job: &Job,
+    lists: &[Vec<Stretch>],
+    clocks: &Clocks,
+    zone: &ZoneLine,
+    own: &[Stretch],
+    from: usize,
+) -> u64
+    ensures { result ≡ model.capped (sum_by (model.count_of_zones (is_before_in clocks.now.rows) (record { zone = zone.now; stretches = own.now })) (times_from job.now (lists_in lists.now) from)) }
+{
+    let mut count: u64 = 0;
+    for place in from..lists.len() {
+        count = count.saturating_add(count_with_place(job, lists, clocks, zone, own, place));
+    }
+    count
+}
+
+/// The pairs of the zone of this place with each later one.
+fn count_from_place(job: &Job, lists: &[Vec<Stretch>], clocks: &Clocks, place: usize) -> u64
+    requires { place < length lists.now }
+    ensures { result ≡ model.capped (model.count_from_place (is_before_in clocks.now.rows) job.now (lists_in lists.now) place) }
+{
+    match zone_at(job, place) {
+        None => 0,
+        Some(zone) => count_with(
+            job,
+            lists,
+            clocks,
+            &zone,
+            lists[place].as_slice(),
+            place + 1,
+        ),
+    }
+}
+
+/// The pairs of each zone with each later one, or the greatest `u64` where there are more.
+fn count_in(job: &Job, lists: &[Vec<Stretch>], clocks: &Clocks) -> u64
+    ensures { result ≡ model.capped (model.count_in_times (is_before_in clocks.now.rows) (times_from job.now (lists_in lists.now) 0)) }
+{
+    let mut count: u64 = 0;
+    for place in 0..lists.len() {
+        count = count.saturating_add(count_from_place(job, lists, clocks, place));
+    }
+    count
+}
+
+/// How many pairs of boxes are compared, or the greatest `u64` where there are more.
+pub(crate) fn count_up_to(job: &Job, stretches: &Stretches, clocks: &Clocks) -> u64
+    ensures { result ≡ model.capped (count_of (is_before_in clocks.now.rows) job.now stretches.now) }
+{
+    count_in(job, lists_of(stretches), clocks)
+}
+
+/// How many pairs of boxes of zones of different groups are compared. It takes no memory.
+pub fn count(job: &Job, stretches: &Stretches, clocks: &Clocks) -> u64
+    requires { count_of (is_before_in clocks.now.rows) job.now stretches.now < 2 ^ 64 }
+    ensures { result ≡ count_of (is_before_in clocks.now.rows) job.now stretches.now }
+{
+    count_up_to(job, stretches, clocks)
+}
