@@ -1,7 +1,7 @@
 -- Meaning. The codes of refusals.
 use Rattle.std.specs.Prelude.{ℕ, Result, Ok, Err, Option, Some, None}
 use Rattle.job_lines.specs.declared.code.Code.{Code}
-use Rattle.job_lines.specs.declared.code.Code.TheVariants.{NoJobLine, LineTooLong, BadByte, UnknownJobLine, OutOfRange, DeclaredTwice, NotDeclared, OwnerDiffers, NameRepeated, BadHeader, TooMany, NotInLibrary, OpenText, NotBuilt}
+use Rattle.job_lines.specs.declared.code.Code.TheVariants.{NoJobLine, LineTooLong, BadByte, UnknownJobLine, OutOfRange, DeclaredTwice, NotDeclared, OwnerDiffers, NameRepeated, BadHeader, TooMany, NotInLibrary, OpenText}
 
 -- what a refusal shows of a rule
 unfoldable pub refusal_code : Code → ℕ
@@ -18,7 +18,6 @@ refusal_code BadHeader = 10
 refusal_code TooMany = 11
 refusal_code NotInLibrary = 12
 refusal_code OpenText = 20
-refusal_code NotBuilt = 60
 
 -- one reading after the other: the first rule that is broken counts
 infixl 10 ◌>>=◌

@@ -32,8 +32,6 @@ pub enum Code {
     NotInLibrary,
     /// A text of a block that no quote closes.
     OpenText,
-    /// A form of the language that is not built yet.
-    NotBuilt,
 }
 
 impl Code {
@@ -57,7 +55,6 @@ impl Code {
             Code::TooMany => 11,
             Code::NotInLibrary => 12,
             Code::OpenText => 20,
-            Code::NotBuilt => 60,
         }
     }
 }

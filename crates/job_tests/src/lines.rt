@@ -71,5 +71,4 @@ fn shows_codes(rt: HostRuntime) {
     assert!(rt; Code::TooMany.shown() == 11);
     assert!(rt; Code::NotInLibrary.shown() == 12);
     assert!(rt; Code::OpenText.shown() == 20);
-    assert!(rt; Code::NotBuilt.shown() == 60);
 }

@@ -1,4 +1,3 @@
-pub mod BuiltJobs
 pub mod Crosses
 pub mod Digits
 pub mod Owners

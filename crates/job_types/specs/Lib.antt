@@ -1,5 +1,4 @@
 pub mod Axes
-pub mod Built
 pub mod Job
 pub mod Slots
 pub mod SoundJob
