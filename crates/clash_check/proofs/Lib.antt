@@ -7,6 +7,8 @@ pub mod FirstLaws
 pub mod TimeLaws
 pub mod ZoneLaws
 pub mod MeetLaws
+pub mod AscentLaws
+pub mod NearLaws
 pub mod CountLaws
 pub mod StopLaws
 pub mod VerdictLaws

@@ -6,3 +6,4 @@ pub mod PlainBoxes
 pub mod Times
 pub mod PairCounts
 pub mod Meetings
+pub mod Ascents

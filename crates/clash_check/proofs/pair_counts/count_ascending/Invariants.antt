@@ -3,7 +3,7 @@ use Rattle.std.specs.List.{sum_by}
 use Rattle.clash_check.specs.PairCounts.{count_against}
 use Rattle.order_clocks.specs.Tells.{is_before_in}
 use Rattle.clash_check.proofs.TimeLaws.{IsCounted}
-use Rattle.clash_check.proofs.pair_counts.count_of_zones.Given as goal
+use Rattle.clash_check.proofs.pair_counts.count_ascending.Given as goal
 
 abbrev pub invariant-loop-left : goal.invariant-loop-left
 invariant-loop-left l =
