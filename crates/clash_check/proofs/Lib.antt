@@ -9,6 +9,7 @@ pub mod ZoneLaws
 pub mod MeetLaws
 pub mod AscentLaws
 pub mod NearLaws
+pub mod RunningLaws
 pub mod CountLaws
 pub mod StopLaws
 pub mod VerdictLaws

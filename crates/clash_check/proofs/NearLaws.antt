@@ -38,11 +38,11 @@ none_and : (a b : Bool) → not (not a) ≡ false → (a && b) ≡ false
 none_and true b off = absurd cc
 none_and false b off = refl
 
-apart_early : (before : Order) (own other : StretchView) → passes before true own other ≡ true → may_overlap before own other ≡ false
+pub apart_early : (before : Order) (own other : StretchView) → passes before true own other ≡ true → may_overlap before own other ≡ false
 unfolding may_overlap
 apart_early before own other over = and_none (is_open_at before own.last other.first) (is_open_at before other.last own.first) over
 
-apart_late : (before : Order) (own other : StretchView) → passes before false own other ≡ false → may_overlap before own other ≡ false
+pub apart_late : (before : Order) (own other : StretchView) → passes before false own other ≡ false → may_overlap before own other ≡ false
 unfolding may_overlap
 apart_late before own other over = none_and (is_open_at before own.last other.first) (is_open_at before other.last own.first) over
 
@@ -56,7 +56,7 @@ counts_none before own other apart = rw apart (by_empty (length other.boxes == 0
     by_empty true = refl
     by_empty false = refl
 
-sum_skips : (before : Order) (own other : StretchView) (others : List StretchView) → may_overlap before own other ≡ false
+pub sum_skips : (before : Order) (own other : StretchView) (others : List StretchView) → may_overlap before own other ≡ false
     → sum_by (count_in_stretches before own) (other ∷ others) ≡ sum_by (count_in_stretches before own) others
 sum_skips before own other others apart =
     sum_by-cons (count_in_stretches before own) other others ∙ ap (λ (n : ℕ). n + sum_by (count_in_stretches before own) others) (counts_none before own other apart)

@@ -7,3 +7,4 @@ pub mod Times
 pub mod PairCounts
 pub mod Meetings
 pub mod Ascents
+pub mod Running

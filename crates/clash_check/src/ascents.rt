@@ -119,6 +119,7 @@ fn count_passing(
 /// The places of the stretches that may overlap this one, found from those of an earlier stretch.
 pub(crate) fn range_of(clocks: &Clocks, own: &Stretch, others: &[Stretch], hint: Range) -> Range
     requires { (ended : Bool) → model.PassFirst (model.passes (is_before_in clocks.now.rows) ended own.now) others.now }
+    ensures within_from { result.from ≤ length others.now }
     ensures within { result.upto ≤ length others.now }
     ensures from { result.from ≡ model.leading (model.passes (is_before_in clocks.now.rows) true own.now) others.now }
     ensures upto { result.upto ≡ model.leading (model.passes (is_before_in clocks.now.rows) false own.now) others.now }

@@ -11,9 +11,11 @@ ghost use Rattle.order_clocks.specs.Tells.{is_before_in};
 ghost use Rattle.protection_zones.specs.Overlaps.{ZoneTime, share_place};
 ghost use Rattle.sync_types.specs.Views.{RunView};
 
-use crate::ascents::{Range, do_ascend, part, range_of};
+use crate::ascents::{Range, do_ascend, range_of};
 use crate::overlaps::{may_overlap, share_channel, share_place};
+use crate::running::{Boxes, boxes_before, count_in_range, mark_latest};
 use crate::zones::{lists_of, zone_at};
+use axis_sets::CHANNEL_PLACES;
 use job_types::{Job, ZoneLine};
 use order_clocks::Clocks;
 use protection_zones::{Stretch, Stretches, ZoneBox};
@@ -72,7 +74,7 @@ fn count_in_stretches(clocks: &Clocks, left: &Stretch, right: &Stretch) -> u64
 
 /// The pairs of a stretch with the stretches of the other zone.
 #[tactic(auto, unfolding(crate::specs::PairCounts::count_against))]
-fn count_against(clocks: &Clocks, others: &[Stretch], left: &Stretch) -> u64
+pub(crate) fn count_against(clocks: &Clocks, others: &[Stretch], left: &Stretch) -> u64
     ensures { result ≡ model.capped (model.count_against (is_before_in clocks.now.rows) others.now left.now) }
 {
     if left.boxes.is_empty() {
@@ -104,10 +106,18 @@ fn count_ascending(clocks: &Clocks, own: &[Stretch], others: &[Stretch]) -> u64
     ensures { result ≡ model.capped (sum_by (model.count_against (is_before_in clocks.now.rows) others.now) own.now) }
 {
     let mut range = Range { from: 0, upto: 0 };
+    let mut before = Boxes { place: 0, boxes: 0 };
+    let mut upto = Boxes { place: 0, boxes: 0 };
+    let mut latest = [0; CHANNEL_PLACES];
     let mut count: u64 = 0;
     for left in own {
         range = range_of(clocks, left, others, range);
-        count = count.saturating_add(count_against(clocks, part(others, range), left));
+        mark_latest(&mut latest, others, upto.place, range.upto);
+        before = boxes_before(others, range.from, before);
+        upto = boxes_before(others, range.upto, upto);
+        count = count.saturating_add(count_in_range(
+            clocks, left, others, range, before, upto, &latest,
+        ));
     }
     count
 }
