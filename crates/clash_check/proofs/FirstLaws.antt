@@ -1,5 +1,5 @@
 -- The first answer that a list gives.
-use Rattle.std.proofs.Common.{◌≡◌, ◌∙◌, ◌==◌, ◌&&◌, ◌||◌, Bool, true, false, cond, not, List, [], ◌∷◌, ◌++◌, map, filter, find, length, Option, None, Some, refl, sym, ap, arith}
+use Rattle.std.proofs.Common.{◌≡◌, ◌∙◌, ◌==◌, ◌<◌, ◌+◌, ℕ, zero, suc, drop, get_or, ◌&&◌, ◌||◌, Bool, true, false, cond, not, List, [], ◌∷◌, ◌++◌, map, filter, find, length, Option, None, Some, refl, sym, ap, arith}
 use Rattle.std.proofs.lemmas.Bool.{ne_eqb}
 use Rattle.std.proofs.lemmas.List.Folds.{find-append}
 use Rattle.std.specs.List.{flat_map, list_any}
@@ -93,3 +93,13 @@ unless_empty (x ∷ xs) r none = let some : (length (x ∷ xs) == 0) ≡ false =
 pub unless : {Y : Type 0} (b : Bool) (r s : Option Y) → r ≡ s → cond (not b) r None ≡ cond b None s
 unless true r s e = refl
 unless false r s e = e
+
+-- the answer of one, or the first of the rest
+drop_one : {X Y : Type 0} (f : X → Option Y) (xs : List X) (i : ℕ) (x : X) → i < length xs → x ≡ get_or xs i x → first_some f (drop i xs) ≡ option_or (f x) (first_some f (drop (suc i) xs))
+drop_one f [] i x within is = absurd (omega arith)
+drop_one f (y ∷ ys) zero x within is = rw is refl
+drop_one f (y ∷ ys) (suc i) x within is = drop_one f ys i x (omega arith) is
+
+pub first_some-drop_more : {X Y : Type 0} (f : X → Option Y) (xs : List X) (i : ℕ) (x : X) → i < length xs → x ≡ get_or xs i x → first_some f (drop i xs) ≡ option_or (f x) (first_some f (drop (i + 1) xs))
+first_some-drop_more f xs i x within is =
+    let next : suc i ≡ i + 1 = omega arith in drop_one f xs i x within is ∙ ap (λ (k : ℕ). option_or (f x) (first_some f (drop k xs))) next

@@ -7,6 +7,9 @@ pub mod FirstLaws
 pub mod TimeLaws
 pub mod ZoneLaws
 pub mod MeetLaws
+pub mod AscentLaws
+pub mod NearLaws
+pub mod RunningLaws
 pub mod CountLaws
 pub mod StopLaws
 pub mod VerdictLaws

@@ -6,3 +6,5 @@ pub mod PlainBoxes
 pub mod Times
 pub mod PairCounts
 pub mod Meetings
+pub mod Ascents
+pub mod Running

@@ -6,6 +6,7 @@ ghost use Rattle.clash_check.specs.Verdicts as model;
 ghost use Rattle.job_types.specs.SoundJob.{IsSoundJob};
 ghost use Rattle.order_clocks.specs.Tells.{is_before_in};
 ghost use Rattle.protection_zones.specs.ZoneBoxes.{IsFit};
+ghost use Rattle.sync_types.specs.Views.{RunView};
 ghost use Rattle.sync_types.specs.declared.verdicts.Verdict.TheVariants as verdicts;
 
 use crate::meetings::{Scene, first_meeting};
@@ -21,6 +22,7 @@ use sync_types::{Run, Verdict};
 
 /// How many pairs of boxes are compared.
 fn count_of(job: &Job, stretches: &Stretches, clocks: &Clocks) -> Result<u64, NoMemory>
+    requires { (run : RunView) × IsTold job.now run stretches.now clocks.now }
     ensures { IfOk result (λ count. count ≡ count_of (is_before_in clocks.now.rows) job.now stretches.now) }
 {
     let count = count_up_to(job, stretches, clocks);

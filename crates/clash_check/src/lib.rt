@@ -1,6 +1,7 @@
 //! The verdict on a run of a job: whether two of its zones may meet, and the first two boxes that do.
 #![tactic(auto)]
 
+mod ascents;
 mod bounds;
 mod boxes;
 mod judging;
@@ -8,6 +9,7 @@ mod meetings;
 mod overlaps;
 mod pair_counts;
 mod pieces;
+mod running;
 mod stops;
 mod zones;
 

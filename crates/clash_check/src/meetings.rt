@@ -1,6 +1,8 @@
 //! The first two boxes that meet, of zones that may not.
-ghost use Rattle.std.specs.Prelude.{◌≡◌, ◌≤◌, ◌<◌, ◌&&◌, All, length};
+ghost use Rattle.std.specs.Prelude.{◌≡◌, ◌≤◌, ◌<◌, ◌&&◌, true, [], ◌∷◌, All, length};
 ghost use Rattle.std.specs.List.{list_any};
+ghost use Rattle.clash_check.specs.Ascents as ascents;
+ghost use Rattle.clash_check.specs.Ascents.{IsTimed};
 ghost use Rattle.clash_check.specs.FirstAnswer.{first_some};
 ghost use Rattle.clash_check.specs.Meetings as model;
 ghost use Rattle.clash_check.specs.Times.{lists_in, times_from};
@@ -12,6 +14,7 @@ ghost use Rattle.protection_zones.specs.Pieces.{piece_boxes};
 ghost use Rattle.protection_zones.specs.ZoneBoxes.{IsFit};
 ghost use Rattle.swept_boxes.specs.Boxes.{boxes_meet};
 
+use crate::ascents::{Range, do_ascend, part, range_of};
 use crate::boxes::{any_meet, any_meets, do_meet};
 use crate::overlaps::{are_compared, may_overlap, share_channel};
 use crate::pieces::boxes_by_pieces;
@@ -220,9 +223,8 @@ fn first_against<'a>(
     None
 }
 
-/// The names of the first two boxes of two zones that meet, where they are of different groups.
-#[tactic(auto, unfolding(crate::specs::Meetings::first_of_zones))]
-fn first_of_zones<'a>(
+/// The names of the first two boxes of the stretches of two zones that meet.
+fn first_of_all<'a>(
     scene: &Scene,
     zone: &'a ZoneLine,
     own: &'a [Stretch],
@@ -231,12 +233,9 @@ fn first_of_zones<'a>(
 ) -> Option<(PlaceName, PlaceName)>
     requires fit { All (All IsFit) scene.now.run.now.items }
     requires deep { scene.now.job.now.depth ≤ DEPTH_LIMIT }
-    ensures { result ≡ model.first_of_zones (record { job = scene.now.job.now; run = scene.now.run.now; before = is_before_in scene.now.clocks.now.rows })
-        (record { zone = zone.now; stretches = own.now }) (record { zone = other.now; stretches = others.now }) }
+    ensures { result ≡ first_some (model.first_against (record { job = scene.now.job.now; run = scene.now.run.now; before = is_before_in scene.now.clocks.now.rows })
+        zone.now (record { zone = other.now; stretches = others.now })) own.now }
 {
-    if zone.group == other.group {
-        return None;
-    }
     for stretch in own {
         let left = Held { zone, stretch };
         if let Some(names) = first_against(scene, &left, other, others) {
@@ -244,6 +243,58 @@ fn first_of_zones<'a>(
         }
     }
     None
+}
+
+/// The names of the first two boxes of the stretches of two zones that meet, where each of the second is over as the next begins: a
+/// stretch of the first is looked at with those alone that it may overlap.
+fn first_of_ascending<'a>(
+    scene: &Scene,
+    zone: &'a ZoneLine,
+    own: &'a [Stretch],
+    other: &ZoneLine,
+    others: &[Stretch],
+) -> Option<(PlaceName, PlaceName)>
+    requires fit { All (All IsFit) scene.now.run.now.items }
+    requires deep { scene.now.job.now.depth ≤ DEPTH_LIMIT }
+    requires timed { IsTimed (is_before_in scene.now.clocks.now.rows) own.now (others.now ∷ []) }
+    requires ascend { ascents.do_ascend (is_before_in scene.now.clocks.now.rows) others.now ≡ true }
+    ensures { result ≡ first_some (model.first_against (record { job = scene.now.job.now; run = scene.now.run.now; before = is_before_in scene.now.clocks.now.rows })
+        zone.now (record { zone = other.now; stretches = others.now })) own.now }
+{
+    let mut range = Range { from: 0, upto: 0 };
+    for stretch in own {
+        let left = Held { zone, stretch };
+        range = range_of(scene.clocks, stretch, others, range);
+        if let Some(names) = first_against(scene, &left, other, part(others, range)) {
+            return Some(names);
+        }
+    }
+    None
+}
+
+/// The names of the first two boxes of two zones that meet, where they are of different groups.
+#[tactic(auto, unfolding(crate::specs::Meetings::first_of_zones))]
+fn first_of_zones(
+    scene: &Scene,
+    zone: &ZoneLine,
+    own: &[Stretch],
+    other: &ZoneLine,
+    others: &[Stretch],
+) -> Option<(PlaceName, PlaceName)>
+    requires fit { All (All IsFit) scene.now.run.now.items }
+    requires deep { scene.now.job.now.depth ≤ DEPTH_LIMIT }
+    requires timed { IsTimed (is_before_in scene.now.clocks.now.rows) own.now (others.now ∷ []) }
+    ensures { result ≡ model.first_of_zones (record { job = scene.now.job.now; run = scene.now.run.now; before = is_before_in scene.now.clocks.now.rows })
+        (record { zone = zone.now; stretches = own.now }) (record { zone = other.now; stretches = others.now }) }
+{
+    if zone.group == other.group {
+        return None;
+    }
+    if do_ascend(scene.clocks, others) {
+        first_of_ascending(scene, zone, own, other, others)
+    } else {
+        first_of_all(scene, zone, own, other, others)
+    }
 }
 
 /// The names of the first two boxes of a zone and that of this place that meet.
@@ -256,6 +307,7 @@ fn first_with_place(
 ) -> Option<(PlaceName, PlaceName)>
     requires fit { All (All IsFit) scene.now.run.now.items }
     requires deep { scene.now.job.now.depth ≤ DEPTH_LIMIT }
+    requires timed { IsTimed (is_before_in scene.now.clocks.now.rows) own.now (lists_in lists.now) }
     requires place { place < length lists.now }
     ensures { result ≡ model.first_with_place (record { job = scene.now.job.now; run = scene.now.run.now; before = is_before_in scene.now.clocks.now.rows })
         (record { zone = zone.now; stretches = own.now }) (lists_in lists.now) place }
@@ -276,6 +328,7 @@ fn first_with(
 ) -> Option<(PlaceName, PlaceName)>
     requires fit { All (All IsFit) scene.now.run.now.items }
     requires deep { scene.now.job.now.depth ≤ DEPTH_LIMIT }
+    requires timed { IsTimed (is_before_in scene.now.clocks.now.rows) own.now (lists_in lists.now) }
     ensures { result ≡ first_some (model.first_of_zones (record { job = scene.now.job.now; run = scene.now.run.now; before = is_before_in scene.now.clocks.now.rows })
         (record { zone = zone.now; stretches = own.now })) (times_from scene.now.job.now (lists_in lists.now) from) }
 {
@@ -295,6 +348,7 @@ fn first_from_place(
 ) -> Option<(PlaceName, PlaceName)>
     requires fit { All (All IsFit) scene.now.run.now.items }
     requires deep { scene.now.job.now.depth ≤ DEPTH_LIMIT }
+    requires timed { IsTimed (is_before_in scene.now.clocks.now.rows) [] (lists_in lists.now) }
     requires place { place < length lists.now }
     ensures { result ≡ model.first_from_place (record { job = scene.now.job.now; run = scene.now.run.now; before = is_before_in scene.now.clocks.now.rows }) (lists_in lists.now) place }
 {
@@ -308,6 +362,7 @@ fn first_from_place(
 pub(crate) fn first_meeting(scene: &Scene, lists: &[Vec<Stretch>]) -> Option<(PlaceName, PlaceName)>
     requires fit { All (All IsFit) scene.now.run.now.items }
     requires deep { scene.now.job.now.depth ≤ DEPTH_LIMIT }
+    requires timed { IsTimed (is_before_in scene.now.clocks.now.rows) [] (lists_in lists.now) }
     ensures { result ≡ model.first_in_times (record { job = scene.now.job.now; run = scene.now.run.now; before = is_before_in scene.now.clocks.now.rows })
         (times_from scene.now.job.now (lists_in lists.now) 0) }
 {

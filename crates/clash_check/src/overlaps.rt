@@ -16,15 +16,22 @@ fn is_same(a: &EventId, b: &EventId) -> bool
     a.step == b.step && a.channel.number == b.channel.number && (if a.go { b.go } else { !b.go })
 }
 
+/// Whether an event is another or before it.
+pub(crate) fn is_upto(clocks: &Clocks, a: &EventId, b: &EventId) -> bool
+    ensures { result ≡ (is_same_event a.now b.now || is_before_in clocks.now.rows a.now b.now) }
+{
+    is_same(a, b) || clocks.before(*a, *b)
+}
+
 /// Whether the event with which a stretch ends is neither the one with which another begins nor before it.
-fn is_open_at(clocks: &Clocks, last: Option<EventId>, first: Option<EventId>) -> bool
+pub(crate) fn is_open_at(clocks: &Clocks, last: Option<EventId>, first: Option<EventId>) -> bool
     ensures { result ≡ model.is_open_at (is_before_in clocks.now.rows) last first }
 {
     match last {
         None => true,
         Some(last) => match first {
             None => true,
-            Some(first) => !(is_same(&last, &first) || clocks.before(last, first)),
+            Some(first) => !is_upto(clocks, &last, &first),
         },
     }
 }

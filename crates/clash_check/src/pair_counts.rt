@@ -1,14 +1,21 @@
 //! How many pairs of boxes are compared.
-ghost use Rattle.std.specs.Prelude.{◌≡◌, ◌<◌, ◌+◌, ◌^◌, length, sum_by};
+ghost use Rattle.std.specs.Prelude.{◌≡◌, ◌<◌, ◌+◌, ◌^◌, true, [], ◌∷◌, length, sum_by};
 ghost use Rattle.std.specs.List.{count_by};
+ghost use Rattle.clash_check.specs.Ascents as ascents;
+ghost use Rattle.clash_check.specs.Ascents.{IsTimed};
 ghost use Rattle.clash_check.specs.Counts.{count_of};
+ghost use Rattle.clash_check.specs.Judged.{IsTold};
 ghost use Rattle.clash_check.specs.PairCounts as model;
 ghost use Rattle.clash_check.specs.Times.{lists_in, times_from};
 ghost use Rattle.order_clocks.specs.Tells.{is_before_in};
 ghost use Rattle.protection_zones.specs.Overlaps.{ZoneTime, share_place};
+ghost use Rattle.sync_types.specs.Views.{RunView};
 
+use crate::ascents::{Range, do_ascend, range_of};
 use crate::overlaps::{may_overlap, share_channel, share_place};
+use crate::running::{Boxes, boxes_before, count_in_range, mark_latest};
 use crate::zones::{lists_of, zone_at};
+use axis_sets::CHANNEL_PLACES;
 use job_types::{Job, ZoneLine};
 use order_clocks::Clocks;
 use protection_zones::{Stretch, Stretches, ZoneBox};
@@ -67,7 +74,7 @@ fn count_in_stretches(clocks: &Clocks, left: &Stretch, right: &Stretch) -> u64
 
 /// The pairs of a stretch with the stretches of the other zone.
 #[tactic(auto, unfolding(crate::specs::PairCounts::count_against))]
-fn count_against(clocks: &Clocks, others: &[Stretch], left: &Stretch) -> u64
+pub(crate) fn count_against(clocks: &Clocks, others: &[Stretch], left: &Stretch) -> u64
     ensures { result ≡ model.capped (model.count_against (is_before_in clocks.now.rows) others.now left.now) }
 {
     if left.boxes.is_empty() {
@@ -76,6 +83,41 @@ fn count_against(clocks: &Clocks, others: &[Stretch], left: &Stretch) -> u64
     let mut count: u64 = 0;
     for right in others {
         count = count.saturating_add(count_in_stretches(clocks, left, right));
+    }
+    count
+}
+
+/// The pairs of the stretches of two zones.
+fn count_all(clocks: &Clocks, own: &[Stretch], others: &[Stretch]) -> u64
+    ensures { result ≡ model.capped (sum_by (model.count_against (is_before_in clocks.now.rows) others.now) own.now) }
+{
+    let mut count: u64 = 0;
+    for left in own {
+        count = count.saturating_add(count_against(clocks, others, left));
+    }
+    count
+}
+
+/// The pairs of the stretches of two zones, where each of the second is over as the next begins: a stretch of the first is looked
+/// at with those alone that it may overlap.
+fn count_ascending(clocks: &Clocks, own: &[Stretch], others: &[Stretch]) -> u64
+    requires timed { IsTimed (is_before_in clocks.now.rows) own.now (others.now ∷ []) }
+    requires ascend { ascents.do_ascend (is_before_in clocks.now.rows) others.now ≡ true }
+    ensures { result ≡ model.capped (sum_by (model.count_against (is_before_in clocks.now.rows) others.now) own.now) }
+{
+    let mut range = Range { from: 0, upto: 0 };
+    let mut before = Boxes { place: 0, boxes: 0 };
+    let mut upto = Boxes { place: 0, boxes: 0 };
+    let mut latest = [0; CHANNEL_PLACES];
+    let mut count: u64 = 0;
+    for left in own {
+        range = range_of(clocks, left, others, range);
+        mark_latest(&mut latest, others, upto.place, range.upto);
+        before = boxes_before(others, range.from, before);
+        upto = boxes_before(others, range.upto, upto);
+        count = count.saturating_add(count_in_range(
+            clocks, left, others, range, before, upto, &latest,
+        ));
     }
     count
 }
@@ -89,16 +131,17 @@ fn count_of_zones(
     other: &ZoneLine,
     others: &[Stretch],
 ) -> u64
+    requires timed { IsTimed (is_before_in clocks.now.rows) own.now (others.now ∷ []) }
     ensures { result ≡ model.capped (model.count_of_zones (is_before_in clocks.now.rows) (record { zone = zone.now; stretches = own.now }) (record { zone = other.now; stretches = others.now })) }
 {
     if zone.group == other.group {
         return 0;
     }
-    let mut count: u64 = 0;
-    for left in own {
-        count = count.saturating_add(count_against(clocks, others, left));
+    if do_ascend(clocks, others) {
+        count_ascending(clocks, own, others)
+    } else {
+        count_all(clocks, own, others)
     }
-    count
 }
 
 /// The pairs of a zone with that of this place.
@@ -110,7 +153,8 @@ fn count_with_place(
     own: &[Stretch],
     place: usize,
 ) -> u64
-    requires { place < length lists.now }
+    requires place { place < length lists.now }
+    requires timed { IsTimed (is_before_in clocks.now.rows) own.now (lists_in lists.now) }
     ensures { result ≡ model.capped (model.count_with_place (is_before_in clocks.now.rows) (record { zone = zone.now; stretches = own.now }) job.now (lists_in lists.now) place) }
 {
     match zone_at(job, place) {
@@ -128,6 +172,7 @@ fn count_with(
     own: &[Stretch],
     from: usize,
 ) -> u64
+    requires timed { IsTimed (is_before_in clocks.now.rows) own.now (lists_in lists.now) }
     ensures { result ≡ model.capped (sum_by (model.count_of_zones (is_before_in clocks.now.rows) (record { zone = zone.now; stretches = own.now })) (times_from job.now (lists_in lists.now) from)) }
 {
     let mut count: u64 = 0;
@@ -139,7 +184,8 @@ fn count_with(
 
 /// The pairs of the zone of this place with each later one.
 fn count_from_place(job: &Job, lists: &[Vec<Stretch>], clocks: &Clocks, place: usize) -> u64
-    requires { place < length lists.now }
+    requires place { place < length lists.now }
+    requires timed { IsTimed (is_before_in clocks.now.rows) [] (lists_in lists.now) }
     ensures { result ≡ model.capped (model.count_from_place (is_before_in clocks.now.rows) job.now (lists_in lists.now) place) }
 {
     match zone_at(job, place) {
@@ -157,6 +203,7 @@ fn count_from_place(job: &Job, lists: &[Vec<Stretch>], clocks: &Clocks, place: u
 
 /// The pairs of each zone with each later one, or the greatest `u64` where there are more.
 fn count_in(job: &Job, lists: &[Vec<Stretch>], clocks: &Clocks) -> u64
+    requires { IsTimed (is_before_in clocks.now.rows) [] (lists_in lists.now) }
     ensures { result ≡ model.capped (model.count_in_times (is_before_in clocks.now.rows) (times_from job.now (lists_in lists.now) 0)) }
 {
     let mut count: u64 = 0;
@@ -168,6 +215,7 @@ fn count_in(job: &Job, lists: &[Vec<Stretch>], clocks: &Clocks) -> u64
 
 /// How many pairs of boxes are compared, or the greatest `u64` where there are more.
 pub(crate) fn count_up_to(job: &Job, stretches: &Stretches, clocks: &Clocks) -> u64
+    requires { (run : RunView) × IsTold job.now run stretches.now clocks.now }
     ensures { result ≡ model.capped (count_of (is_before_in clocks.now.rows) job.now stretches.now) }
 {
     count_in(job, lists_of(stretches), clocks)
@@ -175,7 +223,8 @@ pub(crate) fn count_up_to(job: &Job, stretches: &Stretches, clocks: &Clocks) -> 
 
 /// How many pairs of boxes of zones of different groups are compared. It takes no memory.
 pub fn count(job: &Job, stretches: &Stretches, clocks: &Clocks) -> u64
-    requires { count_of (is_before_in clocks.now.rows) job.now stretches.now < 2 ^ 64 }
+    requires whole { (run : RunView) × IsTold job.now run stretches.now clocks.now }
+    requires few { count_of (is_before_in clocks.now.rows) job.now stretches.now < 2 ^ 64 }
     ensures { result ≡ count_of (is_before_in clocks.now.rows) job.now stretches.now }
 {
     count_up_to(job, stretches, clocks)

@@ -1,7 +1,9 @@
-use Rattle.std.proofs.Common.{◌∙◌, List, sym, ap}
+use Rattle.std.proofs.Common.{◌∙◌, List, [], sym, ap, subst}
 use Rattle.order_clocks.specs.Tells.{is_before_in}
 use Rattle.clash_check.proofs.VerdictLaws.{by_names, verdict_by_names}
 use Rattle.clash_check.specs.Meetings.{Case, first_in_times}
+use Rattle.clash_check.proofs.NearLaws.{timed_by}
+use Rattle.clash_check.specs.Ascents.{IsTimed}
 use Rattle.clash_check.specs.Times.{times_from}
 use Rattle.protection_zones.specs.Overlaps.{zone_times}
 use Rattle.protection_zones.specs.Stretches.{StretchView}
@@ -20,3 +22,8 @@ returns-in-None c =
     let case : Case = record { job = c.args.job.now; run = c.args.run.now; before = is_before_in c.args.clocks.now.rows } in
     ap verdict_by_names (sym c.in-None.is ∙ c.first_meeting.ensures ∙ ap (λ (lists : List (List StretchView)). first_in_times case (times_from case.job lists 0)) c.lists_of.ensures)
     ∙ by_names c.args.job.now c.args.run.now c.args.stretches.now c.args.clocks.now case.before c.requires.told c.requires.fit
+
+pub first_meeting-requires-clause-timed : goal.first_meeting-requires-clause-timed
+first_meeting-requires-clause-timed c =
+    subst (λ (lists : List (List StretchView)). IsTimed (is_before_in c.args.clocks.now.rows) [] lists) (sym c.lists_of.ensures)
+    (timed_by c.args.job.now c.args.run.now c.args.stretches.now c.args.clocks.now c.requires.told)

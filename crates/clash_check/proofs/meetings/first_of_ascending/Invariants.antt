@@ -2,7 +2,7 @@ use Rattle.std.proofs.Common.{◌≡◌, drop}
 use Rattle.clash_check.specs.FirstAnswer.{first_some}
 use Rattle.clash_check.specs.Meetings as model
 use Rattle.order_clocks.specs.Tells.{is_before_in}
-use Rattle.clash_check.proofs.meetings.first_of_zones.Given as goal
+use Rattle.clash_check.proofs.meetings.first_of_ascending.Given as goal
 
 abbrev pub invariant-loop-stretch : goal.invariant-loop-stretch
 invariant-loop-stretch l =

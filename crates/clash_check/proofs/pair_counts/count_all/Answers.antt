@@ -1,11 +1,11 @@
-use Rattle.std.proofs.Common.{◌≡◌, ◌∙◌, ◌+◌, ◌==◌, false, drop, sym, ap, ℕ, rules, arith}
+use Rattle.std.proofs.Common.{◌∙◌, ◌+◌, drop, sym, ap, ℕ, arith}
 use Rattle.std.specs.List.{sum_by}
 use Rattle.std.proofs.lemmas.List.Sums.{sum_by-drop_more}
 use Rattle.order_clocks.specs.Tells.{is_before_in}
 use Rattle.clash_check.proofs.TimeLaws.{counted_more, counted_all, sum_past}
-use Rattle.clash_check.specs.PairCounts.{count_against, count_of_zones}
+use Rattle.clash_check.specs.PairCounts.{count_against}
 use Rattle.protection_zones.specs.Stretches.{StretchView}
-use Rattle.clash_check.proofs.pair_counts.count_of_zones.Goals as goal
+use Rattle.clash_check.proofs.pair_counts.count_all.Goals as goal
 
 pub loop-left-preserved : goal.loop-left-preserved
 loop-left-preserved c =
@@ -15,7 +15,4 @@ loop-left-preserved c =
     ∙ ap (λ (x : StretchView). found x + sum_by found (drop (c.loop-left.left-index + 1) c.args.own.now)) (sym c.left-item.is)) c.loop-left.invariant
 
 pub returns : goal.returns
-unfolding count_of_zones
-returns c =
-    let apart : (c.args.zone.now.group == c.args.other.now.group) ≡ false = search rules in
-    rw apart (counted_all c.loop-left.count _ _ (sum_past (count_against (is_before_in c.args.clocks.now.rows) c.args.others.now) c.args.own.now c.loop-left.left-index (omega arith)) c.loop-left.invariant)
+returns c = counted_all c.loop-left.count _ _ (sum_past (count_against (is_before_in c.args.clocks.now.rows) c.args.others.now) c.args.own.now c.loop-left.left-index (omega arith)) c.loop-left.invariant

@@ -1,0 +1,161 @@
+-- The stretches of another zone that may overlap one are all that count.
+use Rattle.std.proofs.Common.{◌≡◌, ◌∙◌, ℕ, zero, suc, ◌+◌, ◌<◌, ◌==◌, ◌&&◌, not, Bool, true, false, cond, List, [], ◌∷◌, length, drop, take, get_or, map, Option, None, Some, All, refl, sym, ap, subst, zero-add, arith}
+use Rattle.std.specs.Global.{Global}
+use Rattle.std.specs.Prelude.{Vec}
+use Rattle.std.specs.List.{sum_by, zip}
+use Rattle.clash_check.specs.Times.{lists_in}
+use Rattle.std.specs.Option.{option_or}
+use Rattle.std.proofs.lemmas.List.Elements.{All-nil, All-cons, All-head, All-tail, All-get_or}
+use Rattle.std.proofs.lemmas.List.Sums.{sum_by-cons}
+use Rattle.clash_check.proofs.AscentLaws.{part_is}
+use Rattle.clash_check.specs.Ascents.{leading, PassFirst, is_over, passes, near, IsTimed}
+use Rattle.clash_check.specs.FirstAnswer.{first_some}
+use Rattle.clash_check.specs.Judged.{IsTold}
+use Rattle.clash_check.specs.Meetings.{Case, Names, first_against, first_in_stretches}
+use Rattle.clash_check.specs.PairCounts.{count_against, count_in_stretches, count_in_boxes}
+use Rattle.job_types.specs.Job.{JobView}
+use Rattle.job_types.specs.Zones.{zones_in_order}
+use Rattle.job_types.specs.declared.job.ZoneLine.{ZoneLine}
+use Rattle.order_clocks.specs.Clocked.{ClocksView, moves_in}
+use Rattle.order_clocks.specs.Tells.{is_before_in}
+use Rattle.protection_zones.proofs.NameLaws.{ends_are_lowest_names}
+use Rattle.protection_zones.specs.Overlaps.{Order, ZoneTime, may_overlap, is_open_at, zone_times}
+use Rattle.protection_zones.specs.SoundStretches.{HasLowNames, HaveLowNames}
+use Rattle.protection_zones.specs.Stretches.{StretchView, StretchesView, all_stretches}
+use Rattle.sync_types.specs.Boards.{Board, first_board}
+use Rattle.sync_types.specs.Turns.{Move}
+use Rattle.sync_types.specs.Views.{RunView}
+
+-- ---- stretches that do not overlap
+
+and_none : (a b : Bool) → not b ≡ true → (a && b) ≡ false
+and_none true true on = absurd cc
+and_none false true on = refl
+and_none true false on = refl
+and_none false false on = refl
+
+none_and : (a b : Bool) → not (not a) ≡ false → (a && b) ≡ false
+none_and true b off = absurd cc
+none_and false b off = refl
+
+pub apart_early : (before : Order) (own other : StretchView) → passes before true own other ≡ true → may_overlap before own other ≡ false
+unfolding may_overlap
+apart_early before own other over = and_none (is_open_at before own.last other.first) (is_open_at before other.last own.first) over
+
+pub apart_late : (before : Order) (own other : StretchView) → passes before false own other ≡ false → may_overlap before own other ≡ false
+unfolding may_overlap
+apart_late before own other over = none_and (is_open_at before own.last other.first) (is_open_at before other.last own.first) over
+
+-- ---- counts
+
+counts_none : (before : Order) (own other : StretchView) → may_overlap before own other ≡ false → count_in_stretches before own other ≡ 0
+unfolding count_in_stretches
+counts_none before own other apart = rw apart (by_empty (length other.boxes == 0))
+  where
+    by_empty : (e : Bool) → cond {A = ℕ} e 0 0 ≡ 0
+    by_empty true = refl
+    by_empty false = refl
+
+pub sum_skips : (before : Order) (own other : StretchView) (others : List StretchView) → may_overlap before own other ≡ false
+    → sum_by (count_in_stretches before own) (other ∷ others) ≡ sum_by (count_in_stretches before own) others
+sum_skips before own other others apart =
+    sum_by-cons (count_in_stretches before own) other others ∙ ap (λ (n : ℕ). n + sum_by (count_in_stretches before own) others) (counts_none before own other apart)
+    ∙ zero-add (sum_by (count_in_stretches before own) others)
+
+sum_same : (f : StretchView → ℕ) (x : StretchView) (xs ys : List StretchView) → sum_by f xs ≡ sum_by f ys → sum_by f (x ∷ xs) ≡ sum_by f (x ∷ ys)
+sum_same f x xs ys same = sum_by-cons f x xs ∙ ap (λ (n : ℕ). f x + n) same ∙ sym (sum_by-cons f x ys)
+
+pub near_count : (before : Order) (own : StretchView) (others : List StretchView) → PassFirst (passes before false own) others → count_against before (near before own others) own ≡ count_against before others own
+unfolding count_against
+near_count before own others first =
+    ap (λ (n : ℕ). cond (length own.boxes == 0) 0 n)
+    (part_is (sum_by (count_in_stretches before own)) (passes before true own) (passes before false own) (sum_same (count_in_stretches before own))
+    (λ x xs over. sum_skips before own x xs (apart_early before own x over)) (λ x xs over. sum_skips before own x xs (apart_late before own x over)) others first)
+
+pub count_of_part : (before : Order) (own : StretchView) (others part : List StretchView) (from upto : ℕ) → PassFirst (passes before false own) others
+    → from ≡ leading (passes before true own) others → upto ≡ leading (passes before false own) others → part ≡ drop from (take upto others) → count_against before part own ≡ count_against before others own
+count_of_part before own others part from upto first from_is upto_is part_is =
+    ap (λ (xs : List StretchView). count_against before xs own) (part_is ∙ ap (λ (n : ℕ). drop n (take upto others)) from_is ∙ ap (λ (n : ℕ). drop (leading (passes before true own) others) (take n others)) upto_is)
+    ∙ near_count before own others first
+
+-- ---- first answers
+
+gives_none : (case : Case) (zone : ZoneLine) (own : StretchView) (later : ZoneLine) (other : StretchView) → may_overlap case.before own other ≡ false → first_in_stretches case zone own later other ≡ None
+unfolding first_in_stretches
+gives_none case zone own later other apart = rw apart (by_empty (length other.boxes == 0))
+  where
+    by_empty : (e : Bool) → cond {A = Option Names} e None None ≡ None
+    by_empty true = refl
+    by_empty false = refl
+
+pub near_first : (case : Case) (zone : ZoneLine) (own : StretchView) (two : ZoneTime) → PassFirst (passes case.before false own) two.stretches
+    → first_against case zone (record { zone = two.zone; stretches = near case.before own two.stretches }) own ≡ first_against case zone two own
+unfolding first_against
+near_first case zone own two first =
+    let given : StretchView → Option Names = first_in_stretches case zone own two.zone in
+    ap (λ (r : Option Names). cond (length own.boxes == 0) None r)
+    (part_is (first_some given) (passes case.before true own) (passes case.before false own)
+    (λ x xs ys same. ap (λ (r : Option Names). option_or (given x) r) same)
+    (λ x xs over. ap (λ (r : Option Names). option_or r (first_some given xs)) (gives_none case zone own two.zone x (apart_early case.before own x over)))
+    (λ x xs over. ap (λ (r : Option Names). option_or r (first_some given xs)) (gives_none case zone own two.zone x (apart_late case.before own x over))) two.stretches first)
+
+pub first_of_part : (case : Case) (zone : ZoneLine) (own : StretchView) (later : ZoneLine) (others part : List StretchView) (from upto : ℕ) → PassFirst (passes case.before false own) others
+    → from ≡ leading (passes case.before true own) others → upto ≡ leading (passes case.before false own) others → part ≡ drop from (take upto others)
+    → first_against case zone (record { zone = later; stretches = part }) own ≡ first_against case zone (record { zone = later; stretches = others }) own
+first_of_part case zone own later others part from upto first from_is upto_is part_is =
+    ap (λ (xs : List StretchView). first_against case zone (record { zone = later; stretches = xs }) own)
+    (part_is ∙ ap (λ (n : ℕ). drop n (take upto others)) from_is ∙ ap (λ (n : ℕ). drop (leading (passes case.before true own) others) (take n others)) upto_is)
+    ∙ near_first case zone own (record { zone = later; stretches = others }) first
+
+-- ---- the stretches of all zones
+
+of_each_zone : (P : StretchView → Type 0) (f : ZoneLine → List StretchView) (zones : List ZoneLine)
+    → All (λ (time : ZoneTime). All P time.stretches) (map (λ p. record { zone = p.0; stretches = p.1 }) (zip zones (map f zones))) → All (All P) (map f zones)
+of_each_zone P f [] all = All-nil (All P)
+of_each_zone P f (zone ∷ zones) all =
+    All-cons (All P) (f zone) (map f zones) (All-head (λ (time : ZoneTime). All P time.stretches) _ _ all) (of_each_zone P f zones (All-tail (λ (time : ZoneTime). All P time.stretches) _ _ all))
+
+low_lists : (job : JobView) (b : Board) (run : RunView) → All (All (HasLowNames b (moves_in run.entries))) (all_stretches job b run).zones
+unfolding all_stretches zone_times
+low_lists job b run = of_each_zone (HasLowNames b (moves_in run.entries)) _ (zones_in_order job) (ends_are_lowest_names job b run)
+
+pub timed_by : (job : JobView) (run : RunView) (stretches : StretchesView) (clocks : ClocksView) → IsTold job run stretches clocks → IsTimed (is_before_in clocks.rows) [] stretches.zones
+timed_by job run stretches clocks told = record {
+  board = first_board told.start;
+  moves = moves_in run.entries;
+  order = told.order;
+  own_names = All-nil (HasLowNames (first_board told.start) (moves_in run.entries));
+  names = subst (λ (s : StretchesView). All (All (HasLowNames (first_board told.start) (moves_in run.entries))) s.zones) (sym told.told) (low_lists job (first_board told.start) run);
+}
+
+-- those of one zone, and those of it and another
+at_place : (P : List StretchView → Type 0) (lists : List (Vec StretchView Global)) (place : ℕ) (d : Vec StretchView Global) → place < length lists → All P (lists_in lists) → P (get_or lists place d).items
+at_place P [] place d within all = absurd (omega arith)
+at_place P (v ∷ lists) zero d within all = All-head P v.items (lists_in lists) all
+at_place P (v ∷ lists) (suc place) d within all = at_place P lists place d (omega arith) (All-tail P v.items (lists_in lists) all)
+
+part_at : (P : List StretchView → Type 0) (lists : List (Vec StretchView Global)) (place : ℕ) (v : Vec StretchView Global) (part : List StretchView) → place < length lists
+    → v ≡ get_or lists place v → part ≡ v.items → All P (lists_in lists) → P part
+part_at P lists place v part within is part_is all =
+    subst P (sym part_is) (subst (λ (w : Vec StretchView Global). P w.items) (sym is) (at_place P lists place v within all))
+
+pub timed_own : (before : Order) (lists : List (Vec StretchView Global)) (place : ℕ) (v : Vec StretchView Global) (own : List StretchView) → place < length lists → v ≡ get_or lists place v
+    → own ≡ v.items → IsTimed before [] (lists_in lists) → IsTimed before own (lists_in lists)
+timed_own before lists place v own within is own_is timed = record {
+  board = timed.board;
+  moves = timed.moves;
+  order = timed.order;
+  own_names = part_at (All (HasLowNames timed.board timed.moves)) lists place v own within is own_is timed.names;
+  names = timed.names;
+}
+
+pub timed_other : (before : Order) (own : List StretchView) (lists : List (Vec StretchView Global)) (place : ℕ) (v : Vec StretchView Global) (others : List StretchView) → place < length lists
+    → v ≡ get_or lists place v → others ≡ v.items → IsTimed before own (lists_in lists) → IsTimed before own (others ∷ [])
+timed_other before own lists place v others within is others_is timed = record {
+  board = timed.board;
+  moves = timed.moves;
+  order = timed.order;
+  own_names = timed.own_names;
+  names = All-cons (All (HasLowNames timed.board timed.moves)) others [] (part_at (All (HasLowNames timed.board timed.moves)) lists place v others within is others_is timed.names)
+      (All-nil (All (HasLowNames timed.board timed.moves)));
+}

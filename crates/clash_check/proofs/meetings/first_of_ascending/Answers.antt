@@ -1,0 +1,42 @@
+use Rattle.std.proofs.Common.{◌≡◌, ◌∙◌, ◌+◌, ◌<◌, List, drop, length, sym, ap, subst, Bool, false, Option, None, Some, arith}
+use Rattle.std.specs.Option.{option_or}
+use Rattle.order_clocks.specs.Tells.{is_before_in}
+use Rattle.clash_check.proofs.AscentLaws.{passing_at}
+use Rattle.clash_check.proofs.FirstLaws.{first_some-drop_more}
+use Rattle.clash_check.proofs.NearLaws.{first_of_part}
+use Rattle.clash_check.specs.Ascents.{PassFirst, passes}
+use Rattle.clash_check.specs.FirstAnswer.{first_some}
+use Rattle.clash_check.specs.Meetings.{Case, Names, first_against}
+use Rattle.protection_zones.specs.Stretches.{StretchView}
+use Rattle.clash_check.proofs.meetings.first_of_ascending.Goals as goal
+
+pub range_of-range-requires : goal.range_of-range-requires
+range_of-range-requires c =
+    subst (λ (x : StretchView). (ended : Bool) → PassFirst (passes (is_before_in c.args.scene.now.clocks.now.rows) ended x) c.args.others.now) (sym c.stretch-item.is)
+    (passing_at (is_before_in c.args.scene.now.clocks.now.rows) c.args.own.now c.args.others.now c.loop-stretch.stretch-index c.stretch-item.result c.requires.timed c.requires.ascend c.loop-stretch-test.true)
+
+pub returns-in-Some : goal.returns-in-Some
+returns-in-Some c =
+    let case : Case = record { job = c.args.scene.now.job.now; run = c.args.scene.now.run.now; before = is_before_in c.args.scene.now.clocks.now.rows } in
+    let found : StretchView → Option Names = first_against case c.args.zone.now (record { zone = c.args.other.now; stretches = c.args.others.now }) in
+    let first : PassFirst (passes case.before false c.stretch-item.result) c.args.others.now =
+    subst (λ (x : StretchView). PassFirst (passes case.before false x) c.args.others.now) (sym c.stretch-item.is)
+    (passing_at case.before c.args.own.now c.args.others.now c.loop-stretch.stretch-index c.stretch-item.result c.requires.timed c.requires.ascend c.loop-stretch-test.true false) in
+    let here : c.first_against.result ≡ found c.stretch-item.result =
+    c.first_against.ensures ∙ first_of_part case c.args.zone.now c.stretch-item.result c.args.other.now c.args.others.now c.part.result.now c.range_of-range.result.from c.range_of-range.result.upto first
+    c.range_of-range.ensures.from c.range_of-range.ensures.upto c.part.ensures in
+    ap (λ (r : Option Names). option_or r (first_some found (drop (c.loop-stretch.stretch-index + 1) c.args.own.now))) (sym c.in-Some.is ∙ here)
+    ∙ sym (first_some-drop_more found c.args.own.now c.loop-stretch.stretch-index c.stretch-item.result c.loop-stretch-test.true c.stretch-item.is) ∙ c.loop-stretch.invariant
+
+pub loop-stretch-preserved : goal.loop-stretch-preserved
+loop-stretch-preserved c =
+    let case : Case = record { job = c.args.scene.now.job.now; run = c.args.scene.now.run.now; before = is_before_in c.args.scene.now.clocks.now.rows } in
+    let found : StretchView → Option Names = first_against case c.args.zone.now (record { zone = c.args.other.now; stretches = c.args.others.now }) in
+    let first : PassFirst (passes case.before false c.stretch-item.result) c.args.others.now =
+    subst (λ (x : StretchView). PassFirst (passes case.before false x) c.args.others.now) (sym c.stretch-item.is)
+    (passing_at case.before c.args.own.now c.args.others.now c.loop-stretch.stretch-index c.stretch-item.result c.requires.timed c.requires.ascend c.loop-stretch-test.true false) in
+    let here : c.first_against.result ≡ found c.stretch-item.result =
+    c.first_against.ensures ∙ first_of_part case c.args.zone.now c.stretch-item.result c.args.other.now c.args.others.now c.part.result.now c.range_of-range.result.from c.range_of-range.result.upto first
+    c.range_of-range.ensures.from c.range_of-range.ensures.upto c.part.ensures in
+    ap (λ (r : Option Names). option_or r (first_some found (drop (c.loop-stretch.stretch-index + 1) c.args.own.now))) (sym c.in_default.is ∙ here)
+    ∙ sym (first_some-drop_more found c.args.own.now c.loop-stretch.stretch-index c.stretch-item.result c.loop-stretch-test.true c.stretch-item.is) ∙ c.loop-stretch.invariant

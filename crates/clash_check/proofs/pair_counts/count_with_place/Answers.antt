@@ -1,0 +1,6 @@
+use Rattle.order_clocks.specs.Tells.{is_before_in}
+use Rattle.clash_check.proofs.NearLaws.{timed_other}
+use Rattle.clash_check.proofs.pair_counts.count_with_place.Goals as goal
+
+pub count_of_zones-requires : goal.count_of_zones-requires
+count_of_zones-requires c = record { timed = timed_other (is_before_in c.args.clocks.now.rows) c.args.own.now c.args.lists.now c.args.place c.index-lists-place.result c.as_slice.result.now c.requires.place c.index-lists-place.is c.as_slice.ensures.value c.requires.timed }
