@@ -10,6 +10,7 @@ pub mod MeetLaws
 pub mod AscentLaws
 pub mod NearLaws
 pub mod RunningLaws
+pub mod PlaceLaws
 pub mod CountLaws
 pub mod StopLaws
 pub mod VerdictLaws

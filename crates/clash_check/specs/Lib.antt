@@ -8,3 +8,4 @@ pub mod PairCounts
 pub mod Meetings
 pub mod Ascents
 pub mod Running
+pub mod PlaceRanges

@@ -9,6 +9,7 @@ mod meetings;
 mod overlaps;
 mod pair_counts;
 mod pieces;
+mod place_ranges;
 mod running;
 mod stops;
 mod zones;
