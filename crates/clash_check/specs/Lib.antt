@@ -9,3 +9,4 @@ pub mod Meetings
 pub mod Ascents
 pub mod Running
 pub mod PlaceRanges
+pub mod Shown

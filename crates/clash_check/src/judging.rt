@@ -33,13 +33,24 @@ fn count_of(job: &Job, stretches: &Stretches, clocks: &Clocks) -> Result<u64, No
 }
 
 /// NO with the first two boxes that meet, or YES.
-fn judge_boxes(job: &Job, run: &Run, stretches: &Stretches, clocks: &Clocks) -> Verdict
+fn judge_boxes(
+    alloc: Global,
+    job: &Job,
+    run: &Run,
+    stretches: &Stretches,
+    clocks: &Clocks,
+) -> Verdict
     requires sound { IsSoundJob job.now }
     requires told { IsTold job.now run.now stretches.now clocks.now }
     requires fit { All (All IsFit) run.now.items }
     ensures { result ≡ model.or_else (model.meeting_verdict (is_before_in clocks.now.rows) job.now run.now stretches.now) verdicts.Yes }
 {
-    let scene = Scene { job, run, clocks };
+    let scene = Scene {
+        alloc,
+        job,
+        run,
+        clocks,
+    };
     match first_meeting(&scene, lists_of(stretches)) {
         Some((first, second)) => Verdict::No(first, second),
         None => Verdict::Yes,
@@ -48,6 +59,7 @@ fn judge_boxes(job: &Job, run: &Run, stretches: &Stretches, clocks: &Clocks) -> 
 
 /// The verdict by the boxes alone. They are not compared where there are too many pairs.
 fn judge_pairs(
+    alloc: Global,
     job: &Job,
     run: &Run,
     stretches: &Stretches,
@@ -66,7 +78,7 @@ fn judge_pairs(
             budget: job.budget,
         });
     }
-    Ok(judge_boxes(job, run, stretches, clocks))
+    Ok(judge_boxes(alloc, job, run, stretches, clocks))
 }
 
 /// The verdict on a whole run of a job, the first that fits: RACE where the run has a race, with the first; ALARM of the lowest
@@ -87,7 +99,6 @@ pub fn judge(
     requires fit { All (All IsFit) run.now.items }
     ensures { IfOk result (λ verdict. verdict ≡ model.verdict_by (is_before_in clocks.now.rows) clocks.now.race job.now run.now stretches.now) }
 {
-    let _ = alloc;
     if let Some(race) = clocks.first_race() {
         return Ok(Verdict::Race(race));
     }
@@ -98,5 +109,5 @@ pub fn judge(
     if let Some(verdict) = first_stuck(stops.as_slice()) {
         return Ok(verdict);
     }
-    judge_pairs(job, run, stretches, clocks)
+    judge_pairs(alloc, job, run, stretches, clocks)
 }

@@ -11,6 +11,7 @@ mod pair_counts;
 mod pieces;
 mod place_ranges;
 mod running;
+mod shown;
 mod stops;
 mod zones;
 
