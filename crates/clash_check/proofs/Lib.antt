@@ -10,6 +10,8 @@ pub mod MeetLaws
 pub mod AscentLaws
 pub mod NearLaws
 pub mod RunningLaws
+pub mod PlaceLaws
+pub mod ShownLaws
 pub mod CountLaws
 pub mod StopLaws
 pub mod VerdictLaws

@@ -8,7 +8,7 @@ use Rattle.clash_check.proofs.Each.{Each}
 use Rattle.clash_check.proofs.FirstLaws.{find-flat_map, find-made, first_some-append, first_some-each, first_some-filter, first_some-map, first_some-none, guarded_first, unless, unless_empty}
 use Rattle.clash_check.proofs.PieceLaws.{LiesIn, meet_wider, meet_wider_last}
 use Rattle.clash_check.specs.FirstAnswer.{first_some}
-use Rattle.clash_check.specs.Meetings.{Names, Case, place_of, touches, compared, names_where_met, first_touched, first_in_stretches, first_against, first_of_zones, first_in_times}
+use Rattle.clash_check.specs.Meetings.{Names, Case, place_of, touches, compared, names_where_met, first_touched, first_touched_among, first_in_stretches, first_against, first_of_zones, first_in_times}
 use Rattle.clash_check.specs.Verdicts.{name_of}
 use Rattle.job_types.specs.Job.{JobView}
 use Rattle.job_types.specs.declared.job.ZoneLine.{ZoneLine}
@@ -79,7 +79,7 @@ met_is : (case : Case) (shared : Bool) (left right : BoxPlace) → IsInCover cas
 unfolding names_where_met
 met_is case shared left right in_left in_right = rw (touch_is case.job case.run left right in_left in_right) refl
 
-far_none : (case : Case) (shared : Bool) (left right : BoxPlace) → (compared shared left.box right.box && boxes_meet left.box.cover right.box.cover) ≡ false → names_where_met case shared left right ≡ None
+pub far_none : (case : Case) (shared : Bool) (left right : BoxPlace) → (compared shared left.box right.box && boxes_meet left.box.cover right.box.cover) ≡ false → names_where_met case shared left right ≡ None
 unfolding names_where_met
 far_none case shared left right far = by_tests (compared shared left.box right.box) (boxes_meet left.box.cover right.box.cover) far
   where
@@ -94,7 +94,7 @@ touched_is : (case : Case) (zone : ZoneLine) (left : StretchView) (other : ZoneL
     → IsInCover case.job case.run (place_of zone left own)
     → first_named case (map (λ later. (place_of zone left own, place_of other right later)) (filter (λ later. compared (share_channel left.name.channel right.name.channel) own later) right.boxes))
     ≡ first_touched case (share_channel left.name.channel right.name.channel) (place_of zone left own) other right
-unfolding first_touched
+unfolding first_touched_among
 touched_is case zone left other right own in_right in_left =
     let shared : Bool = share_channel left.name.channel right.name.channel in
     find-made names_of (pair_meets case.job case.run) (λ (later : ZoneBox). (place_of zone left own, place_of other right later)) (compared shared own) right.boxes
@@ -108,7 +108,7 @@ touched_is case zone left other right own in_right in_left =
 -- ---- two stretches
 
 untouched : (case : Case) (shared : Bool) (left : BoxPlace) (other : ZoneLine) (right : StretchView) → right.boxes ≡ [] → first_touched case shared left other right ≡ None
-unfolding first_touched
+unfolding first_touched_among
 untouched case shared left other right none = rw none refl
 
 stretches_are : (case : Case) (zone : ZoneLine) (left : StretchView) (other : ZoneLine) (right : StretchView) → AreInCover case.job case.run zone left → AreInCover case.job case.run other right

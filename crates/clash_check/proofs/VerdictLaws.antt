@@ -1,5 +1,5 @@
 -- The verdict, by what comes first.
-use Rattle.std.proofs.Common.{◌≡◌, ◌∙◌, ℕ, ◌<◌, ◌≤◌, Bool, true, false, cond, nat_lt, Option, None, Some, find, refl, sym, ap, subst, arith}
+use Rattle.std.proofs.Common.{◌≡◌, ◌∙◌, ℕ, ◌<◌, ◌≤◌, ◌^◌, length, Bool, true, false, cond, nat_lt, Option, None, Some, find, refl, sym, ap, subst, arith}
 use Rattle.std.proofs.lemmas.Bool.{lt-ltb, ltb-true}
 use Rattle.std.specs.Option.{option_map}
 use Rattle.std.specs.List.{All}
@@ -12,6 +12,8 @@ use Rattle.clash_check.specs.Meetings.{Names, first_in_times}
 use Rattle.clash_check.specs.Verdicts.{budget_verdict, meeting_verdict, no_by, or_else}
 use Rattle.job_types.specs.Job.{JobView}
 use Rattle.order_clocks.specs.Clocked.{ClocksView}
+use Rattle.protection_zones.proofs.BoxCounts.{pairs_are_few}
+use Rattle.protection_zones.specs.SoundStretches.{IsOfSize}
 use Rattle.protection_zones.specs.Overlaps.{Order, Pair, compared_pairs, zone_times}
 use Rattle.protection_zones.specs.Pieces.{pair_meets}
 use Rattle.protection_zones.specs.Stretches.{StretchesView}
@@ -54,3 +56,10 @@ by_names job run stretches clocks before told fit =
     by_found : (o : Option Pair) → verdict_by_names (option_map names_of o) ≡ or_else (no_by o) verdicts.Yes
     by_found None = refl
     by_found (Some pair) = refl
+
+-- so few pairs are compared in a whole run that a number of 64 bits can count them
+pub few_pairs : (job : JobView) (run : RunView) (stretches : StretchesView) (clocks : ClocksView) (before : Order) → IsTold job run stretches clocks → IsOfSize run
+    → count_of before job stretches < 2 ^ 64
+unfolding count_of
+few_pairs job run stretches clocks before told size =
+    subst (λ (s : StretchesView). length (compared_pairs before job s) < 2 ^ 64) (sym told.told) (pairs_are_few before job told.start run size told.whole)

@@ -8,3 +8,5 @@ pub mod PairCounts
 pub mod Meetings
 pub mod Ascents
 pub mod Running
+pub mod PlaceRanges
+pub mod Shown

@@ -48,10 +48,14 @@ names_where_met case shared left right =
 abbrev pub is_near_any : Bool → ZoneBox → List ZoneBox → Bool
 is_near_any shared own others = list_any (λ later. compared shared own later && boxes_meet own.cover later.cover) others
 
--- the names of a box and of the first of some boxes that it meets
-unfoldable pub first_touched : Case → Bool → BoxPlace → ZoneLine → StretchView → Option Names
-first_touched case shared left other right =
-    if is_near_any shared left.box right.boxes then first_some (λ later. names_where_met case shared left (place_of other right later)) right.boxes else None
+-- the names of a box and of the first of some boxes of a stretch that it meets
+unfoldable pub first_touched_among : Case → Bool → BoxPlace → ZoneLine → StretchView → List ZoneBox → Option Names
+first_touched_among case shared left other right boxes =
+    if is_near_any shared left.box boxes then first_some (λ later. names_where_met case shared left (place_of other right later)) boxes else None
+
+-- of all its boxes
+abbrev pub first_touched : Case → Bool → BoxPlace → ZoneLine → StretchView → Option Names
+first_touched case shared left other right = first_touched_among case shared left other right right.boxes
 
 -- the names of the first two boxes of two stretches that meet; one with no boxes is looked at once
 unfoldable pub first_in_stretches : Case → ZoneLine → StretchView → ZoneLine → StretchView → Option Names

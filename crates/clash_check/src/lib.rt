@@ -9,7 +9,9 @@ mod meetings;
 mod overlaps;
 mod pair_counts;
 mod pieces;
+mod place_ranges;
 mod running;
+mod shown;
 mod stops;
 mod zones;
 

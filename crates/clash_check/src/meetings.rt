@@ -1,10 +1,12 @@
 //! The first two boxes that meet, of zones that may not.
-ghost use Rattle.std.specs.Prelude.{◌≡◌, ◌≤◌, ◌<◌, ◌&&◌, true, [], ◌∷◌, All, length};
+ghost use Rattle.std.specs.Prelude.{◌≡◌, ◌≤◌, ◌<◌, ◌&&◌, true, [], ◌∷◌, All, drop, length, take};
 ghost use Rattle.std.specs.List.{list_any};
 ghost use Rattle.clash_check.specs.Ascents as ascents;
 ghost use Rattle.clash_check.specs.Ascents.{IsTimed};
 ghost use Rattle.clash_check.specs.FirstAnswer.{first_some};
 ghost use Rattle.clash_check.specs.Meetings as model;
+ghost use Rattle.clash_check.specs.PlaceRanges as places;
+ghost use Rattle.clash_check.specs.Shown.{IsNext};
 ghost use Rattle.clash_check.specs.Times.{lists_in, times_from};
 ghost use Rattle.clash_check.specs.Verdicts.{name_of};
 ghost use Rattle.job_lines.specs.declared.limits.TheConstants.{DEPTH_LIMIT};
@@ -14,20 +16,25 @@ ghost use Rattle.protection_zones.specs.Pieces.{piece_boxes};
 ghost use Rattle.protection_zones.specs.ZoneBoxes.{IsFit};
 ghost use Rattle.swept_boxes.specs.Boxes.{boxes_meet};
 
-use crate::ascents::{Range, do_ascend, part, range_of};
+use crate::ascents::{Range, do_ascend, range_of};
 use crate::boxes::{any_meet, any_meets, do_meet};
 use crate::overlaps::{are_compared, may_overlap, share_channel};
 use crate::pieces::boxes_by_pieces;
+use crate::place_ranges::{boxes_between, do_boxes_ascend, place_range};
+use crate::shown::next_shown;
 use crate::zones::zone_at;
 use job_types::{Job, ZoneLine};
 use order_clocks::Clocks;
 use protection_zones::{Stretch, ZoneBox};
+use std::alloc::Global;
 use swept_boxes::Box3;
 use sync_types::{PlaceName, Run};
 
 /// A job with a run of it and the order of its events.
 #[derive(Clone, Copy)]
 pub(crate) struct Scene<'a> {
+    /// Where memory comes from.
+    pub(crate) alloc: Global,
     /// The job.
     pub(crate) job: &'a Job,
     /// The run.
@@ -103,7 +110,7 @@ fn names_where_met(
     }
 }
 
-/// The names of a box and of the first of a stretch that it meets; these are the boxes by which it is compared.
+/// The names of a box and of the first of these of a stretch that it meets, and the boxes by which it is compared.
 fn first_by_pieces(
     scene: &Scene,
     shared: bool,
@@ -111,15 +118,15 @@ fn first_by_pieces(
     own: &ZoneBox,
     pieces: &[Box3],
     right: &Held,
+    boxes: &[ZoneBox],
 ) -> Option<(PlaceName, PlaceName)>
     requires fit { All (All IsFit) scene.now.run.now.items }
     requires deep { scene.now.job.now.depth ≤ DEPTH_LIMIT }
     requires pieces { pieces.now ≡ piece_boxes scene.now.job.now scene.now.run.now (model.place_of left.now.zone.now left.now.stretch.now own.now) }
     ensures { result ≡ first_some (λ later. model.names_where_met (record { job = scene.now.job.now; run = scene.now.run.now; before = is_before_in scene.now.clocks.now.rows }) shared
-        (model.place_of left.now.zone.now left.now.stretch.now own.now) (model.place_of right.now.zone.now right.now.stretch.now later)) right.now.stretch.now.boxes }
+        (model.place_of left.now.zone.now left.now.stretch.now own.now) (model.place_of right.now.zone.now right.now.stretch.now later)) boxes.now }
 {
-    let stretch = right.stretch;
-    for later in &stretch.boxes {
+    for later in boxes {
         if let Some(names) = names_where_met(scene, shared, left, own, pieces, right, later) {
             return Some(names);
         }
@@ -127,27 +134,75 @@ fn first_by_pieces(
     None
 }
 
-/// The names of a box and of the first of a stretch that it meets. The boxes by which it is compared are made once, and only where
-/// its cover meets another.
-#[tactic(auto, unfolding(crate::specs::Meetings::first_touched))]
+/// The names of a box and of the first of these of a stretch that it meets. The boxes by which it is compared are made once, and
+/// only where its cover meets another.
+#[tactic(auto, unfolding(crate::specs::Meetings::first_touched_among))]
 fn first_touched(
     scene: &Scene,
     shared: bool,
     left: &Held,
     own: &ZoneBox,
     right: &Held,
+    boxes: &[ZoneBox],
 ) -> Option<(PlaceName, PlaceName)>
     requires fit { All (All IsFit) scene.now.run.now.items }
     requires deep { scene.now.job.now.depth ≤ DEPTH_LIMIT }
-    ensures { result ≡ model.first_touched (record { job = scene.now.job.now; run = scene.now.run.now; before = is_before_in scene.now.clocks.now.rows }) shared
-        (model.place_of left.now.zone.now left.now.stretch.now own.now) right.now.zone.now right.now.stretch.now }
+    ensures { result ≡ model.first_touched_among (record { job = scene.now.job.now; run = scene.now.run.now; before = is_before_in scene.now.clocks.now.rows }) shared
+        (model.place_of left.now.zone.now left.now.stretch.now own.now) right.now.zone.now right.now.stretch.now boxes.now }
 {
-    let stretch = right.stretch;
-    if !is_near_any(shared, own, &stretch.boxes) {
+    if !is_near_any(shared, own, boxes) {
         return None;
     }
     let pieces = boxes_by_pieces(scene.job, scene.run, left, own);
-    first_by_pieces(scene, shared, left, own, pieces.as_slice(), right)
+    first_by_pieces(scene, shared, left, own, pieces.as_slice(), right, boxes)
+}
+
+/// The names of the first two boxes of two stretches that meet, where they share a channel or not.
+fn first_in_all_boxes(
+    scene: &Scene,
+    shared: bool,
+    left: &Held,
+    right: &Held,
+) -> Option<(PlaceName, PlaceName)>
+    requires fit { All (All IsFit) scene.now.run.now.items }
+    requires deep { scene.now.job.now.depth ≤ DEPTH_LIMIT }
+    ensures { result ≡ first_some (λ own. model.first_touched (record { job = scene.now.job.now; run = scene.now.run.now; before = is_before_in scene.now.clocks.now.rows }) shared
+        (model.place_of left.now.zone.now left.now.stretch.now own) right.now.zone.now right.now.stretch.now) left.now.stretch.now.boxes }
+{
+    let stretch = left.stretch;
+    let other = right.stretch;
+    for own in &stretch.boxes {
+        if let Some(names) = first_touched(scene, shared, left, own, right, &other.boxes) {
+            return Some(names);
+        }
+    }
+    None
+}
+
+/// The names of the first of these boxes and those of a stretch of the same channel that meet, where the boxes of the second begin and
+/// end one after another: a box of the first is looked at with those alone with which it holds a place in common.
+fn first_in_places(
+    scene: &Scene,
+    left: &Held,
+    boxes: &[ZoneBox],
+    right: &Held,
+    others: &[ZoneBox],
+) -> Option<(PlaceName, PlaceName)>
+    requires fit { All (All IsFit) scene.now.run.now.items }
+    requires deep { scene.now.job.now.depth ≤ DEPTH_LIMIT }
+    requires ascend { places.do_boxes_ascend others.now ≡ true }
+    ensures { result ≡ first_some (λ own. model.first_touched_among (record { job = scene.now.job.now; run = scene.now.run.now; before = is_before_in scene.now.clocks.now.rows }) true
+        (model.place_of left.now.zone.now left.now.stretch.now own) right.now.zone.now right.now.stretch.now others.now) boxes.now }
+{
+    let mut range = Range { from: 0, upto: 0 };
+    for own in boxes {
+        range = place_range(own, others, range);
+        let near = boxes_between(others, range);
+        if let Some(names) = first_touched(scene, true, left, own, right, near) {
+            return Some(names);
+        }
+    }
+    None
 }
 
 /// The names of the first two boxes of two stretches that meet, where they share a channel or not.
@@ -162,13 +217,13 @@ fn first_in_boxes(
     ensures { result ≡ first_some (λ own. model.first_touched (record { job = scene.now.job.now; run = scene.now.run.now; before = is_before_in scene.now.clocks.now.rows }) shared
         (model.place_of left.now.zone.now left.now.stretch.now own) right.now.zone.now right.now.stretch.now) left.now.stretch.now.boxes }
 {
-    let stretch = left.stretch;
-    for own in &stretch.boxes {
-        if let Some(names) = first_touched(scene, shared, left, own, right) {
-            return Some(names);
-        }
+    let own = left.stretch;
+    let other = right.stretch;
+    if shared && do_boxes_ascend(&other.boxes) {
+        first_in_places(scene, left, &own.boxes, right, &other.boxes)
+    } else {
+        first_in_all_boxes(scene, shared, left, right)
     }
-    None
 }
 
 /// The names of the first two boxes of two stretches that meet. One with no boxes is looked at once.
@@ -223,6 +278,65 @@ fn first_against<'a>(
     None
 }
 
+/// The names of the first boxes of a stretch and those of these places of another zone that meet. Stretches with no boxes are passed
+/// over.
+fn first_of_shown<'a>(
+    scene: &Scene,
+    left: &Held,
+    other: &'a ZoneLine,
+    others: &'a [Stretch],
+    next: &[usize],
+    range: Range,
+) -> Option<(PlaceName, PlaceName)>
+    requires fit { All (All IsFit) scene.now.run.now.items }
+    requires deep { scene.now.job.now.depth ≤ DEPTH_LIMIT }
+    requires next { IsNext others.now next.now }
+    requires within_from { range.from ≤ length others.now }
+    requires within { range.upto ≤ length others.now }
+    ensures { result ≡ first_some (model.first_in_stretches (record { job = scene.now.job.now; run = scene.now.run.now; before = is_before_in scene.now.clocks.now.rows })
+        left.now.zone.now left.now.stretch.now other.now) (drop range.from (take range.upto others.now)) }
+{
+    let mut place = next[range.from];
+    while place < range.upto {
+        let right = Held {
+            zone: other,
+            stretch: &others[place],
+        };
+        if let Some(names) = first_in_stretches(scene, left, &right) {
+            return Some(names);
+        }
+        place = next[place + 1];
+    }
+    None
+}
+
+/// The names of the first boxes of a stretch and those of these places of another zone that meet. A stretch with no boxes is looked
+/// at once.
+#[tactic(auto, unfolding(crate::specs::Meetings::first_against))]
+fn first_in_range<'a>(
+    scene: &Scene,
+    left: &Held,
+    other: &'a ZoneLine,
+    others: &'a [Stretch],
+    next: &[usize],
+    range: Range,
+) -> Option<(PlaceName, PlaceName)>
+    requires fit { All (All IsFit) scene.now.run.now.items }
+    requires deep { scene.now.job.now.depth ≤ DEPTH_LIMIT }
+    requires next { IsNext others.now next.now }
+    requires within_from { range.from ≤ length others.now }
+    requires within { range.upto ≤ length others.now }
+    ensures { result ≡ model.first_against (record { job = scene.now.job.now; run = scene.now.run.now; before = is_before_in scene.now.clocks.now.rows })
+        left.now.zone.now (record { zone = other.now; stretches = drop range.from (take range.upto others.now) }) left.now.stretch.now }
+{
+    let own = left.stretch;
+    if own.boxes.is_empty() {
+        None
+    } else {
+        first_of_shown(scene, left, other, others, next, range)
+    }
+}
+
 /// The names of the first two boxes of the stretches of two zones that meet.
 fn first_of_all<'a>(
     scene: &Scene,
@@ -246,18 +360,20 @@ fn first_of_all<'a>(
 }
 
 /// The names of the first two boxes of the stretches of two zones that meet, where each of the second is over as the next begins: a
-/// stretch of the first is looked at with those alone that it may overlap.
+/// stretch of the first is looked at with those alone that it may overlap and that have boxes.
 fn first_of_ascending<'a>(
     scene: &Scene,
     zone: &'a ZoneLine,
     own: &'a [Stretch],
     other: &ZoneLine,
     others: &[Stretch],
+    next: &[usize],
 ) -> Option<(PlaceName, PlaceName)>
     requires fit { All (All IsFit) scene.now.run.now.items }
     requires deep { scene.now.job.now.depth ≤ DEPTH_LIMIT }
     requires timed { IsTimed (is_before_in scene.now.clocks.now.rows) own.now (others.now ∷ []) }
     requires ascend { ascents.do_ascend (is_before_in scene.now.clocks.now.rows) others.now ≡ true }
+    requires next { IsNext others.now next.now }
     ensures { result ≡ first_some (model.first_against (record { job = scene.now.job.now; run = scene.now.run.now; before = is_before_in scene.now.clocks.now.rows })
         zone.now (record { zone = other.now; stretches = others.now })) own.now }
 {
@@ -265,14 +381,15 @@ fn first_of_ascending<'a>(
     for stretch in own {
         let left = Held { zone, stretch };
         range = range_of(scene.clocks, stretch, others, range);
-        if let Some(names) = first_against(scene, &left, other, part(others, range)) {
+        if let Some(names) = first_in_range(scene, &left, other, others, next, range) {
             return Some(names);
         }
     }
     None
 }
 
-/// The names of the first two boxes of two zones that meet, where they are of different groups.
+/// The names of the first two boxes of two zones that meet, where they are of different groups. Where memory is too short for the
+/// places of the stretches that have boxes, each stretch is looked at with each.
 #[tactic(auto, unfolding(crate::specs::Meetings::first_of_zones))]
 fn first_of_zones(
     scene: &Scene,
@@ -290,10 +407,12 @@ fn first_of_zones(
     if zone.group == other.group {
         return None;
     }
-    if do_ascend(scene.clocks, others) {
-        first_of_ascending(scene, zone, own, other, others)
-    } else {
-        first_of_all(scene, zone, own, other, others)
+    if !do_ascend(scene.clocks, others) {
+        return first_of_all(scene, zone, own, other, others);
+    }
+    match next_shown(scene.alloc, others) {
+        Ok(next) => first_of_ascending(scene, zone, own, other, others, next.as_slice()),
+        Err(_) => first_of_all(scene, zone, own, other, others),
     }
 }
 

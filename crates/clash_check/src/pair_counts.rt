@@ -6,6 +6,7 @@ ghost use Rattle.clash_check.specs.Ascents.{IsTimed};
 ghost use Rattle.clash_check.specs.Counts.{count_of};
 ghost use Rattle.clash_check.specs.Judged.{IsTold};
 ghost use Rattle.clash_check.specs.PairCounts as model;
+ghost use Rattle.clash_check.specs.PlaceRanges as places;
 ghost use Rattle.clash_check.specs.Times.{lists_in, times_from};
 ghost use Rattle.order_clocks.specs.Tells.{is_before_in};
 ghost use Rattle.protection_zones.specs.Overlaps.{ZoneTime, share_place};
@@ -13,6 +14,7 @@ ghost use Rattle.sync_types.specs.Views.{RunView};
 
 use crate::ascents::{Range, do_ascend, range_of};
 use crate::overlaps::{may_overlap, share_channel, share_place};
+use crate::place_ranges::{do_boxes_ascend, place_range};
 use crate::running::{Boxes, boxes_before, count_in_range, mark_latest};
 use crate::zones::{lists_of, zone_at};
 use axis_sets::CHANNEL_PLACES;
@@ -35,7 +37,7 @@ fn count_near(own: &ZoneBox, others: &[ZoneBox]) -> u64
 
 /// How many pairs of boxes hold a place in common.
 #[tactic(auto, unfolding(crate::specs::PairCounts::count_sharing))]
-fn count_sharing(left: &[ZoneBox], right: &[ZoneBox]) -> u64
+fn count_sharing_all(left: &[ZoneBox], right: &[ZoneBox]) -> u64
     ensures { result ≡ model.capped (model.count_sharing left.now right.now) }
 {
     let mut count: u64 = 0;
@@ -43,6 +45,32 @@ fn count_sharing(left: &[ZoneBox], right: &[ZoneBox]) -> u64
         count = count.saturating_add(count_near(own, right));
     }
     count
+}
+
+/// How many pairs of boxes hold a place in common, where those of the second list begin and end one after another.
+#[tactic(auto, unfolding(crate::specs::PairCounts::count_sharing))]
+fn count_sharing_places(left: &[ZoneBox], right: &[ZoneBox]) -> u64
+    requires { places.do_boxes_ascend right.now ≡ true }
+    ensures { result ≡ model.capped (model.count_sharing left.now right.now) }
+{
+    let mut range = Range { from: 0, upto: 0 };
+    let mut count: u64 = 0;
+    for own in left {
+        range = place_range(own, right, range);
+        count = count.saturating_add(range.upto.saturating_sub(range.from) as u64);
+    }
+    count
+}
+
+/// How many pairs of boxes hold a place in common.
+fn count_sharing(left: &[ZoneBox], right: &[ZoneBox]) -> u64
+    ensures { result ≡ model.capped (model.count_sharing left.now right.now) }
+{
+    if do_boxes_ascend(right) {
+        count_sharing_places(left, right)
+    } else {
+        count_sharing_all(left, right)
+    }
 }
 
 /// The pairs of two stretches that may overlap.

@@ -1,4 +1,4 @@
-use Rattle.std.proofs.Common.{◌≡◌, ◌∙◌, ◌+◌, ◌<◌, List, drop, length, sym, ap, subst, Bool, false, Option, None, Some, arith}
+use Rattle.std.proofs.Common.{◌≡◌, ◌∙◌, ◌+◌, ◌<◌, List, drop, take, refl, length, sym, ap, subst, Bool, false, Option, None, Some, arith}
 use Rattle.std.specs.Option.{option_or}
 use Rattle.order_clocks.specs.Tells.{is_before_in}
 use Rattle.clash_check.proofs.AscentLaws.{passing_at}
@@ -22,9 +22,9 @@ returns-in-Some c =
     let first : PassFirst (passes case.before false c.stretch-item.result) c.args.others.now =
     subst (λ (x : StretchView). PassFirst (passes case.before false x) c.args.others.now) (sym c.stretch-item.is)
     (passing_at case.before c.args.own.now c.args.others.now c.loop-stretch.stretch-index c.stretch-item.result c.requires.timed c.requires.ascend c.loop-stretch-test.true false) in
-    let here : c.first_against.result ≡ found c.stretch-item.result =
-    c.first_against.ensures ∙ first_of_part case c.args.zone.now c.stretch-item.result c.args.other.now c.args.others.now c.part.result.now c.range_of-range.result.from c.range_of-range.result.upto first
-    c.range_of-range.ensures.from c.range_of-range.ensures.upto c.part.ensures in
+    let here : c.first_in_range.result ≡ found c.stretch-item.result =
+    c.first_in_range.ensures ∙ first_of_part case c.args.zone.now c.stretch-item.result c.args.other.now c.args.others.now (drop c.range_of-range.result.from (take c.range_of-range.result.upto c.args.others.now)) c.range_of-range.result.from c.range_of-range.result.upto first
+    c.range_of-range.ensures.from c.range_of-range.ensures.upto refl in
     ap (λ (r : Option Names). option_or r (first_some found (drop (c.loop-stretch.stretch-index + 1) c.args.own.now))) (sym c.in-Some.is ∙ here)
     ∙ sym (first_some-drop_more found c.args.own.now c.loop-stretch.stretch-index c.stretch-item.result c.loop-stretch-test.true c.stretch-item.is) ∙ c.loop-stretch.invariant
 
@@ -35,8 +35,8 @@ loop-stretch-preserved c =
     let first : PassFirst (passes case.before false c.stretch-item.result) c.args.others.now =
     subst (λ (x : StretchView). PassFirst (passes case.before false x) c.args.others.now) (sym c.stretch-item.is)
     (passing_at case.before c.args.own.now c.args.others.now c.loop-stretch.stretch-index c.stretch-item.result c.requires.timed c.requires.ascend c.loop-stretch-test.true false) in
-    let here : c.first_against.result ≡ found c.stretch-item.result =
-    c.first_against.ensures ∙ first_of_part case c.args.zone.now c.stretch-item.result c.args.other.now c.args.others.now c.part.result.now c.range_of-range.result.from c.range_of-range.result.upto first
-    c.range_of-range.ensures.from c.range_of-range.ensures.upto c.part.ensures in
+    let here : c.first_in_range.result ≡ found c.stretch-item.result =
+    c.first_in_range.ensures ∙ first_of_part case c.args.zone.now c.stretch-item.result c.args.other.now c.args.others.now (drop c.range_of-range.result.from (take c.range_of-range.result.upto c.args.others.now)) c.range_of-range.result.from c.range_of-range.result.upto first
+    c.range_of-range.ensures.from c.range_of-range.ensures.upto refl in
     ap (λ (r : Option Names). option_or r (first_some found (drop (c.loop-stretch.stretch-index + 1) c.args.own.now))) (sym c.in_default.is ∙ here)
     ∙ sym (first_some-drop_more found c.args.own.now c.loop-stretch.stretch-index c.stretch-item.result c.loop-stretch-test.true c.stretch-item.is) ∙ c.loop-stretch.invariant

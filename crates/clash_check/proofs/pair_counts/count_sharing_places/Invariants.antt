@@ -2,7 +2,7 @@ use Rattle.std.proofs.Common.{drop}
 use Rattle.std.specs.List.{count_by, sum_by}
 use Rattle.protection_zones.specs.Overlaps.{share_place}
 use Rattle.clash_check.proofs.TimeLaws.{IsCounted}
-use Rattle.clash_check.proofs.pair_counts.count_sharing.Given as goal
+use Rattle.clash_check.proofs.pair_counts.count_sharing_places.Given as goal
 
 abbrev pub invariant-loop-own : goal.invariant-loop-own
 invariant-loop-own l =

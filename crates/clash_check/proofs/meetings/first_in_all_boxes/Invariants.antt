@@ -2,7 +2,7 @@ use Rattle.std.proofs.Common.{◌≡◌, drop}
 use Rattle.clash_check.specs.FirstAnswer.{first_some}
 use Rattle.clash_check.specs.Meetings as model
 use Rattle.order_clocks.specs.Tells.{is_before_in}
-use Rattle.clash_check.proofs.meetings.first_in_boxes.Given as goal
+use Rattle.clash_check.proofs.meetings.first_in_all_boxes.Given as goal
 
 abbrev pub invariant-loop-own : goal.invariant-loop-own
 invariant-loop-own l =

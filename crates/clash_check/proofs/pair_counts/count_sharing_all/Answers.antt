@@ -5,7 +5,7 @@ use Rattle.clash_check.proofs.TimeLaws.{counted_more, counted_all, sum_past}
 use Rattle.clash_check.specs.PairCounts.{count_sharing}
 use Rattle.protection_zones.specs.Overlaps.{share_place}
 use Rattle.protection_zones.specs.declared.stretches.ZoneBox.{ZoneBox}
-use Rattle.clash_check.proofs.pair_counts.count_sharing.Goals as goal
+use Rattle.clash_check.proofs.pair_counts.count_sharing_all.Goals as goal
 
 pub loop-own-preserved : goal.loop-own-preserved
 loop-own-preserved c =
