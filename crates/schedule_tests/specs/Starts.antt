@@ -1,5 +1,5 @@
 -- Meaning. Where the channels of the worked runs start.
-use Rattle.std.specs.Prelude.{[], ◌∷◌, Some, pos, true, false, List, Bool}
+use Rattle.std.specs.Prelude.{[], ◌∷◌, Some, pos, true}
 use Rattle.sync_types.specs.Views.{StartView}
 
 -- three channels that run
