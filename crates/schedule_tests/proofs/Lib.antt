@@ -1,2 +1,3 @@
+mod ChannelEnds
 mod Meeting
 mod QuietSteps

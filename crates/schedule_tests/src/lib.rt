@@ -7,6 +7,16 @@ ghost use Rattle.schedule_tests.specs.Starts.{one_axis, three_channels};
 ghost use Rattle.sync_types.specs.Starts.{IsSound};
 
 #[cfg(test)]
+mod all_runs;
+#[cfg(test)]
+mod ends;
+#[cfg(test)]
+mod happenings;
+#[cfg(test)]
+mod replays;
+#[cfg(test)]
+mod starts;
+#[cfg(test)]
 mod swaps;
 
 /// Start states that are sound.
