@@ -1,91 +1,12 @@
 //! Two steps in either order.
-ghost use Rattle.std.specs.Prelude.{◌≡◌, [], ◌∷◌, Some, true};
 ghost use Rattle.coord_core.specs.Boards.{HaveSameEntries};
-ghost use Rattle.schedule_tests.specs.Starts.{one_axis, three_channels};
-ghost use Rattle.sync_types.specs.Starts.{IsSound};
 
-use arrayvec::ArrayVec;
-use axis_sets::{AxisId, AxisSet, ChannelId, ChannelSet, Positions, ZoneSet};
+use crate::starts::{ONE, THREE, TWO, one_axis, step, three_channels};
+use axis_sets::{AxisId, AxisSet, ChannelSet};
 use coord_core::{Board, ChannelState};
-use micro_units::Um;
 use schedule_laws::swap_steps;
 use std::process::Abort;
-use sync_types::{Action, StartState, Step};
-
-const ONE: ChannelId = ChannelId { number: 1 };
-
-const TWO: ChannelId = ChannelId { number: 2 };
-
-const THREE: ChannelId = ChannelId { number: 3 };
-
-/// The lines of: two channels that run.
-fn lines_of_two_channels() -> StartState
-    ensures { result ≡ record { channels = (1, Some 0, true) ∷ (2, Some 1, true) ∷ []; axes = []; zones = [] } }
-{
-    let mut start = StartState {
-        channels: ArrayVec::new(),
-        axes: ArrayVec::new(),
-        zones: ArrayVec::new(),
-    };
-    start.channels.push((ONE, Some(0), true));
-    start.channels.push((TWO, Some(1), true));
-    start
-}
-
-/// The lines of: three channels that run.
-fn lines_of_three_channels() -> StartState
-    ensures { result ≡ three_channels }
-{
-    let mut start = lines_of_two_channels();
-    start.channels.push((THREE, Some(2), true));
-    start
-}
-
-/// The lines of: two channels that run, and one axis of the first, at 10 mm.
-fn lines_of_one_axis() -> StartState
-    ensures { result ≡ one_axis }
-{
-    let mut start = lines_of_two_channels();
-    start.axes.push((
-        AxisId { index: 0 },
-        Some(ONE),
-        Um {
-            micrometres: 10_000,
-        },
-    ));
-    start
-}
-
-/// Three channels that run.
-fn three_channels() -> StartState
-    ensures { IsSound result }
-{
-    lines_of_three_channels()
-}
-
-/// Two channels that run, and one axis of the first, at 10 mm.
-fn one_axis() -> StartState
-    ensures { IsSound result }
-{
-    lines_of_one_axis()
-}
-
-/// The step of an action at a line, where the one axis stands at 50 mm.
-fn step(line: u32, action: Action) -> Step {
-    let mut at = Positions::empty();
-    at.set(
-        AxisId { index: 0 },
-        Um {
-            micrometres: 50_000,
-        },
-    );
-    Step {
-        line,
-        action,
-        at,
-        on: ZoneSet::empty(),
-    }
-}
+use sync_types::{Action, Step};
 
 /// These steps of the channels 1 and 2 lead on two boards of this start to what the channels do then, whichever is first.
 fn act_either_way(rt: &impl Abort, left: &mut Board, right: &mut Board, one: Step, two: Step)

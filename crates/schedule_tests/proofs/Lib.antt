@@ -1,0 +1,3 @@
+mod ChannelEnds
+mod Meeting
+mod QuietSteps
