@@ -5,3 +5,6 @@ pub mod SmallSteps
 pub mod Safety
 pub mod EachOnce
 pub mod ZoneTimes
+pub mod Doings
+pub mod RunStates
+pub mod RunSafety
