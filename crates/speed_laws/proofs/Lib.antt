@@ -18,3 +18,4 @@ pub mod NoJumps
 pub mod Ends
 pub mod Soundness
 pub mod StartZones
+pub mod StepEvents

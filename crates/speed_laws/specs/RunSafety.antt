@@ -1,6 +1,6 @@
 -- Meaning. Where the axes and the zones are in a state of any job, and what it is for it to be safe at all speeds. Owners, holders
 -- and what is switched on are read from the board, and where axes are from what their channels have done.
-use Rattle.std.specs.Prelude.{◌≡◌, ◌≢◌, ℕ, ℤ, ◌<◌, Bool, if◌then◌else◌, IsTrue, List, length, take, All, Any, Contains, Option, Some, IfSome}
+use Rattle.std.specs.Prelude.{◌≡◌, ◌≢◌, ℕ, ◌<◌, Bool, if◌then◌else◌, IsTrue, List, length, take, All, Any, Contains, Option, Some, IfSome}
 use Rattle.std.specs.Option.{option_map_or}
 use Rattle.job_types.specs.Job.{JobView}
 use Rattle.job_types.specs.declared.job.ZoneLine.{ZoneLine}
