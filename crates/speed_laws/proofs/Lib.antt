@@ -19,3 +19,4 @@ pub mod Ends
 pub mod Soundness
 pub mod StartZones
 pub mod StepEvents
+pub mod Histories

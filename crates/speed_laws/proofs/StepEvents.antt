@@ -127,7 +127,7 @@ module _ (b : Board) (p : ℕ) (step : Step) (zs : Zones b) (running : is_runnin
       let two = or_off (among (goers_at_once part) c) _ rest.1 in
       taken.kept c two.1 ∙ rw two.0 refl
 
-  not_started : (c : ℕ) → among (channels_in goings) c ≡ false → among starts c ≡ false
+  pub not_started : (c : ℕ) → among (channels_in goings) c ≡ false → among starts c ≡ false
   not_started c out = (or_off (among starts c) _ (sym (goers_among part starts c) ∙ out)).0
 
   -- one that goes on: it was started, or it waited; and it runs with its grant

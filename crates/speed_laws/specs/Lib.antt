@@ -8,3 +8,4 @@ pub mod ZoneTimes
 pub mod Doings
 pub mod RunStates
 pub mod RunSafety
+pub mod Histories
