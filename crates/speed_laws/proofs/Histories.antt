@@ -1,6 +1,5 @@
 -- What the events of a channel tell is its history by its grants.
-use Rattle.std.proofs.Common.{◌≡◌, ◌∙◌, ℕ, suc, ◌+◌, Bool, true, false, cond, not, ◌==◌, ◌&&◌, ◌||◌, List, [], ◌∷◌, ◌++◌, append-nil, append_assoc, map, filter, find, get_or, slice_index_or, Option, None, Some, inl, inr, refl, sym, ap, ap₂, subst, arith}
-use Rattle.std.specs.Prelude.{is_some}
+use Rattle.std.proofs.Common.{◌≡◌, ◌∙◌, ℕ, suc, ◌+◌, Bool, true, false, cond, not, ◌==◌, ◌||◌, List, [], ◌∷◌, ◌++◌, append-nil, append_assoc, map, filter, slice_index_or, Option, None, Some, inl, inr, refl, sym, ap, ap₂, subst, arith}
 use Rattle.std.proofs.lemmas.Bool.{cases_Bool, eqb-true, eq-eqb, ne_eqb}
 use Rattle.std.proofs.lemmas.List.{map-append}
 use Rattle.std.proofs.lemmas.List.Elements.{filter-append}
@@ -9,15 +8,15 @@ use Rattle.board_laws.specs.Zones.{Zones}
 use Rattle.order_clocks.specs.Chains.{IsIn}
 use Rattle.order_clocks.specs.Happenings.{going_of, happening_of}
 use Rattle.protection_zones.specs.Occurrences.{Occurrence, act_of, going_on_of, occurrences_in, occurrences_from, occurrences_of}
-use Rattle.speed_laws.proofs.StepEvents.{ActorTold, actor_goes, actor_told, as_goings, goes_on, goes_waited, is_stopped, kept_state, not_started, part_other, step_events, stopped_waits}
+use Rattle.speed_laws.proofs.StepEvents.{ActorTold, actor_goes, actor_told, as_goings, goes_on, goes_waited, is_stopped, kept_state, not_started, part_other, step_events}
 use Rattle.speed_laws.specs.Doings.{Doings}
-use Rattle.speed_laws.specs.Histories.{Telling, telling_of, act_telling, going_telling, waits_at, history, items_by, HasHistory, ChannelsHaveHistories}
+use Rattle.speed_laws.specs.Histories.{Telling, telling_of, act_telling, going_telling, waits_at, history, items_by, ChannelsHaveHistories}
 use Rattle.sync_types.proofs.BoardTests.{no_truth}
 use Rattle.sync_types.specs.BoardActions.{after_own_part}
-use Rattle.sync_types.specs.Boards.{State, IsIdle, IsRunning, IsHolding, Board, among, first_board, grant_in, is_running}
+use Rattle.sync_types.specs.Boards.{State, IsRunning, among, first_board, grant_in, is_running}
 use Rattle.sync_types.specs.Events.{channels_in}
 use Rattle.sync_types.specs.GoingOn.{Going}
-use Rattle.sync_types.specs.Runs.{Stage, IsRun, as_list, gets_a_grant, after_turn, first_stage, moves_of, next_move, stage_after}
+use Rattle.sync_types.specs.Runs.{Stage, IsRun, as_list, gets_a_grant, after_turn, first_stage, moves_of, stage_after}
 use Rattle.sync_types.specs.Turns.{after_step, goings_in_step}
 use Rattle.sync_types.specs.Views.{StartView}
 use Rattle.sync_types.specs.declared.Grant.{Grant}
@@ -29,7 +28,7 @@ pub record Ahead (s : State) (more : List Grant) (at_last : Bool) : Type 0 where
   pub stays : is_running s ≡ false → more ≡ [] → at_last ≡ false
   pub stopped : is_stopped s ≡ true → more ≡ []
 
-found_in : (gs : List Going) (c : ℕ) (g : Going) → going_of gs c ≡ Some g → IsIn g gs × (g.channel ≡ c)
+pub found_in : (gs : List Going) (c : ℕ) (g : Going) → going_of gs c ≡ Some g → IsIn g gs × (g.channel ≡ c)
 found_in [] c g e = absurd cc
 found_in (h ∷ gs) c g e = by_test (h.channel == c) refl e (found_in gs c g)
   where
@@ -37,7 +36,7 @@ found_in (h ∷ gs) c g e = by_test (h.channel == c) refl e (found_in gs c g)
     by_test true is e rest = let same : h ≡ g = cc in (inl (sym same), ap (λ (k : Going). k.channel) (sym same) ∙ eqb-true h.channel c is)
     by_test false is e rest = let r = rest e in (inr r.0, r.1)
 
-none_in : (gs : List Going) (c : ℕ) → going_of gs c ≡ None → among (channels_in gs) c ≡ false
+pub none_in : (gs : List Going) (c : ℕ) → going_of gs c ≡ None → among (channels_in gs) c ≡ false
 none_in [] c e = refl
 none_in (h ∷ gs) c e = by_test (h.channel == c) refl e (none_in gs c)
   where
@@ -206,7 +205,7 @@ history_told doings (p ∷ cs) stage i rows c zs run same =
     let there = filter (λ o. o.channel == c) (occurrences_from next.board (suc i) (moves_of doings.script next cs)) in
     let end = stage_after doings.script next cs in
     let parts : map (telling_of rows) (filter (λ o. o.channel == c) (occurrences_in i step (happening_of stage.board p step) ++ occurrences_from next.board (suc i) (moves_of doings.script next cs)))
-        ≡ map (telling_of rows) here ++ map (telling_of rows) there =
+    ≡ map (telling_of rows) here ++ map (telling_of rows) there =
     ap (map (telling_of rows)) (filter-append (λ o. o.channel == c) (occurrences_in i step (happening_of stage.board p step)) (occurrences_from next.board (suc i) (moves_of doings.script next cs)))
     ∙ map-append (telling_of rows) here there in
     record {
@@ -217,11 +216,11 @@ history_told doings (p ∷ cs) stage i rows c zs run same =
           let told = step_told doings stage p i rows zs run.0 mine c (rest.more ++ more) at_last r.1 in
           let joined : (gained ++ rest.more) ++ more ≡ gained ++ (rest.more ++ more) = append_assoc gained rest.more more in (
             ap (history doings c at_last (is_running (stage.board.state c)) (stage.grants c)) joined
-            ∙ told.told
-            ∙ ap₂ (λ (xs ys : List Telling). xs ++ ys) (ap (map (telling_of rows)) (sym (step_events stage.board p step i c run.0 zs)))
-            (ap (λ (gs : List Grant). history doings c at_last (is_running (next.board.state c)) gs (rest.more ++ more)) (sym grown) ∙ r.0)
-            ∙ sym (append_assoc (map (telling_of rows) here) (map (telling_of rows) there) (history doings c at_last (is_running (end.board.state c)) (end.grants c) more))
-            ∙ ap (λ (xs : List Telling). xs ++ history doings c at_last (is_running (end.board.state c)) (end.grants c) more) (sym parts),
+                ∙ told.told
+                ∙ ap₂ (λ (xs ys : List Telling). xs ++ ys) (ap (map (telling_of rows)) (sym (step_events stage.board p step i c run.0 zs)))
+                (ap (λ (gs : List Grant). history doings c at_last (is_running (next.board.state c)) gs (rest.more ++ more)) (sym grown) ∙ r.0)
+                ∙ sym (append_assoc (map (telling_of rows) here) (map (telling_of rows) there) (history doings c at_last (is_running (end.board.state c)) (end.grants c) more))
+                ∙ ap (λ (xs : List Telling). xs ++ history doings c at_last (is_running (end.board.state c)) (end.grants c) more) (sym parts),
             subst (λ (gs : List Grant). Ahead (stage.board.state c) gs at_last) (sym joined) told.ahead,
           );
     }

@@ -20,3 +20,6 @@ pub mod Soundness
 pub mod StartZones
 pub mod StepEvents
 pub mod Histories
+pub mod JoinedRuns
+pub mod PastEvents
+pub mod PresentSpans
