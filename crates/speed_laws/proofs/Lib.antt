@@ -23,3 +23,4 @@ pub mod Histories
 pub mod JoinedRuns
 pub mod PastEvents
 pub mod PresentSpans
+pub mod Hands

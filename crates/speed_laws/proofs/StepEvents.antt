@@ -54,7 +54,7 @@ asks_waits : (s : State) → waits_for_axes s ≡ true → is_some (wait_in s) �
 asks_waits (IsHolding hold line) on = refl
 asks_waits other on = absurd cc
 
-of_in : (g : Going) (gs : List Going) → IsIn g gs → IsOf g gs
+pub of_in : (g : Going) (gs : List Going) → IsIn g gs → IsOf g gs
 of_in g [] within = absurd within
 of_in g (h ∷ gs) (inl e) = inl e
 of_in g (h ∷ gs) (inr later) = inr (of_in g gs later)
@@ -75,7 +75,7 @@ module _ (b : Board) (p : ℕ) (step : Step) (zs : Zones b) (running : is_runnin
   abbrev goings : List Going
   goings = goings_in_step b p step
 
-  taken : AllTaken (after_goes part) (all_takings (after_goes part))
+  pub taken : AllTaken (after_goes part) (all_takings (after_goes part))
   taken = all_taken 8 (after_goes part) (zones_goes part (zones_part b p step zs))
 
   -- who is started was idle
