@@ -24,3 +24,4 @@ pub mod JoinedRuns
 pub mod PastEvents
 pub mod PresentSpans
 pub mod Hands
+pub mod ZoneTenures
