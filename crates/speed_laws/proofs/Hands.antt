@@ -213,7 +213,7 @@ module _ (b : Board) (p : ℕ) (step : Step) (zs : Zones b) (running : is_runnin
   last_board = (all_takings (after_goes own_part)).board
 
   -- who takes an axis is one of those that take
-  taker_in : (g : Going) → IsIn g (goings_in_step b p step) → among g.took x ≡ true → Taken (after_goes own_part) last_board g
+  pub taker_in : (g : Going) → IsIn g (goings_in_step b p step) → among g.took x ≡ true → Taken (after_goes own_part) last_board g
   taker_in g within on = elim ((in_append g (map (going_of_start own_part) started) (map (going_at_once own_part) (goers_at_once own_part) ++ (all_takings (after_goes own_part)).goings)).0 within) [
     | inl start ↦ let w = in_mapped (going_of_start own_part) g started start in no_truth false (ap (λ (k : Going). among k.took x) (sym w.1.1) ∙ on) refl
     | inr rest ↦ elim ((in_append g (map (going_at_once own_part) (goers_at_once own_part)) (all_takings (after_goes own_part)).goings).0 rest) [
@@ -306,3 +306,9 @@ pub tenures_read : (b : Board) (moves : List Move) (x : ℕ) → Zones b → Are
 unfolding occurrences_of
 tenures_read b moves x zs run =
     ap (hands x (λ d. 0) (tenures_at b moves 0 x)) (all_upto moves b 0) ∙ (read_upto b moves zs run (length moves) (omega arith)).tenures x
+
+-- and so are the counts of its events
+pub counts_read : (b : Board) (moves : List Move) (c : ℕ) → Zones b → AreOfRunning b moves → counts_after (λ d. 0) (occurrences_of b moves) c ≡ counts_at b moves (length moves) c
+unfolding occurrences_of
+counts_read b moves c zs run =
+    ap (λ (os : List Occurrence). counts_after (λ d. 0) os c) (all_upto moves b 0) ∙ (read_upto b moves zs run (length moves) (omega arith)).counts c
