@@ -25,3 +25,4 @@ pub mod PastEvents
 pub mod PresentSpans
 pub mod Hands
 pub mod ZoneTenures
+pub mod PresentTenures
