@@ -26,3 +26,4 @@ pub mod PresentSpans
 pub mod Hands
 pub mod ZoneTenures
 pub mod PresentTenures
+pub mod PresentStretches
