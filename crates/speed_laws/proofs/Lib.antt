@@ -27,3 +27,4 @@ pub mod Hands
 pub mod ZoneTenures
 pub mod PresentTenures
 pub mod PresentStretches
+pub mod Standing

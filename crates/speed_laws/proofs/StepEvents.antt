@@ -1,7 +1,8 @@
 -- What a step of a running channel is for one channel: whether the channel goes on in it, and what it does then.
-use Rattle.std.proofs.Common.{◌≡◌, ◌⊎◌, ◌∙◌, ℕ, Bool, true, false, cond, ◌==◌, ◌||◌, List, [], ◌∷◌, ◌++◌, map, filter, Option, None, Some, inl, inr, refl, sym, ap, subst}
+use Rattle.std.proofs.Common.{◌≡◌, ◌⊎◌, ◌∙◌, ℕ, zero, suc, Bool, true, false, cond, ◌==◌, ◌||◌, List, [], ◌∷◌, ◌++◌, map, filter, Option, None, Some, inl, inr, refl, sym, ap, subst}
 use Rattle.std.specs.Prelude.{is_some}
 use Rattle.std.proofs.lemmas.Bool.{and_parts, cases_Bool, eqb-true, eq-eqb, ne_eqb}
+use Rattle.axis_sets.specs.Positions.{position_of}
 use Rattle.board_laws.proofs.Takings.{IsOf, AllTaken, all_taken}
 use Rattle.board_laws.proofs.Zones.{zones_goes, zones_part}
 use Rattle.board_laws.specs.Zones.{Zones}
@@ -17,12 +18,13 @@ use Rattle.protection_zones.specs.Occurrences.{Occurrence, act_of, going_on_of, 
 use Rattle.sync_types.proofs.BoardTests.{among_kept, no_truth}
 use Rattle.sync_types.specs.BoardActions.{after_effects, after_own_part, channels_started, channels_to_start, hold_of, state_after_action, state_after_alarm, state_of_actor}
 use Rattle.sync_types.specs.BoardAlarms.{alarm_of}
-use Rattle.sync_types.specs.Boards.{State, IsIdle, IsRunning, IsHolding, HasEnded, HasAlarmed, Board, among, channel_numbers, grant_with, is_idle, is_running, start_grant}
+use Rattle.sync_types.specs.Boards.{State, IsIdle, IsRunning, IsHolding, HasEnded, HasAlarmed, Board, among, axis_numbers, channel_numbers, grant_with, no_positions, is_idle, is_running, start_grant}
 use Rattle.sync_types.specs.Events.{channels_in}
 use Rattle.sync_types.specs.GoingOn.{Going, after_goes, all_takings, going_at_once, going_of_start, goers_at_once, goes_at_once, state_after_goes, waits_for_axes}
 use Rattle.sync_types.specs.Turns.{after_step, goings_in_step}
 use Rattle.sync_types.specs.declared.Action.{Action}
 use Rattle.sync_types.specs.declared.Action.TheVariants.{WaitM, WaitE, Get, End}
+use Rattle.sync_types.specs.declared.Grant.{Grant}
 use Rattle.sync_types.specs.declared.Step.{Step}
 
 -- ---- states
@@ -205,21 +207,31 @@ module _ (b : Board) (p : ℕ) (step : Step) (zs : Zones b) (running : is_runnin
     pub waits : is_some (wait_in s) ≡ true → waits_by p step.action ≡ true
     pub runs : is_running s ≡ true → waits_by p step.action ≡ false
     pub holds : is_running s ≡ false → is_stopped s ≡ false → waits_by p step.action ≡ true
+    -- where it runs on it learns of no axis where it stands
+    pub plain : (grant : Grant) → s ≡ IsRunning grant → (axis : ℕ) → position_of grant.at axis ≡ None
 
   pub actor_told : ActorTold (part.state p)
-  unfolding state_after_alarm state_after_action
+  unfolding state_after_alarm state_after_action grant_with
   actor_told = by_alarm (alarm_of b p step.action) refl
     where
+      none_at : (xs : List ℕ) (k : ℕ) → position_of (map (λ x. None) xs) k ≡ None
+      none_at [] k = refl
+      none_at (x ∷ xs) zero = refl
+      none_at (x ∷ xs) (suc k) = none_at xs k
+
+      no_place : (a : Board) (grant : Grant) → IsRunning (grant_with a p no_positions) ≡ IsRunning grant → (axis : ℕ) → position_of grant.at axis ≡ None
+      no_place a grant e axis = let same : grant_with a p no_positions ≡ grant = cc in subst (λ (g : Grant). position_of g.at axis ≡ None) same (none_at axis_numbers axis)
+
       by_action : (a : Board) (action : Action) → step.action ≡ action → ActorTold (state_of_actor a p step.line action)
-      by_action a (WaitM m named) e = record { acted = refl; waits = λ on. ap (waits_by p) e; runs = λ on. no_truth false on refl; holds = λ off over. ap (waits_by p) e }
-      by_action a (WaitE named) e = record { acted = refl; waits = λ on. ap (waits_by p) e; runs = λ on. no_truth false on refl; holds = λ off over. ap (waits_by p) e }
-      by_action a (Get axes) e = record { acted = refl; waits = λ on. ap (waits_by p) e; runs = λ on. no_truth false on refl; holds = λ off over. ap (waits_by p) e }
-      by_action a End e = record { acted = refl; waits = λ on. no_truth false on refl; runs = λ on. no_truth false on refl; holds = λ off over. no_truth true refl over }
-      by_action a other e = record { acted = refl; waits = λ on. no_truth false on refl; runs = λ on. ap (waits_by p) e; holds = λ off. no_truth true refl off }
+      by_action a (WaitM m named) e = record { acted = refl; waits = λ on. ap (waits_by p) e; runs = λ on. no_truth false on refl; holds = λ off over. ap (waits_by p) e; plain = λ grant e axis. no_truth false (ap is_running e) refl }
+      by_action a (WaitE named) e = record { acted = refl; waits = λ on. ap (waits_by p) e; runs = λ on. no_truth false on refl; holds = λ off over. ap (waits_by p) e; plain = λ grant e axis. no_truth false (ap is_running e) refl }
+      by_action a (Get axes) e = record { acted = refl; waits = λ on. ap (waits_by p) e; runs = λ on. no_truth false on refl; holds = λ off over. ap (waits_by p) e; plain = λ grant e axis. no_truth false (ap is_running e) refl }
+      by_action a End e = record { acted = refl; waits = λ on. no_truth false on refl; runs = λ on. no_truth false on refl; holds = λ off over. no_truth true refl over; plain = λ grant e axis. no_truth false (ap is_running e) refl }
+      by_action a other e = record { acted = refl; waits = λ on. no_truth false on refl; runs = λ on. ap (waits_by p) e; holds = λ off. no_truth true refl off; plain = λ grant same axis. no_place a grant same axis }
 
       by_alarm : (a : Option ℕ) → alarm_of b p step.action ≡ a → ActorTold (part.state p)
       by_alarm (Some code) e = subst (λ (a : Board). ActorTold (a.state p)) (sym (part_alarms b p step code e))
-          (rw (eq-eqb p p refl) (record { acted = refl; waits = λ on. no_truth false on refl; runs = λ on. no_truth false on refl; holds = λ off over. no_truth true refl over }))
+          (rw (eq-eqb p p refl) (record { acted = refl; waits = λ on. no_truth false on refl; runs = λ on. no_truth false on refl; holds = λ off over. no_truth true refl over; plain = λ grant e axis. no_truth false (ap is_running e) refl }))
       by_alarm None e = subst (λ (a : Board). ActorTold (a.state p)) (sym (part_acts b p step e)) (rw (eq-eqb p p refl) (by_action (after_effects b p step) step.action refl))
 
   -- who goes on and has not acted did not run before, nor had it stopped

@@ -1,7 +1,7 @@
 -- Meaning. What the channels of a job do, as laws see it: for each channel, after the grants that it has got, the items that it
 -- makes, one after another, and the step that ends them.
-use Rattle.std.specs.Prelude.{ℕ, ℤ, pos, Bool, List, [], ◌∷◌, ◌++◌, unwrap_or}
-use Rattle.axis_sets.specs.Positions.{position_of, stands}
+use Rattle.std.specs.Prelude.{ℕ, ℤ, Bool, List, [], ◌∷◌, ◌++◌, unwrap_or}
+use Rattle.axis_sets.specs.Positions.{position_of}
 use Rattle.job_types.specs.Axes.{start_position}
 use Rattle.job_types.specs.Job.{JobView}
 use Rattle.job_types.specs.declared.job.ZoneLine.{ZoneLine}
@@ -26,15 +26,13 @@ stands_with items made at [] = at
 stands_with items made at (grant ∷ more) =
     stands_with items (made ++ grant ∷ []) (λ axis. unwrap_or (position_of grant.at axis) (left_at (items made) at axis)) more
 
--- where an axis stands for a channel that has got these grants, before the items that come next: at first where the first grant has it
-unfoldable pub stands_before : Doings → ℕ → List Grant → ℕ → ℤ
-stands_before doings channel [] = λ axis. pos 0
-stands_before doings channel (first ∷ more) = stands_with (doings.items channel) (first ∷ []) (stands first.at) more
+-- where an axis stands for a channel that has got these grants, before the items that come next: at first where the job puts it
+unfoldable pub stands_before : JobView → Doings → ℕ → List Grant → ℕ → ℤ
+stands_before job doings channel grants = stands_with (doings.items channel) [] (start_position job) grants
 
--- and after them; a channel that has got no grant has its axes where the job puts them
+-- and after them
 unfoldable pub stands_after : JobView → Doings → ℕ → List Grant → ℕ → ℤ
-stands_after job doings channel [] = start_position job
-stands_after job doings channel (first ∷ more) = left_at (doings.items channel (first ∷ more)) (stands_before doings channel (first ∷ more))
+stands_after job doings channel grants = left_at (doings.items channel grants) (stands_before job doings channel grants)
 
 -- ---- whether zones are on
 

@@ -9,3 +9,4 @@ pub mod Doings
 pub mod RunStates
 pub mod RunSafety
 pub mod Histories
+pub mod DoingLaws
