@@ -1,5 +1,6 @@
 -- A run that goes on.
-use Rattle.std.proofs.Common.{◌≡◌, ℕ, List, [], ◌∷◌, ◌++◌, refl, ap}
+use Rattle.std.proofs.Common.{◌≡◌, ℕ, true, List, [], ◌∷◌, ◌++◌, refl, ap}
+use Rattle.sync_types.specs.Boards.{is_running}
 use Rattle.sync_types.specs.Runs.{Script, Stage, IsRun, after_turn, moves_of, next_move, stage_after}
 use Rattle.sync_types.specs.Turns.{Move}
 
@@ -18,3 +19,7 @@ run_first script stage (x ∷ xs) ys run = (run.0, run_first script (after_turn 
 pub run_rest : (script : Script) (stage : Stage) (xs ys : List ℕ) → IsRun script stage (xs ++ ys) → IsRun script (stage_after script stage xs) ys
 run_rest script stage [] ys run = run
 run_rest script stage (x ∷ xs) ys run = run_rest script (after_turn script stage x) xs ys run.1
+
+pub run_more : (script : Script) (stage : Stage) (xs : List ℕ) (c : ℕ) → IsRun script stage xs → is_running ((stage_after script stage xs).board.state c) ≡ true → IsRun script stage (xs ++ c ∷ [])
+run_more script stage [] c run on = (on, tt)
+run_more script stage (x ∷ xs) c run on = (run.0, run_more script (after_turn script stage x) xs c run.1 on)

@@ -28,3 +28,4 @@ pub mod ZoneTenures
 pub mod PresentTenures
 pub mod PresentStretches
 pub mod Standing
+pub mod RunPlaces

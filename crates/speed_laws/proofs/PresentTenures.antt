@@ -98,7 +98,7 @@ run_owner (m ∷ ms) b zone i zs for =
     ∙ ap (λ (w : Option ℕ). owners_next zone w (occurrences_from (after_step b m.channel m.step) (suc i) ms)) here.1
     ∙ run_owner ms (after_step b m.channel m.step) zone (suc i) (zones_step b m.channel m.step zs) here.2
 
-events_joined : (ms ns : List Move) (b : Board) (i : ℕ) → occurrences_from b i (ms ++ ns) ≡ occurrences_from b i ms ++ occurrences_from (after_moves b ms) (i + length ms) ns
+pub events_joined : (ms ns : List Move) (b : Board) (i : ℕ) → occurrences_from b i (ms ++ ns) ≡ occurrences_from b i ms ++ occurrences_from (after_moves b ms) (i + length ms) ns
 events_joined [] ns b i = let same : i ≡ i + 0 = omega arith in ap (λ (n : ℕ). occurrences_from b n ns) same
 events_joined (m ∷ ms) ns b i =
     let next = after_step b m.channel m.step in

@@ -10,22 +10,27 @@ use Rattle.board_laws.specs.Zones.{Zones}
 use Rattle.channel_machine.specs.StartStates.{start_of}
 use Rattle.job_types.specs.Axes.{start_position}
 use Rattle.job_types.specs.Job.{JobView}
+use Rattle.job_types.specs.SoundJob.{IsSoundJob}
 use Rattle.order_clocks.specs.Happenings.{going_of, happening_of}
 use Rattle.protection_zones.specs.Occurrences.{Occurrence, act_of, going_on_of, occurrences_in, occurrences_from}
 use Rattle.schedule_laws.specs.Schedules.{IsRunOf}
+use Rattle.speed_laws.proofs.Grants.{granted_there}
 use Rattle.speed_laws.proofs.Histories.{found_in, none_in}
-use Rattle.speed_laws.proofs.JoinedRuns.{run_first, stage_joined}
+use Rattle.speed_laws.proofs.JoinedRuns.{run_first, run_rest, stage_joined}
 use Rattle.speed_laws.proofs.PresentSpans.{at_after}
 use Rattle.speed_laws.proofs.StepEvents.{ActorTold, actor_told, as_goings, goes_on, goes_waited, kept_state, not_started, part_other, step_events}
+use Rattle.speed_laws.specs.Channels.{first_grant}
 use Rattle.speed_laws.specs.DoingLaws.{TellsWhereAxesStand, TellWhereAxesStand}
 use Rattle.speed_laws.specs.Doings.{Doings, stands_with, stands_before, stands_after}
 use Rattle.speed_laws.specs.Histories.{Telling, telling_of}
 use Rattle.sync_types.proofs.BoardTests.{no_truth}
+use Rattle.sync_types.proofs.Positions.{left_at-nil}
 use Rattle.sync_types.specs.BoardActions.{after_own_part}
-use Rattle.sync_types.specs.Boards.{State, IsRunning, grant_in, is_running}
+use Rattle.sync_types.specs.Boards.{State, IsIdle, IsRunning, first_board, first_state, grant_in, is_running}
 use Rattle.sync_types.specs.GoingOn.{Going}
 use Rattle.sync_types.specs.Items.{left_at}
 use Rattle.sync_types.specs.Runs.{Stage, IsRun, as_list, gets_a_grant, after_turn, first_stage, moves_of, stage_after}
+use Rattle.sync_types.specs.Starts.{IsSound, runs_at_first}
 use Rattle.sync_types.specs.Turns.{after_step, goings_in_step}
 use Rattle.sync_types.specs.declared.Grant.{Grant}
 use Rattle.sync_types.specs.declared.Item.{Item}
@@ -153,3 +158,35 @@ module _ (job : JobView) (doings : Doings) where
       ∙ ap (λ (os : List Occurrence). at_after (at_after at (map (telling_of rows) os)) (map (telling_of rows) there)) (step_events stage.board p step i c run.0 zs)
       ∙ ap (λ (f : ℕ → ℤ). at_after f (map (telling_of rows) there)) (step_stands stage p i rows zs run.0 tell.0 c ∙ ap (stands_at c (is_running (next.board.state c))) (sym (grants_next stage p i rows zs run.0 tell.0 c)))
       ∙ all_stand cs next (suc i) rows c (zones_step stage.board p step zs) run.1 tell.1
+
+  -- in every run
+  tell_rest : TellWhereAxesStand job doings → (xs ys : List ℕ) → IsRunOf doings.script (start_of job) (xs ++ ys) → AllTell (stage_after doings.script (first_stage (start_of job)) xs) ys
+  tell_rest tell xs [] run = tt
+  tell_rest tell xs (y ∷ ys) run =
+      let stage = stage_after doings.script (first_stage (start_of job)) xs in
+      let whole : (xs ++ y ∷ []) ++ ys ≡ xs ++ y ∷ ys = append_assoc xs (y ∷ []) ys in
+      let rest = tell_rest tell (xs ++ y ∷ []) ys (subst (IsRunOf doings.script (start_of job)) (sym whole) run) in
+      let on = run_rest doings.script (first_stage (start_of job)) xs (y ∷ ys) run in (
+        tell.in_runs xs y (run_first doings.script (first_stage (start_of job)) xs (y ∷ ys) run) on.0,
+        subst (λ s. AllTell s ys) (stage_joined doings.script (first_stage (start_of job)) xs (y ∷ [])) rest,
+      )
+
+  nothing_done : (c : ℕ) → doings.items c [] ≡ [] → left_at (doings.items c []) (start_position job) ≡ start_position job
+  nothing_done c none = ap (λ (items : List Item). left_at items (start_position job)) none ∙ fun_ext λ axis. left_at-nil (start_position job) axis
+
+  stand_first : IsSoundJob job → TellWhereAxesStand job doings → (c : ℕ) → stands_at c (is_running ((first_stage (start_of job)).board.state c)) ((first_stage (start_of job)).grants c) ≡ start_position job
+  unfolding stands_before stands_after first_state
+  stand_first sound tell c = by_start (runs_at_first (start_of job) c)
+    where
+      by_start : (t : Bool) → stands_at c (is_running (cond t (IsRunning (first_grant job c)) IsIdle)) (as_list (grant_in (cond t (IsRunning (first_grant job c)) IsIdle))) ≡ start_position job
+      by_start true =
+          fun_ext λ axis. ap (λ (at : ℕ → ℤ). unwrap_or (position_of (first_grant job c).at axis) (at axis)) (nothing_done c (tell.idle c)) ∙ granted_there job sound c axis
+      by_start false = nothing_done c (tell.idle c)
+
+  -- where the events of the run tell that the axes of a channel stand, there its present span begins
+  pub made_stand : IsSoundJob job → TellWhereAxesStand job doings → (cs : List ℕ) → IsSound (start_of job) → IsRunOf doings.script (start_of job) cs → (rows : List (List Item)) (c : ℕ)
+      → at_after (start_position job) (map (telling_of rows) (filter (λ o. o.channel == c) (occurrences_from (first_board (start_of job)) 0 (moves_of doings.script (first_stage (start_of job)) cs))))
+      ≡ stands_at c (is_running ((stage_after doings.script (first_stage (start_of job)) cs).board.state c)) ((stage_after doings.script (first_stage (start_of job)) cs).grants c)
+  made_stand sound tell cs sound_start run rows c =
+      ap (λ (at : ℕ → ℤ). at_after at (map (telling_of rows) (filter (λ o. o.channel == c) (occurrences_from (first_board (start_of job)) 0 (moves_of doings.script (first_stage (start_of job)) cs))))) (sym (stand_first sound tell c))
+      ∙ all_stand cs (first_stage (start_of job)) 0 rows c (zones_first (start_of job) sound_start) run (tell_rest tell [] cs run)
