@@ -1,7 +1,7 @@
 -- The tenures of an axis, as the machine of the laws of the board keeps them, are read from the events of a run.
-use Rattle.std.proofs.Common.{◌≡◌, ◌⊎◌, ◌∙◌, ℕ, zero, suc, ◌+◌, ◌<◌, ◌≤◌, Bool, true, false, cond, ◌==◌, ◌&&◌, ◌||◌, List, [], ◌∷◌, ◌++◌, append-nil, append_assoc, length, map, filter, Option, None, Some, inl, inr, if◌then◌else◌, refl, sym, ap, ap₂, subst, arith}
+use Rattle.std.proofs.Common.{◌≡◌, ◌∙◌, ℕ, zero, suc, ◌+◌, ◌<◌, ◌≤◌, Bool, true, false, cond, ◌==◌, ◌||◌, List, [], ◌∷◌, ◌++◌, append-nil, append_assoc, length, map, filter, Option, None, Some, inl, inr, if◌then◌else◌, refl, sym, ap, ap₂, subst, arith}
 use Rattle.std.proofs.lemmas.Bool.{and_parts, cases_Bool, eqb-true, eq-eqb, ne_eqb}
-use Rattle.board_laws.proofs.Parts.{first_is, first_none, only_one}
+use Rattle.board_laws.proofs.Parts.{first_is}
 use Rattle.board_laws.proofs.Takings.{Taken}
 use Rattle.board_laws.specs.Machine.{Place, Tenure, handed}
 use Rattle.board_laws.specs.Zones.{Zones}
@@ -12,14 +12,14 @@ use Rattle.order_clocks.specs.Chains.{IsIn}
 use Rattle.order_clocks.specs.CourseOf.{course_of}
 use Rattle.order_clocks.specs.Happenings.{Happening, board_at, going_of, happening_at, happening_of, of_going}
 use Rattle.protection_zones.proofs.EventLaws.{Once}
-use Rattle.protection_zones.proofs.NameLaws.{in_mapped, listed}
-use Rattle.protection_zones.specs.Occurrences.{Occurrence, act_of, going_on_of, occurrences_in, occurrences_from, occurrences_of}
+use Rattle.protection_zones.proofs.NameLaws.{in_mapped}
+use Rattle.protection_zones.specs.Occurrences.{Occurrence, going_on_of, occurrences_in, occurrences_from, occurrences_of}
 use Rattle.protection_zones.specs.Tenures.{counted}
 use Rattle.schedule_laws.proofs.EventLaws.{count_act, count_go}
 use Rattle.schedule_laws.proofs.Steps.{step_at, zones_at}
-use Rattle.schedule_laws.specs.Tracked.{actor, goes_in, move_at, rows_at, rows_in, taken_by, takes_in, tenures_at, tenures_in}
-use Rattle.speed_laws.proofs.Histories.{found_in, none_in}
-use Rattle.speed_laws.proofs.StepEvents.{goes_on, of_in, once, once_of, as_goings, taken}
+use Rattle.schedule_laws.specs.Tracked.{move_at, rows_at, rows_in, taken_by, takes_in, tenures_at, tenures_in}
+use Rattle.speed_laws.proofs.Histories.{found_in}
+use Rattle.speed_laws.proofs.StepEvents.{of_in, once, taken}
 use Rattle.sync_types.proofs.BoardTests.{no_truth}
 use Rattle.sync_types.specs.BoardActions.{after_own_part, channels_started}
 use Rattle.sync_types.specs.BoardAlarms.{alarm_of}

@@ -9,6 +9,7 @@ use Rattle.board_laws.specs.Machine.{Clock, State as Machine, placed}
 use Rattle.board_laws.specs.Zones.{Zones}
 use Rattle.order_clocks.proofs.CounterLaws.{before_to, one_row}
 use Rattle.order_clocks.proofs.OrderLaws.{one_in, order_in}
+use Rattle.order_clocks.specs.Before.{Before}
 use Rattle.order_clocks.specs.Chains.{IsIn}
 use Rattle.order_clocks.specs.Clocked.{IsOrderOf}
 use Rattle.order_clocks.specs.Counters.{LastRows, row}
@@ -31,6 +32,7 @@ use Rattle.speed_laws.proofs.ComparedPairs.{IsCut}
 use Rattle.speed_laws.proofs.Histories.{found_in, none_in}
 use Rattle.speed_laws.proofs.JoinedRuns.{moves_joined}
 use Rattle.speed_laws.proofs.StepEvents.{as_goings, step_events}
+use Rattle.speed_laws.specs.Cuts.{RunsAreCuts, event_count}
 use Rattle.sync_types.proofs.Replays.{run_is_replay}
 use Rattle.sync_types.specs.Boards.{Board, among, channel_numbers, first_board, is_this}
 use Rattle.sync_types.specs.Events.{IsLowestName, actor_at, channels_in, goings_at}
@@ -59,11 +61,14 @@ all_below f g counts (x ∷ xs) below all = by_test (nat_le (g x) (counts x)) re
         let here : nat_le (f x) (counts x) ≡ true = le-leb (f x) (counts x) (omega (arith, less, least)) in
         rw (here, rest all) refl
 
--- they are a cut: with each of them all that are before it are past
+-- with each of them all that are before it are past
+pub past_closed : (b : Board) (moves : List Move) (counts : ℕ → ℕ) (e f : EventId) → Before b moves e f → is_past b moves counts f ≡ true → is_past b moves counts e ≡ true
+past_closed b moves counts e f path over =
+    all_below (row (course_of b moves) e) (row (course_of b moves) f) counts channel_numbers (λ x. (before_to (course_of b moves) e f x (order_in b moves e f path)).0) over
+
+-- so they are a cut
 pub past_is_cut : (b : Board) (moves : List Move) (counts : ℕ → ℕ) (before : Order) → IsOrderOf b moves before → IsCut before (IsLowestName b moves) (is_past b moves counts)
-past_is_cut b moves counts before order e f named named' earlier over =
-    let path = order_in b moves e f ((order e f named named').0 earlier) in
-    all_below (row (course_of b moves) e) (row (course_of b moves) f) counts channel_numbers (λ x. (before_to (course_of b moves) e f x path).0) over
+past_is_cut b moves counts before order e f named named' earlier over = past_closed b moves counts e f ((order e f named named').0 earlier) over
 
 all_within : (f counts : ℕ → ℕ) (xs : List ℕ) → ((x : ℕ) → f x ≤ counts x) → list_all (λ x. nat_le (f x) (counts x)) xs ≡ true
 all_within f counts [] below = refl
@@ -348,3 +353,11 @@ module _ (script : Script) (start : StartView) (qs rs : List ℕ) (quiet : IsQui
   others_are_not c k o is above there =
       let own = (told c k o is).own in
       not_within (row (course_of board speaking) o.name) made_counts channel_numbers c there (omega (arith, own, above))
+
+-- so each run is a cut of the run that speaks for it
+pub runs_are_cuts : (script : Script) (start : StartView) (qs rs : List ℕ) → RunsAreCuts script start qs rs
+runs_are_cuts script start qs rs quiet run = record {
+  closed = λ e f path over. past_closed (first_board start) (moves_by script start qs) (event_count script start rs) e f path over;
+  first_ones = λ c k o is below. first_are_past script start qs rs quiet run c k o is below;
+  no_others = λ c k o is known above. others_are_not script start qs rs quiet run c k o is above known;
+}

@@ -1,7 +1,9 @@
 -- Each zone is in a stretch of the run that speaks for all that is current.
-use Rattle.std.proofs.Common.{◌≡◌, ◌⊎◌, ◌∙◌, ℕ, zero, suc, ◌+◌, ◌-◌, ◌<◌, ◌≤◌, Bool, true, false, ◌==◌, List, [], ◌∷◌, length, map, filter, take, drop, slice_get, Option, None, Some, IfSome, inl, inr, refl, sym, ap, subst, arith}
+use Rattle.std.proofs.Common.{◌≡◌, ◌⊎◌, ◌∙◌, ℕ, zero, suc, ◌+◌, ◌-◌, ◌<◌, ◌≤◌, Bool, true, false, ◌==◌, List, [], ◌∷◌, filter, take, drop, slice_get, Contains, Option, None, Some, IfSome, inl, inr, refl, sym, ap, subst, arith}
+use Rattle.std.proofs.lemmas.List.Elements.{All-contains}
 use Rattle.channel_machine.specs.StartStates.{start_of}
 use Rattle.job_types.specs.Job.{JobView}
+use Rattle.job_types.specs.Zones.{zones_in_order}
 use Rattle.job_types.specs.declared.job.ZoneLine.{ZoneLine}
 use Rattle.number_laws.proofs.Lists.{SomeOf, SomeOf-flat_map, SomeOf-map, SomeOf-weaker}
 use Rattle.protection_zones.proofs.NameLaws.{occurrences_named}
@@ -14,13 +16,14 @@ use Rattle.schedule_laws.specs.Schedules.{IsQuietRun, IsRunOf, moves_by}
 use Rattle.speed_laws.proofs.ComparedPairs.{IsCurrent}
 use Rattle.speed_laws.proofs.PastEvents.{first_are_past, is_past, kept_holds, made_counts, others_are_not}
 use Rattle.speed_laws.proofs.PresentSpans.{PresentSpan, present_span}
-use Rattle.speed_laws.proofs.PresentTenures.{BegunBy, EndedBy, IsPresent, present_tenure}
+use Rattle.speed_laws.proofs.PresentTenures.{BegunBy, EndedBy, IsPresent, holder_known, present_tenure}
+use Rattle.speed_laws.proofs.StartZones.{zones_start}
+use Rattle.speed_laws.specs.Cuts.{ZonesHavePresentStretches, is_made}
 use Rattle.speed_laws.specs.Doings.{Doings}
 use Rattle.speed_laws.specs.Histories.{items_by}
-use Rattle.sync_types.specs.Boards.{Board, among, channel_numbers, first_board}
+use Rattle.sync_types.specs.Boards.{among, channel_numbers, first_board}
 use Rattle.sync_types.specs.Events.{IsLowestName}
 use Rattle.sync_types.specs.Runs.{first_stage, stage_after}
-use Rattle.sync_types.specs.declared.Item.{Item}
 use Rattle.sync_types.specs.declared.runs.EventId.{EventId}
 
 -- ---- a span of a tenure
@@ -131,3 +134,36 @@ module _ (job : JobView) (doings : Doings) (qs rs : List ℕ) (quiet : IsQuietRu
       by_holder : (o : Option ℕ) → holder ≡ o → (t : Tenure) → Present t → SomeOf Wanted (stretches_in_tenure job zone spans t)
       by_holder None is t present = free_now is t present
       by_holder (Some c) is t present = held_now c is t present
+
+-- ---- as a law
+
+one_of : {X : Type 0} (P : X → Type 0) (xs : List X) → SomeOf P xs → (x : X) × Contains xs x × P x
+one_of P [] some = absurd some
+one_of P (x ∷ xs) (inl here) = (x, (0, omega arith, refl), here)
+one_of P (x ∷ xs) (inr there) = let r = one_of P xs there in (r.0, (suc r.1.0, (let inside = r.1.1 in omega (arith, inside)), r.1.2), r.2)
+
+second_holds : (P Q : EventId → Type 0) (o : Option EventId) → IfSome o (λ e. P e × Q e) → IfSome o Q
+second_holds P Q None both = tt
+second_holds P Q (Some e) both = both.1
+
+pub zones_have_present_stretches : (job : JobView) (doings : Doings) (qs rs : List ℕ) (zone : ZoneLine) → ZonesHavePresentStretches job doings qs rs zone
+zones_have_present_stretches job doings qs rs zone sound quiet run in_job =
+    let there : IsZoneOf (start_of job) zone = All-contains (IsZoneOf (start_of job)) (zones_in_order job) zone (zones_start job sound) in_job in
+    let known = holder_known (start_of job) doings.script rs zone quiet.sound quiet.numbers run there in
+    let found = one_of (λ stretch. IsCurrent (Named job doings qs rs quiet run zone there known) (past job doings qs rs quiet run zone there known) stretch × IsNow job doings qs rs quiet run zone there known stretch)
+    (stretches_of_zone job (items_by doings (first_stage (start_of job)) qs) (occurrences_of (first_board (start_of job)) (moves_by doings.script (start_of job) qs)) zone)
+    (zone_now job doings qs rs quiet run zone there known) in
+    record {
+      stretch = found.0;
+      there = found.1;
+      present = record {
+        begun = second_holds (Named job doings qs rs quiet run zone there known) (λ e. is_made doings.script (start_of job) qs rs e ≡ true) found.0.first found.2.0.begun;
+        not_over = second_holds (Named job doings qs rs quiet run zone there known) (λ e. is_made doings.script (start_of job) qs rs e ≡ false) found.0.last found.2.0.not_over;
+        holder = of_holder there known found.0 found.2.1;
+      };
+    }
+  where
+    of_holder : (there : IsZoneOf (start_of job) zone) (known : (c : ℕ) → (stage_after doings.script (first_stage (start_of job)) rs).board.holder zone.zone ≡ Some c → among channel_numbers c ≡ true) (stretch : StretchView)
+        → IsNow job doings qs rs quiet run zone there known stretch → stretch.name.channel ≡ (stage_after doings.script (first_stage (start_of job)) rs).board.holder zone.zone
+    of_holder there known stretch (inl held) = ap (λ (s : StretchView). s.name.channel) held.3 ∙ sym held.1
+    of_holder there known stretch (inr free) = ap (λ (s : StretchView). s.name.channel) free.3 ∙ sym free.0

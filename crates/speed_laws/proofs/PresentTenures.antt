@@ -1,7 +1,7 @@
 -- The present tenure of a zone in the run that speaks for all: its owner holds the zone, and its present span is one of the tenure.
-use Rattle.std.proofs.Common.{◌≡◌, ◌⊎◌, ◌∙◌, ℕ, zero, suc, ◌+◌, ◌-◌, ◌<◌, ◌≤◌, Bool, true, false, cond, ◌==◌, ◌&&◌, ◌||◌, List, [], ◌∷◌, ◌++◌, append-nil, append_assoc, length, map, filter, slice_get, Option, None, Some, IfSome, All, inl, inr, refl, sym, ap, ap₂, subst, arith}
+use Rattle.std.proofs.Common.{◌≡◌, ◌⊎◌, ◌∙◌, ℕ, suc, ◌+◌, ◌<◌, ◌≤◌, Bool, true, false, cond, ◌==◌, List, [], ◌∷◌, ◌++◌, append_assoc, length, map, filter, slice_get, Option, None, Some, IfSome, All, inl, inr, refl, sym, ap, subst, arith}
 use Rattle.std.proofs.lemmas.Bool.{and_parts, cases_Bool}
-use Rattle.std.proofs.lemmas.List.Elements.{All-nil, All-cons, All-append, All-map}
+use Rattle.std.proofs.lemmas.List.Elements.{All-nil, All-cons, All-append, All-head, All-map, All-tail}
 use Rattle.axis_sets.specs.Positions.{stands}
 use Rattle.axis_sets.specs.Sets.{has}
 use Rattle.board_laws.proofs.Zones.{zones_first, zones_goes, zones_part, zones_step}
@@ -22,13 +22,12 @@ use Rattle.protection_zones.specs.SoundStretches.{IsZoneOf}
 use Rattle.protection_zones.specs.Tenures.{Tenure, carry, changes_hands, first_tenure, tenures_from, tenures_of}
 use Rattle.schedule_laws.proofs.EventLaws.{events_told}
 use Rattle.schedule_laws.proofs.RunLaws.{speaks_of_states}
-use Rattle.schedule_laws.specs.Schedules.{IsQuietRun, IsRunOf, moves_by}
-use Rattle.schedule_laws.specs.Tracked.{cell_at, rows_at, tenures_at}
-use Rattle.speed_laws.proofs.Hands.{counts_after, counts_at, counts_read, hands, hands_append, taker_in, tenures_read}
-use Rattle.speed_laws.proofs.JoinedRuns.{moves_joined, run_first}
+use Rattle.schedule_laws.specs.Schedules.{HasChannelNumbers, IsQuietRun, IsRunOf, moves_by}
+use Rattle.schedule_laws.specs.Tracked.{cell_at, tenures_at}
+use Rattle.speed_laws.proofs.Hands.{counts_after, counts_read, hands, hands_append, taker_in, tenures_read}
+use Rattle.speed_laws.proofs.JoinedRuns.{moves_joined}
 use Rattle.speed_laws.proofs.PastEvents.{made_counts}
-use Rattle.speed_laws.proofs.ZoneTenures.{At, BeginsBy, EndsBy, IsNewest, LastsIn, Match, TakesAll, UptoIs, each_read, lasts, newest}
-use Rattle.speed_laws.specs.Doings.{Doings}
+use Rattle.speed_laws.proofs.ZoneTenures.{At, BeginsBy, EndsBy, IsNewest, Match, TakesAll, UptoIs, each_read, lasts, newest}
 use Rattle.sync_types.proofs.BoardTests.{no_truth}
 use Rattle.sync_types.proofs.Replays.{run_is_replay}
 use Rattle.sync_types.specs.BoardActions.{after_own_part, after_part}
@@ -36,7 +35,7 @@ use Rattle.sync_types.specs.BoardAlarms.{alarm_of}
 use Rattle.sync_types.specs.Boards.{Board, Ownership, OwnedBy, FreeAt, among, channel_numbers, first_board, is_free, is_running, owner_of}
 use Rattle.sync_types.specs.GoingOn.{Going, after_goes, axes_asked}
 use Rattle.sync_types.specs.Runs.{Script, first_stage, moves_of, stage_after}
-use Rattle.sync_types.specs.Starts.{axes_of_zone, first_holder}
+use Rattle.sync_types.specs.Starts.{IsSound, axes_of_zone, first_holder}
 use Rattle.sync_types.specs.Turns.{AreOfRunning, Move, after_moves, after_step, goings_in_step}
 use Rattle.sync_types.specs.Views.{StartView}
 use Rattle.sync_types.specs.declared.Step.{Step}
@@ -286,3 +285,36 @@ module _ (job : JobView) (script : Script) (qs rs : List ℕ) (quiet : IsQuietRu
     | inl some ↦ let w = carry_from zone (λ axis. true) some in carried_present w.0 w.1
     | inr bare ↦ bare_present bare
   ]
+
+-- ---- holders have numbers
+
+KnownOwner : Option ℕ → Type 0
+KnownOwner owner = (c : ℕ) → owner ≡ Some c → among channel_numbers c ≡ true
+
+owner_known : (zone : ZoneLine) (x : ℕ) (carries : has_axis zone x ≡ true) (os : List Occurrence) (owner : Option ℕ) → All (TakesAll zone x carries) os → KnownOwner owner → KnownOwner (owners_next zone owner os)
+unfolding KnownOwner
+owner_known zone x carries [] owner takes known = known
+owner_known zone x carries (o ∷ os) owner takes known =
+    owner_known zone x carries os (owner_next zone owner o) (All-tail (TakesAll zone x carries) o os takes) (next (changes_hands zone o) (carry zone o.takes) refl)
+  where
+    next : (t s : Bool) → carry zone o.takes ≡ s → (c : ℕ) → cond t (cond s (Some o.channel) None) owner ≡ Some c → among channel_numbers c ≡ true
+    next false s is c e = known c e
+    next true false is c e = absurd cc
+    next true true is c e = let same : o.channel ≡ c = cc in subst (λ (d : ℕ). among channel_numbers d ≡ true) same (All-head (TakesAll zone x carries) o os takes is).1
+
+pub holder_known : (start : StartView) (script : Script) (cs : List ℕ) (zone : ZoneLine) → IsSound start → HasChannelNumbers start → IsRunOf script start cs → IsZoneOf start zone
+    → (c : ℕ) → (stage_after script (first_stage start) cs).board.holder zone.zone ≡ Some c → among channel_numbers c ≡ true
+unfolding KnownOwner
+holder_known start script cs zone sound numbers run there c is =
+    let zs = zones_first start sound in
+    let replay = run_is_replay script (first_stage start) cs run in
+    let moves = moves_by script start cs in
+    let end : owners_next zone (first_holder start zone.zone) (occurrences_from (first_board start) 0 moves) ≡ (stage_after script (first_stage start) cs).board.holder zone.zone =
+    run_owner moves (first_board start) zone 0 zs there.axes ∙ ap (λ (b : Board). b.holder zone.zone) replay.board in
+    let first : (d : ℕ) → first_holder start zone.zone ≡ Some d → among channel_numbers d ≡ true = λ d e. numbers d (sound.holders zone.zone d e) in
+    elim (cases_Bool (carry zone (λ axis. true))) [
+      | inl some ↦
+          let w = carry_from zone (λ axis. true) some in
+          owner_known zone w.0 w.1 (occurrences_from (first_board start) 0 moves) (first_holder start zone.zone) (run_takes moves (first_board start) zone 0 w.0 w.1 zs there.axes replay.running) first c (end ∙ is)
+      | inr bare ↦ first c (sym (one_owner zone bare (occurrences_from (first_board start) 0 moves) (first_holder start zone.zone)) ∙ end ∙ is)
+    ]

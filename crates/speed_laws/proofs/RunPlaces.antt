@@ -1,10 +1,8 @@
 -- In every state that lawful small steps reach, the run is a run, and each channel that runs is at a place of its present items.
-use Rattle.std.proofs.Common.{◌≡◌, ◌⊎◌, ◌∙◌, ℕ, ℤ, pos, ◌+◌, ◌*ℤ◌, ◌<◌, ◌≤◌, Bool, true, false, cond, not, ◌==◌, List, [], ◌∷◌, ◌++◌, append-nil, length, length-append, map, filter, Option, None, Some, IfSome, IsTrue, inl, inr, refl, sym, ap, ap₂, subst, arith}
-use Rattle.std.proofs.lemmas.Bool.{cases_Bool, cases_eq, eqb-true, eq-eqb, ne_eqb}
-use Rattle.std.proofs.lemmas.Int.{ints}
+use Rattle.std.proofs.Common.{◌≡◌, ◌⊎◌, ◌∙◌, ℕ, ℤ, ◌+◌, ◌<◌, ◌≤◌, Bool, true, false, cond, not, ◌==◌, List, [], ◌∷◌, ◌++◌, append-nil, length, length-append, map, filter, Option, None, Some, IfSome, inl, inr, refl, sym, ap, ap₂, subst, arith}
+use Rattle.std.proofs.lemmas.Bool.{cases_Bool, cases_eq, eq-eqb, ne_eqb}
 use Rattle.std.proofs.lemmas.List.{length-map}
 use Rattle.std.proofs.lemmas.List.Elements.{filter-append}
-use Rattle.std.specs.Option.{option_map_or}
 use Rattle.board_laws.proofs.Zones.{zones_first, zones_step}
 use Rattle.board_laws.specs.Zones.{Zones}
 use Rattle.channel_machine.specs.StartStates.{start_of}
@@ -14,25 +12,24 @@ use Rattle.protection_zones.proofs.EventLaws.{own_name}
 use Rattle.protection_zones.specs.Occurrences.{Occurrence, act_of, going_on_of, occurrences_in, occurrences_from, occurrences_of}
 use Rattle.schedule_laws.specs.EventPlaces.{events_of}
 use Rattle.schedule_laws.specs.Schedules.{IsRunOf, moves_by}
-use Rattle.speed_laws.proofs.Histories.{found_in, none_in}
+use Rattle.speed_laws.proofs.Histories.{none_in}
 use Rattle.speed_laws.proofs.JoinedRuns.{moves_joined, run_more, stage_joined}
 use Rattle.speed_laws.proofs.PastEvents.{own_names}
 use Rattle.speed_laws.proofs.PresentTenures.{events_joined}
-use Rattle.speed_laws.proofs.StepEvents.{as_goings, goes_waited, kept_state, not_started, part_other, step_events}
+use Rattle.speed_laws.proofs.StepEvents.{as_goings, kept_state, not_started, part_other, step_events}
 use Rattle.speed_laws.specs.Doings.{Doings, stands_after, stands_before}
 use Rattle.speed_laws.specs.Places.{IsAtPlace}
-use Rattle.speed_laws.specs.RunStates.{stage_in, span_number, runs, items_now, begins_at, place_zero, spot_now, after_small_step, IsLawfulStep, AreLawfulSteps, after_small_steps}
+use Rattle.speed_laws.specs.RunStates.{span_number, runs, items_now, begins_at, after_small_step, IsLawfulStep, AreLawfulSteps, after_small_steps}
 use Rattle.speed_laws.specs.SmallSteps.{Spot, State, SmallStep, Advance, Act, opening}
 use Rattle.sync_types.proofs.BoardTests.{no_truth}
 use Rattle.sync_types.proofs.Replays.{run_is_replay}
 use Rattle.sync_types.specs.Boards.{State as Doing, IsRunning, first_board, grant_in, is_running}
 use Rattle.sync_types.specs.GoingOn.{Going}
-use Rattle.sync_types.specs.Runs.{Stage, as_list, gets_a_grant, after_turn, first_stage, moves_of, stage_after}
+use Rattle.sync_types.specs.Runs.{Stage, as_list, after_turn, first_stage, stage_after}
 use Rattle.sync_types.specs.Starts.{IsSound}
-use Rattle.sync_types.specs.Turns.{AreOfRunning, Move, after_moves, after_step, goings_in_step}
+use Rattle.sync_types.specs.Turns.{after_moves, after_step, goings_in_step}
 use Rattle.sync_types.specs.declared.Grant.{Grant}
 use Rattle.sync_types.specs.declared.Item.{Item}
-use Rattle.sync_types.specs.declared.Step.{Step}
 
 -- ---- one step more
 
@@ -104,7 +101,7 @@ module _ (job : JobView) (doings : Doings) (sound : IsSound (start_of job)) wher
       ∙ ap (λ b. occurrences_from (first_board (start_of job)) 0 ms ++ (occurrences_in n step (happening_of b p step) ++ [])) end
       ∙ ap (λ (os : List Occurrence). occurrences_from (first_board (start_of job)) 0 ms ++ os) (append-nil here) in
       let count : length (filter (λ o. o.channel == c) (occurrences_from (first_board (start_of job)) 0 (moves_by doings.script (start_of job) (cs ++ p ∷ []))))
-          ≡ length (filter (λ o. o.channel == c) (occurrences_from (first_board (start_of job)) 0 ms)) + length (filter (λ o. o.channel == c) here) =
+      ≡ length (filter (λ o. o.channel == c) (occurrences_from (first_board (start_of job)) 0 ms)) + length (filter (λ o. o.channel == c) here) =
       ap (λ (os : List Occurrence). length (filter (λ o. o.channel == c) os)) parts
       ∙ ap length (filter-append (λ o. o.channel == c) (occurrences_from (first_board (start_of job)) 0 ms) here)
       ∙ length-append (filter (λ o. o.channel == c) (occurrences_from (first_board (start_of job)) 0 ms)) (filter (λ o. o.channel == c) here) in
@@ -144,16 +141,15 @@ module _ (job : JobView) (doings : Doings) (sound : IsSound (start_of job)) wher
   acted state p c spot run on is = elim (spans_grow state.run p c run on) [
     | inl more ↦ record { upto = let old = is.upto in omega (arith, more, old); placed = λ same. let old = is.upto in absurd (omega (arith, more, old, same)) }
     | inr kept ↦ record {
-        upto = let old = is.upto in let number = kept.0 in omega (arith, old, number);
-        placed = λ same.
-            let old = is.placed (same ∙ kept.0) in
-            let doing : is_running ((stage_after doings.script first (state.run ++ p ∷ [])).board.state c) ≡ is_running ((stage_after doings.script first state.run).board.state c) = ap is_running kept.1 in
-            (
-              doing ∙ old.0,
-              subst (λ (at : ℕ → ℤ). IsAtPlace at (items_now job doings (after_act state p) c) spot.place spot.point) (sym (begins_same state p c doing kept.2))
-                  (subst (λ (items : List Item). IsAtPlace (begins_at job doings state c) items spot.place spot.point) (sym (items_same state p c kept.2)) old.1),
-            );
-      }
+      upto = let old = is.upto in let number = kept.0 in omega (arith, old, number);
+      placed = λ same.
+          let old = is.placed (same ∙ kept.0) in
+          let doing : is_running ((stage_after doings.script first (state.run ++ p ∷ [])).board.state c) ≡ is_running ((stage_after doings.script first state.run).board.state c) = ap is_running kept.1 in (
+            doing ∙ old.0,
+            subst (λ (at : ℕ → ℤ). IsAtPlace at (items_now job doings (after_act state p) c) spot.place spot.point) (sym (begins_same state p c doing kept.2))
+                (subst (λ (items : List Item). IsAtPlace (begins_at job doings state c) items spot.place spot.point) (sym (items_same state p c kept.2)) old.1),
+          );
+    }
   ]
 
   step_spotted : (state : State) (step : SmallStep) → WellSpotted state → IsLawfulStep job doings state step → WellSpotted (after_small_step job doings state step)

@@ -271,12 +271,12 @@ none_of (g ∷ gs) c none = rw (ne_eqb g.channel c (none g (inl refl))) (none_of
 
 -- a channel goes on once
 pub once_of : (gs : List Going) (c : ℕ) → Once gs → filter (λ g. g.channel == c) gs ≡ as_goings (going_of gs c)
-once_of [] c once = refl
-once_of (g ∷ gs) c once = by_test (g.channel == c) refl (once_of gs c once.1)
+once_of [] c singles = refl
+once_of (g ∷ gs) c singles = by_test (g.channel == c) refl (once_of gs c singles.1)
   where
     by_test : (t : Bool) → (g.channel == c) ≡ t → filter (λ h. h.channel == c) gs ≡ as_goings (going_of gs c)
         → cond t (g ∷ filter (λ h. h.channel == c) gs) (filter (λ h. h.channel == c) gs) ≡ as_goings (cond t (Some g) (going_of gs c))
-    by_test true is rest = ap (λ (hs : List Going). g ∷ hs) (none_of gs c (λ h within at. once.0 h within (eqb-true g.channel c is ∙ sym at)))
+    by_test true is rest = ap (λ (hs : List Going). g ∷ hs) (none_of gs c (λ h within at. singles.0 h within (eqb-true g.channel c is ∙ sym at)))
     by_test false is rest = rest
 
 going_events : (i c : ℕ) (all gs : List Going) → filter (λ o. o.channel == c) (map (going_on_of i all) gs) ≡ map (going_on_of i all) (filter (λ g. g.channel == c) gs)

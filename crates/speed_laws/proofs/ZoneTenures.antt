@@ -1,5 +1,5 @@
 -- The tenures of a zone are those of an axis that carries it.
-use Rattle.std.proofs.Common.{◌≡◌, ◌⊎◌, ◌∙◌, ℕ, zero, suc, ◌+◌, ◌-◌, ◌<◌, ◌≤◌, Bool, true, false, cond, ◌==◌, ◌&&◌, ◌||◌, List, [], ◌∷◌, ◌++◌, length, map, filter, slice_get, Option, None, Some, IfSome, All, inl, inr, refl, sym, ap, ap₂, subst, arith}
+use Rattle.std.proofs.Common.{◌≡◌, ◌⊎◌, ◌∙◌, ℕ, suc, ◌+◌, ◌-◌, ◌<◌, ◌≤◌, Bool, true, false, cond, ◌==◌, List, [], ◌∷◌, filter, slice_get, Option, None, Some, IfSome, All, inl, inr, refl, sym, ap, subst, arith}
 use Rattle.std.proofs.lemmas.Bool.{cases_Bool, cases_eq, eq-eqb, ne_eqb}
 use Rattle.std.proofs.lemmas.List.Elements.{All-head, All-tail}
 use Rattle.std.specs.Option.{option_map_or}
@@ -11,7 +11,7 @@ use Rattle.job_types.specs.Zones.{has_axis}
 use Rattle.job_types.specs.declared.job.ZoneLine.{ZoneLine}
 use Rattle.number_laws.proofs.Lists.{SomeOf}
 use Rattle.order_clocks.specs.Chains.{IsIn}
-use Rattle.protection_zones.proofs.HandLaws.{HandsAre, carry_from, carry_to, owner_next, owners_next}
+use Rattle.protection_zones.proofs.HandLaws.{HandsAre, carry_to, owner_next, owners_next}
 use Rattle.protection_zones.specs.Occurrences.{Occurrence}
 use Rattle.protection_zones.specs.Spans.{Beginning}
 use Rattle.protection_zones.specs.Tenures.{Tenure, carry, changes_hands, counted, tenure_after, tenure_until, tenures_from}

@@ -10,3 +10,4 @@ pub mod RunStates
 pub mod RunSafety
 pub mod Histories
 pub mod DoingLaws
+pub mod Cuts
