@@ -158,7 +158,7 @@ module _ (x i : ℕ) (all : List Going) where
 
 -- ---- who takes an axis in a step
 
-found_once : (gs : List Going) (g : Going) → Once gs → IsIn g gs → going_of gs g.channel ≡ Some g
+pub found_once : (gs : List Going) (g : Going) → Once gs → IsIn g gs → going_of gs g.channel ≡ Some g
 found_once [] g once within = absurd within
 found_once (h ∷ gs) g once (inl e) = rw (eq-eqb h.channel g.channel (ap (λ (k : Going). k.channel) (sym e))) (ap (λ (k : Going). Some k) (sym e))
 found_once (h ∷ gs) g once (inr there) = rw (ne_eqb h.channel g.channel (once.0 g there)) (found_once gs g once.1 there)

@@ -29,3 +29,4 @@ pub mod PresentTenures
 pub mod PresentStretches
 pub mod Standing
 pub mod RunPlaces
+pub mod SwitchedZones
