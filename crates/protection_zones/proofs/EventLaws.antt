@@ -176,11 +176,11 @@ in_steps (m ∷ ms) b i =
 
 -- ---- a channel goes on once in a step
 
-abbrev Once : List Going → Type 0
+abbrev pub Once : List Going → Type 0
 Once [] = ⊤
 Once (g ∷ gs) = ((h : Going) → IsIn h gs → g.channel ≡ h.channel → ⊥) × Once gs
 
-abbrev OnceIn : List ℕ → Type 0
+abbrev pub OnceIn : List ℕ → Type 0
 OnceIn [] = ⊤
 OnceIn (c ∷ cs) = (IsIn c cs → ⊥) × OnceIn cs
 
@@ -231,7 +231,7 @@ no_wait_axes : (s : State) → wait_in s ≡ None → waits_for_axes s ≡ false
 no_wait_axes (IsHolding hold line) none = no_truth false (ap is_some (sym none)) refl
 no_wait_axes other none = refl
 
-goings_once : (b : Board) (starts : List ℕ) → OnceIn starts → ((s : ℕ) → among starts s ≡ true → wait_in (b.state s) ≡ None) → Once (goings_on b starts)
+pub goings_once : (b : Board) (starts : List ℕ) → OnceIn starts → ((s : ℕ) → among starts s ≡ true → wait_in (b.state s) ≡ None) → Once (goings_on b starts)
 unfolding state_after_goes
 goings_once b starts once started =
     append_once (map (going_of_start b) starts) (map (going_at_once b) (goers_at_once b) ++ (all_takings (after_goes b)).goings)
@@ -272,7 +272,7 @@ goings_once b starts once started =
     in_goings : (h : Going) → IsIn h (map (going_at_once b) (goers_at_once b) ++ (all_takings (after_goes b)).goings) → IsIn h (goings_on b starts)
     in_goings h within = (in_append h (map (going_of_start b) starts) (map (going_at_once b) (goers_at_once b) ++ (all_takings (after_goes b)).goings)).1 (inr within)
 
-starts_once : (alarm : Option ℕ) (action : Action) → OnceIn (channels_started alarm action)
+pub starts_once : (alarm : Option ℕ) (action : Action) → OnceIn (channels_started alarm action)
 starts_once (Some code) action = tt
 starts_once None (Start named) = range_once (has named) (length named) 0
 starts_once None other = tt

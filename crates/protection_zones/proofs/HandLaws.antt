@@ -97,7 +97,7 @@ carries_alike b zone xs for =
 abbrev pub owner_next : ZoneLine → Option ℕ → Occurrence → Option ℕ
 owner_next zone owner o = cond (changes_hands zone o) (cond (carry zone o.takes) (Some o.channel) None) owner
 
-abbrev owners_next : ZoneLine → Option ℕ → List Occurrence → Option ℕ
+abbrev pub owners_next : ZoneLine → Option ℕ → List Occurrence → Option ℕ
 owners_next zone owner [] = owner
 owners_next zone owner (o ∷ os) = owners_next zone (owner_next zone owner o) os
 
@@ -112,7 +112,7 @@ hands-append : (zone : ZoneLine) (owner : Option ℕ) (os ps : List Occurrence) 
 hands-append zone owner [] ps hands rest = rest
 hands-append zone owner (o ∷ os) ps hands rest = (hands.0, hands.1, hands.2, hands-append zone (owner_next zone owner o) os ps hands.3 rest)
 
-owners-append : (zone : ZoneLine) (owner : Option ℕ) (os ps : List Occurrence) → owners_next zone owner (os ++ ps) ≡ owners_next zone (owners_next zone owner os) ps
+pub owners-append : (zone : ZoneLine) (owner : Option ℕ) (os ps : List Occurrence) → owners_next zone owner (os ++ ps) ≡ owners_next zone (owners_next zone owner os) ps
 owners-append zone owner [] ps = refl
 owners-append zone owner (o ∷ os) ps = owners-append zone (owner_next zone owner o) os ps
 
@@ -286,7 +286,7 @@ start_of_part : (b : Board) (c : ℕ) (step : Step) (alarm : Option ℕ) → (af
 start_of_part b c step (Some code) = refl
 start_of_part b c step None = refl
 
-step_hands : (b : Board) (m : Move) (zone : ZoneLine) (i : ℕ) → Zones b → IsFor zone b
+pub step_hands : (b : Board) (m : Move) (zone : ZoneLine) (i : ℕ) → Zones b → IsFor zone b
     → HandsAre zone (b.holder zone.zone) (occurrences_in i m.step (happening_of b m.channel m.step))
     × (owners_next zone (b.holder zone.zone) (occurrences_in i m.step (happening_of b m.channel m.step)) ≡ (after_step b m.channel m.step).holder zone.zone)
     × IsFor zone (after_step b m.channel m.step)

@@ -33,14 +33,14 @@ goes : (b : Board) (moves : List Move) (i c : ℕ) → among (channels_in (going
 goes b moves i c = ap (λ (gs : List Going). among (channels_in gs) c) (sym (goings_are b moves i))
 
 -- the own counter rises by one at each event
-count_act : (b : Board) (moves : List Move) (i c : ℕ) → actor b moves i ≡ c → (rows_in b moves i).past c c ≡ suc ((rows_at b moves i).past c c)
+pub count_act : (b : Board) (moves : List Move) (i c : ℕ) → actor b moves i ≡ c → (rows_in b moves i).past c c ≡ suc ((rows_at b moves i).past c c)
 count_act b moves i c s =
     opened_actor (course_of b moves) i (rows_at b moves i) c c s ∙ ap (λ (z : ℕ). act_row_of b moves i z) (sym s) ∙ act_self (course_of b moves) i (rows_at b moves i) ∙ ap (λ (z : ℕ). suc ((rows_at b moves i).past z z)) s
   where
     act_row_of : Board → List Move → ℕ → ℕ → ℕ
     act_row_of b moves i z = row (course_of b moves) (event i z false) z
 
-count_go : (b : Board) (moves : List Move) (i c : ℕ) → goes_in b moves i c ≡ true → (rows_at b moves (suc i)).past c c ≡ suc ((rows_in b moves i).past c c)
+pub count_go : (b : Board) (moves : List Move) (i c : ℕ) → goes_in b moves i c ≡ true → (rows_at b moves (suc i)).past c c ≡ suc ((rows_in b moves i).past c c)
 count_go b moves i c on =
     let run = course_of b moves in
     let m = member run i c on in

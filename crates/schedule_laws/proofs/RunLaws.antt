@@ -322,9 +322,15 @@ progress script start us (v ∷ vs) ps z sound w run whole =
     (subst (λ (y : State). sequences.IsWhole (turn script) runs_at (Clean script) y f.1.0 z) (sym (end_more script (tracked b [] 0) us v)) f.1.1.1) in
     subst (λ (xs : List ℕ). Progress script start xs z) (append_one us v vs) r
 
+-- a run goes on alike, and to the same state of the machine
+pub record GoesOnTracked (script : Script) (start : StartView) (cs vs : List ℕ) : Type 0 where
+  pub alike : GoesOnAlike script start cs vs
+  pub state : tracked (first_board start) (moves_by script start cs) (length (moves_by script start cs))
+      ≡ tracked (first_board start) (moves_by script start (vs ++ alike.rest)) (length (moves_by script start (vs ++ alike.rest)))
+
 -- one maximal run without a race speaks for every run
-pub speaks : (script : Script) (start : StartView) (cs vs : List ℕ) → IsQuietRun script start cs → IsRunOf script start vs → GoesOnAlike script start cs vs
-speaks script start cs vs q run =
+pub speaks_of_states : (script : Script) (start : StartView) (cs vs : List ℕ) → IsQuietRun script start cs → IsRunOf script start vs → GoesOnTracked script start cs vs
+speaks_of_states script start cs vs q run =
     let b : Board = first_board start in
     let ms : List Move = moves_by script start cs in
     let fresh = fresh_first start q.sound in
@@ -346,14 +352,20 @@ speaks script start cs vs q run =
     let end : z ≡ tracked b (moves_by script start (vs ++ rest)) (length (moves_by script start (vs ++ rest))) = sym all.1 ∙ ends.1 in
     let final = run_told script start (vs ++ rest) all.0.run in
     record {
-      quiet = (ends_told script start vs q.sound p.runs).0;
-      rest = rest;
-      maximal = record {
-        run = all.0.run;
-        over = ap is_over final.board ∙ board_over b (moves_by script start (vs ++ rest)) (length (moves_by script start (vs ++ rest))) (λ c. ap (λ (x : State). runs_at x c) (sym end) ∙ over c);
+      alike = record {
+        quiet = (ends_told script start vs q.sound p.runs).0;
+        rest = rest;
+        maximal = record {
+          run = all.0.run;
+          over = ap is_over final.board ∙ board_over b (moves_by script start (vs ++ rest)) (length (moves_by script start (vs ++ rest))) (λ c. ap (λ (x : State). runs_at x c) (sym end) ∙ over c);
+        };
+        same = result_of script start cs (vs ++ rest) q.sound q.maximal.run all.0.run end;
       };
-      same = result_of script start cs (vs ++ rest) q.sound q.maximal.run all.0.run end;
+      state = end;
     }
+
+pub speaks : (script : Script) (start : StartView) (cs vs : List ℕ) → IsQuietRun script start cs → IsRunOf script start vs → GoesOnAlike script start cs vs
+speaks script start cs vs q run = (speaks_of_states script start cs vs q run).alike
 
 -- a maximal run does not go on
 no_more : (script : Script) (stage : Stage) (vs rest : List ℕ) → is_over (stage_after script stage vs).board ≡ true → ((c : ℕ) → is_running ((stage_after script stage vs).board.state c) ≡ true → among channel_numbers c ≡ true) → IsRun script stage (vs ++ rest) → rest ≡ []

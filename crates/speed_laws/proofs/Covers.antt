@@ -16,7 +16,9 @@ use Rattle.path_geometry.specs.declared.motion.Motion.TheVariants as Kind
 use Rattle.protection_zones.specs.ZoneBoxes.{stand_after, moves_zone, sight_of, seen, PlaceBox, Opened, Shut, Waiting, Moving, closed, closed_before, next_open, walk, boxes_of}
 use Rattle.protection_zones.specs.declared.sights.Sight.{Sight}
 use Rattle.protection_zones.specs.declared.sights.Sight.TheVariants.{Nothing, Turns, Moves}
-use Rattle.speed_laws.proofs.Positions.{Joins, AllJoin, after_is, left_at-cons}
+use Rattle.speed_laws.proofs.Positions.{after_is, left_at-cons}
+use Rattle.speed_laws.specs.Doings.{turned, on_after}
+use Rattle.speed_laws.specs.JoinedItems.{Joins, AllJoin}
 use Rattle.speed_laws.specs.Places.{StandsAt, IsAlong, IsAtPlace}
 use Rattle.sync_types.proofs.Positions.{left_at-nil, end_moved}
 use Rattle.sync_types.specs.Items.{end_in, left_at, motion_of, movement_of}
@@ -94,15 +96,6 @@ motion_seen zone item is = by_part item.part refl is
     by_part : (p : Part) → item.part ≡ p → sight_of zone item p ≡ Moves → motion_of item ≡ Some (movement_of item)
     by_part (Switch number on) is e = absurd (by_number (number == zone.zone) on e)
     by_part (Move motion) is e = rw is refl
-
--- whether a zone is on after an item, and after these items
-abbrev pub turned : Bool → Sight → Bool
-turned on (Turns new) = new
-turned on other = on
-
-abbrev pub on_after : ZoneLine → Bool → List Item → Bool
-on_after zone on [] = on
-on_after zone on (item ∷ items) = on_after zone (turned on (seen zone item)) items
 
 -- ---- motions that do not move the zone
 

@@ -9,11 +9,12 @@ use Rattle.path_geometry.specs.Motions.{axes_of}
 use Rattle.path_geometry.specs.Path.{Point}
 use Rattle.protection_zones.specs.ZoneBoxes.{stand_after}
 use Rattle.speed_laws.proofs.Covers.{standing, along_at_end}
-use Rattle.speed_laws.proofs.Positions.{AllJoin, joins_at}
+use Rattle.speed_laws.proofs.Positions.{joins_at}
 use Rattle.speed_laws.proofs.Runs.{motions_join}
 use Rattle.speed_laws.proofs.States.{WellPlaced, well_placed, WellPlaced-opening, not_ended, has_acted, run_place, board_first}
 use Rattle.speed_laws.proofs.ZoneLemmas.{some_at}
 use Rattle.speed_laws.specs.Channels.{motions_of}
+use Rattle.speed_laws.specs.JoinedItems.{AllJoin}
 use Rattle.speed_laws.specs.Places.{IsAlong, IsEndOf, IsAtPlace, IsAtEnd}
 use Rattle.speed_laws.specs.Safety.{CanEnd}
 use Rattle.speed_laws.specs.SmallSteps.{Spot, State, opening, span_of, has_ended, is_running, board_position, present_spot, SmallStep, Advance, Act, after_step, IsLawful, state_after_all, AreLawful}

@@ -109,6 +109,22 @@ granted_own job sound c axis owned =
     ap (λ (o : Option ℤ). unwrap_or o (pos 0)) (granted_at job sound c axis (owned_in_row job sound axis c owned))
     ∙ ap (λ (b : Bool). unwrap_or (cond b (Some (start_position job axis)) None) (pos 0)) own
 
+-- an axis that is granted is granted where the job puts it
+pub granted_there : (job : JobView) → IsSoundJob job → (c axis : ℕ) → unwrap_or (position_of (first_grant job c).at axis) (start_position job axis) ≡ start_position job axis
+granted_there job sound c axis = by_place (le_or_lt AXIS_LIMIT axis)
+  where
+    by_owner : (b : Bool) → unwrap_or (cond b (Some (start_position job axis)) None) (start_position job axis) ≡ start_position job axis
+    by_owner true = refl
+    by_owner false = refl
+
+    by_place : (AXIS_LIMIT ≤ axis) ⊎ (axis < AXIS_LIMIT) → unwrap_or (position_of (first_grant job c).at axis) (start_position job axis) ≡ start_position job axis
+    by_place (inl past) =
+        let long = length-map-range_with_len (λ x. cond (owns (rest job) c x) (Some (start.first_position (start_of job) x)) None) 0 AXIS_LIMIT in
+        ap (λ (o : Option ℤ). unwrap_or o (start_position job axis))
+        (ap (λ (xs : List (Option ℤ)). position_of xs axis) (at_is job c)
+        ∙ get_or_past (map (λ x. cond (owns (rest job) c x) (Some (start.first_position (start_of job) x)) None) axis_numbers) axis None (omega arith))
+    by_place (inr within) = ap (λ (o : Option ℤ). unwrap_or o (start_position job axis)) (granted_at job sound c axis within) ∙ by_owner (is_this (first_owner job axis) c)
+
 -- each axis is granted in range
 starts_in_range : (job : JobView) → IsSoundJob job → (axis : ℕ) → IsPosition (start_position job axis)
 unfolding start_position

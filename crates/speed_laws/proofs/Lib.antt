@@ -18,3 +18,15 @@ pub mod NoJumps
 pub mod Ends
 pub mod Soundness
 pub mod StartZones
+pub mod StepEvents
+pub mod Histories
+pub mod JoinedRuns
+pub mod PastEvents
+pub mod PresentSpans
+pub mod Hands
+pub mod ZoneTenures
+pub mod PresentTenures
+pub mod PresentStretches
+pub mod Standing
+pub mod RunPlaces
+pub mod SwitchedZones

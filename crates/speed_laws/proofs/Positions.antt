@@ -1,13 +1,13 @@
 -- Where motions leave the axes of a channel: the rule over all motions, and one motion after another say the same.
 use Rattle.std.proofs.Common.{◌≡◌, ◌∙◌, ℕ, zero, suc, ℤ, ◌==◌, List, [], ◌∷◌, take, filter_map, find, Option, None, Some, option_map, unwrap_or, slice_get, All, refl, sym, ap, subst}
 use Rattle.std.proofs.lemmas.List.Elements.{All-weaker}
-use Rattle.std.specs.Prelude.{⊤}
 use Rattle.std.specs.List.{last_or, cons_option}
 use Rattle.std.specs.Option.{option_map_or}
 use Rattle.sync_types.specs.Items.{end_in, left_at, movement_of}
 use Rattle.sync_types.proofs.Positions.{left_at-nil, end_moved}
-use Rattle.path_geometry.specs.Motions.{axes_of, IsSound, axis_end}
+use Rattle.path_geometry.specs.Motions.{axes_of, axis_end}
 use Rattle.protection_zones.specs.ZoneBoxes.{stand_after}
+use Rattle.speed_laws.specs.JoinedItems.{Joins, AllJoin}
 use Rattle.sync_types.specs.declared.Item.{Item}
 
 -- ---- the last of a list
@@ -47,15 +47,6 @@ left_at-cons item items at axis =
     by_end (Some x) = refl
 
 -- ---- motions that join
-
--- a motion is sound, begins where its axes stand, and leaves them at its ends
-abbrev pub Joins : (ℕ → ℤ) → Item → Type 0
-Joins at item = IsSound (movement_of item) × All (λ e. (e.1 ≡ at e.0) × (e.2 ≡ stand_after item at e.0)) (axes_of (movement_of item))
-
--- so does each of them, one after the other
-abbrev pub AllJoin : (ℕ → ℤ) → List Item → Type 0
-AllJoin at [] = ⊤
-AllJoin at (item ∷ items) = Joins at item × AllJoin (stand_after item at) items
 
 Joins-same : (p q : ℕ → ℤ) → ((axis : ℕ) → p axis ≡ q axis) → (item : Item) → Joins p item → Joins q item
 Joins-same p q same item joins = (

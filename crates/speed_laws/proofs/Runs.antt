@@ -16,8 +16,9 @@ use Rattle.number_laws.proofs.Lists.{by_places}
 use Rattle.path_geometry.specs.Motions.{axes_of, IsSound}
 use Rattle.protection_zones.specs.ZoneBoxes.{stand_after}
 use Rattle.speed_laws.proofs.Grants.{granted_in_range, granted_own, granted_owned}
-use Rattle.speed_laws.proofs.Positions.{Joins, AllJoin, after_is, left_at-cons}
+use Rattle.speed_laws.proofs.Positions.{after_is, left_at-cons}
 use Rattle.speed_laws.specs.Channels.{first_grant, motions_of, program_run, setting_of}
+use Rattle.speed_laws.specs.JoinedItems.{Joins, AllJoin}
 use Rattle.sync_types.proofs.Positions.{left_at-nil, end_moved}
 use Rattle.sync_types.specs.Items.{left_at, movement_of}
 use Rattle.sync_types.specs.declared.Item.{Item}

@@ -18,7 +18,8 @@ use Rattle.number_laws.proofs.Lists.{found_passes, All-found}
 use Rattle.path_geometry.specs.Motions.{axes_of, axis_end}
 use Rattle.protection_zones.specs.ZoneBoxes.{stand_after, sight_of, seen, moves_zone}
 use Rattle.protection_zones.specs.declared.sights.Sight.TheVariants.{Nothing, Moves as MovesIt}
-use Rattle.speed_laws.proofs.Covers.{on_after, turned, stays_there}
+use Rattle.speed_laws.proofs.Covers.{stays_there}
+use Rattle.speed_laws.specs.Doings.{on_after, turned}
 use Rattle.speed_laws.proofs.Grants.{granted_own, granted_owned, granted_within}
 use Rattle.speed_laws.proofs.Positions.{left_at-cons}
 use Rattle.speed_laws.proofs.Runs.{left_at_same, motions_granted}

@@ -5,3 +5,10 @@ pub mod SmallSteps
 pub mod Safety
 pub mod EachOnce
 pub mod ZoneTimes
+pub mod JoinedItems
+pub mod Doings
+pub mod DoingLaws
+pub mod RunStates
+pub mod RunSafety
+pub mod Histories
+pub mod Cuts
