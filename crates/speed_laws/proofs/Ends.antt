@@ -22,7 +22,7 @@ use Rattle.sync_types.specs.Items.{left_at, movement_of}
 use Rattle.sync_types.specs.declared.Item.{Item}
 
 -- a place is at most the number of the motions
-place_within : (at : ℕ → ℤ) (items : List Item) (place : ℕ) (point : Point) → IsAtPlace at items place point → place ≤ length items
+pub place_within : (at : ℕ → ℤ) (items : List Item) (place : ℕ) (point : Point) → IsAtPlace at items place point → place ≤ length items
 place_within at items zero point there = omega arith
 place_within at items (suc n) point there = within items n (λ item. IsAlong (left_at (take n items) at) item point) there
   where
@@ -33,7 +33,7 @@ place_within at items (suc n) point there = within items n (λ item. IsAlong (le
 
 -- ---- the end of the last motion
 
-last_end : (at : ℕ → ℤ) (items : List Item) → AllJoin at items → (place : ℕ) → length items ≡ suc place
+pub last_end : (at : ℕ → ℤ) (items : List Item) → AllJoin at items → (place : ℕ) → length items ≡ suc place
     → (point : Point) × IsAtPlace at items (suc place) point × IsAtEnd items (suc place) point
 last_end at items joins place long = of_item (some_at items place (omega arith))
   where

@@ -21,7 +21,7 @@ use Rattle.speed_laws.specs.Channels.{first_grant}
 use Rattle.sync_types.specs.Boards.{Board, axis_numbers, zone_numbers, board_at_rest, grant_with, is_this, owner_of, ownership_of, owns, start_grant}
 use Rattle.sync_types.specs.Starts as start
 
-le_or_lt : (a b : ℕ) → (a ≤ b) ⊎ (b < a)
+pub le_or_lt : (a b : ℕ) → (a ≤ b) ⊎ (b < a)
 le_or_lt a b = grind arith
 
 -- ---- axes
@@ -39,7 +39,7 @@ unfolding rest
 owns_is job sound c axis = ap (λ (o : Option ℕ). is_this o c) (owner_told (start.first_owner (start_of job) axis) (start.first_position (start_of job) axis) ∙ owner_is job sound axis)
 
 -- where an axis stands at the start
-position_is : (job : JobView) → IsSoundJob job → (axis : ℕ) → start.first_position (start_of job) axis ≡ start_position job axis
+pub position_is : (job : JobView) → IsSoundJob job → (axis : ℕ) → start.first_position (start_of job) axis ≡ start_position job axis
 unfolding start_of start_position
 position_is job sound axis =
     ap (λ (o : Option (ℕ × Option ℕ × ℤ)). option_map_or (λ line. line.2) o (pos 0)) (axis_found job sound axis) ∙ by_line (slice_get job.axes axis)
@@ -67,7 +67,7 @@ granted_within job c axis granted = by_place (le_or_lt AXIS_LIMIT axis)
         absurd cc
     by_place (inr within) = within
 
-this_one : (o : Option ℕ) (c : ℕ) → is_this o c ≡ true → o ≡ Some c
+pub this_one : (o : Option ℕ) (c : ℕ) → is_this o c ≡ true → o ≡ Some c
 this_one None c is = absurd (false≢true is)
 this_one (Some d) c is = ap (λ (n : ℕ). Some n) (eqb-true d c is)
 

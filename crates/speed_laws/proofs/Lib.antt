@@ -30,3 +30,4 @@ pub mod PresentStretches
 pub mod Standing
 pub mod RunPlaces
 pub mod SwitchedZones
+pub mod ReachActs

@@ -52,7 +52,7 @@ at_its_end item positions point along ends axis =
         subst (λ a. StandsAt point a e.2) same (All-found (λ f. StandsAt point f.0 f.2) (λ f. f.0 == axis) (axes_of (movement_of item)) e ends found)
 
 -- at the end of its last motion a channel has its axes where its motions leave them
-stands_at_end : (items : List Item) (at : ℕ → ℤ) (place : ℕ) (point : Point) → IsAtPlace at items place point → IsAtEnd items place point → (axis : ℕ)
+pub stands_at_end : (items : List Item) (at : ℕ → ℤ) (place : ℕ) (point : Point) → IsAtPlace at items place point → IsAtEnd items place point → (axis : ℕ)
     → StandsAt point axis (left_at items at axis)
 stands_at_end items at zero point there (long, end) axis = stands items long
   where

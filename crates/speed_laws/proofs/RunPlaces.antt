@@ -69,7 +69,7 @@ module _ (job : JobView) (doings : Doings) (sound : IsSound (start_of job)) wher
   abbrev first : Stage
   first = first_stage (start_of job)
 
-  run_zones : (cs : List ℕ) (s : Stage) → Zones s.board → Zones (stage_after doings.script s cs).board
+  pub run_zones : (cs : List ℕ) (s : Stage) → Zones s.board → Zones (stage_after doings.script s cs).board
   run_zones [] s zs = zs
   run_zones (d ∷ cs) s zs = run_zones cs (after_turn doings.script s d) (zones_step s.board d (doings.script d (s.grants d)) zs)
 
@@ -81,36 +81,47 @@ module _ (job : JobView) (doings : Doings) (sound : IsSound (start_of job)) wher
       ap length (sym (own_names (first_board (start_of job)) (moves_by doings.script (start_of job) cs) c (run_is_replay doings.script first cs run).running (zones_first (start_of job) sound)))
       ∙ length-map (filter (λ o. o.channel == c) (occurrences_from (first_board (start_of job)) 0 (moves_by doings.script (start_of job) cs))) own_name
 
-  spans_grow : (cs : List ℕ) (p c : ℕ) → IsRunOf doings.script (start_of job) cs → is_running ((stage_after doings.script first cs).board.state p) ≡ true
+  -- one more step adds the events of the channel in it
+  pub spans_add : (cs : List ℕ) (p c : ℕ) → IsRunOf doings.script (start_of job) cs → is_running ((stage_after doings.script first cs).board.state p) ≡ true
+      → length (events_of (first_board (start_of job)) (moves_by doings.script (start_of job) (cs ++ p ∷ [])) c)
+      ≡ length (events_of (first_board (start_of job)) (moves_by doings.script (start_of job) cs) c)
+      + length (filter (λ o. o.channel == c) (occurrences_in (length (moves_by doings.script (start_of job) cs)) (doings.script p ((stage_after doings.script first cs).grants p))
+      (happening_of (stage_after doings.script first cs).board p (doings.script p ((stage_after doings.script first cs).grants p)))))
+  spans_add cs p c run on =
+      let stage = stage_after doings.script first cs in
+      let step = doings.script p (stage.grants p) in
+      let ms = moves_by doings.script (start_of job) cs in
+      let here : ℕ → List Occurrence = λ n. occurrences_in n step (happening_of stage.board p step) in
+      let old = span_counts cs c run in
+      let new = span_counts (cs ++ p ∷ []) c (run_more doings.script first cs p run on) in
+      let end : after_moves (first_board (start_of job)) ms ≡ stage.board = (run_is_replay doings.script first cs run).board in
+      let place : 0 + length ms ≡ length ms = omega arith in
+      let parts : occurrences_from (first_board (start_of job)) 0 (moves_by doings.script (start_of job) (cs ++ p ∷ [])) ≡ occurrences_from (first_board (start_of job)) 0 ms ++ here (length ms) =
+      ap (occurrences_from (first_board (start_of job)) 0) (moves_joined doings.script first cs (p ∷ []))
+      ∙ events_joined ms (record { channel = p; step = step } ∷ []) (first_board (start_of job)) 0
+      ∙ ap (λ b. occurrences_from (first_board (start_of job)) 0 ms ++ (occurrences_in (0 + length ms) step (happening_of b p step) ++ [])) end
+      ∙ ap (λ (os : List Occurrence). occurrences_from (first_board (start_of job)) 0 ms ++ os) (append-nil (here (0 + length ms)) ∙ ap here place) in
+      let count : length (filter (λ o. o.channel == c) (occurrences_from (first_board (start_of job)) 0 (moves_by doings.script (start_of job) (cs ++ p ∷ []))))
+      ≡ length (filter (λ o. o.channel == c) (occurrences_from (first_board (start_of job)) 0 ms)) + length (filter (λ o. o.channel == c) (here (length ms))) =
+      ap (λ (os : List Occurrence). length (filter (λ o. o.channel == c) os)) parts
+      ∙ ap length (filter-append (λ o. o.channel == c) (occurrences_from (first_board (start_of job)) 0 ms) (here (length ms)))
+      ∙ length-append (filter (λ o. o.channel == c) (occurrences_from (first_board (start_of job)) 0 ms)) (filter (λ o. o.channel == c) (here (length ms))) in
+      omega (arith, old, new, count)
+
+  pub spans_grow : (cs : List ℕ) (p c : ℕ) → IsRunOf doings.script (start_of job) cs → is_running ((stage_after doings.script first cs).board.state p) ≡ true
       → (length (events_of (first_board (start_of job)) (moves_by doings.script (start_of job) cs) c) < length (events_of (first_board (start_of job)) (moves_by doings.script (start_of job) (cs ++ p ∷ [])) c))
       ⊎ ((length (events_of (first_board (start_of job)) (moves_by doings.script (start_of job) (cs ++ p ∷ [])) c) ≡ length (events_of (first_board (start_of job)) (moves_by doings.script (start_of job) cs) c))
       × ((stage_after doings.script first (cs ++ p ∷ [])).board.state c ≡ (stage_after doings.script first cs).board.state c)
       × ((stage_after doings.script first (cs ++ p ∷ [])).grants c ≡ (stage_after doings.script first cs).grants c))
   spans_grow cs p c run on =
       let stage = stage_after doings.script first cs in
-      let step = doings.script p (stage.grants p) in
-      let ms = moves_by doings.script (start_of job) cs in
-      let n = 0 + length ms in
-      let here = occurrences_in n step (happening_of stage.board p step) in
-      let old = span_counts cs c run in
-      let new = span_counts (cs ++ p ∷ []) c (run_more doings.script first cs p run on) in
-      let end : after_moves (first_board (start_of job)) ms ≡ stage.board = (run_is_replay doings.script first cs run).board in
-      let parts : occurrences_from (first_board (start_of job)) 0 (moves_by doings.script (start_of job) (cs ++ p ∷ [])) ≡ occurrences_from (first_board (start_of job)) 0 ms ++ here =
-      ap (occurrences_from (first_board (start_of job)) 0) (moves_joined doings.script first cs (p ∷ []))
-      ∙ events_joined ms (record { channel = p; step = step } ∷ []) (first_board (start_of job)) 0
-      ∙ ap (λ b. occurrences_from (first_board (start_of job)) 0 ms ++ (occurrences_in n step (happening_of b p step) ++ [])) end
-      ∙ ap (λ (os : List Occurrence). occurrences_from (first_board (start_of job)) 0 ms ++ os) (append-nil here) in
-      let count : length (filter (λ o. o.channel == c) (occurrences_from (first_board (start_of job)) 0 (moves_by doings.script (start_of job) (cs ++ p ∷ []))))
-      ≡ length (filter (λ o. o.channel == c) (occurrences_from (first_board (start_of job)) 0 ms)) + length (filter (λ o. o.channel == c) here) =
-      ap (λ (os : List Occurrence). length (filter (λ o. o.channel == c) os)) parts
-      ∙ ap length (filter-append (λ o. o.channel == c) (occurrences_from (first_board (start_of job)) 0 ms) here)
-      ∙ length-append (filter (λ o. o.channel == c) (occurrences_from (first_board (start_of job)) 0 ms)) (filter (λ o. o.channel == c) here) in
+      let added = spans_add cs p c run on in
       let joined = stage_joined doings.script first cs (p ∷ []) in
-      elim (step_keeps doings stage p n c (run_zones cs first (zones_first (start_of job) sound)) on) [
-        | inl some ↦ inl (omega (arith, some, old, new, count))
+      elim (step_keeps doings stage p (length (moves_by doings.script (start_of job) cs)) c (run_zones cs first (zones_first (start_of job) sound)) on) [
+        | inl some ↦ inl (omega (arith, some, added))
         | inr none ↦
             let zero_more = none.0 in
-            inr (omega (arith, zero_more, old, new, count), ap (λ (s : Stage). s.board.state c) joined ∙ none.1, ap (λ (s : Stage). s.grants c) joined ∙ none.2)
+            inr (omega (arith, zero_more, added), ap (λ (s : Stage). s.board.state c) joined ∙ none.1, ap (λ (s : Stage). s.grants c) joined ∙ none.2)
       ]
 
   -- ---- states
@@ -127,12 +138,12 @@ module _ (job : JobView) (doings : Doings) (sound : IsSound (start_of job)) wher
   abbrev after_act : State → ℕ → State
   after_act state p = record { run = state.run ++ p ∷ []; spots = state.spots }
 
-  begins_same : (state : State) (p c : ℕ) → is_running ((stage_after doings.script first (state.run ++ p ∷ [])).board.state c) ≡ is_running ((stage_after doings.script first state.run).board.state c)
+  pub begins_same : (state : State) (p c : ℕ) → is_running ((stage_after doings.script first (state.run ++ p ∷ [])).board.state c) ≡ is_running ((stage_after doings.script first state.run).board.state c)
       → (stage_after doings.script first (state.run ++ p ∷ [])).grants c ≡ (stage_after doings.script first state.run).grants c → begins_at job doings (after_act state p) c ≡ begins_at job doings state c
   unfolding begins_at runs
   begins_same state p c doing grants = ap₂ (λ (t : Bool) (gs : List Grant). cond t (stands_before job doings c gs) (stands_after job doings c gs)) doing grants
 
-  items_same : (state : State) (p c : ℕ) → (stage_after doings.script first (state.run ++ p ∷ [])).grants c ≡ (stage_after doings.script first state.run).grants c → items_now job doings (after_act state p) c ≡ items_now job doings state c
+  pub items_same : (state : State) (p c : ℕ) → (stage_after doings.script first (state.run ++ p ∷ [])).grants c ≡ (stage_after doings.script first state.run).grants c → items_now job doings (after_act state p) c ≡ items_now job doings state c
   unfolding items_now
   items_same state p c grants = ap (doings.items c) grants
 

@@ -123,13 +123,13 @@ module _ (job : JobView) (doings : Doings) where
             let gets : added c ≡ [] = rw (off, same) (nothing (stage.board.state c)) in
             rw (gets, append-nil (stage.grants c), off', e, same) refl
 
-    step_stands : (c : ℕ) → Stands c
+    pub step_stands : (c : ℕ) → Stands c
     step_stands c = elim (cases_Bool (p == c)) [
       | inl same ↦ subst (λ d. Stands d) (eqb-true p c same) actor
       | inr off ↦ other c (ne_eqb c p (λ e. no_truth (p == c) (eq-eqb p c (sym e)) off)) off
     ]
 
-    grants_next : (c : ℕ) → (after_turn doings.script stage p).grants c ≡ stage.grants c ++ added c
+    pub grants_next : (c : ℕ) → (after_turn doings.script stage p).grants c ≡ stage.grants c ++ added c
     grants_next c = by_test (gets_a_grant stage.board p c)
       where
         by_test : (t : Bool) → cond t (stage.grants c ++ as_list (grant_in (state_next c))) (stage.grants c) ≡ stage.grants c ++ cond t (as_list (grant_in (state_next c))) []
@@ -171,7 +171,7 @@ module _ (job : JobView) (doings : Doings) where
         subst (λ s. AllTell s ys) (stage_joined doings.script (first_stage (start_of job)) xs (y ∷ [])) rest,
       )
 
-  nothing_done : (c : ℕ) → doings.items c [] ≡ [] → left_at (doings.items c []) (start_position job) ≡ start_position job
+  pub nothing_done : (c : ℕ) → doings.items c [] ≡ [] → left_at (doings.items c []) (start_position job) ≡ start_position job
   nothing_done c none = ap (λ (items : List Item). left_at items (start_position job)) none ∙ fun_ext λ axis. left_at-nil (start_position job) axis
 
   stand_first : IsSoundJob job → TellWhereAxesStand job doings → (c : ℕ) → stands_at c (is_running ((first_stage (start_of job)).board.state c)) ((first_stage (start_of job)).grants c) ≡ start_position job

@@ -81,7 +81,7 @@ module _ (b : Board) (p : ℕ) (step : Step) (zs : Zones b) (running : is_runnin
   taken = all_taken 8 (after_goes part) (zones_goes part (zones_part b p step zs))
 
   -- who is started was idle
-  started_was : (c : ℕ) → among starts c ≡ true → (is_idle (b.state c) ≡ true) × (alarm_of b p step.action ≡ None)
+  pub started_was : (c : ℕ) → among starts c ≡ true → (is_idle (b.state c) ≡ true) × (alarm_of b p step.action ≡ None)
   started_was c on = by_alarm (alarm_of b p step.action) refl on
     where
       by_alarm : (a : Option ℕ) → alarm_of b p step.action ≡ a → among (channels_started a step.action) c ≡ true → (is_idle (b.state c) ≡ true) × (alarm_of b p step.action ≡ None)

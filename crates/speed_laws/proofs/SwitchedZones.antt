@@ -39,14 +39,14 @@ first_there : (xs : List ℕ) (x : ℕ) → first_of xs ≡ Some x → among xs 
 first_there [] x is = absurd cc
 first_there (y ∷ xs) x is = let same : y ≡ x = cc in rw (eq-eqb y x same) refl
 
-first_has : (row : List Bool) (x : ℕ) → first_of (members_of row) ≡ Some x → has row x ≡ true
+pub first_has : (row : List Bool) (x : ℕ) → first_of (members_of row) ≡ Some x → has row x ≡ true
 first_has row x is = sym (list_any-members_of row x) ∙ first_there (members_of row) x is
 
 flag_at : (flag : ℕ → Bool) (z : ℕ) → 1 ≤ z → z ≤ 32 → has (false ∷ map flag zone_numbers) z ≡ flag z
 flag_at flag zero low high = absurd (omega arith)
 flag_at flag (suc n) low high = let next : 1 + n ≡ suc n = omega arith in get_or-map-range_with_len flag 1 32 n (suc n) false (omega arith) next
 
-owned_this : (o : Option ℕ) (c : ℕ) → o ≡ Some c → is_this o c ≡ true
+pub owned_this : (o : Option ℕ) (c : ℕ) → o ≡ Some c → is_this o c ≡ true
 owned_this o c is = rw is (eq-eqb c c refl)
 
 module _ (b : Board) (p : ℕ) (step : Step) (zs : Zones b) (running : is_running (b.state p) ≡ true) (z : ℕ) where

@@ -1,5 +1,5 @@
 -- Meaning. What channels do by what they own, in every run.
-use Rattle.std.specs.Prelude.{◌≡◌, ℕ, Bool, true, List, [], All, Some, unwrap_or}
+use Rattle.std.specs.Prelude.{◌≡◌, ℕ, Bool, true, List, [], All, Some, is_some, unwrap_or}
 use Rattle.axis_sets.specs.Positions.{position_of}
 use Rattle.axis_sets.specs.Sets.{has}
 use Rattle.channel_machine.specs.StartStates.{start_of}
@@ -9,7 +9,8 @@ use Rattle.path_geometry.specs.Motions.{axes_of}
 use Rattle.schedule_laws.specs.Schedules.{IsRunOf}
 use Rattle.speed_laws.specs.Doings.{Doings, on_after, stands_before, stands_after}
 use Rattle.speed_laws.specs.JoinedItems.{AllJoin}
-use Rattle.sync_types.specs.Boards.{is_running, owner_of}
+use Rattle.sync_types.specs.BoardActions.{axes_to_free}
+use Rattle.sync_types.specs.Boards.{among, is_running, owner_of}
 use Rattle.sync_types.specs.Items.{movement_of}
 use Rattle.sync_types.specs.Runs.{Stage, first_stage, stage_after}
 use Rattle.sync_types.specs.declared.Grant.{Grant}
@@ -33,6 +34,11 @@ pub record TellWhereAxesStand (job : JobView) (doings : Doings) : Type 0 where
 pub record MovesItsAxes (job : JobView) (doings : Doings) (stage : Stage) (c : ℕ) : Type 0 where
   pub joined : AllJoin (stands_before job doings c (stage.grants c)) (doings.items c (stage.grants c))
   pub owned : All (λ item. All (λ e. owner_of (stage.board.axis e.0) ≡ Some c) (axes_of (movement_of item))) (doings.items c (stage.grants c))
+
+-- the step of a channel tells where each axis of its own stands that it lets go
+abbrev pub TellsWhatItLetsGo : Doings → Stage → ℕ → Type 0
+TellsWhatItLetsGo doings stage c = (axis : ℕ) → owner_of (stage.board.axis axis) ≡ Some c → among (axes_to_free (doings.script c (stage.grants c)).action) axis ≡ true
+    → is_some (position_of (doings.script c (stage.grants c)).at axis) ≡ true
 
 -- the step of a channel has those zones on that its items left on, of the zones that it holds
 abbrev pub TellsWhichZonesAreOn : JobView → Doings → Stage → ℕ → ZoneLine → Type 0
