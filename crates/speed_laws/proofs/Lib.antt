@@ -31,3 +31,6 @@ pub mod Standing
 pub mod RunPlaces
 pub mod SwitchedZones
 pub mod ReachActs
+pub mod HandedAxes
+pub mod StepSpots
+pub mod NoAxisJumps

@@ -1,5 +1,5 @@
 -- Each channel that runs can go on to where it acts, and its motions join.
-use Rattle.std.proofs.Common.{◌≡◌, ℕ, zero, suc, ℤ, ◌-◌, ◌≤◌, Bool, true, false, cond, ◌==◌, List, [], ◌∷◌, length, Option, None, Some, IfSome, IsTrue, slice_get, refl, sym, subst, arith}
+use Rattle.std.proofs.Common.{◌≡◌, ℕ, zero, suc, ◌-◌, ◌≤◌, Bool, true, false, cond, ◌==◌, List, [], ◌∷◌, length, Option, None, Some, IfSome, slice_get, refl, sym, subst, arith}
 use Rattle.std.proofs.lemmas.Bool.{eqb-true, eq-eqb}
 use Rattle.std.specs.Option.{option_map_or}
 use Rattle.channel_machine.specs.StartStates.{start_of}
@@ -14,10 +14,9 @@ use Rattle.speed_laws.specs.Doings.{Doings, stands_before}
 use Rattle.speed_laws.specs.JoinedItems.{AllJoin}
 use Rattle.speed_laws.specs.Places.{IsEndOf, IsAtPlace, IsAtEnd}
 use Rattle.speed_laws.specs.RunSafety.{CanAct, MotionsJoin}
-use Rattle.speed_laws.specs.RunStates.{span_number, runs, items_now, begins_at, place_zero, spot_now, stage_in, after_small_step, after_small_steps, IsLawfulStep, AreLawfulSteps}
+use Rattle.speed_laws.specs.RunStates.{span_number, runs, items_now, begins_at, place_zero, spot_now, after_small_step, after_small_steps, IsLawfulStep, AreLawfulSteps}
 use Rattle.speed_laws.specs.SmallSteps.{Spot, State, SmallStep, Advance, Act, opening}
 use Rattle.sync_types.specs.Starts.{IsSound}
-use Rattle.sync_types.specs.declared.Grant.{Grant}
 use Rattle.sync_types.specs.declared.Item.{Item}
 
 -- each motion begins where those before it left the axes

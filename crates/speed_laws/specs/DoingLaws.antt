@@ -1,7 +1,8 @@
 -- Meaning. What channels do by what they own, in every run.
-use Rattle.std.specs.Prelude.{◌≡◌, ℕ, Bool, true, List, [], All, Some, is_some, unwrap_or}
+use Rattle.std.specs.Prelude.{◌≡◌, ◌<◌, ℕ, true, List, [], All, Some, is_some, unwrap_or}
 use Rattle.axis_sets.specs.Positions.{position_of}
 use Rattle.axis_sets.specs.Sets.{has}
+use Rattle.axis_sets.specs.declared.limits.TheConstants.{AXIS_LIMIT}
 use Rattle.channel_machine.specs.StartStates.{start_of}
 use Rattle.job_types.specs.Job.{JobView}
 use Rattle.job_types.specs.declared.job.ZoneLine.{ZoneLine}
@@ -14,7 +15,6 @@ use Rattle.sync_types.specs.Boards.{among, is_running, owner_of}
 use Rattle.sync_types.specs.Items.{movement_of}
 use Rattle.sync_types.specs.Runs.{Stage, first_stage, stage_after}
 use Rattle.sync_types.specs.declared.Grant.{Grant}
-use Rattle.sync_types.specs.declared.Item.{Item}
 
 -- how far the run of these channels is: the board, and the grants that each channel has got
 abbrev pub stage_by : JobView → Doings → List ℕ → Stage
@@ -37,7 +37,7 @@ pub record MovesItsAxes (job : JobView) (doings : Doings) (stage : Stage) (c : �
 
 -- the step of a channel tells where each axis of its own stands that it lets go
 abbrev pub TellsWhatItLetsGo : Doings → Stage → ℕ → Type 0
-TellsWhatItLetsGo doings stage c = (axis : ℕ) → owner_of (stage.board.axis axis) ≡ Some c → among (axes_to_free (doings.script c (stage.grants c)).action) axis ≡ true
+TellsWhatItLetsGo doings stage c = (axis : ℕ) → axis < AXIS_LIMIT → owner_of (stage.board.axis axis) ≡ Some c → among (axes_to_free (doings.script c (stage.grants c)).action) axis ≡ true
     → is_some (position_of (doings.script c (stage.grants c)).at axis) ≡ true
 
 -- the step of a channel has those zones on that its items left on, of the zones that it holds
