@@ -34,3 +34,4 @@ pub mod ReachActs
 pub mod HandedAxes
 pub mod StepSpots
 pub mod NoAxisJumps
+pub mod NoZoneSwitches
