@@ -30,3 +30,6 @@ pub mod PresentStretches
 pub mod Standing
 pub mod RunPlaces
 pub mod SwitchedZones
+pub mod StretchBoxes
+pub mod PresentBoxes
+pub mod AllSpeeds

@@ -47,7 +47,7 @@ free_alike (FreeAt p) (FreeAt q) same free = refl
 free_alike (FreeAt p) (OwnedBy c) same free = absurd cc
 free_alike (OwnedBy c) b same free = absurd cc
 
-part_start : (b : Board) (p : ℕ) (step : Step) → (after_own_part b p step).start ≡ b.start
+pub part_start : (b : Board) (p : ℕ) (step : Step) → (after_own_part b p step).start ≡ b.start
 part_start b p step = by_alarm (alarm_of b p step.action)
   where
     by_alarm : (a : Option ℕ) → (after_part b p step a).start ≡ b.start

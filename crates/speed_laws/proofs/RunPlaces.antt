@@ -69,7 +69,7 @@ module _ (job : JobView) (doings : Doings) (sound : IsSound (start_of job)) wher
   abbrev first : Stage
   first = first_stage (start_of job)
 
-  run_zones : (cs : List ℕ) (s : Stage) → Zones s.board → Zones (stage_after doings.script s cs).board
+  pub run_zones : (cs : List ℕ) (s : Stage) → Zones s.board → Zones (stage_after doings.script s cs).board
   run_zones [] s zs = zs
   run_zones (d ∷ cs) s zs = run_zones cs (after_turn doings.script s d) (zones_step s.board d (doings.script d (s.grants d)) zs)
 
