@@ -15,6 +15,7 @@ use Rattle.protection_zones.specs.SoundStretches.{IsZoneOf}
 use Rattle.protection_zones.specs.Stretches.{StretchView, all_stretches, stretches_of_zone}
 use Rattle.schedule_laws.specs.Schedules.{IsQuietRun, moves_by}
 use Rattle.speed_laws.proofs.ComparedPairs.{HasBox, HoldsPlace, IsCurrent, IsCut, IsInPiece, is_in_order, some_pair_meets, zone_by_number}
+use Rattle.speed_laws.proofs.FreeZones.{zone_stands}
 use Rattle.speed_laws.proofs.PastEvents.{is_past, made_counts, past_is_cut}
 use Rattle.speed_laws.proofs.PresentBoxes.{IsSeen, seen_in_box}
 use Rattle.speed_laws.proofs.RunPlaces.{WellSpotted, opening_spotted, well_spotted}
@@ -40,11 +41,7 @@ holds_of P x (y ∷ ys) all (inr later) = holds_of P x ys (All-tail P y ys all) 
 
 module _ (job : JobView) (doings : Doings) (sound : IsSoundJob job) (are : AreSound job doings) (qs : List ℕ) (quiet : IsQuietRun doings.script (start_of job) qs)
     (run : RunView) (moves : moves_in run.entries ≡ moves_by doings.script (start_of job) qs) (items : run.items ≡ items_by doings (first_stage (start_of job)) qs)
-    (before : Order) (order : IsOrderOf (first_board (start_of job)) (moves_in run.entries) before)
-    (zone_seen : (state : State) (well : WellSpotted job doings quiet.sound state) (zone : ZoneLine) (z : IsSoundZone job zone) (there : IsZoneOf (start_of job) zone) (found : find (λ o. o.zone == zone.zone) job.zones ≡ Some zone)
-    → SomeOf (λ stretch. IsCurrent (IsLowestName (first_board (start_of job)) (moves_by doings.script (start_of job) qs)) (is_past (first_board (start_of job)) (moves_by doings.script (start_of job) qs) (made_counts doings.script (start_of job) qs state.run quiet well.run)) stretch
-    × IsSeen job doings sound are qs quiet state well zone z there found stretch)
-    (stretches_of_zone job (items_by doings (first_stage (start_of job)) qs) (occurrences_of (first_board (start_of job)) (moves_by doings.script (start_of job) qs)) zone)) where
+    (before : Order) (order : IsOrderOf (first_board (start_of job)) (moves_in run.entries) before) where
   abbrev stretches : ZoneLine → List StretchView
   stretches = stretches_of_zone job (items_by doings (first_stage (start_of job)) qs) (occurrences_of (first_board (start_of job)) (moves_by doings.script (start_of job) qs))
 
@@ -76,7 +73,7 @@ module _ (job : JobView) (doings : Doings) (sound : IsSoundJob job) (are : AreSo
         SomeOf-weaker (λ stretch. IsCurrent Named past stretch × IsSeen job doings sound are qs quiet state well zone z there found stretch)
         (λ stretch. IsCurrent Named past stretch × SomeOf (λ box. HoldsPlace places stretch box × IsInPiece job run point zone stretch box) stretch.boxes)
         (λ stretch both. (both.0, seen_in_box job doings sound are qs quiet state well zone z there found run items on point in_zone stretch both.1))
-        (stretches zone) (zone_seen state well zone z there found)
+        (stretches zone) (zone_stands job doings qs state.run quiet well.run zone sound there found)
       where
         zone_there : (zone : ZoneLine) → IsSoundZone job zone → Contains job.zones zone → IsZoneOf (start_of job) zone
         zone_there zone z in_job =

@@ -39,7 +39,7 @@ unfolding rest
 owns_is job sound c axis = ap (λ (o : Option ℕ). is_this o c) (owner_told (start.first_owner (start_of job) axis) (start.first_position (start_of job) axis) ∙ owner_is job sound axis)
 
 -- where an axis stands at the start
-position_is : (job : JobView) → IsSoundJob job → (axis : ℕ) → start.first_position (start_of job) axis ≡ start_position job axis
+pub position_is : (job : JobView) → IsSoundJob job → (axis : ℕ) → start.first_position (start_of job) axis ≡ start_position job axis
 unfolding start_of start_position
 position_is job sound axis =
     ap (λ (o : Option (ℕ × Option ℕ × ℤ)). option_map_or (λ line. line.2) o (pos 0)) (axis_found job sound axis) ∙ by_line (slice_get job.axes axis)

@@ -31,5 +31,6 @@ pub mod Standing
 pub mod RunPlaces
 pub mod SwitchedZones
 pub mod StretchBoxes
+pub mod FreeZones
 pub mod PresentBoxes
 pub mod AllSpeeds

@@ -28,6 +28,7 @@ use Rattle.schedule_laws.specs.Schedules.{IsQuietRun, IsRunOf, moves_by}
 use Rattle.speed_laws.proofs.BoxPieces.{AxesWithin}
 use Rattle.speed_laws.proofs.ComparedPairs.{HasBox, HoldsPlace, IsCurrent, IsInPiece, is_in_order, some_pair_meets, zone_by_number}
 use Rattle.speed_laws.proofs.Covers.{Covers, box_covers, place_fraction}
+use Rattle.speed_laws.proofs.FreeZones.{BeginsAsBoard, StandsNow, zone_stands}
 use Rattle.speed_laws.proofs.PastEvents.{is_past, made_counts, past_is_cut}
 use Rattle.speed_laws.proofs.PresentSpans.{ItemsAre, PresentSpan}
 use Rattle.speed_laws.proofs.PresentTenures.{part_start}
@@ -147,15 +148,9 @@ module _ (job : JobView) (doings : Doings) (sound : IsSoundJob job) (are : AreSo
 
   -- ---- its present stretch
 
-  -- it is the present span of the channel that holds the zone, or the time since nobody holds it, which begins as the board has the zone then
-  pub record StandsFree (t : Tenure) : Type 0 where
-    pub at : (axis : ℕ) → has_axis zone axis ≡ true → t.begins.at axis ≡ free_position ((stage_after doings.script (first_stage (start_of job)) state.run).board.axis axis)
-    pub on : t.begins.on zone.zone ≡ (stage_after doings.script (first_stage (start_of job)) state.run).board.is_on zone.zone
-
+  -- a stretch of the zone that is so
   abbrev pub IsSeen : StretchView → Type 0
-  IsSeen stretch =
-      ((c : ℕ) × ((stage_after doings.script (first_stage (start_of job)) state.run).board.holder zone.zone ≡ Some c) × (span : PresentSpan job doings qs state.run quiet well.run c) × (stretch ≡ stretch_of_span job zone c span.span))
-      ⊎ (((stage_after doings.script (first_stage (start_of job)) state.run).board.holder zone.zone ≡ None) × (t : Tenure) × StandsFree t × (stretch ≡ free_stretch job zone t))
+  IsSeen = StandsNow job doings qs state.run quiet well.run zone sound there found
 
   abbrev rows : List (List Item)
   rows = items_by doings (first_stage (start_of job)) qs
@@ -167,7 +162,7 @@ module _ (job : JobView) (doings : Doings) (sound : IsSoundJob job) (are : AreSo
     abbrev InBox : StretchView → Type 0
     InBox stretch = SomeOf (λ box. HoldsPlace places stretch box × IsInPiece job run point zone stretch box) stretch.boxes
 
-    free_in_box : board.holder zone.zone ≡ None → (t : Tenure) → StandsFree t → InBox (free_stretch job zone t)
+    free_in_box : board.holder zone.zone ≡ None → (t : Tenure) → BeginsAsBoard zone board t → InBox (free_stretch job zone t)
     free_in_box free t stands =
         let here : Point = record { top = t.begins.at; under = 1 } in
         in_stretch job run (position_now job doings state) zone z.directions None t.begins t.last (entry_of_beginning t.begins) [] places 0 here tt
