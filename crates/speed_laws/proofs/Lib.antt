@@ -35,3 +35,7 @@ pub mod HandedAxes
 pub mod StepSpots
 pub mod NoAxisJumps
 pub mod NoZoneSwitches
+pub mod StretchBoxes
+pub mod FreeZones
+pub mod PresentBoxes
+pub mod AllSpeeds

@@ -217,6 +217,12 @@ module _ (job : JobView) (doings : Doings) (qs rs : List ℕ) (quiet : IsQuietRu
       ∙ ap₂ (λ (t : Bool) (gs : List Grant). history doings c t (is_running ((first_board start).state c)) ((first_stage start).grants c) gs) stops (append-nil told.more ∙ more)
       ∙ (made.goes_on rest.more false ahead).0
 
+  -- so they begin as the events that the run has made
+  pub spoken_first : (c : ℕ) → among channel_numbers c ≡ true → (later : List Telling)
+      × (map (telling_of (items_by doings (first_stage (start_of job)) qs)) (filter (λ o. o.channel == c) (occurrences_from (first_board (start_of job)) 0 (moves_by doings.script (start_of job) qs)))
+      ≡ map (telling_of (items_by doings (first_stage (start_of job)) rs)) (filter (λ o. o.channel == c) (occurrences_from (first_board (start_of job)) 0 (moves_by doings.script (start_of job) rs))) ++ later)
+  spoken_first c known = (history doings c false (is_running (stage.board.state c)) (stage.grants c) (rest_told c).more, spoken_tellings c known)
+
   -- what comes first in the history from there on
   abbrev IsNext : ℕ → Bool → List Telling → Type 0
   IsNext c true [] = ⊥

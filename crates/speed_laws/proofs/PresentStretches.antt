@@ -16,7 +16,7 @@ use Rattle.schedule_laws.specs.Schedules.{IsQuietRun, IsRunOf, moves_by}
 use Rattle.speed_laws.proofs.ComparedPairs.{IsCurrent}
 use Rattle.speed_laws.proofs.PastEvents.{first_are_past, is_past, kept_holds, made_counts, others_are_not}
 use Rattle.speed_laws.proofs.PresentSpans.{PresentSpan, present_span}
-use Rattle.speed_laws.proofs.PresentTenures.{BegunBy, EndedBy, IsPresent, holder_known, present_tenure}
+use Rattle.speed_laws.proofs.PresentTenures.{BeginsWithLast, BegunBy, EndedBy, IsPresent, holder_known, present_tenure}
 use Rattle.speed_laws.proofs.StartZones.{zones_start}
 use Rattle.speed_laws.specs.Cuts.{ZonesHavePresentStretches, is_made}
 use Rattle.speed_laws.specs.Doings.{Doings}
@@ -79,7 +79,8 @@ module _ (job : JobView) (doings : Doings) (qs rs : List ℕ) (quiet : IsQuietRu
       ((c : ℕ) × ((stage_after doings.script (first_stage (start_of job)) rs).board.holder zone.zone ≡ Some c) × (span : PresentSpan job doings qs rs quiet run c) × (stretch ≡ stretch_of_span job zone c span.span))
       ⊎ (((stage_after doings.script (first_stage (start_of job)) rs).board.holder zone.zone ≡ None)
       × (t : Tenure) × IsPresent (occurrences_of (first_board (start_of job)) (moves_by doings.script (start_of job) qs)) (first_tenure job zone) (made_counts doings.script (start_of job) qs rs quiet run) None t
-      × (stretch ≡ free_stretch job zone t))
+      × (stretch ≡ free_stretch job zone t)
+      × BeginsWithLast (occurrences_of (first_board (start_of job)) (moves_by doings.script (start_of job) qs)) (occurrences_of (first_board (start_of job)) (moves_by doings.script (start_of job) rs)) zone (first_tenure job zone).begins t)
 
   abbrev Wanted : StretchView → Type 0
   Wanted stretch = IsCurrent Named past stretch × IsNow stretch
@@ -89,6 +90,9 @@ module _ (job : JobView) (doings : Doings) (qs rs : List ℕ) (quiet : IsQuietRu
 
   abbrev Present : Tenure → Type 0
   Present = IsPresent events (first_tenure job zone) counts holder
+
+  abbrev BeginsLast : Tenure → Type 0
+  BeginsLast = BeginsWithLast events (occurrences_of (first_board (start_of job)) (moves_by doings.script (start_of job) rs)) zone (first_tenure job zone).begins
 
   held_now : (c : ℕ) → holder ≡ Some c → (t : Tenure) → Present t → SomeOf Wanted (stretches_in_tenure job zone spans t)
   held_now c is t present =
@@ -104,10 +108,10 @@ module _ (job : JobView) (doings : Doings) (qs rs : List ℕ) (quiet : IsQuietRu
   named : (c k : ℕ) (o : Occurrence) → slice_get (filter (λ p. p.channel == c) events) k ≡ Some o → Named o.name
   named c k o is = kept_holds (λ p. Named p.name) (λ p. p.channel == c) events k o (occurrences_named (first_board (start_of job)) (moves_by doings.script (start_of job) qs)) is
 
-  free_now : holder ≡ None → (t : Tenure) → Present t → SomeOf Wanted (stretches_in_tenure job zone spans t)
-  free_now is t present =
+  free_now : holder ≡ None → (t : Tenure) → Present t → BeginsLast t → SomeOf Wanted (stretches_in_tenure job zone spans t)
+  free_now is t present begins =
       subst (λ (o : Option ℕ). SomeOf Wanted (stretches_held_by job zone spans t o)) (sym (present.owner ∙ is))
-      (inl (record { begun = by_begin present.begins; not_over = by_end (present.ends is) }, inr (is, t, subst (λ (o : Option ℕ). IsPresent events (first_tenure job zone) counts o t) is present, refl)))
+      (inl (record { begun = by_begin present.begins; not_over = by_end (present.ends is) }, inr (is, t, subst (λ (o : Option ℕ). IsPresent events (first_tenure job zone) counts o t) is present, refl, begins)))
     where
       by_begin : (t.begins ≡ (first_tenure job zone).begins) ⊎ BegunBy events counts t → IfSome t.begins.first (λ e. Named e × (past e ≡ true))
       by_begin (inl same) = subst (λ b. IfSome b.first (λ e. Named e × (past e ≡ true))) (sym same) tt
@@ -129,11 +133,11 @@ module _ (job : JobView) (doings : Doings) (qs rs : List ℕ) (quiet : IsQuietRu
   unfolding stretches_of_zone
   zone_now =
       SomeOf-flat_map Wanted (stretches_in_tenure job zone spans) (tenures_of job events zone)
-      (SomeOf-weaker Present (λ t. SomeOf Wanted (stretches_in_tenure job zone spans t)) (by_holder holder refl) (tenures_of job events zone) (present_tenure job doings.script qs rs quiet run zone there))
+      (SomeOf-weaker (λ t. Present t × BeginsLast t) (λ t. SomeOf Wanted (stretches_in_tenure job zone spans t)) (by_holder holder refl) (tenures_of job events zone) (present_tenure job doings.script qs rs quiet run zone there))
     where
-      by_holder : (o : Option ℕ) → holder ≡ o → (t : Tenure) → Present t → SomeOf Wanted (stretches_in_tenure job zone spans t)
-      by_holder None is t present = free_now is t present
-      by_holder (Some c) is t present = held_now c is t present
+      by_holder : (o : Option ℕ) → holder ≡ o → (t : Tenure) → Present t × BeginsLast t → SomeOf Wanted (stretches_in_tenure job zone spans t)
+      by_holder None is t found = free_now is t found.0 found.1
+      by_holder (Some c) is t found = held_now c is t found.0
 
 -- ---- as a law
 

@@ -19,6 +19,7 @@ use Rattle.protection_zones.proofs.HandLaws.{HandsAre, IsFor, carry_from, carry_
 use Rattle.protection_zones.proofs.TenureLaws.{carry_none}
 use Rattle.protection_zones.specs.Occurrences.{Occurrence, act_of, going_on_of, occurrences_in, occurrences_from, occurrences_of}
 use Rattle.protection_zones.specs.SoundStretches.{IsZoneOf}
+use Rattle.protection_zones.specs.Spans.{Beginning}
 use Rattle.protection_zones.specs.Tenures.{Tenure, carry, changes_hands, first_tenure, tenures_from, tenures_of}
 use Rattle.schedule_laws.proofs.EventLaws.{events_told}
 use Rattle.schedule_laws.proofs.RunLaws.{speaks_of_states}
@@ -27,7 +28,7 @@ use Rattle.schedule_laws.specs.Tracked.{cell_at, tenures_at}
 use Rattle.speed_laws.proofs.Hands.{counts_after, counts_read, hands, hands_append, taker_in, tenures_read}
 use Rattle.speed_laws.proofs.JoinedRuns.{moves_joined}
 use Rattle.speed_laws.proofs.PastEvents.{made_counts}
-use Rattle.speed_laws.proofs.ZoneTenures.{At, BeginsBy, EndsBy, IsNewest, Match, TakesAll, UptoIs, each_read, lasts, newest}
+use Rattle.speed_laws.proofs.ZoneTenures.{At, BeginsBy, EndsBy, IsNewest, IsPlaceOf, KnownOwner, Match, TakesAll, UptoIs, each_read, last_hand, lasts, newest, newest_began}
 use Rattle.sync_types.proofs.BoardTests.{no_truth}
 use Rattle.sync_types.proofs.Replays.{run_is_replay}
 use Rattle.sync_types.specs.BoardActions.{after_own_part, after_part}
@@ -124,6 +125,12 @@ one_owner : (zone : ZoneLine) → carry zone (λ axis. true) ≡ false → (os :
 one_owner zone bare [] owner = refl
 one_owner zone bare (o ∷ os) owner = one_owner zone bare os (owner_next zone owner o) ∙ rw (no_change zone bare o) refl
 
+-- and no last event of its hands
+no_last : (zone : ZoneLine) → carry zone (λ axis. true) ≡ false → (os : List Occurrence) (last : Option Occurrence) → last_hand zone last os ≡ last
+no_last zone bare [] last = refl
+no_last zone bare (o ∷ os) last =
+    ap (λ (t : Bool). last_hand zone (cond t (Some o) last) os) (no_change zone bare o) ∙ no_last zone bare os last
+
 -- ---- the present tenure
 
 -- an event that the run has made, by its place, and one that it has not made
@@ -150,6 +157,13 @@ pub record IsPresent (all : List Occurrence) (first : Tenure) (counts : ℕ → 
   pub held : (c : ℕ) → holder ≡ Some c → (t.from ≤ counts c) × IfSome t.upto (λ u. counts c ≤ u)
   pub begins : (t.begins ≡ first.begins) ⊎ BegunBy all counts t
   pub ends : holder ≡ None → (t.last ≡ None) ⊎ EndedBy all counts t
+
+-- A tenure in the one run begins with the event at the place of the last one of the other run in which the zone changed hands, or as
+-- the job does where there is none.
+pub record BeginsWithLast (all made : List Occurrence) (zone : ZoneLine) (first : Beginning) (t : Tenure) : Type 0 where
+  pub place : Option Place
+  pub begins : BeginsBy all first place t.begins
+  pub last : IsPlaceOf made place (last_hand zone None made)
 
 -- what a tenure of the zone has where one of the axis lasts or ends later
 present_by : (all : List Occurrence) (first : Tenure) (counts : ℕ → ℕ) (holder : Option ℕ) (u v : machine.Tenure) (t : Tenure) → u.owner ≡ holder → IfSome u.owner (λ c. u.from ≤ counts c)
@@ -215,17 +229,27 @@ module _ (job : JobView) (script : Script) (qs rs : List ℕ) (quiet : IsQuietRu
   abbrev Present : Tenure → Type 0
   Present = IsPresent (occurrences_from board 0 speaking) (first_tenure job zone) counts holder
 
-  bare_present : carry zone (λ axis. true) ≡ false → SomeOf Present (tenures_from zone (λ c. 0) (first_tenure job zone) (occurrences_from board 0 speaking))
-  bare_present bare =
-      subst (SomeOf Present) (sym (one_tenure zone bare (occurrences_from board 0 speaking) (λ c. 0) (first_tenure job zone)))
-      (inl (record {
-        owner = sym there.holder ∙ sym (one_owner zone bare (occurrences_from board 0 made) (board.holder zone.zone)) ∙ owner_is;
-        held = λ c is. (omega arith, tt);
-        begins = inl refl;
-        ends = λ free. inl refl;
-      }))
+  abbrev Found : Tenure → Type 0
+  Found t = Present t × BeginsWithLast (occurrences_from board 0 speaking) (occurrences_from board 0 made) zone (first_tenure job zone).begins t
 
-  carried_present : (x : ℕ) → has_axis zone x ≡ true → SomeOf Present (tenures_from zone (λ c. 0) (first_tenure job zone) (occurrences_from board 0 speaking))
+  bare_present : carry zone (λ axis. true) ≡ false → SomeOf Found (tenures_from zone (λ c. 0) (first_tenure job zone) (occurrences_from board 0 speaking))
+  bare_present bare =
+      subst (SomeOf Found) (sym (one_tenure zone bare (occurrences_from board 0 speaking) (λ c. 0) (first_tenure job zone)))
+      (inl (
+        record {
+          owner = sym there.holder ∙ sym (one_owner zone bare (occurrences_from board 0 made) (board.holder zone.zone)) ∙ owner_is;
+          held = λ c is. (omega arith, tt);
+          begins = inl refl;
+          ends = λ free. inl refl;
+        },
+        record {
+          place = None;
+          begins = refl;
+          last = subst (λ (l : Option Occurrence). IsPlaceOf (occurrences_from board 0 made) None l) (sym (no_last zone bare (occurrences_from board 0 made) None)) tt;
+        },
+      ))
+
+  carried_present : (x : ℕ) → has_axis zone x ≡ true → SomeOf Found (tenures_from zone (λ c. 0) (first_tenure job zone) (occurrences_from board 0 speaking))
   unfolding occurrences_of cell_at
   carried_present x carries =
       let spoken = speaks_of_states script (start_of job) qs rs quiet run in
@@ -238,6 +262,8 @@ module _ (job : JobView) (script : Script) (qs rs : List ℕ) (quiet : IsQuietRu
       let begin : IsNewest zone x carries (λ d. 0) (board.holder zone.zone) (first ∷ []) =
       record { tenure = first; older = []; are = refl; owned = owned; lasting = refl; from = from_zero (owner_of (board.axis x)); first = tt } in
       let now = newest zone x carries (occurrences_from board 0 made) (λ d. 0) (board.holder zone.zone) (first ∷ []) begin (run_hands made board zone 0 zones for) (run_takes made board zone 0 x carries zones for made_runs) in
+      let began = newest_began zone x carries (occurrences_from board 0 made) (occurrences_from board 0 made) (λ d. 0) (board.holder zone.zone) first [] None tt first_known (run_hands made board zone 0 zones for)
+      (run_takes made board zone 0 x carries zones for made_runs) (places_from (occurrences_from board 0 made)) now.tenure now.older now.are in
       let later = occurrences_from (after_moves board made) (0 + length made) rest in
       let total : (d : ℕ) → counts_after (λ c. 0) (occurrences_from board 0 made) d ≡ counts d = λ d. counts_read board made d zones made_runs ∙ sym (events_told board made d (length made) (omega arith)).count in
       let last = lasts zone x carries later (counts_after (λ c. 0) (occurrences_from board 0 made)) counts now.tenure now.older now.lasting (λ d. let same = total d in omega (arith, same)) in
@@ -253,12 +279,25 @@ module _ (job : JobView) (script : Script) (qs rs : List ℕ) (quiet : IsQuietRu
       (record { owner = sym there.holder ∙ sym owned; from = refl; begins = refl; ends = (refl, refl) })
       (subst (λ (w : Option ℕ). HandsAre zone w (occurrences_from board 0 speaking)) there.holder (run_hands speaking board zone 0 zones for))
       (run_takes speaking board zone 0 x carries zones for speaking_runs)
-      (λ c k. let same : 0 + k ≡ k = omega arith in ap (λ (n : ℕ). slice_get (filter (λ p. p.channel == c) (occurrences_from board 0 speaking)) n) same)
+      (places_from (occurrences_from board 0 speaking))
       last.tenure in_speaking in
       by_read last.tenure read
-      (λ t m. present_by (occurrences_from board 0 speaking) (first_tenure job zone) counts holder now.tenure last.tenure t (now.owned ∙ owner_is)
-      (recounted now.tenure.owner now.tenure.from total now.from) (first_recounted now.tenure.first total now.first) last.owner last.from last.first last.later m)
+      (λ t m. (
+        present_by (occurrences_from board 0 speaking) (first_tenure job zone) counts holder now.tenure last.tenure t (now.owned ∙ owner_is)
+            (recounted now.tenure.owner now.tenure.from total now.from) (first_recounted now.tenure.first total now.first) last.owner last.from last.first last.later m,
+        record {
+          place = now.tenure.first;
+          begins = subst (λ (w : Option Place). BeginsBy (occurrences_from board 0 speaking) (first_tenure job zone).begins w t.begins) last.first m.begins;
+          last = began;
+        },
+      ))
     where
+      first_known : KnownOwner (board.holder zone.zone)
+      first_known c e = quiet.numbers c (quiet.sound.holders zone.zone c e)
+
+      places_from : (os : List Occurrence) (c k : ℕ) → slice_get (filter (λ p. p.channel == c) os) (0 + k) ≡ slice_get (filter (λ p. p.channel == c) os) k
+      places_from os c k = let same : 0 + k ≡ k = omega arith in ap (λ (n : ℕ). slice_get (filter (λ p. p.channel == c) os) n) same
+
       from_zero : (w : Option ℕ) → IfSome w (λ c. 0 ≤ 0)
       from_zero None = tt
       from_zero (Some c) = omega arith
@@ -273,13 +312,14 @@ module _ (job : JobView) (script : Script) (qs rs : List ℕ) (quiet : IsQuietRu
       first_recounted (Some e) total up = let same = total e.channel in (up.0, omega (arith, up.1, same))
 
       by_read : (v : machine.Tenure) → (IsIn v []) ⊎ SomeOf (Match (occurrences_from board 0 speaking) (first_tenure job zone).begins v) (tenures_from zone (λ c. 0) (first_tenure job zone) (occurrences_from board 0 speaking))
-          → ((t : Tenure) → Match (occurrences_from board 0 speaking) (first_tenure job zone).begins v t → Present t) → SomeOf Present (tenures_from zone (λ c. 0) (first_tenure job zone) (occurrences_from board 0 speaking))
+          → ((t : Tenure) → Match (occurrences_from board 0 speaking) (first_tenure job zone).begins v t → Found t) → SomeOf Found (tenures_from zone (λ c. 0) (first_tenure job zone) (occurrences_from board 0 speaking))
       by_read v (inl none) make = absurd none
-      by_read v (inr some) make = SomeOf-weaker (Match (occurrences_from board 0 speaking) (first_tenure job zone).begins v) Present make (tenures_from zone (λ c. 0) (first_tenure job zone) (occurrences_from board 0 speaking)) some
+      by_read v (inr some) make = SomeOf-weaker (Match (occurrences_from board 0 speaking) (first_tenure job zone).begins v) Found make (tenures_from zone (λ c. 0) (first_tenure job zone) (occurrences_from board 0 speaking)) some
 
-  -- some tenure of the zone in the run that speaks is the present one
-  pub present_tenure : SomeOf (IsPresent (occurrences_of (first_board (start_of job)) (moves_by script (start_of job) qs)) (first_tenure job zone) (made_counts script (start_of job) qs rs quiet run)
-      ((stage_after script (first_stage (start_of job)) rs).board.holder zone.zone)) (tenures_of job (occurrences_of (first_board (start_of job)) (moves_by script (start_of job) qs)) zone)
+  -- some tenure of the zone in the run that speaks is the present one, and begins with the last change of hands
+  pub present_tenure : SomeOf (λ t. IsPresent (occurrences_of (first_board (start_of job)) (moves_by script (start_of job) qs)) (first_tenure job zone) (made_counts script (start_of job) qs rs quiet run)
+      ((stage_after script (first_stage (start_of job)) rs).board.holder zone.zone) t
+      × BeginsWithLast (occurrences_of (first_board (start_of job)) (moves_by script (start_of job) qs)) (occurrences_of (first_board (start_of job)) (moves_by script (start_of job) rs)) zone (first_tenure job zone).begins t) (tenures_of job (occurrences_of (first_board (start_of job)) (moves_by script (start_of job) qs)) zone)
   unfolding occurrences_of tenures_of
   present_tenure = elim (cases_Bool (carry zone (λ axis. true))) [
     | inl some ↦ let w = carry_from zone (λ axis. true) some in carried_present w.0 w.1
@@ -288,11 +328,7 @@ module _ (job : JobView) (script : Script) (qs rs : List ℕ) (quiet : IsQuietRu
 
 -- ---- holders have numbers
 
-KnownOwner : Option ℕ → Type 0
-KnownOwner owner = (c : ℕ) → owner ≡ Some c → among channel_numbers c ≡ true
-
 owner_known : (zone : ZoneLine) (x : ℕ) (carries : has_axis zone x ≡ true) (os : List Occurrence) (owner : Option ℕ) → All (TakesAll zone x carries) os → KnownOwner owner → KnownOwner (owners_next zone owner os)
-unfolding KnownOwner
 owner_known zone x carries [] owner takes known = known
 owner_known zone x carries (o ∷ os) owner takes known =
     owner_known zone x carries os (owner_next zone owner o) (All-tail (TakesAll zone x carries) o os takes) (next (changes_hands zone o) (carry zone o.takes) refl)
@@ -304,7 +340,6 @@ owner_known zone x carries (o ∷ os) owner takes known =
 
 pub holder_known : (start : StartView) (script : Script) (cs : List ℕ) (zone : ZoneLine) → IsSound start → HasChannelNumbers start → IsRunOf script start cs → IsZoneOf start zone
     → (c : ℕ) → (stage_after script (first_stage start) cs).board.holder zone.zone ≡ Some c → among channel_numbers c ≡ true
-unfolding KnownOwner
 holder_known start script cs zone sound numbers run there c is =
     let zs = zones_first start sound in
     let replay = run_is_replay script (first_stage start) cs run in

@@ -37,6 +37,21 @@ abbrev pub EndsBy : List Occurrence → Option ℕ → Option Place → Tenure �
 EndsBy all owner None t = (t.upto ≡ None) × (t.last ≡ None)
 EndsBy all owner (Some e) t = (o : Occurrence) × At all e o × (t.last ≡ Some o.name) × UptoIs owner t.upto e
 
+-- the last event in which the zone changes hands, or the one before these
+abbrev pub last_hand : ZoneLine → Option Occurrence → List Occurrence → Option Occurrence
+last_hand zone last [] = last
+last_hand zone last (o ∷ os) = last_hand zone (cond (changes_hands zone o) (Some o) last) os
+
+-- the place of an event of a channel that there is, or none
+abbrev pub IsPlaceOf : List Occurrence → Option Place → Option Occurrence → Type 0
+IsPlaceOf all None None = Unit {0}
+IsPlaceOf all (Some e) (Some o) = At all e o × (among channel_numbers e.channel ≡ true)
+IsPlaceOf all None (Some o) = ⊥
+IsPlaceOf all (Some e) None = ⊥
+
+abbrev pub KnownOwner : Option ℕ → Type 0
+KnownOwner owner = (c : ℕ) → owner ≡ Some c → among channel_numbers c ≡ true
+
 pub record Match (all : List Occurrence) (first : Beginning) (u : machine.Tenure) (t : Tenure) : Type 0 where
   pub owner : t.owner ≡ u.owner
   pub from : t.from ≡ u.from
@@ -302,3 +317,44 @@ module _ (zone : ZoneLine) (x : ℕ) (carries : has_axis zone x ≡ true) where
   newest (o ∷ os) counts owner ts n are takes =
       newest os (counted counts o.channel) (owner_next zone owner o) (hand x counts o ts)
       (newest_next counts owner ts o n (change_of owner o os are (All-head TakesAll o os takes))) are.3 (All-tail TakesAll o os takes)
+
+  -- it began with the event in which the zone changed hands last
+  pub newest_began : (all os : List Occurrence) (counts : ℕ → ℕ) (owner : Option ℕ) (u : machine.Tenure) (older : List machine.Tenure) (last : Option Occurrence)
+      → IsPlaceOf all u.first last → KnownOwner owner → HandsAre zone owner os → All TakesAll os → AreLeft all counts os
+      → (v : machine.Tenure) (rest : List machine.Tenure) → hands x counts (u ∷ older) os ≡ v ∷ rest → IsPlaceOf all v.first (last_hand zone last os)
+  newest_began all [] counts owner u older last began known are takes left v rest is =
+      let same : u ≡ v = cc in subst (λ (w : machine.Tenure). IsPlaceOf all w.first last) same began
+  newest_began all (o ∷ os) counts owner u older last began known are takes left v rest is =
+      by_change (change_of owner o os are (All-head TakesAll o os takes))
+      (λ owner' u' older' last' began' known' are' is'.
+      newest_began all os (counted counts o.channel) owner' u' older' last' began' known' are' (All-tail TakesAll o os takes) (left_later all counts o os left) v rest is')
+    where
+      at : At all (next_place counts o) o
+      at = left_here all counts o os left
+
+      none_known : KnownOwner None
+      none_known c e = absurd cc
+
+      by_change : Change owner o
+          → ((owner' : Option ℕ) (u' : machine.Tenure) (older' : List machine.Tenure) (last' : Option Occurrence) → IsPlaceOf all u'.first last' → KnownOwner owner' → HandsAre zone owner' os
+          → hands x (counted counts o.channel) (u' ∷ older') os ≡ v ∷ rest → IsPlaceOf all v.first (last_hand zone last' os))
+          → IsPlaceOf all v.first (last_hand zone (cond (changes_hands zone o) (Some o) last) os)
+      by_change (Frees on changes off was) next =
+          let free : owner_next zone owner o ≡ None = rw (changes, off) refl in
+          let new : machine.Tenure = record { owner = None; first = Some (next_place counts o); last = None; from = suc (counts o.channel); upto = 0 } in
+          let old : machine.Tenure = record { owner = u.owner; first = u.first; last = Some (next_place counts o); from = u.from; upto = counts o.channel } in
+          rw changes (next None new (old ∷ older) (Some o) (at, known o.channel was) none_known (subst (λ (w : Option ℕ). HandsAre zone w os) free are.3)
+          (ap (λ (ts : List machine.Tenure). hands x (counted counts o.channel) ts os) (sym (hand_frees counts o (u ∷ older) on)) ∙ is))
+      by_change (Takes stays on changes takes_it was there) next =
+          let held : owner_next zone owner o ≡ Some o.channel = rw (changes, takes_it) refl in
+          let new : machine.Tenure = record { owner = Some o.channel; first = Some (next_place counts o); last = None; from = suc (counts o.channel); upto = 0 } in
+          let old : machine.Tenure = record { owner = u.owner; first = u.first; last = Some (next_place counts o); from = u.from; upto = 0 } in
+          rw changes (next (Some o.channel) new (old ∷ older) (Some o) (at, there) one_known (subst (λ (w : Option ℕ). HandsAre zone w os) held are.3)
+          (ap (λ (ts : List machine.Tenure). hands x (counted counts o.channel) ts os) (sym (hand_takes counts o (u ∷ older) stays on)) ∙ is))
+        where
+          one_known : KnownOwner (Some o.channel)
+          one_known c e = let same : o.channel ≡ c = cc in subst (λ (d : ℕ). among channel_numbers d ≡ true) same there
+      by_change (Neither stays none same) next =
+          let kept : owner_next zone owner o ≡ owner = rw same refl in
+          rw same (next owner u older last began known (subst (λ (w : Option ℕ). HandsAre zone w os) kept are.3)
+          (ap (λ (ts : List machine.Tenure). hands x (counted counts o.channel) ts os) (sym (hand_neither counts o (u ∷ older) stays none)) ∙ is))
