@@ -16,17 +16,16 @@ use Rattle.protection_zones.specs.Stretches.{StretchView, all_stretches, stretch
 use Rattle.schedule_laws.specs.Schedules.{IsQuietRun, moves_by}
 use Rattle.speed_laws.proofs.ComparedPairs.{HasBox, HoldsPlace, IsCurrent, IsCut, IsInPiece, is_in_order, some_pair_meets, zone_by_number}
 use Rattle.speed_laws.proofs.FreeZones.{zone_stands}
+use Rattle.speed_laws.proofs.OwnersHaveLines.{owners_have_lines}
 use Rattle.speed_laws.proofs.PastEvents.{is_past, made_counts, past_is_cut}
 use Rattle.speed_laws.proofs.PresentBoxes.{IsSeen, seen_in_box}
 use Rattle.speed_laws.proofs.RunPlaces.{WellSpotted, opening_spotted, well_spotted}
 use Rattle.speed_laws.proofs.StartZones.{zones_start}
 use Rattle.speed_laws.specs.DoingLaws.{AreSound}
 use Rattle.speed_laws.specs.Doings.{Doings}
-use Rattle.speed_laws.specs.Histories.{items_by}
-use Rattle.speed_laws.specs.RunSafety.{DoMeet, HasOneOwner, IsSafeAlways, NoTwoMeet, on_now, owner_now, position_now}
-use Rattle.speed_laws.specs.RunStates.{AreLawfulSteps, after_small_steps, items_now, runs, spot_now}
-use Rattle.speed_laws.specs.Safety.{IsInZone}
-use Rattle.speed_laws.specs.SmallSteps.{SmallStep, State, opening}
+use Rattle.speed_laws.specs.Histories.{IsRunBy, items_by}
+use Rattle.speed_laws.specs.Safety.{DoMeet, HasOneOwner, IsSafeAlways, NoTwoMeet, on_now, owner_now, position_now, IsInZone}
+use Rattle.speed_laws.specs.SmallSteps.{AreLawfulSteps, after_small_steps, items_now, runs, spot_now, SmallStep, State, opening}
 use Rattle.swept_boxes.specs.Boxes.{SpacePoint}
 use Rattle.sync_types.specs.Boards.{first_board}
 use Rattle.sync_types.specs.Events.{IsLowestName}
@@ -40,14 +39,14 @@ holds_of P x (y ∷ ys) all (inl same) = subst P same (All-head P y ys all)
 holds_of P x (y ∷ ys) all (inr later) = holds_of P x ys (All-tail P y ys all) later
 
 module _ (job : JobView) (doings : Doings) (sound : IsSoundJob job) (are : AreSound job doings) (qs : List ℕ) (quiet : IsQuietRun doings.script (start_of job) qs)
-    (run : RunView) (moves : moves_in run.entries ≡ moves_by doings.script (start_of job) qs) (items : run.items ≡ items_by doings (first_stage (start_of job)) qs)
+    (run : RunView) (by : IsRunBy job doings qs run)
     (before : Order) (order : IsOrderOf (first_board (start_of job)) (moves_in run.entries) before) where
   abbrev stretches : ZoneLine → List StretchView
   stretches = stretches_of_zone job (items_by doings (first_stage (start_of job)) qs) (occurrences_of (first_board (start_of job)) (moves_by doings.script (start_of job) qs))
 
   all_are : all_stretches job (first_board (start_of job)) run ≡ record { zones = map stretches (zones_in_order job) }
   unfolding all_stretches
-  all_are = rw (moves, items) refl
+  all_are = rw (by.moves, by.items) refl
 
   module _ (state : State) (well : WellSpotted job doings quiet.sound state) where
     abbrev Named : EventId → Type 0
@@ -62,7 +61,7 @@ module _ (job : JobView) (doings : Doings) (sound : IsSoundJob job) (are : AreSo
     is_cut : IsCut before Named past
     is_cut =
         past_is_cut (first_board (start_of job)) (moves_by doings.script (start_of job) qs) (made_counts doings.script (start_of job) qs state.run quiet well.run) before
-        (subst (λ ms. IsOrderOf (first_board (start_of job)) ms before) moves order)
+        (subst (λ ms. IsOrderOf (first_board (start_of job)) ms before) by.moves order)
 
     zone_in_piece : (zone : ZoneLine) → Contains job.zones zone → on_now job doings state zone ≡ true → (point : SpacePoint) → IsInZone job.margin (position_now job doings state) zone point
         → HasBox Named past places (stretches zone) (IsInPiece job run point zone)
@@ -72,7 +71,7 @@ module _ (job : JobView) (doings : Doings) (sound : IsSoundJob job) (are : AreSo
         let there : IsZoneOf (start_of job) zone = zone_there zone z in_job in
         SomeOf-weaker (λ stretch. IsCurrent Named past stretch × IsSeen job doings sound are qs quiet state well zone z there found stretch)
         (λ stretch. IsCurrent Named past stretch × SomeOf (λ box. HoldsPlace places stretch box × IsInPiece job run point zone stretch box) stretch.boxes)
-        (λ stretch both. (both.0, seen_in_box job doings sound are qs quiet state well zone z there found run items on point in_zone stretch both.1))
+        (λ stretch both. (both.0, seen_in_box job doings sound are qs quiet state well zone z there found run by.items on point in_zone stretch both.1))
         (stretches zone) (zone_stands job doings qs state.run quiet well.run zone sound there found)
       where
         zone_there : (zone : ZoneLine) → IsSoundZone job zone → Contains job.zones zone → IsZoneOf (start_of job) zone
@@ -98,3 +97,24 @@ module _ (job : JobView) (doings : Doings) (sound : IsSoundJob job) (are : AreSo
   none_meet none steps lawful zone other in_job in_job' apart on on' meet =
       none_found (pair_meets job run) (compared_pairs before job (all_stretches job (first_board (start_of job)) run)) none
       (meet_in_pair (after_small_steps job doings opening steps) (well_spotted job doings quiet.sound opening steps (opening_spotted job doings quiet.sound) lawful) zone other in_job in_job' apart on on' meet)
+
+  -- each axis has one owner there
+  pub one_owner : (steps : List SmallStep) → AreLawfulSteps job doings opening steps → HasOneOwner job doings (after_small_steps job doings opening steps)
+  unfolding owner_now runs items_now
+  one_owner steps lawful =
+      let state = after_small_steps job doings opening steps in
+      let well = well_spotted job doings quiet.sound opening steps (opening_spotted job doings quiet.sound) lawful in
+      record {
+        owned = λ axis within. owners_have_lines job doings sound state.run well.run axis;
+        own = λ channel running. (are.move state.run channel well.run running).owned;
+      }
+
+-- so the job is safe at all speeds
+pub always_safe : (job : JobView) (doings : Doings) (speaking : List ℕ) (run : RunView) (before : Order)
+    → IsSoundJob job → AreSound job doings → IsQuietRun doings.script (start_of job) speaking → IsRunBy job doings speaking run
+    → IsOrderOf (first_board (start_of job)) (moves_in run.entries) before
+    → find (pair_meets job run) (compared_pairs before job (all_stretches job (first_board (start_of job)) run)) ≡ None → IsSafeAlways job doings
+always_safe job doings speaking run before sound are quiet by order none = record {
+  one_owner = one_owner job doings sound are speaking quiet run by before order;
+  none_meet = none_meet job doings sound are speaking quiet run by before order none;
+}

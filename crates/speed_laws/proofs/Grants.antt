@@ -17,12 +17,16 @@ use Rattle.job_types.specs.SoundJob.{IsSoundJob}
 use Rattle.job_types.specs.declared.job.AxisLine.{AxisLine}
 use Rattle.job_types.specs.declared.job.ZoneLine.{ZoneLine}
 use Rattle.micro_units.specs.Position.{IsPosition}
-use Rattle.speed_laws.specs.Channels.{first_grant}
+use Rattle.sync_types.specs.declared.Grant.{Grant}
 use Rattle.sync_types.specs.Boards.{Board, axis_numbers, zone_numbers, board_at_rest, grant_with, is_this, owner_of, ownership_of, owns, start_grant}
 use Rattle.sync_types.specs.Starts as start
 
 pub le_or_lt : (a b : ℕ) → (a ≤ b) ⊎ (b < a)
 le_or_lt a b = grind arith
+
+-- what the job gives a channel at its start: its axes and where they stand, its zones that are on, and its program
+abbrev pub first_grant : JobView → ℕ → Grant
+first_grant job channel = start_grant (board_at_rest (start_of job)) channel
 
 -- ---- axes
 

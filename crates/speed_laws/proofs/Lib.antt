@@ -3,20 +3,8 @@ pub mod Covers
 pub mod ZoneLemmas
 pub mod BoxPieces
 pub mod ComparedPairs
-pub mod Ascending
-pub mod Segments
-pub mod Stops
-pub mod OnlyActs
-pub mod InOrder
-pub mod Starting
 pub mod Grants
 pub mod Runs
-pub mod Steps
-pub mod States
-pub mod Owners
-pub mod NoJumps
-pub mod Ends
-pub mod Soundness
 pub mod StartZones
 pub mod StepEvents
 pub mod Histories
@@ -30,6 +18,7 @@ pub mod PresentStretches
 pub mod Standing
 pub mod RunPlaces
 pub mod SwitchedZones
+pub mod PlaceEnds
 pub mod ReachActs
 pub mod HandedAxes
 pub mod StepSpots
@@ -37,5 +26,6 @@ pub mod NoAxisJumps
 pub mod NoZoneSwitches
 pub mod StretchBoxes
 pub mod FreeZones
+pub mod OwnersHaveLines
 pub mod PresentBoxes
 pub mod AllSpeeds

@@ -20,16 +20,14 @@ use Rattle.speed_laws.proofs.HandedAxes.{Keeps, LetsGo, Takes, axis_below, final
 use Rattle.speed_laws.proofs.Histories.{found_in}
 use Rattle.speed_laws.proofs.RunPlaces.{WellSpotted, opening_spotted, well_spotted}
 use Rattle.speed_laws.proofs.Standing.{nothing_done}
-use Rattle.speed_laws.proofs.States.{one_under}
+use Rattle.speed_laws.proofs.Positions.{one_under}
 use Rattle.speed_laws.proofs.StepEvents.{once}
 use Rattle.speed_laws.proofs.StepSpots.{HasEvent, begins_anew, event_begins, event_or_rests, event_stood, goes_event, stage_next, told_by, zones_then}
 use Rattle.speed_laws.specs.DoingLaws.{AreSound, TellsWhatItLetsGo, TellsWhereAxesStand, stage_by}
 use Rattle.speed_laws.specs.Doings.{Doings, stands_after, stands_before}
 use Rattle.speed_laws.specs.Places.{IsAtEnd}
-use Rattle.speed_laws.specs.RunSafety.{NoAxisJumps, owner_now, position_now}
-use Rattle.speed_laws.specs.RunStates.{items_now, place_zero, runs, spot_now, stage_in, after_small_step, after_small_steps, IsLawfulStep}
-use Rattle.speed_laws.specs.Safety.{fraction_of}
-use Rattle.speed_laws.specs.SmallSteps.{Spot, State, opening}
+use Rattle.speed_laws.specs.Safety.{NoAxisJumps, owner_now, position_now, fraction_of}
+use Rattle.speed_laws.specs.SmallSteps.{items_now, place_zero, runs, spot_now, stage_in, after_small_step, after_small_steps, IsLawfulStep, Spot, State, opening}
 use Rattle.sync_types.proofs.BoardTests.{no_truth}
 use Rattle.sync_types.specs.BoardActions.{after_own_part, position_or_zero}
 use Rattle.sync_types.specs.Boards.{Board, Ownership, OwnedBy, FreeAt, among, is_free, is_idle, is_running, owner_of}

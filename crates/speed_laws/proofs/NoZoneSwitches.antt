@@ -17,9 +17,8 @@ use Rattle.speed_laws.proofs.SwitchedZones.{first_has, held_before, on_after_ste
 use Rattle.speed_laws.specs.DoingLaws.{TellsWhichZonesAreOn, stage_by}
 use Rattle.speed_laws.specs.Doings.{Doings, on_after}
 use Rattle.speed_laws.specs.Places.{IsAtEnd}
-use Rattle.speed_laws.specs.RunSafety.{NoZoneSwitches, on_now, on_with}
-use Rattle.speed_laws.specs.RunStates.{items_now, place_zero, runs, spot_now, stage_in, after_small_step, after_small_steps, IsLawfulStep}
-use Rattle.speed_laws.specs.SmallSteps.{State, opening}
+use Rattle.speed_laws.specs.Safety.{NoZoneSwitches, on_now, on_with}
+use Rattle.speed_laws.specs.SmallSteps.{items_now, place_zero, runs, spot_now, stage_in, after_small_step, after_small_steps, IsLawfulStep, State, opening}
 use Rattle.sync_types.proofs.BoardTests.{no_truth}
 use Rattle.sync_types.specs.Boards.{Board, Ownership, OwnedBy, FreeAt, is_free, is_running, is_this, owner_of}
 use Rattle.sync_types.specs.GoingOn.{first_of}

@@ -1,5 +1,6 @@
 -- Where motions leave the axes of a channel: the rule over all motions, and one motion after another say the same.
-use Rattle.std.proofs.Common.{◌≡◌, ◌∙◌, ℕ, zero, suc, ℤ, ◌==◌, List, [], ◌∷◌, take, filter_map, find, Option, None, Some, option_map, unwrap_or, slice_get, All, refl, sym, ap, subst}
+use Rattle.std.proofs.Common.{◌≡◌, ◌∙◌, ℕ, zero, suc, ℤ, pos, ◌*ℤ◌, ◌==◌, List, [], ◌∷◌, take, filter_map, find, Option, None, Some, option_map, unwrap_or, slice_get, All, refl, sym, ap, subst, arith}
+use Rattle.std.proofs.lemmas.Int.{ints}
 use Rattle.std.proofs.lemmas.List.Elements.{All-weaker}
 use Rattle.std.specs.List.{last_or, cons_option}
 use Rattle.std.specs.Option.{option_map_or}
@@ -73,3 +74,8 @@ pub begins_at_left : (at : ℕ → ℤ) (items : List Item) → AllJoin at items
 begins_at_left at items joins place item is =
     All-weaker (λ e. (e.1 ≡ left_at (take place items) at e.0) × (e.2 ≡ stand_after item (left_at (take place items) at) e.0))
     (λ e. e.1 ≡ left_at (take place items) at e.0) (λ e joined. joined.0) (axes_of (movement_of item)) (joins_at at items joins place item is).1
+
+-- ---- whole positions
+
+pub one_under : (z : ℤ) → z ≡ z *ℤ pos 1
+one_under z = omega (arith, ints)

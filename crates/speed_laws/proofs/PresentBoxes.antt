@@ -29,12 +29,14 @@ use Rattle.speed_laws.proofs.BoxPieces.{AxesWithin}
 use Rattle.speed_laws.proofs.ComparedPairs.{HasBox, HoldsPlace, IsCurrent, IsInPiece, is_in_order, some_pair_meets, zone_by_number}
 use Rattle.speed_laws.proofs.Covers.{Covers, box_covers, place_fraction}
 use Rattle.speed_laws.proofs.FreeZones.{BeginsAsBoard, StandsNow, zone_stands}
+use Rattle.speed_laws.proofs.HandedAxes.{keeps_first, keeps_run}
 use Rattle.speed_laws.proofs.PastEvents.{is_past, made_counts, past_is_cut}
 use Rattle.speed_laws.proofs.PresentSpans.{ItemsAre, PresentSpan}
 use Rattle.speed_laws.proofs.PresentTenures.{part_start}
+use Rattle.speed_laws.proofs.ReachActs.{is_placed, stands_still}
 use Rattle.speed_laws.proofs.RunPlaces.{IsSpot, WellSpotted, run_zones}
 use Rattle.speed_laws.proofs.Standing.{made_stand}
-use Rattle.speed_laws.proofs.States.{one_under}
+use Rattle.speed_laws.proofs.Positions.{one_under}
 use Rattle.speed_laws.proofs.StepEvents.{taken}
 use Rattle.speed_laws.proofs.StretchBoxes.{first_on, in_stretch, standing_covers}
 use Rattle.speed_laws.proofs.SwitchedZones.{made_on}
@@ -44,10 +46,8 @@ use Rattle.speed_laws.specs.Doings.{Doings, on_after, stands_before, stands_afte
 use Rattle.speed_laws.specs.Histories.{items_by}
 use Rattle.speed_laws.specs.JoinedItems.{AllJoin}
 use Rattle.speed_laws.specs.Places.{IsAtPlace, IsStanding}
-use Rattle.speed_laws.specs.RunSafety.{on_now, on_with, owner_now, position_now}
-use Rattle.speed_laws.specs.RunStates.{begins_at, items_now, place_zero, runs, span_number, spot_now, stage_in}
-use Rattle.speed_laws.specs.Safety.{IsInZone, fraction_of}
-use Rattle.speed_laws.specs.SmallSteps.{Spot, State}
+use Rattle.speed_laws.specs.Safety.{on_now, on_with, owner_now, position_now, IsInZone, fraction_of}
+use Rattle.speed_laws.specs.SmallSteps.{begins_at, items_now, place_zero, runs, span_number, spot_now, stage_in, Spot, State}
 use Rattle.swept_boxes.specs.Boxes.{SpacePoint}
 use Rattle.sync_types.specs.Boards.{Board, Ownership, first_board, is_running, owner_of}
 use Rattle.sync_types.specs.Events.{IsLowestName}
@@ -57,51 +57,6 @@ use Rattle.sync_types.specs.Starts.{IsSound, axes_of_zone}
 use Rattle.sync_types.specs.Views.{RunView}
 use Rattle.sync_types.specs.declared.Item.{Item}
 use Rattle.sync_types.specs.declared.runs.EventId.{EventId}
-
--- the board keeps the start
-kept_start : (doings : Doings) (cs : List ℕ) (s : Stage) → Zones s.board → IsRun doings.script s cs → (stage_after doings.script s cs).board.start ≡ s.board.start
-kept_start doings [] s zs run = refl
-kept_start doings (p ∷ cs) s zs run =
-    let step = doings.script p (s.grants p) in
-    kept_start doings cs (after_turn doings.script s p) (zones_step s.board p step zs) run.1 ∙ (taken s.board p step zs run.0).start ∙ part_start s.board p step
-
--- ---- where a channel is
-
-module _ (job : JobView) (doings : Doings) (sound_start : IsSound (start_of job)) (state : State) (well : WellSpotted job doings sound_start state) (c : ℕ) where
-  abbrev Place : Spot → Type 0
-  Place spot = IsAtPlace (begins_at job doings state c) (items_now job doings state c) spot.place spot.point
-
-  at_zero : Place (place_zero job doings state c)
-  unfolding place_zero
-  at_zero = record { fraction = omega arith; stand = λ axis. one_under (begins_at job doings state c axis) }
-
-  -- it is at a place of its present items
-  pub is_placed : Place (spot_now job doings state c)
-  unfolding spot_now
-  is_placed = by_spot (state.spots c) (well.spots c)
-    where
-      by_spot : (o : Option Spot) → IfSome o (IsSpot job doings sound_start state c)
-          → Place (option_map_or (λ spot. cond (spot.span == span_number job doings state c) spot (place_zero job doings state c)) o (place_zero job doings state c))
-      by_spot None is = at_zero
-      by_spot (Some spot) is = by_span (spot.span == span_number job doings state c) refl
-        where
-          by_span : (t : Bool) → (spot.span == span_number job doings state c) ≡ t → Place (cond t spot (place_zero job doings state c))
-          by_span true same = (is.placed (eqb-true spot.span (span_number job doings state c) same)).1
-          by_span false apart = at_zero
-
-  -- and one that does not run is at place 0
-  pub stands_still : runs job doings state c ≡ false → spot_now job doings state c ≡ place_zero job doings state c
-  unfolding spot_now
-  stands_still rests = by_spot (state.spots c) (well.spots c)
-    where
-      by_spot : (o : Option Spot) → IfSome o (IsSpot job doings sound_start state c)
-          → option_map_or (λ spot. cond (spot.span == span_number job doings state c) spot (place_zero job doings state c)) o (place_zero job doings state c) ≡ place_zero job doings state c
-      by_spot None is = refl
-      by_spot (Some spot) is = by_span (spot.span == span_number job doings state c) refl
-        where
-          by_span : (t : Bool) → (spot.span == span_number job doings state c) ≡ t → cond t spot (place_zero job doings state c) ≡ place_zero job doings state c
-          by_span true same = let on : runs job doings state c ≡ true = (is.placed (eqb-true spot.span (span_number job doings state c) same)).0 in absurd cc
-          by_span false apart = refl
 
 -- ---- where a zone is
 
@@ -117,7 +72,7 @@ module _ (job : JobView) (doings : Doings) (sound : IsSoundJob job) (are : AreSo
   zones_now = run_zones job doings quiet.sound state.run (first_stage (start_of job)) (zones_first (start_of job) quiet.sound)
 
   start_now : board.start ≡ start_of job
-  start_now = kept_start doings state.run (first_stage (start_of job)) (zones_first (start_of job) quiet.sound) well.run
+  start_now = (keeps_run doings.script (start_of job) (first_stage (start_of job)) state.run (zones_first (start_of job) quiet.sound) well.run (keeps_first (start_of job))).start
 
   -- its axes are its holder's
   carrier_owner : (axis : ℕ) → has_axis zone axis ≡ true → owner_of (board.axis axis) ≡ board.holder zone.zone

@@ -5,17 +5,15 @@ use Rattle.std.specs.Option.{option_map_or}
 use Rattle.channel_machine.specs.StartStates.{start_of}
 use Rattle.job_types.specs.Job.{JobView}
 use Rattle.path_geometry.specs.Path.{Point}
-use Rattle.speed_laws.proofs.Ends.{last_end, place_within}
-use Rattle.speed_laws.proofs.Positions.{begins_at_left}
+use Rattle.speed_laws.proofs.PlaceEnds.{last_end, place_within}
+use Rattle.speed_laws.proofs.Positions.{begins_at_left, one_under}
 use Rattle.speed_laws.proofs.RunPlaces.{IsSpot, WellSpotted, opening_spotted, well_spotted}
-use Rattle.speed_laws.proofs.States.{one_under}
 use Rattle.speed_laws.specs.DoingLaws.{AreSound, stage_by}
 use Rattle.speed_laws.specs.Doings.{Doings, stands_before}
 use Rattle.speed_laws.specs.JoinedItems.{AllJoin}
 use Rattle.speed_laws.specs.Places.{IsEndOf, IsAtPlace, IsAtEnd}
-use Rattle.speed_laws.specs.RunSafety.{CanAct, MotionsJoin}
-use Rattle.speed_laws.specs.RunStates.{span_number, runs, items_now, begins_at, place_zero, spot_now, after_small_step, after_small_steps, IsLawfulStep, AreLawfulSteps}
-use Rattle.speed_laws.specs.SmallSteps.{Spot, State, SmallStep, Advance, Act, opening}
+use Rattle.speed_laws.specs.Safety.{CanAct, MotionsJoin}
+use Rattle.speed_laws.specs.SmallSteps.{span_number, runs, items_now, begins_at, place_zero, spot_now, after_small_step, after_small_steps, IsLawfulStep, AreLawfulSteps, Spot, State, SmallStep, Advance, Act, opening}
 use Rattle.sync_types.specs.Starts.{IsSound}
 use Rattle.sync_types.specs.declared.Item.{Item}
 

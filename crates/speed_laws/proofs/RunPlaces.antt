@@ -19,8 +19,7 @@ use Rattle.speed_laws.proofs.PresentTenures.{events_joined}
 use Rattle.speed_laws.proofs.StepEvents.{as_goings, kept_state, not_started, part_other, step_events}
 use Rattle.speed_laws.specs.Doings.{Doings, stands_after, stands_before}
 use Rattle.speed_laws.specs.Places.{IsAtPlace}
-use Rattle.speed_laws.specs.RunStates.{span_number, runs, items_now, begins_at, after_small_step, IsLawfulStep, AreLawfulSteps, after_small_steps}
-use Rattle.speed_laws.specs.SmallSteps.{Spot, State, SmallStep, Advance, Act, opening}
+use Rattle.speed_laws.specs.SmallSteps.{span_number, runs, items_now, begins_at, after_small_step, IsLawfulStep, AreLawfulSteps, after_small_steps, Spot, State, SmallStep, Advance, Act, opening}
 use Rattle.sync_types.proofs.BoardTests.{no_truth}
 use Rattle.sync_types.proofs.Replays.{run_is_replay}
 use Rattle.sync_types.specs.Boards.{State as Doing, IsRunning, first_board, grant_in, is_running}

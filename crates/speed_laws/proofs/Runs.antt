@@ -1,4 +1,4 @@
--- The motions of a channel's program: each begins where those before it left its axes, which are the channel's own.
+-- Motions of which each begins where those before it left its axes.
 use Rattle.std.proofs.Common.{◌≡◌, ◌∙◌, ℕ, suc, ℤ, Bool, true, List, [], ◌∷◌, take, get_or, slice_get, Option, Some, unwrap_or, All, refl, sym, ap, subst}
 use mathlib.Core.Path.{fun_ext}
 use Rattle.std.proofs.lemmas.List.Elements.{All-head, All-tail, All-weaker}
@@ -17,13 +17,10 @@ use Rattle.path_geometry.specs.Motions.{axes_of, IsSound}
 use Rattle.protection_zones.specs.ZoneBoxes.{stand_after}
 use Rattle.speed_laws.proofs.Grants.{granted_in_range, granted_own, granted_owned}
 use Rattle.speed_laws.proofs.Positions.{after_is, left_at-cons}
-use Rattle.speed_laws.specs.Channels.{first_grant, motions_of, program_run, setting_of}
 use Rattle.speed_laws.specs.JoinedItems.{Joins, AllJoin}
 use Rattle.sync_types.proofs.Positions.{left_at-nil, end_moved}
 use Rattle.sync_types.specs.Items.{left_at, movement_of}
 use Rattle.sync_types.specs.declared.Item.{Item}
-
--- ---- motions, one after another
 
 -- the motion of each place is one of a channel that owns these axes
 abbrev Follow : List Bool → (ℕ → ℤ) → List Item → Type 0
@@ -53,54 +50,7 @@ all_join axes at (item ∷ items) follow sound = (
 All-place : (P : Item → Type 0) (items : List Item) → All P items → (place : ℕ) (item : Item) → slice_get items place ≡ Some item → P item
 All-place P items all place item is = subst P (get_or_from_slice_get items place item item is) (all place item (slice_get_within items place item is))
 
--- ---- the run of a channel
-
--- each motion is one of the channel, from where the motions before it left the axes, the first from where they were granted
-motions_follow : (job : JobView) (c : ℕ) → Follow (first_grant job c).axes (stands (first_grant job c).at) (motions_of job c)
-unfolding program_run
-motions_follow job c place item is = (all_follow (setting_of job c) (channel_at_start (setting_of job c))).follows place item is
-
--- they are sound, since the axes start in range
-motions_sound : (job : JobView) → IsSoundJob job → (c : ℕ) → All (λ item. IsSound (movement_of item)) (motions_of job c)
-unfolding program_run
-motions_sound job sound c = items_sound (setting_of job c) (channel_at_start (setting_of job c)) (granted_in_range job sound c)
-
--- they have only axes that are granted
-pub motions_granted : (job : JobView) (c : ℕ) → All (λ item. All (λ e. has (first_grant job c).axes e.0 ≡ true) (axes_of (movement_of item))) (motions_of job c)
-motions_granted job c = by_places (λ item. All (λ e. has (first_grant job c).axes e.0 ≡ true) (axes_of (movement_of item))) (motions_of job c)
-    (λ place item is. (motions_follow job c place item is).owned)
-
--- the motion has only axes that the channel owns
-abbrev pub HasOwnAxes : JobView → ℕ → Item → Type 0
-HasOwnAxes job channel item = All (λ e. first_owner job e.0 ≡ Some channel) (axes_of (movement_of item))
-
-pub motions_owned : (job : JobView) → IsSoundJob job → (c : ℕ) → All (HasOwnAxes job c) (motions_of job c)
-motions_owned job sound c =
-    All-weaker (λ item. All (λ e. has (first_grant job c).axes e.0 ≡ true) (axes_of (movement_of item))) (HasOwnAxes job c)
-    (λ item granted. All-weaker (λ e. has (first_grant job c).axes e.0 ≡ true) (λ e. first_owner job e.0 ≡ Some c) (λ e has_it. granted_owned job sound c e.0 has_it) (axes_of (movement_of item)) granted)
-    (motions_of job c) (motions_granted job c)
-
 -- motions leave an axis at one place where it stood at one place
 pub left_at_same : (items : List Item) (p q : ℕ → ℤ) (axis : ℕ) → p axis ≡ q axis → left_at items p axis ≡ left_at items q axis
 unfolding left_at
 left_at_same items p q axis same = rw same refl
-
--- the axes of a channel are granted where the job puts them, so each motion begins as if all were
-own_follow : (job : JobView) → IsSoundJob job → (c : ℕ) → Follow (first_grant job c).axes (start_position job) (motions_of job c)
-own_follow job sound c place item is =
-    let motion = motions_follow job c place item is in
-    let before = take place (motions_of job c) in
-    record {
-      once = motion.once;
-      owned = motion.owned;
-      begins = λ k d within.
-          let e : ℕ × ℤ × ℤ = get_or (axes_of (movement_of item)) k d in
-          motion.begins k d within
-          ∙ left_at_same before (stands (first_grant job c).at) (start_position job) e.0 (granted_own job sound c e.0 (granted_owned job sound c e.0 (motion.owned k d within)));
-      in_range = motion.in_range;
-      sound = λ in_range. All-place (λ i. IsSound (movement_of i)) (motions_of job c) (motions_sound job sound c) place item is;
-    }
-
--- the motions of a channel are sound, and each begins where those before it left its axes, the first where the job puts them
-pub motions_join : (job : JobView) → IsSoundJob job → (c : ℕ) → AllJoin (start_position job) (motions_of job c)
-motions_join job sound c = all_join (first_grant job c).axes (start_position job) (motions_of job c) (own_follow job sound c) (motions_sound job sound c)

@@ -14,12 +14,11 @@ use Rattle.job_types.specs.SoundJob.{IsSoundJob}
 use Rattle.order_clocks.specs.Happenings.{going_of, happening_of}
 use Rattle.protection_zones.specs.Occurrences.{Occurrence, act_of, going_on_of, occurrences_in, occurrences_from}
 use Rattle.schedule_laws.specs.Schedules.{IsRunOf}
-use Rattle.speed_laws.proofs.Grants.{granted_there}
+use Rattle.speed_laws.proofs.Grants.{first_grant, granted_there}
 use Rattle.speed_laws.proofs.Histories.{found_in, none_in}
 use Rattle.speed_laws.proofs.JoinedRuns.{run_first, run_rest, stage_joined}
 use Rattle.speed_laws.proofs.PresentSpans.{at_after}
 use Rattle.speed_laws.proofs.StepEvents.{ActorTold, actor_told, as_goings, goes_on, goes_waited, kept_state, not_started, part_other, step_events}
-use Rattle.speed_laws.specs.Channels.{first_grant}
 use Rattle.speed_laws.specs.DoingLaws.{TellsWhereAxesStand, TellWhereAxesStand}
 use Rattle.speed_laws.specs.Doings.{Doings, stands_with, stands_before, stands_after}
 use Rattle.speed_laws.specs.Histories.{Telling, telling_of}

@@ -12,19 +12,18 @@ use Rattle.protection_zones.specs.Occurrences.{Occurrence, act_of, going_on_of, 
 use Rattle.schedule_laws.specs.Schedules.{moves_by}
 use Rattle.speed_laws.proofs.Histories.{found_in}
 use Rattle.speed_laws.proofs.JoinedRuns.{stage_joined}
-use Rattle.speed_laws.proofs.NoJumps.{stands_at_end}
+use Rattle.speed_laws.proofs.PlaceEnds.{stands_at_end}
 use Rattle.speed_laws.proofs.PresentSpans.{at_after}
 use Rattle.speed_laws.proofs.ReachActs.{is_placed, stands_still}
 use Rattle.speed_laws.proofs.RunPlaces.{IsSpot, WellSpotted, begins_same, items_same, run_zones, spans_add, spans_grow}
 use Rattle.speed_laws.proofs.Standing.{grants_next, stands_at, step_stands}
-use Rattle.speed_laws.proofs.States.{one_under}
+use Rattle.speed_laws.proofs.Positions.{one_under}
 use Rattle.speed_laws.proofs.StepEvents.{as_goings, goes_waited, step_events}
 use Rattle.speed_laws.specs.DoingLaws.{TellsWhereAxesStand}
 use Rattle.speed_laws.specs.Doings.{Doings, stands_before, stands_after}
 use Rattle.speed_laws.specs.Histories.{telling_of}
 use Rattle.speed_laws.specs.Places.{IsAtEnd, StandsAt}
-use Rattle.speed_laws.specs.RunStates.{begins_at, items_now, place_zero, runs, span_number, spot_now, stage_in}
-use Rattle.speed_laws.specs.SmallSteps.{Spot, State}
+use Rattle.speed_laws.specs.SmallSteps.{begins_at, items_now, place_zero, runs, span_number, spot_now, stage_in, Spot, State}
 use Rattle.sync_types.proofs.BoardTests.{no_truth}
 use Rattle.sync_types.specs.Boards.{is_running}
 use Rattle.sync_types.specs.GoingOn.{Going}

@@ -1,5 +1,5 @@
 -- Meaning. What channels do by what they own, in every run.
-use Rattle.std.specs.Prelude.{◌≡◌, ◌<◌, ℕ, true, List, [], All, Some, is_some, unwrap_or}
+use Rattle.std.specs.Prelude.{◌≡◌, ◌<◌, ℕ, true, List, [], All, Contains, Some, is_some, unwrap_or}
 use Rattle.axis_sets.specs.Positions.{position_of}
 use Rattle.axis_sets.specs.Sets.{has}
 use Rattle.axis_sets.specs.declared.limits.TheConstants.{AXIS_LIMIT}
@@ -49,3 +49,9 @@ TellsWhichZonesAreOn job doings stage c zone =
 pub record AreSound (job : JobView) (doings : Doings) : Type 0 where
   pub tell : TellWhereAxesStand job doings
   pub move : (cs : List ℕ) (c : ℕ) → IsRunOf doings.script (start_of job) cs → is_running ((stage_by job doings cs).board.state c) ≡ true → MovesItsAxes job doings (stage_by job doings cs) c
+
+-- And their steps tell the board where the axes stand that they let go, and which of the zones that they hold are on.
+pub record TellTheBoard (job : JobView) (doings : Doings) : Type 0 where
+  pub lets_go : (cs : List ℕ) (c : ℕ) → IsRunOf doings.script (start_of job) cs → is_running ((stage_by job doings cs).board.state c) ≡ true → TellsWhatItLetsGo doings (stage_by job doings cs) c
+  pub zones : (cs : List ℕ) (c : ℕ) (zone : ZoneLine) → IsRunOf doings.script (start_of job) cs → is_running ((stage_by job doings cs).board.state c) ≡ true
+      → Contains job.zones zone → TellsWhichZonesAreOn job doings (stage_by job doings cs) c zone

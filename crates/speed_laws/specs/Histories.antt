@@ -1,6 +1,9 @@
 -- Meaning. The history of a channel: what its events tell, one after another. It depends on the grants that the channel gets, and
 -- on nothing else that others do.
 use Rattle.std.specs.Prelude.{◌≡◌, ℕ, ℤ, ◌==◌, Bool, true, false, if◌then◌else◌, List, [], ◌∷◌, ◌++◌, filter, map, slice_index_or, Option, is_some}
+use Rattle.channel_machine.specs.StartStates.{start_of}
+use Rattle.job_types.specs.Job.{JobView}
+use Rattle.order_clocks.specs.Clocked.{moves_in}
 use Rattle.protection_zones.specs.Occurrences.{Occurrence, occurrences_of}
 use Rattle.schedule_laws.specs.Schedules.{IsRunOf, moves_by}
 use Rattle.speed_laws.specs.Doings.{Doings}
@@ -8,7 +11,7 @@ use Rattle.sync_types.specs.BoardActions.{hold_of}
 use Rattle.sync_types.specs.Boards.{first_board, is_running}
 use Rattle.sync_types.specs.Runs.{Stage, after_turn, first_stage, stage_after}
 use Rattle.sync_types.specs.Starts.{IsSound}
-use Rattle.sync_types.specs.Views.{StartView}
+use Rattle.sync_types.specs.Views.{RunView, StartView}
 use Rattle.sync_types.specs.declared.Grant.{Grant}
 use Rattle.sync_types.specs.declared.Item.{Item}
 use Rattle.sync_types.specs.declared.Step.{Step}
@@ -73,3 +76,8 @@ pub record HasHistory (doings : Doings) (start : StartView) (cs : List ℕ) (c :
 
 abbrev pub ChannelsHaveHistories : Doings → StartView → List ℕ → ℕ → Type 0
 ChannelsHaveHistories doings start cs c = IsSound start → IsRunOf doings.script start cs → HasHistory doings start cs c
+
+-- the run in which these channels make their steps, with what they do before them
+pub record IsRunBy (job : JobView) (doings : Doings) (cs : List ℕ) (run : RunView) : Type 0 where
+  pub moves : moves_in run.entries ≡ moves_by doings.script (start_of job) cs
+  pub items : run.items ≡ items_by doings (first_stage (start_of job)) cs

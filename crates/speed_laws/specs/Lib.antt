@@ -1,14 +1,9 @@
-pub mod Uncoordinated
 pub mod Places
-pub mod Channels
-pub mod SmallSteps
-pub mod Safety
-pub mod EachOnce
-pub mod ZoneTimes
 pub mod JoinedItems
 pub mod Doings
 pub mod DoingLaws
-pub mod RunStates
-pub mod RunSafety
+pub mod SmallSteps
+pub mod Safety
 pub mod Histories
 pub mod Cuts
+pub mod ZoneTimes

@@ -11,37 +11,41 @@ ghost use Rattle.order_clocks.specs.Clocked.{IsOrderOf, moves_in};
 ghost use Rattle.protection_zones.specs.Overlaps.{Order, compared_pairs};
 ghost use Rattle.protection_zones.specs.Pieces.{pair_meets};
 ghost use Rattle.protection_zones.specs.Stretches.{all_stretches};
+ghost use Rattle.schedule_laws.specs.Schedules.{IsQuietRun};
 ghost use Rattle.speed_laws.specs.Cuts.{RunsAreCuts, ZonesHavePresentStretches};
+ghost use Rattle.speed_laws.specs.DoingLaws.{AreSound, TellTheBoard};
 ghost use Rattle.speed_laws.specs.Doings.{Doings};
-ghost use Rattle.speed_laws.specs.EachOnce.{IsEachOnce};
-ghost use Rattle.speed_laws.specs.Histories.{ChannelsHaveHistories};
-ghost use Rattle.speed_laws.specs.Safety.{CanEnd, NoJump, SafeAlways};
-ghost use Rattle.speed_laws.specs.Uncoordinated.{IsUncoordinated};
+ghost use Rattle.speed_laws.specs.Histories.{ChannelsHaveHistories, IsRunBy};
+ghost use Rattle.speed_laws.specs.Safety.{CanAct, IsSafeAlways, MotionsJoin, NoAxisJumps, NoZoneSwitches};
 ghost use Rattle.speed_laws.specs.ZoneTimes.{ZoneTimesInOrder};
 ghost use Rattle.sync_types.specs.Boards.{first_board};
 ghost use Rattle.sync_types.specs.Runs.{Script};
 ghost use Rattle.sync_types.specs.Views.{RunView, StartView};
 
-/// A law: where no compared pair of an accepted job without coordination meets, no two zones of different groups meet in any
-/// state that small steps reach, however fast each channel is, and each axis has one owner there.
+/// A law: where no compared pair of a run without a race that speaks for all runs of an accepted job meets, no two zones of
+/// different groups that are on meet in any state that small steps reach, in whatever order the channels act and however fast
+/// each of them is, and each axis has one owner there.
 pub fn zones_never_meet()
-    ensures { (job : JobView) (run : RunView) (before : Order)
-        → IsSoundJob job → IsUncoordinated job → IsEachOnce job run
+    ensures { (job : JobView) (doings : Doings) (speaking : List ℕ) (run : RunView) (before : Order)
+        → IsSoundJob job → AreSound job doings → IsQuietRun doings.script (start_of job) speaking → IsRunBy job doings speaking run
         → IsOrderOf (first_board (start_of job)) (moves_in run.entries) before
         → find (pair_meets job run) (compared_pairs before job (all_stretches job (first_board (start_of job)) run)) ≡ None
-        → SafeAlways job }
+        → IsSafeAlways job doings }
 {}
 
-/// A law: no axis of an accepted job without coordination jumps: each motion begins where the motions before it left its
-/// axes, and where a channel ends its program each axis is afterwards where it was.
+/// A law: no axis of an accepted job jumps, and no zone is switched but by its holder. Each motion begins where the motions before
+/// it left its axes; and where a channel acts, whatever it waits for, hands over or takes then, and whoever goes on, each axis is
+/// afterwards where it was, and each zone is on that was on, and no other.
 pub fn axes_never_jump()
-    ensures { (job : JobView) → IsSoundJob job → IsUncoordinated job → NoJump job }
+    ensures motions { (job : JobView) (doings : Doings) → AreSound job doings → MotionsJoin job doings }
+    ensures axes { (job : JobView) (doings : Doings) → IsSoundJob job → AreSound job doings → TellTheBoard job doings → NoAxisJumps job doings }
+    ensures zones { (job : JobView) (doings : Doings) → IsSoundJob job → TellTheBoard job doings → NoZoneSwitches job doings }
 {}
 
-/// A law: small steps of an accepted job without coordination do not get stuck: from every state that they reach each
-/// running channel can go on to its end.
-pub fn channels_can_end()
-    ensures { (job : JobView) → IsSoundJob job → IsUncoordinated job → CanEnd job }
+/// A law: small steps of an accepted job do not get stuck: from every state that they reach each running channel can go on to
+/// where it acts.
+pub fn channels_can_act()
+    ensures { (job : JobView) (doings : Doings) → IsSoundJob job → AreSound job doings → CanAct job doings }
 {}
 
 /// A law: in each whole run of an accepted job the time of each zone falls into its stretches: the first begins with the job,
