@@ -30,3 +30,5 @@ pub mod PresentStretches
 pub mod Standing
 pub mod RunPlaces
 pub mod SwitchedZones
+pub mod OwnersHaveLines
+pub mod KnownZones

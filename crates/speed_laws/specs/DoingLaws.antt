@@ -1,5 +1,5 @@
 -- Meaning. What channels do by what they own, in every run.
-use Rattle.std.specs.Prelude.{◌≡◌, ℕ, Bool, true, List, [], All, Some, unwrap_or}
+use Rattle.std.specs.Prelude.{◌≡◌, ℕ, true, List, [], All, Some, unwrap_or}
 use Rattle.axis_sets.specs.Positions.{position_of}
 use Rattle.axis_sets.specs.Sets.{has}
 use Rattle.channel_machine.specs.StartStates.{start_of}
@@ -13,7 +13,6 @@ use Rattle.sync_types.specs.Boards.{is_running, owner_of}
 use Rattle.sync_types.specs.Items.{movement_of}
 use Rattle.sync_types.specs.Runs.{Stage, first_stage, stage_after}
 use Rattle.sync_types.specs.declared.Grant.{Grant}
-use Rattle.sync_types.specs.declared.Item.{Item}
 
 -- how far the run of these channels is: the board, and the grants that each channel has got
 abbrev pub stage_by : JobView → Doings → List ℕ → Stage
