@@ -34,7 +34,7 @@ use Rattle.sync_types.specs.declared.Part.TheVariants as part
 -- ---- what blocks move
 
 -- what a block does by itself is a motion
-abbrev IsMove : Part → Type 0
+abbrev pub IsMove : Part → Type 0
 IsMove (part.Move motion) = Unit {0}
 IsMove (part.Switch zone on) = ⊥
 
@@ -158,7 +158,7 @@ module _ (s : SurroundingsView) (axes : List Bool) where
   abbrev pub found_with : SettingView
   found_with = setting_with s.channels s.programs s.axes s.zones s.channel s.slots axes
 
-  was_done : (past : List Deed) (place : Place) (b : ℕ × BlockView) (done : Executed) → (grant_after s past).axes ≡ axes → executed_block s past place b ≡ Ok done → IsDone found_with done
+  pub was_done : (past : List Deed) (place : Place) (b : ℕ × BlockView) (done : Executed) → (grant_after s past).axes ≡ axes → executed_block s past place b ≡ Ok done → IsDone found_with done
   was_done past place (line, block) done own is =
       by_request (request_in (setting_after s past) (parameter_in (parameters_after past)) block.statement)
       (subst (λ (owned : List Bool). AsksForAll found_with (request_in (setting_with s.channels s.programs s.axes s.zones s.channel s.slots owned) (parameter_in (parameters_after past)) block.statement)) (sym own)

@@ -80,7 +80,7 @@ segment_step s c finds = record {
   listed = end_listed s c;
 }
 
-has_within : (axes : List Bool) (x : ℕ) → length axes ≡ 16 → has axes x ≡ true → x < 16
+pub has_within : (axes : List Bool) (x : ℕ) → length axes ≡ 16 → has axes x ≡ true → x < 16
 has_within axes x long on = by_place (le_or_lt 16 x)
   where
     by_place : (16 ≤ x) ⊎ (x < 16) → x < 16
@@ -100,7 +100,7 @@ unfolding segment_after
 script_step job c [] all = record { at = none_in_range; listed = tt }
 script_step job c (first ∷ rest) all = segment_step (surroundings_of job c first) (channel_after_grants (surroundings_of job c first) rest) (finds job c first rest all)
 
-script_moves : (job : JobView) (c : ℕ) (grants : List Grant) → All IsGoodGrant grants → All MovesSoundly (segment_after job c grants).items
+pub script_moves : (job : JobView) (c : ℕ) (grants : List Grant) → All IsGoodGrant grants → All MovesSoundly (segment_after job c grants).items
 unfolding segment_after
 script_moves job c [] all = All-nil MovesSoundly
 script_moves job c (first ∷ rest) all = segment_moves (surroundings_of job c first) (channel_after_grants (surroundings_of job c first) rest) (finds job c first rest all)

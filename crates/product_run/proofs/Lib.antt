@@ -20,3 +20,4 @@ pub mod JobStarts
 pub mod OwnedRuns
 pub mod Switching
 pub mod FittingGrants
+pub mod ZoneSteps

@@ -3,15 +3,15 @@ use Rattle.std.proofs.Common.{◌≡◌, ℕ, suc, ℤ, List, [], ◌∷◌, ◌
 use mathlib.Core.Path.{fun_ext}
 use Rattle.axis_sets.specs.Positions.{position_of, stands}
 use Rattle.block_motions.specs.Motions.{IsMotionOf}
-use Rattle.channel_machine.specs.Run.{Channel, SurroundingsView, channel_at_start, grant_after, segment_of, stands_after, surroundings_of}
+use Rattle.channel_machine.specs.Run.{Channel, SegmentView, SurroundingsView, channel_at_start, grant_after, owned_at, segment_of, stands_after, surroundings_of}
 use Rattle.channel_machine.proofs.Pasts.{grant-got, stands-got}
-use Rattle.channel_machine.proofs.RunLaws.{all_follow, stands_then}
+use Rattle.channel_machine.proofs.RunLaws.{all_follow, grant_then, stands_then}
 use Rattle.job_types.specs.Job.{JobView}
 use Rattle.path_geometry.specs.declared.motion.Motion.{Motion}
 use Rattle.sync_types.proofs.Positions.{moved_by}
 use Rattle.sync_types.proofs.Replays.{maximal_runs_come_from, sequential_is_one}
 use Rattle.sync_types.specs.Boards.{State, Board, first_board, grant_in}
-use Rattle.sync_types.specs.Items.{left_at}
+use Rattle.sync_types.specs.Items.{left_at, movement_of}
 use Rattle.sync_types.specs.Runs.{Script, Stage, after_turn, as_list, first_stage, moves_of, next_move}
 use Rattle.sync_types.specs.Turns.{after_step, entries_of}
 use Rattle.sync_types.specs.Views.{StartView, RunView}
@@ -19,6 +19,7 @@ use Rattle.sync_types.specs.declared.Grant.{Grant}
 use Rattle.sync_types.specs.declared.Item.{Item}
 use Rattle.product_run.proofs.Measures.{grants-push}
 use Rattle.product_run.proofs.Segments.{first_segment, later_segment}
+use Rattle.product_run.proofs.StepPlaces.{step_tells}
 use Rattle.product_run.proofs.Usage.{accords_first, accords_turns, no_usage, usage_from}
 use Rattle.product_run.specs.RunLaws.{HasGotLast, IsWholeRun, MovesWhatItOwns, RunsInOrderAreWhole, StandsByGrants, stands_at_end, stands_before}
 use Rattle.product_run.specs.Scripts.{channel_after_grants, channel_after_segment, items_of, script_of, segment_after}
@@ -51,25 +52,49 @@ begins job c (first ∷ rest) grant =
       stand = λ axis. ap (λ (x : Channel). stands_after s x.past axis) (grants-push s (channel_at_start s) rest grant);
     }
 
-pub moves_what_it_owns : (job : JobView) (c : ℕ) (made : List Grant) (grant : Grant) → MovesWhatItOwns job c made grant
-moves_what_it_owns job c made grant place item motion is moves =
+-- each of its items moves axes of the grant, from where those before it left them
+pub moves_from : (job : JobView) (c : ℕ) (made : List Grant) (grant : Grant) (place : ℕ) (item : Item) → slice_get (segment_after job c (made ++ grant ∷ [])).items place ≡ Some item
+    → IsMotionOf grant.axes (left_at (take place (segment_after job c (made ++ grant ∷ [])).items) (stands_before job c (made ++ grant ∷ []))) (movement_of item)
+moves_from job c made grant place item is =
     let b = begins job c made grant in
     let items : List Item = (segment_after job c (made ++ grant ∷ [])).items in
     let same : items ≡ (segment_of b.setting b.channel).items = ap (λ g. g.items) b.segment in
     let found : slice_get (segment_of b.setting b.channel).items place ≡ Some item = ap (λ (xs : List Item). slice_get xs place) (sym same) ∙ is in
     let follows = (all_follow b.setting b.channel).follows place item found in
-    let P : Grant → Type 0 = λ g. IsMotionOf g.axes (left_at (take place (segment_of b.setting b.channel).items) (stands_after b.setting b.channel.past)) motion in
-    let Q : List Item → Type 0 = λ xs. IsMotionOf grant.axes (left_at (take place xs) (stands_after b.setting b.channel.past)) motion in
-    let R : (ℕ → ℤ) → Type 0 = λ at. IsMotionOf grant.axes (left_at (take place items) at) motion in
-    let by_motion = subst (λ (m : Motion). IsMotionOf (grant_after b.setting b.channel.past).axes (left_at (take place (segment_of b.setting b.channel).items) (stands_after b.setting b.channel.past)) m) (moved_by item motion moves) follows in
-    subst R (sym (fun_ext b.stand)) (subst Q (sym same) (subst P b.granted by_motion))
+    let P : Grant → Type 0 = λ g. IsMotionOf g.axes (left_at (take place (segment_of b.setting b.channel).items) (stands_after b.setting b.channel.past)) (movement_of item) in
+    let Q : List Item → Type 0 = λ xs. IsMotionOf grant.axes (left_at (take place xs) (stands_after b.setting b.channel.past)) (movement_of item) in
+    let R : (ℕ → ℤ) → Type 0 = λ at. IsMotionOf grant.axes (left_at (take place items) at) (movement_of item) in
+    subst R (sym (fun_ext b.stand)) (subst Q (sym same) (subst P b.granted follows))
 
-stands_first : (job : JobView) (c : ℕ) (grant : Grant) (axis : ℕ) → stands_before job c (grant ∷ []) axis ≡ stands grant.at axis
+pub moves_what_it_owns : (job : JobView) (c : ℕ) (made : List Grant) (grant : Grant) → MovesWhatItOwns job c made grant
+moves_what_it_owns job c made grant place item motion is moves =
+    subst (λ (m : Motion). IsMotionOf grant.axes (left_at (take place (segment_after job c (made ++ grant ∷ [])).items) (stands_before job c (made ++ grant ∷ []))) m) (moved_by item motion moves)
+    (moves_from job c made grant place item is)
+
+-- the step at its end tells of each axis of the grant where the items left it
+pub step_places : (job : JobView) (c : ℕ) (made : List Grant) (grant : Grant)
+    → (script_of job c (made ++ grant ∷ [])).at ≡ owned_at grant.axes (left_at (segment_after job c (made ++ grant ∷ [])).items (stands_before job c (made ++ grant ∷ [])))
+step_places job c made grant =
+    let b = begins job c made grant in
+    let segment : SegmentView = segment_of b.setting b.channel in
+    let items : List Item = (segment_after job c (made ++ grant ∷ [])).items in
+    let same : segment.items ≡ items = sym (ap (λ g. g.items) b.segment) in
+    let stand : stands_after b.setting segment.after.past ≡ left_at items (stands_before job c (made ++ grant ∷ [])) =
+    fun_ext (λ axis.
+    stands_then b.setting b.channel axis
+    ∙ ap (λ (xs : List Item). left_at xs (stands_after b.setting b.channel.past) axis) same
+    ∙ ap (λ (at : ℕ → ℤ). left_at items at axis) (sym (fun_ext b.stand))) in
+    ap (λ (g : SegmentView). g.step.at) b.segment
+    ∙ step_tells b.setting b.channel
+    ∙ ap (λ (g : Grant). owned_at g.axes (stands_after b.setting segment.after.past)) (grant_then b.setting b.channel ∙ b.granted)
+    ∙ ap (owned_at grant.axes) stand
+
+pub stands_first : (job : JobView) (c : ℕ) (grant : Grant) (axis : ℕ) → stands_before job c (grant ∷ []) axis ≡ stands grant.at axis
 unfolding stands_before
 stands_first job c grant axis = refl
 
 -- a channel that has made these segments and goes on with a grant
-stands_next : (job : JobView) (c : ℕ) (first : Grant) (rest : List Grant) (next : Grant) (axis : ℕ)
+pub stands_next : (job : JobView) (c : ℕ) (first : Grant) (rest : List Grant) (next : Grant) (axis : ℕ)
     → stands_before job c (first ∷ (rest ++ next ∷ [])) axis ≡ unwrap_or (position_of next.at axis) (stands_at_end job c (first ∷ rest) axis)
 unfolding stands_before segment_after
 stands_next job c first rest next axis =

@@ -32,7 +32,7 @@ use Rattle.sync_types.specs.declared.Step.{Step}
 abbrev pub found_by : JobView → ℕ → Grant → SettingView
 found_by job c grant = setting_in job c (surroundings_of job c grant).slots grant.axes
 
-one_grant_on : (job : JobView) (c : ℕ) (first : Grant) (rest : List Grant) (grant : Grant) → segment_after job c (first ∷ (rest ++ grant ∷ []))
+pub one_grant_on : (job : JobView) (c : ℕ) (first : Grant) (rest : List Grant) (grant : Grant) → segment_after job c (first ∷ (rest ++ grant ∷ []))
     ≡ segment_of (surroundings_of job c first) (channel_after_segment (surroundings_of job c first) (channel_after_grants (surroundings_of job c first) rest) grant)
 unfolding segment_after
 one_grant_on job c first rest grant =
@@ -84,7 +84,7 @@ running_got stage usage c accords runs = by_state (stage.board.state c) refl run
     by_state (IsRunning grant) at on = (grant, accords.grants c ∙ ap (λ (s : State). usage c ++ as_list (grant_in s)) at, refl)
     by_state other at on = no_truth false on refl
 
-own_turn : (job : JobView) (stage : Stage) (usage : Usage) (c : ℕ) → is_running (stage.board.state c) ≡ true → IsOwnStage job stage usage
+pub own_turn : (job : JobView) (stage : Stage) (usage : Usage) (c : ℕ) → is_running (stage.board.state c) ≡ true → IsOwnStage job stage usage
     → IsOwnStage job (after_turn (script_of job) stage c) (usage_after stage usage c)
 own_turn job stage usage c runs own =
     let count : ℕ = length job.programs in

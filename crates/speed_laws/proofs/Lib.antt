@@ -29,3 +29,4 @@ pub mod FreeZones
 pub mod OwnersHaveLines
 pub mod PresentBoxes
 pub mod AllSpeeds
+pub mod KnownZones

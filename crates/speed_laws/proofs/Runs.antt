@@ -23,7 +23,7 @@ use Rattle.sync_types.specs.Items.{left_at, movement_of}
 use Rattle.sync_types.specs.declared.Item.{Item}
 
 -- the motion of each place is one of a channel that owns these axes
-abbrev Follow : List Bool → (ℕ → ℤ) → List Item → Type 0
+abbrev pub Follow : List Bool → (ℕ → ℤ) → List Item → Type 0
 Follow axes start items = (place : ℕ) (item : Item) → slice_get items place ≡ Some item → IsMotionOf axes (left_at (take place items) start) (movement_of item)
 
 motion_joins : (axes : List Bool) (at : ℕ → ℤ) (item : Item) → IsMotionOf axes at (movement_of item) → IsSound (movement_of item) → Joins at item
@@ -36,7 +36,7 @@ motion_joins axes at item is sound = (
   ),
 )
 
-all_join : (axes : List Bool) (at : ℕ → ℤ) (items : List Item) → Follow axes at items → All (λ item. IsSound (movement_of item)) items → AllJoin at items
+pub all_join : (axes : List Bool) (at : ℕ → ℤ) (items : List Item) → Follow axes at items → All (λ item. IsSound (movement_of item)) items → AllJoin at items
 all_join axes at [] follow sound = tt
 all_join axes at (item ∷ items) follow sound = (
   motion_joins axes at item (subst (λ (p : ℕ → ℤ). IsMotionOf axes p (movement_of item)) (fun_ext (left_at-nil at)) (follow 0 item refl))
@@ -47,7 +47,7 @@ all_join axes at (item ∷ items) follow sound = (
 )
 
 -- what holds of all holds of the motion of each place
-All-place : (P : Item → Type 0) (items : List Item) → All P items → (place : ℕ) (item : Item) → slice_get items place ≡ Some item → P item
+pub All-place : (P : Item → Type 0) (items : List Item) → All P items → (place : ℕ) (item : Item) → slice_get items place ≡ Some item → P item
 All-place P items all place item is = subst P (get_or_from_slice_get items place item item is) (all place item (slice_get_within items place item is))
 
 -- motions leave an axis at one place where it stood at one place

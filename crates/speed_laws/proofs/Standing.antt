@@ -53,7 +53,7 @@ module _ (job : JobView) (doings : Doings) where
   abbrev pub stands_at : ℕ → Bool → List Grant → ℕ → ℤ
   stands_at c runs grants = cond runs (stands_before job doings c grants) (stands_after job doings c grants)
 
-  before_more : (c : ℕ) (gs : List Grant) (g : Grant) → stands_before job doings c (gs ++ g ∷ []) ≡ (λ axis. unwrap_or (position_of g.at axis) (stands_after job doings c gs axis))
+  pub before_more : (c : ℕ) (gs : List Grant) (g : Grant) → stands_before job doings c (gs ++ g ∷ []) ≡ (λ axis. unwrap_or (position_of g.at axis) (stands_after job doings c gs axis))
   unfolding stands_before stands_after
   before_more c gs g = with_more (doings.items c) [] (start_position job) gs g
 

@@ -6,3 +6,6 @@ pub mod TurnLemmas
 pub mod CheckLemmas
 pub mod ResultLemmas
 pub mod ArgumentLemmas
+pub mod JobItems
+pub mod JobStands
+pub mod JobDoings

@@ -22,7 +22,7 @@ use Rattle.sync_types.specs.declared.Grant.{Grant}
 use Rattle.sync_types.specs.declared.Item.{Item}
 
 -- the entries of steps are of these steps
-moves_told : (b : Board) (moves : List Move) → moves_in (entries_of b moves) ≡ moves
+pub moves_told : (b : Board) (moves : List Move) → moves_in (entries_of b moves) ≡ moves
 moves_told b [] = refl
 moves_told b (m ∷ ms) = ap (λ (rest : List Move). m ∷ rest) (moves_told (after_step b m.channel m.step) ms)
 

@@ -3,3 +3,4 @@ pub mod OneResult
 pub mod Output
 pub mod Input
 pub mod Arguments
+pub mod JobDoings
