@@ -7,17 +7,19 @@ use Rattle.job_report.specs.Report.{refusal_bytes, report_bytes}
 use Rattle.job_types.specs.Job.{JobView}
 use Rattle.job_types.specs.SoundJob.{IsSoundJob}
 use Rattle.nc_faults.specs.declared.Refusal.{Refusal}
-use Rattle.speed_laws.proofs.Soundness.{none_ever_meet}
-use Rattle.speed_laws.specs.Safety.{SafeAlways}
-use Rattle.speed_laws.specs.Uncoordinated.{IsUncoordinated}
+use Rattle.speed_laws.proofs.AllSpeeds.{always_safe}
+use Rattle.speed_laws.specs.Safety.{IsSafeAlways}
 use Rattle.sync_types.specs.Views.{RunView}
 use Rattle.sync_types.specs.declared.verdicts.Verdict.{Verdict}
 use Rattle.sync_types.specs.declared.verdicts.Verdict.TheVariants as verdicts
 use Rattle.tape_job.proofs.SoundJobs.{read_sound}
 use Rattle.tape_job.specs.Read.{read_of}
 use Rattle.turnmill.proofs.ClearLemmas.{clear_by}
-use Rattle.turnmill.proofs.UncoordinatedRuns.{is_each_once}
+use Rattle.turnmill.proofs.JobDoings.{sound_doings}
+use Rattle.turnmill.proofs.JobItems.{run_items, run_moves}
+use Rattle.turnmill.proofs.QuietRuns.{quiet_in_order}
 use Rattle.turnmill.specs.Input.{ReadsAll, TakesTooMany}
+use Rattle.turnmill.specs.JobDoings.{doings_of}
 use Rattle.turnmill.specs.Judged.{IsClear, IsJudged}
 use Rattle.turnmill.specs.Output.{IsAnswer, IsOutput, IsOutputOf, IsReadWhole, IsVerdict, Writes, WritesFront, status_of}
 use Rattle.turnmill.specs.declared.check.Status.{Status}
@@ -153,12 +155,15 @@ clear_where : (read : Result JobView Refusal) → IsOkAnd read (λ job. (run : R
 clear_where (Ok job) is = clear_by job is.0 is.1
 clear_where (Err refusal) is = is
 
--- without coordination it is safe at all speeds
-safe_if_clear : (job : JobView) → IsSoundJob job → IsClear job → IsUncoordinated job → SafeAlways job
-safe_if_clear job sound clear plain =
-    none_ever_meet job clear.run clear.before sound plain (is_each_once job clear.run sound plain clear.in_order) clear.ordered clear.apart
+-- and safe at all speeds
+safe_if_clear : (job : JobView) → IsSoundJob job → IsClear job → IsSafeAlways job (doings_of job)
+safe_if_clear job sound clear =
+    always_safe job (doings_of job) clear.in_order.channels clear.run clear.before sound (sound_doings job sound)
+    (quiet_in_order job sound clear.run clear.in_order clear.no_race)
+    (record { moves = run_moves job clear.run clear.in_order; items = run_items job clear.run clear.in_order })
+    clear.ordered clear.apart
 
-safe_where : (read : Result JobView Refusal) → IfOk read IsSoundJob → IsOkAnd read IsClear → IsOkAnd read (λ job. IsUncoordinated job → SafeAlways job)
+safe_where : (read : Result JobView Refusal) → IfOk read IsSoundJob → IsOkAnd read IsClear → IsOkAnd read (λ job. IsSafeAlways job (doings_of job))
 safe_where (Ok job) sound clear = safe_if_clear job sound clear
 safe_where (Err refusal) sound clear = clear
 
@@ -176,9 +181,9 @@ clear_at_yes left after old new bytes status reads short writes is =
 
 pub safe_at_yes : (left after old new : Option (List ℕ)) (bytes : List ℕ) (status : Status) → ReadsAll left after bytes → length bytes ≤ 8388608
     → (IsReadWhole status → Writes (IsOutput bytes) status old new) → status ≡ ends.Yes
-    → IfSome left (λ input. IsOkAnd (read_of input) (λ job. IsUncoordinated job → SafeAlways job))
+    → IfSome left (λ input. IsOkAnd (read_of input) (λ job. IsSafeAlways job (doings_of job)))
 safe_at_yes left after old new bytes status reads short writes is =
-    of_input (λ input. IsOkAnd (read_of input) (λ job. IsUncoordinated job → SafeAlways job)) left after bytes reads
+    of_input (λ input. IsOkAnd (read_of input) (λ job. IsSafeAlways job (doings_of job))) left after bytes reads
     (safe_where (read_of bytes) (read_sound bytes) (clear_read bytes status old new short writes is))
 
 -- ---- REFUSED

@@ -10,7 +10,7 @@ use Rattle.sync_types.specs.Boards.{first_board}
 use Rattle.sync_types.specs.Runs.{Stage, after_turn, first_stage}
 use Rattle.sync_types.specs.Views.{RunView}
 use Rattle.sync_types.specs.declared.Item.{Item}
-use Rattle.turnmill.proofs.UncoordinatedRuns.{moves_told}
+use Rattle.turnmill.proofs.QuietRuns.{moves_told}
 use Rattle.turnmill.specs.JobDoings.{doings_of}
 
 -- what the channels do before their steps

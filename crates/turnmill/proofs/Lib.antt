@@ -1,5 +1,5 @@
 pub mod ClearLemmas
-pub mod UncoordinatedRuns
+pub mod QuietRuns
 pub mod JudgeLemmas
 pub mod OneOutput
 pub mod TurnLemmas

@@ -23,6 +23,7 @@ use Rattle.sync_types.specs.declared.runs.Race.{Race}
 use Rattle.tape_job.proofs.SoundJobs.{read_sound}
 use Rattle.tape_job.specs.Read.{read_of}
 use Rattle.turnmill.proofs.CheckLemmas.{of_input, whole_verdict}
+use Rattle.turnmill.proofs.QuietRuns.{quiet_in_order, quiet_run}
 use Rattle.turnmill.proofs.TurnLemmas.{same_motions}
 use Rattle.turnmill.specs.Input.{ReadsAll}
 use Rattle.turnmill.specs.Judged.{IsFirstRaceIn, zone_time_in}
@@ -31,20 +32,7 @@ use Rattle.turnmill.specs.Output.{IsOutput, IsOutputOf, IsReadWhole, IsVerdict, 
 use Rattle.turnmill.specs.declared.check.Status.{Status}
 use Rattle.turnmill.specs.declared.check.Status.TheVariants as ends
 
--- the entries of steps are those of these steps, and as many
-its_moves : (b : Board) (moves : List Move) → moves_in (entries_of b moves) ≡ moves
-its_moves b [] = refl
-its_moves b (m ∷ ms) = ap (λ rest. m ∷ rest) (its_moves (after_step b m.channel m.step) ms)
-
-as_many : (b : Board) (moves : List Move) → length (entries_of b moves) ≡ length moves
-as_many b [] = refl
-as_many b (m ∷ ms) = ap (λ n. suc n) (as_many (after_step b m.channel m.step) ms)
-
 module _ (job : JobView) (sound : IsSoundJob job) where
-  -- a run of all turns without a race
-  quiet_run : (turns : List ℕ) → TakeAllTurns job turns → HasNoRace (script_of job) (start_of job) turns → IsQuietRun (script_of job) (start_of job) turns
-  quiet_run turns whole quiet = record { sound = start_sound job sound; numbers = start_numbers job; maximal = whole; quiet = quiet }
-
   one_result_by : (cs : List ℕ) → IsQuietRun (script_of job) (start_of job) cs → HasOneResult job
   one_result_by cs quiet = record {
     no_race = λ turns taken. (speaks (script_of job) (start_of job) cs turns quiet taken).quiet;
@@ -54,29 +42,12 @@ module _ (job : JobView) (sound : IsSoundJob job) where
     where
       same : (turns others : List ℕ) → TakeAllTurns job turns → TakeAllTurns job others → LeadToTheSame job turns others
       same turns others whole other_whole =
-          let quiet_too = quiet_run turns whole (speaks (script_of job) (start_of job) cs turns quiet whole.run).quiet in
+          let quiet_too = quiet_run job sound turns whole (speaks (script_of job) (start_of job) cs turns quiet whole.run).quiet in
           let result = all_agree (script_of job) (start_of job) turns others quiet_too other_whole in
           record { result = result; motions = λ channel. same_motions job turns others whole other_whole channel (result.grants channel) }
 
   pub one_result : (run : RunView) → IsRunInOrder job (start_of job) run → IsFirstRaceIn job run None → HasOneResult job
-  one_result run in_order none = one_result_by cs (quiet_run cs (sequential_is_one (script_of job) (first_stage (start_of job)) cs cs in_order.sequential).maximal quiet)
-    where
-      cs : List ℕ
-      cs = in_order.channels
-
-      b : Board
-      b = first_board (start_of job)
-
-      moves : List Move
-      moves = moves_by (script_of job) (start_of job) cs
-
-      -- the entries are those of the turns
-      none_there : (i : ℕ) (race : Race) → i < length (entries_of b moves) → IsRace b (moves_in (entries_of b moves)) i race → ⊥
-      none_there = subst (λ (r : RunView). IsFirstRaceIn job r None) in_order.all none
-
-      quiet : HasNoRace (script_of job) (start_of job) cs
-      quiet i within race is =
-          none_there i race (subst (λ n. i < n) (sym (as_many b moves)) within) (subst (λ (ms : List Move). IsRace b ms i race) (sym (its_moves b moves)) is)
+  one_result run in_order none = one_result_by in_order.channels (quiet_in_order job sound run in_order none)
 
 -- ---- a verdict that is not RACE
 

@@ -1,9 +1,9 @@
 //! The check by the arguments of the command line.
 ghost use Rattle.std.specs.Prelude.{◌≡◌, ◌≢◌, ◌↔◌, ◌⊎◌, ◌-◌, ◌^◌, ◌<◌, ◌≤◌, true, false, map, IfSome, IfOk, IsOkAnd, string_bytes, [], Some};
-ghost use Rattle.speed_laws.specs.Safety.{SafeAlways};
-ghost use Rattle.speed_laws.specs.Uncoordinated.{IsUncoordinated};
+ghost use Rattle.speed_laws.specs.Safety.{IsSafeAlways};
 ghost use Rattle.tape_job.specs.Read.{read_of};
 ghost use Rattle.turnmill.specs.Arguments.{GivesWords, HasNoText, asks_for_check};
+ghost use Rattle.turnmill.specs.JobDoings.{doings_of};
 ghost use Rattle.turnmill.specs.Judged.{IsClear};
 ghost use Rattle.turnmill.specs.OneResult.{HasOneResult};
 ghost use Rattle.turnmill.specs.Output.{IsOutput, IsVerdict, Writes};
@@ -58,7 +58,7 @@ pub fn check_arguments<S: Source, K: Sink>(
     ensures yes { result ≡ Status.Yes → IfSome (S.left source.old) (λ input. IsOkAnd (read_of input) IsClear) }
     ensures schedules { IsVerdict result → result ≢ Status.Race → IfSome (S.left source.old) (λ input. IsOkAnd (read_of input) HasOneResult) }
     ensures speeds { result ≡ Status.Yes → IfSome (S.left source.old) (λ input.
-        IsOkAnd (read_of input) (λ job. IsUncoordinated job → SafeAlways job)) }
+        IsOkAnd (read_of input) (λ job. IsSafeAlways job (doings_of job))) }
     ensures read_fault { (result ≡ Status.ReadFault) ↔ (S.faults source.old < S.faults source.new) }
     ensures write_fault { (result ≡ Status.WriteFault) ↔ (K.faults sink.old < K.faults sink.new) }
     ensures read_faults_never_fall { S.faults source.old ≤ S.faults source.new }

@@ -4,9 +4,9 @@ ghost use Rattle.edge_io.specs.Moves.{Grows};
 ghost use Rattle.job_report.specs.Report.{refusal_bytes};
 ghost use Rattle.job_types.specs.SoundJob.{BlocksFit, IsSoundJob};
 ghost use Rattle.nc_faults.specs.Texts.{IsRefusalCode};
-ghost use Rattle.speed_laws.specs.Safety.{SafeAlways};
-ghost use Rattle.speed_laws.specs.Uncoordinated.{IsUncoordinated};
+ghost use Rattle.speed_laws.specs.Safety.{IsSafeAlways};
 ghost use Rattle.tape_job.specs.Read.{read_of};
+ghost use Rattle.turnmill.specs.JobDoings.{doings_of};
 ghost use Rattle.turnmill.specs.Input.{is_check, ReadsInput, TakesTooMany};
 ghost use Rattle.turnmill.specs.Judged.{IsClear, IsJudged};
 ghost use Rattle.turnmill.specs.OneResult.{HasOneResult};
@@ -250,10 +250,10 @@ pub fn check_words<S: Source, K: Sink>(
     ensures schedules { IsVerdict result → result ≢ Status.Race → IfSome (S.left source.old) (λ input.
         IsOkAnd (read_of input) HasOneResult) }
 
-    // At YES a job without coordination is safe whatever the feed overrides: no axis has two owners, and no two zones of
-    // different groups meet.
+    // At YES the job is safe in every order of its channels and whatever the feed overrides: in each state that they pass
+    // through no axis has two owners, and no two zones of different groups that are on meet.
     ensures speeds { result ≡ Status.Yes → IfSome (S.left source.old) (λ input.
-        IsOkAnd (read_of input) (λ job. IsUncoordinated job → SafeAlways job)) }
+        IsOkAnd (read_of input) (λ job. IsSafeAlways job (doings_of job))) }
 
     // A refusal comes with its whole line, and no byte of the input is left.
     ensures refused { result ≡ Status.Refused → IfSome (S.left source.old) (λ input.
