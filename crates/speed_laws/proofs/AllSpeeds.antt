@@ -1,5 +1,5 @@
 -- Where no compared pair of the run that speaks for all runs meets, no two zones meet in any run at any speed.
-use Rattle.std.proofs.Common.{◌≡◌, ◌≢◌, ◌∙◌, ℕ, ◌<◌, Bool, true, ◌==◌, List, [], ◌∷◌, map, find, None, Some, All, Contains, inl, inr, refl, sym, ap, ap₂, subst}
+use Rattle.std.proofs.Common.{◌≡◌, ◌≢◌, ℕ, Bool, true, List, [], ◌∷◌, map, find, None, All, Contains, inl, inr, refl, sym, subst}
 use Rattle.std.proofs.lemmas.List.Elements.{All-contains, All-head, All-tail}
 use Rattle.channel_machine.specs.StartStates.{start_of}
 use Rattle.job_types.specs.Job.{JobView}

@@ -1,15 +1,13 @@
 -- The end of the last motion of a channel, and where it leaves the axes.
-use Rattle.std.proofs.Common.{◌≡◌, ◌∙◌, ℕ, zero, suc, ℤ, pos, ◌-◌, ◌*ℤ◌, ◌≤◌, true, List, [], ◌∷◌, length, take, Option, Some, IfSome, IsSomeAnd, IsTrue, slice_get, refl, sym, ap, subst, arith, ◌⊎◌, cond, ◌==◌, find, nat_lt, None, option_map, unwrap_or, IsNone, inl, inr}
-use Rattle.std.proofs.lemmas.Bool.{eq-eqb, eqb-true, cases_eq}
+use Rattle.std.proofs.Common.{◌≡◌, ◌∙◌, ℕ, zero, suc, ℤ, pos, ◌-◌, ◌*ℤ◌, ◌≤◌, List, [], ◌∷◌, length, take, Option, Some, IfSome, IsSomeAnd, slice_get, refl, sym, ap, subst, arith, ◌==◌, find, None, option_map, unwrap_or, IsNone}
+use Rattle.std.proofs.lemmas.Bool.{eqb-true}
 use Rattle.std.proofs.lemmas.List.Elements.{All-weaker}
-use Rattle.std.specs.Option.{option_map_or}
 use Rattle.number_laws.proofs.Lists.{found_passes, All-found}
-use Rattle.number_laws.specs.Fractions.{IsSame, whole}
 use Rattle.path_geometry.specs.Motions.{axes_of, axis_end}
 use Rattle.path_geometry.specs.Path.{Point}
 use Rattle.protection_zones.specs.ZoneBoxes.{stand_after}
 use Rattle.speed_laws.proofs.Covers.{standing, along_at_end}
-use Rattle.speed_laws.proofs.Positions.{joins_at, begins_at_left, after_is, left_at-cons}
+use Rattle.speed_laws.proofs.Positions.{joins_at, after_is, left_at-cons}
 use Rattle.speed_laws.proofs.ZoneLemmas.{some_at}
 use Rattle.speed_laws.specs.JoinedItems.{AllJoin}
 use Rattle.speed_laws.specs.Places.{IsAlong, IsEndOf, IsAtPlace, IsAtEnd, StandsAt}

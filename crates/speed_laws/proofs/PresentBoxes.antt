@@ -1,62 +1,50 @@
 -- In each state a zone that is on is in a piece of a box of its present stretch.
-use Rattle.std.proofs.Common.{◌≡◌, ◌≢◌, ◌⊎◌, ◌∙◌, ℕ, ℤ, ◌≤◌, ◌<◌, Bool, true, false, cond, ◌==◌, List, [], ◌∷◌, take, map, length, filter, find, slice_index_or, Option, None, Some, IfSome, Contains, inl, inr, refl, sym, ap, ap₂, subst, arith}
-use Rattle.std.proofs.lemmas.Bool.{cases_Bool, cases_eq, eqb-true, eq-eqb}
-use Rattle.std.proofs.lemmas.List.Elements.{All-contains}
-use Rattle.std.specs.Option.{option_map_or}
+use Rattle.std.proofs.Common.{◌≡◌, ◌∙◌, ℕ, ℤ, ◌<◌, Bool, true, false, cond, ◌==◌, List, [], take, find, slice_index_or, None, Some, inl, inr, refl, sym, ap, ap₂, subst, arith}
+use Rattle.std.proofs.lemmas.Bool.{cases_Bool}
 use Rattle.axis_sets.specs.Sets.{has}
-use Rattle.board_laws.proofs.Zones.{zones_first, zones_step}
+use Rattle.board_laws.proofs.Zones.{zones_first}
 use Rattle.board_laws.specs.Zones.{Zones}
 use Rattle.channel_machine.specs.StartStates.{start_of}
-use Rattle.job_types.specs.Axes.{start_position}
 use Rattle.job_types.specs.Job.{JobView}
 use Rattle.job_types.specs.SoundJob.{IsSoundJob, IsSoundZone}
 use Rattle.job_types.specs.Zones.{has_axis}
 use Rattle.job_types.specs.declared.job.ZoneLine.{ZoneLine}
-use Rattle.number_laws.proofs.Lists.{SomeOf, SomeOf-weaker}
+use Rattle.number_laws.proofs.Lists.{SomeOf}
 use Rattle.number_laws.specs.Fractions.{Fraction, IsIn, whole}
-use Rattle.order_clocks.specs.Clocked.{IsOrderOf, moves_in}
 use Rattle.path_geometry.specs.Path.{Point}
-use Rattle.protection_zones.specs.Occurrences.{occurrences_from, occurrences_of}
-use Rattle.protection_zones.specs.Overlaps.{Order, compared_pairs}
-use Rattle.protection_zones.specs.Pieces.{pair_meets}
 use Rattle.protection_zones.specs.SoundStretches.{IsZoneOf}
-use Rattle.protection_zones.specs.Spans.{Beginning, Span, entry_of_beginning, is_on_at_first}
-use Rattle.protection_zones.specs.Stretches.{StretchView, free_stretch, stretch_between, stretch_of_span, stretches_of_zone}
+use Rattle.protection_zones.specs.Spans.{Beginning, entry_of_beginning, is_on_at_first}
+use Rattle.protection_zones.specs.Stretches.{StretchView, free_stretch, stretch_of_span}
 use Rattle.protection_zones.specs.Tenures.{Tenure}
 use Rattle.protection_zones.specs.ZoneBoxes.{boxes_of}
-use Rattle.schedule_laws.specs.Schedules.{IsQuietRun, IsRunOf, moves_by}
+use Rattle.schedule_laws.specs.Schedules.{IsQuietRun}
 use Rattle.speed_laws.proofs.BoxPieces.{AxesWithin}
-use Rattle.speed_laws.proofs.ComparedPairs.{HasBox, HoldsPlace, IsCurrent, IsInPiece, is_in_order, some_pair_meets, zone_by_number}
+use Rattle.speed_laws.proofs.ComparedPairs.{HoldsPlace, IsInPiece}
 use Rattle.speed_laws.proofs.Covers.{Covers, box_covers, place_fraction}
-use Rattle.speed_laws.proofs.FreeZones.{BeginsAsBoard, StandsNow, zone_stands}
+use Rattle.speed_laws.proofs.FreeZones.{BeginsAsBoard, StandsNow}
 use Rattle.speed_laws.proofs.HandedAxes.{keeps_first, keeps_run}
-use Rattle.speed_laws.proofs.PastEvents.{is_past, made_counts, past_is_cut}
 use Rattle.speed_laws.proofs.PresentSpans.{ItemsAre, PresentSpan}
-use Rattle.speed_laws.proofs.PresentTenures.{part_start}
 use Rattle.speed_laws.proofs.ReachActs.{is_placed, stands_still}
-use Rattle.speed_laws.proofs.RunPlaces.{IsSpot, WellSpotted, run_zones}
+use Rattle.speed_laws.proofs.RunPlaces.{WellSpotted, run_zones}
 use Rattle.speed_laws.proofs.Standing.{made_stand}
 use Rattle.speed_laws.proofs.Positions.{one_under}
-use Rattle.speed_laws.proofs.StepEvents.{taken}
 use Rattle.speed_laws.proofs.StretchBoxes.{first_on, in_stretch, standing_covers}
 use Rattle.speed_laws.proofs.SwitchedZones.{made_on}
 use Rattle.speed_laws.proofs.ZoneLemmas.{FractionsWithin}
 use Rattle.speed_laws.specs.DoingLaws.{AreSound}
-use Rattle.speed_laws.specs.Doings.{Doings, on_after, stands_before, stands_after}
+use Rattle.speed_laws.specs.Doings.{Doings, on_after}
 use Rattle.speed_laws.specs.Histories.{items_by}
 use Rattle.speed_laws.specs.JoinedItems.{AllJoin}
-use Rattle.speed_laws.specs.Places.{IsAtPlace, IsStanding}
+use Rattle.speed_laws.specs.Places.{IsAtPlace}
 use Rattle.speed_laws.specs.Safety.{on_now, on_with, owner_now, position_now, IsInZone, fraction_of}
-use Rattle.speed_laws.specs.SmallSteps.{begins_at, items_now, place_zero, runs, span_number, spot_now, stage_in, Spot, State}
+use Rattle.speed_laws.specs.SmallSteps.{begins_at, items_now, place_zero, runs, spot_now, Spot, State}
 use Rattle.swept_boxes.specs.Boxes.{SpacePoint}
-use Rattle.sync_types.specs.Boards.{Board, Ownership, first_board, is_running, owner_of}
-use Rattle.sync_types.specs.Events.{IsLowestName}
+use Rattle.sync_types.specs.Boards.{Board, is_running, owner_of}
 use Rattle.sync_types.specs.GoingOn.{free_position}
-use Rattle.sync_types.specs.Runs.{IsRun, Stage, after_turn, first_stage, stage_after}
-use Rattle.sync_types.specs.Starts.{IsSound, axes_of_zone}
+use Rattle.sync_types.specs.Runs.{Stage, first_stage, stage_after}
+use Rattle.sync_types.specs.Starts.{axes_of_zone}
 use Rattle.sync_types.specs.Views.{RunView}
 use Rattle.sync_types.specs.declared.Item.{Item}
-use Rattle.sync_types.specs.declared.runs.EventId.{EventId}
 
 -- ---- where a zone is
 

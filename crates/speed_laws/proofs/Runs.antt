@@ -1,21 +1,12 @@
 -- Motions of which each begins where those before it left its axes.
-use Rattle.std.proofs.Common.{◌≡◌, ◌∙◌, ℕ, suc, ℤ, Bool, true, List, [], ◌∷◌, take, get_or, slice_get, Option, Some, unwrap_or, All, refl, sym, ap, subst}
+use Rattle.std.proofs.Common.{◌≡◌, ◌∙◌, ℕ, suc, ℤ, Bool, List, [], ◌∷◌, take, get_or, slice_get, Option, Some, unwrap_or, All, refl, sym, ap, subst}
 use mathlib.Core.Path.{fun_ext}
-use Rattle.std.proofs.lemmas.List.Elements.{All-head, All-tail, All-weaker}
+use Rattle.std.proofs.lemmas.List.Elements.{All-head, All-tail}
 use Rattle.std.proofs.lemmas.Option.{slice_get_within, get_or_from_slice_get}
-use Rattle.axis_sets.specs.Positions.{stands}
-use Rattle.axis_sets.specs.Sets.{has}
 use Rattle.block_motions.proofs.MotionLaws.{ends_found}
 use Rattle.block_motions.specs.Motions.{IsMotionOf}
-use Rattle.channel_machine.proofs.RunLaws.{all_follow, items_sound}
-use Rattle.channel_machine.specs.Run.{channel_at_start}
-use Rattle.job_types.specs.Axes.{first_owner, start_position}
-use Rattle.job_types.specs.Job.{JobView}
-use Rattle.job_types.specs.SoundJob.{IsSoundJob}
-use Rattle.number_laws.proofs.Lists.{by_places}
 use Rattle.path_geometry.specs.Motions.{axes_of, IsSound}
 use Rattle.protection_zones.specs.ZoneBoxes.{stand_after}
-use Rattle.speed_laws.proofs.Grants.{granted_in_range, granted_own, granted_owned}
 use Rattle.speed_laws.proofs.Positions.{after_is, left_at-cons}
 use Rattle.speed_laws.specs.JoinedItems.{Joins, AllJoin}
 use Rattle.sync_types.proofs.Positions.{left_at-nil, end_moved}

@@ -1,6 +1,6 @@
 -- A point of space in a zone is in a piece of a box of a stretch that covers the zone's axes where they are.
-use Rattle.std.proofs.Common.{◌≡◌, ◌≢◌, ◌⊎◌, ◌∙◌, ℕ, zero, suc, ℤ, ◌≤◌, ◌<◌, Bool, true, false, cond, ◌==◌, ◌&&◌, ◌||◌, List, [], ◌∷◌, map, length, find, get_or, slice_index_or, Option, None, Some, IfSome, AllPairs, inl, inr, refl, sym, ap, subst, arith}
-use Rattle.std.proofs.lemmas.Bool.{eqb-true, eq-eqb, ne_eqb, cases_Bool}
+use Rattle.std.proofs.Common.{◌≡◌, ◌≢◌, ◌∙◌, ℕ, suc, ℤ, ◌≤◌, ◌<◌, Bool, true, false, cond, ◌==◌, ◌&&◌, ◌||◌, List, [], ◌∷◌, length, find, get_or, slice_index_or, Option, None, Some, IfSome, AllPairs, inl, refl, sym, ap, arith}
+use Rattle.std.proofs.lemmas.Bool.{eqb-true, ne_eqb}
 use Rattle.std.specs.List.{list_any}
 use Rattle.channel_machine.proofs.StartLaws.{zone_found}
 use Rattle.channel_machine.specs.StartStates.{start_of}
@@ -22,7 +22,6 @@ use Rattle.speed_laws.proofs.ZoneLemmas.{FractionsWithin, in_zone_box}
 use Rattle.speed_laws.specs.Places.{StandsAt}
 use Rattle.speed_laws.specs.Safety.{IsInZone}
 use Rattle.swept_boxes.specs.Boxes.{SpacePoint, IsInBox}
-use Rattle.sync_types.proofs.BoardTests.{no_truth}
 use Rattle.sync_types.specs.Starts as start
 use Rattle.sync_types.specs.Views.{RunView}
 use Rattle.sync_types.specs.declared.Item.{Item}

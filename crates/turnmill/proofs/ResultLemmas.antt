@@ -1,23 +1,15 @@
 -- A job has one result where its run in order has no race.
-use Rattle.std.proofs.Common.{◌≡◌, ◌≢◌, ℕ, suc, ◌<◌, ◌≤◌, List, [], ◌∷◌, length, Option, None, Some, Result, Ok, Err, IfSome, IfOk, IsOkAnd, refl, sym, ap, subst, ◌∙◌}
-use Rattle.channel_machine.proofs.StartLaws.{start_sound}
+use Rattle.std.proofs.Common.{◌≡◌, ◌≢◌, ℕ, ◌≤◌, List, length, Option, None, Some, Result, Ok, Err, IfSome, IfOk, IsOkAnd, refl, ap, subst, ◌∙◌}
 use Rattle.channel_machine.specs.StartStates.{start_of}
 use Rattle.clash_check.specs.Verdicts.{verdict_by}
 use Rattle.job_types.specs.Job.{JobView}
 use Rattle.job_types.specs.SoundJob.{IsSoundJob}
 use Rattle.nc_faults.specs.declared.Refusal.{Refusal}
-use Rattle.order_clocks.specs.Clocked.{moves_in}
-use Rattle.order_clocks.specs.Races.{IsRace}
-use Rattle.product_run.proofs.Short.{start_numbers}
 use Rattle.product_run.specs.Scripts.{IsRunInOrder, script_of}
 use Rattle.protection_zones.specs.Overlaps.{Order}
 use Rattle.protection_zones.specs.Stretches.{StretchesView}
 use Rattle.schedule_laws.proofs.RunLaws.{all_agree, speaks}
-use Rattle.schedule_laws.specs.Schedules.{HasNoRace, IsQuietRun, moves_by}
-use Rattle.sync_types.proofs.Replays.{sequential_is_one}
-use Rattle.sync_types.specs.Boards.{Board, first_board}
-use Rattle.sync_types.specs.Runs.{first_stage}
-use Rattle.sync_types.specs.Turns.{Move, after_step, entries_of}
+use Rattle.schedule_laws.specs.Schedules.{IsQuietRun}
 use Rattle.sync_types.specs.Views.{RunView}
 use Rattle.sync_types.specs.declared.runs.Race.{Race}
 use Rattle.tape_job.proofs.SoundJobs.{read_sound}
