@@ -35,6 +35,6 @@ GoingsMayWait b p q p_step q_step = Rests b → (p == q) ≡ false → runs_at b
 abbrev pub StepsAreActs : State → ℕ → Step → Type 0
 StepsAreActs b p step = IsAct p (b.own p) (touches step.action) (effect b p step)
 
--- and after it nobody is left started, and no clock or place exceeds its count
+-- and leads from rest to rest: no clock or place exceeds its count, and nobody is left started
 abbrev pub StaysAtRest : State → ℕ → Step → Type 0
 StaysAtRest b p step = Rests b → Rests (turn_by b p step)

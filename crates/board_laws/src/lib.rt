@@ -17,7 +17,7 @@ pub fn goings_are_absorbed()
     ensures { (t : State) (q : ℕ) (step : Step) → GoingsAreAbsorbed t q step }
 {}
 
-/// A law: what goes on after a step may wait for the step of another channel that runs; the one way is clean exactly
+/// A law: what goes on after a step may wait for the next step of another channel that runs; the one way is clean exactly
 /// where the other is, and then both lead to the same state.
 pub fn goings_may_wait()
     ensures { (b : State) (p q : ℕ) (p_step q_step : Step) → GoingsMayWait b p q p_step q_step }
@@ -28,7 +28,8 @@ pub fn steps_are_acts()
     ensures { (b : State) (p : ℕ) (step : Step) → StepsAreActs b p step }
 {}
 
-/// A law: after each step clocks and places are within their counts, and nobody is left started.
+/// A law: each step leads from rest to rest, where clocks and places are within the counts of events and nobody is
+/// left started.
 pub fn steps_come_to_rest()
     ensures { (b : State) (p : ℕ) (step : Step) → StaysAtRest b p step }
 {}

@@ -25,7 +25,8 @@ pub fn fields_are_those_of_the_run()
     ensures { (start : StartView) (moves : List Move) (i : ℕ) → FieldsAreOfTheRun start moves i }
 {}
 
-/// A law: a run has no race exactly where each step of the machine is clean, and then the machine ends as the run does.
+/// A law: a run has no race exactly where each step of the machine is clean that makes the same steps, and then the
+/// machine ends as the run does.
 pub fn quiet_runs_are_clean()
     ensures { (start : StartView) (moves : List Move) → QuietRunsAreClean start moves }
 {}
