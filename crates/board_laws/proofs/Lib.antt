@@ -9,6 +9,7 @@ pub mod Footprint
 pub mod Actions
 pub mod Swap
 pub mod Law
+pub mod HalfLaw
 pub mod OneResult
 pub mod Zones
 pub mod Takings

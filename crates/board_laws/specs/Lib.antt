@@ -1,3 +1,4 @@
+pub mod Absorption
 pub mod Clean
 pub mod Laws
 pub mod Machine

@@ -113,10 +113,10 @@ pub record EventsTold (b : Board) (moves : List Move) (c i : ℕ) : Type 0 where
   pub count : length (events_upto b moves c i) ≡ (rows_at b moves i).past c c
   pub phase : Phase b moves c (events_upto b moves c i) (clocks_at b moves i c) i
 
-if_true : {A : Type 0} (t : Bool) (x y : A) → t ≡ true → (if t then x else y) ≡ x
+pub if_true : {A : Type 0} (t : Bool) (x y : A) → t ≡ true → (if t then x else y) ≡ x
 if_true t x y on = rw on refl
 
-if_false : {A : Type 0} (t : Bool) (x y : A) → t ≡ false → (if t then x else y) ≡ y
+pub if_false : {A : Type 0} (t : Bool) (x y : A) → t ≡ false → (if t then x else y) ≡ y
 if_false t x y off = rw off refl
 
 eqb_back : (x y : ℕ) → (x == y) ≡ (y == x)

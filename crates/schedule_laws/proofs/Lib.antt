@@ -16,3 +16,4 @@ pub mod EventLaws
 pub mod Stepwise
 pub mod SwapBoards
 pub mod RunLaws
+pub mod MachineRuns

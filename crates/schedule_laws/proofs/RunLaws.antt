@@ -31,12 +31,12 @@ use Rattle.schedule_laws.proofs.Prefix.{tracked_kept}
 use Rattle.schedule_laws.proofs.Stepwise.{fresh_first, Stepped, quiet_step, clean_step, board_end, same_end}
 
 -- the steps from a place on
-abbrev from_place : List Move → ℕ → List Move
+abbrev pub from_place : List Move → ℕ → List Move
 from_place ms zero = ms
 from_place [] (suc i) = []
 from_place (m ∷ ms) (suc i) = from_place ms i
 
-record At (ms : List Move) (i : ℕ) (m : Move) (rest : List Move) : Type 0 where
+pub record At (ms : List Move) (i : ℕ) (m : Move) (rest : List Move) : Type 0 where
   pub at : move_at ms i ≡ Some m
   pub later : from_place ms (suc i) ≡ rest
   pub inside : i < length ms
@@ -44,13 +44,13 @@ record At (ms : List Move) (i : ℕ) (m : Move) (rest : List Move) : Type 0 wher
 head_of : (m k : Move) (ms ns : List Move) → m ∷ ms ≡ k ∷ ns → (m ≡ k) × (ms ≡ ns)
 head_of m k ms ns e = (let s : m ≡ k = cc in s, let s : ms ≡ ns = cc in s)
 
-at_from : (ms : List Move) (i : ℕ) (m : Move) (rest : List Move) → from_place ms i ≡ m ∷ rest → At ms i m rest
+pub at_from : (ms : List Move) (i : ℕ) (m : Move) (rest : List Move) → from_place ms i ≡ m ∷ rest → At ms i m rest
 at_from [] zero m rest e = let bad : ⊥ = cc in absurd bad
 at_from [] (suc i) m rest e = let bad : ⊥ = cc in absurd bad
 at_from (x ∷ ms) zero m rest e = let h = head_of x m ms rest e in record { at = ap Some h.0; later = h.1; inside = omega arith }
 at_from (x ∷ ms) (suc i) m rest e = let w = at_from ms i m rest e in let l = w.inside in record { at = w.at; later = w.later; inside = omega (arith, l) }
 
-none_from : (ms : List Move) (i : ℕ) → from_place ms i ≡ [] → i ≤ length ms → i ≡ length ms
+pub none_from : (ms : List Move) (i : ℕ) → from_place ms i ≡ [] → i ≤ length ms → i ≡ length ms
 none_from [] zero e inside = refl
 none_from [] (suc i) e inside = absurd (omega (arith, inside))
 none_from (x ∷ ms) zero e inside = let bad : ⊥ = cc in absurd bad
@@ -119,7 +119,7 @@ run_told script start cs run =
     record { run = running; follows = f.0; board = f.1.board; grants = f.1.grants }
 
 -- the machine's runs
-abbrev Quiet : Board → List Move → ℕ → Type 0
+abbrev pub Quiet : Board → List Move → ℕ → Type 0
 Quiet b moves i = (j : ℕ) → i ≤ j → j < length moves → HasNoRaceAt b moves j
 
 turn_next : (script : Script) (b : Board) (moves : List Move) (i c : ℕ) → Stepped b moves i c (script c (grants_at b moves i c)) → (Clean script (tracked b moves i) c) × (turn script (tracked b moves i) c ≡ tracked b moves (suc i))
@@ -163,7 +163,7 @@ clean_runs script b moves (c ∷ cs) i fresh run f clean =
     above j i up n = grind (arith, up, n)
 
 -- all runs begin alike
-begin : (b : Board) (moves : List Move) → tracked b moves 0 ≡ tracked b [] 0
+pub begin : (b : Board) (moves : List Move) → tracked b moves 0 ≡ tracked b [] 0
 begin b moves = tracked_kept b [] moves [] 0 (omega arith)
 
 -- who runs is a channel of the machine

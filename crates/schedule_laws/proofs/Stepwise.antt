@@ -135,11 +135,11 @@ runs_on b ms m q fresh run m_runs q_runs n =
     let out = unready_stays b all (length ms) w q (running_ready (mid w) q ((mid w).own q).seat running) in
     ap (λ (a : Board). is_running (a.state q)) (sym next) ∙ ap is_running (kept_told b all (length ms) w q out ∙ ap (λ (s : Seat). shown (mid w) q s) seat) ∙ ap (λ (a : Board). is_running (a.state q)) end ∙ q_runs
 
-count_own : (b : Board) (ms : List Move) (i c : ℕ) → (own_at b ms i c).count ≡ (rows_at b ms i).past c c
+pub count_own : (b : Board) (ms : List Move) (i c : ℕ) → (own_at b ms i c).count ≡ (rows_at b ms i).past c c
 unfolding own_at
 count_own b ms i c = refl
 
-log_own : (b : Board) (ms : List Move) (i c : ℕ) → (own_at b ms i c).log ≡ clocks_at b ms i c
+pub log_own : (b : Board) (ms : List Move) (i c : ℕ) → (own_at b ms i c).log ≡ clocks_at b ms i c
 unfolding own_at
 log_own b ms i c = refl
 

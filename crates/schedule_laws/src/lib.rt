@@ -5,5 +5,8 @@
 mod runs;
 mod swaps;
 
-pub use runs::{one_quiet_run_speaks_for_all, runs_are_tracked};
+pub use runs::{
+    fields_are_those_of_the_run, one_quiet_run_speaks_for_all, quiet_runs_are_clean,
+    runs_are_tracked,
+};
 pub use swaps::{steps_may_be_swapped, swap_steps};
