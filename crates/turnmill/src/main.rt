@@ -3,6 +3,7 @@
 
 mod arguments;
 mod check;
+mod laws;
 #[cfg(test)]
 mod state_search;
 #[cfg(test)]

@@ -1,0 +1,14 @@
+//! What the channels of every accepted job do in every run of it, as the laws of all speeds ask.
+ghost use Rattle.job_types.specs.Job.{JobView};
+ghost use Rattle.job_types.specs.SoundJob.{IsSoundJob};
+ghost use Rattle.speed_laws.specs.DoingLaws.{AreSound, TellTheBoard};
+ghost use Rattle.turnmill.specs.JobDoings.{doings_of};
+
+/// A law: in every run of an accepted job, however its channels take turns, a channel that runs knows where its axes stand, and
+/// its motions join and have only axes that it owns; and its step tells the board where the axes stand that it lets go, and
+/// which of the zones that it holds are on. So the laws `zones_never_meet`, `axes_never_jump` and `channels_can_act` of
+/// `speed_laws` hold of it.
+pub fn jobs_do_as_laws_ask()
+    ensures moves { (job : JobView) → IsSoundJob job → AreSound job (doings_of job) }
+    ensures tells { (job : JobView) → IsSoundJob job → TellTheBoard job (doings_of job) }
+{}
