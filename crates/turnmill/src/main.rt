@@ -2,7 +2,13 @@
 #![tactic(auto)]
 
 mod arguments;
+#[cfg(test)]
+mod channel_acts;
+#[cfg(test)]
+mod channel_states;
 mod check;
+#[cfg(test)]
+mod coordinated_search;
 #[cfg(test)]
 mod state_search;
 #[cfg(test)]
