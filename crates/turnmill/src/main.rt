@@ -2,8 +2,14 @@
 #![tactic(auto)]
 
 mod arguments;
+#[cfg(test)]
+mod channel_acts;
+#[cfg(test)]
+mod channel_states;
 mod check;
 mod laws;
+#[cfg(test)]
+mod coordinated_search;
 #[cfg(test)]
 mod state_search;
 #[cfg(test)]
