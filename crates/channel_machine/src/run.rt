@@ -19,7 +19,7 @@ use crate::limits::BLOCK_LIMIT;
 use crate::local::{Local, State};
 use crate::surroundings::Surroundings;
 use axis_sets::{AXIS_LIMIT, AxisId, AxisSet, Positions, ZoneId, ZoneSet};
-use block_effects::{BlockFault, Course, Done, execute};
+use block_effects::{BlockFault, Course, execute_to};
 use coordination_words::Request;
 use g_groups::Modal;
 use job_types::Job;
@@ -89,13 +89,13 @@ fn step(state: &State, line: u32, action: Action) -> Step
     }
 }
 
-/// Ends the run of a channel on this line: control is nowhere then.
-fn stop(state: &mut State, line: u32, action: Action) -> Step
-    ensures step { result ≡ model.step_at state.old.own.owned state.old.on (stands state.old.situation.at) line action }
+/// Ends the run of a channel on this line with this step: control is nowhere then.
+fn stop(state: &mut State, line: u32, action: Action, halt: &mut Option<Step>)
+    ensures step { halt.new ≡ Some (model.step_at state.old.own.owned state.old.on (stands state.old.situation.at) line action) }
     ensures nowhere { state.new ≡ record state.old { levels = None } }
 {
     state.levels = None;
-    step(state, line, action)
+    *halt = Some(step(state, line, action));
 }
 
 /// The statement that begins the structure round a place.
@@ -140,11 +140,13 @@ fn find_block<'a>(job: &'a Job, here: &Place) -> Option<NextBlock<'a>>
 }
 
 /// Adds the item, if there is one.
-fn push_some(items: &mut Vec<Item>, item: Option<Item>) -> Result<(), AllocError>
-    ensures { OnOk result (items.new.items ≡ items.old.items ++ option_to_list item) }
+fn push_some(items: &mut Vec<Item>, item: &mut Option<Item>) -> Result<(), AllocError>
+    ensures { OnOk result (items.new.items ≡ items.old.items ++ option_to_list item.old) }
 {
-    if let Some(item) = item {
-        items.push(item)?;
+    if item.is_some() {
+        if let Some(item) = item.take() {
+            items.push(item)?;
+        }
     }
     Ok(())
 }
@@ -174,14 +176,15 @@ fn push_done(
     items: &mut Vec<Item>,
     line: u32,
     request: &Option<Request>,
-    motion: Option<Item>,
+    motion: &mut Option<Item>,
 ) -> Result<(), AllocError>
-    ensures { OnOk result (items.new.items ≡ items.old.items ++ option_to_list (model.item_by line request.now motion)) }
+    ensures { OnOk result (items.new.items ≡ items.old.items ++ option_to_list (model.item_by line request.now motion.old)) }
 {
     match request {
         Some(Request::Switch(zone, on)) => {
             let part = Part::Switch(*zone, *on);
-            push_some(items, Some(Item { line, part }))
+            items.push(Item { line, part })?;
+            Ok(())
         }
         Some(Request::Act(_)) | None => push_some(items, motion),
     }
@@ -195,23 +198,14 @@ fn switched(on: ZoneSet, zone: ZoneId, new: bool) -> ZoneSet
     if new { on.with(zone) } else { on.without(zone) }
 }
 
-/// The zones that are on after a block that asks for this.
-fn on_by_request(on: ZoneSet, request: &Option<Request>) -> ZoneSet
-    ensures { result ≡ model.on_by_request on request.now }
+/// Ends the segment with the step of a block on this line, where it asks anything of the other channels.
+fn hold(state: &State, line: u32, request: &Option<Request>, halt: &mut Option<Step>)
+    requires { halt.old ≡ None }
+    ensures { IsHeld (state_view state.now) line request.now halt.new }
 {
     match request {
-        Some(Request::Switch(zone, new)) => switched(on, *zone, *new),
-        Some(Request::Act(_)) | None => on,
-    }
-}
-
-/// The step of a block on this line that asks anything of the other channels.
-fn held(state: &State, line: u32, request: &Option<Request>) -> Option<Step>
-    ensures { IsHeld (state_view state.now) line request.now result }
-{
-    match request {
-        Some(Request::Act(action)) => Some(step(state, line, *action)),
-        Some(Request::Switch(_, _)) | None => None,
+        Some(Request::Act(action)) => *halt = Some(step(state, line, *action)),
+        Some(Request::Switch(_, _)) | None => {}
     }
 }
 
@@ -220,14 +214,15 @@ fn count_block(state: &mut State, line: u32, request: &Option<Request>)
     requires { state.old.count < BLOCK_LIMIT }
     ensures { state.new ≡ record state.old { count = state.old.count + 1; last = line; on = model.on_by_request state.old.on request.now } }
 {
-    let on = state.on;
     state.count += 1;
     state.last = line;
-    state.on = on_by_request(on, request);
+    if let Some(Request::Switch(zone, new)) = request {
+        state.on = switched(state.on, *zone, *new);
+    }
 }
 
-/// Goes on after a block on this line that has done this and asks for this, and answers the step where the segment ends with it.
-/// `modal` are the words of groups that held before the block.
+/// Goes on after a block on this line that has this motion and this course and asks for this, and puts the step in its
+/// place where the segment ends with it. `modal` are the words of groups that held before the block.
 ///
 /// The alarms are those of where it leads. Following one nothing of the block stands: it is a block that jumps, repeats or
 /// calls, so it has changed no more than the words of groups, and those are put back.
@@ -237,39 +232,43 @@ fn leave(
     items: &mut Vec<Item>,
     line: u32,
     modal: Modal,
-    done: Done,
+    motion: &mut Option<Item>,
+    course: Course,
     request: &Option<Request>,
-) -> Result<Option<Step>, NoMemory>
+    halt: &mut Option<Step>,
+) -> Result<(), NoMemory>
     requires fit { IfSome state.old.levels (LevelsFit job.now.skip job.now.programs) }
     requires few { state.old.count < BLOCK_LIMIT }
-    ensures told { IfOk result (λ halt. (levels : Levels) → state.old.levels ≡ Some levels
-        → IsFollowing (record (state_view state.old) { levels = None }) modal items.old.items done.entry.item line request.now (model.ends_main levels (course_view done.entry.course))
-        (levels_after job.now.skip job.now.programs levels (course_view done.entry.course)) halt items.new.items (state_view state.new)) }
+    requires goes { halt.old ≡ None }
+    ensures told { IfOk result (λ _. (levels : Levels) → state.old.levels ≡ Some levels
+        → IsFollowing (record (state_view state.old) { levels = None }) modal items.old.items motion.old line request.now (model.ends_main levels (course_view course.entry))
+        (levels_after job.now.skip job.now.programs levels (course_view course.entry)) halt.new items.new.items (state_view state.new)) }
     ensures fit { IfOk result (λ _. IfSome state.new.levels (LevelsFit job.now.skip job.now.programs)) }
     ensures few { IfOk result (λ _. state.new.count ≤ BLOCK_LIMIT) }
-    ensures count { IfOk result (λ halt. IfNone halt (state.new.count ≡ state.old.count + 1)) }
+    ensures count { IfOk result (λ _. IfNone halt.new (state.new.count ≡ state.old.count + 1)) }
     ensures channel { IfOk result (λ _. state.new.channel ≡ state.old.channel) }
 {
-    let Done { item, course } = done;
     if ends_here(&state.levels, &course) {
-        push_done(items, line, request, item)?;
+        push_done(items, line, request, motion)?;
         count_block(state, line, request);
-        return Ok(Some(stop(state, line, Action::End)));
+        stop(state, line, Action::End, halt);
+        return Ok(());
     }
     match follow_on(job, &mut state.levels, course, job.skip) {
         Ok(()) => {
-            push_done(items, line, request, item)?;
+            push_done(items, line, request, motion)?;
             count_block(state, line, request);
-            Ok(held(state, line, request))
+            hold(state, line, request, halt);
         }
         Err(code) => {
             state.situation.modal = modal;
-            Ok(Some(stop(state, line, Action::Alarm(code))))
+            stop(state, line, Action::Alarm(code), halt);
         }
     }
+    Ok(())
 }
 
-/// Executes the block at which control stands, and answers the step where the segment ends with it.
+/// Executes the block at which control stands, and puts the step in its place where the segment ends with it.
 ///
 /// Alarm 9 where no block comes, alarm 8 where it is one more than may be executed, and the alarms of
 /// the block and of where it leads.
@@ -278,38 +277,47 @@ fn advance(
     job: &Job,
     state: &mut State,
     items: &mut Vec<Item>,
-) -> Result<Option<Step>, NoMemory>
+    halt: &mut Option<Step>,
+) -> Result<(), NoMemory>
     requires blocks { BlocksFit job.now }
     requires programs { length job.now.programs ≤ 65536 }
     requires fit { IfSome state.old.levels (LevelsFit job.now.skip job.now.programs) }
     requires few { state.old.count ≤ BLOCK_LIMIT }
-    ensures told { IfOk result (λ halt. (s : SurroundingsView) (c : Channel) → IsSettingIn job.now s (state_view state.old) → Keeps s c (state_view state.old)
-        → Advances s c items.old.items halt items.new.items (state_view state.new)) }
+    requires goes { halt.old ≡ None }
+    ensures told { IfOk result (λ _. (s : SurroundingsView) (c : Channel) → IsSettingIn job.now s (state_view state.old) → Keeps s c (state_view state.old)
+        → Advances s c items.old.items halt.new items.new.items (state_view state.new)) }
     ensures fit { IfOk result (λ _. IfSome state.new.levels (LevelsFit job.now.skip job.now.programs)) }
     ensures few { IfOk result (λ _. state.new.count ≤ BLOCK_LIMIT) }
-    ensures count { IfOk result (λ halt. IfNone halt (state.new.count ≡ state.old.count + 1)) }
+    ensures count { IfOk result (λ _. IfNone halt.new (state.new.count ≡ state.old.count + 1)) }
     ensures channel { IfOk result (λ _. state.new.channel ≡ state.old.channel) }
 {
     let last = state.last;
     let Some(levels) = &state.levels else {
-        return Ok(Some(stop(state, last, Action::Alarm(NO_PROGRAM_END))));
+        stop(state, last, Action::Alarm(NO_PROGRAM_END), halt);
+        return Ok(());
     };
     let Some(next) = find_block(job, &levels.here) else {
-        return Ok(Some(stop(state, last, Action::Alarm(NO_PROGRAM_END))));
+        stop(state, last, Action::Alarm(NO_PROGRAM_END), halt);
+        return Ok(());
     };
     let line = next.line;
     if state.count == BLOCK_LIMIT {
-        return Ok(Some(stop(state, line, Action::Alarm(TOO_MANY_BLOCKS))));
+        stop(state, line, Action::Alarm(TOO_MANY_BLOCKS), halt);
+        return Ok(());
     }
     let channel = state.channel;
     let parameters = &state.situation.parameters;
     let request = match request_in(job, channel, &state.own, parameters, &next.block.stmt) {
         Ok(request) => request,
-        Err(code) => return Ok(Some(stop(state, line, Action::Alarm(code)))),
+        Err(code) => {
+            stop(state, line, Action::Alarm(code), halt);
+            return Ok(());
+        }
     };
     let surroundings = Surroundings { job, channel };
     let modal = state.situation.modal;
-    match execute(
+    let mut motion = None;
+    match execute_to(
         alloc,
         &surroundings,
         &state.own,
@@ -317,10 +325,16 @@ fn advance(
         line,
         next.opener,
         &next.block.stmt,
+        &mut motion,
     ) {
-        Ok(done) => leave(job, state, items, line, modal, done, &request),
+        Ok(course) => leave(
+            job, state, items, line, modal, &mut motion, course, &request, halt,
+        ),
         Err(fault) => match fault {
-            BlockFault::Alarm(code) => Ok(Some(stop(state, line, Action::Alarm(code)))),
+            BlockFault::Alarm(code) => {
+                stop(state, line, Action::Alarm(code), halt);
+                Ok(())
+            }
             BlockFault::NoMemory => Err(NoMemory),
         },
     }
@@ -385,8 +399,10 @@ fn run_state(alloc: Global, job: &Job, start: State) -> Result<Segment, NoMemory
 {
     let mut state = start;
     let mut items = Vec::new(alloc);
+    let mut halt = None;
     loop {
-        match advance(alloc, job, &mut state, &mut items)? {
+        advance(alloc, job, &mut state, &mut items, &mut halt)?;
+        match halt {
             Some(step) => {
                 let after = Local { state };
                 return Ok(Segment { items, step, after });
