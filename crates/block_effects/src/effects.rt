@@ -1,16 +1,19 @@
 //! What a block does.
 
-ghost use Rattle.std.specs.Prelude.{◌≡◌, All, IsTrue, IfOk, OnErr, None, map, not, option_map};
+ghost use Rattle.std.specs.Prelude.{◌≡◌, All, IsTrue, IfOk, List, OnErr, None, map, not, option_map};
 ghost use Rattle.block_motions.specs.Goals.{ConditionsView, AreInForce};
 ghost use Rattle.axis_sets.specs.Positions.{stands};
 ghost use Rattle.block_motions.specs.Motions.{StandsAtEndOf};
 ghost use Rattle.sync_types.specs.Items.{StandsAtEnd};
-ghost use Rattle.g_groups.specs.Modal.{has_group_twice};
+ghost use Rattle.frames.specs.Composition.{IsComposed};
+ghost use Rattle.frames.specs.Maps.{Map};
+ghost use Rattle.g_groups.specs.Modal.{IsAfter, has_group_twice};
+ghost use Rattle.g_groups.specs.declared.GWord.{GWord};
 ghost use Rattle.nc_blocks.specs.Indices.{StatementFits, WordFits};
 ghost use Rattle.nc_blocks.specs.Statement.{statement_view, word_view};
 ghost use Rattle.block_effects.specs.Effects as model;
 ghost use Rattle.block_effects.specs.Courses.{answer_with, equipment_of, course_view, ActsAll, DoesAsDefined, ModalIsAfter, RunsAsDefined, RunsUnder, Turns, WordsRunUnder};
-ghost use Rattle.block_effects.specs.Words.{progress_of};
+ghost use Rattle.block_effects.specs.Words.{TellsOfMoves, progress_of};
 
 use crate::control::{begin_for, called, choice, conditional, continue_for, jumped, leap, repeat};
 use crate::course::{BlockFault, Course, Done, Setup};
@@ -21,6 +24,7 @@ use crate::shapes::{shape, turn};
 use crate::situation::{ChannelAxes, Situation};
 use axis_sets::Positions;
 use block_motions::{ArcWords, Conditions, Targets, arc_motion, is_any, straight_motion, word};
+use frames::Frame;
 use g_groups::{GWord, MOTION_GROUP, Modal, apply};
 use nc_blocks::{Stmt, Word};
 use nc_control_flow::Outcome;
@@ -101,20 +105,24 @@ fn move_programmed(
 }
 
 /// Moves the axes as the words of the block say. Where they say nothing of axes and arcs, none moves.
-fn move_axes(
+fn move_axes<S: Setup>(
+    setup: &S,
     axes: &ChannelAxes,
-    conditions: &Conditions,
+    modal: &Modal,
+    frame: &Frame,
     groups: &[GWord],
     done: &WordsDone,
     at: &mut Positions,
 ) -> Result<Option<Motion>, u16>
-    ensures made { (h : ConditionsView) → AreInForce h conditions.now
-        → result ≡ model.moved_or_still axes.now.slots axes.now.owned h (stands at.old) groups.now done.now.targets done.now.arc }
+    requires { TellsOfMoves done.now }
+    ensures made { (blocks : List (List GWord)) (chain : List Map) → IsAfter blocks modal.now → IsComposed chain frame.now
+        → result ≡ model.moved_or_still axes.now.slots axes.now.owned (model.held_after (S.offset setup.now) blocks chain) (stands at.old) groups.now done.now.targets done.now.arc }
     ensures stand { IfOk result (λ motion. StandsAtEndOf motion at.old at.new) }
     ensures unmoved { OnErr result (at.new ≡ at.old) }
 {
-    if done.moves() {
-        move_programmed(axes, conditions, groups, done, at)
+    if done.moves {
+        let conditions = conditions(setup, modal, frame);
+        move_programmed(axes, &conditions, groups, done, at)
     } else {
         Ok(None)
     }
@@ -125,28 +133,30 @@ fn move_axes(
 fn run_from<S: Setup>(
     setup: &S,
     axes: &ChannelAxes,
-    conditions: &Conditions,
+    modal: &Modal,
+    frame: &Frame,
     groups: &[GWord],
     words: &[Word],
     parameters: &mut Parameters,
     at: &mut Positions,
     done: &mut WordsDone,
 ) -> Result<(), u16>
-    requires { All WordFits (map word_view words.now) }
-    ensures acts { (h : ConditionsView) → AreInForce h conditions.now
+    requires fits { All WordFits (map word_view words.now) }
+    requires told { TellsOfMoves done.old }
+    ensures acts { (blocks : List (List GWord)) (chain : List Map) → IsAfter blocks modal.now → IsComposed chain frame.now
         → ActsAll (model.words_then_motion (equipment_of (S.names setup.now) (S.axis_named setup.now) (S.offset setup.now) axes.now)
-        h (stands at.old) groups.now (progress_of parameters.old done.old) (map word_view words.now)) result (progress_of parameters.new done.new) done.new.motion }
+        (model.held_after (S.offset setup.now) blocks chain) (stands at.old) groups.now (progress_of parameters.old done.old) (map word_view words.now)) result (progress_of parameters.new done.new) done.new.motion }
     ensures stand { IfOk result (λ _. StandsAtEndOf done.new.motion at.old at.new) }
     ensures parameters { OnErr result (parameters.new ≡ parameters.old) }
     ensures at { OnErr result (at.new ≡ at.old) }
 {
     let [word, others @ ..] = words else {
-        done.motion = move_axes(axes, conditions, groups, done, at)?;
+        done.motion = move_axes(setup, axes, modal, frame, groups, done, at)?;
         return Ok(());
     };
     let change = done.act(setup, axes, parameters, word)?;
     match run_from(
-        setup, axes, conditions, groups, others, parameters, at, done,
+        setup, axes, modal, frame, groups, others, parameters, at, done,
     ) {
         Ok(()) => Ok(()),
         Err(code) => {
@@ -188,12 +198,12 @@ fn run_words<'a, S: Setup>(
     ensures stand { IfOk result (λ _. StandsAtEnd item.new situation.old.at situation.new.at) }
     ensures unchanged { OnErr result (situation.new ≡ situation.old) }
 {
-    let conditions = conditions(setup, modal, &situation.frame);
     let mut done = WordsDone::nothing();
     run_from(
         setup,
         axes,
-        &conditions,
+        modal,
+        &situation.frame,
         groups,
         words,
         &mut situation.parameters,

@@ -1,6 +1,6 @@
 //! A segment of a channel's run, one block after another.
 
-ghost use Rattle.std.specs.Prelude.{◌≡◌, ◌≤◌, ◌<◌, ◌+◌, ◌++◌, length, slice_get, slice_set, IfOk, IfNone, IfSome, MatchOption, None, OnOk};
+ghost use Rattle.std.specs.Prelude.{◌≡◌, ◌≤◌, ◌<◌, ◌+◌, ◌++◌, ◌∷◌, [], length, slice_get, slice_set, IfOk, IfNone, IfSome, MatchOption, None, OnOk};
 ghost use Rattle.std.specs.Option.{option_to_list};
 ghost use Rattle.axis_sets.specs.Positions.{stands};
 ghost use Rattle.block_effects.specs.Courses.{course_view};
@@ -11,6 +11,7 @@ ghost use Rattle.job_types.specs.SoundJob.{BlocksFit};
 ghost use Rattle.channel_machine.specs.Kept.{Advances, IsFollowing, IsHeld, IsSegment, IsSettingIn, IsThere, Keeps, state_view};
 ghost use Rattle.channel_machine.specs.Levels.{LevelsFit, levels_after, lines_of};
 ghost use Rattle.channel_machine.specs.Run as model;
+ghost use Rattle.sync_types.specs.declared.Part.TheVariants as part;
 ghost use Rattle.channel_machine.specs.Run.{SurroundingsView, Channel, channel_after_grant, segment_of};
 
 use crate::coordination::request_in;
@@ -140,14 +141,25 @@ fn find_block<'a>(job: &'a Job, here: &Place) -> Option<NextBlock<'a>>
 }
 
 /// Adds the item, if there is one.
+#[inline(never)]
 fn push_some(items: &mut Vec<Item>, item: &mut Option<Item>) -> Result<(), AllocError>
     ensures { OnOk result (items.new.items ≡ items.old.items ++ option_to_list item.old) }
 {
-    if item.is_some() {
-        if let Some(item) = item.take() {
-            items.push(item)?;
-        }
+    if let Some(item) = item.take() {
+        items.push(item)?;
     }
+    Ok(())
+}
+
+/// Adds the switch of a zone by a block on this line.
+#[inline(never)]
+fn push_switch(items: &mut Vec<Item>, line: u32, zone: ZoneId, on: bool) -> Result<(), AllocError>
+    ensures { OnOk result (items.new.items ≡ items.old.items ++ record { line = line; part = part.Switch zone on } ∷ []) }
+{
+    items.push(Item {
+        line,
+        part: Part::Switch(zone, on),
+    })?;
     Ok(())
 }
 
@@ -181,16 +193,18 @@ fn push_done(
     ensures { OnOk result (items.new.items ≡ items.old.items ++ option_to_list (model.item_by line request.now motion.old)) }
 {
     match request {
-        Some(Request::Switch(zone, on)) => {
-            let part = Part::Switch(*zone, *on);
-            items.push(Item { line, part })?;
+        Some(Request::Switch(zone, on)) => push_switch(items, line, *zone, *on),
+        Some(Request::Act(_)) | None => {
+            if motion.is_some() {
+                push_some(items, motion)?;
+            }
             Ok(())
         }
-        Some(Request::Act(_)) | None => push_some(items, motion),
     }
 }
 
 /// These zones with this one, where it is on from here, or without it.
+#[inline(never)]
 fn switched(on: ZoneSet, zone: ZoneId, new: bool) -> ZoneSet
     ensures { result ≡ slice_set on zone new }
 {
@@ -363,7 +377,8 @@ pub fn run_segment(alloc: Global, job: &Job, local: &Local) -> Result<Segment, N
     ensures few { IfOk result (λ g. g.after.count ≤ BLOCK_LIMIT) }
     ensures channel { IfOk result (λ g. g.after.channel ≡ local.now.channel) }
 {
-    run_state(alloc, job, local.state.copied()?)
+    let state = Box::new(alloc, local.state.copied()?)?;
+    run_state(alloc, job, state)
 }
 
 /// The segment of a channel that goes on with a grant. The channel is given away, so nothing of it is copied.
@@ -386,16 +401,16 @@ pub fn run_on(alloc: Global, job: &Job, local: Local, grant: &Grant) -> Result<S
 }
 
 /// The segment of a channel whose state is given away: nothing of it is copied.
-fn run_state(alloc: Global, job: &Job, start: State) -> Result<Segment, NoMemory>
+fn run_state(alloc: Global, job: &Job, start: Box<State>) -> Result<Segment, NoMemory>
     requires blocks { BlocksFit job.now }
     requires programs { length job.now.programs ≤ 65536 }
-    requires fit { IfSome start.levels (LevelsFit job.now.skip job.now.programs) }
-    requires few { start.count ≤ BLOCK_LIMIT }
-    ensures told { IfOk result (λ g. (s : SurroundingsView) (c : Channel) → IsSettingIn job.now s (state_view start) → Keeps s c (state_view start)
+    requires fit { IfSome start.value.levels (LevelsFit job.now.skip job.now.programs) }
+    requires few { start.value.count ≤ BLOCK_LIMIT }
+    ensures told { IfOk result (λ g. (s : SurroundingsView) (c : Channel) → IsSettingIn job.now s (state_view start.value) → Keeps s c (state_view start.value)
         → IsSegment s (segment_of s c) g) }
     ensures fit { IfOk result (λ g. IfSome g.after.levels (LevelsFit job.now.skip job.now.programs)) }
     ensures few { IfOk result (λ g. g.after.count ≤ BLOCK_LIMIT) }
-    ensures channel { IfOk result (λ g. g.after.channel ≡ start.channel) }
+    ensures channel { IfOk result (λ g. g.after.channel ≡ start.value.channel) }
 {
     let mut state = start;
     let mut items = Vec::new(alloc);
