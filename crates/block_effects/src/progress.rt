@@ -234,7 +234,8 @@ impl WordsDone {
         name: &[u8],
         value: Programmed,
     ) -> Result<(), u16>
-        ensures { (parameters : List ℤ)
+        ensures moves { self.new.moves ≡ self.old.moves }
+        ensures acts { (parameters : List ℤ)
             → Acts (model.word_progress (equipment_of (S.names setup.now) (S.axis_named setup.now) (S.offset setup.now) axes.now)
             (progress_of parameters self.old) name.now (model.centre_named name.now) value) result (progress_of parameters self.new) }
     {
