@@ -163,7 +163,7 @@ impl Local {
         ensures levels { self.new.levels ≡ self.old.levels }
         ensures count { self.new.count ≡ self.old.count }
     {
-        self.state.resume(grant);
+        (*self.state).resume(grant);
     }
 
     /// A channel at its start: its program at the first block, all parameters 0, the words of groups

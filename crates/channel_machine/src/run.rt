@@ -377,7 +377,7 @@ pub fn run_segment(alloc: Global, job: &Job, local: &Local) -> Result<Segment, N
     ensures few { IfOk result (λ g. g.after.count ≤ BLOCK_LIMIT) }
     ensures channel { IfOk result (λ g. g.after.channel ≡ local.now.channel) }
 {
-    let state = Box::new(alloc, local.state.copied()?)?;
+    let state = Box::new(alloc, (*local.state).copied()?)?;
     run_state(alloc, job, state)
 }
 
@@ -416,7 +416,7 @@ fn run_state(alloc: Global, job: &Job, start: Box<State>) -> Result<Segment, NoM
     let mut items = Vec::new(alloc);
     let mut halt = None;
     loop {
-        advance(alloc, job, &mut state, &mut items, &mut halt)?;
+        advance(alloc, job, &mut *state, &mut items, &mut halt)?;
         match halt {
             Some(step) => {
                 let after = Local { state };
