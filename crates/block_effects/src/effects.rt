@@ -398,8 +398,6 @@ pub fn execute<'a, S: Setup>(
     ensures unchanged { OnErr result (situation.new ≡ situation.old) }
 {
     let mut item = None;
-    let course = execute_to(
-        alloc, setup, axes, situation, line, opener, stmt, &mut item,
-    )?;
+    let course = execute_to(alloc, setup, axes, situation, line, opener, stmt, &mut item)?;
     Ok(Done { item, course })
 }

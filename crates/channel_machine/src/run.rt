@@ -184,7 +184,6 @@ fn ends_here(levels: &Option<Levels>, course: &Course) -> bool
 }
 
 /// Adds what a block on this line does that has this motion and asks for this.
-#[inline(always)]
 fn push_done(
     items: &mut Vec<Item>,
     line: u32,
@@ -225,7 +224,6 @@ fn hold(state: &State, line: u32, request: &Option<Request>, halt: &mut Option<S
 }
 
 /// Counts a block on this line that asks for this, and switches the zone that it switches.
-#[inline(always)]
 fn count_block(state: &mut State, line: u32, request: &Option<Request>)
     requires { state.old.count < BLOCK_LIMIT }
     ensures { state.new ≡ record state.old { count = state.old.count + 1; last = line; on = model.on_by_request state.old.on request.now } }
@@ -344,7 +342,15 @@ fn advance(
         &mut motion,
     ) {
         Ok(course) => leave(
-            job, state, items, line, modal, &mut motion, course, &request, halt,
+            job,
+            state,
+            items,
+            line,
+            modal,
+            &mut motion,
+            course,
+            &request,
+            halt,
         ),
         Err(fault) => match fault {
             BlockFault::Alarm(code) => {
