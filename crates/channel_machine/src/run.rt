@@ -4,11 +4,12 @@ ghost use Rattle.std.specs.Prelude.{◌≡◌, ◌≤◌, ◌<◌, ◌+◌, ◌+
 ghost use Rattle.std.specs.Option.{option_to_list};
 ghost use Rattle.axis_sets.specs.Positions.{stands};
 ghost use Rattle.block_effects.specs.Courses.{course_view};
+ghost use Rattle.nc_blocks.specs.Indices.{StatementFits};
 ghost use Rattle.nc_blocks.specs.Statement.{statement_view, view_of};
 ghost use Rattle.nc_control_flow.specs.Parts.{statement_at, views};
 ghost use Rattle.nc_control_flow.specs.Structures.{opening};
 ghost use Rattle.job_types.specs.SoundJob.{BlocksFit};
-ghost use Rattle.channel_machine.specs.Kept.{Advances, IsFollowing, IsHeld, IsSegment, IsSettingIn, IsThere, Keeps, state_view};
+ghost use Rattle.channel_machine.specs.Kept.{Advances, AdvancesBy, IsFollowing, IsHeld, IsSegment, IsSettingIn, IsThere, Keeps, state_view};
 ghost use Rattle.channel_machine.specs.Levels.{LevelsFit, levels_after, lines_of};
 ghost use Rattle.channel_machine.specs.Run as model;
 ghost use Rattle.sync_types.specs.declared.Part.TheVariants as part;
@@ -282,6 +283,68 @@ fn leave(
     Ok(())
 }
 
+/// Executes the block at which control stands, which asks for this, and puts the step in its place where the segment ends
+/// with it.
+///
+/// The alarms are those of the block and of where it leads.
+fn perform(
+    alloc: Global,
+    job: &Job,
+    state: &mut State,
+    items: &mut Vec<Item>,
+    next: NextBlock,
+    request: &Option<Request>,
+    halt: &mut Option<Step>,
+) -> Result<(), NoMemory>
+    requires programs { length job.now.programs ≤ 65536 }
+    requires opener { StatementFits (statement_view next.opener.now) }
+    requires fits { StatementFits (statement_view next.block.now.stmt) }
+    requires fit { IfSome state.old.levels (LevelsFit job.now.skip job.now.programs) }
+    requires few { state.old.count < BLOCK_LIMIT }
+    requires goes { halt.old ≡ None }
+    ensures told { IfOk result (λ _. AdvancesBy job.now (state_view state.old) next.entry.line (view_of next.entry.block.now) (statement_view next.entry.opener.now) request.now
+        items.old.items halt.new items.new.items (state_view state.new)) }
+    ensures fit { IfOk result (λ _. IfSome state.new.levels (LevelsFit job.now.skip job.now.programs)) }
+    ensures few { IfOk result (λ _. state.new.count ≤ BLOCK_LIMIT) }
+    ensures count { IfOk result (λ _. IfNone halt.new (state.new.count ≡ state.old.count + 1)) }
+    ensures channel { IfOk result (λ _. state.new.channel ≡ state.old.channel) }
+{
+    let line = next.line;
+    let channel = state.channel;
+    let surroundings = Surroundings { job, channel };
+    let modal = state.situation.modal;
+    let mut motion = None;
+    match execute_to(
+        alloc,
+        &surroundings,
+        &state.own,
+        &mut state.situation,
+        line,
+        next.opener,
+        &next.block.stmt,
+        &mut motion,
+    ) {
+        Ok(course) => leave(
+            job,
+            state,
+            items,
+            line,
+            modal,
+            &mut motion,
+            course,
+            request,
+            halt,
+        ),
+        Err(fault) => match fault {
+            BlockFault::Alarm(code) => {
+                stop(state, line, Action::Alarm(code), halt);
+                Ok(())
+            }
+            BlockFault::NoMemory => Err(NoMemory),
+        },
+    }
+}
+
 /// Executes the block at which control stands, and puts the step in its place where the segment ends with it.
 ///
 /// Alarm 9 where no block comes, alarm 8 where it is one more than may be executed, and the alarms of
@@ -328,38 +391,7 @@ fn advance(
             return Ok(());
         }
     };
-    let surroundings = Surroundings { job, channel };
-    let modal = state.situation.modal;
-    let mut motion = None;
-    match execute_to(
-        alloc,
-        &surroundings,
-        &state.own,
-        &mut state.situation,
-        line,
-        next.opener,
-        &next.block.stmt,
-        &mut motion,
-    ) {
-        Ok(course) => leave(
-            job,
-            state,
-            items,
-            line,
-            modal,
-            &mut motion,
-            course,
-            &request,
-            halt,
-        ),
-        Err(fault) => match fault {
-            BlockFault::Alarm(code) => {
-                stop(state, line, Action::Alarm(code), halt);
-                Ok(())
-            }
-            BlockFault::NoMemory => Err(NoMemory),
-        },
-    }
+    perform(alloc, job, state, items, next, &request, halt)
 }
 
 /// Runs a channel up to and with the next block that asks anything of the other channels, which is each block of
