@@ -2,7 +2,6 @@
 use Rattle.std.proofs.Common.{◌≡◌, ℕ, ℤ, Bool, true, false, not, ◌&&◌, ◌||◌, List, Option, None, Ok, is_some, refl}
 use Rattle.block_motions.specs.Arcs.{is_any, arc_motion}
 use Rattle.block_motions.specs.Goals.{ConditionsView}
-use Rattle.block_motions.specs.Motions.{straight_motion}
 use Rattle.block_motions.specs.declared.goals.Targets.{Targets}
 use Rattle.block_motions.specs.declared.words.ArcWords.{ArcWords}
 use Rattle.block_motions.proofs.Unmoved.{unmoved}

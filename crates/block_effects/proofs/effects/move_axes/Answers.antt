@@ -1,4 +1,4 @@
-use Rattle.std.proofs.Common.{◌≡◌, sym}
+use Rattle.std.proofs.Common.{sym}
 use Rattle.axis_sets.specs.Positions.{stands}
 use Rattle.block_effects.specs.Effects.{held_after}
 use Rattle.block_effects.proofs.Unmoved.{nothing_moves, nothing_programmed_moves_nothing}

@@ -1,4 +1,4 @@
-use Rattle.std.proofs.Common.{◌∙◌, ◌-◌, ◌≤◌, ◌≡◌, ℕ, ℤ, List, Option, None, Some, Result, ap, arith, subst, sym, refl}
+use Rattle.std.proofs.Common.{◌∙◌, ◌-◌, ℕ, ℤ, List, Option, None, Some, Result, ap, subst, sym, refl}
 use Rattle.axis_sets.specs.Positions.{stands}
 use Rattle.block_effects.specs.Courses.{Does, course_view}
 use Rattle.block_effects.specs.Effects.{Effect}
