@@ -9,9 +9,11 @@ use Rattle.nc_blocks.specs.Statement.{WordView, Statement, WordBlock}
 use Rattle.block_motions.specs.Motions.{StandsAtEndOf}
 use Rattle.path_geometry.specs.declared.motion.Motion.{Motion}
 use Rattle.sync_types.specs.Items.{StandsAtEnd}
+use Rattle.sync_types.specs.declared.Item.{Item}
+use Rattle.block_effects.specs.declared.course.Course.{Course}
 use Rattle.block_effects.specs.declared.course.Done.{Done}
 use Rattle.block_effects.specs.declared.situation.Situation.{Situation}
-use Rattle.block_effects.specs.Courses.{ActsAll, Does, IsLeft, Runs}
+use Rattle.block_effects.specs.Courses.{ActsAll, Does, IsLeft, Runs, answer_with}
 use Rattle.block_effects.specs.Effects.{Effect, SituationView, words_then_motion, course_of, in_force, item_on, moved_or_still, words_moved, words_run, group_words, effect_of}
 use Rattle.block_effects.specs.Words.{SetupView, Progress, first_progress, no_arc, nothing_programmed, progress_of, word_done, words_done}
 use Rattle.block_effects.specs.declared.progress.WordsDone.{WordsDone}
@@ -71,9 +73,10 @@ pub does_left : (made : Result Effect ℕ) (effect : Effect) (done : Done) (new 
 does_left made effect done new is left = subst (λ (r : Result Effect ℕ). Does r done new) (sym is) left
 
 -- an alarm that is handed on is that of the block
-pub fails_with : (made : Result Effect ℕ) (result : Result Done ℕ) (new : Situation) (code : ℕ) → IsErrAnd result (λ e. e ≡ code) → made ≡ Err code → Runs made result new
-fails_with made (Ok done) new code same is = absurd same
-fails_with made (Err e) new code same is = is ∙ ap (λ (k : ℕ). Err k) (sym same)
+pub fails_with : (made : Result Effect ℕ) (item : Option Item) (result : Result Course ℕ) (new : Situation) (code : ℕ) → IsErrAnd result (λ e. e ≡ code) → made ≡ Err code
+    → Runs made (answer_with item result) new
+fails_with made item (Ok course) new code same is = absurd same
+fails_with made item (Err e) new code same is = is ∙ ap (λ (k : ℕ). Err k) (sym same)
 
 -- alarm 10 comes before all others
 pub twice_alarms : (equipment : SetupView) (found : SituationView) (line : ℕ) (opener statement : Statement) → IsTrue (has_group_twice (group_words statement))

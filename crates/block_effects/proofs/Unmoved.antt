@@ -2,12 +2,12 @@
 use Rattle.std.proofs.Common.{◌≡◌, ℕ, ℤ, Bool, true, false, not, ◌&&◌, ◌||◌, List, Option, None, Ok, is_some, refl}
 use Rattle.block_motions.specs.Arcs.{is_any, arc_motion}
 use Rattle.block_motions.specs.Goals.{ConditionsView}
-use Rattle.block_motions.specs.Motions.{straight_motion}
 use Rattle.block_motions.specs.declared.goals.Targets.{Targets}
 use Rattle.block_motions.specs.declared.words.ArcWords.{ArcWords}
 use Rattle.block_motions.proofs.Unmoved.{unmoved}
 use Rattle.g_groups.specs.declared.GWord.{GWord}
-use Rattle.block_effects.specs.Words.{moves}
+use Rattle.block_effects.specs.Words.{TellsOfMoves, moves, no_arc, nothing_programmed}
+use Rattle.block_effects.specs.declared.progress.WordsDone.{WordsDone}
 use Rattle.block_effects.specs.Effects.{is_arc, has_stray_words, stands_still, motion_made, moved_or_still}
 
 first_not : (a b : Bool) → a || b ≡ false → a ≡ false
@@ -45,3 +45,8 @@ module _ (slots : List (Option ℕ)) (owned : List Bool) (h : ConditionsView) (a
       let axes = other_not _ _ none in
       let centre = other_not _ _ axes in
       still (first_not _ _ none) (first_not _ _ axes) (first_not _ _ centre) (other_not _ _ centre) (stands_still words) refl
+
+-- where no word was one of an axis or an arc, nothing is programmed
+pub nothing_programmed_moves_nothing : (done : WordsDone) → TellsOfMoves done → done.moves ≡ false → moves done.targets done.arc ≡ false
+unfolding nothing_programmed no_arc
+nothing_programmed_moves_nothing done told is = rw (told.targets is, told.arc is) refl

@@ -9,6 +9,7 @@ use Rattle.g_groups.specs.declared.GWord.{GWord}
 use Rattle.nc_blocks.specs.Statement.{Statement, WordView}
 use Rattle.nc_control_flow.specs.Moves.{outcome_view}
 use Rattle.path_geometry.specs.declared.motion.Motion.{Motion}
+use Rattle.sync_types.specs.declared.Item.{Item}
 use Rattle.block_effects.specs.declared.course.BlockFault.{BlockFault}
 use Rattle.block_effects.specs.declared.course.BlockFault.TheVariants.{Alarm, NoMemory}
 use Rattle.block_effects.specs.declared.course.Course as answer
@@ -42,6 +43,11 @@ pub record IsLeft (effect : Effect) (done : Done) (new : Situation) : Type 0 whe
 abbrev pub Does : Result Effect ℕ → Done → Situation → Type 0
 Does (Ok effect) done new = IsLeft effect done new
 Does (Err code) done new = ⊥
+
+-- what a block answers with the motion that it put in its place
+abbrev pub answer_with : {E : Type 0} → Option Item → Result answer.Course E → Result Done E
+answer_with item (Ok course) = Ok (record { item = item; course = course })
+answer_with item (Err fault) = Err fault
 
 -- the block did what it does, or has this alarm; memory may want
 abbrev pub Fails : Result Effect ℕ → BlockFault → Type 0

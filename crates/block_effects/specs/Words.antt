@@ -192,6 +192,11 @@ words_done equipment p (word ∷ words) = word_done equipment p word >>= λ q. w
 abbrev pub progress_of : List ℤ → WordsDone → Progress
 progress_of parameters done = record { parameters = parameters; targets = done.targets; arc = done.arc; ends = done.ends }
 
+-- where no word was one of an axis or an arc, nothing is programmed
+pub record TellsOfMoves (done : WordsDone) : Type 0 where
+  pub targets : done.moves ≡ false → done.targets ≡ nothing_programmed
+  pub arc : done.moves ≡ false → done.arc ≡ no_arc
+
 -- a word has done this, or alarms
 abbrev pub ActsOn : Result Progress ℕ → Result (Option Change) ℕ → Progress → Type 0
 ActsOn done result new = MatchResult result (λ _. done ≡ Ok new) (λ code. done ≡ Err code)

@@ -1,17 +1,19 @@
 //! What a block does.
 
-ghost use Rattle.std.specs.Prelude.{◌≡◌, All, IsTrue, IfOk, OnErr, None, map, not, option_map};
+ghost use Rattle.std.specs.Prelude.{◌≡◌, All, IsTrue, IfOk, List, OnErr, None, map, not, option_map};
 ghost use Rattle.block_motions.specs.Goals.{ConditionsView, AreInForce};
 ghost use Rattle.axis_sets.specs.Positions.{stands};
 ghost use Rattle.block_motions.specs.Motions.{StandsAtEndOf};
 ghost use Rattle.sync_types.specs.Items.{StandsAtEnd};
-ghost use Rattle.g_groups.specs.Modal.{has_group_twice};
-ghost use Rattle.nc_control_flow.specs.Moves as outcome;
+ghost use Rattle.frames.specs.Composition.{IsComposed};
+ghost use Rattle.frames.specs.Maps.{Map};
+ghost use Rattle.g_groups.specs.Modal.{IsAfter, has_group_twice};
+ghost use Rattle.g_groups.specs.declared.GWord.{GWord};
 ghost use Rattle.nc_blocks.specs.Indices.{StatementFits, WordFits};
 ghost use Rattle.nc_blocks.specs.Statement.{statement_view, word_view};
 ghost use Rattle.block_effects.specs.Effects as model;
-ghost use Rattle.block_effects.specs.Courses.{equipment_of, course_view, ActsAll, DoesAsDefined, ModalIsAfter, RunsAsDefined, RunsUnder, Turns, WordsRunUnder};
-ghost use Rattle.block_effects.specs.Words.{progress_of};
+ghost use Rattle.block_effects.specs.Courses.{answer_with, equipment_of, course_view, ActsAll, DoesAsDefined, ModalIsAfter, RunsAsDefined, RunsUnder, Turns, WordsRunUnder};
+ghost use Rattle.block_effects.specs.Words.{TellsOfMoves, progress_of};
 
 use crate::control::{begin_for, called, choice, conditional, continue_for, jumped, leap, repeat};
 use crate::course::{BlockFault, Course, Done, Setup};
@@ -22,6 +24,7 @@ use crate::shapes::{shape, turn};
 use crate::situation::{ChannelAxes, Situation};
 use axis_sets::Positions;
 use block_motions::{ArcWords, Conditions, Targets, arc_motion, is_any, straight_motion, word};
+use frames::Frame;
 use g_groups::{GWord, MOTION_GROUP, Modal, apply};
 use nc_blocks::{Stmt, Word};
 use nc_control_flow::Outcome;
@@ -38,17 +41,6 @@ fn course_of<'a>(ends: bool) -> Course<'a>
         Course::Ends
     } else {
         Course::Goes(Outcome::Plain)
-    }
-}
-
-/// What a block of a frame has done besides.
-fn framed<'a>() -> Done<'a>
-    ensures item { result.item ≡ None }
-    ensures course { course_view result.course ≡ model.Goes outcome.Plain }
-{
-    Done {
-        item: None,
-        course: Course::Goes(Outcome::Plain),
     }
 }
 
@@ -113,20 +105,24 @@ fn move_programmed(
 }
 
 /// Moves the axes as the words of the block say. Where they say nothing of axes and arcs, none moves.
-fn move_axes(
+fn move_axes<S: Setup>(
+    setup: &S,
     axes: &ChannelAxes,
-    conditions: &Conditions,
+    modal: &Modal,
+    frame: &Frame,
     groups: &[GWord],
     done: &WordsDone,
     at: &mut Positions,
 ) -> Result<Option<Motion>, u16>
-    ensures made { (h : ConditionsView) → AreInForce h conditions.now
-        → result ≡ model.moved_or_still axes.now.slots axes.now.owned h (stands at.old) groups.now done.now.targets done.now.arc }
+    requires { TellsOfMoves done.now }
+    ensures made { (blocks : List (List GWord)) (chain : List Map) → IsAfter blocks modal.now → IsComposed chain frame.now
+        → result ≡ model.moved_or_still axes.now.slots axes.now.owned (model.held_after (S.offset setup.now) blocks chain) (stands at.old) groups.now done.now.targets done.now.arc }
     ensures stand { IfOk result (λ motion. StandsAtEndOf motion at.old at.new) }
     ensures unmoved { OnErr result (at.new ≡ at.old) }
 {
-    if done.moves() {
-        move_programmed(axes, conditions, groups, done, at)
+    if done.moves {
+        let conditions = conditions(setup, modal, frame);
+        move_programmed(axes, &conditions, groups, done, at)
     } else {
         Ok(None)
     }
@@ -137,28 +133,30 @@ fn move_axes(
 fn run_from<S: Setup>(
     setup: &S,
     axes: &ChannelAxes,
-    conditions: &Conditions,
+    modal: &Modal,
+    frame: &Frame,
     groups: &[GWord],
     words: &[Word],
     parameters: &mut Parameters,
     at: &mut Positions,
     done: &mut WordsDone,
 ) -> Result<(), u16>
-    requires { All WordFits (map word_view words.now) }
-    ensures acts { (h : ConditionsView) → AreInForce h conditions.now
+    requires fits { All WordFits (map word_view words.now) }
+    requires told { TellsOfMoves done.old }
+    ensures acts { (blocks : List (List GWord)) (chain : List Map) → IsAfter blocks modal.now → IsComposed chain frame.now
         → ActsAll (model.words_then_motion (equipment_of (S.names setup.now) (S.axis_named setup.now) (S.offset setup.now) axes.now)
-        h (stands at.old) groups.now (progress_of parameters.old done.old) (map word_view words.now)) result (progress_of parameters.new done.new) done.new.motion }
+        (model.held_after (S.offset setup.now) blocks chain) (stands at.old) groups.now (progress_of parameters.old done.old) (map word_view words.now)) result (progress_of parameters.new done.new) done.new.motion }
     ensures stand { IfOk result (λ _. StandsAtEndOf done.new.motion at.old at.new) }
     ensures parameters { OnErr result (parameters.new ≡ parameters.old) }
     ensures at { OnErr result (at.new ≡ at.old) }
 {
     let [word, others @ ..] = words else {
-        done.motion = move_axes(axes, conditions, groups, done, at)?;
+        done.motion = move_axes(setup, axes, modal, frame, groups, done, at)?;
         return Ok(());
     };
     let change = done.act(setup, axes, parameters, word)?;
     match run_from(
-        setup, axes, conditions, groups, others, parameters, at, done,
+        setup, axes, modal, frame, groups, others, parameters, at, done,
     ) {
         Ok(()) => Ok(()),
         Err(code) => {
@@ -168,16 +166,16 @@ fn run_from<S: Setup>(
     }
 }
 
-/// The motion of a block on this line, with the line.
-fn item_on(line: u32, motion: Option<Motion>) -> Option<Item>
-    ensures { result ≡ option_map (model.item_on line) motion }
+/// Puts the motion of a block on this line in its place, if it has one.
+fn put_motion(place: &mut Option<Item>, line: u32, motion: Option<Motion>)
+    requires { place.old ≡ None }
+    ensures { place.new ≡ option_map (model.item_on line) motion }
 {
-    match motion {
-        Some(motion) => Some(Item {
+    if let Some(motion) = motion {
+        *place = Some(Item {
             line,
             part: Part::Move(motion),
-        }),
-        None => None,
+        });
     }
 }
 
@@ -190,20 +188,22 @@ fn run_words<'a, S: Setup>(
     line: u32,
     groups: &[GWord],
     words: &[Word],
-) -> Result<Done<'a>, u16>
-    requires { All WordFits (map word_view words.now) }
+    item: &mut Option<Item>,
+) -> Result<Course<'a>, u16>
+    requires fits { All WordFits (map word_view words.now) }
+    requires empty { item.old ≡ None }
     ensures runs { WordsRunUnder modal.now groups.now (equipment_of (S.names setup.now) (S.axis_named setup.now) (S.offset setup.now) axes.now)
-        situation.old line (map word_view words.now) result situation.new }
+        situation.old line (map word_view words.now) (answer_with item.new result) situation.new }
     ensures modal { situation.new.modal ≡ situation.old.modal }
-    ensures stand { IfOk result (λ done. StandsAtEnd done.item situation.old.at situation.new.at) }
+    ensures stand { IfOk result (λ _. StandsAtEnd item.new situation.old.at situation.new.at) }
     ensures unchanged { OnErr result (situation.new ≡ situation.old) }
 {
-    let conditions = conditions(setup, modal, &situation.frame);
     let mut done = WordsDone::nothing();
     run_from(
         setup,
         axes,
-        &conditions,
+        modal,
+        &situation.frame,
         groups,
         words,
         &mut situation.parameters,
@@ -211,10 +211,8 @@ fn run_words<'a, S: Setup>(
         &mut done,
     )?;
     let WordsDone { motion, ends, .. } = done;
-    Ok(Done {
-        item: item_on(line, motion),
-        course: course_of(ends),
-    })
+    put_motion(item, line, motion);
+    Ok(course_of(ends))
 }
 
 /// Does what a block that moves no axis and shapes no frame says.
@@ -257,15 +255,17 @@ fn run_stmt<'a, S: Setup>(
     groups: &[GWord],
     opener: &Stmt,
     stmt: &'a Stmt,
-) -> Result<Done<'a>, u16>
+    item: &mut Option<Item>,
+) -> Result<Course<'a>, u16>
     requires groups { groups.now ≡ model.group_words (statement_view stmt.now) }
     requires once { IsTrue (not (has_group_twice groups.now)) }
     requires opener { StatementFits (statement_view opener.now) }
     requires fits { StatementFits (statement_view stmt.now) }
+    requires empty { item.old ≡ None }
     ensures runs { RunsUnder modal.now groups.now (equipment_of (S.names setup.now) (S.axis_named setup.now) (S.offset setup.now) axes.now)
-        situation.old line (statement_view opener.now) (statement_view stmt.now) result situation.new }
+        situation.old line (statement_view opener.now) (statement_view stmt.now) (answer_with item.new result) situation.new }
     ensures modal { situation.new.modal ≡ situation.old.modal }
-    ensures stand { IfOk result (λ done. StandsAtEnd done.item situation.old.at situation.new.at) }
+    ensures stand { IfOk result (λ _. StandsAtEnd item.new situation.old.at situation.new.at) }
     ensures unchanged { OnErr result (situation.new ≡ situation.old) }
 {
     match stmt {
@@ -278,23 +278,21 @@ fn run_stmt<'a, S: Setup>(
                 line,
                 groups,
                 words.as_slice(),
+                item,
             )
         }
         Stmt::Shape(word, values) => {
             let parameters = &situation.parameters;
             shape(parameters, &mut situation.frame, *word, values.as_slice())?;
-            Ok(framed())
+            Ok(Course::Goes(Outcome::Plain))
         }
         Stmt::Turn(additive, angle) => {
             let plane = plane_in(modal);
             let parameters = &situation.parameters;
             turn(parameters, &mut situation.frame, plane, *additive, angle)?;
-            Ok(framed())
+            Ok(Course::Goes(Outcome::Plain))
         }
-        other => {
-            let course = run_control(setup, &mut situation.parameters, opener, other)?;
-            Ok(Done { item: None, course })
-        }
+        other => run_control(setup, &mut situation.parameters, opener, other),
     }
 }
 
@@ -307,20 +305,63 @@ fn run<'a, S: Setup>(
     groups: &[GWord],
     opener: &Stmt,
     stmt: &'a Stmt,
-) -> Result<Done<'a>, u16>
+    item: &mut Option<Item>,
+) -> Result<Course<'a>, u16>
     requires groups { groups.now ≡ model.group_words (statement_view stmt.now) }
     requires opener { StatementFits (statement_view opener.now) }
     requires fits { StatementFits (statement_view stmt.now) }
+    requires empty { item.old ≡ None }
     ensures runs { RunsAsDefined (equipment_of (S.names setup.now) (S.axis_named setup.now) (S.offset setup.now) axes.now)
-        situation.old line (statement_view opener.now) (statement_view stmt.now) result situation.new }
+        situation.old line (statement_view opener.now) (statement_view stmt.now) (answer_with item.new result) situation.new }
     ensures modal { IfOk result (λ _. ModalIsAfter groups.now situation.old situation.new) }
-    ensures stand { IfOk result (λ done. StandsAtEnd done.item situation.old.at situation.new.at) }
+    ensures stand { IfOk result (λ _. StandsAtEnd item.new situation.old.at situation.new.at) }
     ensures unchanged { OnErr result (situation.new ≡ situation.old) }
 {
     let modal = apply(&situation.modal, groups)?;
-    let done = run_stmt(setup, axes, &modal, situation, line, groups, opener, stmt)?;
+    let course = run_stmt(
+        setup, axes, &modal, situation, line, groups, opener, stmt, item,
+    )?;
     situation.modal = modal;
-    Ok(done)
+    Ok(course)
+}
+
+/// Does what `execute` says, and puts the motion of the block in its place, if it has one.
+pub fn execute_to<'a, S: Setup>(
+    alloc: Global,
+    setup: &S,
+    axes: &ChannelAxes,
+    situation: &mut Situation,
+    line: u32,
+    opener: &Stmt,
+    stmt: &'a Stmt,
+    item: &mut Option<Item>,
+) -> Result<Course<'a>, BlockFault>
+    requires opener { StatementFits (statement_view opener.now) }
+    requires fits { StatementFits (statement_view stmt.now) }
+    requires empty { item.old ≡ None }
+    ensures leaves { DoesAsDefined (equipment_of (S.names setup.now) (S.axis_named setup.now) (S.offset setup.now) axes.now)
+        situation.old line (statement_view opener.now) (statement_view stmt.now) (answer_with item.new result) situation.new }
+    ensures modal { IfOk result (λ _. ModalIsAfter (model.group_words (statement_view stmt.now)) situation.old situation.new) }
+    ensures stand { IfOk result (λ _. StandsAtEnd item.new situation.old.at situation.new.at) }
+    ensures unchanged { OnErr result (situation.new ≡ situation.old) }
+{
+    let groups = match group_words(alloc, stmt) {
+        Ok(groups) => groups,
+        Err(_) => return Err(BlockFault::NoMemory),
+    };
+    match run(
+        setup,
+        axes,
+        situation,
+        line,
+        groups.as_slice(),
+        opener,
+        stmt,
+        item,
+    ) {
+        Ok(course) => Ok(course),
+        Err(code) => Err(BlockFault::Alarm(code)),
+    }
 }
 
 /// Does what a block on this line says, or answers its first alarm.
@@ -356,20 +397,7 @@ pub fn execute<'a, S: Setup>(
     ensures stand { IfOk result (λ done. StandsAtEnd done.item situation.old.at situation.new.at) }
     ensures unchanged { OnErr result (situation.new ≡ situation.old) }
 {
-    let groups = match group_words(alloc, stmt) {
-        Ok(groups) => groups,
-        Err(_) => return Err(BlockFault::NoMemory),
-    };
-    match run(
-        setup,
-        axes,
-        situation,
-        line,
-        groups.as_slice(),
-        opener,
-        stmt,
-    ) {
-        Ok(done) => Ok(done),
-        Err(code) => Err(BlockFault::Alarm(code)),
-    }
+    let mut item = None;
+    let course = execute_to(alloc, setup, axes, situation, line, opener, stmt, &mut item)?;
+    Ok(Done { item, course })
 }

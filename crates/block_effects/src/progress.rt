@@ -4,14 +4,14 @@ ghost use Rattle.std.specs.Prelude.{◌≡◌, ◌≤◌, ◌<◌, ℕ, ℤ, Lis
 ghost use Rattle.nc_blocks.specs.Indices.{WordFits, OptionFits, OperandFits};
 ghost use Rattle.nc_blocks.specs.Statement.{word_view, operand_view, tree_option};
 ghost use Rattle.block_effects.specs.Words as model;
-ghost use Rattle.block_effects.specs.Words.{progress_of, Acts, ActsOn, Aims, Curves, IsPut, IsRead, IsUndoneSome};
+ghost use Rattle.block_effects.specs.Words.{progress_of, Acts, ActsOn, Aims, Curves, IsPut, IsRead, IsUndoneSome, TellsOfMoves};
 ghost use Rattle.block_effects.specs.Courses.{equipment_of};
 
 use crate::course::Setup;
 use crate::parameters::{Change, Parameters};
 use crate::situation::ChannelAxes;
 use axis_sets::{AXIS_LIMIT, AxisId};
-use block_motions::{ArcWords, Programmed, Targets, is_any};
+use block_motions::{ArcWords, Programmed, Targets};
 use micro_units::Num;
 use nc_blocks::{Operand, Word};
 use nc_expressions::{Expr, eval};
@@ -25,6 +25,8 @@ pub(crate) struct WordsDone {
     pub(crate) targets: Targets,
     /// The words of an arc.
     pub(crate) arc: ArcWords,
+    /// Whether a word was one of an axis or an arc: where this is false, nothing is programmed.
+    pub(crate) moves: bool,
     /// Whether the program ends after the block.
     pub(crate) ends: bool,
     /// The motion of the block, once its last word has acted.
@@ -207,6 +209,7 @@ impl WordsDone {
         ensures targets { result.targets ≡ model.nothing_programmed }
         ensures arc { result.arc ≡ model.no_arc }
         ensures ends { result.ends ≡ false }
+        ensures told { TellsOfMoves result }
     {
         WordsDone {
             targets: Targets {
@@ -217,19 +220,10 @@ impl WordsDone {
                 centre: [None; 3],
                 radius: None,
             },
+            moves: false,
             ends: false,
             motion: None,
         }
-    }
-
-    /// Whether something is programmed for an axis or an arc.
-    pub(crate) fn moves(&self) -> bool
-        ensures { result ≡ model.moves self.now.targets self.now.arc }
-    {
-        is_any(&self.targets.slots)
-            || is_any(&self.targets.axes)
-            || is_any(&self.arc.centre)
-            || self.arc.radius.is_some()
     }
 
     /// Programs what has this name: the centre of an arc, or an axis.
@@ -240,7 +234,8 @@ impl WordsDone {
         name: &[u8],
         value: Programmed,
     ) -> Result<(), u16>
-        ensures { (parameters : List ℤ)
+        ensures moves { self.new.moves ≡ self.old.moves }
+        ensures acts { (parameters : List ℤ)
             → Acts (model.word_progress (equipment_of (S.names setup.now) (S.axis_named setup.now) (S.offset setup.now) axes.now)
             (progress_of parameters self.old) name.now (model.centre_named name.now) value) result (progress_of parameters self.new) }
     {
@@ -259,7 +254,9 @@ impl WordsDone {
         parameters: &mut Parameters,
         word: &Word,
     ) -> Result<Option<Change>, u16>
-        requires { WordFits (word_view word.now) }
+        requires fits { WordFits (word_view word.now) }
+        requires told { TellsOfMoves self.old }
+        ensures told { TellsOfMoves self.new }
         ensures acts { ActsOn (model.word_done (equipment_of (S.names setup.now) (S.axis_named setup.now) (S.offset setup.now) axes.now)
             (progress_of parameters.old self.old) (word_view word.now)) result (progress_of parameters.new self.new) }
         ensures undone { IsUndoneSome result parameters.old parameters.new }
@@ -268,6 +265,7 @@ impl WordsDone {
             Word::Assign(index, value) => Ok(Some(parameters.give(*index, value)?)),
             Word::AssignAt(index, value) => Ok(Some(parameters.give_at(index, value)?)),
             Word::Axis(name, measure, value) => {
+                self.moves = true;
                 let value = Programmed {
                     measure: *measure,
                     value: eval(value, parameters)?,
@@ -284,6 +282,7 @@ impl WordsDone {
                 Ok(None)
             }
             Word::Radius(value) => {
+                self.moves = true;
                 let value = eval(value, parameters)?;
                 program_radius(&mut self.arc, value)?;
                 Ok(None)

@@ -118,3 +118,6 @@ room n few not = by_test (nat_lt n 100000) refl
     by_test : (t : Bool) → nat_lt n 100000 ≡ t → n + suc (99999 - n) ≡ 100000
     by_test true is = let less : n < 100000 = below is in omega (arith, less)
     by_test false is = let more : 100000 ≤ n = reached is in absurd (not (omega (arith, more, few)))
+
+pub room_below : (n : ℕ) → n < 100000 → n + suc (99999 - n) ≡ 100000
+room_below n below = room n (omega (arith, below)) (λ e. omega (arith, below, e))

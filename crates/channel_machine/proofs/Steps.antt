@@ -48,6 +48,14 @@ ends_at s segment items k later line action past step is at keeps = record {
   after = subst (λ (g : SegmentView). Keeps s g.after later) (sym is) keeps;
 }
 
+-- an alarm ends the segment with this step, after these items
+pub halts_at : (s : SurroundingsView) (c : Channel) (items : List Item) (k later : StateView) (line : ℕ) (action : Action) (past : List Deed) (halt : Option Step)
+    → with_items_before items (segment_of s c) ≡ ended items k line action past → halt ≡ Some (step_at k.axes k.on (stands k.at) line action) → Keeps s (channel_at_end past) later
+    → Advances s c items halt items later
+halts_at s c items k later line action past halt is at keeps =
+    subst (λ (h : Option Step). Advances s c items h items later) (sym at)
+    (ends_at s (with_items_before items (segment_of s c)) items k later line action past (step_at k.axes k.on (stands k.at) line action) is refl keeps)
+
 -- the step of what is kept is that of the channel
 pub step_kept : (s : SurroundingsView) (past : List Deed) (k : StateView) → k.axes ≡ (grant_after s past).axes → k.on ≡ on_after s past
     → ((axis : ℕ) → stands k.at axis ≡ stands_after s past axis)

@@ -4,6 +4,8 @@ use Rattle.std.specs.Option.{option_to_list}
 use Rattle.axis_sets.specs.Positions.{position_of, stands}
 use Rattle.coordination_words.specs.declared.asked.Request.{Request}
 use Rattle.coordination_words.specs.declared.asked.Request.TheVariants.{Act, Switch}
+use Rattle.block_effects.specs.Words.{parameter_in}
+use Rattle.channel_machine.specs.Coordination.{request_in, setting_in}
 use Rattle.frames.specs.Composition.{IsComposed}
 use Rattle.frames.specs.declared.Frame.{Frame}
 use Rattle.g_groups.specs.Modal.{IsAfter}
@@ -109,6 +111,13 @@ pub record IsThere (programs : List (List ℕ × ProgramView)) (here : Place) (l
   pub opens : opener ≡ statement_at (opening here.pc (program_blocks programs here.program)) (program_blocks programs here.program)
   pub fits : StatementFits block.statement
   pub opener_fits : StatementFits opener
+
+-- a block on, which stands where control is and asks for this, the segment ends with this step, or the channel goes on
+abbrev pub AdvancesBy : JobView → StateView → ℕ → BlockView → Statement → Option Request → List Item → Option Step → List Item → StateView → Type 0
+AdvancesBy job old line block opener request before halt after new =
+    (s : SurroundingsView) (c : Channel) (levels : Levels) → IsSettingIn job s old → Keeps s c old → old.levels ≡ Some levels → IsThere job.programs levels.here line block opener
+    → request_in (setting_in job old.channel old.slots old.axes) (parameter_in old.parameters) block.statement ≡ Ok request
+    → Advances s c before halt after new
 
 -- the segment ends on this line, where the axes stand
 abbrev pub Stops : StateView → ℕ → Action → Option Step → Type 0

@@ -81,7 +81,7 @@ impl State {
 /// A channel between two segments. A contract sees what it keeps of its run.
 #[derive(Drop)]
 pub struct Local {
-    pub(crate) state: State,
+    pub(crate) state: Box<State>,
 }
 
 impl Model for Local {
@@ -89,7 +89,7 @@ impl Model for Local {
 
     ghost Value = { StateView };
 
-    ghost view = { λ l. state_view l.state };
+    ghost view = { λ l. state_view l.state.value };
 }
 
 /// The line of a program's header, or 0.
@@ -163,7 +163,7 @@ impl Local {
         ensures levels { self.new.levels ≡ self.old.levels }
         ensures count { self.new.count ≡ self.old.count }
     {
-        self.state.resume(grant);
+        (*self.state).resume(grant);
     }
 
     /// A channel at its start: its program at the first block, all parameters 0, the words of groups
@@ -193,6 +193,7 @@ impl Local {
             channel,
             on: grant.on,
         };
+        let state = Box::new(alloc, state)?;
         Ok(Local { state })
     }
 }

@@ -1,16 +1,18 @@
 //! A segment of a channel's run, one block after another.
 
-ghost use Rattle.std.specs.Prelude.{◌≡◌, ◌≤◌, ◌<◌, ◌+◌, ◌++◌, length, slice_get, slice_set, IfOk, IfNone, IfSome, MatchOption, None, OnOk};
+ghost use Rattle.std.specs.Prelude.{◌≡◌, ◌≤◌, ◌<◌, ◌+◌, ◌++◌, ◌∷◌, [], length, slice_get, slice_set, IfOk, IfNone, IfSome, MatchOption, None, OnOk};
 ghost use Rattle.std.specs.Option.{option_to_list};
 ghost use Rattle.axis_sets.specs.Positions.{stands};
 ghost use Rattle.block_effects.specs.Courses.{course_view};
+ghost use Rattle.nc_blocks.specs.Indices.{StatementFits};
 ghost use Rattle.nc_blocks.specs.Statement.{statement_view, view_of};
 ghost use Rattle.nc_control_flow.specs.Parts.{statement_at, views};
 ghost use Rattle.nc_control_flow.specs.Structures.{opening};
 ghost use Rattle.job_types.specs.SoundJob.{BlocksFit};
-ghost use Rattle.channel_machine.specs.Kept.{Advances, IsFollowing, IsHeld, IsSegment, IsSettingIn, IsThere, Keeps, state_view};
+ghost use Rattle.channel_machine.specs.Kept.{Advances, AdvancesBy, IsFollowing, IsHeld, IsSegment, IsSettingIn, IsThere, Keeps, state_view};
 ghost use Rattle.channel_machine.specs.Levels.{LevelsFit, levels_after, lines_of};
 ghost use Rattle.channel_machine.specs.Run as model;
+ghost use Rattle.sync_types.specs.declared.Part.TheVariants as part;
 ghost use Rattle.channel_machine.specs.Run.{SurroundingsView, Channel, channel_after_grant, segment_of};
 
 use crate::coordination::request_in;
@@ -19,7 +21,7 @@ use crate::limits::BLOCK_LIMIT;
 use crate::local::{Local, State};
 use crate::surroundings::Surroundings;
 use axis_sets::{AXIS_LIMIT, AxisId, AxisSet, Positions, ZoneId, ZoneSet};
-use block_effects::{BlockFault, Course, Done, execute};
+use block_effects::{BlockFault, Course, execute_to};
 use coordination_words::Request;
 use g_groups::Modal;
 use job_types::Job;
@@ -89,13 +91,13 @@ fn step(state: &State, line: u32, action: Action) -> Step
     }
 }
 
-/// Ends the run of a channel on this line: control is nowhere then.
-fn stop(state: &mut State, line: u32, action: Action) -> Step
-    ensures step { result ≡ model.step_at state.old.own.owned state.old.on (stands state.old.situation.at) line action }
+/// Ends the run of a channel on this line with this step: control is nowhere then.
+fn stop(state: &mut State, line: u32, action: Action, halt: &mut Option<Step>)
+    ensures step { halt.new ≡ Some (model.step_at state.old.own.owned state.old.on (stands state.old.situation.at) line action) }
     ensures nowhere { state.new ≡ record state.old { levels = None } }
 {
     state.levels = None;
-    step(state, line, action)
+    *halt = Some(step(state, line, action));
 }
 
 /// The statement that begins the structure round a place.
@@ -140,12 +142,25 @@ fn find_block<'a>(job: &'a Job, here: &Place) -> Option<NextBlock<'a>>
 }
 
 /// Adds the item, if there is one.
-fn push_some(items: &mut Vec<Item>, item: Option<Item>) -> Result<(), AllocError>
-    ensures { OnOk result (items.new.items ≡ items.old.items ++ option_to_list item) }
+#[inline(never)]
+fn push_some(items: &mut Vec<Item>, item: &mut Option<Item>) -> Result<(), AllocError>
+    ensures { OnOk result (items.new.items ≡ items.old.items ++ option_to_list item.old) }
 {
-    if let Some(item) = item {
+    if let Some(item) = item.take() {
         items.push(item)?;
     }
+    Ok(())
+}
+
+/// Adds the switch of a zone by a block on this line.
+#[inline(never)]
+fn push_switch(items: &mut Vec<Item>, line: u32, zone: ZoneId, on: bool) -> Result<(), AllocError>
+    ensures { OnOk result (items.new.items ≡ items.old.items ++ record { line = line; part = part.Switch zone on } ∷ []) }
+{
+    items.push(Item {
+        line,
+        part: Part::Switch(zone, on),
+    })?;
     Ok(())
 }
 
@@ -174,20 +189,23 @@ fn push_done(
     items: &mut Vec<Item>,
     line: u32,
     request: &Option<Request>,
-    motion: Option<Item>,
+    motion: &mut Option<Item>,
 ) -> Result<(), AllocError>
-    ensures { OnOk result (items.new.items ≡ items.old.items ++ option_to_list (model.item_by line request.now motion)) }
+    ensures { OnOk result (items.new.items ≡ items.old.items ++ option_to_list (model.item_by line request.now motion.old)) }
 {
     match request {
-        Some(Request::Switch(zone, on)) => {
-            let part = Part::Switch(*zone, *on);
-            push_some(items, Some(Item { line, part }))
+        Some(Request::Switch(zone, on)) => push_switch(items, line, *zone, *on),
+        Some(Request::Act(_)) | None => {
+            if motion.is_some() {
+                push_some(items, motion)?;
+            }
+            Ok(())
         }
-        Some(Request::Act(_)) | None => push_some(items, motion),
     }
 }
 
 /// These zones with this one, where it is on from here, or without it.
+#[inline(never)]
 fn switched(on: ZoneSet, zone: ZoneId, new: bool) -> ZoneSet
     ensures { result ≡ slice_set on zone new }
 {
@@ -195,23 +213,14 @@ fn switched(on: ZoneSet, zone: ZoneId, new: bool) -> ZoneSet
     if new { on.with(zone) } else { on.without(zone) }
 }
 
-/// The zones that are on after a block that asks for this.
-fn on_by_request(on: ZoneSet, request: &Option<Request>) -> ZoneSet
-    ensures { result ≡ model.on_by_request on request.now }
+/// Ends the segment with the step of a block on this line, where it asks anything of the other channels.
+fn hold(state: &State, line: u32, request: &Option<Request>, halt: &mut Option<Step>)
+    requires { halt.old ≡ None }
+    ensures { IsHeld (state_view state.now) line request.now halt.new }
 {
     match request {
-        Some(Request::Switch(zone, new)) => switched(on, *zone, *new),
-        Some(Request::Act(_)) | None => on,
-    }
-}
-
-/// The step of a block on this line that asks anything of the other channels.
-fn held(state: &State, line: u32, request: &Option<Request>) -> Option<Step>
-    ensures { IsHeld (state_view state.now) line request.now result }
-{
-    match request {
-        Some(Request::Act(action)) => Some(step(state, line, *action)),
-        Some(Request::Switch(_, _)) | None => None,
+        Some(Request::Act(action)) => *halt = Some(step(state, line, *action)),
+        Some(Request::Switch(_, _)) | None => {}
     }
 }
 
@@ -220,14 +229,15 @@ fn count_block(state: &mut State, line: u32, request: &Option<Request>)
     requires { state.old.count < BLOCK_LIMIT }
     ensures { state.new ≡ record state.old { count = state.old.count + 1; last = line; on = model.on_by_request state.old.on request.now } }
 {
-    let on = state.on;
     state.count += 1;
     state.last = line;
-    state.on = on_by_request(on, request);
+    if let Some(Request::Switch(zone, new)) = request {
+        state.on = switched(state.on, *zone, *new);
+    }
 }
 
-/// Goes on after a block on this line that has done this and asks for this, and answers the step where the segment ends with it.
-/// `modal` are the words of groups that held before the block.
+/// Goes on after a block on this line that has this motion and this course and asks for this, and puts the step in its
+/// place where the segment ends with it. `modal` are the words of groups that held before the block.
 ///
 /// The alarms are those of where it leads. Following one nothing of the block stands: it is a block that jumps, repeats or
 /// calls, so it has changed no more than the words of groups, and those are put back.
@@ -237,39 +247,105 @@ fn leave(
     items: &mut Vec<Item>,
     line: u32,
     modal: Modal,
-    done: Done,
+    motion: &mut Option<Item>,
+    course: Course,
     request: &Option<Request>,
-) -> Result<Option<Step>, NoMemory>
+    halt: &mut Option<Step>,
+) -> Result<(), NoMemory>
     requires fit { IfSome state.old.levels (LevelsFit job.now.skip job.now.programs) }
     requires few { state.old.count < BLOCK_LIMIT }
-    ensures told { IfOk result (λ halt. (levels : Levels) → state.old.levels ≡ Some levels
-        → IsFollowing (record (state_view state.old) { levels = None }) modal items.old.items done.entry.item line request.now (model.ends_main levels (course_view done.entry.course))
-        (levels_after job.now.skip job.now.programs levels (course_view done.entry.course)) halt items.new.items (state_view state.new)) }
+    requires goes { halt.old ≡ None }
+    ensures told { IfOk result (λ _. (levels : Levels) → state.old.levels ≡ Some levels
+        → IsFollowing (record (state_view state.old) { levels = None }) modal items.old.items motion.old line request.now (model.ends_main levels (course_view course.entry))
+        (levels_after job.now.skip job.now.programs levels (course_view course.entry)) halt.new items.new.items (state_view state.new)) }
     ensures fit { IfOk result (λ _. IfSome state.new.levels (LevelsFit job.now.skip job.now.programs)) }
     ensures few { IfOk result (λ _. state.new.count ≤ BLOCK_LIMIT) }
-    ensures count { IfOk result (λ halt. IfNone halt (state.new.count ≡ state.old.count + 1)) }
+    ensures count { IfOk result (λ _. IfNone halt.new (state.new.count ≡ state.old.count + 1)) }
     ensures channel { IfOk result (λ _. state.new.channel ≡ state.old.channel) }
 {
-    let Done { item, course } = done;
     if ends_here(&state.levels, &course) {
-        push_done(items, line, request, item)?;
+        push_done(items, line, request, motion)?;
         count_block(state, line, request);
-        return Ok(Some(stop(state, line, Action::End)));
+        stop(state, line, Action::End, halt);
+        return Ok(());
     }
     match follow_on(job, &mut state.levels, course, job.skip) {
         Ok(()) => {
-            push_done(items, line, request, item)?;
+            push_done(items, line, request, motion)?;
             count_block(state, line, request);
-            Ok(held(state, line, request))
+            hold(state, line, request, halt);
         }
         Err(code) => {
             state.situation.modal = modal;
-            Ok(Some(stop(state, line, Action::Alarm(code))))
+            stop(state, line, Action::Alarm(code), halt);
         }
+    }
+    Ok(())
+}
+
+/// Executes the block at which control stands, which asks for this, and puts the step in its place where the segment ends
+/// with it.
+///
+/// The alarms are those of the block and of where it leads.
+fn perform(
+    alloc: Global,
+    job: &Job,
+    state: &mut State,
+    items: &mut Vec<Item>,
+    next: NextBlock,
+    request: &Option<Request>,
+    halt: &mut Option<Step>,
+) -> Result<(), NoMemory>
+    requires programs { length job.now.programs ≤ 65536 }
+    requires opener { StatementFits (statement_view next.opener.now) }
+    requires fits { StatementFits (statement_view next.block.now.stmt) }
+    requires fit { IfSome state.old.levels (LevelsFit job.now.skip job.now.programs) }
+    requires few { state.old.count < BLOCK_LIMIT }
+    requires goes { halt.old ≡ None }
+    ensures told { IfOk result (λ _. AdvancesBy job.now (state_view state.old) next.entry.line (view_of next.entry.block.now) (statement_view next.entry.opener.now) request.now
+        items.old.items halt.new items.new.items (state_view state.new)) }
+    ensures fit { IfOk result (λ _. IfSome state.new.levels (LevelsFit job.now.skip job.now.programs)) }
+    ensures few { IfOk result (λ _. state.new.count ≤ BLOCK_LIMIT) }
+    ensures count { IfOk result (λ _. IfNone halt.new (state.new.count ≡ state.old.count + 1)) }
+    ensures channel { IfOk result (λ _. state.new.channel ≡ state.old.channel) }
+{
+    let line = next.line;
+    let channel = state.channel;
+    let surroundings = Surroundings { job, channel };
+    let modal = state.situation.modal;
+    let mut motion = None;
+    match execute_to(
+        alloc,
+        &surroundings,
+        &state.own,
+        &mut state.situation,
+        line,
+        next.opener,
+        &next.block.stmt,
+        &mut motion,
+    ) {
+        Ok(course) => leave(
+            job,
+            state,
+            items,
+            line,
+            modal,
+            &mut motion,
+            course,
+            request,
+            halt,
+        ),
+        Err(fault) => match fault {
+            BlockFault::Alarm(code) => {
+                stop(state, line, Action::Alarm(code), halt);
+                Ok(())
+            }
+            BlockFault::NoMemory => Err(NoMemory),
+        },
     }
 }
 
-/// Executes the block at which control stands, and answers the step where the segment ends with it.
+/// Executes the block at which control stands, and puts the step in its place where the segment ends with it.
 ///
 /// Alarm 9 where no block comes, alarm 8 where it is one more than may be executed, and the alarms of
 /// the block and of where it leads.
@@ -278,52 +354,44 @@ fn advance(
     job: &Job,
     state: &mut State,
     items: &mut Vec<Item>,
-) -> Result<Option<Step>, NoMemory>
+    halt: &mut Option<Step>,
+) -> Result<(), NoMemory>
     requires blocks { BlocksFit job.now }
     requires programs { length job.now.programs ≤ 65536 }
     requires fit { IfSome state.old.levels (LevelsFit job.now.skip job.now.programs) }
     requires few { state.old.count ≤ BLOCK_LIMIT }
-    ensures told { IfOk result (λ halt. (s : SurroundingsView) (c : Channel) → IsSettingIn job.now s (state_view state.old) → Keeps s c (state_view state.old)
-        → Advances s c items.old.items halt items.new.items (state_view state.new)) }
+    requires goes { halt.old ≡ None }
+    ensures told { IfOk result (λ _. (s : SurroundingsView) (c : Channel) → IsSettingIn job.now s (state_view state.old) → Keeps s c (state_view state.old)
+        → Advances s c items.old.items halt.new items.new.items (state_view state.new)) }
     ensures fit { IfOk result (λ _. IfSome state.new.levels (LevelsFit job.now.skip job.now.programs)) }
     ensures few { IfOk result (λ _. state.new.count ≤ BLOCK_LIMIT) }
-    ensures count { IfOk result (λ halt. IfNone halt (state.new.count ≡ state.old.count + 1)) }
+    ensures count { IfOk result (λ _. IfNone halt.new (state.new.count ≡ state.old.count + 1)) }
     ensures channel { IfOk result (λ _. state.new.channel ≡ state.old.channel) }
 {
     let last = state.last;
     let Some(levels) = &state.levels else {
-        return Ok(Some(stop(state, last, Action::Alarm(NO_PROGRAM_END))));
+        stop(state, last, Action::Alarm(NO_PROGRAM_END), halt);
+        return Ok(());
     };
     let Some(next) = find_block(job, &levels.here) else {
-        return Ok(Some(stop(state, last, Action::Alarm(NO_PROGRAM_END))));
+        stop(state, last, Action::Alarm(NO_PROGRAM_END), halt);
+        return Ok(());
     };
     let line = next.line;
     if state.count == BLOCK_LIMIT {
-        return Ok(Some(stop(state, line, Action::Alarm(TOO_MANY_BLOCKS))));
+        stop(state, line, Action::Alarm(TOO_MANY_BLOCKS), halt);
+        return Ok(());
     }
     let channel = state.channel;
     let parameters = &state.situation.parameters;
     let request = match request_in(job, channel, &state.own, parameters, &next.block.stmt) {
         Ok(request) => request,
-        Err(code) => return Ok(Some(stop(state, line, Action::Alarm(code)))),
+        Err(code) => {
+            stop(state, line, Action::Alarm(code), halt);
+            return Ok(());
+        }
     };
-    let surroundings = Surroundings { job, channel };
-    let modal = state.situation.modal;
-    match execute(
-        alloc,
-        &surroundings,
-        &state.own,
-        &mut state.situation,
-        line,
-        next.opener,
-        &next.block.stmt,
-    ) {
-        Ok(done) => leave(job, state, items, line, modal, done, &request),
-        Err(fault) => match fault {
-            BlockFault::Alarm(code) => Ok(Some(stop(state, line, Action::Alarm(code)))),
-            BlockFault::NoMemory => Err(NoMemory),
-        },
-    }
+    perform(alloc, job, state, items, next, &request, halt)
 }
 
 /// Runs a channel up to and with the next block that asks anything of the other channels, which is each block of
@@ -349,7 +417,8 @@ pub fn run_segment(alloc: Global, job: &Job, local: &Local) -> Result<Segment, N
     ensures few { IfOk result (λ g. g.after.count ≤ BLOCK_LIMIT) }
     ensures channel { IfOk result (λ g. g.after.channel ≡ local.now.channel) }
 {
-    run_state(alloc, job, local.state.copied()?)
+    let state = Box::new(alloc, (*local.state).copied()?)?;
+    run_state(alloc, job, state)
 }
 
 /// The segment of a channel that goes on with a grant. The channel is given away, so nothing of it is copied.
@@ -372,21 +441,23 @@ pub fn run_on(alloc: Global, job: &Job, local: Local, grant: &Grant) -> Result<S
 }
 
 /// The segment of a channel whose state is given away: nothing of it is copied.
-fn run_state(alloc: Global, job: &Job, start: State) -> Result<Segment, NoMemory>
+fn run_state(alloc: Global, job: &Job, start: Box<State>) -> Result<Segment, NoMemory>
     requires blocks { BlocksFit job.now }
     requires programs { length job.now.programs ≤ 65536 }
-    requires fit { IfSome start.levels (LevelsFit job.now.skip job.now.programs) }
-    requires few { start.count ≤ BLOCK_LIMIT }
-    ensures told { IfOk result (λ g. (s : SurroundingsView) (c : Channel) → IsSettingIn job.now s (state_view start) → Keeps s c (state_view start)
+    requires fit { IfSome start.value.levels (LevelsFit job.now.skip job.now.programs) }
+    requires few { start.value.count ≤ BLOCK_LIMIT }
+    ensures told { IfOk result (λ g. (s : SurroundingsView) (c : Channel) → IsSettingIn job.now s (state_view start.value) → Keeps s c (state_view start.value)
         → IsSegment s (segment_of s c) g) }
     ensures fit { IfOk result (λ g. IfSome g.after.levels (LevelsFit job.now.skip job.now.programs)) }
     ensures few { IfOk result (λ g. g.after.count ≤ BLOCK_LIMIT) }
-    ensures channel { IfOk result (λ g. g.after.channel ≡ start.channel) }
+    ensures channel { IfOk result (λ g. g.after.channel ≡ start.value.channel) }
 {
     let mut state = start;
     let mut items = Vec::new(alloc);
+    let mut halt = None;
     loop {
-        match advance(alloc, job, &mut state, &mut items)? {
+        advance(alloc, job, &mut *state, &mut items, &mut halt)?;
+        match halt {
             Some(step) => {
                 let after = Local { state };
                 return Ok(Segment { items, step, after });

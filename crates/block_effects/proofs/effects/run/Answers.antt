@@ -18,4 +18,4 @@ returns-in_err-modal-clause-runs g c = λ blocks chain after composed.
     let says = c.from_residual.ensures in
     let here = subst (λ (words : List GWord). IsTrue (has_group_twice words)) c.requires.groups twice.1 in
     let is = twice_alarms equipment found c.args.line opener statement here in
-    fails_with (effect_of equipment found c.args.line opener statement) _ _ _ says.1 (is ∙ ap (λ (k : ℕ). Err k) (sym twice.0))
+    fails_with (effect_of equipment found c.args.line opener statement) _ _ _ _ says.1 (is ∙ ap (λ (k : ℕ). Err k) (sym twice.0))

@@ -15,13 +15,12 @@ returns-in_err-run_from-clause-runs g c = λ blocks chain after composed.
     let words = map word_view c.args.words.now in
     let h = held_after equipment.offset (blocks ++ c.args.groups.now ∷ []) chain in
     let nothing = c.nothing-done.ensures in
-    let holds = c.conditions-conditions.ensures (blocks ++ c.args.groups.now ∷ []) chain after composed in
     let begins = begun_is situation.parameters c.nothing-done.result nothing.targets nothing.arc nothing.ends in
     let code = c.in_err-run_from.field-0.0 in
     let is = words_end equipment found c.args.line c.args.groups.now words (Err code)
-    (ap (λ (p : Progress). words_then_motion equipment h (stands situation.at) c.args.groups.now p words) (sym begins) ∙ c.in_err-run_from.ensures.acts h holds) in
+    (ap (λ (p : Progress). words_then_motion equipment h (stands situation.at) c.args.groups.now p words) (sym begins) ∙ c.in_err-run_from.ensures.acts (blocks ++ c.args.groups.now ∷ []) chain after composed) in
     let says = c.from_residual.ensures in
-    fails_with (words_run equipment found c.args.line c.args.groups.now words) _ _ code says.1 is
+    fails_with (words_run equipment found c.args.line c.args.groups.now words) _ _ _ code says.1 is
 
 pub returns-clause-runs : goal.returns-clause-runs
 returns-clause-runs g c = λ blocks chain after composed.
@@ -31,11 +30,10 @@ returns-clause-runs g c = λ blocks chain after composed.
     let words = map word_view c.args.words.now in
     let h = held_after equipment.offset (blocks ++ c.args.groups.now ∷ []) chain in
     let nothing = c.nothing-done.ensures in
-    let holds = c.conditions-conditions.ensures (blocks ++ c.args.groups.now ∷ []) chain after composed in
     let begins = begun_is situation.parameters c.nothing-done.result nothing.targets nothing.arc nothing.ends in
     let p = progress_of c.run_from.new.parameters c.run_from.new.done in
     let motion = c.run_from.new.done.motion in
     let is = words_end equipment found c.args.line c.args.groups.now words (Ok (p, motion))
-    (ap (λ (p : Progress). words_then_motion equipment h (stands situation.at) c.args.groups.now p words) (sym begins) ∙ c.in_ok-run_from.ensures.acts h holds) in
+    (ap (λ (p : Progress). words_then_motion equipment h (stands situation.at) c.args.groups.now p words) (sym begins) ∙ c.in_ok-run_from.ensures.acts (blocks ++ c.args.groups.now ∷ []) chain after composed) in
     does_left (words_run equipment found c.args.line c.args.groups.now words) (left c.args.line found p motion) _ _ is
-    (record { parameters = refl; frame = composed; item = sym c.item_on.ensures; course = sym c.course_of.ensures })
+    (record { parameters = refl; frame = composed; item = sym c.put_motion.ensures; course = sym c.course_of.ensures })
