@@ -3,7 +3,7 @@
 //! Two channels make random moves, and wait for each other after every hundredth. Their zones stay apart.
 #![tactic(auto)]
 
-ghost use Rattle.std.specs.Prelude.{◌≡◌, ◌+◌, ◌*◌, ◌%◌, ◌<◌, ◌≤◌, ◌++◌, IfOk, OnOk};
+ghost use Rattle.std.specs.Prelude.{◌≡◌, ◌+◌, ◌*◌, ◌%◌, ◌<◌, ◌≤◌, ◌++◌, IfOk, OnOk, length};
 ghost use Rattle.std.specs.Fmt.{decimal};
 ghost use Rattle.sample_jobs.specs.Samples as model;
 
@@ -20,6 +20,24 @@ const MOVES: u32 = 10_000;
 /// How many moves it makes between two waits.
 const MOVES_TO_A_WAIT: u32 = 100;
 
+/// The most bytes of the job list.
+const LIST_ROOM: usize = 320;
+
+/// The most bytes of the first line of a program, and of a wait.
+const LINE_ROOM: usize = 12;
+
+/// The most digits of a number.
+const NUMBER_ROOM: usize = 10;
+
+/// The most bytes of a move.
+const MOVE_ROOM: usize = 28;
+
+/// The most bytes of the moves of a program, with its waits.
+const ROWS_ROOM: usize = 400_000;
+
+/// The most bytes of a sample.
+pub const SAMPLE_ROOM: usize = 1_000_000;
+
 /// The two programs of a sample.
 #[derive(Clone, Copy)]
 enum Program {
@@ -31,7 +49,8 @@ enum Program {
 
 /// The job list.
 fn list_text() -> &'static str
-    ensures { result.now ≡ model.list_text }
+    ensures text { result.now ≡ model.list_text }
+    ensures short { length result.now ≤ LIST_ROOM }
 {
     "JOB 1
 CHANNEL 1 S1 START
@@ -52,7 +71,8 @@ BUDGET 100000000
 
 /// The line before the blocks of a program.
 fn head_line(program: Program) -> &'static str
-    ensures { result.now ≡ model.head_line program }
+    ensures text { result.now ≡ model.head_line program }
+    ensures short { length result.now ≤ LINE_ROOM }
 {
     match program {
         Program::First => "%_N_S1_MPF\n",
@@ -73,7 +93,8 @@ fn seed_of(program: Program, number: u32) -> u32
 
 /// The sign of X in a program.
 fn sign_of(program: Program) -> &'static str
-    ensures { result.now ≡ model.sign_of program }
+    ensures text { result.now ≡ model.sign_of program }
+    ensures short { length result.now ≤ 1 }
 {
     match program {
         Program::First => "",
@@ -83,7 +104,8 @@ fn sign_of(program: Program) -> &'static str
 
 /// The block in which a program waits for the other one's channel.
 fn wait_line(program: Program) -> &'static str
-    ensures { result.now ≡ model.wait_line program }
+    ensures text { result.now ≡ model.wait_line program }
+    ensures short { length result.now ≤ LINE_ROOM }
 {
     match program {
         Program::First => "WAITM(1,2)\n",
@@ -100,7 +122,8 @@ fn next_random(random: u32) -> u32
 
 /// Puts a text at the end.
 fn push(bytes: &mut Vec<u8>, text: &str) -> Result<(), NoMemory>
-    ensures { OnOk result (bytes.new.items ≡ bytes.old.items ++ text.now) }
+    ensures text { OnOk result (bytes.new.items ≡ bytes.old.items ++ text.now) }
+    ensures room { OnOk result (length bytes.new.items ≡ length bytes.old.items + length text.now) }
 {
     bytes.extend_from_slice(text.as_bytes())?;
     Ok(())
@@ -108,7 +131,8 @@ fn push(bytes: &mut Vec<u8>, text: &str) -> Result<(), NoMemory>
 
 /// Puts the digits of a number at the end.
 fn push_number(bytes: &mut Vec<u8>, number: u32) -> Result<(), NoMemory>
-    ensures { OnOk result (bytes.new.items ≡ bytes.old.items ++ decimal number) }
+    ensures text { OnOk result (bytes.new.items ≡ bytes.old.items ++ decimal number) }
+    ensures room { OnOk result (length bytes.new.items ≤ length bytes.old.items + NUMBER_ROOM) }
 {
     push(bytes, Buffer::new().format(number))
 }
@@ -116,7 +140,8 @@ fn push_number(bytes: &mut Vec<u8>, number: u32) -> Result<(), NoMemory>
 /// Puts the move that a random number gives.
 #[tactic(auto, unfolding(crate::specs::Samples::move_line))]
 fn push_move(bytes: &mut Vec<u8>, program: Program, random: u32) -> Result<(), NoMemory>
-    ensures { OnOk result (bytes.new.items ≡ bytes.old.items ++ model.move_line program random) }
+    ensures text { OnOk result (bytes.new.items ≡ bytes.old.items ++ model.move_line program random) }
+    ensures room { OnOk result (length bytes.new.items ≤ length bytes.old.items + MOVE_ROOM) }
 {
     push(bytes, "G1 X")?;
     push(bytes, sign_of(program))?;
@@ -134,7 +159,8 @@ fn push_moves(
     random: u32,
     count: u32,
 ) -> Result<(), NoMemory>
-    ensures { OnOk result (bytes.new.items ≡ bytes.old.items ++ model.move_lines program random count) }
+    ensures text { OnOk result (bytes.new.items ≡ bytes.old.items ++ model.move_lines program random count) }
+    ensures room { OnOk result (length bytes.new.items ≤ length bytes.old.items + MOVE_ROOM + LINE_ROOM) }
 {
     push_move(bytes, program, random)?;
     if count % MOVES_TO_A_WAIT == 0 {
@@ -145,7 +171,8 @@ fn push_moves(
 
 /// Puts the moves of a program, with its waits.
 fn push_rows(bytes: &mut Vec<u8>, program: Program, seed: u32) -> Result<(), NoMemory>
-    ensures { OnOk result (bytes.new.items ≡ bytes.old.items ++ model.rows program seed 10000) }
+    ensures text { OnOk result (bytes.new.items ≡ bytes.old.items ++ model.rows program seed 10000) }
+    ensures room { OnOk result (length bytes.new.items ≤ length bytes.old.items + ROWS_ROOM) }
 {
     let mut random = seed;
     for index in 0..MOVES {
@@ -159,7 +186,8 @@ fn push_rows(bytes: &mut Vec<u8>, program: Program, seed: u32) -> Result<(), NoM
 #[tactic(auto, unfolding(crate::specs::Samples::program_text))]
 fn push_program(bytes: &mut Vec<u8>, program: Program, number: u32) -> Result<(), NoMemory>
     requires { number ≤ GREATEST_NUMBER }
-    ensures { OnOk result (bytes.new.items ≡ bytes.old.items ++ model.program_text program number) }
+    ensures text { OnOk result (bytes.new.items ≡ bytes.old.items ++ model.program_text program number) }
+    ensures room { OnOk result (length bytes.new.items ≤ length bytes.old.items + ROWS_ROOM + 2 * LINE_ROOM) }
 {
     push(bytes, head_line(program))?;
     push_rows(bytes, program, seed_of(program, number))?;
@@ -170,7 +198,8 @@ fn push_program(bytes: &mut Vec<u8>, program: Program, number: u32) -> Result<()
 #[tactic(auto, unfolding(crate::specs::Samples::sample_bytes))]
 pub fn sample(alloc: Global, number: u32) -> Result<Vec<u8>, NoMemory>
     requires { number ≤ GREATEST_NUMBER }
-    ensures { IfOk result (λ bytes. bytes.items ≡ model.sample_bytes number) }
+    ensures exact { IfOk result (λ bytes. bytes.items ≡ model.sample_bytes number) }
+    ensures short { IfOk result (λ bytes. length bytes.items ≤ SAMPLE_ROOM) }
 {
     let mut bytes = Vec::new(alloc);
     push(&mut bytes, list_text())?;
