@@ -3,10 +3,13 @@
 
 mod arguments;
 mod check;
+mod judging;
+mod sample;
 #[cfg(test)]
 mod state_search;
 #[cfg(test)]
 mod tests;
+mod words;
 
 use arguments::check_arguments;
 use edge_io::{StdSink, StdSource};
