@@ -1,3 +1,5 @@
+pub mod ClapLemmas
+pub mod WordLemmas
 pub mod ClearLemmas
 pub mod UncoordinatedRuns
 pub mod JudgeLemmas
@@ -6,3 +8,5 @@ pub mod TurnLemmas
 pub mod CheckLemmas
 pub mod ResultLemmas
 pub mod ArgumentLemmas
+pub mod RequestLemmas
+pub mod SampleLemmas

@@ -1,5 +1,6 @@
 -- Meaning. The words of a call: what they ask for, and the input that they call for.
-use Rattle.std.specs.Prelude.{ℕ, ◌&&◌, nat_lt, nat_le, Bool, if◌then◌else◌, List, [], ◌∷◌, length, take, drop, codes, Option, None, Some, option_and_then, option_map}
+use Rattle.std.specs.Prelude.{ℕ, ◌==◌, ◌&&◌, nat_lt, nat_le, Bool, if◌then◌else◌, List, [], ◌∷◌, length, codes, Option, None, Some, option_and_then, option_map}
+use Rattle.std.specs.Char.{is_ascii_digit}
 use Rattle.std.specs.List.{list_all}
 use Rattle.std.specs.Str.{bytes_eq}
 use Rattle.std.specs.Str.Parse.{digits_value}
@@ -9,15 +10,14 @@ use Rattle.turnmill.specs.declared.words.Request.{Request}
 use Rattle.turnmill.specs.declared.words.Request.TheVariants.{Check, Sample}
 
 -- one to nine decimal digits
-abbrev pub is_digit : ℕ → Bool
-is_digit byte = nat_le 48 byte && nat_le byte 57
-
 abbrev pub is_number : List ℕ → Bool
-is_number text = nat_lt 0 (length text) && (nat_le (length text) 9 && list_all is_digit text)
+is_number text = nat_lt 0 (length text) && (nat_le (length text) 9 && list_all is_ascii_digit text)
 
--- what follows these bytes in a text that begins with them
+-- what follows this front in a text that begins with it
 abbrev pub text_after : List ℕ → List ℕ → Option (List ℕ)
-text_after front text = if bytes_eq (take (length front) text) front then Some (drop (length front) text) else None
+text_after [] text = Some text
+text_after (x ∷ front) [] = None
+text_after (x ∷ front) (y ∷ text) = if x == y then text_after front text else None
 
 -- N in the words `sample --number N` and `sample --number=N`
 abbrev pub number_text : List (List ℕ) → Option (List ℕ)
@@ -25,10 +25,11 @@ number_text (first ∷ second ∷ []) = if bytes_eq first (codes "sample") then 
 number_text (first ∷ second ∷ third ∷ []) = if bytes_eq first (codes "sample") && bytes_eq second (codes "--number") then Some third else None
 number_text words = None
 
--- the number of the sample that the words ask for
+-- the number that a text of one to nine digits writes
 abbrev pub number_of : List ℕ → Option ℕ
 number_of text = if is_number text then Some (digits_value 10 text) else None
 
+-- the number of the sample that the words ask for
 abbrev pub sample_number : List (List ℕ) → Option ℕ
 sample_number words = option_and_then number_of (number_text words)
 

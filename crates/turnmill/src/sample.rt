@@ -1,17 +1,20 @@
 //! The sample of a number: its job is judged, and told in two lines.
-ghost use Rattle.std.specs.Prelude.{◌≡◌, ◌↔◌, ◌-◌, ◌^◌, ◌<◌, ◌≤◌, All, length, sum_by, IfSome, Ok};
+ghost use Rattle.std.specs.Prelude.{◌≡◌, ◌↔◌, ◌-◌, ◌^◌, ◌<◌, ◌≤◌, All, length, map, sum_by, IfSome, Ok};
 ghost use Rattle.job_lines.specs.declared.limits.TheConstants.{INPUT_LIMIT};
 ghost use Rattle.job_report.specs.Channels.{IsListedEnd};
 ghost use Rattle.job_report.specs.Report.{report_bytes};
 ghost use Rattle.job_types.specs.SoundJob.{BlocksFit, IsSoundJob};
+ghost use Rattle.order_clocks.specs.Tells.{is_before_in};
+ghost use Rattle.product_run.specs.RunLaws.{step_limit};
 ghost use Rattle.sample_jobs.specs.Samples.{sample_bytes};
 ghost use Rattle.sample_jobs.specs.declared.TheConstants.{GREATEST_NUMBER};
 ghost use Rattle.tape_job.specs.Read.{read_of};
+ghost use Rattle.turnmill.specs.Judgements.{IsJudgedBy};
 ghost use Rattle.turnmill.specs.Output.{IsAnswer, IsReadWhole, Writes, WritesFront};
-ghost use Rattle.turnmill.specs.Summary.{IsSummaryBy, is_motion, move_count, moves_of};
+ghost use Rattle.turnmill.specs.Summary.{IsSummaryBy, figures_of, is_motion, move_count, moves_of};
 
 use crate::check::{Status, answer_refusal, status_of};
-use crate::judging::{judge_job, pair_count};
+use crate::judging::{Judgement, judge_job, pair_count};
 use edge_io::{CountSink, Sink};
 use job_report::{Figures, report, summary};
 use sample_jobs::sample;
@@ -34,7 +37,32 @@ fn moves_of(items: &[Item]) -> usize
     ensures value { result ≡ moves_of items.now }
     ensures few { result ≤ length items.now }
 {
-    items.iter().filter(|item| is_motion(&item.part)).count()
+    let mut count = 0;
+    for item in items {
+        if is_motion(&item.part) {
+            count += 1;
+        }
+    }
+    count
+}
+
+/// What the channels did before each step.
+fn items_of(run: &Run) -> &[Vec<Item>]
+    ensures { map (λ items. items.items) result.now ≡ run.now.items }
+{
+    run.items.as_slice()
+}
+
+/// How many motions these are.
+fn all_moves(rows: &[Vec<Item>]) -> usize
+    requires { sum_by (λ items. length items.items) rows.now < 2 ^ 20 }
+    ensures { result ≡ sum_by (λ items. moves_of items.items) rows.now }
+{
+    let mut count = 0;
+    for items in rows {
+        count += moves_of(items);
+    }
+    count
 }
 
 /// How many motions the channels make.
@@ -42,11 +70,7 @@ fn move_count(run: &Run) -> usize
     requires { sum_by length run.now.items < 2 ^ 20 }
     ensures { result ≡ move_count run.now }
 {
-    let mut count = 0;
-    for items in run.items.as_slice() {
-        count += moves_of(items);
-    }
-    count
+    all_moves(items_of(run))
 }
 
 /// How many bytes the report of a job has; `None` where their number does not fit 64 bits.
@@ -59,6 +83,24 @@ fn report_length(job: &Job, run: &Run, verdict: &Verdict) -> Option<u64>
         Ok(()) => sink.count(),
         Err(_) => None,
     }
+}
+
+/// The figures of a sample.
+fn figures_of(number: u32, job: &Job, judgement: &Judgement) -> Option<Figures>
+    requires accepted { IsSoundJob job.now }
+    requires judged { IsJudgedBy job.now judgement.now.run judgement.now.clocks judgement.now.stretches judgement.now.verdict }
+    requires few { length judgement.now.run.entries ≤ step_limit }
+    ensures { IfSome result (λ figures. figures
+        ≡ figures_of number job.now judgement.now.run judgement.now.verdict (is_before_in judgement.now.clocks.rows)) }
+{
+    let bytes = report_length(job, &judgement.run, &judgement.verdict)?;
+    Some(Figures {
+        number,
+        moves: move_count(&judgement.run) as u64,
+        steps: judgement.run.entries.len() as u64,
+        count: pair_count(job, judgement),
+        bytes,
+    })
 }
 
 /// Answers with the job of a sample: judges it, and then writes its two lines. No byte is written before all memory is taken.
@@ -76,15 +118,8 @@ fn answer_job<K: Sink>(alloc: Global, number: u32, job: &Job, sink: &mut K) -> S
     let Ok(judgement) = judge_job(alloc, job) else {
         return Status::NoMemory;
     };
-    let Some(bytes) = report_length(job, &judgement.run, &judgement.verdict) else {
+    let Some(figures) = figures_of(number, job, &judgement) else {
         return Status::NoMemory;
-    };
-    let figures = Figures {
-        number,
-        moves: move_count(&judgement.run) as u64,
-        steps: judgement.run.entries.len() as u64,
-        count: pair_count(job, &judgement),
-        bytes,
     };
     match summary(&figures, &judgement.verdict, sink) {
         Ok(()) => status_of(&judgement.verdict),

@@ -1,9 +1,12 @@
 //! The words of a call, and what they ask for.
-ghost use Rattle.std.specs.Prelude.{◌≡◌, ◌≤◌, map, true, codes, length, Option, None, Some, IfOk, IfErr, IfSome, IsErr, IsSome, option_map};
+ghost use Rattle.std.specs.Prelude.{◌≡◌, ◌≤◌, ◌&&◌, ℕ, true, map, codes, Some, IfOk, IfErr, IsErr, is_some, option_map};
+ghost use Rattle.std.specs.Char.{is_ascii_digit};
+ghost use Rattle.std.specs.List.{list_all};
+ghost use Rattle.std.specs.Str.{bytes_eq};
 ghost use Rattle.clap.specs.Words.{first_value, found_of, kind_of};
 ghost use Rattle.sample_jobs.specs.declared.TheConstants.{GREATEST_NUMBER};
 ghost use Rattle.turnmill.specs.Input.{is_check};
-ghost use Rattle.turnmill.specs.Words.{is_digit, is_number, number_of, number_text, request_of, sample_number, text_after};
+ghost use Rattle.turnmill.specs.Words.{is_number, number_of, number_text, request_of, sample_number, text_after};
 ghost use Rattle.turnmill.specs.declared.words.Request.TheVariants as requests;
 
 use clap::error::ErrorKind;
@@ -40,29 +43,51 @@ fn text_after<'a>(front: &str, text: &'a str) -> Option<&'a str>
     text.strip_prefix(front)
 }
 
+/// Whether these are the two words before the number.
+fn names_number(first: &str, second: &str) -> bool
+    ensures { result ≡ (bytes_eq first.now (codes "sample") && bytes_eq second.now (codes "--number")) }
+{
+    first == "sample" && second == "--number"
+}
+
 /// N in the words `sample --number N` and `sample --number=N`.
 fn number_text<'a>(words: &[&'a str]) -> Option<&'a str>
     ensures { option_map (λ text. text.now) result ≡ number_text (map (λ word. word.now) words.now) }
 {
     match words {
-        [first, second] if *first == "sample" => text_after("--number=", second),
-        [first, second, third] if *first == "sample" && *second == "--number" => Some(third),
+        [first, second] => {
+            if *first == "sample" {
+                text_after("--number=", second)
+            } else {
+                None
+            }
+        }
+        [first, second, third] => {
+            if names_number(first, second) {
+                Some(third)
+            } else {
+                None
+            }
+        }
         _ => None,
     }
 }
 
-/// Whether a byte is a decimal digit.
-fn is_digit(byte: u8) -> bool
-    ensures { result ≡ is_digit byte }
+/// Whether each byte is a decimal digit.
+fn has_digits_only(text: &[u8]) -> bool
+    ensures { result ≡ list_all is_ascii_digit text.now }
 {
-    b'0' <= byte && byte <= b'9'
+    text.iter().all(|byte| byte.is_ascii_digit())
 }
 
 /// Whether a text has one to nine decimal digits.
 fn is_number(text: &str) -> bool
     ensures { result ≡ is_number text.now }
 {
-    !text.is_empty() && text.len() <= DIGIT_LIMIT && text.as_bytes().iter().all(|&byte| is_digit(byte))
+    if text.is_empty() || text.len() > DIGIT_LIMIT {
+        return false;
+    }
+    has_digits_only(text.as_bytes())
 }
 
 /// Whether the words ask for a sample.
