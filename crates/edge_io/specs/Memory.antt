@@ -1,6 +1,7 @@
 -- Meaning. What is seen of the sources and sinks in memory.
-use Rattle.std.specs.Prelude.{◌≡◌, ℕ, ◌+◌, ◌-◌, ◌^◌, ◌==◌, min, Bool, true, false, List, ◌++◌, length, take, drop, Option, None, Some, Result, Ok, Err, nat_lt, if◌then◌else◌}
+use Rattle.std.specs.Prelude.{◌≡◌, ℕ, ◌+◌, ◌-◌, ◌^◌, ◌==◌, min, Bool, true, false, List, ◌++◌, length, take, drop, Option, None, Some, Result, Ok, Err}
 use Rattle.std.specs.List.{list_any}
+use Rattle.edge_io.specs.Moves.{count_in_64_bits}
 
 -- a source in memory: the bytes left, the most that one read gives, the calls to fail, the calls and the faults so far
 pub record SourceView : Type 0 where
@@ -44,10 +45,6 @@ WritesAsListed old new bytes (Ok n) =
     × (new ≡ record old { written = old.written ++ take n bytes; calls = calls_after old.calls })
 WritesAsListed old new bytes (Err e) =
     new ≡ record old { calls = calls_after old.calls; faults = old.faults + 1 }
-
--- the number of bytes written, None where it does not fit 64 bits
-abbrev pub count_in_64_bits : ℕ → Option ℕ
-count_in_64_bits total = if nat_lt total (2 ^ 64) then Some total else None
 
 -- whatever the number of bytes written was, it is n more
 abbrev pub CountsOn : Option ℕ → Option ℕ → ℕ → Type 0

@@ -1,5 +1,5 @@
 -- Meaning. What a read and a write do to the bytes that a source or a sink tells of, and to its count of faults.
-use Rattle.std.specs.Prelude.{◌≡◌, ℕ, ◌+◌, ◌^◌, ◌<◌, ◌≤◌, List, [], ◌++◌, length, take, ⊤, Option, None, Some, Result, Ok, Err}
+use Rattle.std.specs.Prelude.{◌≡◌, ℕ, ◌+◌, ◌^◌, ◌<◌, ◌≤◌, nat_lt, if◌then◌else◌, List, [], ◌++◌, length, take, ⊤, Option, None, Some, Result, Ok, Err}
 
 -- a failed call raises the count of faults, and no other call changes it
 abbrev pub HasCause : {T E : Type 0} → ℕ → ℕ → Result T E → Type 0
@@ -27,10 +27,14 @@ abbrev pub Grows : Option (List ℕ) → Option (List ℕ) → List ℕ → Type
 Grows None new bytes = ⊤
 Grows (Some xs) new bytes = new ≡ Some (xs ++ bytes)
 
--- the number of bytes written grows by n, and is told while it fits 64 bits
+-- a number of bytes, None where it does not fit 64 bits
+abbrev pub count_in_64_bits : ℕ → Option ℕ
+count_in_64_bits total = if nat_lt total (2 ^ 64) then Some total else None
+
+-- the number of bytes written grows by n, and is told exactly while it fits 64 bits
 abbrev pub Counts : Option ℕ → Option ℕ → ℕ → Type 0
-Counts None new n = ⊤
-Counts (Some k) new n = k + n < 2 ^ 64 → new ≡ Some (k + n)
+Counts None new n = new ≡ None
+Counts (Some k) new n = k < 2 ^ 64 → new ≡ count_in_64_bits (k + n)
 
 -- a read puts the first n bytes left into the buffer, and none only where none is left; a failed one takes nothing
 abbrev pub Reads : {E : Type 0} → Option (List ℕ) → Option (List ℕ) → Result ℕ E → List ℕ → Type 0

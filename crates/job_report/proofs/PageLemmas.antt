@@ -4,18 +4,10 @@ use Rattle.std.proofs.Math.Seq.{take-append-add}
 use Rattle.std.proofs.lemmas.Bool.{false≢true}
 use Rattle.std.proofs.lemmas.List.{take-append-le}
 use Rattle.std.specs.List.{flat_map}
-use Rattle.edge_io.proofs.MoveLemmas.{Counts-more}
+use Rattle.edge_io.proofs.MoveLemmas.{Counts-more, Counts-nothing, Grows-nothing}
 use Rattle.edge_io.specs.Moves.{Grows, Counts, GrowsByFront}
 use Rattle.job_report.specs.Pages.{Stage, Prints, Puts, stage}
 use Rattle.job_report.proofs.RowLemmas.{Stands, flat_map-next, flat_map-split}
-
-Grows-nothing : (w : Option (List ℕ)) → Grows w w []
-Grows-nothing None = tt
-Grows-nothing (Some xs) = ap Some (sym (append-nil xs))
-
-Counts-nothing : (k : Option ℕ) → Counts k k 0
-Counts-nothing None = tt
-Counts-nothing (Some k) = λ fits. ap Some (sym (add-zero k))
 
 -- bytes, and then others
 Grows-then : (old mid new : Option (List ℕ)) (first more : List ℕ) → Grows old mid first → Grows mid new more → Grows old new (first ++ more)

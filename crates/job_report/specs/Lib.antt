@@ -4,4 +4,5 @@ pub mod Actions
 pub mod Channels
 pub mod Verdicts
 pub mod Report
+pub mod Summary
 pub mod Pages

@@ -7,6 +7,7 @@ ghost use Rattle.std.specs.Prelude.{◌≡◌, ◌-◌, ◌^◌, ◌<◌, All, O
 ghost use Rattle.edge_io.specs.Moves.{HasCause, Grows, Counts, GrowsByFront};
 ghost use Rattle.job_report.specs.Channels.{IsListedEnd};
 ghost use Rattle.job_report.specs.Report.{report_bytes, refusal_bytes};
+ghost use Rattle.job_report.specs.Summary.{summary_bytes};
 ghost use Rattle.nc_faults.specs.Texts.{IsRefusalCode};
 
 mod actions;
@@ -15,12 +16,15 @@ mod lines;
 mod motions;
 mod page;
 mod positions;
+mod summaries;
 mod verdicts;
 
 use edge_io::{Failed, Sink};
 use job_types::Job;
 use nc_faults::Refusal;
 use page::{Page, flush};
+pub use summaries::Figures;
+use summaries::push_summary;
 use sync_types::{Run, Verdict};
 
 /// Writes the report of a job, from its run and the verdict on it.
@@ -52,5 +56,20 @@ pub fn refused<K: Sink>(refusal: &Refusal, sink: &mut K) -> Result<(), Failed>
 {
     let mut page = Page::new();
     lines::push_refusal_line(&mut page, refusal);
+    flush(&mut page, sink)
+}
+
+/// Writes the two lines of a sample: its figures, and the verdict on it.
+///
+/// The first write that fails ends the call, and nothing is written after it.
+pub fn summary<K: Sink>(figures: &Figures, verdict: &Verdict, sink: &mut K) -> Result<(), Failed>
+    requires { K.faults sink.old < 2 ^ 64 - 1 }
+    ensures whole { OnOk result (Grows (K.written sink.old) (K.written sink.new) (summary_bytes figures.now verdict.now)) }
+    ensures number { OnOk result (Counts (K.count sink.old) (K.count sink.new) (length (summary_bytes figures.now verdict.now))) }
+    ensures front { OnErr result (GrowsByFront (K.written sink.old) (K.written sink.new) (summary_bytes figures.now verdict.now)) }
+    ensures cause { HasCause (K.faults sink.old) (K.faults sink.new) result }
+{
+    let mut page = Page::new();
+    push_summary(&mut page, figures, verdict);
     flush(&mut page, sink)
 }

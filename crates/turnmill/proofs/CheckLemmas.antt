@@ -45,16 +45,16 @@ long_output : (input : List ℕ) → 8388609 ≤ length input → IsOutput input
 long_output input long = record { long = λ _. (refl, refl); short = λ short. absurd (omega arith) }
 
 -- it is answered by writing nothing
-pub writes-long : (A B C N : Type 0) (left new written : Option (List ℕ)) → TakesTooMany left new
-    → IfSome left (λ input. A → B → C → N ⊎ Writes (IsOutput input) ends.TooLong written written)
-writes-long A B C N None new written many = tt
-writes-long A B C N (Some input) new written many = λ _ _ _.
+pub writes-long : (A B N : Type 0) (left new written : Option (List ℕ)) → TakesTooMany left new
+    → IfSome left (λ input. A → B → N ⊎ Writes (IsOutput input) ends.TooLong written written)
+writes-long A B N None new written many = tt
+writes-long A B N (Some input) new written many = λ _ _.
     inr (record { bytes = []; called_for = long_output input many.0; grows = Grows-none written })
 
 -- ---- an input that is not too long
 
 -- it calls for what it is read as
-short_output : (input : List ℕ) (read : Result JobView Refusal) (status : Status) (bytes : List ℕ) → length input ≤ 8388608 → read_of input ≡ read
+pub short_output : (input : List ℕ) (read : Result JobView Refusal) (status : Status) (bytes : List ℕ) → length input ≤ 8388608 → read_of input ≡ read
     → IsOutputOf read status bytes → IsOutput input status bytes
 short_output input read status bytes short is of_read = record { long = λ long. absurd (omega arith); short = λ _. rw is of_read }
 
@@ -118,12 +118,12 @@ answered W status before now (inl whole) writes fault same = inr (writes whole)
 answered W status before now (inr (inl is)) writes fault same = let less = fault is in absurd (omega (arith, same, less))
 answered W status before now (inr (inr is)) writes fault same = inl is
 
-pub exact_answer : (A B : Type 0) (left after old new : Option (List ℕ)) (bytes : List ℕ) (status : Status) (before now : ℕ) → ReadsAll left after bytes
+pub exact_answer : (A : Type 0) (left after old new : Option (List ℕ)) (bytes : List ℕ) (status : Status) (before now : ℕ) → ReadsAll left after bytes
     → IsAnswer status → (IsReadWhole status → Writes (IsOutput bytes) status old new) → (status ≡ ends.WriteFault → before < now)
-    → IfSome left (λ input. A → B → now ≡ before → (status ≡ ends.NoMemory) ⊎ Writes (IsOutput input) status old new)
-exact_answer A B left after old new bytes status before now reads is writes fault =
-    of_input (λ input. A → B → now ≡ before → (status ≡ ends.NoMemory) ⊎ Writes (IsOutput input) status old new) left after bytes reads
-    (λ _ _ same. answered (Writes (IsOutput bytes) status old new) status before now is writes fault same)
+    → IfSome left (λ input. A → now ≡ before → (status ≡ ends.NoMemory) ⊎ Writes (IsOutput input) status old new)
+exact_answer A left after old new bytes status before now reads is writes fault =
+    of_input (λ input. A → now ≡ before → (status ≡ ends.NoMemory) ⊎ Writes (IsOutput input) status old new) left after bytes reads
+    (λ _ same. answered (Writes (IsOutput bytes) status old new) status before now is writes fault same)
 
 pub whole_report : (left after old new : Option (List ℕ)) (bytes : List ℕ) (status : Status) → ReadsAll left after bytes
     → (IsReadWhole status → Writes (IsOutput bytes) status old new) → IsVerdict status
@@ -222,11 +222,11 @@ refused_calls (Ok job) status bytes refused is = absurd cc
 refused_calls (Err refusal) status bytes refused is = is.status_is
 
 -- where the input that was read is refused and no write fails, the call ends with REFUSED
-pub refused_ends : (A B : Type 0) (left after old new : Option (List ℕ)) (bytes : List ℕ) (status : Status) (before now : ℕ) → ReadsAll left after bytes
+pub refused_ends : (A : Type 0) (left after old new : Option (List ℕ)) (bytes : List ℕ) (status : Status) (before now : ℕ) → ReadsAll left after bytes
     → length bytes ≤ 8388608 → IsAnswer status → (IsReadWhole status → Writes (IsOutput bytes) status old new) → (status ≡ ends.WriteFault → before < now)
-    → IfSome left (λ input. A → B → now ≡ before → length input ≤ 8388608 → IsErr (read_of input) → (status ≡ ends.NoMemory) ⊎ (status ≡ ends.Refused))
-refused_ends A B left after old new bytes status before now reads short is writes fault =
-    of_input (λ input. A → B → now ≡ before → length input ≤ 8388608 → IsErr (read_of input) → (status ≡ ends.NoMemory) ⊎ (status ≡ ends.Refused))
+    → IfSome left (λ input. A → now ≡ before → length input ≤ 8388608 → IsErr (read_of input) → (status ≡ ends.NoMemory) ⊎ (status ≡ ends.Refused))
+refused_ends A left after old new bytes status before now reads short is writes fault =
+    of_input (λ input. A → now ≡ before → length input ≤ 8388608 → IsErr (read_of input) → (status ≡ ends.NoMemory) ⊎ (status ≡ ends.Refused))
     left after bytes reads
-    (λ _ _ same few refused. answered (status ≡ ends.Refused) status before now is
+    (λ _ same few refused. answered (status ≡ ends.Refused) status before now is
     (λ whole. refused_calls (read_of bytes) status (writes whole).bytes refused ((writes whole).called_for.short short)) fault same)

@@ -1,7 +1,8 @@
 -- What the parts of a verdict need of the run in order of an accepted job.
-use Rattle.std.proofs.Common.{◌≡◌, ◌<◌, ◌≤◌, All, List, length, ap, ◌∙◌, arith}
+use Rattle.std.proofs.Common.{◌≡◌, ◌<◌, ◌≤◌, All, List, length, refl, ap, ◌∙◌, arith}
 use Rattle.std.proofs.lemmas.List.Elements.{All-weaker}
 use Rattle.std.specs.Prelude.{sum_by}
+use Rattle.axis_sets.specs.declared.limits.TheConstants.{CHANNEL_LIMIT}
 use Rattle.channel_machine.proofs.StartLaws.{start_sound}
 use Rattle.channel_machine.specs.StartStates.{start_of}
 use Rattle.clash_check.specs.Judged.{IsTold}
@@ -14,9 +15,10 @@ use Rattle.order_clocks.specs.Races.{IsFirst}
 use Rattle.order_clocks.specs.Tells.{is_before_in}
 use Rattle.product_run.proofs.GoodRuns.{runs_are_sound}
 use Rattle.product_run.proofs.Motions.{runs_in_order_are_whole}
-use Rattle.product_run.specs.RunLaws.{IsSoundRun, MovesSoundly}
+use Rattle.product_run.specs.RunLaws.{IsSoundRun, MovesSoundly, step_limit}
 use Rattle.product_run.specs.RunLaws as law
 use Rattle.product_run.specs.Scripts.{IsRunInOrder}
+use Rattle.protection_zones.specs.SoundStretches.{IsOfSize}
 use Rattle.protection_zones.specs.Stretches.{StretchesView, all_stretches}
 use Rattle.protection_zones.specs.ZoneBoxes.{IsFit}
 use Rattle.sync_types.specs.Boards.{first_board}
@@ -27,6 +29,7 @@ use Rattle.sync_types.specs.declared.ChannelEnd.TheVariants.{Idle, Ended, Holdin
 use Rattle.sync_types.specs.declared.Item.{Item}
 use Rattle.sync_types.specs.declared.verdicts.Verdict.{Verdict}
 use Rattle.turnmill.specs.Judged.{IsJudged}
+use Rattle.turnmill.specs.Judgements.{IsJudgedBy}
 
 module _ (job : JobView) (run : RunView) (sound : IsSoundJob job) (in_order : IsRunInOrder job (start_of job) run) where
   -- it comes from the start of the job
@@ -80,6 +83,24 @@ module _ (job : JobView) (run : RunView) (sound : IsSoundJob job) (in_order : Is
     first = race (start_of job) comes;
     verdict_is = is ∙ ap (λ (s : StretchesView). verdict_by (is_before_in clocks.rows) clocks.race job run s) (time (start_of job) comes);
   }
+
+  pub judged_by : (stretches : StretchesView) (clocks : ClocksView) (verdict : Verdict)
+      → ((start : StartView) → ComesFrom start run → stretches ≡ all_stretches job (first_board start) run)
+      → ((start : StartView) → ComesFrom start run → IsOrderOf (first_board start) (moves_in run.entries) (is_before_in clocks.rows))
+      → ((start : StartView) → ComesFrom start run → IsFirst (first_board start) (moves_in run.entries) (length run.entries) clocks.race)
+      → verdict ≡ verdict_by (is_before_in clocks.rows) clocks.race job run stretches
+      → IsJudgedBy job run clocks stretches verdict
+  unfolding judged
+  judged_by stretches clocks verdict time order race is = record {
+    judged = judged stretches clocks verdict time order race is;
+    before_is = refl;
+    time_is = time (start_of job) comes;
+    told = told stretches clocks time order;
+  }
+
+  -- it is short
+  pub of_size : length run.entries ≤ step_limit → All (λ e. length e.goes ≤ CHANNEL_LIMIT) run.entries → IsOfSize run
+  of_size few goes = record { entries = omega (arith, few); items = few_in_all; goes = goes }
 
 -- ---- how the channels have stopped
 

@@ -1,3 +1,5 @@
+pub mod ClapLemmas
+pub mod WordLemmas
 pub mod ClearLemmas
 pub mod QuietRuns
 pub mod JudgeLemmas
@@ -9,3 +11,5 @@ pub mod ArgumentLemmas
 pub mod JobItems
 pub mod JobStands
 pub mod JobDoings
+pub mod RequestLemmas
+pub mod SampleLemmas

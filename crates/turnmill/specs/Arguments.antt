@@ -1,5 +1,5 @@
 -- Meaning. The words that the program is called with.
-use Rattle.std.specs.Prelude.{◌≡◌, ◌≢◌, ℕ, Bool, false, List, map, drop, string_bytes, Result, Ok, Err, IsErrAnd}
+use Rattle.std.specs.Prelude.{◌≡◌, ◌≢◌, ℕ, Bool, false, List, map, drop, string_bytes, Option, None, Result, Ok, Err, IsErrAnd}
 use Rattle.std.specs.Global.{Global, Vec}
 use Rattle.std.specs.IoError.{error_kind}
 use Rattle.std.specs.Vec.Iter.{into_iter_items}
@@ -8,8 +8,10 @@ use Rattle.std.specs.declared.io.ErrorKind.TheVariants.{OutOfMemory}
 use Rattle.std.specs.declared.string.String.{String}
 use Rattle.std.specs.declared.vec.IntoIter.{IntoIter}
 use Rattle.turnmill.specs.Input.{is_check}
+use Rattle.turnmill.specs.Words.{request_of}
 use Rattle.turnmill.specs.declared.check.Status.{Status}
 use Rattle.turnmill.specs.declared.check.Status.TheVariants.{Usage, NoMemory}
+use Rattle.turnmill.specs.declared.words.Request.{Request}
 
 -- the arguments of a program, of which the first is its own name
 abbrev pub Arguments : Type 0
@@ -23,6 +25,11 @@ words_in arguments = map string_bytes (drop 1 (into_iter_items arguments))
 abbrev pub asks_for_check : Result Arguments Error → Bool
 asks_for_check (Ok arguments) = is_check (words_in arguments)
 asks_for_check (Err error) = false
+
+-- what the words ask for
+abbrev pub request_in : Result Arguments Error → Option Request
+request_in (Ok arguments) = request_of (words_in arguments)
+request_in (Err error) = None
 
 -- an argument is no text: the arguments could not be had, and not for want of memory
 abbrev pub HasNoText : Result Arguments Error → Type 0

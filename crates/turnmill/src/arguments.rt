@@ -1,12 +1,14 @@
 //! The check by the arguments of the command line.
-ghost use Rattle.std.specs.Prelude.{◌≡◌, ◌≢◌, ◌↔◌, ◌⊎◌, ◌-◌, ◌^◌, ◌<◌, ◌≤◌, true, false, map, IfSome, IfOk, IsOkAnd, string_bytes, [], Some};
+ghost use Rattle.std.specs.Prelude.{◌≡◌, ◌≢◌, ◌↔◌, ◌⊎◌, ◌-◌, ◌^◌, ◌<◌, ◌≤◌, true, false, map, IfSome, IfOk, IsOkAnd, string_bytes, [], None, Some};
 ghost use Rattle.speed_laws.specs.Safety.{IsSafeAlways};
 ghost use Rattle.tape_job.specs.Read.{read_of};
-ghost use Rattle.turnmill.specs.Arguments.{GivesWords, HasNoText, asks_for_check};
+ghost use Rattle.turnmill.specs.Arguments.{GivesWords, HasNoText, asks_for_check, request_in};
 ghost use Rattle.turnmill.specs.JobDoings.{doings_of};
 ghost use Rattle.turnmill.specs.Judged.{IsClear};
 ghost use Rattle.turnmill.specs.OneResult.{HasOneResult};
-ghost use Rattle.turnmill.specs.Output.{IsOutput, IsVerdict, Writes};
+ghost use Rattle.turnmill.specs.Output.{IsVerdict, Writes};
+ghost use Rattle.turnmill.specs.Summary.{IsOutputFor};
+ghost use Rattle.turnmill.specs.Words.{input_for};
 
 use crate::check::{Status, check_words};
 use edge_io::{Sink, Source};
@@ -36,7 +38,7 @@ fn texts_of<'a>(alloc: Global, words: &'a [String]) -> Result<Vec<&'a str>, Allo
     words.iter().map(|word| word.as_str()).collect(alloc)
 }
 
-/// Checks the input of the source as the arguments of the command line ask for, and writes what it calls for to the sink. The
+/// Answers the arguments of the command line as `check_words` answers the words in them. The
 /// first argument is the program's own name, and no word. Where an argument is no text, the words are not accepted.
 pub fn check_arguments<S: Source, K: Sink>(
     alloc: Global,
@@ -48,27 +50,29 @@ pub fn check_arguments<S: Source, K: Sink>(
     requires few_writes { K.faults sink.old < 2 ^ 64 - 1 }
     requires readable { S.can_read source.old }
 
-    // Where the words are `check` alone, the call ends and writes as `check_words` says.
-    ensures exact { IfSome (S.left source.old) (λ input.
-        asks_for_check arguments ≡ true
-        → S.faults source.new ≡ S.faults source.old → K.faults sink.new ≡ K.faults sink.old
-        → (result ≡ Status.NoMemory) ⊎ Writes (IsOutput input) result (K.written sink.old) (K.written sink.new)) }
-    ensures verdict { IsVerdict result → IfSome (S.left source.old) (λ input.
-        Writes (IsOutput input) result (K.written sink.old) (K.written sink.new) × (S.left source.new ≡ Some [])) }
-    ensures yes { result ≡ Status.Yes → IfSome (S.left source.old) (λ input. IsOkAnd (read_of input) IsClear) }
-    ensures schedules { IsVerdict result → result ≢ Status.Race → IfSome (S.left source.old) (λ input. IsOkAnd (read_of input) HasOneResult) }
-    ensures speeds { result ≡ Status.Yes → IfSome (S.left source.old) (λ input.
+    // Where the words are accepted, the call ends and writes as `check_words` says.
+    ensures exact { IfSome (input_for (request_in arguments) (S.left source.old)) (λ input.
+        S.faults source.new ≡ S.faults source.old → K.faults sink.new ≡ K.faults sink.old
+        → (result ≡ Status.NoMemory) ⊎ Writes (IsOutputFor (request_in arguments) input) result (K.written sink.old) (K.written sink.new)) }
+    ensures verdict { IsVerdict result → IfSome (input_for (request_in arguments) (S.left source.old)) (λ input.
+        Writes (IsOutputFor (request_in arguments) input) result (K.written sink.old) (K.written sink.new)
+        × (asks_for_check arguments ≡ true → S.left source.new ≡ Some [])) }
+    ensures yes { result ≡ Status.Yes → IfSome (input_for (request_in arguments) (S.left source.old)) (λ input. IsOkAnd (read_of input) IsClear) }
+    ensures schedules { IsVerdict result → result ≢ Status.Race
+        → IfSome (input_for (request_in arguments) (S.left source.old)) (λ input. IsOkAnd (read_of input) HasOneResult) }
+    ensures speeds { result ≡ Status.Yes → IfSome (input_for (request_in arguments) (S.left source.old)) (λ input.
         IsOkAnd (read_of input) (λ job. IsSafeAlways job (doings_of job))) }
     ensures read_fault { (result ≡ Status.ReadFault) ↔ (S.faults source.old < S.faults source.new) }
     ensures write_fault { (result ≡ Status.WriteFault) ↔ (K.faults sink.old < K.faults sink.new) }
     ensures read_faults_never_fall { S.faults source.old ≤ S.faults source.new }
     ensures write_faults_never_fall { K.faults sink.old ≤ K.faults sink.new }
 
-    // Where they are not, nothing is read or written. An argument that is no text is a faulty command line.
-    ensures usage { result ≡ Status.Usage → asks_for_check arguments ≡ false }
-    ensures usage_comes { asks_for_check arguments ≡ false → (result ≡ Status.Usage) ⊎ (result ≡ Status.NoMemory) }
+    // Only `check` reads. Words that are not accepted read and write nothing. An argument that is no text is a faulty command line.
+    ensures only_check_reads { asks_for_check arguments ≡ false → source.new ≡ source.old }
+    ensures usage { result ≡ Status.Usage → request_in arguments ≡ None }
+    ensures usage_comes { request_in arguments ≡ None → (result ≡ Status.Usage) ⊎ (result ≡ Status.NoMemory) }
     ensures no_text { HasNoText arguments → result ≡ Status.Usage }
-    ensures usage_reads_nothing { asks_for_check arguments ≡ false → (source.new ≡ source.old) × (sink.new ≡ sink.old) }
+    ensures usage_writes_nothing { request_in arguments ≡ None → sink.new ≡ sink.old }
 {
     let words = match words_of(alloc, arguments) {
         Ok(words) => words,

@@ -8,21 +8,22 @@ ghost use Rattle.speed_laws.specs.Safety.{IsSafeAlways};
 ghost use Rattle.tape_job.specs.Read.{read_of};
 ghost use Rattle.turnmill.specs.JobDoings.{doings_of};
 ghost use Rattle.turnmill.specs.Input.{is_check, ReadsInput, TakesTooMany};
-ghost use Rattle.turnmill.specs.Judged.{IsClear, IsJudged};
+ghost use Rattle.turnmill.specs.Judged.{IsClear};
 ghost use Rattle.turnmill.specs.OneResult.{HasOneResult};
 ghost use Rattle.turnmill.specs.Output.{status_of, IsAnswer, IsOutput, IsOutputOf, IsReadWhole, IsVerdict, Writes, WritesFront};
+ghost use Rattle.turnmill.specs.Summary.{IsOutputFor};
+ghost use Rattle.turnmill.specs.Words.{input_for, request_of};
 
-use clash_check::judge;
+use crate::judging::judge_job;
+use crate::sample::answer_sample;
+use crate::words::{Request, request_of};
 use edge_io::{Failed, Sink, Source};
 use job_lines::INPUT_LIMIT;
 use job_report::{refused, report};
-use nc_faults::{NoMemory, Refusal};
-use order_clocks::clocks_of;
-use product_run::run_in_order;
-use protection_zones::stretches_of;
+use nc_faults::Refusal;
 use std::alloc::{AllocError, Global};
 use std::process::ExitCode;
-use sync_types::{Run, Verdict};
+use sync_types::Verdict;
 use tape_job::{Job, JobFault, read_job};
 
 /// How a call ends.
@@ -105,16 +106,6 @@ impl From<AllocError> for InputFault {
     }
 }
 
-/// Whether the words are `check` alone.
-fn is_check(words: &[&str]) -> bool
-    ensures { result ≡ is_check (map (λ word. word.now) words.now) }
-{
-    match words {
-        [word] => *word == "check",
-        _ => false,
-    }
-}
-
 /// Reads an input to its end, or to its `TOO_MANY`th byte. The first read that gives no byte or fails is the last one: what
 /// may be done with a source allows no read after it.
 fn read_input<S: Source>(alloc: Global, source: &mut S) -> Result<Vec<u8>, InputFault>
@@ -136,7 +127,7 @@ fn read_input<S: Source>(alloc: Global, source: &mut S) -> Result<Vec<u8>, Input
 }
 
 /// The status of a verdict.
-fn status_of(verdict: &Verdict) -> Status
+pub(crate) fn status_of(verdict: &Verdict) -> Status
     ensures { result ≡ status_of verdict.now }
 {
     match verdict {
@@ -147,19 +138,6 @@ fn status_of(verdict: &Verdict) -> Status
         Verdict::No(_, _) => Status::No,
         Verdict::Yes => Status::Yes,
     }
-}
-
-/// Runs a job and judges the run.
-fn judge_job(alloc: Global, job: &Job) -> Result<(Run, Verdict), NoMemory>
-    requires accepted { IsSoundJob job.now }
-    requires indices { BlocksFit job.now }
-    ensures { IfOk result (λ judged. IsJudged job.now judged.0 judged.1) }
-{
-    let run = run_in_order(alloc, job)?;
-    let clocks = clocks_of(alloc, &run)?;
-    let stretches = stretches_of(alloc, job, &run, &clocks)?;
-    let verdict = judge(alloc, job, &run, &stretches, &clocks)?;
-    Ok((run, verdict))
 }
 
 /// Answers an accepted job: judges it, and then writes its report. No byte is written before all memory is taken.
@@ -174,17 +152,17 @@ fn answer_job<K: Sink>(alloc: Global, job: &Job, sink: &mut K) -> Status
     ensures never_fall { K.faults sink.old ≤ K.faults sink.new }
     ensures ends { IsAnswer result }
 {
-    let Ok((run, verdict)) = judge_job(alloc, job) else {
+    let Ok(judgement) = judge_job(alloc, job) else {
         return Status::NoMemory;
     };
-    match report(job, &run, &verdict, sink) {
-        Ok(()) => status_of(&verdict),
+    match report(job, &judgement.run, &judgement.verdict, sink) {
+        Ok(()) => status_of(&judgement.verdict),
         Err(_) => Status::WriteFault,
     }
 }
 
 /// Answers a refused input: writes the line of its refusal.
-fn answer_refusal<K: Sink>(refusal: &Refusal, sink: &mut K) -> Status
+pub(crate) fn answer_refusal<K: Sink>(refusal: &Refusal, sink: &mut K) -> Status
     requires listed { IsRefusalCode refusal.now.code }
     requires few { K.faults sink.old < 2 ^ 64 - 1 }
     ensures whole { IsReadWhole result → Writes (IsOutputOf (Err refusal.now)) result (K.written sink.old) (K.written sink.new) }
@@ -218,8 +196,61 @@ fn answer_input<K: Sink>(alloc: Global, bytes: &[u8], sink: &mut K) -> Status
     }
 }
 
-/// Checks the input of the source and writes what it calls for to the sink. The words are those of
-/// the command line without the program's name; `check` alone is accepted.
+/// Checks the input of the source, and writes what it calls for to the sink.
+fn check_source<S: Source, K: Sink>(alloc: Global, source: &mut S, sink: &mut K) -> Status
+    requires few_reads { S.faults source.old < 2 ^ 64 - 1 }
+    requires few_writes { K.faults sink.old < 2 ^ 64 - 1 }
+    requires readable { S.can_read source.old }
+
+    ensures exact { IfSome (S.left source.old) (λ input.
+        S.faults source.new ≡ S.faults source.old → K.faults sink.new ≡ K.faults sink.old
+        → (result ≡ Status.NoMemory) ⊎ Writes (IsOutput input) result (K.written sink.old) (K.written sink.new)) }
+
+    ensures verdict { IsVerdict result → IfSome (S.left source.old) (λ input.
+        Writes (IsOutput input) result (K.written sink.old) (K.written sink.new) × (S.left source.new ≡ Some [])) }
+
+    ensures yes { result ≡ Status.Yes → IfSome (S.left source.old) (λ input. IsOkAnd (read_of input) IsClear) }
+
+    ensures schedules { IsVerdict result → result ≢ Status.Race → IfSome (S.left source.old) (λ input.
+        IsOkAnd (read_of input) HasOneResult) }
+
+    ensures speeds { result ≡ Status.Yes → IfSome (S.left source.old) (λ input.
+        IsOkAnd (read_of input) (λ job. IsSafeAlways job (doings_of job))) }
+
+    ensures refused { result ≡ Status.Refused → IfSome (S.left source.old) (λ input.
+        IsErrAnd (read_of input) (λ refusal. Grows (K.written sink.old) (K.written sink.new) (refusal_bytes refusal))
+        × (S.left source.new ≡ Some [])) }
+    ensures refused_comes { IfSome (S.left source.old) (λ input.
+        S.faults source.new ≡ S.faults source.old → K.faults sink.new ≡ K.faults sink.old
+        → length input ≤ INPUT_LIMIT → IsErr (read_of input)
+        → (result ≡ Status.NoMemory) ⊎ (result ≡ Status.Refused)) }
+    ensures ends { result ≢ Status.Usage }
+    ensures read_fault { (result ≡ Status.ReadFault) ↔ (S.faults source.old < S.faults source.new) }
+    ensures write_fault { (result ≡ Status.WriteFault) ↔ (K.faults sink.old < K.faults sink.new) }
+    ensures read_faults_never_fall { S.faults source.old ≤ S.faults source.new }
+    ensures write_faults_never_fall { K.faults sink.old ≤ K.faults sink.new }
+
+    ensures written_front { result ≡ Status.WriteFault → IfSome (S.left source.old) (λ input.
+        WritesFront (IsOutput input) (K.written sink.old) (K.written sink.new)) }
+    ensures too_long { result ≡ Status.TooLong → TakesTooMany (S.left source.old) (S.left source.new) }
+    ensures too_long_comes { IfSome (S.left source.old) (λ input.
+        S.faults source.new ≡ S.faults source.old → INPUT_LIMIT < length input
+        → (result ≡ Status.NoMemory) ⊎ (result ≡ Status.TooLong)) }
+
+    ensures silent { (result ≡ Status.ReadFault) ⊎ (result ≡ Status.TooLong) ⊎ (result ≡ Status.NoMemory)
+        → sink.new ≡ sink.old }
+{
+    let bytes = match read_input(alloc, source) {
+        Ok(bytes) => bytes,
+        Err(InputFault::Failed) => return Status::ReadFault,
+        Err(InputFault::TooLong) => return Status::TooLong,
+        Err(InputFault::NoMemory) => return Status::NoMemory,
+    };
+    answer_input(alloc, &bytes, sink)
+}
+
+/// Answers the words of a call: checks the input of the source, or judges the sample that they ask for, and writes what is called for
+/// to the sink. The words are those of the command line without the program's name.
 pub fn check_words<S: Source, K: Sink>(
     alloc: Global,
     words: &[&str],
@@ -230,50 +261,54 @@ pub fn check_words<S: Source, K: Sink>(
     requires few_writes { K.faults sink.old < 2 ^ 64 - 1 }
     requires readable { S.can_read source.old }
 
-    // Where the words are accepted and no read and no write fails, the call ends as its input calls
-    // for and writes these very bytes, unless memory is wanted and not found.
-    ensures exact { IfSome (S.left source.old) (λ input.
-        is_check (map (λ word. word.now) words.now) ≡ true
-        → S.faults source.new ≡ S.faults source.old → K.faults sink.new ≡ K.faults sink.old
-        → (result ≡ Status.NoMemory) ⊎ Writes (IsOutput input) result (K.written sink.old) (K.written sink.new)) }
+    // Where the words are accepted and no read and no write fails, the call ends as they call for with their input
+    // and writes these very bytes, unless memory is wanted and not found.
+    ensures exact { IfSome (input_for (request_of (map (λ word. word.now) words.now)) (S.left source.old)) (λ input.
+        S.faults source.new ≡ S.faults source.old → K.faults sink.new ≡ K.faults sink.old
+        → (result ≡ Status.NoMemory)
+        ⊎ Writes (IsOutputFor (request_of (map (λ word. word.now) words.now)) input) result (K.written sink.old) (K.written sink.new)) }
 
-    // A verdict comes with its whole report, and no byte of the input is left.
-    ensures verdict { IsVerdict result → IfSome (S.left source.old) (λ input.
-        Writes (IsOutput input) result (K.written sink.old) (K.written sink.new) × (S.left source.new ≡ Some [])) }
+    // A verdict comes with its whole output. Of an input that was checked no byte is left.
+    ensures verdict { IsVerdict result → IfSome (input_for (request_of (map (λ word. word.now) words.now)) (S.left source.old)) (λ input.
+        Writes (IsOutputFor (request_of (map (λ word. word.now) words.now)) input) result (K.written sink.old) (K.written sink.new)
+        × (is_check (map (λ word. word.now) words.now) ≡ true → S.left source.new ≡ Some [])) }
 
     // At YES the input is a job whose run in order has no race and leaves no channel alarmed or waiting, and of which no two
     // boxes that are compared meet.
-    ensures yes { result ≡ Status.Yes → IfSome (S.left source.old) (λ input. IsOkAnd (read_of input) IsClear) }
+    ensures yes { result ≡ Status.Yes → IfSome (input_for (request_of (map (λ word. word.now) words.now)) (S.left source.old)) (λ input.
+        IsOkAnd (read_of input) IsClear) }
 
     // Where the verdict is not RACE, the job has one result, however its channels take turns: there is no race in any run, each
     // run goes on until no channel runs, and all of these come to the same.
-    ensures schedules { IsVerdict result → result ≢ Status.Race → IfSome (S.left source.old) (λ input.
+    ensures schedules { IsVerdict result → result ≢ Status.Race
+        → IfSome (input_for (request_of (map (λ word. word.now) words.now)) (S.left source.old)) (λ input.
         IsOkAnd (read_of input) HasOneResult) }
 
     // At YES the job is safe in every order of its channels and whatever the feed overrides: in each state that they pass
     // through no axis has two owners, and no two zones of different groups that are on meet.
-    ensures speeds { result ≡ Status.Yes → IfSome (S.left source.old) (λ input.
+    ensures speeds { result ≡ Status.Yes → IfSome (input_for (request_of (map (λ word. word.now) words.now)) (S.left source.old)) (λ input.
         IsOkAnd (read_of input) (λ job. IsSafeAlways job (doings_of job))) }
 
-    // A refusal comes with its whole line, and no byte of the input is left.
-    ensures refused { result ≡ Status.Refused → IfSome (S.left source.old) (λ input.
+    // A refusal comes with its whole line. Of an input that was checked no byte is left.
+    ensures refused { result ≡ Status.Refused → IfSome (input_for (request_of (map (λ word. word.now) words.now)) (S.left source.old)) (λ input.
         IsErrAnd (read_of input) (λ refusal. Grows (K.written sink.old) (K.written sink.new) (refusal_bytes refusal))
-        × (S.left source.new ≡ Some [])) }
+        × (is_check (map (λ word. word.now) words.now) ≡ true → S.left source.new ≡ Some [])) }
     ensures refused_comes { IfSome (S.left source.old) (λ input.
         is_check (map (λ word. word.now) words.now) ≡ true
         → S.faults source.new ≡ S.faults source.old → K.faults sink.new ≡ K.faults sink.old
         → length input ≤ INPUT_LIMIT → IsErr (read_of input)
         → (result ≡ Status.NoMemory) ⊎ (result ≡ Status.Refused)) }
-    ensures usage { (result ≡ Status.Usage) ↔ (is_check (map (λ word. word.now) words.now) ≡ false) }
-    ensures usage_reads_nothing { result ≡ Status.Usage → source.new ≡ source.old }
+    ensures usage { (result ≡ Status.Usage) ↔ (request_of (map (λ word. word.now) words.now) ≡ None) }
+    ensures only_check_reads { is_check (map (λ word. word.now) words.now) ≡ false → source.new ≡ source.old }
     ensures read_fault { (result ≡ Status.ReadFault) ↔ (S.faults source.old < S.faults source.new) }
     ensures write_fault { (result ≡ Status.WriteFault) ↔ (K.faults sink.old < K.faults sink.new) }
     ensures read_faults_never_fall { S.faults source.old ≤ S.faults source.new }
     ensures write_faults_never_fall { K.faults sink.old ≤ K.faults sink.new }
 
     // Where a write fails, a front of the output is written.
-    ensures written_front { result ≡ Status.WriteFault → IfSome (S.left source.old) (λ input.
-        WritesFront (IsOutput input) (K.written sink.old) (K.written sink.new)) }
+    ensures written_front { result ≡ Status.WriteFault
+        → IfSome (input_for (request_of (map (λ word. word.now) words.now)) (S.left source.old)) (λ input.
+        WritesFront (IsOutputFor (request_of (map (λ word. word.now) words.now)) input) (K.written sink.old) (K.written sink.new)) }
     ensures too_long { result ≡ Status.TooLong → TakesTooMany (S.left source.old) (S.left source.new) }
     ensures too_long_comes { IfSome (S.left source.old) (λ input.
         is_check (map (λ word. word.now) words.now) ≡ true
@@ -284,14 +319,10 @@ pub fn check_words<S: Source, K: Sink>(
     ensures silent { (result ≡ Status.Usage) ⊎ (result ≡ Status.ReadFault) ⊎ (result ≡ Status.TooLong) ⊎ (result ≡ Status.NoMemory)
         → sink.new ≡ sink.old }
 {
-    if !is_check(words) {
-        return Status::Usage;
+    match request_of(alloc, words) {
+        Ok(Some(Request::Check)) => check_source(alloc, source, sink),
+        Ok(Some(Request::Sample(number))) => answer_sample(alloc, number, sink),
+        Ok(None) => Status::Usage,
+        Err(_) => Status::NoMemory,
     }
-    let bytes = match read_input(alloc, source) {
-        Ok(bytes) => bytes,
-        Err(InputFault::Failed) => return Status::ReadFault,
-        Err(InputFault::TooLong) => return Status::TooLong,
-        Err(InputFault::NoMemory) => return Status::NoMemory,
-    };
-    answer_input(alloc, &bytes, sink)
 }

@@ -7,13 +7,16 @@ mod channel_acts;
 #[cfg(test)]
 mod channel_states;
 mod check;
-mod laws;
 #[cfg(test)]
 mod coordinated_search;
+mod judging;
+mod laws;
+mod sample;
 #[cfg(test)]
 mod state_search;
 #[cfg(test)]
 mod tests;
+mod words;
 
 use arguments::check_arguments;
 use edge_io::{StdSink, StdSource};

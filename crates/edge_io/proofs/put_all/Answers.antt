@@ -1,8 +1,11 @@
 -- The first `done` bytes are written, and then those that this write took.
-use Rattle.std.proofs.Common.{◌∙◌, rules}
+use Rattle.std.proofs.Common.{◌∙◌, refl, rules}
 use Rattle.std.proofs.lemmas.List.{take_rest}
-use Rattle.edge_io.proofs.MoveLemmas.{Grows-more, Counts-more}
+use Rattle.edge_io.proofs.MoveLemmas.{Grows-more, Grows-nothing, Counts-more, Counts-nothing}
 use Rattle.edge_io.proofs.put_all.Goals as goal
+
+pub loop-done-init : goal.loop-done-init
+loop-done-init g c = record { within = search rules; grown = Grows-nothing _; counted = Counts-nothing _; faults = refl }
 
 pub loop-done-preserved : goal.loop-done-preserved
 loop-done-preserved g c = record {

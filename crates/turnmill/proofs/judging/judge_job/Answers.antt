@@ -1,6 +1,6 @@
 -- The parts of a verdict get what they need of the run in order.
-use Rattle.turnmill.proofs.JudgeLemmas.{all_fit, comes_from_one, few_in_all, few_in_each, judged, told}
-use Rattle.turnmill.proofs.check.judge_job.Goals as goal
+use Rattle.turnmill.proofs.JudgeLemmas.{all_fit, comes_from_one, few_in_all, few_in_each, judged_by, told}
+use Rattle.turnmill.proofs.judging.judge_job.Goals as goal
 
 pub clocks_of-requires-clause-whole : goal.clocks_of-requires-clause-whole
 clocks_of-requires-clause-whole c = comes_from_one c.args.job.now c.in_ok-run.run' c.requires.accepted c.in_ok-run.ensures.run
@@ -24,7 +24,7 @@ judge-requires-clause-few_items c = few_in_all c.args.job.now c.in_ok-run.run' c
 pub judge-requires-clause-fit : goal.judge-requires-clause-fit
 judge-requires-clause-fit c = all_fit c.args.job.now c.in_ok-run.run' c.requires.accepted c.in_ok-run.ensures.run
 
-pub returns : goal.returns
-returns c =
-    judged c.args.job.now c.in_ok-run.run' c.requires.accepted c.in_ok-run.ensures.run c.in_ok-stretches.stretches c.in_ok-clocks.clocks c.in_ok-verdict.verdict c.in_ok-stretches.ensures
+pub returns-clause-judged : goal.returns-clause-judged
+returns-clause-judged c =
+    judged_by c.args.job.now c.in_ok-run.run' c.requires.accepted c.in_ok-run.ensures.run c.in_ok-stretches.stretches c.in_ok-clocks.clocks c.in_ok-verdict.verdict c.in_ok-stretches.ensures
     c.in_ok-clocks.ensures.order c.in_ok-clocks.ensures.race c.in_ok-verdict.ensures

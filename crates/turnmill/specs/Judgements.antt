@@ -1,0 +1,17 @@
+-- Steps. A judged job, with what the verdict rests on.
+use Rattle.std.specs.Prelude.{◌≡◌}
+use Rattle.clash_check.specs.Judged.{IsTold}
+use Rattle.job_types.specs.Job.{JobView}
+use Rattle.order_clocks.specs.Clocked.{ClocksView}
+use Rattle.order_clocks.specs.Tells.{is_before_in}
+use Rattle.protection_zones.specs.Stretches.{StretchesView}
+use Rattle.sync_types.specs.Views.{RunView}
+use Rattle.sync_types.specs.declared.verdicts.Verdict.{Verdict}
+use Rattle.turnmill.specs.Judged.{IsJudged, zone_time_in}
+
+-- the verdict on the run in order, by these clocks and these stretches
+pub record IsJudgedBy (job : JobView) (run : RunView) (clocks : ClocksView) (stretches : StretchesView) (verdict : Verdict) : Type 0 where
+  pub judged : IsJudged job run verdict
+  pub before_is : judged.before ≡ is_before_in clocks.rows
+  pub time_is : stretches ≡ zone_time_in job run
+  pub told : IsTold job run stretches clocks

@@ -1,0 +1,64 @@
+-- Meaning. What the words and their input call for: the two lines of a sample, and the output of an input that is checked.
+use Rattle.std.specs.Prelude.{◌≡◌, ℕ, Bool, true, false, List, [], length, Option, None, Some, Result, Ok, Err}
+use Rattle.std.specs.List.{count_by, sum_by}
+use Rattle.clash_check.specs.Counts.{count_of}
+use Rattle.job_report.specs.Report.{report_bytes}
+use Rattle.job_report.specs.Summary.{summary_bytes}
+use Rattle.job_report.specs.declared.summaries.Figures.{Figures}
+use Rattle.job_types.specs.Job.{JobView}
+use Rattle.nc_faults.specs.declared.Refusal.{Refusal}
+use Rattle.protection_zones.specs.Overlaps.{Order}
+use Rattle.sync_types.specs.Views.{RunView}
+use Rattle.sync_types.specs.declared.Item.{Item}
+use Rattle.sync_types.specs.declared.Part.{Part}
+use Rattle.sync_types.specs.declared.Part.TheVariants.{Move, Switch}
+use Rattle.sync_types.specs.declared.verdicts.Verdict.{Verdict}
+use Rattle.tape_job.specs.Read.{read_of}
+use Rattle.turnmill.specs.Judged.{IsJudged, zone_time_in}
+use Rattle.turnmill.specs.Output.{IsLineOf, IsOutput, status_of}
+use Rattle.turnmill.specs.declared.check.Status.{Status}
+use Rattle.turnmill.specs.declared.check.Status.TheVariants as ends
+use Rattle.turnmill.specs.declared.words.Request.{Request}
+use Rattle.turnmill.specs.declared.words.Request.TheVariants.{Check, Sample}
+
+-- the block moves axes
+abbrev pub is_motion : Part → Bool
+is_motion (Move motion) = true
+is_motion (Switch zone on) = false
+
+-- how many motions the channels make
+abbrev pub moves_of : List Item → ℕ
+moves_of items = count_by (λ item. is_motion item.part) items
+
+abbrev pub move_count : RunView → ℕ
+move_count run = sum_by moves_of run.items
+
+-- the figures of a sample: its number, and of its job the motions, the steps on the board, the pairs of boxes that are compared, and
+-- the bytes of the report
+abbrev pub figures_of : ℕ → JobView → RunView → Verdict → Order → Figures
+figures_of number job run verdict before = record {
+  number = number;
+  moves = move_count run;
+  steps = length run.entries;
+  count = count_of before job (zone_time_in job run);
+  bytes = length (report_bytes job run verdict);
+}
+
+-- a job calls for two lines, the figures of its run in order and the verdict on it, and for the status of this verdict
+pub record IsSummaryOf (number : ℕ) (job : JobView) (status : Status) (bytes : List ℕ) : Type 0 where
+  pub run : RunView
+  pub verdict : Verdict
+  pub judged : IsJudged job run verdict
+  pub status_is : status ≡ status_of verdict
+  pub bytes_are : bytes ≡ summary_bytes (figures_of number job run verdict judged.before) verdict
+
+-- a refusal calls for its line
+abbrev pub IsSummaryBy : ℕ → Result JobView Refusal → Status → List ℕ → Type 0
+IsSummaryBy number (Ok job) status bytes = IsSummaryOf number job status bytes
+IsSummaryBy number (Err refusal) status bytes = IsLineOf refusal status bytes
+
+-- What the words call for with their input: how the call ends, and the bytes that it writes. Words without an accepted form call for no bytes.
+abbrev pub IsOutputFor : Option Request → List ℕ → Status → List ℕ → Type 0
+IsOutputFor (Some Check) input status bytes = IsOutput input status bytes
+IsOutputFor (Some (Sample number)) input status bytes = IsSummaryBy number (read_of input) status bytes
+IsOutputFor None input status bytes = (status ≡ ends.Usage) × (bytes ≡ [])

@@ -1,0 +1,152 @@
+//! The sample of a number: its job is judged, and told in two lines.
+ghost use Rattle.std.specs.Prelude.{◌≡◌, ◌↔◌, ◌-◌, ◌^◌, ◌<◌, ◌≤◌, All, length, map, sum_by, IfSome, Ok};
+ghost use Rattle.job_lines.specs.declared.limits.TheConstants.{INPUT_LIMIT};
+ghost use Rattle.job_report.specs.Channels.{IsListedEnd};
+ghost use Rattle.job_report.specs.Report.{report_bytes};
+ghost use Rattle.job_types.specs.SoundJob.{BlocksFit, IsSoundJob};
+ghost use Rattle.order_clocks.specs.Tells.{is_before_in};
+ghost use Rattle.product_run.specs.RunLaws.{step_limit};
+ghost use Rattle.sample_jobs.specs.Samples.{sample_bytes};
+ghost use Rattle.sample_jobs.specs.declared.TheConstants.{GREATEST_NUMBER};
+ghost use Rattle.tape_job.specs.Read.{read_of};
+ghost use Rattle.turnmill.specs.Judgements.{IsJudgedBy};
+ghost use Rattle.turnmill.specs.Output.{IsAnswer, IsReadWhole, Writes, WritesFront};
+ghost use Rattle.turnmill.specs.Summary.{IsSummaryBy, figures_of, is_motion, move_count, moves_of};
+
+use crate::check::{Status, answer_refusal, status_of};
+use crate::judging::{Judgement, judge_job, pair_count};
+use edge_io::{CountSink, Sink};
+use job_report::{Figures, report, summary};
+use sample_jobs::sample;
+use std::alloc::Global;
+use sync_types::{Item, Part, Run, Verdict};
+use tape_job::{Job, JobFault, read_job};
+
+/// Whether a block moves axes.
+fn is_motion(part: &Part) -> bool
+    ensures { result ≡ is_motion part.now }
+{
+    match part {
+        Part::Move(_) => true,
+        Part::Switch(_, _) => false,
+    }
+}
+
+/// How many of these are motions.
+fn moves_of(items: &[Item]) -> usize
+    ensures value { result ≡ moves_of items.now }
+    ensures few { result ≤ length items.now }
+{
+    let mut count = 0;
+    for item in items {
+        if is_motion(&item.part) {
+            count += 1;
+        }
+    }
+    count
+}
+
+/// What the channels did before each step.
+fn items_of(run: &Run) -> &[Vec<Item>]
+    ensures { map (λ items. items.items) result.now ≡ run.now.items }
+{
+    run.items.as_slice()
+}
+
+/// How many motions these are.
+fn all_moves(rows: &[Vec<Item>]) -> usize
+    requires { sum_by (λ items. length items.items) rows.now < 2 ^ 20 }
+    ensures { result ≡ sum_by (λ items. moves_of items.items) rows.now }
+{
+    let mut count = 0;
+    for items in rows {
+        count += moves_of(items);
+    }
+    count
+}
+
+/// How many motions the channels make.
+fn move_count(run: &Run) -> usize
+    requires { sum_by length run.now.items < 2 ^ 20 }
+    ensures { result ≡ move_count run.now }
+{
+    all_moves(items_of(run))
+}
+
+/// How many bytes the report of a job has; `None` where their number does not fit 64 bits.
+fn report_length(job: &Job, run: &Run, verdict: &Verdict) -> Option<u64>
+    requires { All IsListedEnd run.now.ends }
+    ensures { IfSome result (λ bytes. bytes ≡ length (report_bytes job.now run.now verdict.now)) }
+{
+    let mut sink = CountSink::new();
+    match report(job, run, verdict, &mut sink) {
+        Ok(()) => sink.count(),
+        Err(_) => None,
+    }
+}
+
+/// The figures of a sample.
+fn figures_of(number: u32, job: &Job, judgement: &Judgement) -> Option<Figures>
+    requires accepted { IsSoundJob job.now }
+    requires judged { IsJudgedBy job.now judgement.now.run judgement.now.clocks judgement.now.stretches judgement.now.verdict }
+    requires few { length judgement.now.run.entries ≤ step_limit }
+    ensures { IfSome result (λ figures. figures
+        ≡ figures_of number job.now judgement.now.run judgement.now.verdict (is_before_in judgement.now.clocks.rows)) }
+{
+    let bytes = report_length(job, &judgement.run, &judgement.verdict)?;
+    Some(Figures {
+        number,
+        moves: move_count(&judgement.run) as u64,
+        steps: judgement.run.entries.len() as u64,
+        count: pair_count(job, judgement),
+        bytes,
+    })
+}
+
+/// Answers with the job of a sample: judges it, and then writes its two lines. No byte is written before all memory is taken.
+fn answer_job<K: Sink>(alloc: Global, number: u32, job: &Job, sink: &mut K) -> Status
+    requires accepted { IsSoundJob job.now }
+    requires indices { BlocksFit job.now }
+    requires few { K.faults sink.old < 2 ^ 64 - 1 }
+    ensures whole { IsReadWhole result → Writes (IsSummaryBy number (Ok job.now)) result (K.written sink.old) (K.written sink.new) }
+    ensures front { result ≡ Status.WriteFault → WritesFront (IsSummaryBy number (Ok job.now)) (K.written sink.old) (K.written sink.new) }
+    ensures silent { result ≡ Status.NoMemory → sink.new ≡ sink.old }
+    ensures cause { (result ≡ Status.WriteFault) ↔ (K.faults sink.old < K.faults sink.new) }
+    ensures never_fall { K.faults sink.old ≤ K.faults sink.new }
+    ensures ends { IsAnswer result }
+{
+    let Ok(judgement) = judge_job(alloc, job) else {
+        return Status::NoMemory;
+    };
+    let Some(figures) = figures_of(number, job, &judgement) else {
+        return Status::NoMemory;
+    };
+    match summary(&figures, &judgement.verdict, sink) {
+        Ok(()) => status_of(&judgement.verdict),
+        Err(_) => Status::WriteFault,
+    }
+}
+
+/// Answers words that ask for a sample: judges the job of the number by the calls that check an input, and writes its two lines.
+pub(crate) fn answer_sample<K: Sink>(alloc: Global, number: u32, sink: &mut K) -> Status
+    requires number { number ≤ GREATEST_NUMBER }
+    requires few { K.faults sink.old < 2 ^ 64 - 1 }
+    ensures whole { IsReadWhole result
+        → Writes (IsSummaryBy number (read_of (sample_bytes number))) result (K.written sink.old) (K.written sink.new) }
+    ensures short { IsReadWhole result → length (sample_bytes number) ≤ INPUT_LIMIT }
+    ensures front { result ≡ Status.WriteFault
+        → WritesFront (IsSummaryBy number (read_of (sample_bytes number))) (K.written sink.old) (K.written sink.new) }
+    ensures silent { result ≡ Status.NoMemory → sink.new ≡ sink.old }
+    ensures cause { (result ≡ Status.WriteFault) ↔ (K.faults sink.old < K.faults sink.new) }
+    ensures never_fall { K.faults sink.old ≤ K.faults sink.new }
+    ensures ends { IsAnswer result }
+{
+    let Ok(bytes) = sample(alloc, number) else {
+        return Status::NoMemory;
+    };
+    match read_job(alloc, &bytes) {
+        Ok(job) => answer_job(alloc, number, &job, sink),
+        Err(JobFault::Refused(refusal)) => answer_refusal(&refusal, sink),
+        Err(JobFault::NoMemory) => Status::NoMemory,
+    }
+}
