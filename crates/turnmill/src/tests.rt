@@ -176,12 +176,67 @@ fn refuses_words_and_forms(rt: HostRuntime) -> Result<(), Fail> {
     Ok(())
 }
 
+// Words without an accepted form.
+const USAGE: &str = "
+check x
+run
+CHECK
+sample
+sample 7
+sample --number
+sample --number=
+sample --number 1234567890
+sample --number=1234567890
+sample --number 7 8
+sample --number=7 8
+sample --number -7
+sample --number +7
+sample --number 7a
+sample --number= 7
+sample --numbers 7
+sample -number 7
+sample --help
+sample -- --number=7
+SAMPLE --number 7
+--number 7 sample
+check --number 7
+";
+
+// Samples: how each ends and what it writes.
+const SAMPLES: &str = "\
+--number=0 SAMPLE 0 MOVES 20000 STEPS 202 COUNT 1020104 BYTES 647931
+--number=0000007 SAMPLE 7 MOVES 20000 STEPS 202 COUNT 1020104 BYTES 647769
+--number=999999999 SAMPLE 999999999 MOVES 20000 STEPS 202 COUNT 1020104 BYTES 647982
+";
+
+// Nothing is read: the first read fails.
+#[test]
+fn judges_samples(rt: HostRuntime) -> Result<(), Fail> {
+    let alloc = rt.alloc();
+    for row in SAMPLES.lines() {
+        let (word, line) = row.split_once(' ').ok_or("no line")?;
+        let got = answer(alloc, &["sample", word], "", (1, &[0]), (1000, &[]))?;
+        let want = format!(in alloc; "Yes\n{line}\nVERDICT YES\n")?;
+        assert!(rt; got.as_str() == want.as_str(), "of {word}");
+    }
+    Ok(())
+}
+
+#[test]
+fn judges_a_sample_by_three_words(rt: HostRuntime) -> Result<(), Fail> {
+    let alloc = rt.alloc();
+    let words = ["sample", "--number", "7"];
+    let got = answer(alloc, &words, "", (1, &[0]), (1000, &[0]))?;
+    assert!(rt; got.as_str() == "WriteFault\n");
+    Ok(())
+}
+
 // The first read and the first write fail, so each of them would show.
 #[test]
-fn takes_check_alone(rt: HostRuntime) -> Result<(), Fail> {
+fn takes_the_accepted_words_alone(rt: HostRuntime) -> Result<(), Fail> {
     let alloc = rt.alloc();
     let input = format!(in alloc; "{}{}", ONE, MOVES)?;
-    for line in ["", "check x", "run", "CHECK"] {
+    for line in USAGE.lines() {
         let words = line.split_whitespace().collect::<Vec<&str>>(alloc)?;
         let got = answer(alloc, &words, &input, (1000, &[0]), (1000, &[0]))?;
         assert!(rt; got.as_str() == "Usage\n", "of {line}");
