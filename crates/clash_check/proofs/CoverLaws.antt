@@ -7,7 +7,8 @@ use Rattle.std.specs.List.{zip}
 use Rattle.std.specs.Option.{option_map}
 use Rattle.clash_check.proofs.Each.{Each, Each-weaker, Each-append, Each-map, Each-flat_map, Each-drop, Each-take}
 use Rattle.clash_check.proofs.FitLaws.{fit_items, holds_at}
-use Rattle.clash_check.proofs.PieceLaws.{LiesIn, piece_box_is, piece_lies}
+use Rattle.clash_check.proofs.PieceLaws.{piece_box_is, piece_lies}
+use Rattle.clash_check.specs.Hulls.{LiesIn}
 use Rattle.job_types.specs.Job.{JobView}
 use Rattle.job_types.specs.Zones.{zones_in_order}
 use Rattle.job_types.specs.declared.job.ZoneLine.{ZoneLine}

@@ -6,6 +6,7 @@ use Rattle.std.specs.List.{AllZip}
 use Rattle.std.specs.Option.{option_map_or}
 use Rattle.job_types.specs.declared.job.Side.{Side}
 use Rattle.job_types.specs.declared.job.ZoneLine.{ZoneLine}
+use Rattle.clash_check.specs.Hulls.{LiesIn}
 use Rattle.protection_zones.specs.Pieces.{piece_low, piece_high, by_direction, piece_box}
 use Rattle.protection_zones.specs.ZoneBoxes.{carried_bound, carried_low, carried_high, side_low, side_high, zone_box, box_of, low_in, high_in}
 use Rattle.swept_boxes.proofs.MeetTests.{touch_of, touch_passes}
@@ -142,11 +143,6 @@ piece_box_is margin zone ranges cover at lie =
     ) refl
 
 -- ---- it lies in the box of the cover
-
--- in no direction the inner box is below the low bound or above the high bound of the outer one
-pub record LiesIn (inner outer : Box3) : Type 0 where
-  pub low : (direction : ℕ) → low_of outer direction ≤ℤ low_of inner direction
-  pub high : (direction : ℕ) → high_of inner direction ≤ℤ high_of outer direction
 
 added : (a b c : ℤ) → b ≤ℤ c → (a +ℤ b) ≤ℤ (a +ℤ c)
 added a b c less = omega (arith, ints)

@@ -44,14 +44,10 @@ names_where_met case shared left right =
     if compared shared left.box right.box && touches left.box.cover (piece_boxes case.job case.run left) right.box.cover (piece_boxes case.job case.run right)
     then Some (name_of left, name_of right) else None
 
--- one of the boxes is compared with this one, and their covers meet
-abbrev pub is_near_any : Bool → ZoneBox → List ZoneBox → Bool
-is_near_any shared own others = list_any (λ later. compared shared own later && boxes_meet own.cover later.cover) others
-
 -- the names of a box and of the first of some boxes of a stretch that it meets
 unfoldable pub first_touched_among : Case → Bool → BoxPlace → ZoneLine → StretchView → List ZoneBox → Option Names
 first_touched_among case shared left other right boxes =
-    if is_near_any shared left.box boxes then first_some (λ later. names_where_met case shared left (place_of other right later)) boxes else None
+    first_some (λ later. names_where_met case shared left (place_of other right later)) boxes
 
 -- of all its boxes
 abbrev pub first_touched : Case → Bool → BoxPlace → ZoneLine → StretchView → Option Names

@@ -1,17 +1,44 @@
 //! Boxes that meet.
 ghost use Rattle.std.specs.Prelude.{◌≡◌, ℕ, ◌<◌, true, false, IfSome, None, length, slice_index_or};
 ghost use Rattle.std.specs.List.{list_any};
+ghost use Rattle.clash_check.specs.Hulls.{LiesIn};
 ghost use Rattle.clash_check.specs.PlainBoxes.{IsFirstMeeting, NoneMeet};
 ghost use Rattle.swept_boxes.specs.Boxes.{boxes_meet};
 ghost use Rattle.swept_boxes.specs.declared.Box3.{Box3};
 
 use swept_boxes::Box3;
 
+/// Whether a box is below another in some direction.
+fn is_below(left: &Box3, right: &Box3) -> bool
+    ensures { result ≡ true → boxes_meet left.now right.now ≡ false × boxes_meet right.now left.now ≡ false }
+{
+    left.hi[0] < right.lo[0] || left.hi[1] < right.lo[1] || left.hi[2] < right.lo[2]
+}
+
 /// Whether two boxes share a point.
 pub(crate) fn do_meet(left: &Box3, right: &Box3) -> bool
     ensures { result ≡ boxes_meet left.now right.now }
 {
-    left.meets(right)
+    !(is_below(left, right) || is_below(right, left)) && left.meets(right)
+}
+
+/// The least box in which two boxes lie.
+pub(crate) fn joined(left: &Box3, right: &Box3) -> Box3
+    ensures left { LiesIn left.now result }
+    ensures right { LiesIn right.now result }
+{
+    Box3 {
+        lo: [
+            left.lo[0].min(right.lo[0]),
+            left.lo[1].min(right.lo[1]),
+            left.lo[2].min(right.lo[2]),
+        ],
+        hi: [
+            left.hi[0].max(right.hi[0]),
+            left.hi[1].max(right.hi[1]),
+            left.hi[2].max(right.hi[2]),
+        ],
+    }
 }
 
 /// The number of the first of some boxes that meets a box.

@@ -1,9 +1,9 @@
 //! The first two boxes that meet, of zones that may not.
-ghost use Rattle.std.specs.Prelude.{◌≡◌, ◌≤◌, ◌<◌, ◌&&◌, true, [], ◌∷◌, All, drop, length, take};
-ghost use Rattle.std.specs.List.{list_any};
+ghost use Rattle.std.specs.Prelude.{◌≡◌, ◌≤◌, ◌<◌, true, [], ◌∷◌, All, drop, length, slice_index_or, take};
 ghost use Rattle.clash_check.specs.Ascents as ascents;
 ghost use Rattle.clash_check.specs.Ascents.{IsTimed};
 ghost use Rattle.clash_check.specs.FirstAnswer.{first_some};
+ghost use Rattle.clash_check.specs.Hulls.{IsKeptOf};
 ghost use Rattle.clash_check.specs.Meetings as model;
 ghost use Rattle.clash_check.specs.PlaceRanges as places;
 ghost use Rattle.clash_check.specs.Shown.{IsNext};
@@ -14,10 +14,12 @@ ghost use Rattle.order_clocks.specs.Tells.{is_before_in};
 ghost use Rattle.protection_zones.specs.Overlaps.{share_channel};
 ghost use Rattle.protection_zones.specs.Pieces.{piece_boxes};
 ghost use Rattle.protection_zones.specs.ZoneBoxes.{IsFit};
-ghost use Rattle.swept_boxes.specs.Boxes.{boxes_meet};
+ghost use Rattle.protection_zones.specs.declared.stretches.ZoneBox.{ZoneBox};
 
 use crate::ascents::{Range, do_ascend, range_of};
 use crate::boxes::{any_meet, any_meets, do_meet};
+use crate::kept::{Kept, keep, kept_for, meet_kept};
+use crate::nearby::next_near;
 use crate::overlaps::{are_compared, may_overlap, share_channel};
 use crate::pieces::boxes_by_pieces;
 use crate::place_ranges::{boxes_between, do_boxes_ascend, place_range};
@@ -64,26 +66,35 @@ fn named(held: &Held, own: &ZoneBox) -> PlaceName
     }
 }
 
-/// Whether some boxes in this cover, and the boxes by which a box of a stretch is compared, meet: the covers first, then the
-/// boxes with the cover of the other, and then with its boxes.
-fn touches(scene: &Scene, cover: &Box3, pieces: &[Box3], held: &Held, later: &ZoneBox) -> bool
+/// Whether some boxes in this cover, and the boxes by which the box of this place is compared, meet: the covers first, then the
+/// boxes with the cover of the other, and then with its boxes, which are kept.
+fn touches(
+    scene: &Scene,
+    cover: &Box3,
+    pieces: &[Box3],
+    held: &Held,
+    boxes: &[ZoneBox],
+    place: usize,
+    kept: &mut Kept,
+) -> bool
     requires fit { All (All IsFit) scene.now.run.now.items }
     requires deep { scene.now.job.now.depth ≤ DEPTH_LIMIT }
-    ensures { result ≡ model.touches cover.now pieces.now later.now.cover
-        (piece_boxes scene.now.job.now scene.now.run.now (model.place_of held.now.zone.now held.now.stretch.now later.now)) }
+    requires place { place < length boxes.now }
+    requires kept { IsKeptOf scene.now.job.now scene.now.run.now held.now.zone.now held.now.stretch.now boxes.now kept.old }
+    ensures met { (d : ZoneBox) → result ≡ model.touches cover.now pieces.now (slice_index_or boxes.now place d).cover
+        (piece_boxes scene.now.job.now scene.now.run.now (model.place_of held.now.zone.now held.now.stretch.now (slice_index_or boxes.now place d))) }
+    ensures kept { IsKeptOf scene.now.job.now scene.now.run.now held.now.zone.now held.now.stretch.now boxes.now kept.new }
 {
+    let later = &boxes[place];
     if !do_meet(cover, &later.cover) || !any_meets(pieces, &later.cover) {
         return false;
     }
+    if let Some(met) = meet_kept(pieces, kept.rows.as_slice(), place) {
+        return met;
+    }
     let others = boxes_by_pieces(scene.job, scene.run, held, later);
+    keep(kept, scene.alloc, place, others.as_slice());
     any_meet(pieces, others.as_slice())
-}
-
-/// Whether a box is compared with one of these whose cover meets its own.
-fn is_near_any(shared: bool, own: &ZoneBox, others: &[ZoneBox]) -> bool
-    ensures { result ≡ model.is_near_any shared own.now others.now }
-{
-    others.iter().any(|later| are_compared(shared, own, later) && do_meet(&own.cover, &later.cover))
 }
 
 /// The names of two boxes, where they are compared and meet; these are the boxes by which the first is compared.
@@ -95,22 +106,28 @@ fn names_where_met(
     own: &ZoneBox,
     pieces: &[Box3],
     right: &Held,
-    later: &ZoneBox,
+    boxes: &[ZoneBox],
+    place: usize,
+    kept: &mut Kept,
 ) -> Option<(PlaceName, PlaceName)>
     requires fit { All (All IsFit) scene.now.run.now.items }
     requires deep { scene.now.job.now.depth ≤ DEPTH_LIMIT }
     requires pieces { pieces.now ≡ piece_boxes scene.now.job.now scene.now.run.now (model.place_of left.now.zone.now left.now.stretch.now own.now) }
-    ensures { result ≡ model.names_where_met (record { job = scene.now.job.now; run = scene.now.run.now; before = is_before_in scene.now.clocks.now.rows }) shared
-        (model.place_of left.now.zone.now left.now.stretch.now own.now) (model.place_of right.now.zone.now right.now.stretch.now later.now) }
+    requires place { place < length boxes.now }
+    requires kept { IsKeptOf scene.now.job.now scene.now.run.now right.now.zone.now right.now.stretch.now boxes.now kept.old }
+    ensures names { (d : ZoneBox) → result ≡ model.names_where_met (record { job = scene.now.job.now; run = scene.now.run.now; before = is_before_in scene.now.clocks.now.rows }) shared
+        (model.place_of left.now.zone.now left.now.stretch.now own.now) (model.place_of right.now.zone.now right.now.stretch.now (slice_index_or boxes.now place d)) }
+    ensures kept { IsKeptOf scene.now.job.now scene.now.run.now right.now.zone.now right.now.stretch.now boxes.now kept.new }
 {
-    if are_compared(shared, own, later) && touches(scene, &own.cover, pieces, right, later) {
+    let later = &boxes[place];
+    if are_compared(shared, own, later) && touches(scene, &own.cover, pieces, right, boxes, place, kept) {
         Some((named(left, own), named(right, later)))
     } else {
         None
     }
 }
 
-/// The names of a box and of the first of these of a stretch that it meets, and the boxes by which it is compared.
+/// The names of a box and of the first of these of a stretch, from this place on, that it meets.
 fn first_by_pieces(
     scene: &Scene,
     shared: bool,
@@ -119,17 +136,24 @@ fn first_by_pieces(
     pieces: &[Box3],
     right: &Held,
     boxes: &[ZoneBox],
+    kept: &mut Kept,
+    from: usize,
 ) -> Option<(PlaceName, PlaceName)>
     requires fit { All (All IsFit) scene.now.run.now.items }
     requires deep { scene.now.job.now.depth ≤ DEPTH_LIMIT }
     requires pieces { pieces.now ≡ piece_boxes scene.now.job.now scene.now.run.now (model.place_of left.now.zone.now left.now.stretch.now own.now) }
-    ensures { result ≡ first_some (λ later. model.names_where_met (record { job = scene.now.job.now; run = scene.now.run.now; before = is_before_in scene.now.clocks.now.rows }) shared
-        (model.place_of left.now.zone.now left.now.stretch.now own.now) (model.place_of right.now.zone.now right.now.stretch.now later)) boxes.now }
+    requires from { from ≤ length boxes.now }
+    requires kept { IsKeptOf scene.now.job.now scene.now.run.now right.now.zone.now right.now.stretch.now boxes.now kept.old }
+    ensures names { result ≡ first_some (λ later. model.names_where_met (record { job = scene.now.job.now; run = scene.now.run.now; before = is_before_in scene.now.clocks.now.rows }) shared
+        (model.place_of left.now.zone.now left.now.stretch.now own.now) (model.place_of right.now.zone.now right.now.stretch.now later)) (drop from boxes.now) }
+    ensures kept { IsKeptOf scene.now.job.now scene.now.run.now right.now.zone.now right.now.stretch.now boxes.now kept.new }
 {
-    for later in boxes {
-        if let Some(names) = names_where_met(scene, shared, left, own, pieces, right, later) {
+    let mut place = from;
+    while place < boxes.len() {
+        if let Some(names) = names_where_met(scene, shared, left, own, pieces, right, boxes, place, kept) {
             return Some(names);
         }
+        place = next_near(shared, own, boxes, kept.hulls.as_slice(), place + 1);
     }
     None
 }
@@ -144,17 +168,21 @@ fn first_touched(
     own: &ZoneBox,
     right: &Held,
     boxes: &[ZoneBox],
+    kept: &mut Kept,
 ) -> Option<(PlaceName, PlaceName)>
     requires fit { All (All IsFit) scene.now.run.now.items }
     requires deep { scene.now.job.now.depth ≤ DEPTH_LIMIT }
-    ensures { result ≡ model.first_touched_among (record { job = scene.now.job.now; run = scene.now.run.now; before = is_before_in scene.now.clocks.now.rows }) shared
+    requires kept { IsKeptOf scene.now.job.now scene.now.run.now right.now.zone.now right.now.stretch.now boxes.now kept.old }
+    ensures names { result ≡ model.first_touched_among (record { job = scene.now.job.now; run = scene.now.run.now; before = is_before_in scene.now.clocks.now.rows }) shared
         (model.place_of left.now.zone.now left.now.stretch.now own.now) right.now.zone.now right.now.stretch.now boxes.now }
+    ensures kept { IsKeptOf scene.now.job.now scene.now.run.now right.now.zone.now right.now.stretch.now boxes.now kept.new }
 {
-    if !is_near_any(shared, own, boxes) {
+    let first = next_near(shared, own, boxes, kept.hulls.as_slice(), 0);
+    if first == boxes.len() {
         return None;
     }
     let pieces = boxes_by_pieces(scene.job, scene.run, left, own);
-    first_by_pieces(scene, shared, left, own, pieces.as_slice(), right, boxes)
+    first_by_pieces(scene, shared, left, own, pieces.as_slice(), right, boxes, kept, first)
 }
 
 /// The names of the first two boxes of two stretches that meet, where they share a channel or not.
@@ -171,8 +199,9 @@ fn first_in_all_boxes(
 {
     let stretch = left.stretch;
     let other = right.stretch;
+    let mut kept = kept_for(scene.alloc, stretch.boxes.len(), &other.boxes);
     for own in &stretch.boxes {
-        if let Some(names) = first_touched(scene, shared, left, own, right, &other.boxes) {
+        if let Some(names) = first_touched(scene, shared, left, own, right, &other.boxes, &mut kept) {
             return Some(names);
         }
     }
@@ -198,7 +227,8 @@ fn first_in_places(
     for own in boxes {
         range = place_range(own, others, range);
         let near = boxes_between(others, range);
-        if let Some(names) = first_touched(scene, true, left, own, right, near) {
+        let mut kept = kept_for(scene.alloc, 1, near);
+        if let Some(names) = first_touched(scene, true, left, own, right, near, &mut kept) {
             return Some(names);
         }
     }
