@@ -3,23 +3,32 @@ ghost use Rattle.std.specs.Prelude.{◌≡◌, ℕ, ◌<◌, true, false, IfSome
 ghost use Rattle.std.specs.List.{list_any};
 ghost use Rattle.clash_check.specs.Hulls.{LiesIn};
 ghost use Rattle.clash_check.specs.PlainBoxes.{IsFirstMeeting, NoneMeet};
-ghost use Rattle.swept_boxes.specs.Boxes.{boxes_meet};
+ghost use Rattle.swept_boxes.specs.Boxes.{boxes_meet, do_touch};
 ghost use Rattle.swept_boxes.specs.declared.Box3.{Box3};
 
 use swept_boxes::Box3;
 
-/// Whether a box is below another in some direction.
-fn is_below(left: &Box3, right: &Box3) -> bool
-    ensures { result ≡ true → boxes_meet left.now right.now ≡ false × boxes_meet right.now left.now ≡ false }
+/// Whether two boxes are apart in a direction.
+fn are_apart(left: &Box3, right: &Box3, direction: usize) -> bool
+    requires { direction < 3 }
+    ensures { result ≡ true → do_touch left.now right.now direction ≡ false }
 {
-    left.hi[0] < right.lo[0] || left.hi[1] < right.lo[1] || left.hi[2] < right.lo[2]
+    let below = left.hi[direction] < right.lo[direction];
+    let above = right.hi[direction] < left.lo[direction];
+    below | above
 }
 
 /// Whether two boxes share a point.
 pub(crate) fn do_meet(left: &Box3, right: &Box3) -> bool
     ensures { result ≡ boxes_meet left.now right.now }
 {
-    !(is_below(left, right) || is_below(right, left)) && left.meets(right)
+    let x = are_apart(left, right, 0);
+    let y = are_apart(left, right, 1);
+    let z = are_apart(left, right, 2);
+    if x | y | z {
+        return false;
+    }
+    left.meets(right)
 }
 
 /// The least box in which two boxes lie.

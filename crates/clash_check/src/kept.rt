@@ -94,7 +94,7 @@ pub(crate) fn meet_kept(pieces: &[Box3], rows: &[Option<Vec<Bundle>>], place: us
 
 /// Makes room for a row of this place.
 fn make_rows(rows: &mut Vec<Option<Vec<Bundle>>>, place: usize) -> Result<(), NoMemory>
-    ensures same { (k : ℕ) → slice_index_or rows.new k None ≡ slice_index_or rows.old k None }
+    ensures same { (k : ℕ) → slice_index_or rows.new.items k None ≡ slice_index_or rows.old.items k None }
     ensures place { IfOk result (λ done. place < length rows.new) }
 {
     for _at in rows.len()..place + 1 {

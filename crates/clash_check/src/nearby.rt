@@ -47,7 +47,11 @@ fn is_far(own: &ZoneBox, hulls: &[Box3], place: usize) -> bool
     ensures { result ≡ true → (group : ℕ) × (place ≡ HULL_BOXES * group) × (group < length hulls.now) × ((h : Box3) → boxes_meet own.now.cover (slice_index_or hulls.now group h) ≡ false) }
 {
     let group = place / HULL_BOXES;
-    place % HULL_BOXES == 0 && group < hulls.len() && !do_meet(&own.cover, &hulls[group])
+    if group * HULL_BOXES == place && group < hulls.len() {
+        !do_meet(&own.cover, &hulls[group])
+    } else {
+        false
+    }
 }
 
 /// The place of the next of these boxes, from this place on, that is compared with a box and whose cover meets its own.
