@@ -1,15 +1,15 @@
 -- Boxes in which others lie, bundles, and what is kept of the boxes of a stretch.
-use Rattle.std.proofs.Common.{◌≡◌, ◌∙◌, ℕ, zero, suc, ℤ, pos, ◌≤ℤ◌, ◌<ℤ◌, ◌+◌, ◌*◌, ◌<◌, ◌≤◌, ◌⊎◌, inl, inr, ◌&&◌, ◌||◌, Bool, true, false, List, [], ◌∷◌, ◌++◌, get_or, length, take, Option, None, Some, All, refl, sym, ap, subst, arith}
+use Rattle.std.proofs.Common.{◌≡◌, ◌∙◌, ℕ, zero, suc, ℤ, pos, ◌≤ℤ◌, ◌<ℤ◌, ◌+◌, ◌-◌, ◌*◌, ◌<◌, ◌≤◌, ◌⊎◌, inl, inr, ◌&&◌, ◌||◌, Bool, true, false, List, [], ◌∷◌, ◌++◌, get_or, length, take, drop, length-append, length-drop, Option, None, All, refl, sym, ap, subst, arith}
 use Rattle.std.proofs.lemmas.Int.{ints, clamps}
-use Rattle.std.proofs.lemmas.List.Elements.{All-head, All-tail, All-weaker}
-use Rattle.std.specs.Prelude.{Vec}
-use Rattle.std.specs.Global.{Global}
+use Rattle.std.proofs.lemmas.List.Elements.{All-head, All-tail, All-nil, All-cons, All-append, All-weaker}
+use Rattle.std.proofs.lemmas.List.{length-take, get_or-take, get_or-drop, get_or_at, get_or_default, get_or_append_left}
+use Rattle.std.proofs.lemmas.Grind.{flat_map-append}
 use Rattle.std.specs.Int.{int_max, int_min}
 use Rattle.std.specs.Int.RustNames.{int_le}
 use Rattle.std.specs.List.{flat_map, list_any}
 use Rattle.clash_check.proofs.MeetLaws.{guarded, any_implies}
 use Rattle.clash_check.proofs.PieceLaws.{meet_wider_last}
-use Rattle.clash_check.specs.Hulls.{LiesIn, is_near, AreHulls, AreBundles, IsRowOf, AreRows}
+use Rattle.clash_check.specs.Hulls.{LiesIn, is_near, AreHulls, AreBundles, meets_bundles}
 use Rattle.clash_check.specs.Meetings.{compared}
 use Rattle.clash_check.specs.declared.kept.Bundle.{Bundle}
 use Rattle.clash_check.specs.declared.nearby.TheConstants.{HULL_BOXES}
@@ -54,9 +54,11 @@ bundles_met met (bundle ∷ bundles) lie =
     rw (one, bundles_met met bundles (All-tail (λ b. All (λ box. LiesIn box b.hull) b.boxes.items) bundle bundles lie))
     (sym (any_append (boxes_meet met) bundle.boxes.items (flat_map (λ b. b.boxes.items) bundles)))
 
-pub meets_bundled : (met : Box3) (bundles : List Bundle) (boxes : List Box3) → AreBundles boxes bundles
-    → list_any (λ bundle. boxes_meet met bundle.hull && list_any (boxes_meet met) bundle.boxes.items) bundles ≡ list_any (boxes_meet met) boxes
-meets_bundled met bundles boxes are = bundles_met met bundles are.lie ∙ ap (list_any (boxes_meet met)) are.all
+-- so for each of some boxes
+pub row_meets : (pieces : List Box3) (bundles : List Bundle) (boxes : List Box3) → AreBundles boxes bundles
+    → list_any (λ piece. meets_bundles piece bundles) pieces ≡ list_any (λ piece. list_any (boxes_meet piece) boxes) pieces
+row_meets [] bundles boxes are = refl
+row_meets (piece ∷ pieces) bundles boxes are = rw (bundles_met piece bundles are.lie ∙ ap (list_any (boxes_meet piece)) are.all, row_meets pieces bundles boxes are) refl
 
 -- ---- a box by its bounds
 
@@ -116,3 +118,89 @@ far_more shared own boxes hulls from place upto are group below within far k d l
         let lies : LiesIn (get_or boxes k d).cover (get_or hulls group.0 own.cover) =
         are group.0 k d own.cover group.2 (omega (arith, place_is, more)) (omega (arith, place_is, below, high)) (omega (arith, high, within)) in
         neither (compared shared own (get_or boxes k d)) _ (not_met own.cover (get_or boxes k d).cover (get_or hulls group.0 own.cover) lies (group.3 own.cover))
+
+-- ---- more hulls and bundles
+
+-- one hull more
+pub hulls_more : (boxes : List ZoneBox) (hulls more : List Box3) (count : ℕ) (hull : Box3) → length hulls ≡ count → AreHulls boxes hulls
+    → All (λ own. LiesIn own.cover hull) (take ((count * 16 + 16) - count * 16) (drop (count * 16) boxes)) → more ≡ hulls ++ hull ∷ [] → count * 16 + 16 ≤ length boxes → AreHulls boxes more
+hulls_more boxes hulls more count hull count_is are all more_is within group k d h below low high here =
+    by_order (below_or_not group count)
+  where
+    from : ℕ
+    from = count * 16
+
+    at_end : length hulls ≡ group → get_or more group h ≡ hull
+    at_end same = ap (λ (xs : List Box3). get_or xs group h) more_is ∙ get_or_at hulls hull [] h group same
+
+    within_part : (i : ℕ) → i < 16 → from + i ≡ k → i < length (take ((from + 16) - from) (drop from boxes))
+    within_part i less place_is =
+        let all = length-take ((from + 16) - from) (drop from boxes) in
+        let rest = length-drop from boxes in
+        omega (arith, less, place_is, here, within, all, rest)
+
+    lies_at : (i : ℕ) → i < 16 → from + i ≡ k → LiesIn (get_or boxes k d).cover hull
+    lies_at i less place_is =
+        let few : i < (from + 16) - from = omega (arith, less) in
+        let same : get_or (take ((from + 16) - from) (drop from boxes)) i d ≡ get_or boxes k d =
+        get_or-take ((from + 16) - from) (drop from boxes) i d few ∙ get_or-drop from boxes i d ∙ ap (λ (n : ℕ). get_or boxes n d) place_is in
+        subst (λ (b : ZoneBox). LiesIn b.cover hull) same (all i d (within_part i less place_is))
+
+    by_order : (group < count) ⊎ (count ≤ group) → LiesIn (get_or boxes k d).cover (get_or more group h)
+    by_order (inl less) =
+        subst (λ (b : Box3). LiesIn (get_or boxes k d).cover b)
+        (sym (ap (λ (xs : List Box3). get_or xs group h) more_is ∙ get_or_append_left hulls (hull ∷ []) h group (omega (arith, less, count_is))))
+        (are group k d h (omega (arith, less, count_is)) low high here)
+    by_order (inr most) =
+        let long : length more ≡ length hulls + 1 = ap (λ (xs : List Box3). length xs) more_is ∙ length-append hulls (hull ∷ []) in
+        let same : group ≡ count = omega (arith, most, below, long, count_is) in
+        subst (λ (b : Box3). LiesIn (get_or boxes k d).cover b) (sym (at_end (omega (arith, count_is, same))))
+        (lies_at (k - from) (omega (arith, low, high, same)) (omega (arith, low, same)))
+
+no_more : {X : Type 0} (n : ℕ) → take {A = X} n [] ≡ []
+no_more zero = refl
+no_more (suc n) = refl
+
+parts : (xs : List Box3) (from n : ℕ) → take from xs ++ take n (drop from xs) ≡ take (from + n) xs
+parts xs zero n = let same : n ≡ 0 + n = omega arith in ap (λ (k : ℕ). take k xs) same
+parts [] (suc from) n = no_more n ∙ sym (no_more (suc from + n))
+parts (x ∷ xs) (suc from) n = let next : suc from + n ≡ suc (from + n) = omega arith in rw next (ap (λ (ys : List Box3). x ∷ ys) (parts xs from n))
+
+-- one bundle more
+pub bundles_more : (boxes : List Box3) (bundles more : List Bundle) (from upto : ℕ) (bundle : Bundle) → AreBundles (take from boxes) bundles
+    → bundle.boxes.items ≡ take (upto - from) (drop from boxes) → All (λ only. LiesIn only bundle.hull) (take (upto - from) (drop from boxes)) → more ≡ bundles ++ bundle ∷ [] → from ≤ upto
+    → AreBundles (take upto boxes) more
+bundles_more boxes bundles more from upto bundle are boxes_are lie more_is on = record {
+  all =
+      ap (λ (bs : List Bundle). flat_map (λ b. b.boxes.items) bs) more_is ∙ flat_map-append (λ (b : Bundle). b.boxes.items) bundles (bundle ∷ [])
+      ∙ ap (λ (xs : List Box3). xs ++ (bundle.boxes.items ++ [])) are.all
+      ∙ ap (λ (xs : List Box3). take from boxes ++ xs) (append-nil bundle.boxes.items ∙ boxes_are) ∙ parts boxes from (upto - from)
+      ∙ (let there : from + (upto - from) ≡ upto = omega (arith, on) in ap (λ (n : ℕ). take n boxes) there);
+  lie =
+      subst (λ (bs : List Bundle). All (λ b. All (λ box. LiesIn box b.hull) b.boxes.items) bs) (sym more_is)
+      (All-append (λ b. All (λ box. LiesIn box b.hull) b.boxes.items) bundles (bundle ∷ []) are.lie
+      (All-cons (λ b. All (λ box. LiesIn box b.hull) b.boxes.items) bundle []
+      (subst (λ (xs : List Box3). All (λ box. LiesIn box bundle.hull) xs) (sym boxes_are) lie) (All-nil (λ b. All (λ box. LiesIn box b.hull) b.boxes.items))));
+}
+  where
+    append-nil : (xs : List Box3) → xs ++ [] ≡ xs
+    append-nil [] = refl
+    append-nil (x ∷ xs) = ap (λ (ys : List Box3). x ∷ ys) (append-nil xs)
+
+-- one box more lies in what holds the boxes before it
+pub lie_more : (boxes : List Box3) (i : ℕ) (hull wider e : Box3) → i < length boxes → ((k : ℕ) (d : Box3) → k < i → LiesIn (get_or boxes k d) hull) → LiesIn hull wider → LiesIn (get_or boxes i e) wider
+    → (k : ℕ) (d : Box3) → k < i + 1 → LiesIn (get_or boxes k d) wider
+lie_more boxes i hull wider e within lie through last k d below = by_order (below_or_not k i)
+  where
+    by_order : (k < i) ⊎ (i ≤ k) → LiesIn (get_or boxes k d) wider
+    by_order (inl less) = lies_through (get_or boxes k d) hull wider (lie k d less) through
+    by_order (inr most) =
+        let same : i ≡ k = omega (arith, most, below) in
+        subst (λ (b : Box3). LiesIn b wider) (get_or_default boxes i e d within ∙ ap (λ (n : ℕ). get_or boxes n d) same) last
+
+-- a place with no row keeps none
+pub no_row : {X : Type 0} (rows : List (Option X)) (k : ℕ) → get_or (rows ++ None ∷ []) k None ≡ get_or rows k None
+no_row [] zero = refl
+no_row [] (suc k) = refl
+no_row (r ∷ rs) zero = refl
+no_row (r ∷ rs) (suc k) = no_row rs k

@@ -1,7 +1,7 @@
 -- Steps. Boxes in which others lie, and what is kept of the boxes of a stretch.
 use Rattle.std.specs.Prelude.{◌≡◌, ℕ, ◌+◌, ◌*◌, ◌<◌, ◌≤◌, ◌≤ℤ◌, ◌&&◌, Bool, All, List, length, slice_index_or, Option, None, Some, Vec}
 use Rattle.std.specs.Global.{Global}
-use Rattle.std.specs.List.{flat_map}
+use Rattle.std.specs.List.{flat_map, list_any}
 use Rattle.clash_check.specs.Meetings.{compared, place_of}
 use Rattle.clash_check.specs.declared.kept.Bundle.{Bundle}
 use Rattle.clash_check.specs.declared.kept.Kept.{Kept}
@@ -34,6 +34,10 @@ AreHulls boxes hulls =
 pub record AreBundles (boxes : List Box3) (bundles : List Bundle) : Type 0 where
   pub all : flat_map (λ bundle. bundle.boxes.items) bundles ≡ boxes
   pub lie : All (λ bundle. All (λ box. LiesIn box bundle.hull) bundle.boxes.items) bundles
+
+-- a box meets a box of some bundles: the one in which those of a bundle lie first
+abbrev pub meets_bundles : Box3 → List Bundle → Bool
+meets_bundles met bundles = list_any (λ bundle. boxes_meet met bundle.hull && list_any (boxes_meet met) bundle.boxes.items) bundles
 
 -- the boxes of a row are these, where there is a row
 abbrev pub IsRowOf : List Box3 → Option (Vec Bundle Global) → Type 0

@@ -1,6 +1,7 @@
 //! What is kept of the boxes of a stretch while those of another are held against them.
 ghost use Rattle.std.specs.Prelude.{◌≡◌, ℕ, ◌<◌, ◌≤◌, All, IfOk, IfSome, List, None, true, false, length, slice_index_or};
 ghost use Rattle.std.specs.List.{list_any};
+ghost use Rattle.clash_check.specs.Hulls as model;
 ghost use Rattle.clash_check.specs.Hulls.{LiesIn, AreHulls, AreBundles, IsRowOf, AreRows};
 ghost use Rattle.clash_check.specs.Meetings.{place_of};
 ghost use Rattle.job_types.specs.Job.{JobView};
@@ -77,9 +78,16 @@ fn bundles_of(alloc: Global, boxes: &[Box3]) -> Result<Vec<Bundle>, NoMemory>
 
 /// Whether a box meets one of those in some bundles.
 fn meets_bundles(met: &Box3, bundles: &[Bundle]) -> bool
-    ensures { (boxes : List Box3) → AreBundles boxes bundles.now → result ≡ list_any (boxes_meet met.now) boxes }
+    ensures { result ≡ model.meets_bundles met.now bundles.now }
 {
     bundles.iter().any(|bundle| do_meet(met, &bundle.hull) && meets_any(met, bundle.boxes.as_slice()))
+}
+
+/// Whether one of some boxes meets one of those in some bundles.
+fn meet_bundles(pieces: &[Box3], bundles: &[Bundle]) -> bool
+    ensures { result ≡ list_any (λ piece. model.meets_bundles piece bundles.now) pieces.now }
+{
+    pieces.iter().any(|piece| meets_bundles(piece, bundles))
 }
 
 /// Whether one of some boxes meets one of those that are kept for a place, if they are.
@@ -87,25 +95,25 @@ pub(crate) fn meet_kept(pieces: &[Box3], rows: &[Option<Vec<Bundle>>], place: us
     ensures { IfSome result (λ met. (boxes : List Box3) → IsRowOf boxes (slice_index_or rows.now place None) → met ≡ list_any (λ piece. list_any (boxes_meet piece) boxes) pieces.now) }
 {
     match rows.get(place) {
-        Some(Some(row)) => Some(pieces.iter().any(|piece| meets_bundles(piece, row.as_slice()))),
+        Some(Some(row)) => Some(meet_bundles(pieces, row.as_slice())),
         _ => None,
     }
 }
 
-/// Makes room for a row of this place.
-fn make_rows(rows: &mut Vec<Option<Vec<Bundle>>>, place: usize) -> Result<(), NoMemory>
+/// Makes room for so many rows.
+fn make_rows(rows: &mut Vec<Option<Vec<Bundle>>>, count: usize) -> Result<(), NoMemory>
     ensures same { (k : ℕ) → slice_index_or rows.new.items k None ≡ slice_index_or rows.old.items k None }
-    ensures place { IfOk result (λ done. place < length rows.new) }
+    ensures room { IfOk result (λ done. count ≤ length rows.new.items) }
 {
-    for _at in rows.len()..place + 1 {
+    for _at in rows.len()..count {
         rows.push(None)?;
     }
     Ok(())
 }
 
-/// Keeps these boxes for a place, where there is room and memory.
-pub(crate) fn keep(kept: &mut Kept, alloc: Global, place: usize, boxes: &[Box3])
-    requires { place < usize.MAX }
+/// Keeps these boxes for a place, of so many, where there is room and memory.
+pub(crate) fn keep(kept: &mut Kept, alloc: Global, count: usize, place: usize, boxes: &[Box3])
+    requires { place < count }
     ensures hulls { kept.new.hulls.items ≡ kept.old.hulls.items }
     ensures place { IsRowOf boxes.now (slice_index_or kept.old.rows.items place None) → IsRowOf boxes.now (slice_index_or kept.new.rows.items place None) }
     ensures others { (k : ℕ) → (k ≡ place → ⊥) → slice_index_or kept.new.rows.items k None ≡ slice_index_or kept.old.rows.items k None }
@@ -114,8 +122,8 @@ pub(crate) fn keep(kept: &mut Kept, alloc: Global, place: usize, boxes: &[Box3])
         return;
     }
     if let Ok(row) = bundles_of(alloc, boxes) {
-        if make_rows(&mut kept.rows, place).is_ok() {
-            kept.room -= row.len();
+        if make_rows(&mut kept.rows, count).is_ok() {
+            kept.room = kept.room.saturating_sub(row.len());
             kept.rows[place] = Some(row);
         }
     }

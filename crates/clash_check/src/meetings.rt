@@ -93,7 +93,7 @@ fn touches(
         return met;
     }
     let others = boxes_by_pieces(scene.job, scene.run, held, later);
-    keep(kept, scene.alloc, place, others.as_slice());
+    keep(kept, scene.alloc, boxes.len(), place, others.as_slice());
     any_meet(pieces, others.as_slice())
 }
 

@@ -1,0 +1,1 @@
+use Rattle.clash_check.proofs.kept.keep.Goals as goal
