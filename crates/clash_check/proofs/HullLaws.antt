@@ -4,18 +4,28 @@ use Rattle.std.proofs.lemmas.Int.{ints, clamps}
 use Rattle.std.proofs.lemmas.List.Elements.{All-head, All-tail, All-nil, All-cons, All-append, All-weaker}
 use Rattle.std.proofs.lemmas.List.{length-take, get_or-take, get_or-drop, get_or_at, get_or_default, get_or_append_left}
 use Rattle.std.proofs.lemmas.Grind.{flat_map-append}
-use Rattle.std.specs.Int.{int_max, int_min}
-use Rattle.std.specs.Int.RustNames.{int_le}
+use Rattle.std.specs.Prelude.{Vec}
+use Rattle.std.specs.Global.{Global}
+use Rattle.std.specs.Option.{option_or}
 use Rattle.std.specs.List.{flat_map, list_any}
-use Rattle.clash_check.proofs.MeetLaws.{guarded, any_implies}
+use Rattle.clash_check.proofs.FirstLaws.{first_some-past, first_some-drop_more}
+use Rattle.clash_check.proofs.MeetLaws.{guarded, any_implies, far_none}
 use Rattle.clash_check.proofs.PieceLaws.{meet_wider_last}
-use Rattle.clash_check.specs.Hulls.{LiesIn, is_near, AreHulls, AreBundles, meets_bundles}
-use Rattle.clash_check.specs.Meetings.{compared}
+use Rattle.clash_check.specs.FirstAnswer.{first_some}
+use Rattle.clash_check.specs.Hulls.{LiesIn, is_near, AreHulls, AreBundles, meets_bundles, IsRowOf, IsKeptOf}
+use Rattle.clash_check.specs.Meetings.{Case, Names, compared, names_where_met, place_of}
 use Rattle.clash_check.specs.declared.kept.Bundle.{Bundle}
+use Rattle.clash_check.specs.declared.kept.Kept.{Kept}
 use Rattle.clash_check.specs.declared.nearby.TheConstants.{HULL_BOXES}
+use Rattle.job_types.specs.Job.{JobView}
+use Rattle.job_types.specs.declared.job.ZoneLine.{ZoneLine}
+use Rattle.protection_zones.specs.Overlaps.{BoxPlace}
+use Rattle.protection_zones.specs.Pieces.{piece_boxes}
+use Rattle.protection_zones.specs.Stretches.{StretchView}
 use Rattle.protection_zones.specs.declared.stretches.ZoneBox.{ZoneBox}
 use Rattle.swept_boxes.specs.Boxes.{low_of, high_of, do_touch, boxes_meet}
 use Rattle.swept_boxes.specs.declared.Box3.{Box3}
+use Rattle.sync_types.specs.Views.{RunView}
 
 -- ---- boxes in which others lie
 
@@ -204,3 +214,69 @@ no_row [] zero = refl
 no_row [] (suc k) = refl
 no_row (r ∷ rs) zero = refl
 no_row (r ∷ rs) (suc k) = no_row rs k
+
+-- ---- first answers
+
+no_more_answers : {X Y : Type 0} (f : X → Option Y) (xs : List X) (n : ℕ) → length xs ≤ n → first_some f (drop n xs) ≡ None
+no_more_answers f [] zero past = refl
+no_more_answers f [] (suc n) past = refl
+no_more_answers f (x ∷ xs) zero past = absurd (omega arith)
+no_more_answers f (x ∷ xs) (suc n) past = no_more_answers f xs n (omega arith)
+
+module _ (case : Case) (shared : Bool) (left : BoxPlace) (other : ZoneLine) (right : StretchView) (boxes : List ZoneBox) where
+  abbrev pub met : ZoneBox → Option Names
+  met later = names_where_met case shared left (place_of other right later)
+
+  -- boxes that are far may be passed over
+  pub past_far : (from upto : ℕ) → from ≤ upto → ((k : ℕ) (d : ZoneBox) → from ≤ k → k < upto → is_near shared left.box (get_or boxes k d) ≡ false)
+      → first_some met (drop from boxes) ≡ first_some met (drop upto boxes)
+  past_far from upto on far = first_some-past met boxes from upto on (λ k d low high within. far_none case shared left (place_of other right (get_or boxes k d)) (far k d low high))
+
+  pub all_far : (upto : ℕ) → length boxes ≤ upto → ((k : ℕ) (d : ZoneBox) → 0 ≤ k → k < upto → is_near shared left.box (get_or boxes k d) ≡ false) → first_some met boxes ≡ None
+  all_far upto past far = past_far 0 upto (omega arith) far ∙ no_more_answers met boxes upto past
+
+  -- the answer of one box, and those from the next on that is near
+  pub one_and_near : (place next : ℕ) (d : ZoneBox) (answer : Option Names) → place < length boxes → place + 1 ≤ next
+      → ((k : ℕ) (e : ZoneBox) → place + 1 ≤ k → k < next → is_near shared left.box (get_or boxes k e) ≡ false) → answer ≡ met (get_or boxes place d)
+      → first_some met (drop place boxes) ≡ option_or answer (first_some met (drop next boxes))
+  one_and_near place next d answer within on far is =
+      first_some-drop_more met boxes place (get_or boxes place d) within (get_or_default boxes place d (get_or boxes place d) within)
+      ∙ ap (λ (r : Option Names). option_or r (first_some met (drop (place + 1) boxes))) (sym is)
+      ∙ ap (λ (r : Option Names). option_or answer r) (past_far (place + 1) next on far)
+
+-- ---- what is kept
+
+-- a row more of the boxes by which the box of its place is compared
+pub kept_more : (job : JobView) (run : RunView) (zone : ZoneLine) (stretch : StretchView) (boxes : List ZoneBox) (old new : Kept) (place : ℕ) (e : ZoneBox) (row : List Box3) → place < length boxes
+    → row ≡ piece_boxes job run (place_of zone stretch (get_or boxes place e)) → IsKeptOf job run zone stretch boxes old → new.hulls.items ≡ old.hulls.items
+    → (IsRowOf row (get_or old.rows.items place None) → IsRowOf row (get_or new.rows.items place None))
+    → ((k : ℕ) → (k ≡ place → ⊥) → get_or new.rows.items k None ≡ get_or old.rows.items k None) → IsKeptOf job run zone stretch boxes new
+kept_more job run zone stretch boxes old new place e row within row_is kept same here others = record {
+  hulls = subst (λ (hulls : List Box3). AreHulls boxes hulls) (sym same) kept.hulls;
+  rows = λ k d below. by_order k d below (below_or_not k place) (below_or_not place k);
+}
+  where
+    at_place : (d : ZoneBox) → IsRowOf (piece_boxes job run (place_of zone stretch (get_or boxes place d))) (get_or new.rows.items place None)
+    at_place d =
+        let is : row ≡ piece_boxes job run (place_of zone stretch (get_or boxes place d)) =
+        row_is ∙ ap (λ (b : ZoneBox). piece_boxes job run (place_of zone stretch b)) (get_or_default boxes place e d within) in
+        subst (λ (bs : List Box3). IsRowOf bs (get_or new.rows.items place None)) is
+        (here (subst (λ (bs : List Box3). IsRowOf bs (get_or old.rows.items place None)) (sym is) (kept.rows place d within)))
+
+    by_order : (k : ℕ) (d : ZoneBox) → k < length boxes → (k < place) ⊎ (place ≤ k) → (place < k) ⊎ (k ≤ place)
+        → IsRowOf (piece_boxes job run (place_of zone stretch (get_or boxes k d))) (get_or new.rows.items k None)
+    by_order k d below (inl less) o =
+        subst (λ (r : Option (Vec Bundle Global)). IsRowOf (piece_boxes job run (place_of zone stretch (get_or boxes k d))) r) (sym (others k (λ at. omega (arith, at, less)))) (kept.rows k d below)
+    by_order k d below (inr most) (inl less) =
+        subst (λ (r : Option (Vec Bundle Global)). IsRowOf (piece_boxes job run (place_of zone stretch (get_or boxes k d))) r) (sym (others k (λ at. omega (arith, at, less)))) (kept.rows k d below)
+    by_order k d below (inr most) (inr least) =
+        let same_place : place ≡ k = omega (arith, most, least) in
+        subst (λ (n : ℕ). IsRowOf (piece_boxes job run (place_of zone stretch (get_or boxes n d))) (get_or new.rows.items n None)) same_place (at_place d)
+
+-- where there is no row, what is kept is of any stretch with these boxes
+pub nothing_kept : (job : JobView) (run : RunView) (zone : ZoneLine) (stretch : StretchView) (boxes : List ZoneBox) (kept : Kept) → AreHulls boxes kept.hulls.items
+    → ((k : ℕ) → get_or kept.rows.items k None ≡ None) → IsKeptOf job run zone stretch boxes kept
+nothing_kept job run zone stretch boxes kept hulls none = record {
+  hulls = hulls;
+  rows = λ k d below. subst (λ (r : Option (Vec Bundle Global)). IsRowOf (piece_boxes job run (place_of zone stretch (get_or boxes k d))) r) (sym (none k)) tt;
+}

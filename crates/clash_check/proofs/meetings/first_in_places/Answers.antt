@@ -18,7 +18,7 @@ returns-in-Some c =
     let own : ZoneBox = get_or c.args.boxes.now c.loop-own.own-index no_box in
     let found : ZoneBox → Option Names = λ own. first_touched_among case true (place_of c.args.left.now.zone.now c.args.left.now.stretch.now own) c.args.right.now.zone.now c.args.right.now.stretch.now c.args.others.now in
     let here : c.first_touched.result ≡ found own =
-    c.first_touched.ensures ∙ first_between case (place_of c.args.left.now.zone.now c.args.left.now.stretch.now own) c.args.right.now.zone.now c.args.right.now.stretch.now c.args.others.now
+    c.first_touched.ensures.names ∙ first_between case (place_of c.args.left.now.zone.now c.args.left.now.stretch.now own) c.args.right.now.zone.now c.args.right.now.stretch.now c.args.others.now
     c.boxes_between-near.result.now c.place_range-range.result.from c.place_range-range.result.upto (passing_places own c.args.others.now c.requires.ascend false)
     c.place_range-range.ensures.from c.place_range-range.ensures.upto c.boxes_between-near.ensures in
     ap (λ (r : Option Names). option_or r (first_some found (drop (c.loop-own.own-index + 1) c.args.boxes.now))) (sym c.in-Some.is ∙ here)
@@ -30,7 +30,7 @@ loop-own-preserved c =
     let own : ZoneBox = get_or c.args.boxes.now c.loop-own.own-index no_box in
     let found : ZoneBox → Option Names = λ own. first_touched_among case true (place_of c.args.left.now.zone.now c.args.left.now.stretch.now own) c.args.right.now.zone.now c.args.right.now.stretch.now c.args.others.now in
     let here : c.first_touched.result ≡ found own =
-    c.first_touched.ensures ∙ first_between case (place_of c.args.left.now.zone.now c.args.left.now.stretch.now own) c.args.right.now.zone.now c.args.right.now.stretch.now c.args.others.now
+    c.first_touched.ensures.names ∙ first_between case (place_of c.args.left.now.zone.now c.args.left.now.stretch.now own) c.args.right.now.zone.now c.args.right.now.stretch.now c.args.others.now
     c.boxes_between-near.result.now c.place_range-range.result.from c.place_range-range.result.upto (passing_places own c.args.others.now c.requires.ascend false)
     c.place_range-range.ensures.from c.place_range-range.ensures.upto c.boxes_between-near.ensures in
     ap (λ (r : Option Names). option_or r (first_some found (drop (c.loop-own.own-index + 1) c.args.boxes.now))) (sym c.in_default.is ∙ here)
