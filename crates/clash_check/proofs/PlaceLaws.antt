@@ -1,22 +1,21 @@
 -- Boxes that begin and end one after another: those with a place in common with a box stand side by side.
-use Rattle.std.proofs.Common.{◌≡◌, ◌∙◌, ℕ, zero, suc, ◌+◌, ◌-◌, ◌^◌, ◌<◌, ◌≤◌, ◌&&◌, ◌||◌, not, nat_le, Bool, true, false, cond, List, [], ◌∷◌, drop, take, filter, length, get_or, Option, None, Some, All, refl, sym, ap, subst, arith}
-use Rattle.std.specs.List.{count_by, list_any}
+use Rattle.std.proofs.Common.{◌≡◌, ◌∙◌, ℕ, suc, ◌-◌, ◌^◌, ◌<◌, ◌≤◌, ◌&&◌, not, nat_le, Bool, true, false, cond, List, [], ◌∷◌, drop, take, filter, length, Option, None, All, refl, sym, ap, arith}
+use Rattle.std.specs.List.{count_by}
 use Rattle.clash_check.specs.PairCounts.{capped}
 use Rattle.std.specs.Option.{option_or}
 use Rattle.std.proofs.lemmas.Bool.{and_parts, leb-true, leb-false, le-leb, lt-leb}
 use Rattle.std.proofs.lemmas.List.Sums.{length-filter}
-use Rattle.std.proofs.lemmas.List.Elements.{All-nil, All-cons, All-head, All-tail, All-weaker, All-get_or}
+use Rattle.std.proofs.lemmas.List.Elements.{All-nil, All-cons, All-head, All-tail, All-weaker}
 use Rattle.clash_check.proofs.AscentLaws.{part_is}
 use Rattle.clash_check.proofs.MeetLaws.{far_none}
 use Rattle.clash_check.specs.Ascents.{leading, PassFirst}
 use Rattle.clash_check.specs.FirstAnswer.{first_some}
-use Rattle.clash_check.specs.Meetings.{Case, Names, place_of, compared, names_where_met, first_touched, first_touched_among}
+use Rattle.clash_check.specs.Meetings.{Case, Names, place_of, names_where_met, first_touched_among}
 use Rattle.clash_check.specs.PlaceRanges.{passes_place, is_by_first, do_boxes_ascend}
 use Rattle.job_types.specs.declared.job.ZoneLine.{ZoneLine}
 use Rattle.protection_zones.specs.Overlaps.{BoxPlace, share_place}
 use Rattle.protection_zones.specs.Stretches.{StretchView}
 use Rattle.protection_zones.specs.declared.stretches.ZoneBox.{ZoneBox}
-use Rattle.swept_boxes.specs.Boxes.{boxes_meet}
 
 -- a box past the end
 abbrev pub no_box : ZoneBox

@@ -13,19 +13,20 @@ fn are_apart(left: &Box3, right: &Box3, direction: usize) -> bool
     requires { direction < 3 }
     ensures { result ≡ true → do_touch left.now right.now direction ≡ false }
 {
-    let below = left.hi[direction] < right.lo[direction];
-    let above = right.hi[direction] < left.lo[direction];
-    below | above
+    left.hi[direction] < right.lo[direction] || right.hi[direction] < left.lo[direction]
 }
 
-/// Whether two boxes share a point.
+/// Whether two boxes share a point: most that do not are apart in a direction, which is looked at first.
 pub(crate) fn do_meet(left: &Box3, right: &Box3) -> bool
     ensures { result ≡ boxes_meet left.now right.now }
 {
-    let x = are_apart(left, right, 0);
-    let y = are_apart(left, right, 1);
-    let z = are_apart(left, right, 2);
-    if x | y | z {
+    if are_apart(left, right, 0) {
+        return false;
+    }
+    if are_apart(left, right, 1) {
+        return false;
+    }
+    if are_apart(left, right, 2) {
         return false;
     }
     left.meets(right)

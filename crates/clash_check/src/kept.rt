@@ -80,7 +80,8 @@ fn bundles_of(alloc: Global, boxes: &[Box3]) -> Result<Vec<Bundle>, NoMemory>
 fn meets_bundles(met: &Box3, bundles: &[Bundle]) -> bool
     ensures { result ≡ model.meets_bundles met.now bundles.now }
 {
-    bundles.iter().any(|bundle| do_meet(met, &bundle.hull) && meets_any(met, bundle.boxes.as_slice()))
+    bundles.iter().any(|bundle| do_meet(met, &bundle.hull)
+        && meets_any(met, bundle.boxes.as_slice()))
 }
 
 /// Whether one of some boxes meets one of those in some bundles.
@@ -135,7 +136,11 @@ pub(crate) fn kept_for(alloc: Global, others: usize, boxes: &[ZoneBox]) -> Kept
     ensures rows { (k : ℕ) → slice_index_or result.rows.items k None ≡ None }
 {
     Kept {
-        hulls: if others < HULL_BOXES { Vec::new(alloc) } else { hulls_of(alloc, boxes) },
+        hulls: if others < HULL_BOXES {
+            Vec::new(alloc)
+        } else {
+            hulls_of(alloc, boxes)
+        },
         rows: Vec::new(alloc),
         room: if others < 2 { 0 } else { BUNDLE_LIMIT },
     }

@@ -120,7 +120,9 @@ fn names_where_met(
     ensures kept { IsKeptOf scene.now.job.now scene.now.run.now right.now.zone.now right.now.stretch.now boxes.now kept.new }
 {
     let later = &boxes[place];
-    if are_compared(shared, own, later) && touches(scene, &own.cover, pieces, right, boxes, place, kept) {
+    if are_compared(shared, own, later)
+        && touches(scene, &own.cover, pieces, right, boxes, place, kept)
+    {
         Some((named(left, own), named(right, later)))
     } else {
         None
@@ -150,7 +152,9 @@ fn first_by_pieces(
 {
     let mut place = from;
     while place < boxes.len() {
-        if let Some(names) = names_where_met(scene, shared, left, own, pieces, right, boxes, place, kept) {
+        if let Some(names) = names_where_met(
+            scene, shared, left, own, pieces, right, boxes, place, kept,
+        ) {
             return Some(names);
         }
         place = next_near(shared, own, boxes, kept.hulls.as_slice(), place + 1);
@@ -182,7 +186,17 @@ fn first_touched(
         return None;
     }
     let pieces = boxes_by_pieces(scene.job, scene.run, left, own);
-    first_by_pieces(scene, shared, left, own, pieces.as_slice(), right, boxes, kept, first)
+    first_by_pieces(
+        scene,
+        shared,
+        left,
+        own,
+        pieces.as_slice(),
+        right,
+        boxes,
+        kept,
+        first,
+    )
 }
 
 /// The names of the first two boxes of two stretches that meet, where they share a channel or not.
@@ -201,7 +215,15 @@ fn first_in_all_boxes(
     let other = right.stretch;
     let mut kept = kept_for(scene.alloc, stretch.boxes.len(), &other.boxes);
     for own in &stretch.boxes {
-        if let Some(names) = first_touched(scene, shared, left, own, right, &other.boxes, &mut kept) {
+        if let Some(names) = first_touched(
+            scene,
+            shared,
+            left,
+            own,
+            right,
+            &other.boxes,
+            &mut kept,
+        ) {
             return Some(names);
         }
     }

@@ -55,7 +55,13 @@ fn is_far(own: &ZoneBox, hulls: &[Box3], place: usize) -> bool
 }
 
 /// The place of the next of these boxes, from this place on, that is compared with a box and whose cover meets its own.
-pub(crate) fn next_near(shared: bool, own: &ZoneBox, boxes: &[ZoneBox], hulls: &[Box3], from: usize) -> usize
+pub(crate) fn next_near(
+    shared: bool,
+    own: &ZoneBox,
+    boxes: &[ZoneBox],
+    hulls: &[Box3],
+    from: usize,
+) -> usize
     requires from { from ≤ length boxes.now }
     requires hulls { AreHulls boxes.now hulls.now }
     ensures within { result ≤ length boxes.now }

@@ -1,4 +1,4 @@
-use Rattle.std.proofs.Common.{rules, ◌≡◌, ℤ, ◌≤ℤ◌, pos, w32, get_or, refl, sym}
+use Rattle.std.proofs.Common.{rules, ℤ, ◌≤ℤ◌, pos, w32, get_or, refl, sym}
 use mir.Val.{to_z, of_z, SFits}
 use Rattle.clash_check.proofs.Directions.{stored}
 use Rattle.clash_check.proofs.HullLaws.{lies_by}

@@ -1,4 +1,4 @@
-use Rattle.std.proofs.Common.{◌≤◌, length, arith}
+use Rattle.std.proofs.Common.{◌≤◌, arith}
 use Rattle.clash_check.proofs.HullLaws.{bundles_more}
 use Rattle.clash_check.proofs.kept.bundles_of.Goals as goal
 

@@ -1,4 +1,4 @@
-use Rattle.std.proofs.Common.{◌≡◌, ◌≤◌, ◌-◌, ℕ, All, length, take}
+use Rattle.std.proofs.Common.{◌≤◌, ◌-◌, length, take}
 use Rattle.clash_check.specs.Hulls.{AreBundles}
 use Rattle.clash_check.proofs.kept.bundles_of.Given as goal
 

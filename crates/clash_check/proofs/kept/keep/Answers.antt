@@ -1,1 +1,0 @@
-use Rattle.clash_check.proofs.kept.keep.Goals as goal

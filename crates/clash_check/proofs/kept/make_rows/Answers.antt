@@ -1,4 +1,4 @@
-use Rattle.std.proofs.Common.{◌≡◌, ◌∙◌, List, [], ◌∷◌, Option, None, get_or, ap, arith, length, length-append}
+use Rattle.std.proofs.Common.{◌∙◌, List, [], ◌∷◌, Option, None, get_or, ap, arith, length, length-append}
 use Rattle.std.specs.Prelude.{Vec}
 use Rattle.std.specs.Global.{Global}
 use Rattle.clash_check.proofs.HullLaws.{no_row}

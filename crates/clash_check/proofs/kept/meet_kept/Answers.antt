@@ -1,4 +1,4 @@
-use Rattle.std.proofs.Common.{◌≡◌, ◌∙◌, List, get_or, Option, None, Some, sym, ap, subst}
+use Rattle.std.proofs.Common.{◌≡◌, ◌∙◌, List, get_or, None, Some, sym, ap, subst}
 use Rattle.std.specs.List.{list_any}
 use Rattle.clash_check.proofs.HullLaws.{row_meets}
 use Rattle.clash_check.specs.Hulls.{IsRowOf, meets_bundles}

@@ -1,4 +1,4 @@
-use Rattle.std.proofs.Common.{◌≡◌, ◌∙◌, ◌+◌, drop, get_or, Option, None, Some, ap, sym}
+use Rattle.std.proofs.Common.{◌∙◌, ◌+◌, drop, get_or, Option, None, ap, sym}
 use Rattle.std.proofs.lemmas.List.{get_or_default}
 use Rattle.std.specs.Option.{option_or}
 use Rattle.order_clocks.specs.Tells.{is_before_in}

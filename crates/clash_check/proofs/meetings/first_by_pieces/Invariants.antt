@@ -11,9 +11,9 @@ invariant-loop-place l =
       within : l.place ≤ length l.boxes;
       kept : IsKeptOf l.scene.job.now l.scene.run.now l.right.zone.now l.right.stretch.now l.boxes l.kept;
       names : first_some (λ later. model.names_where_met (record { job = l.scene.job.now; run = l.scene.run.now; before = is_before_in l.scene.clocks.now.rows }) l.shared
-      (model.place_of l.left.zone.now l.left.stretch.now l.own) (model.place_of l.right.zone.now l.right.stretch.now later)) (drop l.place l.boxes)
-      ≡ first_some (λ later. model.names_where_met (record { job = l.scene.job.now; run = l.scene.run.now; before = is_before_in l.scene.clocks.now.rows }) l.shared
-      (model.place_of l.left.zone.now l.left.stretch.now l.own) (model.place_of l.right.zone.now l.right.stretch.now later)) (drop l.from l.boxes)
+          (model.place_of l.left.zone.now l.left.stretch.now l.own) (model.place_of l.right.zone.now l.right.stretch.now later)) (drop l.place l.boxes)
+          ≡ first_some (λ later. model.names_where_met (record { job = l.scene.job.now; run = l.scene.run.now; before = is_before_in l.scene.clocks.now.rows }) l.shared
+          (model.place_of l.left.zone.now l.left.stretch.now l.own) (model.place_of l.right.zone.now l.right.stretch.now later)) (drop l.from l.boxes);
     }
 
 abbrev pub decreases-loop-place : goal.decreases-loop-place

@@ -10,7 +10,7 @@ invariant-loop-own l =
     record {
       kept : IsKeptOf l.scene.job.now l.scene.run.now l.right.zone.now l.right.stretch.now l.right.stretch.now.boxes l.kept;
       names : first_some (λ own. model.first_touched (record { job = l.scene.job.now; run = l.scene.run.now; before = is_before_in l.scene.clocks.now.rows }) l.shared
-      (model.place_of l.left.zone.now l.left.stretch.now own) l.right.zone.now l.right.stretch.now) (drop l.own-index l.left.stretch.now.boxes)
-      ≡ first_some (λ own. model.first_touched (record { job = l.scene.job.now; run = l.scene.run.now; before = is_before_in l.scene.clocks.now.rows }) l.shared
-      (model.place_of l.left.zone.now l.left.stretch.now own) l.right.zone.now l.right.stretch.now) l.left.stretch.now.boxes
+          (model.place_of l.left.zone.now l.left.stretch.now own) l.right.zone.now l.right.stretch.now) (drop l.own-index l.left.stretch.now.boxes)
+          ≡ first_some (λ own. model.first_touched (record { job = l.scene.job.now; run = l.scene.run.now; before = is_before_in l.scene.clocks.now.rows }) l.shared
+          (model.place_of l.left.zone.now l.left.stretch.now own) l.right.zone.now l.right.stretch.now) l.left.stretch.now.boxes;
     }

@@ -1,5 +1,5 @@
 use Rattle.clash_check.proofs.HullLaws.{far_more}
-use Rattle.std.proofs.Common.{◌≤◌, ◌+◌, length, arith}
+use Rattle.std.proofs.Common.{◌≤◌, length, arith}
 use Rattle.clash_check.proofs.nearby.next_near.Goals as goal
 
 pub loop-place-preserved-then-is_far : goal.loop-place-preserved-then-is_far

@@ -8,7 +8,7 @@ invariant-loop-place l =
     record {
       within : l.place ≤ length l.boxes;
       on : l.from ≤ l.place;
-      far : (k : ℕ) (d : ZoneBox) → l.from ≤ k → k < l.place → model.is_near l.shared l.own (get_or l.boxes k d) ≡ false
+      far : (k : ℕ) (d : ZoneBox) → l.from ≤ k → k < l.place → model.is_near l.shared l.own (get_or l.boxes k d) ≡ false;
     }
 
 abbrev pub decreases-loop-place : goal.decreases-loop-place
