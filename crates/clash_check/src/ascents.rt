@@ -1,6 +1,6 @@
 //! Which stretches of a zone may overlap one of another: the stretches of a zone come one after another, so these stand side by
 //! side.
-ghost use Rattle.std.specs.Prelude.{◌≡◌, ◌+◌, ◌-◌, ◌<◌, ◌≤◌, not, Bool, true, false, drop, take, length};
+ghost use Rattle.std.specs.Prelude.{◌≡◌, ◌+◌, ◌≤◌, Bool, true, false, drop, take, length};
 ghost use Rattle.clash_check.specs.Ascents as model;
 ghost use Rattle.order_clocks.specs.Tells.{is_before_in};
 

@@ -53,8 +53,7 @@ pub(crate) fn joined(left: &Box3, right: &Box3) -> Box3
 
 /// The number of the first of some boxes that meets a box.
 fn first_met(met: &Box3, boxes: &[Box3]) -> Option<usize>
-    ensures met { IfSome result (λ j. (j < length boxes.now) × ((d : Box3) → boxes_meet met.now (slice_index_or boxes.now j d) ≡ true)
-        × ((m : ℕ) (d : Box3) → m < j → boxes_meet met.now (slice_index_or boxes.now m d) ≡ false)) }
+    ensures met { IfSome result (λ j. (j < length boxes.now) × ((d : Box3) → boxes_meet met.now (slice_index_or boxes.now j d) ≡ true) × ((m : ℕ) (d : Box3) → m < j → boxes_meet met.now (slice_index_or boxes.now m d) ≡ false)) }
     ensures none { result ≡ None → (m : ℕ) (d : Box3) → m < length boxes.now → boxes_meet met.now (slice_index_or boxes.now m d) ≡ false }
 {
     for place in 0..boxes.len() {

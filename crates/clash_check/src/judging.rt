@@ -1,5 +1,5 @@
 //! The verdict on a whole run of a job.
-ghost use Rattle.std.specs.Prelude.{◌≡◌, ◌<◌, ◌≤◌, ◌^◌, All, IfOk, Some, length, sum_by};
+ghost use Rattle.std.specs.Prelude.{◌≡◌, ◌<◌, ◌≤◌, ◌^◌, All, IfOk, length, sum_by};
 ghost use Rattle.axis_sets.specs.declared.limits.TheConstants.{CHANNEL_LIMIT};
 ghost use Rattle.clash_check.specs.Counts.{count_of};
 ghost use Rattle.clash_check.specs.Judged.{IsTold};
@@ -93,8 +93,7 @@ fn judge_pairs(
     requires few_entries { length run.now.entries < 2 ^ 20 }
     requires few_items { sum_by length run.now.items < 2 ^ 20 }
     requires fit { All (All IsFit) run.now.items }
-    ensures { result ≡ model.or_else (model.budget_verdict (is_before_in clocks.now.rows) job.now stretches.now)
-        (model.or_else (model.meeting_verdict (is_before_in clocks.now.rows) job.now run.now stretches.now) verdicts.Yes) }
+    ensures { result ≡ model.or_else (model.budget_verdict (is_before_in clocks.now.rows) job.now stretches.now) (model.or_else (model.meeting_verdict (is_before_in clocks.now.rows) job.now run.now stretches.now) verdicts.Yes) }
 {
     let count = count_of(job, run, stretches, clocks);
     if count > u64::from(job.budget) {

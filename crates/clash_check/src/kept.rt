@@ -1,17 +1,10 @@
 //! What is kept of the boxes of a stretch while those of another are held against them.
-ghost use Rattle.std.specs.Prelude.{◌≡◌, ℕ, ◌<◌, ◌≤◌, All, IfOk, IfSome, List, None, true, false, length, slice_index_or};
+ghost use Rattle.std.specs.Prelude.{◌≡◌, ℕ, ◌<◌, ◌≤◌, All, IfOk, IfSome, List, None, length, slice_index_or};
 ghost use Rattle.std.specs.List.{list_any};
 ghost use Rattle.clash_check.specs.Hulls as model;
-ghost use Rattle.clash_check.specs.Hulls.{LiesIn, AreHulls, AreBundles, IsRowOf, AreRows};
-ghost use Rattle.clash_check.specs.Meetings.{place_of};
-ghost use Rattle.job_types.specs.Job.{JobView};
-ghost use Rattle.job_types.specs.declared.job.ZoneLine.{ZoneLine};
-ghost use Rattle.protection_zones.specs.Pieces.{piece_boxes};
-ghost use Rattle.protection_zones.specs.Stretches.{StretchView};
-ghost use Rattle.protection_zones.specs.declared.stretches.ZoneBox.{ZoneBox};
+ghost use Rattle.clash_check.specs.Hulls.{LiesIn, AreHulls, AreBundles, IsRowOf};
 ghost use Rattle.swept_boxes.specs.Boxes.{boxes_meet};
 ghost use Rattle.swept_boxes.specs.declared.Box3.{Box3};
-ghost use Rattle.sync_types.specs.Views.{RunView};
 
 use crate::boxes::{do_meet, joined, meets_any};
 use crate::nearby::{HULL_BOXES, hulls_of};

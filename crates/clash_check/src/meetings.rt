@@ -11,7 +11,6 @@ ghost use Rattle.clash_check.specs.Times.{lists_in, times_from};
 ghost use Rattle.clash_check.specs.Verdicts.{name_of};
 ghost use Rattle.job_lines.specs.declared.limits.TheConstants.{DEPTH_LIMIT};
 ghost use Rattle.order_clocks.specs.Tells.{is_before_in};
-ghost use Rattle.protection_zones.specs.Overlaps.{share_channel};
 ghost use Rattle.protection_zones.specs.Pieces.{piece_boxes};
 ghost use Rattle.protection_zones.specs.ZoneBoxes.{IsFit};
 ghost use Rattle.protection_zones.specs.declared.stretches.ZoneBox.{ZoneBox};
@@ -43,6 +42,7 @@ pub(crate) struct Scene<'a> {
     pub(crate) run: &'a Run,
     /// The order of its events.
     pub(crate) clocks: &'a Clocks,
+    ghost deep: { job.now.depth ≤ DEPTH_LIMIT },
 }
 
 /// A stretch of a zone.
@@ -78,11 +78,9 @@ fn touches(
     kept: &mut Kept,
 ) -> bool
     requires fit { All (All IsFit) scene.now.run.now.items }
-    requires deep { scene.now.job.now.depth ≤ DEPTH_LIMIT }
     requires place { place < length boxes.now }
     requires kept { IsKeptOf scene.now.job.now scene.now.run.now held.now.zone.now held.now.stretch.now boxes.now kept.old }
-    ensures met { (d : ZoneBox) → result ≡ model.touches cover.now pieces.now (slice_index_or boxes.now place d).cover
-        (piece_boxes scene.now.job.now scene.now.run.now (model.place_of held.now.zone.now held.now.stretch.now (slice_index_or boxes.now place d))) }
+    ensures met { (d : ZoneBox) → result ≡ model.touches cover.now pieces.now (slice_index_or boxes.now place d).cover (piece_boxes scene.now.job.now scene.now.run.now (model.place_of held.now.zone.now held.now.stretch.now (slice_index_or boxes.now place d))) }
     ensures kept { IsKeptOf scene.now.job.now scene.now.run.now held.now.zone.now held.now.stretch.now boxes.now kept.new }
 {
     let later = &boxes[place];
@@ -111,12 +109,10 @@ fn names_where_met(
     kept: &mut Kept,
 ) -> Option<(PlaceName, PlaceName)>
     requires fit { All (All IsFit) scene.now.run.now.items }
-    requires deep { scene.now.job.now.depth ≤ DEPTH_LIMIT }
     requires pieces { pieces.now ≡ piece_boxes scene.now.job.now scene.now.run.now (model.place_of left.now.zone.now left.now.stretch.now own.now) }
     requires place { place < length boxes.now }
     requires kept { IsKeptOf scene.now.job.now scene.now.run.now right.now.zone.now right.now.stretch.now boxes.now kept.old }
-    ensures names { (d : ZoneBox) → result ≡ model.names_where_met (record { job = scene.now.job.now; run = scene.now.run.now; before = is_before_in scene.now.clocks.now.rows }) shared
-        (model.place_of left.now.zone.now left.now.stretch.now own.now) (model.place_of right.now.zone.now right.now.stretch.now (slice_index_or boxes.now place d)) }
+    ensures names { (d : ZoneBox) → result ≡ model.names_where_met (record { job = scene.now.job.now; run = scene.now.run.now; before = is_before_in scene.now.clocks.now.rows }) shared (model.place_of left.now.zone.now left.now.stretch.now own.now) (model.place_of right.now.zone.now right.now.stretch.now (slice_index_or boxes.now place d)) }
     ensures kept { IsKeptOf scene.now.job.now scene.now.run.now right.now.zone.now right.now.stretch.now boxes.now kept.new }
 {
     let later = &boxes[place];
@@ -142,12 +138,10 @@ fn first_by_pieces(
     from: usize,
 ) -> Option<(PlaceName, PlaceName)>
     requires fit { All (All IsFit) scene.now.run.now.items }
-    requires deep { scene.now.job.now.depth ≤ DEPTH_LIMIT }
     requires pieces { pieces.now ≡ piece_boxes scene.now.job.now scene.now.run.now (model.place_of left.now.zone.now left.now.stretch.now own.now) }
     requires from { from ≤ length boxes.now }
     requires kept { IsKeptOf scene.now.job.now scene.now.run.now right.now.zone.now right.now.stretch.now boxes.now kept.old }
-    ensures names { result ≡ first_some (λ later. model.names_where_met (record { job = scene.now.job.now; run = scene.now.run.now; before = is_before_in scene.now.clocks.now.rows }) shared
-        (model.place_of left.now.zone.now left.now.stretch.now own.now) (model.place_of right.now.zone.now right.now.stretch.now later)) (drop from boxes.now) }
+    ensures names { result ≡ first_some (λ later. model.names_where_met (record { job = scene.now.job.now; run = scene.now.run.now; before = is_before_in scene.now.clocks.now.rows }) shared (model.place_of left.now.zone.now left.now.stretch.now own.now) (model.place_of right.now.zone.now right.now.stretch.now later)) (drop from boxes.now) }
     ensures kept { IsKeptOf scene.now.job.now scene.now.run.now right.now.zone.now right.now.stretch.now boxes.now kept.new }
 {
     let mut place = from;
@@ -175,10 +169,8 @@ fn first_touched(
     kept: &mut Kept,
 ) -> Option<(PlaceName, PlaceName)>
     requires fit { All (All IsFit) scene.now.run.now.items }
-    requires deep { scene.now.job.now.depth ≤ DEPTH_LIMIT }
     requires kept { IsKeptOf scene.now.job.now scene.now.run.now right.now.zone.now right.now.stretch.now boxes.now kept.old }
-    ensures names { result ≡ model.first_touched_among (record { job = scene.now.job.now; run = scene.now.run.now; before = is_before_in scene.now.clocks.now.rows }) shared
-        (model.place_of left.now.zone.now left.now.stretch.now own.now) right.now.zone.now right.now.stretch.now boxes.now }
+    ensures names { result ≡ model.first_touched_among (record { job = scene.now.job.now; run = scene.now.run.now; before = is_before_in scene.now.clocks.now.rows }) shared (model.place_of left.now.zone.now left.now.stretch.now own.now) right.now.zone.now right.now.stretch.now boxes.now }
     ensures kept { IsKeptOf scene.now.job.now scene.now.run.now right.now.zone.now right.now.stretch.now boxes.now kept.new }
 {
     let first = next_near(shared, own, boxes, kept.hulls.as_slice(), 0);
@@ -207,9 +199,7 @@ fn first_in_all_boxes(
     right: &Held,
 ) -> Option<(PlaceName, PlaceName)>
     requires fit { All (All IsFit) scene.now.run.now.items }
-    requires deep { scene.now.job.now.depth ≤ DEPTH_LIMIT }
-    ensures { result ≡ first_some (λ own. model.first_touched (record { job = scene.now.job.now; run = scene.now.run.now; before = is_before_in scene.now.clocks.now.rows }) shared
-        (model.place_of left.now.zone.now left.now.stretch.now own) right.now.zone.now right.now.stretch.now) left.now.stretch.now.boxes }
+    ensures { result ≡ first_some (λ own. model.first_touched (record { job = scene.now.job.now; run = scene.now.run.now; before = is_before_in scene.now.clocks.now.rows }) shared (model.place_of left.now.zone.now left.now.stretch.now own) right.now.zone.now right.now.stretch.now) left.now.stretch.now.boxes }
 {
     let stretch = left.stretch;
     let other = right.stretch;
@@ -240,10 +230,8 @@ fn first_in_places(
     others: &[ZoneBox],
 ) -> Option<(PlaceName, PlaceName)>
     requires fit { All (All IsFit) scene.now.run.now.items }
-    requires deep { scene.now.job.now.depth ≤ DEPTH_LIMIT }
     requires ascend { places.do_boxes_ascend others.now ≡ true }
-    ensures { result ≡ first_some (λ own. model.first_touched_among (record { job = scene.now.job.now; run = scene.now.run.now; before = is_before_in scene.now.clocks.now.rows }) true
-        (model.place_of left.now.zone.now left.now.stretch.now own) right.now.zone.now right.now.stretch.now others.now) boxes.now }
+    ensures { result ≡ first_some (λ own. model.first_touched_among (record { job = scene.now.job.now; run = scene.now.run.now; before = is_before_in scene.now.clocks.now.rows }) true (model.place_of left.now.zone.now left.now.stretch.now own) right.now.zone.now right.now.stretch.now others.now) boxes.now }
 {
     let mut range = Range { from: 0, upto: 0 };
     for own in boxes {
@@ -265,9 +253,7 @@ fn first_in_boxes(
     right: &Held,
 ) -> Option<(PlaceName, PlaceName)>
     requires fit { All (All IsFit) scene.now.run.now.items }
-    requires deep { scene.now.job.now.depth ≤ DEPTH_LIMIT }
-    ensures { result ≡ first_some (λ own. model.first_touched (record { job = scene.now.job.now; run = scene.now.run.now; before = is_before_in scene.now.clocks.now.rows }) shared
-        (model.place_of left.now.zone.now left.now.stretch.now own) right.now.zone.now right.now.stretch.now) left.now.stretch.now.boxes }
+    ensures { result ≡ first_some (λ own. model.first_touched (record { job = scene.now.job.now; run = scene.now.run.now; before = is_before_in scene.now.clocks.now.rows }) shared (model.place_of left.now.zone.now left.now.stretch.now own) right.now.zone.now right.now.stretch.now) left.now.stretch.now.boxes }
 {
     let own = left.stretch;
     let other = right.stretch;
@@ -282,9 +268,7 @@ fn first_in_boxes(
 #[tactic(auto, unfolding(crate::specs::Meetings::first_in_stretches))]
 fn first_in_stretches(scene: &Scene, left: &Held, right: &Held) -> Option<(PlaceName, PlaceName)>
     requires fit { All (All IsFit) scene.now.run.now.items }
-    requires deep { scene.now.job.now.depth ≤ DEPTH_LIMIT }
-    ensures { result ≡ model.first_in_stretches (record { job = scene.now.job.now; run = scene.now.run.now; before = is_before_in scene.now.clocks.now.rows })
-        left.now.zone.now left.now.stretch.now right.now.zone.now right.now.stretch.now }
+    ensures { result ≡ model.first_in_stretches (record { job = scene.now.job.now; run = scene.now.run.now; before = is_before_in scene.now.clocks.now.rows }) left.now.zone.now left.now.stretch.now right.now.zone.now right.now.stretch.now }
 {
     let stretch = right.stretch;
     if stretch.boxes.is_empty() {
@@ -310,9 +294,7 @@ fn first_against<'a>(
     others: &'a [Stretch],
 ) -> Option<(PlaceName, PlaceName)>
     requires fit { All (All IsFit) scene.now.run.now.items }
-    requires deep { scene.now.job.now.depth ≤ DEPTH_LIMIT }
-    ensures { result ≡ model.first_against (record { job = scene.now.job.now; run = scene.now.run.now; before = is_before_in scene.now.clocks.now.rows })
-        left.now.zone.now (record { zone = other.now; stretches = others.now }) left.now.stretch.now }
+    ensures { result ≡ model.first_against (record { job = scene.now.job.now; run = scene.now.run.now; before = is_before_in scene.now.clocks.now.rows }) left.now.zone.now (record { zone = other.now; stretches = others.now }) left.now.stretch.now }
 {
     let own = left.stretch;
     if own.boxes.is_empty() {
@@ -341,12 +323,10 @@ fn first_of_shown<'a>(
     range: Range,
 ) -> Option<(PlaceName, PlaceName)>
     requires fit { All (All IsFit) scene.now.run.now.items }
-    requires deep { scene.now.job.now.depth ≤ DEPTH_LIMIT }
     requires next { IsNext others.now next.now }
     requires within_from { range.from ≤ length others.now }
     requires within { range.upto ≤ length others.now }
-    ensures { result ≡ first_some (model.first_in_stretches (record { job = scene.now.job.now; run = scene.now.run.now; before = is_before_in scene.now.clocks.now.rows })
-        left.now.zone.now left.now.stretch.now other.now) (drop range.from (take range.upto others.now)) }
+    ensures { result ≡ first_some (model.first_in_stretches (record { job = scene.now.job.now; run = scene.now.run.now; before = is_before_in scene.now.clocks.now.rows }) left.now.zone.now left.now.stretch.now other.now) (drop range.from (take range.upto others.now)) }
 {
     let mut place = next[range.from];
     while place < range.upto {
@@ -374,12 +354,10 @@ fn first_in_range<'a>(
     range: Range,
 ) -> Option<(PlaceName, PlaceName)>
     requires fit { All (All IsFit) scene.now.run.now.items }
-    requires deep { scene.now.job.now.depth ≤ DEPTH_LIMIT }
     requires next { IsNext others.now next.now }
     requires within_from { range.from ≤ length others.now }
     requires within { range.upto ≤ length others.now }
-    ensures { result ≡ model.first_against (record { job = scene.now.job.now; run = scene.now.run.now; before = is_before_in scene.now.clocks.now.rows })
-        left.now.zone.now (record { zone = other.now; stretches = drop range.from (take range.upto others.now) }) left.now.stretch.now }
+    ensures { result ≡ model.first_against (record { job = scene.now.job.now; run = scene.now.run.now; before = is_before_in scene.now.clocks.now.rows }) left.now.zone.now (record { zone = other.now; stretches = drop range.from (take range.upto others.now) }) left.now.stretch.now }
 {
     let own = left.stretch;
     if own.boxes.is_empty() {
@@ -398,9 +376,7 @@ fn first_of_all<'a>(
     others: &[Stretch],
 ) -> Option<(PlaceName, PlaceName)>
     requires fit { All (All IsFit) scene.now.run.now.items }
-    requires deep { scene.now.job.now.depth ≤ DEPTH_LIMIT }
-    ensures { result ≡ first_some (model.first_against (record { job = scene.now.job.now; run = scene.now.run.now; before = is_before_in scene.now.clocks.now.rows })
-        zone.now (record { zone = other.now; stretches = others.now })) own.now }
+    ensures { result ≡ first_some (model.first_against (record { job = scene.now.job.now; run = scene.now.run.now; before = is_before_in scene.now.clocks.now.rows }) zone.now (record { zone = other.now; stretches = others.now })) own.now }
 {
     for stretch in own {
         let left = Held { zone, stretch };
@@ -422,12 +398,10 @@ fn first_of_ascending<'a>(
     next: &[usize],
 ) -> Option<(PlaceName, PlaceName)>
     requires fit { All (All IsFit) scene.now.run.now.items }
-    requires deep { scene.now.job.now.depth ≤ DEPTH_LIMIT }
     requires timed { IsTimed (is_before_in scene.now.clocks.now.rows) own.now (others.now ∷ []) }
     requires ascend { ascents.do_ascend (is_before_in scene.now.clocks.now.rows) others.now ≡ true }
     requires next { IsNext others.now next.now }
-    ensures { result ≡ first_some (model.first_against (record { job = scene.now.job.now; run = scene.now.run.now; before = is_before_in scene.now.clocks.now.rows })
-        zone.now (record { zone = other.now; stretches = others.now })) own.now }
+    ensures { result ≡ first_some (model.first_against (record { job = scene.now.job.now; run = scene.now.run.now; before = is_before_in scene.now.clocks.now.rows }) zone.now (record { zone = other.now; stretches = others.now })) own.now }
 {
     let mut range = Range { from: 0, upto: 0 };
     for stretch in own {
@@ -451,10 +425,8 @@ fn first_of_zones(
     others: &[Stretch],
 ) -> Option<(PlaceName, PlaceName)>
     requires fit { All (All IsFit) scene.now.run.now.items }
-    requires deep { scene.now.job.now.depth ≤ DEPTH_LIMIT }
     requires timed { IsTimed (is_before_in scene.now.clocks.now.rows) own.now (others.now ∷ []) }
-    ensures { result ≡ model.first_of_zones (record { job = scene.now.job.now; run = scene.now.run.now; before = is_before_in scene.now.clocks.now.rows })
-        (record { zone = zone.now; stretches = own.now }) (record { zone = other.now; stretches = others.now }) }
+    ensures { result ≡ model.first_of_zones (record { job = scene.now.job.now; run = scene.now.run.now; before = is_before_in scene.now.clocks.now.rows }) (record { zone = zone.now; stretches = own.now }) (record { zone = other.now; stretches = others.now }) }
 {
     if zone.group == other.group {
         return None;
@@ -477,11 +449,9 @@ fn first_with_place(
     place: usize,
 ) -> Option<(PlaceName, PlaceName)>
     requires fit { All (All IsFit) scene.now.run.now.items }
-    requires deep { scene.now.job.now.depth ≤ DEPTH_LIMIT }
     requires timed { IsTimed (is_before_in scene.now.clocks.now.rows) own.now (lists_in lists.now) }
     requires place { place < length lists.now }
-    ensures { result ≡ model.first_with_place (record { job = scene.now.job.now; run = scene.now.run.now; before = is_before_in scene.now.clocks.now.rows })
-        (record { zone = zone.now; stretches = own.now }) (lists_in lists.now) place }
+    ensures { result ≡ model.first_with_place (record { job = scene.now.job.now; run = scene.now.run.now; before = is_before_in scene.now.clocks.now.rows }) (record { zone = zone.now; stretches = own.now }) (lists_in lists.now) place }
 {
     match zone_at(scene.job, place) {
         None => None,
@@ -498,10 +468,8 @@ fn first_with(
     from: usize,
 ) -> Option<(PlaceName, PlaceName)>
     requires fit { All (All IsFit) scene.now.run.now.items }
-    requires deep { scene.now.job.now.depth ≤ DEPTH_LIMIT }
     requires timed { IsTimed (is_before_in scene.now.clocks.now.rows) own.now (lists_in lists.now) }
-    ensures { result ≡ first_some (model.first_of_zones (record { job = scene.now.job.now; run = scene.now.run.now; before = is_before_in scene.now.clocks.now.rows })
-        (record { zone = zone.now; stretches = own.now })) (times_from scene.now.job.now (lists_in lists.now) from) }
+    ensures { result ≡ first_some (model.first_of_zones (record { job = scene.now.job.now; run = scene.now.run.now; before = is_before_in scene.now.clocks.now.rows }) (record { zone = zone.now; stretches = own.now })) (times_from scene.now.job.now (lists_in lists.now) from) }
 {
     for place in from..lists.len() {
         if let Some(names) = first_with_place(scene, lists, zone, own, place) {
@@ -518,7 +486,6 @@ fn first_from_place(
     place: usize,
 ) -> Option<(PlaceName, PlaceName)>
     requires fit { All (All IsFit) scene.now.run.now.items }
-    requires deep { scene.now.job.now.depth ≤ DEPTH_LIMIT }
     requires timed { IsTimed (is_before_in scene.now.clocks.now.rows) [] (lists_in lists.now) }
     requires place { place < length lists.now }
     ensures { result ≡ model.first_from_place (record { job = scene.now.job.now; run = scene.now.run.now; before = is_before_in scene.now.clocks.now.rows }) (lists_in lists.now) place }
@@ -532,10 +499,8 @@ fn first_from_place(
 /// The names of the first two boxes of two zones of different groups that meet.
 pub(crate) fn first_meeting(scene: &Scene, lists: &[Vec<Stretch>]) -> Option<(PlaceName, PlaceName)>
     requires fit { All (All IsFit) scene.now.run.now.items }
-    requires deep { scene.now.job.now.depth ≤ DEPTH_LIMIT }
     requires timed { IsTimed (is_before_in scene.now.clocks.now.rows) [] (lists_in lists.now) }
-    ensures { result ≡ model.first_in_times (record { job = scene.now.job.now; run = scene.now.run.now; before = is_before_in scene.now.clocks.now.rows })
-        (times_from scene.now.job.now (lists_in lists.now) 0) }
+    ensures { result ≡ model.first_in_times (record { job = scene.now.job.now; run = scene.now.run.now; before = is_before_in scene.now.clocks.now.rows }) (times_from scene.now.job.now (lists_in lists.now) 0) }
 {
     for place in 0..lists.len() {
         if let Some(names) = first_from_place(scene, lists, place) {

@@ -1,5 +1,5 @@
 //! How many pairs of boxes are compared.
-ghost use Rattle.std.specs.Prelude.{◌≡◌, ◌<◌, ◌+◌, ◌^◌, true, [], ◌∷◌, length, sum_by};
+ghost use Rattle.std.specs.Prelude.{◌≡◌, ◌<◌, ◌^◌, true, [], ◌∷◌, length, sum_by};
 ghost use Rattle.std.specs.List.{count_by};
 ghost use Rattle.clash_check.specs.Ascents as ascents;
 ghost use Rattle.clash_check.specs.Ascents.{IsTimed};
@@ -9,7 +9,7 @@ ghost use Rattle.clash_check.specs.PairCounts as model;
 ghost use Rattle.clash_check.specs.PlaceRanges as places;
 ghost use Rattle.clash_check.specs.Times.{lists_in, times_from};
 ghost use Rattle.order_clocks.specs.Tells.{is_before_in};
-ghost use Rattle.protection_zones.specs.Overlaps.{ZoneTime, share_place};
+ghost use Rattle.protection_zones.specs.Overlaps.{share_place};
 ghost use Rattle.sync_types.specs.Views.{RunView};
 
 use crate::ascents::{Range, do_ascend, range_of};

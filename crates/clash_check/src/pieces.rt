@@ -1,5 +1,5 @@
 //! The boxes by which a box of a zone is compared.
-ghost use Rattle.std.specs.Prelude.{◌≡◌, ◌≤◌, [], ◌∷◌, ◌-◌, All, map, option_copied, slice_get, slice_index_or};
+ghost use Rattle.std.specs.Prelude.{◌≡◌, ◌≤◌, [], ◌∷◌, All, map, option_copied, slice_get, slice_index_or};
 ghost use Rattle.job_lines.specs.declared.limits.TheConstants.{DEPTH_LIMIT};
 ghost use Rattle.path_geometry.specs.Motions.{IsSound};
 ghost use Rattle.protection_zones.specs.Pieces.{motion_at, piece_box, piece_boxes};

@@ -2,7 +2,7 @@
 //! and end one after another, so these stand side by side.
 ghost use Rattle.clash_check.specs.Ascents.{PassFirst, leading};
 ghost use Rattle.clash_check.specs.PlaceRanges as model;
-ghost use Rattle.std.specs.Prelude.{◌≡◌, ◌+◌, ◌-◌, ◌<◌, ◌≤◌, not, Bool, true, false, drop, take, length};
+ghost use Rattle.std.specs.Prelude.{◌≡◌, ◌+◌, ◌≤◌, Bool, true, false, drop, take, length};
 
 use crate::ascents::Range;
 use protection_zones::ZoneBox;

@@ -4,7 +4,7 @@ ghost use Rattle.clash_check.specs.Ascents as ascents;
 ghost use Rattle.clash_check.specs.PairCounts as counts;
 ghost use Rattle.clash_check.specs.Running as model;
 ghost use Rattle.order_clocks.specs.Tells.{is_before_in};
-ghost use Rattle.std.specs.Prelude.{◌≡◌, ℕ, ◌+◌, ◌<◌, ◌≤◌, true, false, Bool, Some, length, slice_index, if◌then◌else◌};
+ghost use Rattle.std.specs.Prelude.{◌≡◌, ℕ, ◌<◌, ◌≤◌, true, false, Bool, Some, length, slice_index, if◌then◌else◌};
 
 use crate::ascents::{Range, part};
 use crate::pair_counts::count_against;

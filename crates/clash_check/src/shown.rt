@@ -1,6 +1,6 @@
 //! Of the stretches of a zone those with boxes, one after another.
 ghost use Rattle.clash_check.specs.Shown as model;
-ghost use Rattle.std.specs.Prelude.{◌≡◌, ℕ, ◌+◌, ◌-◌, ◌≤◌, IfOk, length, vec_len, slice_index};
+ghost use Rattle.std.specs.Prelude.{◌≡◌, ◌+◌, IfOk, length, vec_len};
 
 use nc_faults::NoMemory;
 use protection_zones::Stretch;

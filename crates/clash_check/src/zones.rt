@@ -1,5 +1,5 @@
 //! The zones of a job, and their stretches.
-ghost use Rattle.std.specs.Prelude.{◌≡◌, ◌==◌, find, map, slice_get};
+ghost use Rattle.std.specs.Prelude.{◌≡◌, ◌==◌, find, slice_get};
 ghost use Rattle.clash_check.specs.Times.{lists_in};
 ghost use Rattle.job_types.specs.Zones.{zones_in_order};
 
