@@ -107,8 +107,9 @@ fn judge_pairs(
 
 /// The verdict on a whole run of a job, the first that fits: RACE where the run has a race, with the first; ALARM of the lowest
 /// channel that an alarm has stopped; STUCK of the lowest that waits; UNDECIDED where more pairs of boxes are to be compared than
-/// the job allows; NO with the first two boxes that meet; YES. It takes memory for the places of stretches alone, and works on
-/// without, though not as fast, where it finds too little.
+/// the job allows; NO with the first two boxes that meet; YES. It takes memory for the places of stretches, and for what is kept of
+/// the boxes of one stretch at a time: their pieces, in at most 262,144 bundles of 128 bytes, and at most 68 bytes for each box besides. It
+/// works on without, though not as fast, where it finds too little.
 #[tactic(auto, unfolding(crate::specs::Verdicts::verdict_by))]
 pub fn judge(
     alloc: Global,

@@ -16,7 +16,7 @@ use swept_boxes::Box3;
 
 /// How many boxes are at most in a bundle.
 const BUNDLE_BOXES: usize = 4;
-/// How many bundles are kept at most.
+/// How many bundles are kept at most, of 128 bytes each.
 const BUNDLE_LIMIT: usize = 262_144;
 
 /// Boxes, and one in which they lie.
@@ -59,7 +59,7 @@ fn bundle_of(boxes: &[Box3]) -> Bundle
 fn bundles_of(alloc: Global, boxes: &[Box3]) -> Result<Vec<Bundle>, NoMemory>
     ensures { IfOk result (λ bundles. AreBundles boxes.now bundles.items) }
 {
-    let mut bundles = Vec::new(alloc);
+    let mut bundles = Vec::with_capacity(alloc, boxes.len().div_ceil(BUNDLE_BOXES))?;
     let mut from = 0;
     while from < boxes.len() {
         let upto = (from + BUNDLE_BOXES).min(boxes.len());
