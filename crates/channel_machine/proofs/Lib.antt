@@ -12,3 +12,9 @@ pub mod Placed
 pub mod Searching
 pub mod Segments
 pub mod StartLaws
+pub mod KeptLocals
+pub mod NextSegments
+pub mod Pushes
+pub mod RunsSoFar
+pub mod RunTurns
+pub mod StartNumbers

@@ -4,3 +4,5 @@ pub mod Levels
 pub mod Run
 pub mod Kept
 pub mod StartStates
+pub mod Scripts
+pub mod Locals

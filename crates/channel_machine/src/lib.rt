@@ -8,6 +8,7 @@ mod laws;
 mod levels;
 mod limits;
 mod local;
+mod locals;
 mod run;
 mod start;
 mod surroundings;
@@ -20,5 +21,6 @@ pub use laws::{
 };
 pub use limits::BLOCK_LIMIT;
 pub use local::Local;
+pub use locals::{Locals, next_segment, no_locals};
 pub use run::{Segment, run_on, run_segment};
 pub use start::start_state;

@@ -11,3 +11,7 @@ pub mod Starting
 pub mod Staying
 pub mod Takes
 pub mod ZoneLaws
+pub mod ChannelEnds
+pub mod Granted
+pub mod Numbers
+pub mod Usage

@@ -5,3 +5,4 @@ pub mod DeskLaws
 pub mod Desks
 pub mod Histories
 pub mod Tables
+pub mod Ends

@@ -6,6 +6,7 @@ mod alarms;
 mod board;
 mod desk;
 mod effects;
+mod ends;
 mod goings;
 mod laws;
 mod locked;
@@ -20,6 +21,7 @@ mod zones;
 
 pub use board::Board;
 pub use desk::Desk;
+pub use ends::{end_by, ends_of};
 pub use laws::{a_look_tells_what_is, others_let_a_channel_run};
 pub use locked::Locked;
 use nc_faults::Alarm;

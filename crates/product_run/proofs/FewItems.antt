@@ -17,11 +17,13 @@ use Rattle.sync_types.specs.Views.{StartView}
 use Rattle.sync_types.specs.declared.Grant.{Grant}
 use Rattle.sync_types.specs.declared.Item.{Item}
 use Rattle.sync_types.specs.declared.Step.{Step}
-use Rattle.product_run.proofs.Measures.{blocks_after, few_after, grants-push, total, total_at_most}
-use Rattle.product_run.proofs.Numbers.{AreNumbered, HasNumbers, numbered_first, numbered_step, running_numbered, start_of_step}
-use Rattle.product_run.proofs.Short.{start_numbers}
-use Rattle.product_run.proofs.Usage.{Usage, Accords, accords_first, accords_turn, no_usage, usage_after}
-use Rattle.product_run.specs.Scripts.{channel_after_grants, channel_after_segment, items_of, script_of, segment_after}
+use Rattle.channel_machine.proofs.Pushes.{grants-push}
+use Rattle.product_run.proofs.Measures.{blocks_after, few_after, total, total_at_most}
+use Rattle.coord_core.proofs.Entering.{step_start}
+use Rattle.coord_core.proofs.Numbers.{AreNumbered, HasNumbers, numbered_first, numbered_step, running_numbered}
+use Rattle.channel_machine.proofs.StartNumbers.{start_numbers}
+use Rattle.coord_core.proofs.Usage.{Usage, Accords, accords_first, accords_turn, no_usage, usage_after}
+use Rattle.channel_machine.specs.Scripts.{channel_after_grants, channel_after_segment, items_of, script_of, segment_after}
 
 -- the items of a channel and its blocks before them are at most its blocks after them
 items_counted : (job : JobView) (c : ℕ) (made : List Grant) (grant : Grant)
@@ -101,7 +103,7 @@ items_shrink job stage usage (c ∷ cs) a known idle run =
     let less = items_in_turn job stage usage c a run.0 in_it in
     let rest = items_shrink job (after_turn (script_of job) stage c) (usage_after stage usage c) cs
     (accords_turn (script_of job) stage usage c a)
-    (subst HasNumbers (sym (start_of_step stage.board c step)) known)
+    (subst HasNumbers (sym (step_start stage.board c step)) known)
     (numbered_step stage.board c step known in_it idle) run.1 in
     let sum = sum_by-cons (λ (items : List Item). length items) (segment_after job c (stage.grants c)).items (items_of job (after_turn (script_of job) stage c) cs) in
     omega (arith, less, rest, sum)

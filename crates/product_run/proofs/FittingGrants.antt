@@ -24,10 +24,10 @@ use Rattle.product_run.proofs.KeptMachines.{IsKept, is_zone}
 use Rattle.product_run.proofs.OwnedRuns.{own_run}
 use Rattle.product_run.proofs.Owning.{IsOwnGrant, IsOwnState, was_owned}
 use Rattle.product_run.proofs.Switching.{owner_is}
-use Rattle.product_run.proofs.Usage.{Usage, no_usage, usage_from}
-use Rattle.product_run.specs.Kept.{IsKeptOf}
+use Rattle.coord_core.proofs.Usage.{Usage, no_usage, usage_from}
+use Rattle.channel_machine.specs.Locals.{IsKeptOf}
 use Rattle.product_run.specs.RunLaws.{GrantsFit, run_stage}
-use Rattle.product_run.specs.Scripts.{channel_after_grants, channel_after_segment, script_of, segment_after}
+use Rattle.channel_machine.specs.Scripts.{channel_after_grants, channel_after_segment, script_of, segment_after}
 use Rattle.sync_types.proofs.BoardTests.{no_truth}
 use Rattle.sync_types.specs.Boards.{State, Board, grant_in, is_this, owner_of, owns}
 use Rattle.sync_types.specs.Runs.{Stage, as_list, first_stage}

@@ -1,4 +1,4 @@
--- In the run of an accepted job each motion is sound, and channels are stopped by alarms of the table.
+-- In each run of an accepted job each motion is sound, and channels are stopped by alarms of the table.
 use Rattle.std.proofs.Common.{◌≡◌, ◌⊎◌, ℕ, zero, suc, ℤ, pos, ◌<◌, ◌≤◌, ◌==◌, Bool, true, cond, List, [], ◌∷◌, length, fold, find, filter_map, slice_get, Option, None, Some, unwrap_or, IfSome, inl, inr, sym, subst, arith}
 use Rattle.std.specs.List.{All, cons_option, range_with_len}
 use Rattle.std.specs.Option.{option_map, option_map_or}
@@ -19,7 +19,6 @@ use Rattle.micro_units.specs.Position.{IsPosition}
 use Rattle.number_laws.proofs.Lists.{by_places}
 use Rattle.path_geometry.specs.Motions.{axes_of}
 use Rattle.sync_types.proofs.BoardTests.{by_test, no_truth}
-use Rattle.sync_types.proofs.Replays.{sequential_is_one}
 use Rattle.sync_types.specs.BoardEnds.{end_of, ends_among, with_end}
 use Rattle.sync_types.specs.Boards.{State, IsIdle, IsRunning, IsHolding, HasEnded, HasAlarmed, Board, channel_numbers, first_board, grant_in}
 use Rattle.sync_types.specs.Items.{movement_of}
@@ -34,7 +33,7 @@ use Rattle.product_run.proofs.FewItems.{items_are_few}
 use Rattle.product_run.proofs.GoodBoards.{AreInRange, IsGood, IsGoodGrant, IsGoodState, IsGoodStep, good_first, good_step, none_in_range, row_in_range, zero_in_range}
 use Rattle.product_run.proofs.StepPlaces.{step_tells}
 use Rattle.product_run.specs.RunLaws.{IsListedEnd, IsSoundRun, MovesSoundly, RunsAreSound}
-use Rattle.product_run.specs.Scripts.{channel_after_grants, channel_after_segment, items_of, script_of, segment_after}
+use Rattle.channel_machine.specs.Scripts.{channel_after_grants, channel_after_segment, items_of, script_of, segment_after}
 
 -- ---- what a channel finds after its grants
 
@@ -201,13 +200,13 @@ good_beginning job sound =
     record { board = board; grants = λ d. state_grants ((first_board (start_of job)).state d) (board.states d) }
 
 pub runs_are_sound : (job : JobView) (run : RunView) → RunsAreSound job run
-runs_are_sound job run sound ordered =
-    let cs : List ℕ = ordered.channels in
+runs_are_sound job run sound one =
+    let cs : List ℕ = one.channels in
     let first = good_beginning job sound in
     let last = good_stage job (first_stage (start_of job)) cs first in
-    subst IsSoundRun (sym ordered.all) (record {
+    subst IsSoundRun (sym one.all) (record {
       items = run_moves job (first_stage (start_of job)) cs first;
       few = run_few job (first_stage (start_of job)) cs;
-      total = items_are_few job cs (sequential_is_one (script_of job) (first_stage (start_of job)) cs cs ordered.sequential).maximal.run;
+      total = items_are_few job cs one.maximal.run;
       ends = ends_good (stage_after (script_of job) (first_stage (start_of job)) cs).board channel_numbers last.board;
     })

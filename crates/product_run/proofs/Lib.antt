@@ -1,11 +1,6 @@
-pub mod Usage
-pub mod Pushes
 pub mod Blocks
 pub mod Measures
-pub mod Numbers
-pub mod Segments
 pub mod Progress
-pub mod ChannelEnds
 pub mod Motions
 pub mod Turns
 pub mod Short

@@ -12,8 +12,9 @@ use Rattle.sync_types.specs.Runs.{Stage, after_turn, as_list}
 use Rattle.sync_types.specs.declared.Grant.{Grant}
 use Rattle.product_run.proofs.Blocks.{segment_grows}
 use Rattle.coord_core.proofs.Staying.{has_stopped, stays_in_step, stopped_in_step, stopped_stays, stops}
-use Rattle.product_run.proofs.Usage.{Usage, Accords, usage_after}
-use Rattle.product_run.specs.Scripts.{channel_after_grants, channel_after_segment, script_of, segment_after}
+use Rattle.channel_machine.proofs.Pushes.{grants-push}
+use Rattle.coord_core.proofs.Usage.{Usage, Accords, usage_after}
+use Rattle.channel_machine.specs.Scripts.{channel_after_grants, channel_after_segment, script_of, segment_after}
 
 -- ---- the blocks of a channel
 
@@ -35,12 +36,6 @@ few_after job c [] = omega arith
 few_after job c (first ∷ grants) =
     let s : SurroundingsView = surroundings_of job c first in
     few_blocks s (channel_after_grants s grants) (few_in s (channel_at_start s) grants (omega arith))
-
--- the channel that goes on with one grant more
-pub grants-push : (s : SurroundingsView) (c : Channel) (grants : List Grant) (grant : Grant)
-    → fold (channel_after_segment s) c (grants ++ grant ∷ []) ≡ channel_after_segment s (fold (channel_after_segment s) c grants) grant
-grants-push s c [] grant = refl
-grants-push s c (g ∷ grants) grant = grants-push s (channel_after_segment s c g) grants grant
 
 -- a channel uses a grant more: its segment ends it, or executes a block
 pub one_block_more : (job : JobView) (c : ℕ) (made : List Grant) (grant : Grant)

@@ -1,4 +1,4 @@
--- Where axes stand from segment to segment, and the run in order as a whole run.
+-- Where axes stand from segment to segment, and runs after which no channel runs as whole runs.
 use Rattle.std.proofs.Common.{◌≡◌, ℕ, suc, ℤ, List, [], ◌∷◌, ◌++◌, append_assoc, length, Some, slice_get, take, unwrap_or, refl, sym, ap, subst, ◌∙◌}
 use mathlib.Core.Path.{fun_ext}
 use Rattle.axis_sets.specs.Positions.{position_of, stands}
@@ -17,12 +17,12 @@ use Rattle.sync_types.specs.Turns.{after_step, entries_of}
 use Rattle.sync_types.specs.Views.{StartView, RunView}
 use Rattle.sync_types.specs.declared.Grant.{Grant}
 use Rattle.sync_types.specs.declared.Item.{Item}
-use Rattle.product_run.proofs.Measures.{grants-push}
-use Rattle.product_run.proofs.Segments.{first_segment, later_segment}
+use Rattle.channel_machine.proofs.Pushes.{grants-push}
+use Rattle.channel_machine.proofs.NextSegments.{first_segment, later_segment}
 use Rattle.product_run.proofs.StepPlaces.{step_tells}
-use Rattle.product_run.proofs.Usage.{accords_first, accords_turns, no_usage, usage_from}
-use Rattle.product_run.specs.RunLaws.{HasGotLast, IsWholeRun, MovesWhatItOwns, RunsInOrderAreWhole, StandsByGrants, stands_at_end, stands_before}
-use Rattle.product_run.specs.Scripts.{channel_after_grants, channel_after_segment, items_of, script_of, segment_after}
+use Rattle.coord_core.proofs.Usage.{accords_first, accords_turns, no_usage, usage_from}
+use Rattle.product_run.specs.RunLaws.{HasGotLast, IsWholeRun, MovesWhatItOwns, RunsAreWhole, RunsInOrderAreMaximal, StandsByGrants, stands_at_end, stands_before}
+use Rattle.channel_machine.specs.Scripts.{channel_after_grants, channel_after_segment, items_of, script_of, segment_after}
 
 -- the segment is one of this channel, which has got this grant last and finds the axes there
 record Begins (job : JobView) (c : ℕ) (grants : List Grant) (grant : Grant) : Type 0 where
@@ -128,11 +128,15 @@ entries_many script stage b [] = refl
 entries_many script stage b (c ∷ cs) =
     ap suc (entries_many script (after_turn script stage c) (after_step b c (next_move script stage c).step) cs)
 
-pub runs_in_order_are_whole : (job : JobView) (start : StartView) (run : RunView) → RunsInOrderAreWhole job start run
-runs_in_order_are_whole job start run sound ordered =
+pub runs_in_order_are_maximal : (job : JobView) (start : StartView) (run : RunView) → RunsInOrderAreMaximal job start run
+runs_in_order_are_maximal job start run ordered =
     let cs : List ℕ = ordered.channels in
-    let one = sequential_is_one (script_of job) (first_stage start) cs cs ordered.sequential in
-    subst (λ (r : RunView). IsWholeRun start r) (sym ordered.all) (record {
+    record { channels = cs; maximal = (sequential_is_one (script_of job) (first_stage start) cs cs ordered.sequential).maximal; all = ordered.all }
+
+pub runs_are_whole : (job : JobView) (start : StartView) (run : RunView) → RunsAreWhole job start run
+runs_are_whole job start run sound one =
+    let cs : List ℕ = one.channels in
+    subst (λ (r : RunView). IsWholeRun start r) (sym one.all) (record {
       comes = maximal_runs_come_from (script_of job) start cs (items_of job (first_stage start) cs) sound one.maximal;
       rows = rows_of job (first_stage start) cs ∙ sym (entries_many (script_of job) (first_stage start) (first_board start) cs);
     })

@@ -12,12 +12,12 @@ use Rattle.job_types.specs.Job.{JobView, ProgramView}
 use Rattle.job_types.specs.SoundJob.{IsSoundJob}
 use Rattle.product_run.proofs.AskedSegments.{IsAsked, IsAskedSegment, segment_asked}
 use Rattle.product_run.proofs.JobStarts.{first_programs}
-use Rattle.product_run.proofs.Measures.{grants-push}
-use Rattle.product_run.proofs.Numbers.{start_of_step}
+use Rattle.channel_machine.proofs.Pushes.{grants-push}
+use Rattle.coord_core.proofs.Entering.{step_start}
 use Rattle.product_run.proofs.Owning.{IsOwnState, IsOwnWait, IsOwned, owned_first, owned_step, used_grant}
-use Rattle.product_run.proofs.Segments.{first_segment}
-use Rattle.product_run.proofs.Usage.{Accords, Usage, accords_first, accords_turn, no_usage, usage_after, usage_from}
-use Rattle.product_run.specs.Scripts.{channel_after_grants, channel_after_segment, script_of, segment_after}
+use Rattle.channel_machine.proofs.NextSegments.{first_segment}
+use Rattle.coord_core.proofs.Usage.{Accords, Usage, accords_first, accords_turn, no_usage, usage_after, usage_from}
+use Rattle.channel_machine.specs.Scripts.{channel_after_grants, channel_after_segment, script_of, segment_after}
 use Rattle.sync_types.proofs.BoardTests.{by_test, no_truth}
 use Rattle.sync_types.specs.Boards.{State, IsRunning, grant_in, is_running, owns}
 use Rattle.sync_types.specs.Runs.{IsRun, Stage, as_list, after_turn, first_stage, stage_after}
@@ -94,7 +94,7 @@ own_turn job stage usage c runs own =
     subst (λ (gs : List Grant). IfSome (selected_program (script_of job c gs).action) (λ place. place < count)) (sym last.1) (script_selects job c (usage c) last.0) in
     let uses = used_grant count (usage c) (stage.grants c) stage.board.start (owns stage.board c) (stage.board.state c) runs (own.accords.grants c) (own.owned.own.states c) in
     record {
-      start = start_of_step stage.board c step ∙ own.start;
+      start = step_start stage.board c step ∙ own.start;
       accords = accords_turn (script_of job) stage usage c own.accords;
       owned = owned_step count (usage_after stage usage c) stage.board c step selects
           (subst (λ (gs : List Grant). IsOwnWait gs (owns stage.board c)) (sym (same_after stage usage c)) uses.1)

@@ -13,9 +13,9 @@ use Rattle.product_run.proofs.JobStarts.{carried_by, carrier_of, found_once, hol
 use Rattle.product_run.proofs.KeptMachines.{IsKept}
 use Rattle.product_run.proofs.OwnedRuns.{asked_after, found_by, own_run, running_got}
 use Rattle.product_run.proofs.Owning.{IsOwnState}
-use Rattle.product_run.proofs.Usage.{Usage, no_usage, usage_from}
+use Rattle.coord_core.proofs.Usage.{Usage, no_usage, usage_from}
 use Rattle.product_run.specs.RunLaws.{HoldsZone, OwnsItsGrant, SwitchesWhatItHolds, run_stage}
-use Rattle.product_run.specs.Scripts.{script_of, segment_after}
+use Rattle.channel_machine.specs.Scripts.{script_of, segment_after}
 use Rattle.sync_types.proofs.BoardTests.{no_truth}
 use Rattle.sync_types.specs.Boards.{State, Board, is_this, owner_of, owns}
 use Rattle.sync_types.specs.Runs.{Stage, first_stage}

@@ -14,8 +14,8 @@ use Rattle.job_types.specs.Job.{JobView}
 use Rattle.nc_blocks.specs.Statement.{BlockView}
 use Rattle.product_run.proofs.AskedSegments.{IsMove, was_done}
 use Rattle.product_run.proofs.OwnedRuns.{one_grant_on}
-use Rattle.product_run.proofs.Segments.{first_segment}
-use Rattle.product_run.specs.Scripts.{channel_after_grants, channel_after_segment, script_of, segment_after}
+use Rattle.channel_machine.proofs.NextSegments.{first_segment}
+use Rattle.channel_machine.specs.Scripts.{channel_after_grants, channel_after_segment, script_of, segment_after}
 use Rattle.sync_types.specs.declared.Grant.{Grant}
 use Rattle.sync_types.specs.declared.Item.{Item}
 use Rattle.sync_types.specs.declared.Part.{Part}

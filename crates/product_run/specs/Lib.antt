@@ -1,4 +1,1 @@
-pub mod Scripts
 pub mod RunLaws
-pub mod Kept
-pub mod Ends

@@ -14,8 +14,8 @@ use Rattle.job_types.specs.SoundJob.{IsSoundJob}
 use Rattle.nc_faults.specs.Texts.{IsAlarmCode}
 use Rattle.path_geometry.specs.Motions.{axes_of, IsSound as IsSoundMotion}
 use Rattle.path_geometry.specs.declared.motion.Motion.{Motion}
-use Rattle.product_run.specs.Kept.{IsKeptOf}
-use Rattle.product_run.specs.Scripts.{IsRunInOrder, channel_after_grants, script_of, segment_after}
+use Rattle.channel_machine.specs.Locals.{IsKeptOf}
+use Rattle.channel_machine.specs.Scripts.{IsMaximalRunOf, IsRunInOrder, channel_after_grants, script_of, segment_after}
 use Rattle.sync_types.specs.Boards.{IsRunning, Board, is_running, owns}
 use Rattle.sync_types.specs.Items.{left_at, motion_of, movement_of}
 use Rattle.sync_types.specs.Runs.{ComesFrom, IsRun, Stage, first_stage, stage_after}
@@ -100,7 +100,15 @@ abbrev pub GrantsFit : JobView → List ℕ → ℕ → Grant → Type 0
 GrantsFit job cs c grant = IsRunOf job cs → (run_stage job cs).board.state c ≡ IsRunning grant
     → (made : List Grant) → (run_stage job cs).grants c ≡ made ++ grant ∷ [] → FitsAfter job c made grant
 
--- ---- the run in order
+-- ---- runs after which no channel runs
+
+-- the run in order is one
+abbrev pub RunsInOrderAreMaximal : JobView → StartView → RunView → Type 0
+RunsInOrderAreMaximal job start run = IsRunInOrder job start run → IsMaximalRunOf job start run
+
+-- it has few entries
+abbrev pub HasFewEntries : JobView → RunView → Type 0
+HasFewEntries job run = IsMaximalRunOf job (start_of job) run → length run.entries ≤ step_limit
 
 -- a whole run from this start, with items for each entry
 pub record IsWholeRun (start : StartView) (run : RunView) : Type 0 where
@@ -108,8 +116,8 @@ pub record IsWholeRun (start : StartView) (run : RunView) : Type 0 where
   pub rows : length run.items ≡ length run.entries
 
 -- from a sound start it is one
-abbrev pub RunsInOrderAreWhole : JobView → StartView → RunView → Type 0
-RunsInOrderAreWhole job start run = IsSound start → IsRunInOrder job start run → IsWholeRun start run
+abbrev pub RunsAreWhole : JobView → StartView → RunView → Type 0
+RunsAreWhole job start run = IsSound start → IsMaximalRunOf job start run → IsWholeRun start run
 
 -- an item moves axes that there are, on a sound way
 pub record MovesSoundly (item : Item) : Type 0 where
@@ -128,6 +136,6 @@ pub record IsSoundRun (run : RunView) : Type 0 where
   pub total : sum_by length run.items ≤ CHANNEL_LIMIT * BLOCK_LIMIT
   pub ends : All IsListedEnd run.ends
 
--- so is the run in order of an accepted job
+-- so is each such run of an accepted job
 abbrev pub RunsAreSound : JobView → RunView → Type 0
-RunsAreSound job run = IsSoundJob job → IsRunInOrder job (start_of job) run → IsSoundRun run
+RunsAreSound job run = IsSoundJob job → IsMaximalRunOf job (start_of job) run → IsSoundRun run

@@ -1,7 +1,7 @@
 //! What is so of all runs of a job.
 ghost use Rattle.std.specs.Prelude.{ℕ, List};
 ghost use Rattle.job_types.specs.Job.{JobView};
-ghost use Rattle.product_run.specs.RunLaws.{IsShort, MovesWhatItOwns, StandsByGrants, HasGotLast, GrantsFit, OwnsItsGrant, SwitchesWhatItHolds, RunsAreSound, RunsInOrderAreWhole};
+ghost use Rattle.product_run.specs.RunLaws.{IsShort, MovesWhatItOwns, StandsByGrants, HasGotLast, GrantsFit, OwnsItsGrant, SwitchesWhatItHolds, HasFewEntries, RunsAreSound, RunsAreWhole, RunsInOrderAreMaximal};
 ghost use Rattle.sync_types.specs.Views.{StartView, RunView};
 ghost use Rattle.sync_types.specs.declared.Grant.{Grant};
 
@@ -33,14 +33,21 @@ pub fn grants_fit_their_channels()
     ensures { (job : JobView) (cs : List ℕ) (c : ℕ) (grant : Grant) → GrantsFit job cs c grant }
 {}
 
-/// A law: from a sound start a run in order is a whole run, with items for each of its entries.
-pub fn runs_in_order_are_whole()
-    ensures { (job : JobView) (start : StartView) (run : RunView) → RunsInOrderAreWhole job start run }
+/// A law: the run in order is one of the runs after which no channel runs, however the channels of the job take turns.
+pub fn runs_in_order_are_maximal()
+    ensures { (job : JobView) (start : StartView) (run : RunView) → RunsInOrderAreMaximal job start run }
 {}
 
-/// A law: in the run in order of an accepted job each motion is sound and has axes that there are, all channels together do
+/// A law: from a sound start each run after which no channel runs is a whole run, with items for each of its entries, and a
+/// job's run has at most 800,008 of these.
+pub fn runs_are_whole()
+    ensures whole { (job : JobView) (start : StartView) (run : RunView) → RunsAreWhole job start run }
+    ensures few { (job : JobView) (run : RunView) → HasFewEntries job run }
+{}
+
+/// A law: in each run of an accepted job after which no channel runs each motion is sound and has axes that there are, all channels together do
 /// at most 800,000 things, one for each block that they may execute, and each alarm that stops a channel is in the table of
 /// alarms.
-pub fn runs_in_order_are_sound()
+pub fn runs_are_sound()
     ensures { (job : JobView) (run : RunView) → RunsAreSound job run }
 {}

@@ -4,13 +4,11 @@ ghost use Rattle.channel_machine.specs.StartStates.{start_of};
 ghost use Rattle.job_lines.specs.declared.limits.TheConstants.{PROGRAM_LIMIT};
 ghost use Rattle.job_types.specs.SoundJob.{BlocksFit, IsSoundJob};
 ghost use Rattle.product_run.specs.RunLaws.{step_limit};
-ghost use Rattle.product_run.specs.Scripts.{IsRunInOrder};
+ghost use Rattle.channel_machine.specs.Scripts.{IsRunInOrder};
 ghost use Rattle.sync_types.specs.Starts.{IsSound};
 
-use crate::ends::ends_of;
-use crate::locals::{next_segment, no_locals};
-use channel_machine::{Segment, start_state};
-use coord_core::Board;
+use channel_machine::{Segment, next_segment, no_locals, start_state};
+use coord_core::{Board, ends_of};
 use job_types::Job;
 use nc_faults::NoMemory;
 use std::alloc::Global;

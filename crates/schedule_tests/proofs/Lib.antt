@@ -1,3 +1,2 @@
-mod ChannelEnds
 mod Meeting
 mod QuietSteps

@@ -9,8 +9,6 @@ ghost use Rattle.sync_types.specs.Starts.{IsSound};
 #[cfg(test)]
 mod all_runs;
 #[cfg(test)]
-mod ends;
-#[cfg(test)]
 mod happenings;
 #[cfg(test)]
 mod replays;

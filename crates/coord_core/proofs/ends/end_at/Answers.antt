@@ -1,8 +1,8 @@
 use Rattle.std.proofs.Common.{ap, sym, ◌∙◌}
 use Rattle.coord_core.specs.Boards.{replayed}
-use Rattle.schedule_tests.proofs.ChannelEnds.{end_missing, end_there, end_told, same_channel}
-use Rattle.schedule_tests.proofs.ends.end_at.Goals as goal
-use Rattle.schedule_tests.specs.Ends.{end_by}
+use Rattle.coord_core.proofs.ChannelEnds.{end_missing, end_there, end_told, same_channel}
+use Rattle.coord_core.proofs.ends.end_at.Goals as goal
+use Rattle.coord_core.specs.Ends.{end_by}
 
 pub returns-then-has_channel : goal.returns-then-has_channel
 returns-then-has_channel c =

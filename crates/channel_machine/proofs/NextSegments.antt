@@ -5,9 +5,9 @@ use Rattle.channel_machine.specs.Run.{Channel, SurroundingsView, SegmentView, ch
 use Rattle.channel_machine.proofs.Segments.{setting_kept}
 use Rattle.job_types.specs.Job.{JobView}
 use Rattle.sync_types.specs.declared.Grant.{Grant}
-use Rattle.product_run.proofs.Measures.{grants-push}
-use Rattle.product_run.specs.Kept.{IsKeptOf, IsSegmentOf}
-use Rattle.product_run.specs.Scripts.{segment_after}
+use Rattle.channel_machine.proofs.Pushes.{grants-push}
+use Rattle.channel_machine.specs.Locals.{IsKeptOf, IsSegmentOf}
+use Rattle.channel_machine.specs.Scripts.{segment_after}
 
 -- the first
 pub first_segment : (job : JobView) (c : ℕ) (grant : Grant) → segment_after job c (grant ∷ []) ≡ segment_of (surroundings_of job c grant) (channel_at_start (surroundings_of job c grant))

@@ -1,5 +1,5 @@
-use Rattle.product_run.proofs.Segments.{first_told, next_told}
-use Rattle.product_run.proofs.locals.next_segment.Goals as goal
+use Rattle.channel_machine.proofs.NextSegments.{first_told, next_told}
+use Rattle.channel_machine.proofs.locals.next_segment.Goals as goal
 
 pub returns-in-Some-clause-told : goal.returns-in-Some-clause-told
 returns-in-Some-clause-told c =

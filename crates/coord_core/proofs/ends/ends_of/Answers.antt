@@ -3,9 +3,9 @@ use Rattle.std.specs.List.{range_with_len}
 use Rattle.std.specs.Option.{option_to_list}
 use Rattle.axis_sets.specs.declared.limits.TheConstants.{CHANNEL_PLACES}
 use Rattle.coord_core.specs.Boards.{replayed}
-use Rattle.product_run.proofs.ChannelEnds.{ends_more}
-use Rattle.product_run.proofs.ends.ends_of.Goals as goal
-use Rattle.product_run.specs.Ends.{end_at}
+use Rattle.coord_core.proofs.ChannelEnds.{ends_more}
+use Rattle.coord_core.proofs.ends.ends_of.Goals as goal
+use Rattle.coord_core.specs.Ends.{end_at}
 use Rattle.sync_types.specs.BoardEnds.{ends_among}
 use Rattle.sync_types.specs.declared.ChannelEnd.{ChannelEnd}
 

@@ -1,27 +1,27 @@
-//! How each channel of a run has stopped.
+//! How each channel of a board has stopped.
 ghost use Rattle.std.specs.Prelude.{◌≡◌, ◌<◌, ◌++◌, ◌+◌, ◌≤◌};
 ghost use Rattle.std.specs.Option.{option_to_list};
 ghost use Rattle.arrayvec.specs.ArrayVec.{array_vec_len};
 ghost use Rattle.axis_sets.specs.declared.limits.TheConstants.{CHANNEL_LIMIT};
 ghost use Rattle.coord_core.specs.Boards.{replayed};
-ghost use Rattle.product_run.specs.Ends.{end_by, end_at};
+ghost use Rattle.coord_core.specs.Ends.{end_by, end_at};
 ghost use Rattle.sync_types.specs.BoardEnds.{ends_of};
 ghost use Rattle.sync_types.specs.Starts.{has_channel};
 
+use crate::{Board, ChannelState};
 use arrayvec::ArrayVec;
 use axis_sets::{CHANNEL_LIMIT, CHANNEL_PLACES, ChannelId};
-use coord_core::{Board, ChannelState};
 use sync_types::{ChannelEnd, StartState};
 
-/// Whether the job has the channel.
+/// Whether the start has the channel.
 fn has_channel(start: &StartState, channel: ChannelId) -> bool
     ensures { result ≡ has_channel start.now channel }
 {
     start.channels.iter().any(|line| line.0 == channel)
 }
 
-/// How a channel has stopped; none where it runs.
-fn end_by(state: ChannelState) -> Option<ChannelEnd>
+/// How a channel has stopped that does this; none where it runs.
+pub fn end_by(state: ChannelState) -> Option<ChannelEnd>
     ensures { result ≡ end_by state }
 {
     match state {
@@ -33,7 +33,7 @@ fn end_by(state: ChannelState) -> Option<ChannelEnd>
     }
 }
 
-/// How a channel has stopped; none where it runs, or the job has not this channel.
+/// How a channel has stopped; none where it runs, or the start has not this channel.
 fn end_at(board: &Board, start: &StartState, channel: ChannelId) -> Option<ChannelEnd>
     requires { board.now.start ≡ start.now }
     ensures { result ≡ end_at (replayed board.now) channel }
@@ -56,8 +56,8 @@ fn push_some(ends: &mut ArrayVec<ChannelEnd, CHANNEL_LIMIT>, end: Option<Channel
     }
 }
 
-/// How each channel of the job has stopped, the lowest first.
-pub(crate) fn ends_of(board: &Board, start: &StartState) -> ArrayVec<ChannelEnd, CHANNEL_LIMIT>
+/// How each channel of a board has stopped, the lowest first. One that runs has not stopped and is left out.
+pub fn ends_of(board: &Board, start: &StartState) -> ArrayVec<ChannelEnd, CHANNEL_LIMIT>
     requires { board.now.start ≡ start.now }
     ensures { result.items ≡ ends_of (replayed board.now) }
 {

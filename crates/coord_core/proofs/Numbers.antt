@@ -15,6 +15,7 @@ use Rattle.sync_types.specs.Views.{StartView, EntryView}
 use Rattle.sync_types.specs.declared.Action.{Action}
 use Rattle.sync_types.specs.declared.Action.TheVariants.{Start}
 use Rattle.sync_types.specs.declared.Step.{Step}
+use Rattle.coord_core.proofs.Entering.{step_start}
 use Rattle.coord_core.proofs.Staying.{no_alarm}
 
 -- a channel of the machine has one of the eight numbers
@@ -56,26 +57,10 @@ first_listed p (y ∷ ys) x e = elim (cases_Bool (p y)) [
 pub lowest_numbered : (b : Board) (c : ℕ) → lowest_running b ≡ Some c → among channel_numbers c ≡ true
 lowest_numbered b c lowest = first_listed (λ d. is_running (b.state d)) channel_numbers c lowest
 
--- ---- a step keeps the start
-
-start_of_part : (b : Board) (c : ℕ) (step : Step) (alarm : Option ℕ) → (after_part b c step alarm).start ≡ b.start
-start_of_part b c step (Some code) = refl
-start_of_part b c step None = refl
-
-start_of_takings : (n : ℕ) (b : Board) → (takings n b).board.start ≡ b.start
-start_of_takings zero b = refl
-start_of_takings (suc n) b = next (start_of_takings n) (next_taker b)
-  where
-    next : ((a : Board) → (takings n a).board.start ≡ a.start) → (taker : Option ℕ) → (takings_from (takings n) b taker).board.start ≡ b.start
-    next rest None = refl
-    next rest (Some c) = rest (after_taking b c)
-
-pub start_of_step : (b : Board) (c : ℕ) (step : Step) → (after_step b c step).start ≡ b.start
-start_of_step b c step = start_of_takings 8 (after_goes (after_own_part b c step)) ∙ start_of_part b c step (alarm_of b c step.action)
-
+-- the start of a board stays
 pub start_of_entries : (b : Board) (es : List EntryView) → (after_entries b es).start ≡ b.start
 start_of_entries b [] = refl
-start_of_entries b (e ∷ es) = start_of_entries (after_step b e.channel e.step) es ∙ start_of_step b e.channel e.step
+start_of_entries b (e ∷ es) = start_of_entries (after_step b e.channel e.step) es ∙ step_start b e.channel e.step
 
 -- ---- and who is idle for good
 

@@ -9,8 +9,8 @@ use Rattle.sync_types.specs.Boards.{State, IsIdle, IsRunning, IsHolding, HasEnde
 use Rattle.sync_types.specs.Starts.{has_channel}
 use Rattle.sync_types.specs.Views.{StartView}
 use Rattle.sync_types.specs.declared.ChannelEnd.{ChannelEnd}
-use Rattle.product_run.proofs.Numbers.{start_of_entries}
-use Rattle.product_run.specs.Ends.{end_at, end_by}
+use Rattle.coord_core.proofs.Numbers.{start_of_entries}
+use Rattle.coord_core.specs.Ends.{end_at, end_by}
 
 pub end_told : (s : State) → end_by (channel_state s) ≡ end_of s
 end_told IsIdle = refl

@@ -4,7 +4,7 @@ use Rattle.arrayvec.specs.ArrayVec.{array_vec_len}
 use Rattle.axis_sets.specs.declared.limits.TheConstants.{CHANNEL_PLACES}
 use Rattle.coord_core.specs.Boards.{replayed}
 use Rattle.sync_types.specs.BoardEnds.{ends_among, ends_of}
-use Rattle.product_run.proofs.ends.ends_of.Given as goal
+use Rattle.coord_core.proofs.ends.ends_of.Given as goal
 
 abbrev pub invariant-loop-number : goal.invariant-loop-number
 invariant-loop-number l =

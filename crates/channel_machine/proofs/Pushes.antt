@@ -1,11 +1,13 @@
--- One step more of a run.
-use Rattle.std.proofs.Common.{◌≡◌, ℕ, List, [], ◌∷◌, ◌++◌, map, Some, None, refl, ap}
-use Rattle.sync_types.specs.Boards.{Board}
-use Rattle.sync_types.specs.Runs.{Script, Stage, IsSequential, after_turn, lowest_running, moves_of, next_move, stage_after}
+-- One step more of a run, and one grant more of a channel.
+use Rattle.std.proofs.Common.{◌≡◌, ℕ, List, [], ◌∷◌, ◌++◌, true, fold, map, Some, None, refl, ap}
+use Rattle.sync_types.specs.Boards.{Board, is_running}
+use Rattle.sync_types.specs.Runs.{Script, Stage, IsRun, IsSequential, after_turn, lowest_running, moves_of, next_move, stage_after}
 use Rattle.sync_types.specs.Turns.{Move, after_entries, after_moves, after_step, entries_of, entry_of}
 use Rattle.sync_types.specs.Views.{EntryView}
+use Rattle.channel_machine.specs.Run.{SurroundingsView, Channel}
 use Rattle.job_types.specs.Job.{JobView}
-use Rattle.product_run.specs.Scripts.{script_of, segment_after, items_of}
+use Rattle.sync_types.specs.declared.Grant.{Grant}
+use Rattle.channel_machine.specs.Scripts.{channel_after_segment, script_of, segment_after, items_of}
 
 pub stage-push : (script : Script) (stage : Stage) (cs : List ℕ) (c : ℕ) → stage_after script stage (cs ++ c ∷ []) ≡ after_turn script (stage_after script stage cs) c
 stage-push script stage [] c = refl
@@ -29,6 +31,10 @@ pub channels-push : (es : List EntryView) (e : EntryView) → map (λ (e : Entry
 channels-push [] e = refl
 channels-push (x ∷ es) e = ap (λ cs. x.channel ∷ cs) (channels-push es e)
 
+pub run-push : (script : Script) (stage : Stage) (cs : List ℕ) (c : ℕ) → IsRun script stage cs → is_running ((stage_after script stage cs).board.state c) ≡ true → IsRun script stage (cs ++ c ∷ [])
+run-push script stage [] c run runs = (runs, tt)
+run-push script stage (d ∷ cs) c run runs = (run.0, run-push script (after_turn script stage d) cs c run.1 runs)
+
 -- the replay of the entries of steps leaves the board of the steps, and that is the board of the run
 pub after_its_entries : (b : Board) (ms : List Move) → after_entries b (entries_of b ms) ≡ after_moves b ms
 after_its_entries b [] = refl
@@ -51,3 +57,9 @@ order-push script stage (d ∷ cs) c run lowest = (run.0, order-push script (aft
 pub order_over : (script : Script) (stage : Stage) (cs : List ℕ) → IsInOrder script stage cs → lowest_running (stage_after script stage cs).board ≡ None → IsSequential script stage cs
 order_over script stage [] run none = none
 order_over script stage (c ∷ cs) run none = (run.0, order_over script (after_turn script stage c) cs run.1 none)
+
+-- the channel that goes on with one grant more
+pub grants-push : (s : SurroundingsView) (c : Channel) (grants : List Grant) (grant : Grant)
+    → fold (channel_after_segment s) c (grants ++ grant ∷ []) ≡ channel_after_segment s (fold (channel_after_segment s) c grants) grant
+grants-push s c [] grant = refl
+grants-push s c (g ∷ grants) grant = grants-push s (channel_after_segment s c g) grants grant

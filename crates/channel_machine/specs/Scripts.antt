@@ -4,7 +4,7 @@ use Rattle.channel_machine.specs.Run.{SurroundingsView, Channel, SegmentView, ch
 use Rattle.job_types.specs.Job.{JobView}
 use Rattle.sync_types.specs.BoardEnds.{ends_of}
 use Rattle.sync_types.specs.Boards.{first_board, no_positions}
-use Rattle.sync_types.specs.Runs.{Script, Stage, IsSequential, after_turn, first_stage, moves_of, stage_after}
+use Rattle.sync_types.specs.Runs.{Script, Stage, IsMaximal, IsSequential, after_turn, first_stage, moves_of, stage_after}
 use Rattle.sync_types.specs.Turns.{entries_of}
 use Rattle.sync_types.specs.Views.{StartView, RunView}
 use Rattle.sync_types.specs.declared.Action.TheVariants.{End}
@@ -53,4 +53,10 @@ run_of job start cs = record {
 pub record IsRunInOrder (job : JobView) (start : StartView) (run : RunView) : Type 0 where
   pub channels : List ℕ
   pub sequential : IsSequential (script_of job) (first_stage start) channels
+  pub all : run ≡ run_of job start channels
+
+-- a run of a job after which no channel runs: its channels make their segments and their steps in any order
+pub record IsMaximalRunOf (job : JobView) (start : StartView) (run : RunView) : Type 0 where
+  pub channels : List ℕ
+  pub maximal : IsMaximal (script_of job) (first_stage start) channels
   pub all : run ≡ run_of job start channels

@@ -1,6 +1,6 @@
 use Rattle.std.proofs.Common.{◌≡◌, ℕ, zero, suc, List, [], ◌∷◌, ◌++◌, length, get_or, Option, None, refl, ap, arith}
 use Rattle.std.proofs.lemmas.List.{length_push}
-use Rattle.product_run.proofs.locals.no_locals.Goals as goal
+use Rattle.channel_machine.proofs.locals.no_locals.Goals as goal
 
 none_more : {A : Type 0} (xs : List (Option A)) (c : ℕ) → ((d : ℕ) → get_or xs d None ≡ None) → get_or (xs ++ None ∷ []) c None ≡ None
 none_more [] zero none = refl

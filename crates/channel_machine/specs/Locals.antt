@@ -6,7 +6,7 @@ use Rattle.channel_machine.specs.Levels.{LevelsFit}
 use Rattle.channel_machine.specs.Run.{surroundings_of}
 use Rattle.channel_machine.specs.declared.limits.TheConstants.{BLOCK_LIMIT}
 use Rattle.job_types.specs.Job.{JobView}
-use Rattle.product_run.specs.Scripts.{segment_after}
+use Rattle.channel_machine.specs.Scripts.{segment_after}
 use Rattle.sync_types.specs.declared.Grant.{Grant}
 
 -- of a channel of the job, that can go on

@@ -2,21 +2,22 @@
 ghost use Rattle.std.specs.Prelude.{◌≡◌, ◌≤◌, ◌++◌, ◌∷◌, [], List, length, IfOk, IfSome};
 ghost use Rattle.job_lines.specs.declared.limits.TheConstants.{PROGRAM_LIMIT};
 ghost use Rattle.job_types.specs.SoundJob.{BlocksFit};
-ghost use Rattle.product_run.specs.Kept.{IsReady, IsKeptOf, IsSegmentOf, IsNothingKept};
+ghost use Rattle.channel_machine.specs.Locals.{IsReady, IsKeptOf, IsSegmentOf, IsNothingKept};
 ghost use Rattle.sync_types.specs.declared.Grant.{Grant};
 
+use crate::local::Local;
+use crate::run::{Segment, run_on, run_segment};
 use axis_sets::{CHANNEL_PLACES, ChannelId};
-use channel_machine::{Local, Segment, run_on, run_segment};
 use job_types::Job;
 use nc_faults::NoMemory;
 use std::alloc::{AllocError, Global};
 use sync_types::Grant;
 
 /// What is kept of each channel, by its number.
-pub(crate) type Locals = Vec<Option<Local>>;
+pub type Locals = Vec<Option<Local>>;
 
 /// Nothing of any channel.
-pub(crate) fn no_locals(alloc: Global) -> Result<Locals, AllocError>
+pub fn no_locals(alloc: Global) -> Result<Locals, AllocError>
     ensures { IfOk result (λ locals. IsNothingKept locals.items) }
 {
     let mut locals = Vec::new(alloc);
@@ -26,8 +27,8 @@ pub(crate) fn no_locals(alloc: Global) -> Result<Locals, AllocError>
     Ok(locals)
 }
 
-/// The segment of a channel that goes on with a grant: its first, where nothing is kept of it.
-pub(crate) fn next_segment(
+/// The segment of a channel that goes on with a grant: its first, where nothing is kept of it. The only error is want of memory.
+pub fn next_segment(
     alloc: Global,
     job: &Job,
     channel: ChannelId,
