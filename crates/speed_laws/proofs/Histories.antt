@@ -96,7 +96,7 @@ module _ (doings : Doings) (stage : Stage) (p i : ℕ) (rows : List (List Item))
     ahead : Ahead (stage.board.state c) (added c ++ more) at_last
 
   act_is : telling_of rows (act_of i step (happening_of stage.board p step)) ≡ act_telling doings p (stage.grants p)
-  act_is = ap (λ (items : List Item). let t : Telling = record { goes = false; at = step.at; on = step.on; items = items } in t) mine
+  act_is = ap (λ (items : List Item). let t : Telling = record { goes = false; line = Some step.line; at = step.at; on = step.on; items = items } in t) mine
 
   -- the acting channel
   actor : (more : List Grant) (at_last : Bool) → Ahead (state_after p) more at_last → StepTold p more at_last

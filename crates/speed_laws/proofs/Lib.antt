@@ -30,3 +30,10 @@ pub mod OwnersHaveLines
 pub mod PresentBoxes
 pub mod AllSpeeds
 pub mod KnownZones
+pub mod AlikeStates
+pub mod AlikeKinds
+pub mod AlikeNames
+pub mod AlikeEvents
+pub mod AlikeSpans
+pub mod AlikeTenures
+pub mod AlikeRuns

@@ -24,13 +24,13 @@ use Rattle.sync_types.specs.Views.{StartView}
 -- ---- on boards
 
 -- who runs is a channel of the machine
-runs_known : (b : Board) (c : ℕ) → Keeps b → is_running (b.state c) ≡ true → has_channel b.start c ≡ true
+pub runs_known : (b : Board) (c : ℕ) → Keeps b → is_running (b.state c) ≡ true → has_channel b.start c ≡ true
 runs_known b c k runs = elim (cases_Bool (has_channel b.start c)) [
   | inl on ↦ on
   | inr off ↦ no_truth (is_running (b.state c)) runs (ap is_running (k.asleep c off))
 ]
 
-keeps_run : (script : Script) (stage : Stage) (cs : List ℕ) → Keeps stage.board → IsRun script stage cs → KeepsFrom stage.board (stage_after script stage cs).board
+pub keeps_run : (script : Script) (stage : Stage) (cs : List ℕ) → Keeps stage.board → IsRun script stage cs → KeepsFrom stage.board (stage_after script stage cs).board
 keeps_run script stage [] k run = (k, refl)
 keeps_run script stage (c ∷ cs) k run =
     let m : Move = next_move script stage c in

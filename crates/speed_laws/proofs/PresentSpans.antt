@@ -107,7 +107,7 @@ cancel [] ys zs e = e
 cancel (x ∷ xs) ys zs e = let rest : xs ++ ys ≡ xs ++ zs = cc in cancel xs ys zs rest
 
 -- nobody runs
-none_runs : (test : ℕ → Bool) (cs : List ℕ) (c : ℕ) → not (list_any test cs) ≡ true → among cs c ≡ true → test c ≡ false
+pub none_runs : (test : ℕ → Bool) (cs : List ℕ) (c : ℕ) → not (list_any test cs) ≡ true → among cs c ≡ true → test c ≡ false
 none_runs test [] c over there = absurd cc
 none_runs test (d ∷ cs) c over there = by_test (test d) refl over (d == c) refl there (none_runs test cs c)
   where

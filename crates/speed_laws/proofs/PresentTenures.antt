@@ -71,7 +71,7 @@ going_takes b p step zone x zs running for carries g within on =
     (t.took x ∙ rw (asked, free) refl, t.listed)
 
 -- along a run
-run_takes : (ms : List Move) (b : Board) (zone : ZoneLine) (i x : ℕ) (carries : has_axis zone x ≡ true) → Zones b → IsFor zone b → AreOfRunning b ms → All (TakesAll zone x carries) (occurrences_from b i ms)
+pub run_takes : (ms : List Move) (b : Board) (zone : ZoneLine) (i x : ℕ) (carries : has_axis zone x ≡ true) → Zones b → IsFor zone b → AreOfRunning b ms → All (TakesAll zone x carries) (occurrences_from b i ms)
 run_takes [] b zone i x carries zs for run = All-nil (TakesAll zone x carries)
 run_takes (m ∷ ms) b zone i x carries zs for run =
     All-append (TakesAll zone x carries) (occurrences_in i m.step (happening_of b m.channel m.step)) (occurrences_from (after_step b m.channel m.step) (suc i) ms)
@@ -117,7 +117,7 @@ no_change zone bare o = rw (off o.frees, off o.takes) refl
       | inl on ↦ let w = carry_from zone test on in no_truth (carry zone (λ axis. true)) (carry_to zone (λ axis. true) w.0 w.1 refl) bare
     ]
 
-one_tenure : (zone : ZoneLine) → carry zone (λ axis. true) ≡ false → (os : List Occurrence) (counts : ℕ → ℕ) (t : Tenure) → tenures_from zone counts t os ≡ t ∷ []
+pub one_tenure : (zone : ZoneLine) → carry zone (λ axis. true) ≡ false → (os : List Occurrence) (counts : ℕ → ℕ) (t : Tenure) → tenures_from zone counts t os ≡ t ∷ []
 one_tenure zone bare [] counts t = refl
 one_tenure zone bare (o ∷ os) counts t = rw (no_change zone bare o) (one_tenure zone bare os _ t)
 

@@ -88,7 +88,7 @@ module _ (b : Board) (p : ℕ) (step : Step) (zs : Zones b) (running : is_runnin
       by_alarm (Some code) e on = absurd cc
       by_alarm None e on = (started_idle b step.action c (no_alarm b p step.action e).1 on, e)
 
-  started_other : (c : ℕ) → among starts c ≡ true → (c == p) ≡ false
+  pub started_other : (c : ℕ) → among starts c ≡ true → (c == p) ≡ false
   started_other c on = elim (cases_Bool (c == p)) [
     | inl same ↦ no_truth (is_idle (b.state c)) (started_was c on).0 (ap (λ (d : ℕ). is_idle (b.state d)) (eqb-true c p same) ∙ (running_parts (b.state p) running).0)
     | inr other ↦ other

@@ -70,7 +70,7 @@ module _ (zone : ZoneLine) (x : ℕ) (carries : has_axis zone x ≡ true) where
     Takes : o.frees x ≡ false → o.takes x ≡ true → changes_hands zone o ≡ true → carry zone o.takes ≡ true → owner ≡ None → among channel_numbers o.channel ≡ true → Change owner o
     Neither : o.frees x ≡ false → o.takes x ≡ false → changes_hands zone o ≡ false → Change owner o
 
-  change_of : (owner : Option ℕ) (o : Occurrence) (os : List Occurrence) → HandsAre zone owner (o ∷ os) → TakesAll o → Change owner o
+  pub change_of : (owner : Option ℕ) (o : Occurrence) (os : List Occurrence) → HandsAre zone owner (o ∷ os) → TakesAll o → Change owner o
   change_of owner o os are all = elim (cases_Bool (carry zone o.frees)) [
     | inl frees ↦
         let takes : carry zone o.takes ≡ false = elim (cases_Bool (carry zone o.takes)) [
@@ -90,29 +90,29 @@ module _ (zone : ZoneLine) (x : ℕ) (carries : has_axis zone x ≡ true) where
       not_taken : carry zone o.takes ≡ false → o.takes x ≡ false
       not_taken off = elim (cases_Bool (o.takes x)) [ inl on ↦ no_truth (carry zone o.takes) (carry_to zone o.takes x carries on) off | inr out ↦ out ]
 
-  hand_frees : (counts : ℕ → ℕ) (o : Occurrence) (ts : List machine.Tenure) → o.frees x ≡ true → hand x counts o ts ≡ handed None (counts o.channel) (next_place counts o) ts
+  pub hand_frees : (counts : ℕ → ℕ) (o : Occurrence) (ts : List machine.Tenure) → o.frees x ≡ true → hand x counts o ts ≡ handed None (counts o.channel) (next_place counts o) ts
   hand_frees counts o ts on = rw on refl
 
-  hand_takes : (counts : ℕ → ℕ) (o : Occurrence) (ts : List machine.Tenure) → o.frees x ≡ false → o.takes x ≡ true → hand x counts o ts ≡ handed (Some o.channel) 0 (next_place counts o) ts
+  pub hand_takes : (counts : ℕ → ℕ) (o : Occurrence) (ts : List machine.Tenure) → o.frees x ≡ false → o.takes x ≡ true → hand x counts o ts ≡ handed (Some o.channel) 0 (next_place counts o) ts
   hand_takes counts o ts off on = rw (off, on) refl
 
-  hand_neither : (counts : ℕ → ℕ) (o : Occurrence) (ts : List machine.Tenure) → o.frees x ≡ false → o.takes x ≡ false → hand x counts o ts ≡ ts
+  pub hand_neither : (counts : ℕ → ℕ) (o : Occurrence) (ts : List machine.Tenure) → o.frees x ≡ false → o.takes x ≡ false → hand x counts o ts ≡ ts
   hand_neither counts o ts off out = rw (off, out) refl
 
   -- ---- each tenure of the axis is one of the zone
 
   -- the events that are left have the next places
-  abbrev AreLeft : List Occurrence → (ℕ → ℕ) → List Occurrence → Type 0
+  abbrev pub AreLeft : List Occurrence → (ℕ → ℕ) → List Occurrence → Type 0
   AreLeft all counts os = (c k : ℕ) → slice_get (filter (λ p. p.channel == c) all) (counts c + k) ≡ slice_get (filter (λ p. p.channel == c) os) k
 
-  left_here : (all : List Occurrence) (counts : ℕ → ℕ) (o : Occurrence) (os : List Occurrence) → AreLeft all counts (o ∷ os) → At all (next_place counts o) o
+  pub left_here : (all : List Occurrence) (counts : ℕ → ℕ) (o : Occurrence) (os : List Occurrence) → AreLeft all counts (o ∷ os) → At all (next_place counts o) o
   left_here all counts o os left =
       let same : suc (counts o.channel) - 1 ≡ counts o.channel + 0 = omega arith in
       ap (λ (n : ℕ). slice_get (filter (λ p. p.channel == o.channel) all) n) same
       ∙ left o.channel 0
       ∙ ap (λ (t : Bool). slice_get (cond t (o ∷ filter (λ p. p.channel == o.channel) os) (filter (λ p. p.channel == o.channel) os)) 0) (eq-eqb o.channel o.channel refl)
 
-  left_later : (all : List Occurrence) (counts : ℕ → ℕ) (o : Occurrence) (os : List Occurrence) → AreLeft all counts (o ∷ os) → AreLeft all (counted counts o.channel) os
+  pub left_later : (all : List Occurrence) (counts : ℕ → ℕ) (o : Occurrence) (os : List Occurrence) → AreLeft all counts (o ∷ os) → AreLeft all (counted counts o.channel) os
   left_later all counts o os left c k = elim (cases_eq c o.channel) [
     | inl same ↦
         let more : counted counts o.channel c ≡ suc (counts c) = rw (eq-eqb c o.channel same) refl in

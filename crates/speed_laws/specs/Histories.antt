@@ -1,6 +1,6 @@
 -- Meaning. The history of a channel: what its events tell, one after another. It depends on the grants that the channel gets, and
 -- on nothing else that others do.
-use Rattle.std.specs.Prelude.{◌≡◌, ℕ, ℤ, ◌==◌, Bool, true, false, if◌then◌else◌, List, [], ◌∷◌, ◌++◌, filter, map, slice_index_or, Option, is_some}
+use Rattle.std.specs.Prelude.{◌≡◌, ℕ, ℤ, ◌==◌, Bool, true, false, if◌then◌else◌, List, [], ◌∷◌, ◌++◌, filter, map, slice_index_or, Option, None, Some, is_some}
 use Rattle.channel_machine.specs.StartStates.{start_of}
 use Rattle.job_types.specs.Job.{JobView}
 use Rattle.order_clocks.specs.Clocked.{moves_in}
@@ -16,28 +16,31 @@ use Rattle.sync_types.specs.declared.Grant.{Grant}
 use Rattle.sync_types.specs.declared.Item.{Item}
 use Rattle.sync_types.specs.declared.Step.{Step}
 
--- what an event tells: whether the channel goes on in it, where axes stand, which zones are on, and, of an act, the items before it
+-- what an event tells: whether the channel goes on in it, the line of the block where it acts, where axes stand, which zones are on,
+-- and, of an act, the items before it
 pub record Telling : Type 0 where
   pub goes : Bool
+  pub line : Option ℕ
   pub at : List (Option ℤ)
   pub on : List Bool
   pub items : List Item
 
 -- by the items of each step
 abbrev pub telling_of : List (List Item) → Occurrence → Telling
-telling_of rows o = record { goes = o.name.go; at = o.at; on = o.on; items = if o.name.go then [] else slice_index_or rows o.name.step [] }
+telling_of rows o = record { goes = o.name.go; line = o.line; at = o.at; on = o.on; items = if o.name.go then [] else slice_index_or rows o.name.step [] }
 
 -- by the channel's grants
 abbrev pub act_telling : Doings → ℕ → List Grant → Telling
 act_telling doings c grants = record {
   goes = false;
+  line = Some (doings.script c grants).line;
   at = (doings.script c grants).at;
   on = (doings.script c grants).on;
   items = doings.items c grants;
 }
 
 abbrev pub going_telling : Grant → Telling
-going_telling grant = record { goes = true; at = grant.at; on = grant.on; items = [] }
+going_telling grant = record { goes = true; line = None; at = grant.at; on = grant.on; items = [] }
 
 -- the action of the step has something to wait for
 abbrev pub waits_at : ℕ → Step → Bool

@@ -7,3 +7,4 @@ pub mod Safety
 pub mod Histories
 pub mod Cuts
 pub mod ZoneTimes
+pub mod AlikeRuns

@@ -1,5 +1,5 @@
-//! Laws of all speeds: what a verdict on the run in order says of every state that the channels of a job pass through. It
-//! runs no code.
+//! Laws of all speeds: what a verdict on the run in order says of every state that the channels of a job pass through, and
+//! that any other maximal run would do. It runs no code.
 #![tactic(auto)]
 
 ghost use Rattle.std.specs.Prelude.{◌≡◌, ℕ, List, None, find};
@@ -12,6 +12,7 @@ ghost use Rattle.protection_zones.specs.Overlaps.{Order, compared_pairs};
 ghost use Rattle.protection_zones.specs.Pieces.{pair_meets};
 ghost use Rattle.protection_zones.specs.Stretches.{all_stretches};
 ghost use Rattle.schedule_laws.specs.Schedules.{IsQuietRun};
+ghost use Rattle.speed_laws.specs.AlikeRuns.{QuietRunsHaveAlikeZoneTimes};
 ghost use Rattle.speed_laws.specs.Cuts.{RunsAreCuts, ZonesHavePresentStretches};
 ghost use Rattle.speed_laws.specs.DoingLaws.{AreSound, TellTheBoard};
 ghost use Rattle.speed_laws.specs.Doings.{Doings};
@@ -70,4 +71,11 @@ pub fn runs_are_cuts()
 /// stretch has begun, is not over, and is of the channel that holds the zone then, or of none where nobody holds it.
 pub fn zones_have_present_stretches()
     ensures { (job : JobView) (doings : Doings) (speaking made : List ℕ) (zone : ZoneLine) → ZonesHavePresentStretches job doings speaking made zone }
+{}
+
+/// A law: a run without a race of an accepted job and each other maximal run have the same times of zones: of each zone the same
+/// stretches with the same boxes and motions, one by one, and two of them may overlap in the one run where they may in the other.
+pub fn quiet_runs_have_the_same_zone_times()
+    ensures { (job : JobView) (doings : Doings) (quiet maximal : List ℕ) (run other : RunView) (before after : Order)
+        → QuietRunsHaveAlikeZoneTimes job doings quiet maximal run other before after }
 {}
