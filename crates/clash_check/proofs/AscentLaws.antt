@@ -1,11 +1,10 @@
 -- Stretches of a zone that ascend: those that may overlap a stretch of another zone stand side by side.
-use Rattle.std.proofs.Common.{◌≡◌, ◌∙◌, ℕ, zero, suc, ◌+◌, ◌-◌, ◌<◌, ◌≤◌, ◌&&◌, ◌||◌, not, Bool, true, false, cond, List, [], ◌∷◌, ◌++◌, drop, take, length, get_or, map, Option, None, Some, All, refl, sym, ap, subst, arith}
-use Rattle.std.specs.Prelude.{IfSome, ◌↔◌, ◌==◌, if◌then◌else◌}
-use Rattle.std.specs.List.{zip}
+use Rattle.std.proofs.Common.{◌≡◌, ◌∙◌, ℕ, zero, suc, ◌+◌, ◌<◌, ◌||◌, not, Bool, true, false, cond, List, [], ◌∷◌, ◌++◌, drop, take, length, get_or, Option, None, Some, All, refl, sym, ap, subst, arith}
+use Rattle.std.specs.Prelude.{IfSome, ◌==◌, if◌then◌else◌}
 use Rattle.std.proofs.lemmas.Bool.{and_parts, eqb-true}
 use Rattle.std.proofs.lemmas.List.Elements.{All-nil, All-cons, All-head, All-tail, All-weaker, All-get_or}
-use Rattle.clash_check.specs.Ascents.{leading, PassFirst, is_over, is_in_order, is_forward, is_over_at_first, do_ascend, passes, near, IsTimed}
-use Rattle.order_clocks.specs.Before.{Before, Follows}
+use Rattle.clash_check.specs.Ascents.{leading, PassFirst, is_over, is_in_order, is_forward, is_over_at_first, do_ascend, passes, IsTimed}
+use Rattle.order_clocks.specs.Before.{Follows}
 use Rattle.order_clocks.specs.Chains.{IsPath, Leads}
 use Rattle.order_clocks.specs.Clocked.{IsOrderOf}
 use Rattle.order_clocks.specs.Tells.{is_same_event}

@@ -1,13 +1,14 @@
 -- The boxes by which a box of a stretch is compared lie in its cover.
-use Rattle.std.proofs.Common.{◌≡◌, ◌∙◌, ℕ, suc, ℤ, ◌+◌, ◌-◌, ◌≤ℤ◌, Bool, true, false, cond, List, [], ◌∷◌, map, drop, get_or, slice_get, Option, None, Some, option_and_then, All, refl, sym, ap, subst, arith}
-use Rattle.std.proofs.lemmas.Int.{ints}
+use Rattle.std.proofs.Common.{◌≡◌, ◌∙◌, ℕ, suc, ℤ, ◌+◌, ◌-◌, Bool, true, false, cond, List, [], ◌∷◌, map, drop, get_or, slice_get, Option, None, Some, option_and_then, All, refl, sym, ap, subst, arith}
 use Rattle.std.proofs.lemmas.List.Elements.{All-nil, All-cons, All-map, All-weaker}
 use Rattle.std.specs.Prelude.{⊤}
 use Rattle.std.specs.List.{zip}
 use Rattle.std.specs.Option.{option_map}
+use Rattle.box_tree.proofs.HullLaws.{lies_in_itself}
+use Rattle.box_tree.specs.Hulls.{LiesIn}
 use Rattle.clash_check.proofs.Each.{Each, Each-weaker, Each-append, Each-map, Each-flat_map, Each-drop, Each-take}
 use Rattle.clash_check.proofs.FitLaws.{fit_items, holds_at}
-use Rattle.clash_check.proofs.PieceLaws.{LiesIn, piece_box_is, piece_lies}
+use Rattle.clash_check.proofs.PieceLaws.{piece_box_is, piece_lies}
 use Rattle.job_types.specs.Job.{JobView}
 use Rattle.job_types.specs.Zones.{zones_in_order}
 use Rattle.job_types.specs.declared.job.ZoneLine.{ZoneLine}
@@ -24,7 +25,6 @@ use Rattle.protection_zones.specs.ZoneBoxes.{IsFit, PlaceBox, Opened, Shut, Wait
 use Rattle.protection_zones.specs.declared.sights.Sight.{Sight}
 use Rattle.protection_zones.specs.declared.sights.Sight.TheVariants.{Nothing, Turns, Moves}
 use Rattle.swept_boxes.proofs.PieceLaws.{in_cover}
-use Rattle.swept_boxes.specs.Boxes.{low_of, high_of}
 use Rattle.swept_boxes.specs.Cover.{cover_of}
 use Rattle.swept_boxes.specs.Pieces.{pieces_at}
 use Rattle.swept_boxes.specs.Ranges.{LieIn}
@@ -117,12 +117,6 @@ IsInCover job run place = All (λ piece. LiesIn piece place.box.cover) (piece_bo
 -- so do those of each box of a stretch
 abbrev pub AreInCover : JobView → RunView → ZoneLine → StretchView → Type 0
 AreInCover job run zone stretch = Each (λ box. IsInCover job run (record { zone = zone; stretch = stretch; box = box })) stretch.boxes
-
-lies_in_itself : (box : Box3) → LiesIn box box
-lies_in_itself box = record { low = λ direction. at_least (low_of box direction); high = λ direction. at_least (high_of box direction) }
-  where
-    at_least : (a : ℤ) → a ≤ℤ a
-    at_least a = omega (arith, ints)
 
 only_itself : (box : Box3) → All (λ piece. LiesIn piece box) (box ∷ [])
 only_itself box = All-cons (λ piece. LiesIn piece box) box [] (lies_in_itself box) (All-nil (λ piece. LiesIn piece box))

@@ -1,8 +1,8 @@
 -- The first answer that a list gives.
-use Rattle.std.proofs.Common.{◌≡◌, ◌∙◌, ◌==◌, ◌<◌, ◌+◌, ℕ, zero, suc, drop, get_or, ◌&&◌, ◌||◌, Bool, true, false, cond, not, List, [], ◌∷◌, ◌++◌, map, filter, find, length, Option, None, Some, refl, sym, ap, arith}
+use Rattle.std.proofs.Common.{◌≡◌, ◌∙◌, ◌==◌, ◌<◌, ◌≤◌, ◌+◌, ℕ, zero, suc, drop, get_or, ◌&&◌, Bool, true, false, cond, not, List, [], ◌∷◌, ◌++◌, map, filter, find, length, Option, None, Some, refl, sym, ap, arith}
 use Rattle.std.proofs.lemmas.Bool.{ne_eqb}
 use Rattle.std.proofs.lemmas.List.Folds.{find-append}
-use Rattle.std.specs.List.{flat_map, list_any}
+use Rattle.std.specs.List.{flat_map}
 use Rattle.std.specs.Option.{option_map, option_or}
 use Rattle.clash_check.proofs.Each.{Each}
 use Rattle.clash_check.specs.FirstAnswer.{first_some}
@@ -74,17 +74,6 @@ first_some-filter f test (x ∷ xs) = by_test (test x) (first_some-filter f test
     by_test true rest = ap (λ r. option_or (f x) r) rest
     by_test false rest = rest
 
--- where an answer comes only of elements that pass a test, the list may be searched for one of these first
-pub guarded_first : {X Y : Type 0} (near : X → Bool) (f : X → Option Y) → ((x : X) → near x ≡ false → f x ≡ None) → (xs : List X)
-    → cond (list_any near xs) (first_some f xs) None ≡ first_some f xs
-guarded_first near f none [] = refl
-guarded_first near f none (x ∷ xs) = by_near (near x) refl (guarded_first near f none xs)
-  where
-    by_near : (b : Bool) → near x ≡ b → cond (list_any near xs) (first_some f xs) None ≡ first_some f xs
-        → cond (b || list_any near xs) (option_or (f x) (first_some f xs)) None ≡ option_or (f x) (first_some f xs)
-    by_near true is rest = refl
-    by_near false is rest = rw (none x is) rest
-
 -- where an empty list gives no answer, it may be looked at first
 pub unless_empty : {X Y : Type 0} (xs : List X) (r : Option Y) → (xs ≡ [] → r ≡ None) → cond (length xs == 0) None r ≡ r
 unless_empty [] r none = sym (none refl)
@@ -103,3 +92,17 @@ drop_one f (y ∷ ys) (suc i) x within is = drop_one f ys i x (omega arith) is
 pub first_some-drop_more : {X Y : Type 0} (f : X → Option Y) (xs : List X) (i : ℕ) (x : X) → i < length xs → x ≡ get_or xs i x → first_some f (drop i xs) ≡ option_or (f x) (first_some f (drop (i + 1) xs))
 first_some-drop_more f xs i x within is =
     let next : suc i ≡ i + 1 = omega arith in drop_one f xs i x within is ∙ ap (λ (k : ℕ). option_or (f x) (first_some f (drop k xs))) next
+
+-- elements that give no answer may be passed over
+pub first_some-past : {X Y : Type 0} (f : X → Option Y) (xs : List X) (from upto : ℕ) → from ≤ upto → ((k : ℕ) (d : X) → from ≤ k → k < upto → k < length xs → f (get_or xs k d) ≡ None)
+    → first_some f (drop from xs) ≡ first_some f (drop upto xs)
+first_some-past f [] zero zero on none = refl
+first_some-past f [] zero (suc upto) on none = refl
+first_some-past f [] (suc from) zero on none = refl
+first_some-past f [] (suc from) (suc upto) on none = refl
+first_some-past f (x ∷ xs) zero zero on none = refl
+first_some-past f (x ∷ xs) zero (suc upto) on none =
+    rw (none 0 x (omega arith) (omega arith) (omega arith)) (first_some-past f xs zero upto (omega arith) (λ k d low high within. none (suc k) d (omega arith) (omega arith) (omega arith)))
+first_some-past f (x ∷ xs) (suc from) zero on none = absurd (omega arith)
+first_some-past f (x ∷ xs) (suc from) (suc upto) on none =
+    first_some-past f xs from upto (omega arith) (λ k d low high within. none (suc k) d (omega arith) (omega arith) (omega arith))

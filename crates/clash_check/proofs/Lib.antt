@@ -12,6 +12,7 @@ pub mod NearLaws
 pub mod RunningLaws
 pub mod PlaceLaws
 pub mod ShownLaws
+pub mod KeptLaws
 pub mod CountLaws
 pub mod StopLaws
 pub mod VerdictLaws

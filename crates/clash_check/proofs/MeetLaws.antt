@@ -3,10 +3,11 @@ use Rattle.std.proofs.Common.{◌≡◌, ◌∙◌, ◌==◌, ◌&&◌, ◌||◌
 use Rattle.std.proofs.lemmas.List.Elements.{All-head, All-tail, All-weaker}
 use Rattle.std.specs.List.{flat_map, list_any}
 use Rattle.std.specs.Option.{option_map, option_or}
+use Rattle.box_tree.proofs.HullLaws.{meet_wider, meet_wider_last}
+use Rattle.box_tree.specs.Hulls.{LiesIn}
 use Rattle.clash_check.proofs.CoverLaws.{IsInCover, AreInCover, IsTimeInCover}
 use Rattle.clash_check.proofs.Each.{Each}
-use Rattle.clash_check.proofs.FirstLaws.{find-flat_map, find-made, first_some-append, first_some-each, first_some-filter, first_some-map, first_some-none, guarded_first, unless, unless_empty}
-use Rattle.clash_check.proofs.PieceLaws.{LiesIn, meet_wider, meet_wider_last}
+use Rattle.clash_check.proofs.FirstLaws.{find-flat_map, find-made, first_some-append, first_some-each, first_some-filter, first_some-map, first_some-none, unless, unless_empty}
 use Rattle.clash_check.specs.FirstAnswer.{first_some}
 use Rattle.clash_check.specs.Meetings.{Names, Case, place_of, touches, compared, names_where_met, first_touched, first_touched_among, first_in_stretches, first_against, first_of_zones, first_in_times}
 use Rattle.clash_check.specs.Verdicts.{name_of}
@@ -23,13 +24,13 @@ use Rattle.sync_types.specs.Views.{RunView}
 -- ---- covers first
 
 -- a test that passes only where another one does may be made after that one
-guarded : (c x : Bool) → (x ≡ true → c ≡ true) → (c && x) ≡ x
+pub guarded : (c x : Bool) → (x ≡ true → c ≡ true) → (c && x) ≡ x
 guarded true x implies = refl
 guarded false true implies = absurd (let e : false ≡ true = implies refl in cc)
 guarded false false implies = refl
 
 -- where any that passes implies it
-any_implies : {X : Type 0} (test : X → Bool) (c : Bool) (xs : List X) → All (λ x. test x ≡ true → c ≡ true) xs → list_any test xs ≡ true → c ≡ true
+pub any_implies : {X : Type 0} (test : X → Bool) (c : Bool) (xs : List X) → All (λ x. test x ≡ true → c ≡ true) xs → list_any test xs ≡ true → c ≡ true
 any_implies test c [] all e = absurd cc
 any_implies test c (x ∷ xs) all e =
     by_test (test x) (All-head (λ x. test x ≡ true → c ≡ true) x xs all) (any_implies test c xs (All-tail (λ x. test x ≡ true → c ≡ true) x xs all)) e
@@ -102,8 +103,6 @@ touched_is case zone left other right own in_right in_left =
     (λ later. cond (compared shared own later && pair_meets case.job case.run (place_of zone left own, place_of other right later)) (Some (names_of (place_of zone left own, place_of other right later))) None)
     (λ later. names_where_met case shared (place_of zone left own) (place_of other right later))
     (λ later in_later. met_is case shared (place_of zone left own) (place_of other right later) in_left in_later) right.boxes in_right
-    ∙ sym (guarded_first (λ later. compared shared own later && boxes_meet own.cover later.cover) (λ later. names_where_met case shared (place_of zone left own) (place_of other right later))
-    (λ later far. far_none case shared (place_of zone left own) (place_of other right later) far) right.boxes)
 
 -- ---- two stretches
 

@@ -1,18 +1,18 @@
 -- The stretches of another zone that may overlap one are all that count.
-use Rattle.std.proofs.Common.{◌≡◌, ◌∙◌, ℕ, zero, suc, ◌+◌, ◌<◌, ◌==◌, ◌&&◌, not, Bool, true, false, cond, List, [], ◌∷◌, length, drop, take, get_or, map, Option, None, Some, All, refl, sym, ap, subst, zero-add, arith}
+use Rattle.std.proofs.Common.{◌≡◌, ◌∙◌, ℕ, zero, suc, ◌+◌, ◌<◌, ◌==◌, ◌&&◌, not, Bool, true, false, cond, List, [], ◌∷◌, length, drop, take, get_or, map, Option, None, All, refl, sym, ap, subst, zero-add, arith}
 use Rattle.std.specs.Global.{Global}
 use Rattle.std.specs.Prelude.{Vec}
 use Rattle.std.specs.List.{sum_by, zip}
 use Rattle.clash_check.specs.Times.{lists_in}
 use Rattle.std.specs.Option.{option_or}
-use Rattle.std.proofs.lemmas.List.Elements.{All-nil, All-cons, All-head, All-tail, All-get_or}
+use Rattle.std.proofs.lemmas.List.Elements.{All-nil, All-cons, All-head, All-tail}
 use Rattle.std.proofs.lemmas.List.Sums.{sum_by-cons}
 use Rattle.clash_check.proofs.AscentLaws.{part_is}
-use Rattle.clash_check.specs.Ascents.{leading, PassFirst, is_over, passes, near, IsTimed}
+use Rattle.clash_check.specs.Ascents.{leading, PassFirst, passes, near, IsTimed}
 use Rattle.clash_check.specs.FirstAnswer.{first_some}
 use Rattle.clash_check.specs.Judged.{IsTold}
 use Rattle.clash_check.specs.Meetings.{Case, Names, first_against, first_in_stretches}
-use Rattle.clash_check.specs.PairCounts.{count_against, count_in_stretches, count_in_boxes}
+use Rattle.clash_check.specs.PairCounts.{count_against, count_in_stretches}
 use Rattle.job_types.specs.Job.{JobView}
 use Rattle.job_types.specs.Zones.{zones_in_order}
 use Rattle.job_types.specs.declared.job.ZoneLine.{ZoneLine}
@@ -20,10 +20,9 @@ use Rattle.order_clocks.specs.Clocked.{ClocksView, moves_in}
 use Rattle.order_clocks.specs.Tells.{is_before_in}
 use Rattle.protection_zones.proofs.NameLaws.{ends_are_lowest_names}
 use Rattle.protection_zones.specs.Overlaps.{Order, ZoneTime, may_overlap, is_open_at, zone_times}
-use Rattle.protection_zones.specs.SoundStretches.{HasLowNames, HaveLowNames}
+use Rattle.protection_zones.specs.SoundStretches.{HasLowNames}
 use Rattle.protection_zones.specs.Stretches.{StretchView, StretchesView, all_stretches}
 use Rattle.sync_types.specs.Boards.{Board, first_board}
-use Rattle.sync_types.specs.Turns.{Move}
 use Rattle.sync_types.specs.Views.{RunView}
 
 -- ---- stretches that do not overlap

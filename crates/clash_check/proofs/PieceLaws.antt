@@ -1,17 +1,15 @@
 -- The box of a zone in a piece of a motion lies in the cover of the motion.
-use Rattle.std.proofs.Common.{◌≡◌, ℕ, zero, suc, ℤ, pos, ◌≤ℤ◌, ◌+◌, ◌+ℤ◌, ◌-ℤ◌, ◌==◌, ◌&&◌, Bool, true, false, cond, List, [], ◌∷◌, map, get_or, Option, None, Some, find, zero-add, refl, sym, ap, subst, ◌∙◌, arith}
-use Rattle.std.proofs.lemmas.Int.{ints, clamps}
-use Rattle.std.specs.Int.{int_max, int_min}
+use Rattle.std.proofs.Common.{◌≡◌, ℕ, zero, suc, ℤ, pos, ◌≤ℤ◌, ◌+◌, ◌+ℤ◌, ◌-ℤ◌, ◌==◌, Bool, true, false, cond, List, [], ◌∷◌, map, get_or, Option, None, Some, find, zero-add, refl, sym, ap, subst, ◌∙◌, arith}
+use Rattle.std.proofs.lemmas.Int.{ints}
 use Rattle.std.specs.List.{AllZip}
 use Rattle.std.specs.Option.{option_map_or}
 use Rattle.job_types.specs.declared.job.Side.{Side}
 use Rattle.job_types.specs.declared.job.ZoneLine.{ZoneLine}
+use Rattle.box_tree.specs.Hulls.{LiesIn}
 use Rattle.protection_zones.specs.Pieces.{piece_low, piece_high, by_direction, piece_box}
 use Rattle.protection_zones.specs.ZoneBoxes.{carried_bound, carried_low, carried_high, side_low, side_high, zone_box, box_of, low_in, high_in}
-use Rattle.swept_boxes.proofs.MeetTests.{touch_of, touch_passes}
-use Rattle.swept_boxes.specs.Boxes.{low_of, high_of, do_touch, boxes_meet}
+use Rattle.swept_boxes.specs.Boxes.{low_of, high_of}
 use Rattle.swept_boxes.specs.Ranges.{RangesView, LieIn}
-use Rattle.swept_boxes.specs.declared.Box3.{Box3}
 
 -- ---- a side
 
@@ -143,11 +141,6 @@ piece_box_is margin zone ranges cover at lie =
 
 -- ---- it lies in the box of the cover
 
--- in no direction the inner box is below the low bound or above the high bound of the outer one
-pub record LiesIn (inner outer : Box3) : Type 0 where
-  pub low : (direction : ℕ) → low_of outer direction ≤ℤ low_of inner direction
-  pub high : (direction : ℕ) → high_of inner direction ≤ℤ high_of outer direction
-
 added : (a b c : ℤ) → b ≤ℤ c → (a +ℤ b) ≤ℤ (a +ℤ c)
 added a b c less = omega (arith, ints)
 
@@ -191,42 +184,3 @@ piece_lies margin zone ranges cover at lie =
       high = map_lies (side_high margin (low_in ranges at) (high_in ranges at)) (side_high margin (low_in cover at) (high_in cover at))
           (side_high_lies margin (low_in cover at) (high_in cover at) (low_in ranges at) (high_in ranges at) lows highs) zone.sides;
     }
-
--- ---- boxes that meet
-
-wider : (a a' b p p' q : ℤ) → a' ≤ℤ a → p ≤ℤ p' → int_max a b ≤ℤ int_min p q → int_max a' b ≤ℤ int_min p' q
-wider a a' b p p' q low high less = omega (arith, ints, clamps)
-
-wider_last : (a b b' p q q' : ℤ) → b' ≤ℤ b → q ≤ℤ q' → int_max a b ≤ℤ int_min p q → int_max a b' ≤ℤ int_min p q'
-wider_last a b b' p q q' low high less = omega (arith, ints, clamps)
-
-all_pass : (a b c a' b' c' : Bool) → (a ≡ true → a' ≡ true) → (b ≡ true → b' ≡ true) → (c ≡ true → c' ≡ true) → (a && (b && c)) ≡ true → (a' && (b' && c')) ≡ true
-all_pass true true true a' b' c' p q r e = rw (p refl, q refl, r refl) refl
-all_pass true true false a' b' c' p q r e = absurd cc
-all_pass true false c a' b' c' p q r e = absurd cc
-all_pass false b c a' b' c' p q r e = absurd cc
-
-touch_wider : (inner outer other : Box3) → LiesIn inner outer → (direction : ℕ) → do_touch inner other direction ≡ true → do_touch outer other direction ≡ true
-touch_wider inner outer other lies direction e =
-    touch_passes outer other direction
-    (wider (low_of inner direction) (low_of outer direction) (low_of other direction) (high_of inner direction) (high_of outer direction) (high_of other direction)
-    (lies.low direction) (lies.high direction) (touch_of inner other direction e))
-
-touch_wider_last : (other inner outer : Box3) → LiesIn inner outer → (direction : ℕ) → do_touch other inner direction ≡ true → do_touch other outer direction ≡ true
-touch_wider_last other inner outer lies direction e =
-    touch_passes other outer direction
-    (wider_last (low_of other direction) (low_of inner direction) (low_of outer direction) (high_of other direction) (high_of inner direction) (high_of outer direction)
-    (lies.low direction) (lies.high direction) (touch_of other inner direction e))
-
--- what meets a box meets each box that it lies in
-pub meet_wider : (inner outer other : Box3) → LiesIn inner outer → boxes_meet inner other ≡ true → boxes_meet outer other ≡ true
-unfolding boxes_meet
-meet_wider inner outer other lies e =
-    all_pass (do_touch inner other 0) (do_touch inner other 1) (do_touch inner other 2) (do_touch outer other 0) (do_touch outer other 1) (do_touch outer other 2)
-    (touch_wider inner outer other lies 0) (touch_wider inner outer other lies 1) (touch_wider inner outer other lies 2) e
-
-pub meet_wider_last : (other inner outer : Box3) → LiesIn inner outer → boxes_meet other inner ≡ true → boxes_meet other outer ≡ true
-unfolding boxes_meet
-meet_wider_last other inner outer lies e =
-    all_pass (do_touch other inner 0) (do_touch other inner 1) (do_touch other inner 2) (do_touch other outer 0) (do_touch other outer 1) (do_touch other outer 2)
-    (touch_wider_last other inner outer lies 0) (touch_wider_last other inner outer lies 1) (touch_wider_last other inner outer lies 2) e

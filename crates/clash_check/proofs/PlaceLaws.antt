@@ -1,23 +1,21 @@
 -- Boxes that begin and end one after another: those with a place in common with a box stand side by side.
-use Rattle.std.proofs.Common.{◌≡◌, ◌∙◌, ℕ, zero, suc, ◌+◌, ◌-◌, ◌^◌, ◌<◌, ◌≤◌, ◌&&◌, ◌||◌, not, nat_le, Bool, true, false, cond, List, [], ◌∷◌, drop, take, filter, length, get_or, Option, None, Some, All, refl, sym, ap, subst, arith}
-use Rattle.std.specs.List.{count_by, list_any}
+use Rattle.std.proofs.Common.{◌≡◌, ◌∙◌, ℕ, suc, ◌-◌, ◌^◌, ◌<◌, ◌≤◌, ◌&&◌, not, nat_le, Bool, true, false, cond, List, [], ◌∷◌, drop, take, filter, length, Option, None, All, refl, sym, ap, arith}
+use Rattle.std.specs.List.{count_by}
 use Rattle.clash_check.specs.PairCounts.{capped}
 use Rattle.std.specs.Option.{option_or}
 use Rattle.std.proofs.lemmas.Bool.{and_parts, leb-true, leb-false, le-leb, lt-leb}
 use Rattle.std.proofs.lemmas.List.Sums.{length-filter}
-use Rattle.std.proofs.lemmas.List.Elements.{All-nil, All-cons, All-head, All-tail, All-weaker, All-get_or}
+use Rattle.std.proofs.lemmas.List.Elements.{All-nil, All-cons, All-head, All-tail, All-weaker}
 use Rattle.clash_check.proofs.AscentLaws.{part_is}
-use Rattle.clash_check.proofs.FirstLaws.{guarded_first}
 use Rattle.clash_check.proofs.MeetLaws.{far_none}
 use Rattle.clash_check.specs.Ascents.{leading, PassFirst}
 use Rattle.clash_check.specs.FirstAnswer.{first_some}
-use Rattle.clash_check.specs.Meetings.{Case, Names, place_of, compared, is_near_any, names_where_met, first_touched, first_touched_among}
+use Rattle.clash_check.specs.Meetings.{Case, Names, place_of, names_where_met, first_touched_among}
 use Rattle.clash_check.specs.PlaceRanges.{passes_place, is_by_first, do_boxes_ascend}
 use Rattle.job_types.specs.declared.job.ZoneLine.{ZoneLine}
 use Rattle.protection_zones.specs.Overlaps.{BoxPlace, share_place}
 use Rattle.protection_zones.specs.Stretches.{StretchView}
 use Rattle.protection_zones.specs.declared.stretches.ZoneBox.{ZoneBox}
-use Rattle.swept_boxes.specs.Boxes.{boxes_meet}
 
 -- a box past the end
 abbrev pub no_box : ZoneBox
@@ -128,13 +126,7 @@ module _ (case : Case) (left : BoxPlace) (other : ZoneLine) (right : StretchView
       → upto ≡ leading (passes_place false left.box) boxes → part ≡ drop from (take upto boxes) → first_touched_among case true left other right part ≡ first_touched_among case true left other right boxes
   unfolding first_touched_among
   first_between boxes part from upto first from_is upto_is part_is' =
-      guarded part
-      ∙ ap (first_some found) (part_is' ∙ ap (λ (n : ℕ). drop n (take upto boxes)) from_is ∙ ap (λ (n : ℕ). drop (leading (passes_place true left.box) boxes) (take n boxes)) upto_is)
+      ap (first_some found) (part_is' ∙ ap (λ (n : ℕ). drop n (take upto boxes)) from_is ∙ ap (λ (n : ℕ). drop (leading (passes_place true left.box) boxes) (take n boxes)) upto_is)
       ∙ part_is (first_some found) (passes_place true left.box) (passes_place false left.box) (λ x xs ys same. ap (λ (r : Option Names). option_or (found x) r) same)
       (λ x xs over. ap (λ (r : Option Names). option_or r (first_some found xs)) (apart_none x (not_early (nat_le left.box.from x.to) (nat_le x.from left.box.to) over)))
       (λ x xs over. ap (λ (r : Option Names). option_or r (first_some found xs)) (apart_none x (not_late (nat_le left.box.from x.to) (nat_le x.from left.box.to) over))) boxes first
-      ∙ sym (guarded boxes)
-    where
-      guarded : (xs : List ZoneBox) → cond (is_near_any true left.box xs) (first_some found xs) None ≡ first_some found xs
-      guarded xs = guarded_first (λ later. compared true left.box later && boxes_meet left.box.cover later.cover) found
-          (λ later far. far_none case true left (place_of other right later) far) xs

@@ -1,18 +1,16 @@
 -- Boxes and channels of stretches, counted as places go on.
-use native.Mathlib.Numerals.{unary_clauses}
-use Rattle.std.proofs.Common.{◌≡◌, ◌∙◌, nat_lt, ℕ, zero, suc, ◌+◌, ◌-◌, ◌*◌, ◌^◌, ◌<◌, ◌≤◌, ◌==◌, ◌&&◌, not, Bool, true, false, cond, min, List, [], ◌∷◌, drop, take, length, get_or, Option, None, Some, All, refl, sym, ap, subst, arith}
-use Rattle.std.specs.Prelude.{if◌then◌else◌, slice_index, slice_index_or}
+use Rattle.std.proofs.Common.{◌≡◌, ◌∙◌, nat_lt, ℕ, zero, suc, ◌+◌, ◌-◌, ◌*◌, ◌^◌, ◌<◌, ◌≤◌, ◌==◌, ◌&&◌, not, Bool, true, false, cond, min, List, [], ◌∷◌, take, length, get_or, Option, None, Some, All, refl, sym, ap, arith}
+use Rattle.std.specs.Prelude.{if◌then◌else◌, slice_index}
 use Rattle.std.specs.List.{sum_by}
 use Rattle.std.proofs.lemmas.Bool.{eqb-true, ltb-true, ltb-false}
 use Rattle.std.proofs.lemmas.List.{get_or_default}
-use Rattle.std.proofs.lemmas.List.Elements.{All-nil, All-cons, All-head, All-tail, All-take}
-use Rattle.std.proofs.lemmas.List.Sums.{sum_by-cons, sum_by_more, sum_by-take-le}
+use Rattle.std.proofs.lemmas.List.Elements.{All-head, All-tail}
+use Rattle.std.proofs.lemmas.List.Sums.{sum_by-cons, sum_by_more}
 use Rattle.axis_sets.specs.declared.limits.TheConstants.{CHANNEL_PLACES}
 use Rattle.clash_check.proofs.NearLaws.{apart_early, apart_late, sum_skips}
-use Rattle.clash_check.specs.Ascents.{leading, PassFirst, is_over, passes, near}
-use Rattle.clash_check.specs.PairCounts.{capped, count_against, count_in_stretches, count_in_boxes, count_sharing}
+use Rattle.clash_check.specs.Ascents.{leading, PassFirst, passes}
+use Rattle.clash_check.specs.PairCounts.{count_against, count_in_stretches, count_in_boxes, count_sharing}
 use Rattle.clash_check.specs.Running.{boxes_in, IsSum, has_boxes_of, IsLatest}
-use Rattle.job_types.specs.Axes.{is_of}
 use Rattle.protection_zones.specs.Overlaps.{Order, is_open_at, may_overlap, share_channel}
 use Rattle.protection_zones.specs.Stretches.{StretchView}
 

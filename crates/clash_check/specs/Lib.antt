@@ -10,3 +10,4 @@ pub mod Ascents
 pub mod Running
 pub mod PlaceRanges
 pub mod Shown
+pub mod Keeping

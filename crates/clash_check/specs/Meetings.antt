@@ -29,10 +29,13 @@ pub record Case : Type 0 where
 abbrev pub place_of : ZoneLine → StretchView → ZoneBox → BoxPlace
 place_of zone stretch box = record { zone = zone; stretch = stretch; box = box }
 
--- boxes in a cover meet boxes in another: the covers first, then the boxes of the one with the cover of the other, and then the boxes of both
+-- boxes meet boxes in a cover: the cover first
+abbrev pub pieces_touch : List Box3 → Box3 → List Box3 → Bool
+pieces_touch pieces other others = list_any (λ piece. boxes_meet piece other) pieces && list_any (λ piece. list_any (boxes_meet piece) others) pieces
+
+-- boxes in a cover meet boxes in another: the covers first
 abbrev pub touches : Box3 → List Box3 → Box3 → List Box3 → Bool
-touches cover pieces other others =
-    boxes_meet cover other && (list_any (λ piece. boxes_meet piece other) pieces && list_any (λ piece. list_any (boxes_meet piece) others) pieces)
+touches cover pieces other others = boxes_meet cover other && pieces_touch pieces other others
 
 -- two boxes are compared, where their stretches share a channel or not
 abbrev pub compared : Bool → ZoneBox → ZoneBox → Bool
@@ -44,14 +47,10 @@ names_where_met case shared left right =
     if compared shared left.box right.box && touches left.box.cover (piece_boxes case.job case.run left) right.box.cover (piece_boxes case.job case.run right)
     then Some (name_of left, name_of right) else None
 
--- one of the boxes is compared with this one, and their covers meet
-abbrev pub is_near_any : Bool → ZoneBox → List ZoneBox → Bool
-is_near_any shared own others = list_any (λ later. compared shared own later && boxes_meet own.cover later.cover) others
-
 -- the names of a box and of the first of some boxes of a stretch that it meets
 unfoldable pub first_touched_among : Case → Bool → BoxPlace → ZoneLine → StretchView → List ZoneBox → Option Names
 first_touched_among case shared left other right boxes =
-    if is_near_any shared left.box boxes then first_some (λ later. names_where_met case shared left (place_of other right later)) boxes else None
+    first_some (λ later. names_where_met case shared left (place_of other right later)) boxes
 
 -- of all its boxes
 abbrev pub first_touched : Case → Bool → BoxPlace → ZoneLine → StretchView → Option Names

@@ -1,5 +1,5 @@
 -- Steps. What is counted of the stretches of a zone as places among them go on.
-use Rattle.std.specs.Prelude.{◌≡◌, ℕ, suc, ◌<◌, ◌==◌, ◌&&◌, not, Bool, true, List, length, slice_index, slice_index_or, sum_by, take}
+use Rattle.std.specs.Prelude.{◌≡◌, ℕ, ◌<◌, ◌==◌, ◌&&◌, not, Bool, true, List, length, slice_index, slice_index_or, sum_by, take}
 use Rattle.axis_sets.specs.declared.limits.TheConstants.{CHANNEL_PLACES}
 use Rattle.job_types.specs.Axes.{is_of}
 use Rattle.clash_check.specs.PairCounts.{capped}

@@ -130,8 +130,8 @@ pub(crate) fn range_of(clocks: &Clocks, own: &Stretch, others: &[Stretch], hint:
     }
 }
 
-/// The stretches of these places.
-pub(crate) fn part(others: &[Stretch], range: Range) -> &[Stretch]
+/// What stands in these places.
+pub(crate) fn part<T>(others: &[T], range: Range) -> &[T]
     requires { range.upto ≤ length others.now }
     ensures { result.now ≡ drop range.from (take range.upto others.now) }
 {

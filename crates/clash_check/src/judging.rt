@@ -55,31 +55,6 @@ fn count_of(job: &Job, run: &Run, stretches: &Stretches, clocks: &Clocks) -> u64
     count(job, stretches, clocks)
 }
 
-/// NO with the first two boxes that meet, or YES.
-fn judge_boxes(
-    alloc: Global,
-    job: &Job,
-    run: &Run,
-    stretches: &Stretches,
-    clocks: &Clocks,
-) -> Verdict
-    requires sound { IsSoundJob job.now }
-    requires told { IsTold job.now run.now stretches.now clocks.now }
-    requires fit { All (All IsFit) run.now.items }
-    ensures { result ≡ model.or_else (model.meeting_verdict (is_before_in clocks.now.rows) job.now run.now stretches.now) verdicts.Yes }
-{
-    let scene = Scene {
-        alloc,
-        job,
-        run,
-        clocks,
-    };
-    match first_meeting(&scene, lists_of(stretches)) {
-        Some((first, second)) => Verdict::No(first, second),
-        None => Verdict::Yes,
-    }
-}
-
 /// The verdict by the boxes alone. They are not compared where there are too many pairs.
 fn judge_pairs(
     alloc: Global,
@@ -103,13 +78,23 @@ fn judge_pairs(
             budget: job.budget,
         };
     }
-    judge_boxes(alloc, job, run, stretches, clocks)
+    let scene = Scene {
+        alloc,
+        job,
+        run,
+        clocks,
+    };
+    match first_meeting(&scene, lists_of(stretches)) {
+        Some((first, second)) => Verdict::No(first, second),
+        None => Verdict::Yes,
+    }
 }
 
 /// The verdict on a whole run of a job, the first that fits: RACE where the run has a race, with the first; ALARM of the lowest
 /// channel that an alarm has stopped; STUCK of the lowest that waits; UNDECIDED where more pairs of boxes are to be compared than
-/// the job allows; NO with the first two boxes that meet; YES. It takes memory for the places of stretches alone, and works on
-/// without, though not as fast, where it finds too little.
+/// the job allows; NO with the first two boxes that meet; YES. It takes memory for the places of stretches, and for what is kept of
+/// the boxes of one stretch at a time: a tree over their covers, and their pieces as far as there is room. It works on without,
+/// though not as fast, where it finds too little.
 #[tactic(auto, unfolding(crate::specs::Verdicts::verdict_by))]
 pub fn judge(
     alloc: Global,

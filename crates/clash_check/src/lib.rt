@@ -3,9 +3,9 @@
 
 mod ascents;
 mod bounds;
-mod boxes;
 mod judging;
 mod meetings;
+mod nearby;
 mod overlaps;
 mod pair_counts;
 mod pieces;
@@ -15,6 +15,6 @@ mod shown;
 mod stops;
 mod zones;
 
-pub use boxes::plain_first;
+pub use box_tree::plain_first;
 pub use judging::judge;
 pub use pair_counts::count;

@@ -1,9 +1,9 @@
 //! The first two boxes that meet, of zones that may not.
-ghost use Rattle.std.specs.Prelude.{◌≡◌, ◌≤◌, ◌<◌, ◌&&◌, true, [], ◌∷◌, All, drop, length, take};
-ghost use Rattle.std.specs.List.{list_any};
+ghost use Rattle.std.specs.Prelude.{◌≡◌, ◌≤◌, ◌<◌, true, [], ◌∷◌, All, drop, length, slice_index_or, take};
 ghost use Rattle.clash_check.specs.Ascents as ascents;
 ghost use Rattle.clash_check.specs.Ascents.{IsTimed};
 ghost use Rattle.clash_check.specs.FirstAnswer.{first_some};
+ghost use Rattle.clash_check.specs.Keeping.{IsKeptOf, is_near};
 ghost use Rattle.clash_check.specs.Meetings as model;
 ghost use Rattle.clash_check.specs.PlaceRanges as places;
 ghost use Rattle.clash_check.specs.Shown.{IsNext};
@@ -11,23 +11,22 @@ ghost use Rattle.clash_check.specs.Times.{lists_in, times_from};
 ghost use Rattle.clash_check.specs.Verdicts.{name_of};
 ghost use Rattle.job_lines.specs.declared.limits.TheConstants.{DEPTH_LIMIT};
 ghost use Rattle.order_clocks.specs.Tells.{is_before_in};
-ghost use Rattle.protection_zones.specs.Overlaps.{share_channel};
 ghost use Rattle.protection_zones.specs.Pieces.{piece_boxes};
 ghost use Rattle.protection_zones.specs.ZoneBoxes.{IsFit};
-ghost use Rattle.swept_boxes.specs.Boxes.{boxes_meet};
+ghost use Rattle.protection_zones.specs.declared.stretches.ZoneBox.{ZoneBox};
 
-use crate::ascents::{Range, do_ascend, range_of};
-use crate::boxes::{any_meet, any_meets, do_meet};
-use crate::overlaps::{are_compared, may_overlap, share_channel};
+use crate::ascents::{Range, do_ascend, part, range_of};
+use crate::nearby::{Kept, kept_for, next_near};
+use crate::overlaps::{may_overlap, share_channel};
 use crate::pieces::boxes_by_pieces;
-use crate::place_ranges::{boxes_between, do_boxes_ascend, place_range};
+use crate::place_ranges::{do_boxes_ascend, place_range};
 use crate::shown::next_shown;
 use crate::zones::zone_at;
+use box_tree::PieceTree;
 use job_types::{Job, ZoneLine};
 use order_clocks::Clocks;
 use protection_zones::{Stretch, ZoneBox};
 use std::alloc::Global;
-use swept_boxes::Box3;
 use sync_types::{PlaceName, Run};
 
 /// A job with a run of it and the order of its events.
@@ -41,6 +40,7 @@ pub(crate) struct Scene<'a> {
     pub(crate) run: &'a Run,
     /// The order of its events.
     pub(crate) clocks: &'a Clocks,
+    ghost deep: { job.now.depth ≤ DEPTH_LIMIT },
 }
 
 /// A stretch of a zone.
@@ -64,72 +64,63 @@ fn named(held: &Held, own: &ZoneBox) -> PlaceName
     }
 }
 
-/// Whether some boxes in this cover, and the boxes by which a box of a stretch is compared, meet: the covers first, then the
-/// boxes with the cover of the other, and then with its boxes.
-fn touches(scene: &Scene, cover: &Box3, pieces: &[Box3], held: &Held, later: &ZoneBox) -> bool
+/// Whether some boxes and those by which the box of this place is compared meet: first with the cover of that box, and then with its
+/// boxes, which are kept.
+fn pieces_touch(
+    scene: &Scene,
+    pieces: &PieceTree,
+    held: &Held,
+    boxes: &[ZoneBox],
+    place: usize,
+    kept: &mut Kept,
+) -> bool
     requires fit { All (All IsFit) scene.now.run.now.items }
-    requires deep { scene.now.job.now.depth ≤ DEPTH_LIMIT }
-    ensures { result ≡ model.touches cover.now pieces.now later.now.cover
-        (piece_boxes scene.now.job.now scene.now.run.now (model.place_of held.now.zone.now held.now.stretch.now later.now)) }
+    requires place { place < length boxes.now }
+    requires kept { IsKeptOf scene.now.job.now scene.now.run.now held.now.zone.now held.now.stretch.now boxes.now kept.old }
+    ensures met { (d : ZoneBox) → result ≡ model.pieces_touch pieces.now (slice_index_or boxes.now place d).cover
+        (piece_boxes scene.now.job.now scene.now.run.now (model.place_of held.now.zone.now held.now.stretch.now (slice_index_or boxes.now place d))) }
+    ensures kept { IsKeptOf scene.now.job.now scene.now.run.now held.now.zone.now held.now.stretch.now boxes.now kept.new }
 {
-    if !do_meet(cover, &later.cover) || !any_meets(pieces, &later.cover) {
+    let later = &boxes[place];
+    if !pieces.meets_box(&later.cover) {
         return false;
     }
-    let others = boxes_by_pieces(scene.job, scene.run, held, later);
-    any_meet(pieces, others.as_slice())
-}
-
-/// Whether a box is compared with one of these whose cover meets its own.
-fn is_near_any(shared: bool, own: &ZoneBox, others: &[ZoneBox]) -> bool
-    ensures { result ≡ model.is_near_any shared own.now others.now }
-{
-    others.iter().any(|later| are_compared(shared, own, later) && do_meet(&own.cover, &later.cover))
-}
-
-/// The names of two boxes, where they are compared and meet; these are the boxes by which the first is compared.
-#[tactic(auto, unfolding(crate::specs::Meetings::names_where_met))]
-fn names_where_met(
-    scene: &Scene,
-    shared: bool,
-    left: &Held,
-    own: &ZoneBox,
-    pieces: &[Box3],
-    right: &Held,
-    later: &ZoneBox,
-) -> Option<(PlaceName, PlaceName)>
-    requires fit { All (All IsFit) scene.now.run.now.items }
-    requires deep { scene.now.job.now.depth ≤ DEPTH_LIMIT }
-    requires pieces { pieces.now ≡ piece_boxes scene.now.job.now scene.now.run.now (model.place_of left.now.zone.now left.now.stretch.now own.now) }
-    ensures { result ≡ model.names_where_met (record { job = scene.now.job.now; run = scene.now.run.now; before = is_before_in scene.now.clocks.now.rows }) shared
-        (model.place_of left.now.zone.now left.now.stretch.now own.now) (model.place_of right.now.zone.now right.now.stretch.now later.now) }
-{
-    if are_compared(shared, own, later) && touches(scene, &own.cover, pieces, right, later) {
-        Some((named(left, own), named(right, later)))
-    } else {
-        None
+    if let Some(met) = kept.pieces.meets(pieces, place) {
+        return met;
     }
+    let others = PieceTree::over(boxes_by_pieces(scene.job, scene.run, held, later));
+    kept.pieces.keep(scene.alloc, boxes.len(), place, &others);
+    pieces.meets(&others)
 }
 
-/// The names of a box and of the first of these of a stretch that it meets, and the boxes by which it is compared.
+/// The names of a box and of the first of these of a stretch, from this place on, that it meets. The one of this place is compared
+/// with it, and their covers meet.
 fn first_by_pieces(
     scene: &Scene,
     shared: bool,
     left: &Held,
     own: &ZoneBox,
-    pieces: &[Box3],
+    pieces: &PieceTree,
     right: &Held,
     boxes: &[ZoneBox],
+    kept: &mut Kept,
+    from: usize,
 ) -> Option<(PlaceName, PlaceName)>
     requires fit { All (All IsFit) scene.now.run.now.items }
-    requires deep { scene.now.job.now.depth ≤ DEPTH_LIMIT }
     requires pieces { pieces.now ≡ piece_boxes scene.now.job.now scene.now.run.now (model.place_of left.now.zone.now left.now.stretch.now own.now) }
-    ensures { result ≡ first_some (λ later. model.names_where_met (record { job = scene.now.job.now; run = scene.now.run.now; before = is_before_in scene.now.clocks.now.rows }) shared
-        (model.place_of left.now.zone.now left.now.stretch.now own.now) (model.place_of right.now.zone.now right.now.stretch.now later)) boxes.now }
+    requires from { from ≤ length boxes.now }
+    requires near { (d : ZoneBox) → from < length boxes.now → is_near shared own.now (slice_index_or boxes.now from d) ≡ true }
+    requires kept { IsKeptOf scene.now.job.now scene.now.run.now right.now.zone.now right.now.stretch.now boxes.now kept.old }
+    ensures names { result ≡ first_some (λ later. model.names_where_met (record { job = scene.now.job.now; run = scene.now.run.now; before = is_before_in scene.now.clocks.now.rows }) shared
+        (model.place_of left.now.zone.now left.now.stretch.now own.now) (model.place_of right.now.zone.now right.now.stretch.now later)) (drop from boxes.now) }
+    ensures kept { IsKeptOf scene.now.job.now scene.now.run.now right.now.zone.now right.now.stretch.now boxes.now kept.new }
 {
-    for later in boxes {
-        if let Some(names) = names_where_met(scene, shared, left, own, pieces, right, later) {
-            return Some(names);
+    let mut place = from;
+    while place < boxes.len() {
+        if pieces_touch(scene, pieces, right, boxes, place, kept) {
+            return Some((named(left, own), named(right, &boxes[place])));
         }
+        place = next_near(shared, own, boxes, &kept.covers, place + 1);
     }
     None
 }
@@ -144,17 +135,20 @@ fn first_touched(
     own: &ZoneBox,
     right: &Held,
     boxes: &[ZoneBox],
+    kept: &mut Kept,
 ) -> Option<(PlaceName, PlaceName)>
     requires fit { All (All IsFit) scene.now.run.now.items }
-    requires deep { scene.now.job.now.depth ≤ DEPTH_LIMIT }
-    ensures { result ≡ model.first_touched_among (record { job = scene.now.job.now; run = scene.now.run.now; before = is_before_in scene.now.clocks.now.rows }) shared
+    requires kept { IsKeptOf scene.now.job.now scene.now.run.now right.now.zone.now right.now.stretch.now boxes.now kept.old }
+    ensures names { result ≡ model.first_touched_among (record { job = scene.now.job.now; run = scene.now.run.now; before = is_before_in scene.now.clocks.now.rows }) shared
         (model.place_of left.now.zone.now left.now.stretch.now own.now) right.now.zone.now right.now.stretch.now boxes.now }
+    ensures kept { IsKeptOf scene.now.job.now scene.now.run.now right.now.zone.now right.now.stretch.now boxes.now kept.new }
 {
-    if !is_near_any(shared, own, boxes) {
+    let first = next_near(shared, own, boxes, &kept.covers, 0);
+    if first == boxes.len() {
         return None;
     }
-    let pieces = boxes_by_pieces(scene.job, scene.run, left, own);
-    first_by_pieces(scene, shared, left, own, pieces.as_slice(), right, boxes)
+    let pieces = PieceTree::over(boxes_by_pieces(scene.job, scene.run, left, own));
+    first_by_pieces(scene, shared, left, own, &pieces, right, boxes, kept, first)
 }
 
 /// The names of the first two boxes of two stretches that meet, where they share a channel or not.
@@ -165,14 +159,22 @@ fn first_in_all_boxes(
     right: &Held,
 ) -> Option<(PlaceName, PlaceName)>
     requires fit { All (All IsFit) scene.now.run.now.items }
-    requires deep { scene.now.job.now.depth ≤ DEPTH_LIMIT }
     ensures { result ≡ first_some (λ own. model.first_touched (record { job = scene.now.job.now; run = scene.now.run.now; before = is_before_in scene.now.clocks.now.rows }) shared
         (model.place_of left.now.zone.now left.now.stretch.now own) right.now.zone.now right.now.stretch.now) left.now.stretch.now.boxes }
 {
     let stretch = left.stretch;
     let other = right.stretch;
+    let mut kept = kept_for(scene.alloc, stretch.boxes.len(), &other.boxes);
     for own in &stretch.boxes {
-        if let Some(names) = first_touched(scene, shared, left, own, right, &other.boxes) {
+        if let Some(names) = first_touched(
+            scene,
+            shared,
+            left,
+            own,
+            right,
+            &other.boxes,
+            &mut kept,
+        ) {
             return Some(names);
         }
     }
@@ -189,7 +191,6 @@ fn first_in_places(
     others: &[ZoneBox],
 ) -> Option<(PlaceName, PlaceName)>
     requires fit { All (All IsFit) scene.now.run.now.items }
-    requires deep { scene.now.job.now.depth ≤ DEPTH_LIMIT }
     requires ascend { places.do_boxes_ascend others.now ≡ true }
     ensures { result ≡ first_some (λ own. model.first_touched_among (record { job = scene.now.job.now; run = scene.now.run.now; before = is_before_in scene.now.clocks.now.rows }) true
         (model.place_of left.now.zone.now left.now.stretch.now own) right.now.zone.now right.now.stretch.now others.now) boxes.now }
@@ -197,8 +198,9 @@ fn first_in_places(
     let mut range = Range { from: 0, upto: 0 };
     for own in boxes {
         range = place_range(own, others, range);
-        let near = boxes_between(others, range);
-        if let Some(names) = first_touched(scene, true, left, own, right, near) {
+        let near = part(others, range);
+        let mut kept = kept_for(scene.alloc, 1, near);
+        if let Some(names) = first_touched(scene, true, left, own, right, near, &mut kept) {
             return Some(names);
         }
     }
@@ -213,7 +215,6 @@ fn first_in_boxes(
     right: &Held,
 ) -> Option<(PlaceName, PlaceName)>
     requires fit { All (All IsFit) scene.now.run.now.items }
-    requires deep { scene.now.job.now.depth ≤ DEPTH_LIMIT }
     ensures { result ≡ first_some (λ own. model.first_touched (record { job = scene.now.job.now; run = scene.now.run.now; before = is_before_in scene.now.clocks.now.rows }) shared
         (model.place_of left.now.zone.now left.now.stretch.now own) right.now.zone.now right.now.stretch.now) left.now.stretch.now.boxes }
 {
@@ -230,7 +231,6 @@ fn first_in_boxes(
 #[tactic(auto, unfolding(crate::specs::Meetings::first_in_stretches))]
 fn first_in_stretches(scene: &Scene, left: &Held, right: &Held) -> Option<(PlaceName, PlaceName)>
     requires fit { All (All IsFit) scene.now.run.now.items }
-    requires deep { scene.now.job.now.depth ≤ DEPTH_LIMIT }
     ensures { result ≡ model.first_in_stretches (record { job = scene.now.job.now; run = scene.now.run.now; before = is_before_in scene.now.clocks.now.rows })
         left.now.zone.now left.now.stretch.now right.now.zone.now right.now.stretch.now }
 {
@@ -258,7 +258,6 @@ fn first_against<'a>(
     others: &'a [Stretch],
 ) -> Option<(PlaceName, PlaceName)>
     requires fit { All (All IsFit) scene.now.run.now.items }
-    requires deep { scene.now.job.now.depth ≤ DEPTH_LIMIT }
     ensures { result ≡ model.first_against (record { job = scene.now.job.now; run = scene.now.run.now; before = is_before_in scene.now.clocks.now.rows })
         left.now.zone.now (record { zone = other.now; stretches = others.now }) left.now.stretch.now }
 {
@@ -289,7 +288,6 @@ fn first_of_shown<'a>(
     range: Range,
 ) -> Option<(PlaceName, PlaceName)>
     requires fit { All (All IsFit) scene.now.run.now.items }
-    requires deep { scene.now.job.now.depth ≤ DEPTH_LIMIT }
     requires next { IsNext others.now next.now }
     requires within_from { range.from ≤ length others.now }
     requires within { range.upto ≤ length others.now }
@@ -322,7 +320,6 @@ fn first_in_range<'a>(
     range: Range,
 ) -> Option<(PlaceName, PlaceName)>
     requires fit { All (All IsFit) scene.now.run.now.items }
-    requires deep { scene.now.job.now.depth ≤ DEPTH_LIMIT }
     requires next { IsNext others.now next.now }
     requires within_from { range.from ≤ length others.now }
     requires within { range.upto ≤ length others.now }
@@ -346,7 +343,6 @@ fn first_of_all<'a>(
     others: &[Stretch],
 ) -> Option<(PlaceName, PlaceName)>
     requires fit { All (All IsFit) scene.now.run.now.items }
-    requires deep { scene.now.job.now.depth ≤ DEPTH_LIMIT }
     ensures { result ≡ first_some (model.first_against (record { job = scene.now.job.now; run = scene.now.run.now; before = is_before_in scene.now.clocks.now.rows })
         zone.now (record { zone = other.now; stretches = others.now })) own.now }
 {
@@ -370,7 +366,6 @@ fn first_of_ascending<'a>(
     next: &[usize],
 ) -> Option<(PlaceName, PlaceName)>
     requires fit { All (All IsFit) scene.now.run.now.items }
-    requires deep { scene.now.job.now.depth ≤ DEPTH_LIMIT }
     requires timed { IsTimed (is_before_in scene.now.clocks.now.rows) own.now (others.now ∷ []) }
     requires ascend { ascents.do_ascend (is_before_in scene.now.clocks.now.rows) others.now ≡ true }
     requires next { IsNext others.now next.now }
@@ -399,7 +394,6 @@ fn first_of_zones(
     others: &[Stretch],
 ) -> Option<(PlaceName, PlaceName)>
     requires fit { All (All IsFit) scene.now.run.now.items }
-    requires deep { scene.now.job.now.depth ≤ DEPTH_LIMIT }
     requires timed { IsTimed (is_before_in scene.now.clocks.now.rows) own.now (others.now ∷ []) }
     ensures { result ≡ model.first_of_zones (record { job = scene.now.job.now; run = scene.now.run.now; before = is_before_in scene.now.clocks.now.rows })
         (record { zone = zone.now; stretches = own.now }) (record { zone = other.now; stretches = others.now }) }
@@ -425,7 +419,6 @@ fn first_with_place(
     place: usize,
 ) -> Option<(PlaceName, PlaceName)>
     requires fit { All (All IsFit) scene.now.run.now.items }
-    requires deep { scene.now.job.now.depth ≤ DEPTH_LIMIT }
     requires timed { IsTimed (is_before_in scene.now.clocks.now.rows) own.now (lists_in lists.now) }
     requires place { place < length lists.now }
     ensures { result ≡ model.first_with_place (record { job = scene.now.job.now; run = scene.now.run.now; before = is_before_in scene.now.clocks.now.rows })
@@ -446,7 +439,6 @@ fn first_with(
     from: usize,
 ) -> Option<(PlaceName, PlaceName)>
     requires fit { All (All IsFit) scene.now.run.now.items }
-    requires deep { scene.now.job.now.depth ≤ DEPTH_LIMIT }
     requires timed { IsTimed (is_before_in scene.now.clocks.now.rows) own.now (lists_in lists.now) }
     ensures { result ≡ first_some (model.first_of_zones (record { job = scene.now.job.now; run = scene.now.run.now; before = is_before_in scene.now.clocks.now.rows })
         (record { zone = zone.now; stretches = own.now })) (times_from scene.now.job.now (lists_in lists.now) from) }
@@ -466,7 +458,6 @@ fn first_from_place(
     place: usize,
 ) -> Option<(PlaceName, PlaceName)>
     requires fit { All (All IsFit) scene.now.run.now.items }
-    requires deep { scene.now.job.now.depth ≤ DEPTH_LIMIT }
     requires timed { IsTimed (is_before_in scene.now.clocks.now.rows) [] (lists_in lists.now) }
     requires place { place < length lists.now }
     ensures { result ≡ model.first_from_place (record { job = scene.now.job.now; run = scene.now.run.now; before = is_before_in scene.now.clocks.now.rows }) (lists_in lists.now) place }
@@ -480,7 +471,6 @@ fn first_from_place(
 /// The names of the first two boxes of two zones of different groups that meet.
 pub(crate) fn first_meeting(scene: &Scene, lists: &[Vec<Stretch>]) -> Option<(PlaceName, PlaceName)>
     requires fit { All (All IsFit) scene.now.run.now.items }
-    requires deep { scene.now.job.now.depth ≤ DEPTH_LIMIT }
     requires timed { IsTimed (is_before_in scene.now.clocks.now.rows) [] (lists_in lists.now) }
     ensures { result ≡ model.first_in_times (record { job = scene.now.job.now; run = scene.now.run.now; before = is_before_in scene.now.clocks.now.rows })
         (times_from scene.now.job.now (lists_in lists.now) 0) }

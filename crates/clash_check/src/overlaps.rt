@@ -54,21 +54,14 @@ fn is_of(channel: ChannelId, owner: Option<ChannelId>) -> bool
     }
 }
 
-/// Whether both are of one channel.
-fn share(left: Option<ChannelId>, right: Option<ChannelId>) -> bool
-    ensures { result ≡ model.share_channel left right }
-{
-    match left {
-        Some(channel) => is_of(channel, right),
-        None => false,
-    }
-}
-
 /// Whether two stretches are of one channel.
 pub(crate) fn share_channel(left: &Stretch, right: &Stretch) -> bool
     ensures { result ≡ model.share_channel left.now.name.channel right.now.name.channel }
 {
-    share(left.name.channel, right.name.channel)
+    match left.name.channel {
+        Some(channel) => is_of(channel, right.name.channel),
+        None => false,
+    }
 }
 
 /// Whether two boxes hold a place in common.
@@ -76,11 +69,4 @@ pub(crate) fn share_place(left: &ZoneBox, right: &ZoneBox) -> bool
     ensures { result ≡ model.share_place left.now right.now }
 {
     left.from <= right.to && right.from <= left.to
-}
-
-/// Whether two boxes are compared: where their stretches are of one channel, those with a place in common.
-pub(crate) fn are_compared(shared: bool, own: &ZoneBox, later: &ZoneBox) -> bool
-    ensures { result ≡ (not shared || model.share_place own.now later.now) }
-{
-    !shared || share_place(own, later)
 }

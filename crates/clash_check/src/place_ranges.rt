@@ -82,15 +82,3 @@ pub(crate) fn place_range(own: &ZoneBox, others: &[ZoneBox], hint: Range) -> Ran
         upto: count_passing(false, own, others, hint.upto),
     }
 }
-
-/// The boxes of these places.
-pub(crate) fn boxes_between(others: &[ZoneBox], range: Range) -> &[ZoneBox]
-    requires { range.upto ≤ length others.now }
-    ensures { result.now ≡ drop range.from (take range.upto others.now) }
-{
-    if range.from <= range.upto {
-        &others[range.from..range.upto]
-    } else {
-        &[]
-    }
-}

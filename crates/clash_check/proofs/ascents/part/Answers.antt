@@ -4,7 +4,7 @@ use Rattle.clash_check.proofs.AscentLaws.{past_part}
 use Rattle.clash_check.proofs.ascents.part.Goals as goal
 
 pub returns-then-range : goal.returns-then-range
-returns-then-range c = between_is c.args.others.now c.args.range.from c.args.range.upto
+returns-then-range g c = between_is c.args.others.now c.args.range.from c.args.range.upto
 
 pub returns-else-range : goal.returns-else-range
-returns-else-range c = sym (past_part c.args.range.from c.args.range.upto c.args.others.now (omega arith))
+returns-else-range g c = sym (past_part c.args.range.from c.args.range.upto c.args.others.now (omega arith))

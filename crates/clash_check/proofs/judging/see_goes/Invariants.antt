@@ -1,4 +1,4 @@
-use Rattle.std.proofs.Common.{◌≤◌, ◌<◌, ℕ, All, take, length}
+use Rattle.std.proofs.Common.{◌≤◌, All, take, length}
 use Rattle.axis_sets.specs.declared.limits.TheConstants.{CHANNEL_LIMIT}
 use Rattle.sync_types.specs.Views.{EntryView}
 use Rattle.clash_check.proofs.judging.see_goes.Given as goal

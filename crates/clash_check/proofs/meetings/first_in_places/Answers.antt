@@ -1,7 +1,8 @@
-use Rattle.std.proofs.Common.{◌≡◌, ◌∙◌, ◌+◌, drop, get_or, true, false, sym, ap, refl, Option, arith}
+use Rattle.std.proofs.Common.{◌≡◌, ◌∙◌, ◌+◌, drop, get_or, true, false, sym, ap, Option}
 use Rattle.std.specs.Option.{option_or}
 use Rattle.std.proofs.lemmas.List.{get_or_default}
 use Rattle.order_clocks.specs.Tells.{is_before_in}
+use Rattle.clash_check.proofs.KeptLaws.{no_rows}
 use Rattle.clash_check.proofs.FirstLaws.{first_some-drop_more}
 use Rattle.clash_check.proofs.PlaceLaws.{no_box, passing_places, first_between}
 use Rattle.clash_check.specs.FirstAnswer.{first_some}
@@ -18,9 +19,9 @@ returns-in-Some c =
     let own : ZoneBox = get_or c.args.boxes.now c.loop-own.own-index no_box in
     let found : ZoneBox → Option Names = λ own. first_touched_among case true (place_of c.args.left.now.zone.now c.args.left.now.stretch.now own) c.args.right.now.zone.now c.args.right.now.stretch.now c.args.others.now in
     let here : c.first_touched.result ≡ found own =
-    c.first_touched.ensures ∙ first_between case (place_of c.args.left.now.zone.now c.args.left.now.stretch.now own) c.args.right.now.zone.now c.args.right.now.stretch.now c.args.others.now
-    c.boxes_between-near.result.now c.place_range-range.result.from c.place_range-range.result.upto (passing_places own c.args.others.now c.requires.ascend false)
-    c.place_range-range.ensures.from c.place_range-range.ensures.upto c.boxes_between-near.ensures in
+    c.first_touched.ensures.names ∙ first_between case (place_of c.args.left.now.zone.now c.args.left.now.stretch.now own) c.args.right.now.zone.now c.args.right.now.stretch.now c.args.others.now
+    c.part-near.result.now c.place_range-range.result.from c.place_range-range.result.upto (passing_places own c.args.others.now c.requires.ascend false)
+    c.place_range-range.ensures.from c.place_range-range.ensures.upto c.part-near.ensures in
     ap (λ (r : Option Names). option_or r (first_some found (drop (c.loop-own.own-index + 1) c.args.boxes.now))) (sym c.in-Some.is ∙ here)
     ∙ sym (first_some-drop_more found c.args.boxes.now c.loop-own.own-index own c.loop-own-test.true (get_or_default c.args.boxes.now c.loop-own.own-index no_box own c.loop-own-test.true)) ∙ c.loop-own.invariant
 
@@ -30,8 +31,16 @@ loop-own-preserved c =
     let own : ZoneBox = get_or c.args.boxes.now c.loop-own.own-index no_box in
     let found : ZoneBox → Option Names = λ own. first_touched_among case true (place_of c.args.left.now.zone.now c.args.left.now.stretch.now own) c.args.right.now.zone.now c.args.right.now.stretch.now c.args.others.now in
     let here : c.first_touched.result ≡ found own =
-    c.first_touched.ensures ∙ first_between case (place_of c.args.left.now.zone.now c.args.left.now.stretch.now own) c.args.right.now.zone.now c.args.right.now.stretch.now c.args.others.now
-    c.boxes_between-near.result.now c.place_range-range.result.from c.place_range-range.result.upto (passing_places own c.args.others.now c.requires.ascend false)
-    c.place_range-range.ensures.from c.place_range-range.ensures.upto c.boxes_between-near.ensures in
+    c.first_touched.ensures.names ∙ first_between case (place_of c.args.left.now.zone.now c.args.left.now.stretch.now own) c.args.right.now.zone.now c.args.right.now.stretch.now c.args.others.now
+    c.part-near.result.now c.place_range-range.result.from c.place_range-range.result.upto (passing_places own c.args.others.now c.requires.ascend false)
+    c.place_range-range.ensures.from c.place_range-range.ensures.upto c.part-near.ensures in
     ap (λ (r : Option Names). option_or r (first_some found (drop (c.loop-own.own-index + 1) c.args.boxes.now))) (sym c.in_default.is ∙ here)
     ∙ sym (first_some-drop_more found c.args.boxes.now c.loop-own.own-index own c.loop-own-test.true (get_or_default c.args.boxes.now c.loop-own.own-index no_box own c.loop-own-test.true)) ∙ c.loop-own.invariant
+
+pub first_touched-requires-clause-kept : goal.first_touched-requires-clause-kept
+first_touched-requires-clause-kept c = record {
+  covers = c.kept_for-kept.ensures.covers;
+  pieces =
+      no_rows c.args.scene.now.job.now c.args.scene.now.run.now c.args.right.now.zone.now c.args.right.now.stretch.now c.part-near.result.now c.kept_for-kept.result.pieces
+      c.kept_for-kept.ensures.pieces;
+}

@@ -1,4 +1,4 @@
-use Rattle.std.proofs.Common.{ℕ, ◌+◌, drop, get_or, arith}
+use Rattle.std.proofs.Common.{ℕ, get_or, arith}
 use Rattle.std.specs.List.{count_by, sum_by}
 use Rattle.std.proofs.lemmas.List.Sums.{sum_by-drop_more}
 use Rattle.clash_check.proofs.PlaceLaws.{no_box, passing_places, counted_places}

@@ -1,4 +1,4 @@
-use Rattle.std.proofs.Common.{◌≡◌, ◌∙◌, ◌≤◌, ◌<◌, ◌-◌, ◌*◌, ap, ℕ, Bool, true, false, length, get_or, refl, rules}
+use Rattle.std.proofs.Common.{◌≡◌, ◌∙◌, ◌-◌, ◌*◌, ap, ℕ, false, length, refl, rules}
 use Rattle.order_clocks.specs.Tells.{is_before_in}
 use Rattle.clash_check.proofs.NearLaws.{count_of_part}
 use Rattle.clash_check.proofs.RunningLaws.{alone, count_by_sums}

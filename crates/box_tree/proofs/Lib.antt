@@ -1,0 +1,3 @@
+pub mod HullLaws
+pub mod SlantLaws
+pub mod TreeLaws

@@ -1,0 +1,4 @@
+pub mod Firsts
+pub mod Hulls
+pub mod Rows
+pub mod Slants
