@@ -10,3 +10,5 @@ mod races;
 mod runs;
 #[cfg(test)]
 mod times;
+#[cfg(test)]
+mod workers;

@@ -1,0 +1,10 @@
+mod Histories
+mod Walks
+mod Sameness
+mod Tellings
+mod Notes
+mod Joins
+mod Agreeing
+mod GoneOn
+mod Assembly
+mod Parting

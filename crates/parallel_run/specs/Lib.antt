@@ -1,0 +1,3 @@
+pub mod Workers
+pub mod ThreadRuns
+pub mod Joining

@@ -1,0 +1,58 @@
+//! A worker: it makes the steps of a channel at a board.
+ghost use Rattle.std.specs.Prelude.{◌≡◌, ◌≤◌, length, IfOk};
+ghost use Rattle.job_lines.specs.declared.limits.TheConstants.{PROGRAM_LIMIT};
+ghost use Rattle.job_types.specs.SoundJob.{BlocksFit};
+ghost use Rattle.parallel_run.specs.Workers.{IsWorked, TellsNothingYet, TellsOwn};
+
+use crate::worked::Worked;
+use axis_sets::ChannelId;
+use channel_machine::grant_fits;
+use coord_core::{Desk, Outcome};
+use edge_io::Gate;
+use job_types::Job;
+use nc_faults::NoMemory;
+use std::alloc::Global;
+use std::sync::Wait;
+
+/// Makes the segments and the steps of a channel, each after the gate, until the channel is done, the run is over or the board
+/// is closed. It stops at a grant that does not fit the channel. Where it finds no memory itself it closes the board; the only
+/// error is want of memory, its own or another's.
+pub(crate) fn work<R: Wait, D: Desk, G: Gate>(
+    rt: &R,
+    alloc: Global,
+    job: &Job,
+    desk: &D,
+    gate: &G,
+    channel: ChannelId,
+    pass: &mut D::Pass,
+) -> Result<Worked, NoMemory>
+    requires blocks { BlocksFit job.now }
+    requires programs { length job.now.programs ≤ PROGRAM_LIMIT }
+    requires fits { D.fits desk.now pass.old }
+    requires fresh { TellsNothingYet channel (D.tells pass.old) }
+    ensures fits { D.fits desk.now pass.new }
+    ensures worked { IfOk result (λ w. IsWorked job.now w) }
+    ensures own { TellsOwn job.now channel (D.tells pass.new) }
+{
+    let mut worked = Worked::new(alloc, channel);
+    let mut outcome = desk.wait_start(rt, pass);
+    let mut number = 0u32;
+    'turns: for _ in rt.forever() {
+        let grant = match outcome {
+            Outcome::Granted(grant) => grant,
+            Outcome::Done | Outcome::Over => return Ok(worked),
+            Outcome::Closed | Outcome::NoMemory => return Err(NoMemory),
+        };
+        gate.pass(channel.number, number);
+        number = number.saturating_add(1);
+        if !grant_fits(job, worked.last.as_ref(), &grant) {
+            return Ok(worked);
+        }
+        let Ok(step) = worked.note(alloc, job, &grant) else {
+            desk.close(rt, pass);
+            return Err(NoMemory);
+        };
+        outcome = desk.act_and_wait(rt, pass, step);
+    }
+    unreachable!()
+}
