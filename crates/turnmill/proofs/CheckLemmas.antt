@@ -16,12 +16,12 @@ use Rattle.tape_job.proofs.SoundJobs.{read_sound}
 use Rattle.tape_job.specs.Read.{read_of}
 use Rattle.turnmill.proofs.ClearLemmas.{clear_by}
 use Rattle.turnmill.proofs.JobDoings.{sound_doings}
-use Rattle.turnmill.proofs.JobItems.{run_items, run_moves}
+use Rattle.turnmill.proofs.JobItems.{made_by}
 use Rattle.turnmill.proofs.QuietRuns.{quiet_in_order}
 use Rattle.turnmill.specs.Input.{ReadsAll, TakesTooMany}
 use Rattle.turnmill.specs.JobDoings.{doings_of}
 use Rattle.turnmill.specs.Judged.{IsClear, IsJudged}
-use Rattle.turnmill.specs.Output.{IsAnswer, IsOutput, IsOutputOf, IsReadWhole, IsVerdict, Writes, WritesFront, status_of}
+use Rattle.turnmill.specs.Output.{IsAnswer, IsOutput, IsOutputOf, IsReadWhole, IsReportedBy, IsVerdict, Writes, WritesFront, status_of}
 use Rattle.turnmill.specs.declared.check.Status.{Status}
 use Rattle.turnmill.specs.declared.check.Status.TheVariants as ends
 
@@ -86,14 +86,10 @@ of_whole_input P (Some input) after bytes reads so = (rw reads.0 so, reads.1)
 -- ---- the output of a job
 
 -- a front of its report
-pub front_of_report : (job : JobView) (run : RunView) (verdict : Verdict) (old new : Option (List ℕ)) → IsJudged job run verdict
+pub front_of_report : (job : JobView) (run : RunView) (verdict : Verdict) (old new : Option (List ℕ)) → IsReportedBy job run verdict
     → GrowsByFront old new (report_bytes job run verdict) → WritesFront (IsOutputOf (Ok job)) old new
-front_of_report job run verdict old new judged grows = record {
-  status = status_of verdict;
-  bytes = report_bytes job run verdict;
-  called_for = record { run = run; verdict = verdict; judged = judged; status_is = refl; bytes_are = refl };
-  grows = grows;
-}
+front_of_report job run verdict old new reported grows =
+    record { status = status_of verdict; bytes = report_bytes job run verdict; called_for = reported; grows = grows }
 
 -- ---- how the call ends
 
@@ -160,7 +156,7 @@ safe_if_clear : (job : JobView) → IsSoundJob job → IsClear job → IsSafeAlw
 safe_if_clear job sound clear =
     always_safe job (doings_of job) clear.in_order.channels clear.run clear.before sound (sound_doings job sound)
     (quiet_in_order job sound clear.run clear.in_order clear.no_race)
-    (record { moves = run_moves job clear.run clear.in_order; items = run_items job clear.run clear.in_order })
+    (made_by job clear.run clear.in_order.channels clear.in_order.all)
     clear.ordered clear.apart
 
 safe_where : (read : Result JobView Refusal) → IfOk read IsSoundJob → IsOkAnd read IsClear → IsOkAnd read (λ job. IsSafeAlways job (doings_of job))

@@ -155,15 +155,16 @@ none_fits before race job run stretches is =
 -- a job of which the verdict is YES is clear
 pub clear_by : (job : JobView) (run : RunView) → IsJudged job run verdicts.Yes → IsClear job
 clear_by job run judged =
-    let fits = none_fits judged.before judged.race job run (zone_time_in job run) (sym judged.verdict_is) in
-    let first : IsFirstRaceIn job run None = subst (λ race. IsFirstRaceIn job run race) fits.no_race judged.first in
+    let told = judged.on in
+    let fits = none_fits told.before told.race job run (zone_time_in job run) (sym told.verdict_is) in
+    let first : IsFirstRaceIn job run None = subst (λ race. IsFirstRaceIn job run race) fits.no_race told.first in
     record {
       run = run;
       in_order = judged.in_order;
       no_race = first;
       finished = fits.finished;
-      before = judged.before;
-      ordered = judged.ordered;
+      before = told.before;
+      ordered = told.ordered;
       few = fits.few;
       apart = fits.apart;
     }

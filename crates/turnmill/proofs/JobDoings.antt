@@ -21,11 +21,11 @@ use Rattle.product_run.proofs.GoodRuns.{good_beginning, good_stage, has_within, 
 use Rattle.product_run.proofs.Motions.{moves_from, step_places}
 use Rattle.product_run.proofs.OwnedRuns.{own_run, running_got}
 use Rattle.product_run.proofs.Switching.{owner_is, owns_its_grant}
-use Rattle.product_run.proofs.Usage.{no_usage, usage_from}
+use Rattle.coord_core.proofs.Usage.{no_usage, usage_from}
 use Rattle.product_run.proofs.ZoneSteps.{script_switches, switched, switched_by}
 use Rattle.product_run.specs.RunLaws as laws
 use Rattle.product_run.specs.RunLaws.{MovesSoundly}
-use Rattle.product_run.specs.Scripts.{script_of, segment_after}
+use Rattle.channel_machine.specs.Scripts.{script_of, segment_after}
 use Rattle.protection_zones.specs.ZoneBoxes.{moves_zone, seen, sight_of, stand_after}
 use Rattle.protection_zones.specs.declared.sights.Sight.TheVariants.{Nothing, Turns, Moves}
 use Rattle.schedule_laws.specs.Schedules.{IsRunOf}

@@ -10,9 +10,9 @@ use Rattle.job_types.specs.SoundJob.{IsSoundJob}
 use Rattle.product_run.proofs.Motions.{stands_first, stands_next}
 use Rattle.product_run.proofs.OwnedRuns.{IsOwnStage, own_beginning, own_run, own_turn}
 use Rattle.product_run.proofs.Owning.{IsOwnState, was_owned}
-use Rattle.product_run.proofs.Usage.{Usage, no_usage, usage_after, usage_from}
+use Rattle.coord_core.proofs.Usage.{Usage, no_usage, usage_after, usage_from}
 use Rattle.product_run.specs.RunLaws as laws
-use Rattle.product_run.specs.Scripts.{script_of, segment_after}
+use Rattle.channel_machine.specs.Scripts.{script_of, segment_after}
 use Rattle.schedule_laws.specs.Schedules.{IsRunOf}
 use Rattle.speed_laws.proofs.Runs.{left_at_same}
 use Rattle.speed_laws.proofs.Standing.{before_more}

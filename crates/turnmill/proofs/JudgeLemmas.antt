@@ -1,5 +1,5 @@
--- What the parts of a verdict need of the run in order of an accepted job.
-use Rattle.std.proofs.Common.{◌≡◌, ◌<◌, ◌≤◌, All, List, length, refl, ap, ◌∙◌, arith}
+-- What the parts of a verdict need of a run of an accepted job after which no channel runs.
+use Rattle.std.proofs.Common.{◌≡◌, ◌<◌, ◌≤◌, All, List, length, Result, Ok, Err, IfOk, refl, ap, ◌∙◌, arith}
 use Rattle.std.proofs.lemmas.List.Elements.{All-weaker}
 use Rattle.std.specs.Prelude.{sum_by}
 use Rattle.axis_sets.specs.declared.limits.TheConstants.{CHANNEL_LIMIT}
@@ -14,10 +14,11 @@ use Rattle.order_clocks.specs.Clocked.{ClocksView, IsOrderOf, moves_in}
 use Rattle.order_clocks.specs.Races.{IsFirst}
 use Rattle.order_clocks.specs.Tells.{is_before_in}
 use Rattle.product_run.proofs.GoodRuns.{runs_are_sound}
-use Rattle.product_run.proofs.Motions.{runs_in_order_are_whole}
+use Rattle.product_run.proofs.Motions.{runs_are_whole}
+use Rattle.product_run.proofs.Short.{few_entries}
 use Rattle.product_run.specs.RunLaws.{IsSoundRun, MovesSoundly, step_limit}
 use Rattle.product_run.specs.RunLaws as law
-use Rattle.product_run.specs.Scripts.{IsRunInOrder}
+use Rattle.channel_machine.specs.Scripts.{IsMaximalRunOf, IsRunInOrder}
 use Rattle.protection_zones.specs.SoundStretches.{IsOfSize}
 use Rattle.protection_zones.specs.Stretches.{StretchesView, all_stretches}
 use Rattle.protection_zones.specs.ZoneBoxes.{IsFit}
@@ -28,19 +29,27 @@ use Rattle.sync_types.specs.declared.ChannelEnd.{ChannelEnd}
 use Rattle.sync_types.specs.declared.ChannelEnd.TheVariants.{Idle, Ended, Holding, Alarmed}
 use Rattle.sync_types.specs.declared.Item.{Item}
 use Rattle.sync_types.specs.declared.verdicts.Verdict.{Verdict}
-use Rattle.turnmill.specs.Judged.{IsJudged}
+use Rattle.turnmill.specs.Judged.{IsJudgedOf}
 use Rattle.turnmill.specs.Judgements.{IsJudgedBy}
+use Rattle.turnmill.specs.Output.{IsReportedBy}
 
-module _ (job : JobView) (run : RunView) (sound : IsSoundJob job) (in_order : IsRunInOrder job (start_of job) run) where
+-- how a channel has stopped
+listed : (end : ChannelEnd) → law.IsListedEnd end → IsListedEnd end
+listed Idle is = tt
+listed (Ended line) is = tt
+listed (Holding line) is = tt
+listed (Alarmed alarm) is = is
+
+module _ (job : JobView) (run : RunView) (sound : IsSoundJob job) (maximal : IsMaximalRunOf job (start_of job) run) where
   -- it comes from the start of the job
   pub comes : ComesFrom (start_of job) run
-  comes = (runs_in_order_are_whole job (start_of job) run (start_sound job sound) in_order).comes
+  comes = (runs_are_whole job (start_of job) run (start_sound job sound) maximal).comes
 
   pub comes_from_one : (start : StartView) × ComesFrom start run
   comes_from_one = (start_of job, comes)
 
   good : IsSoundRun run
-  good = runs_are_sound job run sound in_order
+  good = runs_are_sound job run sound maximal
 
   fits : (item : Item) → MovesSoundly item → IsFit item
   fits item moves = record { sound = moves.sound; within = moves.within }
@@ -68,20 +77,26 @@ module _ (job : JobView) (run : RunView) (sound : IsSoundJob job) (in_order : Is
     order = order (start_of job) comes;
   }
 
-  -- and so the verdict that rests on them is that on the job
+  -- its alarms are in the table
+  pub listed_ends : All IsListedEnd run.ends
+  listed_ends = All-weaker law.IsListedEnd IsListedEnd listed run.ends good.ends
+
+  -- and so the verdict that rests on them is that on the run
   pub judged : (stretches : StretchesView) (clocks : ClocksView) (verdict : Verdict)
       → ((start : StartView) → ComesFrom start run → stretches ≡ all_stretches job (first_board start) run)
       → ((start : StartView) → ComesFrom start run → IsOrderOf (first_board start) (moves_in run.entries) (is_before_in clocks.rows))
       → ((start : StartView) → ComesFrom start run → IsFirst (first_board start) (moves_in run.entries) (length run.entries) clocks.race)
       → verdict ≡ verdict_by (is_before_in clocks.rows) clocks.race job run stretches
-      → IsJudged job run verdict
+      → IsJudgedOf job run verdict
   judged stretches clocks verdict time order race is = record {
-    in_order = in_order;
-    before = is_before_in clocks.rows;
-    ordered = order (start_of job) comes;
-    race = clocks.race;
-    first = race (start_of job) comes;
-    verdict_is = is ∙ ap (λ (s : StretchesView). verdict_by (is_before_in clocks.rows) clocks.race job run s) (time (start_of job) comes);
+    maximal = maximal;
+    on = record {
+      before = is_before_in clocks.rows;
+      ordered = order (start_of job) comes;
+      race = clocks.race;
+      first = race (start_of job) comes;
+      verdict_is = is ∙ ap (λ (s : StretchesView). verdict_by (is_before_in clocks.rows) clocks.race job run s) (time (start_of job) comes);
+    };
   }
 
   pub judged_by : (stretches : StretchesView) (clocks : ClocksView) (verdict : Verdict)
@@ -94,22 +109,26 @@ module _ (job : JobView) (run : RunView) (sound : IsSoundJob job) (in_order : Is
   judged_by stretches clocks verdict time order race is = record {
     judged = judged stretches clocks verdict time order race is;
     before_is = refl;
+    race_is = refl;
     time_is = time (start_of job) comes;
     told = told stretches clocks time order;
   }
 
   -- it is short
-  pub of_size : length run.entries ≤ step_limit → All (λ e. length e.goes ≤ CHANNEL_LIMIT) run.entries → IsOfSize run
-  of_size few goes = record { entries = omega (arith, few); items = few_in_all; goes = goes }
+  pub few : length run.entries ≤ step_limit
+  few = few_entries job run maximal
 
--- ---- how the channels have stopped
+  pub of_size : All (λ e. length e.goes ≤ CHANNEL_LIMIT) run.entries → IsOfSize run
+  of_size goes = let short = few in record { entries = omega (arith, short); items = few_in_all; goes = goes }
 
-listed : (end : ChannelEnd) → law.IsListedEnd end → IsListedEnd end
-listed Idle is = tt
-listed (Ended line) is = tt
-listed (Holding line) is = tt
-listed (Alarmed alarm) is = is
+-- ---- a run that is reported
 
--- each alarm is in the table
-pub listed_ends : (job : JobView) (run : RunView) (verdict : Verdict) → IsSoundJob job → IsJudged job run verdict → All IsListedEnd run.ends
-listed_ends job run verdict sound is = All-weaker law.IsListedEnd IsListedEnd listed run.ends (runs_are_sound job run sound is.in_order).ends
+pub reported_in_order : (job : JobView) (run : RunView) (clocks : ClocksView) (stretches : StretchesView) (verdict : Verdict) → IsJudgedBy job run clocks stretches verdict
+    → IsRunInOrder job (start_of job) run → IsReportedBy job run verdict
+reported_in_order job run clocks stretches verdict is ordered =
+    record { run = run; verdict = verdict; judged = record { in_order = ordered; on = is.judged.on }; status_is = refl; bytes_are = refl }
+
+-- what two clauses say of a value
+pub both_ok : {X E : Type 0} (r : Result X E) (P Q R : X → Type 0) → ((x : X) → P x → Q x → R x) → IfOk r P → IfOk r Q → IfOk r R
+both_ok (Ok x) P Q R follows p q = follows x p q
+both_ok (Err e) P Q R follows p q = tt

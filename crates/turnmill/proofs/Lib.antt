@@ -13,3 +13,12 @@ pub mod JobStands
 pub mod JobDoings
 pub mod RequestLemmas
 pub mod SampleLemmas
+pub mod Matches
+pub mod AlikePairs
+pub mod AlikeVerdicts
+pub mod AlikeReports
+pub mod RowOrder
+pub mod InOrder
+pub mod AnyRun
+pub mod AlikeInOrder
+pub mod CallLemmas

@@ -12,7 +12,7 @@ use Rattle.nc_faults.specs.declared.Refusal.{Refusal}
 use Rattle.order_clocks.specs.Clocked.{moves_in}
 use Rattle.order_clocks.specs.RaceOrder.{IsUpTo, numbers_of}
 use Rattle.order_clocks.specs.Races.{IsFirst, IsFirstAt, IsRace}
-use Rattle.product_run.specs.Scripts.{IsRunInOrder, run_of, script_of}
+use Rattle.channel_machine.specs.Scripts.{IsRunInOrder, run_of, script_of}
 use Rattle.protection_zones.proofs.OneOrder.{orders_compare_the_same}
 use Rattle.protection_zones.specs.Overlaps.{Order, Pair, compared_pairs}
 use Rattle.protection_zones.specs.Pieces.{pair_meets}
@@ -126,16 +126,16 @@ one_verdict job run before other_before race other_race ordered other_ordered fi
     ∙ sym (is_by_pairs other_before other_race job run (zone_time_in job run))
 
 judged_once : (job : JobView) (run other_run : RunView) (verdict other : Verdict) → IsJudged job run verdict → IsJudged job other_run other → (run ≡ other_run) × (verdict ≡ other)
-judged_once job run other_run verdict other one two = (same, one.verdict_is ∙ verdicts_agree ∙ sym two.verdict_is)
+judged_once job run other_run verdict other one two = (same, one.on.verdict_is ∙ verdicts_agree ∙ sym two.on.verdict_is)
   where
     same : run ≡ other_run
     same = one_run job run other_run one.in_order two.in_order
 
-    verdicts_agree : verdict_by one.before one.race job run (zone_time_in job run) ≡ verdict_by two.before two.race job other_run (zone_time_in job other_run)
+    verdicts_agree : verdict_by one.on.before one.on.race job run (zone_time_in job run) ≡ verdict_by two.on.before two.on.race job other_run (zone_time_in job other_run)
     verdicts_agree =
-        one_verdict job run one.before two.before one.race two.race one.ordered (subst (λ (r : RunView). IsOrderIn job r two.before) (sym same) two.ordered)
-        one.first (subst (λ (r : RunView). IsFirstRaceIn job r two.race) (sym same) two.first)
-        ∙ ap (λ (r : RunView). verdict_by two.before two.race job r (zone_time_in job r)) same
+        one_verdict job run one.on.before two.on.before one.on.race two.on.race one.on.ordered (subst (λ (r : RunView). IsOrderIn job r two.on.before) (sym same) two.on.ordered)
+        one.on.first (subst (λ (r : RunView). IsFirstRaceIn job r two.on.race) (sym same) two.on.first)
+        ∙ ap (λ (r : RunView). verdict_by two.on.before two.on.race job r (zone_time_in job r)) same
 
 -- ---- the output
 

@@ -5,7 +5,7 @@ use Rattle.clash_check.specs.Verdicts.{verdict_by}
 use Rattle.job_types.specs.Job.{JobView}
 use Rattle.job_types.specs.SoundJob.{IsSoundJob}
 use Rattle.nc_faults.specs.declared.Refusal.{Refusal}
-use Rattle.product_run.specs.Scripts.{IsRunInOrder, script_of}
+use Rattle.channel_machine.specs.Scripts.{IsRunInOrder, script_of}
 use Rattle.protection_zones.specs.Overlaps.{Order}
 use Rattle.protection_zones.specs.Stretches.{StretchesView}
 use Rattle.schedule_laws.proofs.RunLaws.{all_agree, speaks}
@@ -52,11 +52,11 @@ no_race before (Some race) job run stretches other = absurd (other refl)
 result_by : (read : Result JobView Refusal) (status : Status) (bytes : List ℕ) → IfOk read IsSoundJob → IsVerdict status → status ≢ ends.Race
     → IsOutputOf read status bytes → IsOkAnd read HasOneResult
 result_by (Ok job) status bytes sound is other output =
-    let judged = output.judged in
-    let not_race : status_of (verdict_by judged.before judged.race job output.run (zone_time_in job output.run)) ≢ ends.Race = λ same.
-    other (output.status_is ∙ ap status_of judged.verdict_is ∙ same) in
-    let none : judged.race ≡ None = no_race judged.before judged.race job output.run (zone_time_in job output.run) not_race in
-    one_result job sound output.run judged.in_order (subst (λ (r : Option Race). IsFirstRaceIn job output.run r) none judged.first)
+    let told = output.judged.on in
+    let not_race : status_of (verdict_by told.before told.race job output.run (zone_time_in job output.run)) ≢ ends.Race = λ same.
+    other (output.status_is ∙ ap status_of told.verdict_is ∙ same) in
+    let none : told.race ≡ None = no_race told.before told.race job output.run (zone_time_in job output.run) not_race in
+    one_result job sound output.run output.judged.in_order (subst (λ (r : Option Race). IsFirstRaceIn job output.run r) none told.first)
 result_by (Err refusal) status bytes sound is other output = absurd (subst IsVerdict output.status_is is)
 
 pub one_result_at : (left after old new : Option (List ℕ)) (bytes : List ℕ) (status : Status) → ReadsAll left after bytes → length bytes ≤ 8388608

@@ -1,5 +1,6 @@
 -- What a sample calls for.
 use Rattle.std.proofs.Common.{◌≡◌, ◌∙◌, ◌≤◌, ℕ, List, [], length, Option, None, Some, Result, Ok, Err, IfSome, refl, sym, ap, subst}
+use Rattle.channel_machine.specs.StartStates.{start_of}
 use Rattle.clash_check.specs.Counts.{count_of}
 use Rattle.edge_io.specs.Moves.{GrowsByFront}
 use Rattle.job_report.specs.Report.{report_bytes}
@@ -9,6 +10,7 @@ use Rattle.job_types.specs.Job.{JobView}
 use Rattle.nc_faults.specs.declared.Refusal.{Refusal}
 use Rattle.order_clocks.specs.Clocked.{ClocksView}
 use Rattle.order_clocks.specs.Tells.{is_before_in}
+use Rattle.channel_machine.specs.Scripts.{IsRunInOrder}
 use Rattle.protection_zones.specs.Overlaps.{Order}
 use Rattle.protection_zones.specs.Stretches.{StretchesView}
 use Rattle.sample_jobs.specs.Samples.{sample_bytes}
@@ -28,7 +30,7 @@ use Rattle.turnmill.specs.declared.words.Request.TheVariants.{Sample}
 -- ---- the two lines of a job
 
 module _ (number : ℕ) (job : JobView) (run : RunView) (clocks : ClocksView) (stretches : StretchesView) (verdict : Verdict)
-    (is : IsJudgedBy job run clocks stretches verdict) where
+    (is : IsJudgedBy job run clocks stretches verdict) (ordered : IsRunInOrder job (start_of job) run) where
   -- the pairs that are counted are those of the time of the zones
   pub pairs_counted : (count : ℕ) → count ≡ count_of (is_before_in clocks.rows) job stretches → count ≡ count_of (is_before_in clocks.rows) job (zone_time_in job run)
   pairs_counted count counted = counted ∙ ap (λ (s : StretchesView). count_of (is_before_in clocks.rows) job s) is.time_is
@@ -39,7 +41,7 @@ module _ (number : ℕ) (job : JobView) (run : RunView) (clocks : ClocksView) (s
   summary_called figures figures_are = record {
     run = run;
     verdict = verdict;
-    judged = is.judged;
+    judged = record { in_order = ordered; on = is.judged.on };
     status_is = refl;
     bytes_are =
         ap (λ (f : Figures). summary_bytes f verdict)

@@ -7,8 +7,7 @@ use Rattle.std.specs.declared.io.Error.{Error}
 use Rattle.std.specs.declared.io.ErrorKind.TheVariants.{OutOfMemory}
 use Rattle.std.specs.declared.string.String.{String}
 use Rattle.std.specs.declared.vec.IntoIter.{IntoIter}
-use Rattle.turnmill.specs.Input.{is_check}
-use Rattle.turnmill.specs.Words.{request_of}
+use Rattle.turnmill.specs.Words.{call_of, reads_input}
 use Rattle.turnmill.specs.declared.check.Status.{Status}
 use Rattle.turnmill.specs.declared.check.Status.TheVariants.{Usage, NoMemory}
 use Rattle.turnmill.specs.declared.words.Request.{Request}
@@ -21,15 +20,15 @@ Arguments = IntoIter (String Global) Global
 abbrev pub words_in : Arguments → List (List ℕ)
 words_in arguments = map string_bytes (drop 1 (into_iter_items arguments))
 
--- the words are `check` alone; arguments of which one is no text have no words
-abbrev pub asks_for_check : Result Arguments Error → Bool
-asks_for_check (Ok arguments) = is_check (words_in arguments)
-asks_for_check (Err error) = false
+-- the words ask for the input to be read; arguments of which one is no text have no words
+abbrev pub asks_to_read : Result Arguments Error → Bool
+asks_to_read (Ok arguments) = reads_input (words_in arguments)
+asks_to_read (Err error) = false
 
--- what the words ask for
-abbrev pub request_in : Result Arguments Error → Option Request
-request_in (Ok arguments) = request_of (words_in arguments)
-request_in (Err error) = None
+-- what the words call for
+abbrev pub call_in : Result Arguments Error → Option Request
+call_in (Ok arguments) = call_of (words_in arguments)
+call_in (Err error) = None
 
 -- an argument is no text: the arguments could not be had, and not for want of memory
 abbrev pub HasNoText : Result Arguments Error → Type 0

@@ -1,6 +1,6 @@
 -- Meaning. What the channels of a job do, as the laws of all speeds see it.
 use Rattle.job_types.specs.Job.{JobView}
-use Rattle.product_run.specs.Scripts.{script_of, segment_after}
+use Rattle.channel_machine.specs.Scripts.{script_of, segment_after}
 use Rattle.speed_laws.specs.Doings.{Doings}
 
 -- each channel makes the items of its segment, and then the step at its end

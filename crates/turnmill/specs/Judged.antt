@@ -1,4 +1,4 @@
--- Meaning. The verdict on a job, which is that on its run in order, and what YES says of the job.
+-- Meaning. The verdict on a run of a job, that on the job, which is the one on its run in order, and what YES says of the job.
 use Rattle.std.specs.Prelude.{◌≡◌, ℕ, ◌<◌, ◌≤◌, All, length, find, Option, None}
 use Rattle.channel_machine.specs.StartStates.{start_of}
 use Rattle.clash_check.specs.Counts.{count_of}
@@ -6,7 +6,7 @@ use Rattle.clash_check.specs.Verdicts.{stops_of, verdict_by}
 use Rattle.job_types.specs.Job.{JobView}
 use Rattle.order_clocks.specs.Clocked.{IsOrderOf, moves_in}
 use Rattle.order_clocks.specs.Races.{IsFirst, IsRace}
-use Rattle.product_run.specs.Scripts.{IsRunInOrder}
+use Rattle.channel_machine.specs.Scripts.{IsMaximalRunOf, IsRunInOrder}
 use Rattle.protection_zones.specs.Overlaps.{Order, compared_pairs}
 use Rattle.protection_zones.specs.Pieces.{pair_meets}
 use Rattle.protection_zones.specs.Stretches.{StretchesView, all_stretches}
@@ -33,14 +33,23 @@ IsOrderIn job run before = IsOrderOf (board_of job) (moves_in run.entries) befor
 abbrev pub IsFirstRaceIn : JobView → RunView → Option Race → Type 0
 IsFirstRaceIn job run race = IsFirst (board_of job) (moves_in run.entries) (length run.entries) race
 
--- the run of the job in order, and the verdict on it
-pub record IsJudged (job : JobView) (run : RunView) (verdict : Verdict) : Type 0 where
-  pub in_order : IsRunInOrder job (start_of job) run
+-- the verdict is that on the run: by the order of its events, its first race and the times of its zones
+pub record IsVerdictOn (job : JobView) (run : RunView) (verdict : Verdict) : Type 0 where
   pub before : Order
   pub ordered : IsOrderIn job run before
   pub race : Option Race
   pub first : IsFirstRaceIn job run race
   pub verdict_is : verdict ≡ verdict_by before race job run (zone_time_in job run)
+
+-- the run of the job in order, and the verdict on it
+pub record IsJudged (job : JobView) (run : RunView) (verdict : Verdict) : Type 0 where
+  pub in_order : IsRunInOrder job (start_of job) run
+  pub on : IsVerdictOn job run verdict
+
+-- a run of the job after which no channel runs, however they took turns, and the verdict on it
+pub record IsJudgedOf (job : JobView) (run : RunView) (verdict : Verdict) : Type 0 where
+  pub maximal : IsMaximalRunOf job (start_of job) run
+  pub on : IsVerdictOn job run verdict
 
 -- no alarm has stopped the channel, and it does not wait
 abbrev pub HasFinished : ChannelEnd → Type 0

@@ -7,11 +7,12 @@ use Rattle.order_clocks.specs.Tells.{is_before_in}
 use Rattle.protection_zones.specs.Stretches.{StretchesView}
 use Rattle.sync_types.specs.Views.{RunView}
 use Rattle.sync_types.specs.declared.verdicts.Verdict.{Verdict}
-use Rattle.turnmill.specs.Judged.{IsJudged, zone_time_in}
+use Rattle.turnmill.specs.Judged.{IsJudgedOf, zone_time_in}
 
--- the verdict on the run in order, by these clocks and these stretches
+-- the verdict on a run of the job, by these clocks and these stretches
 pub record IsJudgedBy (job : JobView) (run : RunView) (clocks : ClocksView) (stretches : StretchesView) (verdict : Verdict) : Type 0 where
-  pub judged : IsJudged job run verdict
-  pub before_is : judged.before ≡ is_before_in clocks.rows
+  pub judged : IsJudgedOf job run verdict
+  pub before_is : judged.on.before ≡ is_before_in clocks.rows
+  pub race_is : judged.on.race ≡ clocks.race
   pub time_is : stretches ≡ zone_time_in job run
   pub told : IsTold job run stretches clocks

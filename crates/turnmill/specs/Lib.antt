@@ -7,3 +7,4 @@ pub mod Words
 pub mod Summary
 pub mod Arguments
 pub mod JobDoings
+pub mod AnyRun

@@ -2,7 +2,7 @@
 use Rattle.std.specs.Prelude.{◌≡◌, ℕ, ◌==◌, List, [], ◌∷◌, ◌++◌, if◌then◌else◌}
 use Rattle.channel_machine.specs.StartStates.{start_of}
 use Rattle.job_types.specs.Job.{JobView}
-use Rattle.product_run.specs.Scripts.{run_of, script_of}
+use Rattle.channel_machine.specs.Scripts.{run_of, script_of}
 use Rattle.schedule_laws.specs.Schedules.{HasNoRace, HaveSameResult, IsMaximalOf, IsRunOf}
 use Rattle.sync_types.specs.Views.{EntryView, RunView}
 use Rattle.sync_types.specs.declared.Item.{Item}

@@ -46,6 +46,10 @@ pub record IsReportOf (job : JobView) (status : Status) (bytes : List ℕ) : Typ
   pub status_is : status ≡ status_of verdict
   pub bytes_are : bytes ≡ report_bytes job run verdict
 
+-- a job calls for the report of this run with this verdict, and for the status of the verdict
+abbrev pub IsReportedBy : JobView → RunView → Verdict → Type 0
+IsReportedBy job run verdict = IsReportOf job (status_of verdict) (report_bytes job run verdict)
+
 -- a refusal calls for its line
 pub record IsLineOf (refusal : Refusal) (status : Status) (bytes : List ℕ) : Type 0 where
   pub status_is : status ≡ ends.Refused

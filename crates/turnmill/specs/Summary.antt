@@ -50,7 +50,7 @@ pub record IsSummaryOf (number : ℕ) (job : JobView) (status : Status) (bytes :
   pub verdict : Verdict
   pub judged : IsJudged job run verdict
   pub status_is : status ≡ status_of verdict
-  pub bytes_are : bytes ≡ summary_bytes (figures_of number job run verdict judged.before) verdict
+  pub bytes_are : bytes ≡ summary_bytes (figures_of number job run verdict judged.on.before) verdict
 
 -- a refusal calls for its line
 abbrev pub IsSummaryBy : ℕ → Result JobView Refusal → Status → List ℕ → Type 0

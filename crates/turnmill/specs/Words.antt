@@ -1,5 +1,5 @@
 -- Meaning. The words of a call: what they ask for, and the input that they call for.
-use Rattle.std.specs.Prelude.{ℕ, ◌==◌, ◌&&◌, nat_lt, nat_le, Bool, if◌then◌else◌, List, [], ◌∷◌, length, codes, Option, None, Some, option_and_then, option_map}
+use Rattle.std.specs.Prelude.{ℕ, ◌==◌, ◌&&◌, ◌||◌, nat_lt, nat_le, Bool, false, if◌then◌else◌, List, [], ◌∷◌, length, codes, Option, None, Some, option_and_then, option_map}
 use Rattle.std.specs.Char.{is_ascii_digit}
 use Rattle.std.specs.List.{list_all}
 use Rattle.std.specs.Str.{bytes_eq}
@@ -36,6 +36,19 @@ sample_number words = option_and_then number_of (number_text words)
 -- what the words ask for; None where they have no accepted form
 abbrev pub request_of : List (List ℕ) → Option Request
 request_of words = if is_check words then Some Check else option_map (λ number. Sample number) (sample_number words)
+
+-- the words are `run` alone
+abbrev pub is_run : List (List ℕ) → Bool
+is_run (word ∷ []) = bytes_eq word (codes "run")
+is_run words = false
+
+-- the words ask for the input to be read
+abbrev pub reads_input : List (List ℕ) → Bool
+reads_input words = is_run words || is_check words
+
+-- what the words call for where threads may run a job: `run` calls for what `check` calls for
+abbrev pub call_of : List (List ℕ) → Option Request
+call_of words = if is_run words then Some Check else request_of words
 
 -- the input that they call for: that of the source, or the job of the number
 abbrev pub input_for : Option Request → Option (List ℕ) → Option (List ℕ)

@@ -1,6 +1,7 @@
 //! The check of an input, from the words of the call to the bytes of the answer.
-ghost use Rattle.std.specs.Prelude.{◌≡◌, ◌≢◌, ◌↔◌, ◌⊎◌, ℕ, ◌-◌, ◌^◌, ◌<◌, ◌≤◌, Bool, true, false, [], length, map, None, IfSome, IfOk, IsOkAnd, IsErr, IsErrAnd, Some, Ok, Err};
+ghost use Rattle.std.specs.Prelude.{◌≡◌, ◌≢◌, ◌↔◌, ◌⊎◌, ℕ, ◌-◌, ◌^◌, ◌<◌, ◌≤◌, Bool, true, false, [], All, length, map, None, IfSome, IfOk, IsOkAnd, IsErr, IsErrAnd, Some, Ok, Err};
 ghost use Rattle.edge_io.specs.Moves.{Grows};
+ghost use Rattle.job_report.specs.Channels.{IsListedEnd};
 ghost use Rattle.job_report.specs.Report.{refusal_bytes};
 ghost use Rattle.job_types.specs.SoundJob.{BlocksFit, IsSoundJob};
 ghost use Rattle.nc_faults.specs.Texts.{IsRefusalCode};
@@ -10,11 +11,11 @@ ghost use Rattle.turnmill.specs.JobDoings.{doings_of};
 ghost use Rattle.turnmill.specs.Input.{is_check, ReadsInput, TakesTooMany};
 ghost use Rattle.turnmill.specs.Judged.{IsClear};
 ghost use Rattle.turnmill.specs.OneResult.{HasOneResult};
-ghost use Rattle.turnmill.specs.Output.{status_of, IsAnswer, IsOutput, IsOutputOf, IsReadWhole, IsVerdict, Writes, WritesFront};
+ghost use Rattle.turnmill.specs.Output.{status_of, IsAnswer, IsOutput, IsOutputOf, IsReadWhole, IsReportedBy, IsVerdict, Writes, WritesFront};
 ghost use Rattle.turnmill.specs.Summary.{IsOutputFor};
 ghost use Rattle.turnmill.specs.Words.{input_for, request_of};
 
-use crate::judging::judge_job;
+use crate::judging::{Judgement, judge_in_order};
 use crate::sample::answer_sample;
 use crate::words::{Request, request_of};
 use edge_io::{Failed, Sink, Source};
@@ -108,7 +109,7 @@ impl From<AllocError> for InputFault {
 
 /// Reads an input to its end, or to its `TOO_MANY`th byte. The first read that gives no byte or fails is the last one: what
 /// may be done with a source allows no read after it.
-fn read_input<S: Source>(alloc: Global, source: &mut S) -> Result<Vec<u8>, InputFault>
+pub(crate) fn read_input<S: Source>(alloc: Global, source: &mut S) -> Result<Vec<u8>, InputFault>
     requires few { S.faults source.old < 2 ^ 64 - 1 }
     requires readable { S.can_read source.old }
     ensures { ReadsInput result (S.left source.old) (S.left source.new) (S.faults source.old) (S.faults source.new) }
@@ -140,7 +141,25 @@ pub(crate) fn status_of(verdict: &Verdict) -> Status
     }
 }
 
-/// Answers an accepted job: judges it, and then writes its report. No byte is written before all memory is taken.
+/// Writes the report of a job that is judged, and answers with the status of the verdict.
+pub(crate) fn write_report<K: Sink>(job: &Job, judgement: &Judgement, sink: &mut K) -> Status
+    requires reported { IsReportedBy job.now judgement.now.run judgement.now.verdict }
+    requires listed { All IsListedEnd judgement.now.run.ends }
+    requires few { K.faults sink.old < 2 ^ 64 - 1 }
+    ensures whole { IsReadWhole result → Writes (IsOutputOf (Ok job.now)) result (K.written sink.old) (K.written sink.new) }
+    ensures front { result ≡ Status.WriteFault → WritesFront (IsOutputOf (Ok job.now)) (K.written sink.old) (K.written sink.new) }
+    ensures memory { result ≢ Status.NoMemory }
+    ensures cause { (result ≡ Status.WriteFault) ↔ (K.faults sink.old < K.faults sink.new) }
+    ensures never_fall { K.faults sink.old ≤ K.faults sink.new }
+    ensures ends { IsAnswer result }
+{
+    match report(job, &judgement.run, &judgement.verdict, sink) {
+        Ok(()) => status_of(&judgement.verdict),
+        Err(_) => Status::WriteFault,
+    }
+}
+
+/// Answers an accepted job: judges its run in order, and then writes its report. No byte is written before all memory is taken.
 fn answer_job<K: Sink>(alloc: Global, job: &Job, sink: &mut K) -> Status
     requires accepted { IsSoundJob job.now }
     requires indices { BlocksFit job.now }
@@ -152,13 +171,10 @@ fn answer_job<K: Sink>(alloc: Global, job: &Job, sink: &mut K) -> Status
     ensures never_fall { K.faults sink.old ≤ K.faults sink.new }
     ensures ends { IsAnswer result }
 {
-    let Ok(judgement) = judge_job(alloc, job) else {
+    let Ok(judgement) = judge_in_order(alloc, job) else {
         return Status::NoMemory;
     };
-    match report(job, &judgement.run, &judgement.verdict, sink) {
-        Ok(()) => status_of(&judgement.verdict),
-        Err(_) => Status::WriteFault,
-    }
+    write_report(job, &judgement, sink)
 }
 
 /// Answers a refused input: writes the line of its refusal.

@@ -1,11 +1,15 @@
-//! A job is run in order, and the run is judged.
+//! A run of a job is judged.
 ghost use Rattle.std.specs.Prelude.{◌≡◌, ◌≤◌, All, IfOk, length};
 ghost use Rattle.axis_sets.specs.declared.limits.TheConstants.{CHANNEL_LIMIT};
+ghost use Rattle.channel_machine.specs.StartStates.{start_of};
 ghost use Rattle.clash_check.specs.Counts.{count_of};
+ghost use Rattle.job_report.specs.Channels.{IsListedEnd};
 ghost use Rattle.job_types.specs.SoundJob.{BlocksFit, IsSoundJob};
 ghost use Rattle.order_clocks.specs.Tells.{is_before_in};
 ghost use Rattle.product_run.specs.RunLaws.{step_limit};
+ghost use Rattle.channel_machine.specs.Scripts.{IsMaximalRunOf, IsRunInOrder};
 ghost use Rattle.turnmill.specs.Judgements.{IsJudgedBy};
+ghost use Rattle.turnmill.specs.Output.{IsReportedBy};
 
 use clash_check::{count, judge};
 use nc_faults::NoMemory;
@@ -16,7 +20,7 @@ use std::alloc::Global;
 use sync_types::{Entry, Run, Verdict};
 use tape_job::Job;
 
-/// The run of a job in order and the verdict on it, with the clocks and the stretches of zones that the verdict rests on.
+/// A run of a job and the verdict on it, with the clocks and the stretches of zones that the verdict rests on.
 #[derive(Drop)]
 pub(crate) struct Judgement {
     pub(crate) run: Run,
@@ -25,14 +29,13 @@ pub(crate) struct Judgement {
     pub(crate) verdict: Verdict,
 }
 
-/// Runs a job and judges the run.
-pub(crate) fn judge_job(alloc: Global, job: &Job) -> Result<Judgement, NoMemory>
+/// Judges a run of a job after which no channel runs, in whatever order they took turns.
+pub(crate) fn judge_run(alloc: Global, job: &Job, run: Run) -> Result<Judgement, NoMemory>
     requires accepted { IsSoundJob job.now }
-    requires indices { BlocksFit job.now }
+    requires maximal { IsMaximalRunOf job.now (start_of job.now) run }
     ensures judged { IfOk result (λ j. IsJudgedBy job.now j.run j.clocks j.stretches j.verdict) }
-    ensures few { IfOk result (λ j. length j.run.entries ≤ step_limit) }
+    ensures same { IfOk result (λ j. j.run ≡ run) }
 {
-    let run = run_in_order(alloc, job)?;
     let clocks = clocks_of(alloc, &run)?;
     let stretches = stretches_of(alloc, job, &run, &clocks)?;
     let verdict = judge(alloc, job, &run, &stretches, &clocks)?;
@@ -42,6 +45,28 @@ pub(crate) fn judge_job(alloc: Global, job: &Job) -> Result<Judgement, NoMemory>
         stretches,
         verdict,
     })
+}
+
+/// Runs a job in order, and judges the run.
+pub(crate) fn judge_job(alloc: Global, job: &Job) -> Result<Judgement, NoMemory>
+    requires accepted { IsSoundJob job.now }
+    requires indices { BlocksFit job.now }
+    ensures judged { IfOk result (λ j. IsJudgedBy job.now j.run j.clocks j.stretches j.verdict) }
+    ensures in_order { IfOk result (λ j. IsRunInOrder job.now (start_of job.now) j.run) }
+{
+    let run = run_in_order(alloc, job)?;
+    judge_run(alloc, job, run)
+}
+
+/// Runs a job in order, and judges the run for its report.
+pub(crate) fn judge_in_order(alloc: Global, job: &Job) -> Result<Judgement, NoMemory>
+    requires accepted { IsSoundJob job.now }
+    requires indices { BlocksFit job.now }
+    ensures reported { IfOk result (λ j. IsReportedBy job.now j.run j.verdict) }
+    ensures listed { IfOk result (λ j. All IsListedEnd j.run.ends) }
+    ensures few { IfOk result (λ j. length j.run.entries ≤ step_limit) }
+{
+    judge_job(alloc, job)
 }
 
 /// How many channels go on in a step: at most as many as there may be.
@@ -62,7 +87,7 @@ fn see_goes(run: &Run)
 }
 
 /// The steps of a run.
-fn entries_of(run: &Run) -> &[Entry]
+pub(crate) fn entries_of(run: &Run) -> &[Entry]
     ensures { result.now ≡ run.now.entries }
 {
     run.entries.as_slice()
@@ -72,7 +97,6 @@ fn entries_of(run: &Run) -> &[Entry]
 pub(crate) fn pair_count(job: &Job, judgement: &Judgement) -> u64
     requires accepted { IsSoundJob job.now }
     requires judged { IsJudgedBy job.now judgement.now.run judgement.now.clocks judgement.now.stretches judgement.now.verdict }
-    requires few { length judgement.now.run.entries ≤ step_limit }
     ensures { result ≡ count_of (is_before_in judgement.now.clocks.rows) job.now judgement.now.stretches }
 {
     see_goes(&judgement.run);

@@ -2,7 +2,17 @@
 ghost use Rattle.job_types.specs.Job.{JobView};
 ghost use Rattle.job_types.specs.SoundJob.{IsSoundJob};
 ghost use Rattle.speed_laws.specs.DoingLaws.{AreSound, TellTheBoard};
+ghost use Rattle.sync_types.specs.Views.{RunView};
+ghost use Rattle.sync_types.specs.declared.verdicts.Verdict.{Verdict};
+ghost use Rattle.turnmill.specs.AnyRun.{QuietRunsAreReported};
 ghost use Rattle.turnmill.specs.JobDoings.{doings_of};
+
+/// A law: an accepted job calls for the report of its run in order and the status of the verdict on it. Where a run after which no
+/// channel runs has no race, in whatever order the channels took turns, the job calls for its report and its status: they are
+/// the same.
+pub fn quiet_runs_are_reported()
+    ensures { (job : JobView) (run : RunView) (verdict : Verdict) → QuietRunsAreReported job run verdict }
+{}
 
 /// A law: in every run of an accepted job, however its channels take turns, a channel that runs knows where its axes stand, and
 /// its motions join and have only axes that it owns; and its step tells the board where the axes stand that it lets go, and

@@ -5,7 +5,6 @@ ghost use Rattle.job_report.specs.Channels.{IsListedEnd};
 ghost use Rattle.job_report.specs.Report.{report_bytes};
 ghost use Rattle.job_types.specs.SoundJob.{BlocksFit, IsSoundJob};
 ghost use Rattle.order_clocks.specs.Tells.{is_before_in};
-ghost use Rattle.product_run.specs.RunLaws.{step_limit};
 ghost use Rattle.sample_jobs.specs.Samples.{sample_bytes};
 ghost use Rattle.sample_jobs.specs.declared.TheConstants.{GREATEST_NUMBER};
 ghost use Rattle.tape_job.specs.Read.{read_of};
@@ -89,7 +88,6 @@ fn report_length(job: &Job, run: &Run, verdict: &Verdict) -> Option<u64>
 fn figures_of(number: u32, job: &Job, judgement: &Judgement) -> Option<Figures>
     requires accepted { IsSoundJob job.now }
     requires judged { IsJudgedBy job.now judgement.now.run judgement.now.clocks judgement.now.stretches judgement.now.verdict }
-    requires few { length judgement.now.run.entries ≤ step_limit }
     ensures { IfSome result (λ figures. figures
         ≡ figures_of number job.now judgement.now.run judgement.now.verdict (is_before_in judgement.now.clocks.rows)) }
 {

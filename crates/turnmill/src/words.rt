@@ -6,7 +6,7 @@ ghost use Rattle.std.specs.Str.{bytes_eq};
 ghost use Rattle.clap.specs.Words.{first_value, found_of, kind_of};
 ghost use Rattle.sample_jobs.specs.declared.TheConstants.{GREATEST_NUMBER};
 ghost use Rattle.turnmill.specs.Input.{is_check};
-ghost use Rattle.turnmill.specs.Words.{is_number, number_of, number_text, request_of, sample_number, text_after};
+ghost use Rattle.turnmill.specs.Words.{is_number, is_run, number_of, number_text, request_of, sample_number, text_after};
 ghost use Rattle.turnmill.specs.declared.words.Request.TheVariants as requests;
 
 use clap::error::ErrorKind;
@@ -32,6 +32,16 @@ fn is_check(words: &[&str]) -> bool
 {
     match words {
         [word] => *word == "check",
+        _ => false,
+    }
+}
+
+/// Whether the words are `run` alone.
+pub(crate) fn is_run(words: &[&str]) -> bool
+    ensures { result ≡ is_run (map (λ word. word.now) words.now) }
+{
+    match words {
+        [word] => *word == "run",
         _ => false,
     }
 }

@@ -1,4 +1,4 @@
--- The pairs of a run in order are few.
+-- The pairs of a run are few.
 use Rattle.clash_check.proofs.VerdictLaws.{few_pairs}
 use Rattle.order_clocks.specs.Tells.{is_before_in}
 use Rattle.turnmill.proofs.JudgeLemmas.{of_size}
@@ -10,5 +10,5 @@ count-requires c =
     record {
       whole = (c.args.judgement.now.run, judged.told);
       few = few_pairs c.args.job.now c.args.judgement.now.run c.args.judgement.now.stretches c.args.judgement.now.clocks (is_before_in c.args.judgement.now.clocks.rows) judged.told
-          (of_size c.args.job.now c.args.judgement.now.run c.requires.accepted judged.judged.in_order c.requires.few c.see_goes.ensures);
+          (of_size c.args.job.now c.args.judgement.now.run c.requires.accepted judged.judged.maximal c.see_goes.ensures);
     }

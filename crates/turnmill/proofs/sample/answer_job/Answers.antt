@@ -9,7 +9,7 @@ use Rattle.turnmill.proofs.sample.answer_job.Goals as goal
 pub returns-in-Ok-summary-clause-whole : goal.returns-in-Ok-summary-clause-whole
 returns-in-Ok-summary-clause-whole g c = λ whole.
     let job = c.args.job.now in
-    let called = summary_called c.args.number job c.in-Ok.judgement.run c.in-Ok.judgement.clocks c.in-Ok.judgement.stretches c.in-Ok.judgement.verdict c.in-Ok.ensures.judged c.in-Some.figures c.in-Some.ensures in
+    let called = summary_called c.args.number job c.in-Ok.judgement.run c.in-Ok.judgement.clocks c.in-Ok.judgement.stretches c.in-Ok.judgement.verdict c.in-Ok.ensures.judged c.in-Ok.ensures.in_order c.in-Some.figures c.in-Some.ensures in
     let bytes : List ℕ = summary_bytes c.in-Some.figures c.in-Ok.judgement.verdict in
     record {
       bytes = bytes;
@@ -19,4 +19,4 @@ returns-in-Ok-summary-clause-whole g c = λ whole.
 
 pub returns-clause-front : goal.returns-clause-front
 returns-clause-front g c = λ is. front_of_summary c.args.number c.args.job.now c.in-Ok.judgement.run c.in-Ok.judgement.clocks c.in-Ok.judgement.stretches c.in-Ok.judgement.verdict c.in-Ok.ensures.judged
-    c.in-Some.figures _ _ c.in-Some.ensures c.in-Err.ensures.front
+    c.in-Ok.ensures.in_order c.in-Some.figures _ _ c.in-Some.ensures c.in-Err.ensures.front

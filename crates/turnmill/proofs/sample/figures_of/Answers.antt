@@ -1,11 +1,9 @@
 -- The figures are those of the run and the verdict.
-use Rattle.std.proofs.Common.{rules}
 use Rattle.turnmill.proofs.JudgeLemmas.{few_in_all, listed_ends}
-use Rattle.turnmill.proofs.SampleLemmas.{pairs_counted}
 use Rattle.turnmill.proofs.sample.figures_of.Goals as goal
 
 pub report_length-requires : goal.report_length-requires
-report_length-requires c = listed_ends c.args.job.now c.args.judgement.now.run c.args.judgement.now.verdict c.requires.accepted c.requires.judged.judged
+report_length-requires c = listed_ends c.args.job.now c.args.judgement.now.run c.requires.accepted c.requires.judged.judged.maximal
 
 pub move_count-requires : goal.move_count-requires
-move_count-requires c = few_in_all c.args.job.now c.args.judgement.now.run c.requires.accepted c.requires.judged.judged.in_order
+move_count-requires c = few_in_all c.args.job.now c.args.judgement.now.run c.requires.accepted c.requires.judged.judged.maximal
