@@ -1,0 +1,290 @@
+//! The same facts as the text has, as JSON. Lengths are whole micrometres.
+ghost use Rattle.std.specs.Prelude.{◌≤◌, All};
+ghost use Rattle.job_lines.specs.declared.limits.TheConstants.{DEPTH_LIMIT};
+ghost use Rattle.protection_zones.specs.ZoneBoxes.{IsFit};
+
+use crate::data_places::{block_data, box_data, channel_number, place_data, side_data};
+use axis_sets::{CHANNEL_PLACES, ChannelId};
+use nc_faults::{NoMemory, Refusal};
+use serde_json::{Value, json};
+use std::alloc::{AllocError, Global};
+use sync_types::{ChannelEnd, Race, Verdict};
+use verdict_reasons::{
+    Clash, Group, Judged, Lines, Meeting, Near, PairNumber, alarm_advice, alarm_cause, alarm_name,
+    clash_of, end_of, fault_place, groups_of, margin_left, nearest_of, pair_numbers, race_prize,
+    race_remedy, refusal_advice, refusal_cause, refusal_name,
+};
+
+/// The name of a direction of space.
+fn direction_name(direction: usize) -> &'static str {
+    match direction {
+        0 => "X",
+        1 => "Y",
+        _ => "Z",
+    }
+}
+
+/// What two boxes that meet have in common, and by what they would be apart.
+fn clash_data(alloc: Global, clash: &Clash) -> Result<Value, AllocError> {
+    let common = box_data(alloc, &clash.common)?;
+    json!(in alloc; {
+        "common": common,
+        "apart_by": {"direction": direction_name(clash.way.direction), "by": clash.way.shift.saturating_add(1)},
+        "apart_with_margin": clash.margin,
+        "apart_with_depth": clash.depth
+    })
+}
+
+/// The first two boxes that meet.
+fn first_data(alloc: Global, judged: &Judged, met: &Meeting) -> Result<Value, AllocError>
+    requires fit { All (All IsFit) judged.now.run.now.items }
+    requires deep { judged.now.job.now.depth ≤ DEPTH_LIMIT }
+{
+    let left = place_data(alloc, judged, &met.left)?;
+    let right = place_data(alloc, judged, &met.right)?;
+    let clash = clash_data(alloc, &clash_of(judged, met))?;
+    json!(in alloc; {"left": left, "right": right, "clash": clash})
+}
+
+/// A pair of lines that meets.
+fn group_data(
+    alloc: Global,
+    judged: &Judged,
+    met: &[Meeting],
+    group: &Group,
+) -> Result<Value, AllocError> {
+    match met.get(group.first) {
+        Some(pair) => {
+            let left = side_data(alloc, judged, &pair.left)?;
+            let right = side_data(alloc, judged, &pair.right)?;
+            json!(in alloc; {"left": left, "right": right, "count": group.count})
+        }
+        None => Ok(Value::Null),
+    }
+}
+
+/// All pairs of lines that meet.
+fn groups_data(
+    alloc: Global,
+    judged: &Judged,
+    met: &[Meeting],
+    groups: &[Group],
+) -> Result<Vec<Value>, AllocError> {
+    let mut rows = Vec::new(alloc);
+    for group in groups {
+        rows.push(group_data(alloc, judged, met, group)?)?;
+    }
+    Ok(rows)
+}
+
+/// The verdict NO.
+fn no_data(alloc: Global, judged: &Judged, met: &[Meeting]) -> Result<Value, NoMemory>
+    requires fit { All (All IsFit) judged.now.run.now.items }
+    requires deep { judged.now.job.now.depth ≤ DEPTH_LIMIT }
+{
+    let groups = groups_of(alloc, met)?;
+    let rows = groups_data(alloc, judged, met, groups.as_slice())?;
+    let first = match met.first() {
+        Some(first) => first_data(alloc, judged, first)?,
+        None => Value::Null,
+    };
+    Ok(json!(in alloc; {"verdict": "NO", "status": 1, "first": first, "meetings": rows})?)
+}
+
+/// How near two groups come to each other.
+fn near_data(alloc: Global, judged: &Judged, near: &Near) -> Result<Value, AllocError> {
+    let left = place_data(alloc, judged, &near.left)?;
+    let right = place_data(alloc, judged, &near.right)?;
+    let apart = (0i64).saturating_sub(near.reach);
+    json!(in alloc; {
+        "groups": [near.groups.0, near.groups.1],
+        "apart": apart,
+        "margin_left": margin_left(apart),
+        "left": left,
+        "right": right
+    })
+}
+
+/// How near each two groups come to each other.
+fn nears_data(alloc: Global, judged: &Judged, rows: &[Near]) -> Result<Vec<Value>, AllocError> {
+    let mut values = Vec::new(alloc);
+    for near in rows {
+        values.push(near_data(alloc, judged, near)?)?;
+    }
+    Ok(values)
+}
+
+/// The verdict YES.
+fn yes_data(alloc: Global, judged: &Judged) -> Result<Value, NoMemory>
+    requires fit { All (All IsFit) judged.now.run.now.items }
+    requires deep { judged.now.job.now.depth ≤ DEPTH_LIMIT }
+{
+    let rows = nearest_of(alloc, judged)?;
+    let values = nears_data(alloc, judged, rows.as_slice())?;
+    Ok(json!(in alloc; {"verdict": "YES", "status": 0, "nearest": values})?)
+}
+
+/// How many pairs of each two zones are to be compared.
+fn numbers_data(alloc: Global, rows: &[PairNumber]) -> Result<Vec<Value>, AllocError> {
+    let mut values = Vec::new(alloc);
+    for row in rows {
+        let value = json!(in alloc; {
+            "zones": [row.zones.0.number, row.zones.1.number],
+            "count": row.count
+        })?;
+        values.push(value)?;
+    }
+    Ok(values)
+}
+
+/// The verdict UNDECIDED.
+fn undecided_data(
+    alloc: Global,
+    judged: &Judged,
+    count: u64,
+    budget: u32,
+) -> Result<Value, NoMemory>
+    requires fit { All (All IsFit) judged.now.run.now.items }
+    requires deep { judged.now.job.now.depth ≤ DEPTH_LIMIT }
+{
+    let rows = pair_numbers(alloc, judged)?;
+    let values = numbers_data(alloc, rows.as_slice())?;
+    Ok(json!(in alloc; {
+        "verdict": "UNDECIDED", "status": 5, "count": count, "budget": budget, "pairs": values
+    })?)
+}
+
+/// The verdict RACE.
+fn race_data(alloc: Global, judged: &Judged, race: &Race) -> Result<Value, AllocError> {
+    let first = block_data(alloc, judged, Some(race.first.0), race.first.1)?;
+    let second = block_data(alloc, judged, Some(race.second.0), race.second.1)?;
+    json!(in alloc; {
+        "verdict": "RACE",
+        "status": 2,
+        "first": first,
+        "second": second,
+        "prize": race_prize(race.case),
+        "remedy": race_remedy(race.case)
+    })
+}
+
+/// How a channel has stopped.
+fn stop_data(
+    alloc: Global,
+    judged: &Judged,
+    channel: ChannelId,
+    end: &ChannelEnd,
+) -> Result<Value, AllocError> {
+    match end {
+        ChannelEnd::Idle => json!(in alloc; {"channel": channel.number, "state": "IDLE"}),
+        ChannelEnd::Ended(line) => {
+            let block = block_data(alloc, judged, Some(channel), *line)?;
+            json!(in alloc; {"channel": channel.number, "state": "ENDED", "block": block})
+        }
+        ChannelEnd::Holding(line) => {
+            let block = block_data(alloc, judged, Some(channel), *line)?;
+            json!(in alloc; {"channel": channel.number, "state": "HOLDING", "block": block})
+        }
+        ChannelEnd::Alarmed(alarm) => {
+            let block = block_data(alloc, judged, Some(channel), alarm.line)?;
+            json!(in alloc; {
+                "channel": channel.number,
+                "state": "ALARM",
+                "block": block,
+                "code": alarm.code,
+                "name": alarm_name(alarm.code),
+                "cause": alarm_cause(alarm.code),
+                "advice": alarm_advice(alarm.code)
+            })
+        }
+    }
+}
+
+/// How each channel has stopped.
+fn stops_data(alloc: Global, judged: &Judged) -> Result<Vec<Value>, AllocError> {
+    let mut values = Vec::new(alloc);
+    for number in 1..CHANNEL_PLACES as u8 {
+        let channel = ChannelId { number };
+        if let Some(end) = end_of(judged, channel) {
+            values.push(stop_data(alloc, judged, channel, &end)?)?;
+        }
+    }
+    Ok(values)
+}
+
+/// The verdicts ALARM and STUCK.
+fn stopped_data(
+    alloc: Global,
+    judged: &Judged,
+    verdict: &str,
+    status: u8,
+    channel: ChannelId,
+) -> Result<Value, AllocError> {
+    let values = stops_data(alloc, judged)?;
+    json!(in alloc; {
+        "verdict": verdict, "status": status, "channel": channel_number(Some(channel)), "channels": values
+    })
+}
+
+/// The facts of a judged job with this verdict.
+fn verdict_data(
+    alloc: Global,
+    judged: &Judged,
+    verdict: &Verdict,
+    met: &[Meeting],
+) -> Result<Value, NoMemory>
+    requires fit { All (All IsFit) judged.now.run.now.items }
+    requires deep { judged.now.job.now.depth ≤ DEPTH_LIMIT }
+{
+    match verdict {
+        Verdict::Race(race) => Ok(race_data(alloc, judged, race)?),
+        Verdict::Alarm(channel, _) => Ok(stopped_data(alloc, judged, "ALARM", 4, *channel)?),
+        Verdict::Stuck(channel, _) => Ok(stopped_data(alloc, judged, "STUCK", 3, *channel)?),
+        Verdict::Undecided { count, budget } => undecided_data(alloc, judged, *count, *budget),
+        Verdict::No(_, _) => no_data(alloc, judged, met),
+        Verdict::Yes => yes_data(alloc, judged),
+    }
+}
+
+/// A value as a line of bytes.
+fn line_of(alloc: Global, value: &Value) -> Result<Vec<u8>, NoMemory> {
+    let text = value.to_string(alloc)?;
+    let mut bytes = Vec::new(alloc);
+    bytes.extend_from_slice(text.as_str().as_bytes())?;
+    bytes.push(b'\n')?;
+    Ok(bytes)
+}
+
+/// The facts of a judged job with this verdict, as a line of JSON.
+pub(crate) fn data_of(
+    alloc: Global,
+    judged: &Judged,
+    verdict: &Verdict,
+    met: &[Meeting],
+) -> Result<Vec<u8>, NoMemory>
+    requires fit { All (All IsFit) judged.now.run.now.items }
+    requires deep { judged.now.job.now.depth ≤ DEPTH_LIMIT }
+{
+    line_of(alloc, &verdict_data(alloc, judged, verdict, met)?)
+}
+
+/// The facts of a refused input, as a line of JSON.
+pub(crate) fn refusal_data(
+    alloc: Global,
+    input: &[u8],
+    lines: &Lines,
+    refusal: &Refusal,
+) -> Result<Vec<u8>, NoMemory> {
+    let place = fault_place(alloc, refusal.code, lines.text(input, refusal.line));
+    let value = json!(in alloc; {
+        "verdict": "REFUSED",
+        "status": 6,
+        "code": refusal.code,
+        "line": refusal.line,
+        "place": place,
+        "name": refusal_name(refusal.code),
+        "cause": refusal_cause(refusal.code),
+        "advice": refusal_advice(refusal.code)
+    })?;
+    line_of(alloc, &value)
+}

@@ -1,0 +1,273 @@
+//! A view of a picture: one direction of space upwards over another across.
+use crate::extents::{Extent, along, bounds_of, extent_of};
+use crate::shapes::{Look, Picture, Tile, Track, Turn};
+use growing_text::Text;
+
+/// A view: its two directions, what it shows of them, and where it stands in the drawing.
+#[derive(Clone, Copy)]
+pub(crate) struct View {
+    /// The direction that goes across, to the right.
+    pub(crate) across: usize,
+    /// The direction that goes upwards.
+    pub(crate) up: usize,
+    /// How far it shows the first.
+    pub(crate) wide: Extent,
+    /// How far it shows the second.
+    pub(crate) tall: Extent,
+    /// Where its left edge stands.
+    pub(crate) left: i64,
+    /// Where its upper edge stands.
+    pub(crate) top: i64,
+    /// The size of a letter.
+    pub(crate) letter: i64,
+}
+
+/// A view of a picture at a place of the drawing.
+pub(crate) fn view_of(picture: &Picture, up: usize, left: i64, top: i64, letter: i64) -> View {
+    View {
+        across: 2,
+        up,
+        wide: extent_of(picture, 2),
+        tall: extent_of(picture, up),
+        left,
+        top,
+        letter,
+    }
+}
+
+/// Writes a number of the drawing.
+pub(crate) fn put_number(text: &mut Text, number: i64) {
+    if number < 0 {
+        text.say("-");
+    }
+    text.number(number.unsigned_abs());
+}
+
+/// Writes an attribute with a number.
+pub(crate) fn put_attribute(text: &mut Text, name: &str, number: i64) {
+    text.say(" ");
+    text.say(name);
+    text.say("=\"");
+    put_number(text, number);
+    text.say("\"");
+}
+
+impl View {
+    /// The place of the drawing across.
+    fn x(&self, place: i64) -> i64 {
+        self.left
+            .saturating_add(place.saturating_sub(self.wide.low))
+    }
+
+    /// The place of the drawing downwards.
+    fn y(&self, place: i64) -> i64 {
+        self.top
+            .saturating_add(self.tall.high.saturating_sub(place))
+    }
+
+    /// Writes the point of a place in space.
+    fn put_point(&self, text: &mut Text, at: &[i64; 3]) {
+        put_number(text, self.x(along(at, self.across)));
+        text.say(" ");
+        put_number(text, self.y(along(at, self.up)));
+    }
+
+    /// Writes a box.
+    fn put_tile(&self, text: &mut Text, tile: &Tile) {
+        let (left, right) = bounds_of(tile, self.across);
+        let (low, high) = bounds_of(tile, self.up);
+        text.say("<rect class=\"");
+        put_look(text, tile.look);
+        text.say("\"");
+        put_attribute(text, "x", self.x(left));
+        put_attribute(text, "y", self.y(high));
+        put_attribute(text, "width", right.saturating_sub(left).max(0));
+        put_attribute(text, "height", high.saturating_sub(low).max(0));
+        text.say("/>\n");
+        if tile.label != 0 {
+            self.put_label(text, tile);
+        }
+    }
+
+    /// Writes the line of a box into its upper left corner.
+    fn put_label(&self, text: &mut Text, tile: &Tile) {
+        let (left, _) = bounds_of(tile, self.across);
+        let (_, high) = bounds_of(tile, self.up);
+        text.say("<text class=\"named\"");
+        put_attribute(text, "x", self.x(left).saturating_add(self.letter / 3));
+        put_attribute(text, "y", self.y(high).saturating_add(self.letter));
+        text.say(">line ");
+        text.number(u64::from(tile.label));
+        text.say("</text>\n");
+    }
+
+    /// Writes a way.
+    fn put_track(&self, text: &mut Text, track: &Track) {
+        text.say("<path class=\"t");
+        text.number(u64::from(track.channel));
+        text.say("\" d=\"M ");
+        self.put_point(text, &track.from);
+        match &track.turn {
+            Some(turn) if self.is_round(turn) => self.put_turn(text, track, turn),
+            _ => {
+                text.say(" L ");
+                self.put_point(text, &track.to);
+            }
+        }
+        text.say("\"/>\n");
+    }
+
+    /// Whether a turn is in the plane of the view.
+    fn is_round(&self, turn: &Turn) -> bool {
+        (turn.first.0 == self.across && turn.second.0 == self.up)
+            || (turn.first.0 == self.up && turn.second.0 == self.across)
+    }
+
+    /// Writes an arc, a whole turn in two halves.
+    fn put_turn(&self, text: &mut Text, track: &Track, turn: &Turn) {
+        let clockwise = self.is_clockwise(turn);
+        if turn.full {
+            let half = opposite(track, turn);
+            self.put_arc(text, turn, false, clockwise, &half);
+        }
+        let large = !turn.full && is_large(track, turn);
+        self.put_arc(text, turn, large, clockwise, &track.to);
+    }
+
+    /// Writes an arc to a place.
+    fn put_arc(&self, text: &mut Text, turn: &Turn, large: bool, clockwise: bool, to: &[i64; 3]) {
+        text.say(" A ");
+        text.number(u64::from(turn.radius));
+        text.say(" ");
+        text.number(u64::from(turn.radius));
+        text.say(if large { " 0 1 " } else { " 0 0 " });
+        text.say(if clockwise { "1 " } else { "0 " });
+        self.put_point(text, to);
+    }
+
+    /// Whether a turn from its first direction towards its second is clockwise in the drawing.
+    fn is_clockwise(&self, turn: &Turn) -> bool {
+        (turn.first.0 == self.up) == (turn.first.1 == turn.second.1)
+    }
+
+    /// Writes the boxes.
+    pub(crate) fn put_tiles(&self, text: &mut Text, tiles: &[Tile]) {
+        for tile in tiles {
+            self.put_tile(text, tile);
+        }
+    }
+
+    /// Writes the ways.
+    pub(crate) fn put_tracks(&self, text: &mut Text, tracks: &[Track]) {
+        for track in tracks {
+            self.put_track(text, track);
+        }
+    }
+
+    /// Writes the first place of each channel.
+    pub(crate) fn put_starts(&self, text: &mut Text, tracks: &[Track]) {
+        for number in 1..9u8 {
+            if let Some(track) = tracks.iter().find(|track| track.channel == number) {
+                self.put_start(text, track);
+            }
+        }
+    }
+
+    /// Writes the place at which a way begins.
+    fn put_start(&self, text: &mut Text, track: &Track) {
+        text.say("<circle class=\"s");
+        text.number(u64::from(track.channel));
+        text.say("\"");
+        put_attribute(text, "cx", self.x(along(&track.from, self.across)));
+        put_attribute(text, "cy", self.y(along(&track.from, self.up)));
+        put_attribute(text, "r", self.letter / 3);
+        text.say("/>\n");
+    }
+
+    /// Writes the two lines on which one of the directions is 0, and the names of both directions.
+    pub(crate) fn put_axes(&self, text: &mut Text) {
+        let right = self.left.saturating_add(self.wide.length());
+        let bottom = self.top.saturating_add(self.tall.length());
+        self.put_rule(text, self.left, self.y(0), right, self.y(0));
+        self.put_rule(text, self.x(0), self.top, self.x(0), bottom);
+        text.say("<text class=\"axis\"");
+        put_attribute(text, "x", right);
+        put_attribute(text, "y", self.y(0).saturating_sub(self.letter / 4));
+        text.say(" text-anchor=\"end\">Z</text>\n<text class=\"axis\"");
+        put_attribute(text, "x", self.x(0).saturating_add(self.letter / 4));
+        put_attribute(text, "y", self.top.saturating_add(self.letter));
+        text.say(if self.up == 1 {
+            ">Y</text>\n"
+        } else {
+            ">X</text>\n"
+        });
+    }
+
+    /// Writes a thin line.
+    fn put_rule(&self, text: &mut Text, x1: i64, y1: i64, x2: i64, y2: i64) {
+        text.say("<line class=\"axis\"");
+        put_attribute(text, "x1", x1);
+        put_attribute(text, "y1", y1);
+        put_attribute(text, "x2", x2);
+        put_attribute(text, "y2", y2);
+        text.say("/>\n");
+    }
+}
+
+/// Writes the class of a box.
+fn put_look(text: &mut Text, look: Look) {
+    match look {
+        Look::Held(channel) => {
+            text.say("b");
+            text.number(u64::from(channel));
+        }
+        Look::Free => text.say("free"),
+        Look::Named => text.say("red"),
+    }
+}
+
+/// The place on a whole turn that is the farthest from its start.
+fn opposite(track: &Track, turn: &Turn) -> [i64; 3] {
+    [
+        mirrored(track.from[0], turn.centre[0], is_in(turn, 0)),
+        mirrored(track.from[1], turn.centre[1], is_in(turn, 1)),
+        mirrored(track.from[2], turn.centre[2], is_in(turn, 2)),
+    ]
+}
+
+/// Whether a direction is of the plane of a turn.
+fn is_in(turn: &Turn, direction: usize) -> bool {
+    turn.first.0 == direction || turn.second.0 == direction
+}
+
+/// A place on the other side of a centre, where the direction turns.
+fn mirrored(place: i64, centre: i64, turns: bool) -> i64 {
+    if turns {
+        centre.saturating_add(centre.saturating_sub(place))
+    } else {
+        place
+    }
+}
+
+/// How far a place is from the centre of a turn along one of its directions, as the turn counts it.
+fn offset(at: &[i64; 3], turn: &Turn, direction: (usize, bool)) -> i64 {
+    let far = along(at, direction.0).saturating_sub(along(&turn.centre, direction.0));
+    if direction.1 {
+        (0i64).saturating_sub(far)
+    } else {
+        far
+    }
+}
+
+/// Whether a turn is more than half a circle.
+fn is_large(track: &Track, turn: &Turn) -> bool {
+    let from = (
+        offset(&track.from, turn, turn.first),
+        offset(&track.from, turn, turn.second),
+    );
+    let to = (
+        offset(&track.to, turn, turn.first),
+        offset(&track.to, turn, turn.second),
+    );
+    from.0.saturating_mul(to.1) < from.1.saturating_mul(to.0)
+}

@@ -1,0 +1,10 @@
+use Rattle.std.proofs.Common.{◌≡◌, ◌++◌}
+use Rattle.order_clocks.specs.Tells.{is_before_in}
+use Rattle.verdict_reasons.specs.MeetingSteps as model
+use Rattle.verdict_reasons.specs.Times.{lists_in, times_from}
+use Rattle.verdict_reasons.proofs.meetings.all_meetings.Given as goal
+
+abbrev pub invariant-loop-place : goal.invariant-loop-place
+invariant-loop-place l =
+    l.list.items ++ model.met_in_times (record { job = l.scene.job.now; run = l.scene.run.now; before = is_before_in l.scene.clocks.now.rows }) (times_from l.scene.job.now (lists_in l.lists) l.place)
+    ≡ model.met_in_times (record { job = l.scene.job.now; run = l.scene.run.now; before = is_before_in l.scene.clocks.now.rows }) (times_from l.scene.job.now (lists_in l.lists) 0)

@@ -1,0 +1,4 @@
+pub mod Judged
+pub mod Times
+pub mod Meetings
+pub mod MeetingSteps

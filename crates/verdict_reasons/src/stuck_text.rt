@@ -1,0 +1,181 @@
+//! The verdict STUCK, said.
+use crate::boards::{Board, last_board};
+use crate::executions::last_entry;
+use crate::judged::{Judged, say_block};
+use crate::motions::say_axis;
+use axis_sets::{AXIS_LIMIT, AxisId, AxisSet, CHANNEL_PLACES, ChannelId, ChannelSet};
+use growing_text::Text;
+use sync_types::{Action, ChannelEnd};
+
+/// Says a channel.
+pub(crate) fn say_channel(text: &mut Text, channel: ChannelId) {
+    text.say("channel ");
+    text.number(u64::from(channel.number));
+}
+
+/// The place of a channel among those of the job, from the lowest on; none where the job has it not.
+fn place_among(judged: &Judged, channel: ChannelId) -> Option<usize> {
+    let mut place: usize = 0;
+    let mut is_there = false;
+    for line in judged.job.channels.as_slice() {
+        if line.channel.number < channel.number {
+            place = place.saturating_add(1);
+        }
+        is_there = is_there || line.channel == channel;
+    }
+    if is_there { Some(place) } else { None }
+}
+
+/// How a channel has stopped.
+pub fn end_of(judged: &Judged, channel: ChannelId) -> Option<ChannelEnd> {
+    match place_among(judged, channel) {
+        Some(place) => judged.run.ends.as_slice().get(place).copied(),
+        None => None,
+    }
+}
+
+/// What the last block of coordination of a channel asked for.
+fn last_action(judged: &Judged, channel: ChannelId) -> Option<Action> {
+    let entries = judged.run.entries.as_slice();
+    match last_entry(entries, channel, entries.len()) {
+        Some(place) => match entries.get(place) {
+            Some(entry) => Some(entry.step.action),
+            None => None,
+        },
+        None => None,
+    }
+}
+
+/// Says how a channel has stopped.
+fn say_stop(text: &mut Text, judged: &Judged, channel: ChannelId) {
+    say_channel(text, channel);
+    match end_of(judged, channel) {
+        Some(ChannelEnd::Idle) => text.say(" has not started"),
+        Some(ChannelEnd::Ended(line)) => {
+            text.say(" has ended in ");
+            say_block(text, judged, line);
+        }
+        Some(ChannelEnd::Holding(line)) => {
+            text.say(" waits in ");
+            say_block(text, judged, line);
+        }
+        Some(ChannelEnd::Alarmed(alarm)) => {
+            text.say(" is stopped by an alarm in ");
+            say_block(text, judged, alarm.line);
+        }
+        None => text.say(" is none of the job"),
+    }
+    text.say(".\n");
+}
+
+/// Says that a mark of a channel is waited for.
+fn say_mark(text: &mut Text, judged: &Judged, board: &Board, channel: ChannelId, mark: u8) {
+    text.say("  for mark ");
+    text.number(u64::from(mark));
+    text.say(" of ");
+    if board.stands(channel, mark) {
+        say_channel(text, channel);
+        text.say(", which stands.\n");
+        return;
+    }
+    say_stop(text, judged, channel);
+    text.say("    ");
+    say_channel(text, channel);
+    text.say(" would give it by WAITM(");
+    text.number(u64::from(mark));
+    text.say(", ..) or SETM(");
+    text.number(u64::from(mark));
+    text.say(").\n");
+}
+
+/// Says for which marks a channel waits.
+fn say_marks(
+    text: &mut Text,
+    judged: &Judged,
+    board: &Board,
+    own: ChannelId,
+    mark: u8,
+    others: &ChannelSet,
+) {
+    for number in 1..CHANNEL_PLACES as u8 {
+        let channel = ChannelId { number };
+        if others.contains(channel) && channel != own {
+            say_mark(text, judged, board, channel, mark);
+        }
+    }
+}
+
+/// Says for the ends of which programs a channel waits.
+fn say_ends(text: &mut Text, judged: &Judged, others: &ChannelSet) {
+    for number in 1..CHANNEL_PLACES as u8 {
+        let channel = ChannelId { number };
+        if others.contains(channel) {
+            text.say("  for the end of the program: ");
+            say_stop(text, judged, channel);
+        }
+    }
+}
+
+/// Says for which axis a channel waits.
+fn say_one_axis(text: &mut Text, judged: &Judged, board: &Board, axis: AxisId) {
+    text.say("  for the axis ");
+    say_axis(text, judged.job, axis);
+    match board.owner(axis) {
+        Some(owner) => {
+            text.say(", which ");
+            say_channel(text, owner);
+            text.say(" owns and would give by RELEASE: ");
+            say_stop(text, judged, owner);
+        }
+        None => text.say(", which is free.\n"),
+    }
+}
+
+/// Says for which axes a channel waits.
+fn say_axes(text: &mut Text, judged: &Judged, board: &Board, axes: &AxisSet) {
+    for index in 0..AXIS_LIMIT as u8 {
+        let axis = AxisId { index };
+        if axes.contains(axis) {
+            say_one_axis(text, judged, board, axis);
+        }
+    }
+}
+
+/// Says for what a channel waits, and who could give it.
+fn say_wait(text: &mut Text, judged: &Judged, board: &Board, channel: ChannelId) {
+    match last_action(judged, channel) {
+        Some(Action::WaitM(mark, others)) => {
+            say_marks(text, judged, board, channel, mark, &others);
+        }
+        Some(Action::WaitE(others)) => say_ends(text, judged, &others),
+        Some(Action::Get(axes)) => say_axes(text, judged, board, &axes),
+        _ => {}
+    }
+}
+
+/// Says that a channel waits, and for what; nothing of one that does not wait.
+fn say_holding(text: &mut Text, judged: &Judged, board: &Board, channel: ChannelId) {
+    if let Some(ChannelEnd::Holding(line)) = end_of(judged, channel) {
+        say_channel(text, channel);
+        text.say(" waits for good in ");
+        say_block(text, judged, line);
+        text.say("\n");
+        say_wait(text, judged, board, channel);
+    }
+}
+
+/// Says all channels that wait for good.
+pub(crate) fn say_waits(text: &mut Text, judged: &Judged) {
+    let board = last_board(judged.job, judged.run);
+    for number in 1..CHANNEL_PLACES as u8 {
+        say_holding(text, judged, &board, ChannelId { number });
+    }
+}
+
+/// Says the verdict STUCK: who waits for good, for what, and who could give it.
+pub(crate) fn say_stuck(text: &mut Text, judged: &Judged, channel: ChannelId) {
+    text.say("STUCK: ");
+    say_channel(text, channel);
+    text.say(" waits for good, and so no boxes are compared.\n");
+    say_waits(text, judged);
+}
