@@ -16,9 +16,9 @@ use nc_faults::{NoMemory, Refusal};
 use run_drawing::draw;
 use std::alloc::{AllocError, Global};
 use std::env::Args;
-use std::io;
 use std::io::Write;
 use std::rt::Files;
+use std::{io, str};
 use sync_types::Verdict;
 use tape_job::{JobFault, read_job};
 use verdict_reasons::{Judged, Lines, explain, explain_refusal};
@@ -119,6 +119,14 @@ fn say_fault<R: Eprint>(rt: &R, name: &str, fault: &InputFault) -> u8 {
     FAULT
 }
 
+/// Says on standard error why a refused input is not drawn.
+fn say_undrawn<R: Eprint>(rt: &R, answer: &Answer) -> u8 {
+    if let Ok(text) = str::from_utf8(answer.text.as_slice()) {
+        let _ = rt.eprint(text);
+    }
+    answer.status
+}
+
 /// Writes an answer to standard output. Where nobody takes it, the call ends without a word.
 fn write_answer<R: Print>(rt: &R, answer: &Answer) -> u8 {
     match io::writer(rt).write_all(answer.text.as_slice()) {
@@ -142,6 +150,7 @@ fn answer_file<R: Files + Input + Print + Eprint>(
         return say_fault(rt, name, &InputFault::TooLong);
     }
     match answer_input(alloc, input.as_slice(), form) {
+        Ok(answer) if form == Form::Drawing && answer.status == REFUSED => say_undrawn(rt, &answer),
         Ok(answer) => write_answer(rt, &answer),
         Err(_) => say_fault(rt, name, &InputFault::NoMemory),
     }

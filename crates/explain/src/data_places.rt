@@ -6,7 +6,8 @@ use std::str;
 use swept_boxes::Box3;
 use sync_types::StretchKind;
 use verdict_reasons::{
-    Execution, Judged, Place, block_number, execution_of, line_text, program_name,
+    Execution, Judged, Origin, Place, block_number, execution_of, line_text, origin_of,
+    program_name,
 };
 
 /// The number of a channel; 0 for none.
@@ -33,7 +34,15 @@ pub(crate) fn box_data(alloc: Global, space: &Box3) -> Result<Value, AllocError>
     })
 }
 
-/// A block: its channel, its line, its number, its program and how it reads.
+/// A line of a file.
+fn origin_data(alloc: Global, origin: Option<Origin>) -> Result<Value, AllocError> {
+    match origin {
+        Some(origin) => json!(in alloc; {"file": text_of(origin.file), "line": origin.line}),
+        None => Ok(Value::Null),
+    }
+}
+
+/// A block: its channel, its line, its number, its program, how it reads, and the file that it comes from.
 pub(crate) fn block_data(
     alloc: Global,
     judged: &Judged,
@@ -41,12 +50,14 @@ pub(crate) fn block_data(
     line: u32,
 ) -> Result<Value, AllocError> {
     let text = line_text(judged, line);
+    let origin = origin_data(alloc, origin_of(judged.input, judged.lines, line))?;
     json!(in alloc; {
         "channel": channel_number(channel),
         "line": line,
         "number": text_of(block_number(text)),
         "program": text_of(program_name(judged.job, line)),
-        "text": text_of(text)
+        "text": text_of(text),
+        "origin": origin
     })
 }
 

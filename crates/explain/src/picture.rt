@@ -225,9 +225,10 @@ fn add_box(
     }
     let pieces = pieces_of_place(judged, place);
     if wanted {
-        return add_pieces(picture, pieces.as_slice(), Look::Named, place.own.line);
+        add_pieces(picture, pieces.as_slice(), Look::Named, place.own.line)?;
+    } else {
+        add_pieces(picture, pieces.as_slice(), look_of(&place.name), 0)?;
     }
-    add_pieces(picture, pieces.as_slice(), look_of(&place.name), 0)?;
     add_track(picture, judged, zone, place)
 }
 

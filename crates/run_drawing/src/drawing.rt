@@ -18,9 +18,9 @@ fn put_channel_style(text: &mut Text, number: u64, colour: &str, thin: i64) {
     text.number(number);
     text.say("{fill:");
     text.say(colour);
-    text.say(";fill-opacity:.12;stroke:");
+    text.say(";fill-opacity:.07;stroke:");
     text.say(colour);
-    text.say(";stroke-opacity:.5;stroke-width:");
+    text.say(";stroke-opacity:.45;stroke-width:");
     put_number(text, thin);
     text.say("}.t");
     text.number(number);
@@ -74,7 +74,7 @@ fn put_styles(text: &mut Text, letter: i64, thin: i64) {
         ";fill:#d62728;fill-opacity:.25;stroke:#d62728",
     );
     put_style(text, ".free", thin, ";fill:url(#hatch);stroke:#666");
-    put_style(text, "line.axis", thin, ";stroke:#aaa;stroke-dasharray:1 0");
+    put_style(text, "line.axis", thin, ";stroke:#aaa");
     put_style(text, "line.lane", thin, ";stroke:#888");
     put_style(text, "line.join", thin, ";stroke:#d62728");
     put_style(text, ".act", thin, ";fill:#333;stroke:#333");

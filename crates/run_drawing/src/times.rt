@@ -69,7 +69,9 @@ impl Lanes {
 
     /// Writes the lane of a channel.
     fn put_lane(&self, text: &mut Text, channel: u8) {
-        text.say("<text class=\"lane\"");
+        text.say("<text class=\"s");
+        text.number(u64::from(channel));
+        text.say("\"");
         put_attribute(text, "x", self.left);
         put_attribute(text, "y", self.y(channel).saturating_add(self.letter / 3));
         text.say(">channel ");

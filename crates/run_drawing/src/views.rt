@@ -184,18 +184,18 @@ impl View {
         text.say("/>\n");
     }
 
-    /// Writes the two lines on which one of the directions is 0, and the names of both directions.
+    /// Writes the two lines on which one of the directions is 0, and the names of both directions at their ends.
     pub(crate) fn put_axes(&self, text: &mut Text) {
         let right = self.left.saturating_add(self.wide.length());
         let bottom = self.top.saturating_add(self.tall.length());
         self.put_rule(text, self.left, self.y(0), right, self.y(0));
         self.put_rule(text, self.x(0), self.top, self.x(0), bottom);
-        text.say("<text class=\"axis\"");
-        put_attribute(text, "x", right);
-        put_attribute(text, "y", self.y(0).saturating_sub(self.letter / 4));
-        text.say(" text-anchor=\"end\">Z</text>\n<text class=\"axis\"");
-        put_attribute(text, "x", self.x(0).saturating_add(self.letter / 4));
-        put_attribute(text, "y", self.top.saturating_add(self.letter));
+        text.say("<text");
+        put_attribute(text, "x", right.saturating_add(self.letter / 3));
+        put_attribute(text, "y", self.y(0).saturating_add(self.letter / 3));
+        text.say(">Z</text>\n<text text-anchor=\"middle\"");
+        put_attribute(text, "x", self.x(0));
+        put_attribute(text, "y", self.top.saturating_sub(self.letter / 3));
         text.say(if self.up == 1 {
             ">Y</text>\n"
         } else {

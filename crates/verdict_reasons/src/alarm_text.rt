@@ -1,7 +1,7 @@
 //! The verdict ALARM, said.
 use crate::advice::{alarm_advice, alarm_cause, alarm_name};
 use crate::judged::{Judged, say_block};
-use crate::stuck_text::{end_of, say_channel, say_waits};
+use crate::stuck_text::{end_of, say_channel, say_channel_first, say_waits};
 use axis_sets::{CHANNEL_PLACES, ChannelId};
 use growing_text::Text;
 use nc_faults::Alarm;
@@ -9,7 +9,7 @@ use sync_types::ChannelEnd;
 
 /// Says an alarm: its block, what it means and what to do.
 fn say_one(text: &mut Text, judged: &Judged, channel: ChannelId, alarm: &Alarm) {
-    say_channel(text, channel);
+    say_channel_first(text, channel);
     text.say(" is stopped by alarm ");
     text.number(u64::from(alarm.code));
     text.say(", ");

@@ -13,6 +13,12 @@ pub(crate) fn say_channel(text: &mut Text, channel: ChannelId) {
     text.number(u64::from(channel.number));
 }
 
+/// Says a channel at the beginning of a sentence.
+pub(crate) fn say_channel_first(text: &mut Text, channel: ChannelId) {
+    text.say("Channel ");
+    text.number(u64::from(channel.number));
+}
+
 /// The place of a channel among those of the job, from the lowest on; none where the job has it not.
 fn place_among(judged: &Judged, channel: ChannelId) -> Option<usize> {
     let mut place: usize = 0;
@@ -46,46 +52,43 @@ fn last_action(judged: &Judged, channel: ChannelId) -> Option<Action> {
     }
 }
 
-/// Says how a channel has stopped.
+/// Says how a channel has stopped, after its name.
 fn say_stop(text: &mut Text, judged: &Judged, channel: ChannelId) {
-    say_channel(text, channel);
     match end_of(judged, channel) {
-        Some(ChannelEnd::Idle) => text.say(" has not started"),
+        Some(ChannelEnd::Idle) => text.say("has not started"),
         Some(ChannelEnd::Ended(line)) => {
-            text.say(" has ended in ");
+            text.say("has ended in ");
             say_block(text, judged, line);
         }
         Some(ChannelEnd::Holding(line)) => {
-            text.say(" waits in ");
+            text.say("waits in ");
             say_block(text, judged, line);
         }
         Some(ChannelEnd::Alarmed(alarm)) => {
-            text.say(" is stopped by an alarm in ");
+            text.say("is stopped by an alarm in ");
             say_block(text, judged, alarm.line);
         }
-        None => text.say(" is none of the job"),
+        None => text.say("is none of the job"),
     }
-    text.say(".\n");
+    text.say("\n");
 }
 
-/// Says that a mark of a channel is waited for.
+/// Says that a mark of a channel is waited for, and how the channel would give it.
 fn say_mark(text: &mut Text, judged: &Judged, board: &Board, channel: ChannelId, mark: u8) {
     text.say("  for mark ");
     text.number(u64::from(mark));
     text.say(" of ");
+    say_channel(text, channel);
     if board.stands(channel, mark) {
-        say_channel(text, channel);
-        text.say(", which stands.\n");
+        text.say(", which stands\n");
         return;
     }
-    say_stop(text, judged, channel);
-    text.say("    ");
-    say_channel(text, channel);
-    text.say(" would give it by WAITM(");
+    text.say(", which would raise it by WAITM(");
     text.number(u64::from(mark));
     text.say(", ..) or SETM(");
     text.number(u64::from(mark));
-    text.say(").\n");
+    text.say(") and ");
+    say_stop(text, judged, channel);
 }
 
 /// Says for which marks a channel waits.
@@ -110,7 +113,9 @@ fn say_ends(text: &mut Text, judged: &Judged, others: &ChannelSet) {
     for number in 1..CHANNEL_PLACES as u8 {
         let channel = ChannelId { number };
         if others.contains(channel) {
-            text.say("  for the end of the program: ");
+            text.say("  for the end of the program of ");
+            say_channel(text, channel);
+            text.say(", which ");
             say_stop(text, judged, channel);
         }
     }
@@ -124,10 +129,10 @@ fn say_one_axis(text: &mut Text, judged: &Judged, board: &Board, axis: AxisId) {
         Some(owner) => {
             text.say(", which ");
             say_channel(text, owner);
-            text.say(" owns and would give by RELEASE: ");
+            text.say(" owns and would give by RELEASE; it ");
             say_stop(text, judged, owner);
         }
-        None => text.say(", which is free.\n"),
+        None => text.say(", which is free\n"),
     }
 }
 
@@ -156,7 +161,7 @@ fn say_wait(text: &mut Text, judged: &Judged, board: &Board, channel: ChannelId)
 /// Says that a channel waits, and for what; nothing of one that does not wait.
 fn say_holding(text: &mut Text, judged: &Judged, board: &Board, channel: ChannelId) {
     if let Some(ChannelEnd::Holding(line)) = end_of(judged, channel) {
-        say_channel(text, channel);
+        say_channel_first(text, channel);
         text.say(" waits for good in ");
         say_block(text, judged, line);
         text.say("\n");
