@@ -3,6 +3,7 @@ ghost use Rattle.std.specs.Prelude.{◌≤◌, All};
 ghost use Rattle.job_lines.specs.declared.limits.TheConstants.{DEPTH_LIMIT};
 ghost use Rattle.protection_zones.specs.ZoneBoxes.{IsFit};
 
+use axis_sets::CHANNEL_PLACES;
 use job_types::{Job, Side, ZoneLine};
 use micro_units::Um;
 use nc_faults::NoMemory;
@@ -208,7 +209,8 @@ fn add_track(
     Ok(())
 }
 
-/// Adds a box of a zone, where it is one of those that the verdict names or one of the others, as it is asked for.
+/// Adds a box of a zone, where it is one of those that the verdict names or one of the others, as it is asked for. The ways of
+/// all come with the others.
 fn add_box(
     picture: &mut Picture,
     judged: &Judged,
@@ -220,16 +222,18 @@ fn add_box(
     requires fit { All (All IsFit) judged.now.run.now.items }
     requires deep { judged.now.job.now.depth ≤ DEPTH_LIMIT }
 {
+    if !wanted {
+        add_track(picture, judged, zone, place)?;
+    }
     if named.has(&place.name) != wanted {
         return Ok(());
     }
     let pieces = pieces_of_place(judged, place);
     if wanted {
-        add_pieces(picture, pieces.as_slice(), Look::Named, place.own.line)?;
+        add_pieces(picture, pieces.as_slice(), Look::Named, place.own.line)
     } else {
-        add_pieces(picture, pieces.as_slice(), look_of(&place.name), 0)?;
+        add_pieces(picture, pieces.as_slice(), look_of(&place.name), 0)
     }
-    add_track(picture, judged, zone, place)
 }
 
 /// Adds the boxes of a stretch.
@@ -347,13 +351,21 @@ fn add_moments(picture: &mut Picture, entries: &[Entry]) -> Result<(), NoMemory>
     Ok(())
 }
 
-/// The highest number of a channel of a job.
-fn highest_channel(job: &Job) -> u8 {
-    let mut highest = 0;
-    for line in job.channels.as_slice() {
-        highest = line.channel.number.max(highest);
+/// Whether a job has a channel.
+fn has_channel(job: &Job, number: u8) -> bool {
+    let lines = job.channels.as_slice();
+    lines.iter().any(|line| line.channel.number == number)
+}
+
+/// The numbers of the channels of a job, ascending.
+fn channels_of(alloc: Global, job: &Job) -> Result<Vec<u8>, NoMemory> {
+    let mut channels = Vec::new(alloc);
+    for number in 1..CHANNEL_PLACES as u8 {
+        if has_channel(job, number) {
+            channels.push(number)?;
+        }
     }
-    highest
+    Ok(channels)
 }
 
 /// The picture of a judged job with this verdict.
@@ -370,7 +382,7 @@ pub(crate) fn picture_of(
         tiles: Vec::new(alloc),
         tracks: Vec::new(alloc),
         moments: Vec::new(alloc),
-        channels: highest_channel(judged.job),
+        channels: channels_of(alloc, judged.job)?,
         is_cut: false,
     };
     add_zones(&mut picture, judged, &named, false)?;

@@ -181,7 +181,7 @@ pub fn draw(alloc: Global, picture: &Picture) -> Result<Vec<u8>, NoMemory> {
     let lanes = lanes_of(picture, pad, below.saturating_add(pad), size, letter);
     let height = lanes
         .top
-        .saturating_add(lanes.height(picture.channels))
+        .saturating_add(lanes.height(picture.channels.len()))
         .saturating_add(pad);
     let mut text = Text::new(alloc);
     put_head(&mut text, width, height);
@@ -191,7 +191,7 @@ pub fn draw(alloc: Global, picture: &Picture) -> Result<Vec<u8>, NoMemory> {
         put_view(&mut text, picture, &second);
     }
     put_scale(&mut text, pad, below, size, letter);
-    lanes.put_lanes(&mut text, picture.channels);
+    lanes.put_lanes(&mut text, picture.channels.as_slice());
     lanes.put_moments(&mut text, picture.moments.as_slice());
     if picture.is_cut {
         put_cut(&mut text, pad, letter);

@@ -86,8 +86,8 @@ pub struct Picture {
     pub tracks: Vec<Track>,
     /// What the channels do in each step, in order.
     pub moments: Vec<Moment>,
-    /// How many channels there are.
-    pub channels: u8,
+    /// The numbers of the channels, ascending.
+    pub channels: Vec<u8>,
     /// Whether something was left out since there is too much of it.
     pub is_cut: bool,
 }

@@ -16,6 +16,21 @@ pub(crate) struct Lanes {
     pub(crate) letter: i64,
     /// How many steps there are.
     pub(crate) steps: u32,
+    /// For each channel, by its number, which of the lanes is its own, counted from 1.
+    rows: [u8; 9],
+}
+
+/// For each channel, by its number, its place among these, counted from 1.
+fn rows_of(channels: &[u8]) -> [u8; 9] {
+    let mut rows = [0; 9];
+    let mut row: u8 = 0;
+    for channel in channels {
+        row = row.saturating_add(1);
+        if let Some(place) = rows.get_mut(usize::from(*channel)) {
+            *place = row;
+        }
+    }
+    rows
 }
 
 /// Up to how many steps the lines of blocks are written.
@@ -37,15 +52,15 @@ pub(crate) fn lanes_of(picture: &Picture, left: i64, top: i64, width: i64, lette
         width,
         letter,
         steps: steps_in(picture.moments.as_slice()),
+        rows: rows_of(picture.channels.as_slice()),
     }
 }
 
 impl Lanes {
-    /// How far all lanes of so many channels reach downwards.
-    pub(crate) fn height(&self, channels: u8) -> i64 {
-        self.letter
-            .saturating_mul(3)
-            .saturating_mul(i64::from(channels))
+    /// How far so many lanes reach downwards.
+    pub(crate) fn height(&self, lanes: usize) -> i64 {
+        let lanes = i64::try_from(lanes).unwrap_or(0);
+        self.letter.saturating_mul(3).saturating_mul(lanes)
     }
 
     /// Where a step stands across.
@@ -62,9 +77,13 @@ impl Lanes {
 
     /// Where the lane of a channel stands downwards.
     fn y(&self, channel: u8) -> i64 {
-        let row = i64::from(channel).saturating_mul(2).saturating_sub(1);
+        let row = match self.rows.as_slice().get(usize::from(channel)) {
+            Some(row) => i64::from(*row),
+            None => 0,
+        };
+        let halves = row.saturating_mul(2).saturating_sub(1);
         self.top
-            .saturating_add(self.letter.saturating_mul(3).saturating_mul(row) / 2)
+            .saturating_add(self.letter.saturating_mul(3).saturating_mul(halves) / 2)
     }
 
     /// Writes the lane of a channel.
@@ -89,9 +108,9 @@ impl Lanes {
     }
 
     /// Writes the lanes.
-    pub(crate) fn put_lanes(&self, text: &mut Text, channels: u8) {
-        for channel in 0..channels {
-            self.put_lane(text, channel.saturating_add(1));
+    pub(crate) fn put_lanes(&self, text: &mut Text, channels: &[u8]) {
+        for channel in channels {
+            self.put_lane(text, *channel);
         }
     }
 
