@@ -72,7 +72,7 @@ fn answer_job(
     let text = match form {
         Form::Text | Form::Join => explain(alloc, &judged, &judgement.verdict, met.as_slice())?,
         Form::Data => data_of(alloc, &judged, &judgement.verdict, met.as_slice())?,
-        Form::Drawing => draw(alloc, &picture_of(alloc, &judged, &judgement.verdict)?)?,
+        Form::Drawing => draw(alloc, &picture_of(alloc, &judged, met.first())?)?,
     };
     Ok(Answer {
         text,

@@ -12,8 +12,8 @@ use protection_zones::{Stretch, ZoneBox};
 use run_drawing::{Deed, Look, Moment, Picture, Tile, Track, Turn};
 use std::alloc::Global;
 use swept_boxes::Box3;
-use sync_types::{Action, Entry, PlaceName, Verdict};
-use verdict_reasons::{Judged, Place, motion_of, pieces_of_place, told_box};
+use sync_types::{Action, Entry, PlaceName};
+use verdict_reasons::{Judged, Meeting, Place, motion_of, pieces_of_place, told_box};
 
 /// Up to how many boxes are drawn.
 const TILE_LIMIT: usize = 20_000;
@@ -21,29 +21,11 @@ const TILE_LIMIT: usize = 20_000;
 /// Up to how many steps are drawn.
 const MOMENT_LIMIT: usize = 2_000;
 
-/// The two boxes that the verdict names, if it does.
-#[derive(Clone, Copy)]
-struct Named {
-    names: Option<(PlaceName, PlaceName)>,
-}
-
-/// The boxes that a verdict names.
-fn named_by(verdict: &Verdict) -> Named {
-    Named {
-        names: match verdict {
-            Verdict::No(left, right) => Some((*left, *right)),
-            _ => None,
-        },
-    }
-}
-
-impl Named {
-    /// Whether a box is one of them.
-    fn has(&self, name: &PlaceName) -> bool {
-        match &self.names {
-            Some((left, right)) => left == name || right == name,
-            None => false,
-        }
+/// Whether a box is one of the two that the verdict names.
+fn is_named(first: Option<&Meeting>, place: &Place) -> bool {
+    match first {
+        Some(pair) => pair.left == *place || pair.right == *place,
+        None => false,
     }
 }
 
@@ -214,7 +196,7 @@ fn add_track(
 fn add_box(
     picture: &mut Picture,
     judged: &Judged,
-    named: &Named,
+    first: Option<&Meeting>,
     wanted: bool,
     zone: &ZoneLine,
     place: &Place,
@@ -225,7 +207,7 @@ fn add_box(
     if !wanted {
         add_track(picture, judged, zone, place)?;
     }
-    if named.has(&place.name) != wanted {
+    if is_named(first, place) != wanted {
         return Ok(());
     }
     let pieces = pieces_of_place(judged, place);
@@ -240,7 +222,7 @@ fn add_box(
 fn add_stretch(
     picture: &mut Picture,
     judged: &Judged,
-    named: &Named,
+    first: Option<&Meeting>,
     wanted: bool,
     zone: &ZoneLine,
     stretch: &Stretch,
@@ -265,7 +247,7 @@ fn add_stretch(
 fn add_stretches(
     picture: &mut Picture,
     judged: &Judged,
-    named: &Named,
+    first: Option<&Meeting>,
     wanted: bool,
     zone: &ZoneLine,
     stretches: &[Stretch],
@@ -274,7 +256,7 @@ fn add_stretches(
     requires deep { judged.now.job.now.depth ≤ DEPTH_LIMIT }
 {
     for stretch in stretches {
-        add_stretch(picture, judged, named, wanted, zone, stretch)?;
+        add_stretch(picture, judged, first, wanted, zone, stretch)?;
     }
     Ok(())
 }
@@ -294,7 +276,7 @@ fn place_of_zone(job: &Job, zone: &ZoneLine) -> usize {
 fn add_zones(
     picture: &mut Picture,
     judged: &Judged,
-    named: &Named,
+    first: Option<&Meeting>,
     wanted: bool,
 ) -> Result<(), NoMemory>
     requires fit { All (All IsFit) judged.now.run.now.items }
@@ -303,7 +285,7 @@ fn add_zones(
     let lists = judged.stretches.zones.as_slice();
     for zone in judged.job.zones.as_slice() {
         if let Some(stretches) = lists.get(place_of_zone(judged.job, zone)) {
-            add_stretches(picture, judged, named, wanted, zone, stretches.as_slice())?;
+            add_stretches(picture, judged, first, wanted, zone, stretches.as_slice())?;
         }
     }
     Ok(())
@@ -368,16 +350,15 @@ fn channels_of(alloc: Global, job: &Job) -> Result<Vec<u8>, NoMemory> {
     Ok(channels)
 }
 
-/// The picture of a judged job with this verdict.
+/// The picture of a judged job, of which these boxes are the first that meet, if any do.
 pub(crate) fn picture_of(
     alloc: Global,
     judged: &Judged,
-    verdict: &Verdict,
+    first: Option<&Meeting>,
 ) -> Result<Picture, NoMemory>
     requires fit { All (All IsFit) judged.now.run.now.items }
     requires deep { judged.now.job.now.depth ≤ DEPTH_LIMIT }
 {
-    let named = named_by(verdict);
     let mut picture = Picture {
         tiles: Vec::new(alloc),
         tracks: Vec::new(alloc),
@@ -385,8 +366,8 @@ pub(crate) fn picture_of(
         channels: channels_of(alloc, judged.job)?,
         is_cut: false,
     };
-    add_zones(&mut picture, judged, &named, false)?;
-    add_zones(&mut picture, judged, &named, true)?;
+    add_zones(&mut picture, judged, first, false)?;
+    add_zones(&mut picture, judged, first, true)?;
     add_moments(&mut picture, judged.run.entries.as_slice())?;
     Ok(picture)
 }

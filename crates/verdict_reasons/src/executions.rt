@@ -1,4 +1,7 @@
 //! How often a block was executed, and which of its executions is meant.
+ghost use Rattle.std.specs.Prelude.{◌≡◌, ◌+◌, ◌==◌, ◌≤◌, [], length, slice_index_or, take};
+ghost use Rattle.verdict_reasons.specs.Executions as model;
+
 use axis_sets::ChannelId;
 use sync_types::{Entry, Item, Part, Run};
 
@@ -6,73 +9,113 @@ use sync_types::{Entry, Item, Part, Run};
 #[derive(Clone, Copy, Debug, PartialEq, Eq)]
 pub struct Execution {
     /// Its number, from 1.
-    pub which: u32,
+    pub which: u64,
     /// How many there are in the run.
-    pub of: u32,
+    pub of: u64,
+}
+
+/// Whether a block moves axes.
+fn is_move(part: &Part) -> bool
+    ensures { result ≡ model.is_move part.now }
+{
+    match part {
+        Part::Move(_) => true,
+        Part::Switch(_, _) => false,
+    }
 }
 
 /// Whether an item is a motion of a block in this line.
-fn moves_at(item: &Item, line: u32) -> bool {
-    item.line == line
-        && match item.part {
-            Part::Move(_) => true,
-            Part::Switch(_, _) => false,
-        }
+fn moves_at(item: &Item, line: u32) -> bool
+    ensures { result ≡ model.moves_at line item.now }
+{
+    item.line == line && is_move(&item.part)
 }
 
 /// How many of these items are motions of a block in this line.
-fn count_at(items: &[Item], line: u32) -> u32 {
-    let mut count: u32 = 0;
+#[tactic(auto, unfolding(crate::specs::Executions::motions_at))]
+fn count_at(items: &[Item], line: u32) -> usize
+    ensures value { result ≡ model.motions_at line items.now }
+    ensures few { result ≤ length items.now }
+{
+    let mut count = 0;
     for item in items {
         if moves_at(item, line) {
-            count = count.saturating_add(1);
+            count += 1;
         }
     }
     count
 }
 
-/// How many motions of a block in this line an entry has, where it is of the channel.
-fn count_in(run: &Run, channel: ChannelId, line: u32, place: usize) -> u32 {
-    let is_own = match run.entries.get(place) {
-        Some(entry) => entry.channel == channel,
-        None => false,
-    };
-    match run.items.get(place) {
-        Some(items) if is_own => count_at(items.as_slice(), line),
-        _ => 0,
-    }
-}
-
-/// How many motions of a block in this line a channel makes in the entries before one.
-fn count_before(run: &Run, channel: ChannelId, line: u32, upto: usize) -> u32 {
-    let mut count: u32 = 0;
-    for place in 0..upto {
-        count = count.saturating_add(count_in(run, channel, line, place));
-    }
-    count
-}
-
-/// How many motions of a block in this line the first items of an entry are.
-fn count_front(run: &Run, line: u32, entry: usize, items: usize) -> u32 {
+/// What the channel of an entry did before it; nothing past the last entry.
+fn items_at(run: &Run, entry: usize) -> &[Item]
+    ensures { result.now ≡ slice_index_or run.now.items entry [] }
+{
     match run.items.get(entry) {
-        Some(all) => match all.as_slice().get(..items) {
-            Some(front) => count_at(front, line),
-            None => 0,
-        },
+        None => &[],
+        Some(items) => items.as_slice(),
+    }
+}
+
+/// Whether an entry is of a channel.
+fn is_of(entry: &Entry, channel: ChannelId) -> bool
+    ensures { result ≡ (entry.now.channel == channel) }
+{
+    entry.channel == channel
+}
+
+/// How many motions of a block in this line an entry has, where it is of the channel.
+#[tactic(auto, unfolding(crate::specs::Executions::motions_in))]
+fn count_in(run: &Run, channel: ChannelId, line: u32, place: usize) -> usize
+    ensures { result ≡ model.motions_in run.now channel line place }
+{
+    match run.entries.get(place) {
+        Some(entry) => {
+            if is_of(entry, channel) {
+                count_at(items_at(run, place), line)
+            } else {
+                0
+            }
+        }
         None => 0,
     }
 }
 
-/// Which execution of its block the motion is that comes after so many items of an entry of a channel.
+/// How many motions of a block in this line a channel makes in the entries before one.
+#[tactic(auto, unfolding(crate::specs::Executions::motions_before))]
+fn count_before(run: &Run, channel: ChannelId, line: u32, upto: usize) -> u64
+    ensures { result ≡ model.capped (model.motions_before run.now channel line upto) }
+{
+    let mut count: u64 = 0;
+    for place in 0..upto {
+        count = count.saturating_add(count_in(run, channel, line, place) as u64);
+    }
+    count
+}
+
+/// The first so many items of an entry.
+fn front_of(run: &Run, entry: usize, count: usize) -> &[Item]
+    ensures { result.now ≡ take count (slice_index_or run.now.items entry []) }
+{
+    let items = items_at(run, entry);
+    let count = count.min(items.len());
+    &items[..count]
+}
+
+/// Which execution of its block the motion is that comes after so many items of an entry of a channel: one more than there are
+/// motions of a block in this line before it.
 pub fn execution_of(
     run: &Run,
     channel: ChannelId,
     line: u32,
     entry: usize,
     items: usize,
-) -> Execution {
+) -> Execution
+    ensures which { result.which ≡ model.capped (model.motions_before run.now channel line entry
+        + model.motions_at line (take items (slice_index_or run.now.items entry [])) + 1) }
+    ensures of { result.of ≡ model.capped (model.motions_before run.now channel line (length run.now.entries)) }
+{
     let before = count_before(run, channel, line, entry);
-    let here = count_front(run, line, entry, items);
+    let here = count_at(front_of(run, entry, items), line) as u64;
     Execution {
         which: before.saturating_add(here).saturating_add(1),
         of: count_before(run, channel, line, run.entries.len()),

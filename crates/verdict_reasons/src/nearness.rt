@@ -1,5 +1,6 @@
 //! How far boxes reach into each other, and how far apart they are.
-ghost use Rattle.std.specs.Prelude.{◌<◌};
+ghost use Rattle.std.specs.Prelude.{◌≡◌, ◌<◌};
+ghost use Rattle.verdict_reasons.specs.Commons as model;
 
 use swept_boxes::Box3;
 
@@ -68,6 +69,7 @@ pub fn most_near(left: &[Box3], right: &[Box3]) -> Option<i64> {
 /// The lower bound of what two boxes have in common along a direction.
 fn common_low(left: &Box3, right: &Box3, direction: usize) -> i32
     requires { direction < 3 }
+    ensures { result ≡ model.common_low left.now right.now direction }
 {
     left.lo[direction].max(right.lo[direction])
 }
@@ -75,12 +77,15 @@ fn common_low(left: &Box3, right: &Box3, direction: usize) -> i32
 /// The upper bound of what two boxes have in common along a direction.
 fn common_high(left: &Box3, right: &Box3, direction: usize) -> i32
     requires { direction < 3 }
+    ensures { result ≡ model.common_high left.now right.now direction }
 {
     left.hi[direction].min(right.hi[direction])
 }
 
 /// The box of the points that two boxes have in common.
-pub fn common_box(left: &Box3, right: &Box3) -> Box3 {
+pub fn common_box(left: &Box3, right: &Box3) -> Box3
+    ensures { result ≡ model.common_box left.now right.now }
+{
     Box3 {
         lo: [
             common_low(left, right, 0),

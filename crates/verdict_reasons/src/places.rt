@@ -45,9 +45,9 @@ fn say_execution(text: &mut Text, judged: &Judged, place: &Place) {
             motion.saturating_sub(1),
         );
         text.say("execution ");
-        text.number(u64::from(execution.which));
+        text.number(execution.which);
         text.say(" of ");
-        text.number(u64::from(execution.of));
+        text.number(execution.of);
         text.say(": ");
     }
 }
