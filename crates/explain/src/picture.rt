@@ -234,7 +234,7 @@ fn add_stretch(
         add_box(
             picture,
             judged,
-            named,
+            first,
             wanted,
             zone,
             &told_box(stretch, own),
