@@ -18,7 +18,7 @@ pub(crate) fn say_zone(text: &mut Text, place: &Place) {
             text.say(" of channel ");
             text.number(u64::from(channel.number));
         }
-        None => text.say(", which nobody holds,"),
+        None => text.say(" held by nobody"),
     }
 }
 
