@@ -282,9 +282,11 @@ fn add_zones(
     requires fit { All (All IsFit) judged.now.run.now.items }
     requires deep { judged.now.job.now.depth ≤ DEPTH_LIMIT }
 {
-    let lists = judged.stretches.zones.as_slice();
-    for zone in judged.job.zones.as_slice() {
-        if let Some(stretches) = lists.get(place_of_zone(judged.job, zone)) {
+    let times = judged.stretches;
+    let lists = times.zones.as_slice();
+    let job = judged.job;
+    for zone in job.zones.as_slice() {
+        if let Some(stretches) = lists.get(place_of_zone(job, zone)) {
             add_stretches(picture, judged, first, wanted, zone, stretches.as_slice())?;
         }
     }
@@ -368,6 +370,7 @@ pub(crate) fn picture_of(
     };
     add_zones(&mut picture, judged, first, false)?;
     add_zones(&mut picture, judged, first, true)?;
-    add_moments(&mut picture, judged.run.entries.as_slice())?;
+    let run = judged.run;
+    add_moments(&mut picture, run.entries.as_slice())?;
     Ok(picture)
 }

@@ -1,6 +1,8 @@
 pub mod FitLaws
 pub mod Directions
+pub mod PieceLaws
 pub mod ZoneLaws
 pub mod AddLaws
 pub mod KeptLaws
 pub mod TimeLaws
+pub mod ExecutionLaws

@@ -63,10 +63,10 @@ impl Board {
     }
 
     /// Gives axes to an owner, or to nobody.
-    fn give(&mut self, axes: &AxisSet, owner: Option<ChannelId>) {
+    fn give(&mut self, axes: &AxisSet, owner: &Option<ChannelId>) {
         for index in 0..AXIS_LIMIT {
             if axes.contains(AxisId { index: index as u8 }) {
-                self.owners[index] = owner;
+                self.owners[index] = *owner;
             }
         }
     }
@@ -80,7 +80,7 @@ impl Board {
             }
             Action::SetM(marks) => self.put_all(channel, marks, true),
             Action::ClearM(marks) => self.put_all(channel, marks, false),
-            Action::Release(axes) => self.give(axes, None),
+            Action::Release(axes) => self.give(axes, &None),
             _ => {}
         }
     }
@@ -92,7 +92,7 @@ impl Board {
             self.put(go.channel, mark, false);
         }
         self.waits[place] = None;
-        self.give(&go.grant.axes, Some(go.channel));
+        self.give(&go.grant.axes, &Some(go.channel));
     }
 
     /// A step of a run.

@@ -49,7 +49,8 @@ fn say_ways(text: &mut Text, judged: &Judged, clash: &Clash) {
 
 /// Says which margin parts two boxes.
 fn say_margin(text: &mut Text, judged: &Judged, clash: &Clash) {
-    let margin = judged.job.margin.micrometres;
+    let job = judged.job;
+    let margin = job.margin.micrometres;
     if margin == 0 {
         return;
     }
@@ -67,12 +68,13 @@ fn say_margin(text: &mut Text, judged: &Judged, clash: &Clash) {
 
 /// Says which depth parts two boxes.
 fn say_depth(text: &mut Text, judged: &Judged, clash: &Clash) {
+    let job = judged.job;
     match clash.depth {
         Some(depth) => {
             text.say("  DEPTH ");
             text.number(u64::from(depth));
             text.say("; it is ");
-            text.number(u64::from(judged.job.depth));
+            text.number(u64::from(job.depth));
             text.say("\n");
         }
         None => text.say("  no greater DEPTH\n"),

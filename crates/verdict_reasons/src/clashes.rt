@@ -49,7 +49,8 @@ pub fn pieces_of_place(judged: &Judged, place: &Place) -> ArrayVec<Box3, 80>
     requires fit { All (All IsFit) judged.now.run.now.items }
     requires deep { judged.now.job.now.depth ≤ DEPTH_LIMIT }
 {
-    boxes_of(judged, place, judged.job.depth)
+    let job = judged.job;
+    boxes_of(judged, place, job.depth)
 }
 
 /// Whether two boxes would meet, were motions halved so often.
@@ -66,8 +67,9 @@ fn meet_at(judged: &Judged, met: &Meeting, depth: u8) -> bool
 fn parting_depth(judged: &Judged, met: &Meeting) -> Option<u8>
     requires { All (All IsFit) judged.now.run.now.items }
 {
+    let job = judged.job;
     for depth in 0..DEPTH_LIMIT + 1 {
-        if depth > judged.job.depth && !meet_at(judged, met, depth) {
+        if depth > job.depth && !meet_at(judged, met, depth) {
             return Some(depth);
         }
     }
@@ -79,8 +81,9 @@ pub(crate) fn reach_of(judged: &Judged, left: &Place, right: &Place) -> i64
     requires fit { All (All IsFit) judged.now.run.now.items }
     requires deep { judged.now.job.now.depth ≤ DEPTH_LIMIT }
 {
-    let own = boxes_of(judged, left, judged.job.depth);
-    let others = boxes_of(judged, right, judged.job.depth);
+    let job = judged.job;
+    let own = boxes_of(judged, left, job.depth);
+    let others = boxes_of(judged, right, job.depth);
     match most_near(own.as_slice(), others.as_slice()) {
         Some(reach) => reach,
         None => least_way(&left.own.cover, &right.own.cover).shift,
@@ -100,11 +103,12 @@ pub fn clash_of(judged: &Judged, met: &Meeting) -> Clash
     requires fit { All (All IsFit) judged.now.run.now.items }
     requires deep { judged.now.job.now.depth ≤ DEPTH_LIMIT }
 {
+    let job = judged.job;
     let reach = reach_of(judged, &met.left, &met.right);
     Clash {
         common: common_box(&met.left.own.cover, &met.right.own.cover),
         way: least_way(&met.left.own.cover, &met.right.own.cover),
-        margin: parting_margin(judged.job.margin.micrometres, reach),
+        margin: parting_margin(job.margin.micrometres, reach),
         depth: parting_depth(judged, met),
     }
 }

@@ -51,16 +51,25 @@ impl Search {
         None
     }
 
+    /// The place of the row of these groups.
+    fn place_of(&self, groups: (u8, u8)) -> Option<usize> {
+        let rows = self.rows.as_slice();
+        rows.iter().position(|row| row.groups == groups)
+    }
+
     /// Puts these boxes in the place of those that were the nearest of their groups.
-    fn put(&mut self, near: Near) {
-        for place in 0..self.rows.len() {
-            if self.rows[place].groups == near.groups {
-                self.rows[place] = near;
-                return;
+    fn put(&mut self, near: &Near) {
+        match self.place_of(near.groups) {
+            Some(place) => {
+                if let Some(row) = self.rows.get_mut(place) {
+                    *row = *near;
+                }
             }
-        }
-        if self.rows.push(near).is_err() {
-            self.is_short = true;
+            None => {
+                if self.rows.push(*near).is_err() {
+                    self.is_short = true;
+                }
+            }
         }
     }
 
@@ -78,7 +87,7 @@ impl Search {
         let right = told_box(right.stretch, later);
         let reach = reach_of(judged, &left, &right);
         if before.is_none() || before < Some(reach) {
-            self.put(Near {
+            self.put(&Near {
                 groups,
                 reach,
                 left,

@@ -126,7 +126,7 @@ pub fn execution_of(
 pub(crate) fn last_entry(entries: &[Entry], channel: ChannelId, upto: usize) -> Option<usize> {
     let mut found = None;
     for place in 0..entries.len() {
-        if place <= upto && entries[place].channel == channel {
+        if place <= upto && is_of(&entries[place], channel) {
             found = Some(place);
         }
     }

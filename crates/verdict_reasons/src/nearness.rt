@@ -66,36 +66,27 @@ pub fn most_near(left: &[Box3], right: &[Box3]) -> Option<i64> {
     most
 }
 
-/// The lower bound of what two boxes have in common along a direction.
-fn common_low(left: &Box3, right: &Box3, direction: usize) -> i32
+/// The lower and the upper bound of what two boxes have in common along a direction.
+fn common_bounds(left: &Box3, right: &Box3, direction: usize) -> (i32, i32)
     requires { direction < 3 }
-    ensures { result ≡ model.common_low left.now right.now direction }
+    ensures low { result.0 ≡ model.common_low left.now right.now direction }
+    ensures high { result.1 ≡ model.common_high left.now right.now direction }
 {
-    left.lo[direction].max(right.lo[direction])
-}
-
-/// The upper bound of what two boxes have in common along a direction.
-fn common_high(left: &Box3, right: &Box3, direction: usize) -> i32
-    requires { direction < 3 }
-    ensures { result ≡ model.common_high left.now right.now direction }
-{
-    left.hi[direction].min(right.hi[direction])
+    (
+        left.lo[direction].max(right.lo[direction]),
+        left.hi[direction].min(right.hi[direction]),
+    )
 }
 
 /// The box of the points that two boxes have in common.
 pub fn common_box(left: &Box3, right: &Box3) -> Box3
     ensures { result ≡ model.common_box left.now right.now }
 {
+    let x = common_bounds(left, right, 0);
+    let y = common_bounds(left, right, 1);
+    let z = common_bounds(left, right, 2);
     Box3 {
-        lo: [
-            common_low(left, right, 0),
-            common_low(left, right, 1),
-            common_low(left, right, 2),
-        ],
-        hi: [
-            common_high(left, right, 0),
-            common_high(left, right, 1),
-            common_high(left, right, 2),
-        ],
+        lo: [x.0, y.0, z.0],
+        hi: [x.1, y.1, z.1],
     }
 }

@@ -5,8 +5,8 @@ ghost use Rattle.protection_zones.specs.ZoneBoxes.{IsFit};
 
 use crate::distances::{Near, nearest_of};
 use crate::judged::Judged;
-use crate::pair_numbers::{PairNumber, pair_numbers};
 use crate::places::say_place;
+use crate::tallies::{PairNumber, pair_numbers};
 use growing_text::Text;
 use nc_faults::NoMemory;
 use std::alloc::Global;

@@ -8,7 +8,8 @@ use sync_types::{Entry, EventId};
 
 /// The entry of an event, if there is one.
 fn entry_of<'a>(judged: &Judged<'a>, event: EventId) -> Option<&'a Entry> {
-    judged.run.entries.get(event.step as usize)
+    let run = judged.run;
+    run.entries.get(event.step as usize)
 }
 
 /// Says whose block follows, where it is not that of the channel of which is told.
@@ -26,12 +27,14 @@ fn say_going(text: &mut Text, judged: &Judged, own: Option<ChannelId>, event: Ev
         Some(channel) => channel,
         None => event.channel,
     };
-    let entries = judged.run.entries.as_slice();
+    let run = judged.run;
+    let entries = run.entries.as_slice();
     match last_entry(entries, channel, event.step as usize) {
         Some(place) if place < entries.len() => {
             say_other(text, own, channel);
             text.say("its going on after ");
-            say_block(text, judged, entries[place].step.line);
+            let entry = &entries[place];
+            say_block(text, judged, entry.step.line);
         }
         _ => {
             text.say("its start");

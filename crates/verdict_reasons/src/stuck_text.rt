@@ -23,7 +23,8 @@ pub(crate) fn say_channel_first(text: &mut Text, channel: ChannelId) {
 fn place_among(judged: &Judged, channel: ChannelId) -> Option<usize> {
     let mut place: usize = 0;
     let mut is_there = false;
-    for line in judged.job.channels.as_slice() {
+    let job = judged.job;
+    for line in job.channels.as_slice() {
         if line.channel.number < channel.number {
             place = place.saturating_add(1);
         }
@@ -34,15 +35,17 @@ fn place_among(judged: &Judged, channel: ChannelId) -> Option<usize> {
 
 /// How a channel has stopped.
 pub fn end_of(judged: &Judged, channel: ChannelId) -> Option<ChannelEnd> {
+    let run = judged.run;
     match place_among(judged, channel) {
-        Some(place) => judged.run.ends.as_slice().get(place).copied(),
+        Some(place) => run.ends.as_slice().get(place).copied(),
         None => None,
     }
 }
 
 /// What the last block of coordination of a channel asked for.
 fn last_action(judged: &Judged, channel: ChannelId) -> Option<Action> {
-    let entries = judged.run.entries.as_slice();
+    let run = judged.run;
+    let entries = run.entries.as_slice();
     match last_entry(entries, channel, entries.len()) {
         Some(place) => match entries.get(place) {
             Some(entry) => Some(entry.step.action),
