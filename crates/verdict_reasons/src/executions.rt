@@ -97,8 +97,11 @@ fn front_of(run: &Run, entry: usize, count: usize) -> &[Item]
     ensures { result.now ≡ take count (slice_index_or run.now.items entry []) }
 {
     let items = items_at(run, entry);
-    let count = count.min(items.len());
-    &items[..count]
+    if count <= items.len() {
+        &items[..count]
+    } else {
+        items
+    }
 }
 
 /// Which execution of its block the motion is that comes after so many items of an entry of a channel: one more than there are
