@@ -10,6 +10,7 @@ use crate::judging::{judge_job, met_in};
 use crate::picture::picture_of;
 use crate::words::{Form, Request, request_of};
 use growing_text::Text;
+use input_lines::{Lines, explain_refusal};
 use job_lines::INPUT_LIMIT;
 use job_types::Job;
 use nc_faults::{NoMemory, Refusal};
@@ -21,7 +22,7 @@ use std::rt::Files;
 use std::{io, str};
 use sync_types::Verdict;
 use tape_job::{JobFault, read_job};
-use verdict_reasons::{Judged, Lines, explain, explain_refusal};
+use verdict_reasons::{Judged, explain};
 
 /// The status of a call whose words or files are at fault.
 const FAULT: u8 = 2;

@@ -5,14 +5,18 @@ ghost use Rattle.protection_zones.specs.ZoneBoxes.{IsFit};
 
 use crate::data_places::{block_data, box_data, channel_number, place_data, side_data};
 use axis_sets::{CHANNEL_PLACES, ChannelId};
+use input_lines::{
+    Lines, alarm_advice, alarm_cause, alarm_name, fault_place, refusal_advice, refusal_cause,
+    refusal_name,
+};
 use nc_faults::{NoMemory, Refusal};
 use serde_json::{Value, json};
 use std::alloc::{AllocError, Global};
+use stop_reasons::{end_of, race_prize, race_remedy};
 use sync_types::{ChannelEnd, Race, Verdict};
 use verdict_reasons::{
-    Clash, Group, Judged, Lines, Meeting, Near, PairNumber, alarm_advice, alarm_cause, alarm_name,
-    clash_of, end_of, fault_place, groups_of, margin_left, nearest_of, pair_numbers, race_prize,
-    race_remedy, refusal_advice, refusal_cause, refusal_name,
+    Clash, Group, Judged, Meeting, Near, PairNumber, clash_of, groups_of, margin_left, nearest_of,
+    pair_numbers,
 };
 
 /// The name of a direction of space.
@@ -205,7 +209,7 @@ fn stops_data(alloc: Global, judged: &Judged) -> Result<Vec<Value>, AllocError> 
     let mut values = Vec::new(alloc);
     for number in 1..CHANNEL_PLACES as u8 {
         let channel = ChannelId { number };
-        if let Some(end) = end_of(judged, channel) {
+        if let Some(end) = end_of(&judged.told(), channel) {
             values.push(stop_data(alloc, judged, channel, &end)?)?;
         }
     }

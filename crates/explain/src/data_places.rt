@@ -1,14 +1,13 @@
 //! Blocks and boxes as JSON.
 use axis_sets::ChannelId;
+use input_lines::{Origin, block_number, origin_of};
 use serde_json::{Value, json};
 use std::alloc::{AllocError, Global};
 use std::str;
+use stop_reasons::{Execution, execution_of, line_text, program_name};
 use swept_boxes::Box3;
 use sync_types::StretchKind;
-use verdict_reasons::{
-    Execution, Judged, Origin, Place, block_number, execution_of, line_text, origin_of,
-    program_name,
-};
+use verdict_reasons::{Judged, Place};
 
 /// The number of a channel; 0 for none.
 pub(crate) fn channel_number(channel: Option<ChannelId>) -> u8 {
@@ -49,7 +48,7 @@ pub(crate) fn block_data(
     channel: Option<ChannelId>,
     line: u32,
 ) -> Result<Value, AllocError> {
-    let text = line_text(judged, line);
+    let text = line_text(&judged.told(), line);
     let origin = origin_data(alloc, origin_of(judged.input, judged.lines, line))?;
     json!(in alloc; {
         "channel": channel_number(channel),

@@ -5,4 +5,3 @@ pub mod ZoneLaws
 pub mod AddLaws
 pub mod KeptLaws
 pub mod TimeLaws
-pub mod ExecutionLaws

@@ -2,5 +2,4 @@ pub mod Judged
 pub mod Times
 pub mod Meetings
 pub mod MeetingSteps
-pub mod Executions
 pub mod Commons

@@ -5,13 +5,14 @@ ghost use Rattle.protection_zones.specs.ZoneBoxes.{IsFit};
 
 use crate::clashes::{Clash, clash_of};
 use crate::groups::{Group, groups_of};
-use crate::judged::{Judged, say_line};
+use crate::judged::Judged;
 use crate::meetings::{Meeting, Place};
 use crate::motions::{say_box, say_direction};
 use crate::places::{say_place, say_span, say_zone};
 use growing_text::Text;
 use nc_faults::NoMemory;
 use std::alloc::Global;
+use stop_reasons::say_line;
 
 /// Says that two zones can meet, where, and in which blocks: in four to five lines.
 fn say_head(text: &mut Text, judged: &Judged, met: &Meeting, clash: &Clash) {
@@ -86,7 +87,7 @@ fn say_short(text: &mut Text, judged: &Judged, place: &Place) {
     say_zone(text, place);
     if place.own.line != 0 {
         text.say(" ");
-        say_line(text, judged, place.own.line);
+        say_line(text, &judged.told(), place.own.line);
     }
 }
 

@@ -1,13 +1,10 @@
-//! How boxes, axes and motions are said.
+//! How boxes are said, and the motion of one.
 ghost use Rattle.std.specs.Prelude.{◌<◌};
 
 use crate::judged::Judged;
 use crate::meetings::Place;
 use crate::pieces::motion_at;
-use axis_sets::AxisId;
 use growing_text::Text;
-use job_types::Job;
-use micro_units::Um;
 use path_geometry::Motion;
 use swept_boxes::Box3;
 
@@ -43,41 +40,6 @@ pub(crate) fn say_box(text: &mut Text, space: &Box3) {
     say_bounds(text, space, 1);
     text.say(", ");
     say_bounds(text, space, 2);
-}
-
-/// Says the name of an axis.
-pub(crate) fn say_axis(text: &mut Text, job: &Job, axis: AxisId) {
-    if let Some(line) = job.axes.get(usize::from(axis.index)) {
-        text.bytes([line.letter].as_slice());
-        text.number(u64::from(line.number));
-    }
-}
-
-/// Says from where to where an axis moves.
-fn say_end(text: &mut Text, job: &Job, end: &(AxisId, Um, Um)) {
-    say_axis(text, job, end.0);
-    text.say(" from ");
-    text.millimetres(i64::from(end.1.micrometres));
-    text.say(" to ");
-    text.millimetres(i64::from(end.2.micrometres));
-}
-
-/// Says from where to where the axes of a motion move.
-fn say_ends(text: &mut Text, job: &Job, ends: &[(AxisId, Um, Um)]) {
-    for end in ends {
-        text.say(", ");
-        say_end(text, job, end);
-    }
-}
-
-/// Says a motion.
-pub(crate) fn say_motion(text: &mut Text, job: &Job, motion: &Motion) {
-    text.say(match motion {
-        Motion::Line(_) => "a straight line",
-        Motion::Rapid(_) => "a rapid, each axis by itself",
-        Motion::Arc(_) => "an arc",
-    });
-    say_ends(text, job, motion.ends().axes.as_slice());
 }
 
 /// The motion of a box; none where it stands.

@@ -1,12 +1,12 @@
 //! What a channel does during a box of a zone.
-use crate::executions::execution_of;
-use crate::judged::{Judged, say_block};
+use crate::judged::Judged;
 use crate::meetings::Place;
-use crate::motions::{motion_of, say_motion};
+use crate::motions::motion_of;
 use crate::spans::{say_first, say_last};
 use crate::zones::zone_numbered;
 use growing_text::Text;
 use path_geometry::Motion;
+use stop_reasons::{execution_of, say_block, say_motion};
 use sync_types::StretchKind;
 
 /// Says a zone, and who holds it.
@@ -55,7 +55,7 @@ fn say_execution(text: &mut Text, judged: &Judged, place: &Place) {
 /// Says the block that moves a zone, and its motion in a line of its own.
 fn say_moving(text: &mut Text, judged: &Judged, place: &Place, motion: &Motion) {
     text.say(" moves in ");
-    say_block(text, judged, place.own.line);
+    say_block(text, &judged.told(), place.own.line);
     text.say("\n    ");
     say_execution(text, judged, place);
     say_motion(text, judged.job, motion);
@@ -66,7 +66,7 @@ fn say_moving(text: &mut Text, judged: &Judged, place: &Place, motion: &Motion) 
 fn say_declared(text: &mut Text, judged: &Judged, place: &Place) {
     text.say(" stands still, and nobody holds it from the start on; it is declared in ");
     if let Some(zone) = zone_numbered(judged.job, place.name.zone.number) {
-        say_block(text, judged, zone.line);
+        say_block(text, &judged.told(), zone.line);
     }
 }
 
@@ -78,7 +78,7 @@ fn say_running(text: &mut Text, judged: &Judged, place: &Place) {
         text.say(" on");
     } else {
         text.say(" stands still after ");
-        say_block(text, judged, place.own.line);
+        say_block(text, &judged.told(), place.own.line);
     }
 }
 
@@ -88,7 +88,7 @@ fn say_free(text: &mut Text, judged: &Judged, place: &Place) {
         say_declared(text, judged, place);
     } else {
         text.say(" stands still since it was let go in ");
-        say_block(text, judged, place.own.line);
+        say_block(text, &judged.told(), place.own.line);
     }
 }
 
@@ -104,13 +104,13 @@ fn say_standing(text: &mut Text, judged: &Judged, place: &Place) {
             text.say(" stands still while ");
             say_channel(text, place);
             text.say(" waits in ");
-            say_block(text, judged, place.own.line);
+            say_block(text, &judged.told(), place.own.line);
         }
         StretchKind::End => {
             text.say(" stands still after the end of ");
             say_channel(text, place);
             text.say(" in ");
-            say_block(text, judged, place.own.line);
+            say_block(text, &judged.told(), place.own.line);
         }
         StretchKind::Free => say_free(text, judged, place),
     }

@@ -1,9 +1,9 @@
 //! Between which events a stretch of a zone lies.
-use crate::executions::last_entry;
-use crate::judged::{Judged, say_block};
+use crate::judged::Judged;
 use crate::meetings::Place;
 use axis_sets::ChannelId;
 use growing_text::Text;
+use stop_reasons::{last_entry, say_block};
 use sync_types::{Entry, EventId};
 
 /// The entry of an event, if there is one.
@@ -34,7 +34,7 @@ fn say_going(text: &mut Text, judged: &Judged, own: Option<ChannelId>, event: Ev
             say_other(text, own, channel);
             text.say("its going on after ");
             let entry = &entries[place];
-            say_block(text, judged, entry.step.line);
+            say_block(text, &judged.told(), entry.step.line);
         }
         _ => {
             text.say("its start");
@@ -50,7 +50,7 @@ fn say_event(text: &mut Text, judged: &Judged, own: Option<ChannelId>, event: Ev
     }
     if let Some(entry) = entry_of(judged, event) {
         say_other(text, own, entry.channel);
-        say_block(text, judged, entry.step.line);
+        say_block(text, &judged.told(), entry.step.line);
     }
 }
 

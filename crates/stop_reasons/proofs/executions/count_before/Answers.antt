@@ -1,7 +1,7 @@
 use Rattle.std.proofs.Common.{◌≡◌, ◌∙◌, ℕ, ◌+◌, sym, ap}
-use Rattle.verdict_reasons.proofs.ExecutionLaws.{before_more, capped_more}
-use Rattle.verdict_reasons.specs.Executions.{capped, motions_before}
-use Rattle.verdict_reasons.proofs.executions.count_before.Goals as goal
+use Rattle.stop_reasons.proofs.ExecutionLaws.{before_more, capped_more}
+use Rattle.stop_reasons.specs.Executions.{capped, motions_before}
+use Rattle.stop_reasons.proofs.executions.count_before.Goals as goal
 
 pub loop-place-preserved : goal.loop-place-preserved
 loop-place-preserved c =

@@ -1,5 +1,6 @@
 //! From which file a line of a joined input comes: a header that joining wrote names its file in a comment.
 use crate::lines::Lines;
+use growing_text::Text;
 
 /// What a comment begins with that names a file.
 const FILE_MARK: &[u8] = b"; FILE ";
@@ -74,4 +75,14 @@ pub fn origin_of<'a>(input: &'a [u8], lines: &Lines, line: u32) -> Option<Origin
         file: origin.file,
         line: origin.line.saturating_add(line.saturating_sub(header)),
     })
+}
+
+/// Says from which line of which file a line of a joined input comes.
+pub fn say_origin(text: &mut Text, input: &[u8], lines: &Lines, line: u32) {
+    if let Some(origin) = origin_of(input, lines, line) {
+        text.say(", ");
+        text.bytes(origin.file);
+        text.say(" line ");
+        text.number(u64::from(origin.line));
+    }
 }

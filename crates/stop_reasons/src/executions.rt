@@ -1,6 +1,6 @@
 //! How often a block was executed, and which of its executions is meant.
 ghost use Rattle.std.specs.Prelude.{◌≡◌, ◌+◌, ◌==◌, ◌≤◌, [], length, slice_index_or, take};
-ghost use Rattle.verdict_reasons.specs.Executions as model;
+ghost use Rattle.stop_reasons.specs.Executions as model;
 
 use axis_sets::ChannelId;
 use sync_types::{Entry, Item, Part, Run};
@@ -126,7 +126,7 @@ pub fn execution_of(
 }
 
 /// The place of the last entry of a channel up to and with one.
-pub(crate) fn last_entry(entries: &[Entry], channel: ChannelId, upto: usize) -> Option<usize> {
+pub fn last_entry(entries: &[Entry], channel: ChannelId, upto: usize) -> Option<usize> {
     let mut found = None;
     for place in 0..entries.len() {
         if place <= upto && is_of(&entries[place], channel) {

@@ -5,7 +5,7 @@ use Rattle.std.proofs.lemmas.List.FromFn.{map-range_with_len_more}
 use Rattle.std.proofs.lemmas.List.Sums.{sum_by_push}
 use Rattle.std.specs.List.{range_with_len, sum_by}
 use Rattle.sync_types.specs.Views.{RunView}
-use Rattle.verdict_reasons.specs.Executions.{capped, motions_in, motions_before}
+use Rattle.stop_reasons.specs.Executions.{capped, motions_in, motions_before}
 
 sum_more : (f : ℕ → ℕ) (n : ℕ) → sum_by f (range_with_len 0 (n + 1)) ≡ sum_by f (range_with_len 0 n) + f n
 sum_more f n =

@@ -1,6 +1,6 @@
 //! The verdict RACE, said.
-use crate::judged::{Judged, say_block};
 use crate::stuck_text::say_channel;
+use crate::told::{Told, say_block};
 use axis_sets::ChannelId;
 use growing_text::Text;
 use sync_types::Race;
@@ -49,21 +49,21 @@ pub fn race_remedy(case: u8) -> &'static str {
 }
 
 /// Says a place of a race.
-fn say_one(text: &mut Text, judged: &Judged, name: &str, place: (ChannelId, u32)) {
+fn say_one(text: &mut Text, told: &Told, name: &str, place: (ChannelId, u32)) {
     text.say(name);
     say_channel(text, place.0);
     text.say(", ");
-    say_block(text, judged, place.1);
+    say_block(text, told, place.1);
     text.say("\n");
 }
 
 /// Says the verdict RACE: both places, what was raced for, and what would settle it.
-pub(crate) fn say_race(text: &mut Text, judged: &Judged, race: &Race) {
+pub fn say_race(text: &mut Text, told: &Told, race: &Race) {
     text.say(
         "RACE: nothing says which of two places comes first, and what follows depends on it.\n",
     );
-    say_one(text, judged, "First place:  ", race.first);
-    say_one(text, judged, "Second place: ", race.second);
+    say_one(text, told, "First place:  ", race.first);
+    say_one(text, told, "Second place: ", race.second);
     text.say("What was raced for: ");
     text.say(race_prize(race.case));
     text.say("\nWhat to do: ");

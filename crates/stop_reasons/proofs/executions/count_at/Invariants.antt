@@ -1,7 +1,7 @@
 -- So many motions of the line are among the items so far.
 use Rattle.std.proofs.Common.{◌≡◌, ◌≤◌, take}
-use Rattle.verdict_reasons.specs.Executions.{motions_at}
-use Rattle.verdict_reasons.proofs.executions.count_at.Given as goal
+use Rattle.stop_reasons.specs.Executions.{motions_at}
+use Rattle.stop_reasons.proofs.executions.count_at.Given as goal
 
 abbrev pub invariant-loop-item : goal.invariant-loop-item
 invariant-loop-item l = record { value : l.count ≡ motions_at l.line (take l.item-index l.items); few : l.count ≤ l.item-index }

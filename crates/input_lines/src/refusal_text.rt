@@ -1,7 +1,7 @@
 //! A refused input, said.
 use crate::advice::{refusal_advice, refusal_cause, refusal_name};
-use crate::judged::say_origin;
 use crate::lines::Lines;
+use crate::origins::say_origin;
 use block_scanner::{ScanFault, scan};
 use growing_text::Text;
 use nc_faults::{NoMemory, Refusal};
