@@ -2,7 +2,7 @@
 use crate::advice::{refusal_advice, refusal_cause, refusal_name};
 use crate::lines::Lines;
 use crate::origins::say_origin;
-use block_scanner::{ScanFault, scan};
+use block_scanner::{LINE_LIMIT, ScanFault, scan};
 use growing_text::Text;
 use nc_faults::{NoMemory, Refusal};
 use std::alloc::Global;
@@ -15,6 +15,9 @@ const OPEN_TEXT: u16 = 20;
 
 /// The place in a line at which no word can begin, or at which a text begins that does not end.
 fn word_fault(alloc: Global, line: &[u8]) -> Option<usize> {
+    if line.len() > LINE_LIMIT {
+        return None;
+    }
     match scan(alloc, line) {
         Ok(_) => None,
         Err(ScanFault::BadByte(place)) => Some(usize::from(place)),
