@@ -97,14 +97,14 @@ fn two_workers_are_under_way_at_once(rt: HostRuntime) -> Result<(), Fail> {
 
 #[test]
 fn the_run_is_the_one_that_workers_make(rt: HostRuntime) -> Result<(), Fail> {
-    for (place, held, other) in [(2usize, 1u8, 2u8), (1, 2, 1)] {
+    for (text, held, other) in [(RUNS[2].0, 1u8, 2u8), (RUNS[1].0, 2, 1)] {
         let gate = OtherFirst {
             held,
             other,
             passed: AtomicU64::new(0),
             ran_out: AtomicU64::new(0),
         };
-        let made = run_of(&rt, rt.alloc(), RUNS[place].0, &gate)?;
+        let made = run_of(&rt, rt.alloc(), text, &gate)?;
         assert!(rt; gate.ran_out.load(Ordering::SeqCst) == 0);
         let first = made
             .run
