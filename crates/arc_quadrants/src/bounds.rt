@@ -1,7 +1,8 @@
 //! The bounds of the part of a ring between two directions of quadrant 0.
-ghost use Rattle.std.specs.Prelude.{◌≡◌, ◌<◌, ◌≤◌, ◌+◌, ◌-◌, ◌*◌, ◌/◌, ◌^◌, [], ◌∷◌, slice_index};
+ghost use Rattle.std.specs.Prelude.{◌≡◌, ℕ, ◌<◌, ◌≤◌, ◌+◌, ◌-◌, ◌*◌, ◌/◌, ◌^◌, [], ◌∷◌, slice_index};
 ghost use Rattle.std.specs.List.{All};
 ghost use Rattle.arc_quadrants.specs.Bounds as spec;
+ghost use Rattle.micro_units.specs.Root.{ceil_root, floor_root};
 ghost use Rattle.arc_quadrants.specs.Bounds.{IsDirection, IsReachDown, IsReachUp, bounds_in_order, bounds_between};
 
 use micro_units::{isqrt_ceil, isqrt_floor};
@@ -29,6 +30,42 @@ fn squared(radius: u32, part: u64) -> u128
     (radius as u128 * radius as u128) * (part as u128 * part as u128)
 }
 
+/// The root of a number, rounded down. The root of one of at most 64 bits, as most are, is found sooner.
+fn root_down(value: u128) -> u64
+    requires { value < 2 ^ 120 }
+    ensures value { result ≡ floor_root value }
+    ensures at_most { result * result ≤ value }
+    ensures next { value < (result + 1) * (result + 1) }
+{
+    match u64::try_from(value) {
+        Ok(short) => short.isqrt(),
+        Err(_) => isqrt_floor(value),
+    }
+}
+
+/// The root of a number of at most 64 bits, rounded up.
+fn root_up_short(value: u64) -> u64
+    ensures value { result ≡ ceil_root value }
+    ensures enough { value ≤ result * result }
+    ensures least { (k : ℕ) → k < result → k * k < value }
+{
+    let root = value.isqrt();
+    if root * root == value { root } else { root + 1 }
+}
+
+/// The root of a number, rounded up.
+fn root_up(value: u128) -> u64
+    requires { value < 2 ^ 120 }
+    ensures value { result ≡ ceil_root value }
+    ensures enough { value ≤ result * result }
+    ensures least { (k : ℕ) → k < result → k * k < value }
+{
+    match u64::try_from(value) {
+        Ok(short) => root_up_short(short),
+        Err(_) => isqrt_ceil(value),
+    }
+}
+
 /// How far a ring of this radius reaches along an axis, rounded down, in a direction with this part and this square of its length.
 #[tactic(auto, using(crate::proofs::ReachLaws::root_within), unfolding(crate::specs::Bounds::reach_down))]
 fn reach_down(radius: u32, part: u64, square: u64) -> u32
@@ -39,7 +76,7 @@ fn reach_down(radius: u32, part: u64, square: u64) -> u32
     ensures value { result ≡ spec.reach_down radius part square }
     ensures within { result ≤ radius }
 {
-    isqrt_floor(squared(radius, part) / square as u128) as u32
+    root_down(squared(radius, part) / square as u128) as u32
 }
 
 /// A quotient rounded up.
@@ -64,7 +101,7 @@ fn reach_up(radius: u32, part: u64, square: u64) -> u32
     ensures value { result ≡ spec.reach_up radius part square }
     ensures within { result ≤ radius }
 {
-    isqrt_ceil(quotient_up(squared(radius, part), square)) as u32
+    root_up(quotient_up(squared(radius, part), square)) as u32
 }
 
 /// The bounds of the part of a ring from one direction of quadrant 0 to another, in whole units of the radii: along the first

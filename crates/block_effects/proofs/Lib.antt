@@ -7,3 +7,4 @@ pub mod FrameSteps
 pub mod Steps
 pub mod Changes
 pub mod StillLaws
+pub mod KeptWords

@@ -1,6 +1,6 @@
 //! What a block does.
 
-ghost use Rattle.std.specs.Prelude.{◌≡◌, All, IsTrue, IfOk, List, OnErr, None, map, not, option_map};
+ghost use Rattle.std.specs.Prelude.{◌≡◌, ◌++◌, ◌∷◌, [], All, IsTrue, IfOk, List, OnErr, None, map, not, option_map};
 ghost use Rattle.block_motions.specs.Goals.{ConditionsView, AreInForce};
 ghost use Rattle.axis_sets.specs.Positions.{stands};
 ghost use Rattle.block_motions.specs.Motions.{StandsAtEndOf};
@@ -25,7 +25,7 @@ use crate::situation::{ChannelAxes, Situation};
 use axis_sets::Positions;
 use block_motions::{ArcWords, Conditions, Targets, arc_motion, is_any, straight_motion, word};
 use frames::Frame;
-use g_groups::{GWord, MOTION_GROUP, Modal, apply};
+use g_groups::{BLOCK_GROUP, GWord, MOTION_GROUP, Modal, apply};
 use nc_blocks::{Stmt, Word};
 use nc_control_flow::Outcome;
 use nc_faults::alarms::ARC_WORDS;
@@ -104,7 +104,7 @@ fn move_programmed(
     make_motion(axes, conditions, &done.targets, &done.arc, at)
 }
 
-/// Moves the axes as the words of the block say. Where they say nothing of axes and arcs, none moves.
+/// Moves the axes as the words of the block say.
 fn move_axes<S: Setup>(
     setup: &S,
     axes: &ChannelAxes,
@@ -114,18 +114,13 @@ fn move_axes<S: Setup>(
     done: &WordsDone,
     at: &mut Positions,
 ) -> Result<Option<Motion>, u16>
-    requires { TellsOfMoves done.now }
     ensures made { (blocks : List (List GWord)) (chain : List Map) → IsAfter blocks modal.now → IsComposed chain frame.now
         → result ≡ model.moved_or_still axes.now.slots axes.now.owned (model.held_after (S.offset setup.now) blocks chain) (stands at.old) groups.now done.now.targets done.now.arc }
     ensures stand { IfOk result (λ motion. StandsAtEndOf motion at.old at.new) }
     ensures unmoved { OnErr result (at.new ≡ at.old) }
 {
-    if done.moves {
-        let conditions = conditions(setup, modal, frame);
-        move_programmed(axes, &conditions, groups, done, at)
-    } else {
-        Ok(None)
-    }
+    let conditions = conditions(setup, modal, frame);
+    move_programmed(axes, &conditions, groups, done, at)
 }
 
 /// Does what these words of a block say, from left to right, and then moves the axes as all its words say. After an alarm
@@ -151,7 +146,11 @@ fn run_from<S: Setup>(
     ensures at { OnErr result (at.new ≡ at.old) }
 {
     let [word, others @ ..] = words else {
-        done.motion = move_axes(setup, axes, modal, frame, groups, done, at)?;
+        if done.moves {
+            done.motion = move_axes(setup, axes, modal, frame, groups, done, at)?;
+        } else {
+            done.motion = None;
+        }
         return Ok(());
     };
     let change = done.act(setup, axes, parameters, word)?;
@@ -166,16 +165,27 @@ fn run_from<S: Setup>(
     }
 }
 
-/// Puts the motion of a block on this line in its place, if it has one.
-fn put_motion(place: &mut Option<Item>, line: u32, motion: Option<Motion>)
+/// Takes the motion of a block on this line into its place, if there is one.
+#[inline(never)]
+fn take_motion(place: &mut Option<Item>, line: u32, motion: &mut Option<Motion>)
     requires { place.old ≡ None }
-    ensures { place.new ≡ option_map (model.item_on line) motion }
+    ensures { place.new ≡ option_map (model.item_on line) motion.old }
 {
-    if let Some(motion) = motion {
+    if let Some(motion) = motion.take() {
         *place = Some(Item {
             line,
             part: Part::Move(motion),
         });
+    }
+}
+
+/// Puts the motion of a block on this line in its place, if it has one. Where it has none, nothing is moved.
+fn put_motion(place: &mut Option<Item>, line: u32, motion: &mut Option<Motion>)
+    requires { place.old ≡ None }
+    ensures { place.new ≡ option_map (model.item_on line) motion.old }
+{
+    if motion.is_some() {
+        take_motion(place, line, motion);
     }
 }
 
@@ -210,9 +220,8 @@ fn run_words<'a, S: Setup>(
         &mut situation.at,
         &mut done,
     )?;
-    let WordsDone { motion, ends, .. } = done;
-    put_motion(item, line, motion);
-    Ok(course_of(ends))
+    put_motion(item, line, &mut done.motion);
+    Ok(course_of(done.ends))
 }
 
 /// Does what a block that moves no axis and shapes no frame says.
@@ -296,6 +305,15 @@ fn run_stmt<'a, S: Setup>(
     }
 }
 
+/// Whether a block with these words of groups leaves all modal words as they are: it has none, and none holds that held in
+/// the block before it alone.
+fn is_unchanged(modal: &Modal, groups: &[GWord]) -> bool
+    ensures none { IsTrue result → groups.now ≡ [] }
+    ensures kept { IsTrue result → (blocks : List (List GWord)) → IsAfter blocks modal.now → IsAfter (blocks ++ groups.now ∷ []) modal.now }
+{
+    groups.is_empty() && modal.word(BLOCK_GROUP) == 0
+}
+
 /// Does what a block with these words of groups says.
 fn run<'a, S: Setup>(
     setup: &S,
@@ -317,6 +335,12 @@ fn run<'a, S: Setup>(
     ensures stand { IfOk result (λ _. StandsAtEnd item.new situation.old.at situation.new.at) }
     ensures unchanged { OnErr result (situation.new ≡ situation.old) }
 {
+    if is_unchanged(&situation.modal, groups) {
+        let modal = situation.modal;
+        return run_stmt(
+            setup, axes, &modal, situation, line, groups, opener, stmt, item,
+        );
+    }
     let modal = apply(&situation.modal, groups)?;
     let course = run_stmt(
         setup, axes, &modal, situation, line, groups, opener, stmt, item,
