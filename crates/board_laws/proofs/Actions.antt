@@ -8,7 +8,7 @@ use Rattle.sync_types.specs.GoingOn.{first_of}
 use Rattle.sync_types.specs.Starts.{axes_of_zone, first_holder}
 use Rattle.sync_types.specs.Views.{StartView}
 use Rattle.sync_types.specs.declared.Step.{Step}
-use Rattle.board_laws.specs.Machine.{Seat, In, Called, Own, State, Effect, is_idle, mine, carried, holds_zone, board_of, touches, effect, shown, carrier, acted, axes_freed, selected, program_selected}
+use Rattle.board_laws.specs.Machine.{Seat, In, Called, Own, State, Effect, is_idle, mine, holds_by_carrier, holds_zone, board_of, touches, effect, doing_of, carrier, own_after_act, axes_freed, selects_program, program_selected}
 use Rattle.board_laws.specs.Clean.{MarkChange, Stays, Raises, Lowers, IsAct}
 use Rattle.board_laws.proofs.Basics.{in_no_call}
 use Rattle.board_laws.proofs.Footprint.{ReadsSame, alarm_same, part_marks, part_state, part_awake, part_found, part_calls, part_selects}
@@ -31,11 +31,11 @@ pub holder_mine : (t : State) (c z : ℕ) → is_this ((board_of t).holder z) c 
 unfolding holds_zone
 holder_mine t c z = go (first_of (members_of (axes_of_zone t.start z)))
   where
-    go : (o : Option ℕ) → is_this (carrier o (λ a. (t.axis a).owner) (first_holder t.start z)) c ≡ carried o (mine t c) (is_this (first_holder t.start z) c)
+    go : (o : Option ℕ) → is_this (carrier o (λ a. (t.axis a).owner) (first_holder t.start z)) c ≡ holds_by_carrier o (mine t c) (is_this (first_holder t.start z) c)
     go (Some a) = refl
     go None = refl
 
-pub idle_shown : (t : State) (c : ℕ) (s : Seat) → boards.is_idle (shown t c s) ≡ is_idle s
+pub idle_shown : (t : State) (c : ℕ) (s : Seat) → boards.is_idle (doing_of t c s) ≡ is_idle s
 idle_shown t c (In IsIdle) = refl
 idle_shown t c (In state) = refl
 idle_shown t c (Called p) = refl
@@ -70,21 +70,21 @@ effect_agree b t p step s =
       frees = among (axes_freed alarm step.action);
       place = λ a. position_or_zero (position_of step.at a);
       calls = among (channels_started alarm step.action);
-      selects = selected alarm step.action;
+      selects = selects_program alarm step.action;
       program = program_selected step.action;
       on = has step.on;
     } in
-    let own : acted p (b.own p) ((after_own_part (board_of b) p step).marks p) ((after_own_part (board_of b) p step).state p) (touches step.action)
-    ≡ acted p (t.own p) ((after_own_part (board_of t) p step).marks p) ((after_own_part (board_of t) p step).state p) (touches step.action) =
-    ap (λ (o : Own). acted p o ((after_own_part (board_of b) p step).marks p) ((after_own_part (board_of b) p step).state p) (touches step.action)) s.own
-    ∙ ap (λ (m : ℕ → Bool). acted p (t.own p) m ((after_own_part (board_of b) p step).state p) (touches step.action)) (part_marks (board_of b) (board_of t) p step r)
-    ∙ ap (λ (d : Doing). acted p (t.own p) ((after_own_part (board_of t) p step).marks p) d (touches step.action)) (part_state (board_of b) (board_of t) p step r) in
+    let own : own_after_act p (b.own p) ((after_own_part (board_of b) p step).marks p) ((after_own_part (board_of b) p step).state p) (touches step.action)
+    ≡ own_after_act p (t.own p) ((after_own_part (board_of t) p step).marks p) ((after_own_part (board_of t) p step).state p) (touches step.action) =
+    ap (λ (o : Own). own_after_act p o ((after_own_part (board_of b) p step).marks p) ((after_own_part (board_of b) p step).state p) (touches step.action)) s.own
+    ∙ ap (λ (m : ℕ → Bool). own_after_act p (t.own p) m ((after_own_part (board_of b) p step).state p) (touches step.action)) (part_marks (board_of b) (board_of t) p step r)
+    ∙ ap (λ (d : Doing). own_after_act p (t.own p) ((after_own_part (board_of t) p step).marks p) d (touches step.action)) (part_state (board_of b) (board_of t) p step r) in
     ap (λ (o : Own). make o (alarm_of (board_of b) p step.action)) own
-    ∙ ap (λ (alarm : Option ℕ). make (acted p (t.own p) ((after_own_part (board_of t) p step).marks p) ((after_own_part (board_of t) p step).state p) (touches step.action)) alarm)
+    ∙ ap (λ (alarm : Option ℕ). make (own_after_act p (t.own p) ((after_own_part (board_of t) p step).marks p) ((after_own_part (board_of t) p step).state p) (touches step.action)) alarm)
     (alarm_same (board_of b) (board_of t) p step.action r)
 
-changes : (p k : ℕ) (o : Own) (marks : ℕ → Bool) (state : Doing) (names : ℕ → Bool) → MarkChange o (acted p o marks state names) k
-unfolding acted
+changes : (p k : ℕ) (o : Own) (marks : ℕ → Bool) (state : Doing) (names : ℕ → Bool) → MarkChange o (own_after_act p o marks state names) k
+unfolding own_after_act
 changes p k o marks state names = elim (cases_Bool (o.marks k)) [
   | inl old ↦ elim (cases_Bool (marks k)) [
     | inl new ↦ Stays (new ∙ sym old) (rw (new, old) refl) (rw (new, old) refl)
@@ -98,7 +98,7 @@ changes p k o marks state names = elim (cases_Bool (o.marks k)) [
 
 -- each step is an act
 pub act_is : (b : State) (p : ℕ) (step : Step) → IsAct p (b.own p) (touches step.action) (effect b p step)
-unfolding effect acted
+unfolding effect own_after_act
 act_is b p step = record {
   count = refl;
   own_past = rw (eq-eqb p p refl) refl;

@@ -6,7 +6,7 @@ use Rattle.sync_types.specs.Boards.{IsIdle, IsRunning, IsHolding, HasEnded, AtMa
 use Rattle.sync_types.specs.Boards as boards
 use Rattle.sync_types.specs.Events.{channels_in}
 use Rattle.sync_types.specs.GoingOn.{Going, first_of, axes_asked, waits_for_axes, can_take, next_taker, goers_at_once, state_after_goes, after_goes, Takings, all_takings}
-use Rattle.board_laws.specs.Machine.{Axis, Seat, In, Called, State, is_listed, asks, is_free, mine, met, ready, shown, board_of}
+use Rattle.board_laws.specs.Machine.{Axis, Seat, In, Called, State, is_listed, asks, is_free, mine, is_met, ready, doing_of, board_of}
 use Rattle.board_laws.specs.Clean.{GoesClean}
 use Rattle.board_laws.specs.Zones.{Zones}
 use Rattle.board_laws.proofs.Basics.{no, ready_met, ready_listed}
@@ -33,12 +33,12 @@ pub goes_state : (t : State) (c : ℕ) → among (goers_at_once (board_of t)) c 
 unfolding state_after_goes
 goes_state t c on = rw on refl
 
-pub stays_state : (t : State) (c : ℕ) → among (goers_at_once (board_of t)) c ≡ false → (before_takings t).state c ≡ shown t c (t.own c).seat
+pub stays_state : (t : State) (c : ℕ) → among (goers_at_once (board_of t)) c ≡ false → (before_takings t).state c ≡ doing_of t c (t.own c).seat
 unfolding state_after_goes
 stays_state t c off = rw off refl
 
 -- who asks for axes does not go before the takings
-pub getting_stays : (t : State) (c : ℕ) → is_getting (t.own c).seat ≡ true → (before_takings t).state c ≡ shown t c (t.own c).seat
+pub getting_stays : (t : State) (c : ℕ) → is_getting (t.own c).seat ≡ true → (before_takings t).state c ≡ doing_of t c (t.own c).seat
 getting_stays t c get = stays_state t c (quick_goes t c ∙ ap (λ (b : Bool). ready t c && b) (getting_not_quick (t.own c).seat get) ∙ off (ready t c))
   where
     off : (b : Bool) → (b && false) ≡ false
@@ -105,11 +105,11 @@ pub record Robbed (t : State) (c : ℕ) : Type 0 where
   pub asks : asks (t.own c).seat (Axis axis) ≡ true
 
 pub left_out : (t : State) (c : ℕ) → Zones (board_of t) → next_taker (taken_in t).board ≡ None → ready t c ≡ true → is_getting (t.own c).seat ≡ true → went t c ≡ false → Robbed t c
-unfolding met
+unfolding is_met
 left_out t c zs over r get out =
     let all = takings_of t zs in
     let f : Board = (taken_in t).board in
-    let state : f.state c ≡ shown t c (t.own c).seat = all.kept c out ∙ getting_stays t c get in
+    let state : f.state c ≡ doing_of t c (t.own c).seat = all.kept c out ∙ getting_stays t c get in
     let listed : among channel_numbers c ≡ true = is_in_list (t.own c).seat get (ready_listed t c (t.own c).seat r) in
     let waits : waits_for_axes (f.state c) ≡ true = ap waits_for_axes state ∙ waits_shown t c (t.own c).seat ∙ get in
     let cannot = no_taker f over c listed in
@@ -142,7 +142,7 @@ left_out t c zs over r get out =
     second true b on h = h
     second false b on h = no on refl
 
-    met_is : (t : State) (c x : ℕ) → met t c (Axis x) ≡ true → (is_free (t.axis x).owner || mine t c x) ≡ true
+    met_is : (t : State) (c x : ℕ) → is_met t c (Axis x) ≡ true → (is_free (t.axis x).owner || mine t c x) ≡ true
     met_is t c x m = m
 
 -- where what goes on is clean, all that is ready for axes takes

@@ -1,7 +1,7 @@
 -- The half law backward: a clean joint step is two clean steps.
 use Rattle.std.proofs.Common.{◌≡◌, ℕ, ◌≤◌, ◌==◌, ◌&&◌, ◌||◌, not, Bool, true, false, inl, inr, refl, sym, ap, subst, ◌∙◌}
 use Rattle.std.proofs.lemmas.Bool.{cases_Bool, eqb-true, eq-eqb, ne_eqb, and_parts, or_cases, or_left, or_right}
-use Rattle.board_laws.specs.Machine.{Need, Mark, Axis, Seat, Own, State, Effect, Clock, is_listed, asks, is_at, is_running, mine, met, ready_at, ready, go_clock, gone, settle_own, settle, put_own, put}
+use Rattle.board_laws.specs.Machine.{Need, Mark, Axis, Seat, Own, State, Effect, Clock, is_listed, asks, is_at, is_running, mine, is_met, ready_at, ready, go_clock, own_after_go, settle_own, settle, put_own, with_effect}
 use Rattle.board_laws.specs.Clean.{SameSet, MarkClean, GoesClean, ActClean, Inv}
 use Rattle.board_laws.proofs.Basics.{no, off_from, ready_met, ready_listed, ready_from, mark_at, at_needs, at_holds, asks_holds, running_ready, running_asks}
 use Rattle.board_laws.proofs.Parts.{settle_goes, settle_stays, gone_runs, gone_asks, gone_lowered_off, gone_needs_off, gone_took_off, put_same, put_other, touched_at}
@@ -12,7 +12,7 @@ use Rattle.board_laws.proofs.Forward.{Between, differ_back, needs_kept, clock_la
 -- one set of own and named channels: if the one is ready, so is the other
 set_ready : (t : State) (c d k : ℕ) → Inv t → ready t c ≡ true → is_at (t.own c).seat k ≡ true → is_at (t.own d).seat k ≡ true → is_listed d (t.own d).seat ≡ true
     → SameSet d (t.own d).seat c (t.own c).seat k → ready t d ≡ true
-unfolding met
+unfolding is_met
 set_ready t c d k inv r at_c at_d listed set = ready_from t d (t.own d).seat (at_holds (t.own d).seat k at_d) listed (λ n y.
     let m = at_needs (t.own d).seat k n at_d y in
     let y' : asks (t.own d).seat (Mark m.0 k) ≡ true = rw m.1 at y in
@@ -46,12 +46,12 @@ own_down t q names h d k w g at_q other set = elim (or_cases (q == d) (asks (t.o
 pub turned : (x y : ℕ) → (x == y) ≡ false → (y == x) ≡ false
 turned x y n = ne_eqb y x (λ e. no (eq-eqb x y (sym e)) n)
 
-apart_back : (t : State) (q : ℕ) (names : ℕ → Bool) (h : Effect) → Between t q names h → ActClean t q names h → GoesClean (put t q h)
+apart_back : (t : State) (q : ℕ) (names : ℕ → Bool) (h : Effect) → Between t q names h → ActClean t q names h → GoesClean (with_effect t q h)
     → (c d k : ℕ) → ready t d ≡ true → is_at (t.own d).seat k ≡ true → ready t c ≡ false → asks (put_own t q h c).seat (Mark d k) ≡ false
 apart_back t q names h w act goes c d k g at_k s = elim (cases_Bool (asks (put_own t q h c).seat (Mark d k))) [
   | inr off ↦ off
   | inl y ↦
-      let rd : ready (put t q h) d ≡ true = still_ready t q h d w.runs (λ j z. kept_back t q names h w act d j g z) g in
+      let rd : ready (with_effect t q h) d ≡ true = still_ready t q h d w.runs (λ j z. kept_back t q names h w act d j g z) g in
       let there : put_own t q h d ≡ t.own d = goer_at t q d h w.runs g in
       let at_j : is_at (put_own t q h d).seat k ≡ true = ap (λ (o : Own). is_at o.seat k) there ∙ at_k in
       let n = differ_back t d c g s in
@@ -67,11 +67,11 @@ apart_back t q names h w act goes c d k g at_k s = elim (cases_Bool (asks (put_o
             let y' : asks (t.own c).seat (Mark d k) ≡ true = sym (joint_asks t q h c (Mark d k) other refl) ∙ y in
             let held : put_own t q h c ≡ t.own c = holder_at t q h c other (asks_holds (t.own c).seat (Mark d k) y') in
             let set' : SameSet c (t.own c).seat d (t.own d).seat k = subst (λ (o : Own). SameSet c o.seat d (t.own d).seat k) held set in
-            no (set_ready t d c k w.inv g at_k (mark_at (t.own c).seat d k y') (ap (λ (o : Own). is_listed c o.seat) (sym held) ∙ ready_listed (put t q h) c (put_own t q h c).seat (m.goes y)) set') s
+            no (set_ready t d c k w.inv g at_k (mark_at (t.own c).seat d k y') (ap (λ (o : Own). is_listed c o.seat) (sym held) ∙ ready_listed (with_effect t q h) c (put_own t q h c).seat (m.goes y)) set') s
       ]
 ]
 
-pub joint_back : (t : State) (q : ℕ) (names : ℕ → Bool) (h : Effect) → Between t q names h → ActClean t q names h → GoesClean (put t q h) → Joint t q names h
+pub joint_back : (t : State) (q : ℕ) (names : ℕ → Bool) (h : Effect) → Between t q names h → ActClean t q names h → GoesClean (with_effect t q h) → Joint t q names h
 joint_back t q names h w act goes = record {
   runs = w.runs;
   act = w.act;
@@ -79,14 +79,14 @@ joint_back t q names h w act goes = record {
   kept = kept_back t q names h w act;
   apart_marks = apart_back t q names h w act goes;
   apart_axes = λ c d a r y f n.
-      let rc : ready (put t q h) c ≡ true = still_ready t q h c w.runs (λ j z. kept_back t q names h w act c j r z) r in
+      let rc : ready (with_effect t q h) c ≡ true = still_ready t q h c w.runs (λ j z. kept_back t q names h w act c j r z) r in
       let yj : asks (put_own t q h c).seat (Axis a) ≡ true = ap (λ (o : Own). asks o.seat (Axis a)) (goer_at t q c h w.runs r) ∙ y in
-      let fj : mine (put t q h) c a ≡ false = mine_other t q h c a (not_q t q c w.runs r) ∙ f in
+      let fj : mine (with_effect t q h) c a ≡ false = mine_other t q h c a (not_q t q c w.runs r) ∙ f in
       goes.axes c d a rc yj fj n;
 }
 
 -- the first step's goings are clean
-pub first_back : (t : State) (q : ℕ) (names : ℕ → Bool) (h : Effect) → Joint t q names h → GoesClean (put t q h) → GoesClean t
+pub first_back : (t : State) (q : ℕ) (names : ℕ → Bool) (h : Effect) → Joint t q names h → GoesClean (with_effect t q h) → GoesClean t
 first_back t q names h w joint = record {
   marks = λ d c k g at_k n.
       let at_j : is_at (put_own t q h d).seat k ≡ true = ap (λ (o : Own). is_at o.seat k) (goer_at t q d h w.runs g) ∙ at_k in
@@ -162,18 +162,18 @@ act_back t q names h w act =
 spent : (t : State) (q : ℕ) (h : Effect) (c : ℕ) (n : Need) → is_running (t.own q).seat ≡ true → ready t c ≡ true → asks (put_own (settle t) q h c).seat n ≡ false
 spent t q h c n run r = ap (λ (o : Own). asks o.seat n) (gone_at t q c h run r) ∙ gone_asks t c n
 
-spent_ready : (t : State) (q : ℕ) (h : Effect) (c : ℕ) → is_running (t.own q).seat ≡ true → ready (put (settle t) q h) c ≡ true → ready t c ≡ false
+spent_ready : (t : State) (q : ℕ) (h : Effect) (c : ℕ) → is_running (t.own q).seat ≡ true → ready (with_effect (settle t) q h) c ≡ true → ready t c ≡ false
 spent_ready t q h c run r = elim (cases_Bool (ready t c)) [
   | inr s ↦ s
-  | inl g ↦ no r (ap (λ (o : Own). ready_at (put (settle t) q h) c o.seat) (gone_at t q c h run g)
-      ∙ running_ready (put (settle t) q h) c (gone t c).seat (gone_runs t c))
+  | inl g ↦ no r (ap (λ (o : Own). ready_at (with_effect (settle t) q h) c o.seat) (gone_at t q c h run g)
+      ∙ running_ready (with_effect (settle t) q h) c (own_after_go t c).seat (gone_runs t c))
 ]
 
-marks_back : (t : State) (q : ℕ) (names : ℕ → Bool) (h : Effect) (d c k : ℕ) → Between t q names h → Joint t q names h → GoesClean (put t q h)
-    → ready t d ≡ false → ready (put t q h) d ≡ true → is_at (put_own t q h d).seat k ≡ true → (c == d) ≡ false → MarkClean (put (settle t) q h) d c k
+marks_back : (t : State) (q : ℕ) (names : ℕ → Bool) (h : Effect) (d c k : ℕ) → Between t q names h → Joint t q names h → GoesClean (with_effect t q h)
+    → ready t d ≡ false → ready (with_effect t q h) d ≡ true → is_at (put_own t q h d).seat k ≡ true → (c == d) ≡ false → MarkClean (with_effect (settle t) q h) d c k
 marks_back t q names h d c k b w joint s g at_k n =
     let m = joint.marks d c k g at_k n in
-    let clock : go_clock (put (settle t) q h) d c ≡ go_clock (put t q h) d c = ap (λ (f : Clock). f c) (clock_later t q names h d w s g) in
+    let clock : go_clock (with_effect (settle t) q h) d c ≡ go_clock (with_effect t q h) d c = ap (λ (f : Clock). f c) (clock_later t q names h d w s g) in
     record {
       goes = λ y. elim (cases_Bool (ready t c)) [
         | inl r ↦ no y (spent t q h c (Mark d k) w.runs r)
@@ -187,7 +187,7 @@ marks_back t q names h d c k b w joint s g at_k n =
         | inr z ↦ rw (same_at t q c h z, clock) m.needed
         | inl r ↦ elim (cases_Bool (asks (t.own c).seat (Mark d k))) [
           | inr off ↦
-              let l : (t.own c).needs d k ≤ go_clock (put t q h) d c = rw (goer_at t q c h w.runs r) at m.needed in
+              let l : (t.own c).needs d k ≤ go_clock (with_effect t q h) d c = rw (goer_at t q c h w.runs r) at m.needed in
               rw (gone_at t q c h w.runs r, gone_needs_off t c d k off, clock) l
           | inl on ↦
               let on' : asks (put_own t q h c).seat (Mark d k) ≡ true = ap (λ (o : Own). asks o.seat (Mark d k)) (goer_at t q c h w.runs r) ∙ on in
@@ -202,24 +202,24 @@ marks_back t q names h d c k b w joint s g at_k n =
                     let at_t : is_at (t.own d).seat k ≡ true = sym (ap (λ (o : Own). is_at o.seat k) (put_other t q h d other) ∙ touched_at h q d (t.own d) k) ∙ at_k in
                     let held : put_own t q h d ≡ t.own d = holder_at t q h d other (at_holds (t.own d).seat k at_t) in
                     let set' : SameSet c (t.own c).seat d (t.own d).seat k = subst (λ (o : Own). SameSet c (t.own c).seat d o.seat k) held set in
-                    no (set_ready t c d k b.inv r (mark_at (t.own c).seat d k on) at_t (ap (λ (o : Own). is_listed d o.seat) (sym held) ∙ ready_listed (put t q h) d (put_own t q h d).seat g) (same_back c d k (t.own c).seat (t.own d).seat set')) s
+                    no (set_ready t c d k b.inv r (mark_at (t.own c).seat d k on) at_t (ap (λ (o : Own). is_listed d o.seat) (sym held) ∙ ready_listed (with_effect t q h) d (put_own t q h d).seat g) (same_back c d k (t.own c).seat (t.own d).seat set')) s
               ])
         ]
       ];
     }
 
-axes_back : (t : State) (q : ℕ) (names : ℕ → Bool) (h : Effect) (c d a : ℕ) → Joint t q names h → GoesClean (put t q h)
-    → ready t c ≡ false → ready (put t q h) c ≡ true → asks (put_own (settle t) q h c).seat (Axis a) ≡ true → mine (put (settle t) q h) c a ≡ false → (d == c) ≡ false
+axes_back : (t : State) (q : ℕ) (names : ℕ → Bool) (h : Effect) (c d a : ℕ) → Joint t q names h → GoesClean (with_effect t q h)
+    → ready t c ≡ false → ready (with_effect t q h) c ≡ true → asks (put_own (settle t) q h c).seat (Axis a) ≡ true → mine (with_effect (settle t) q h) c a ≡ false → (d == c) ≡ false
     → asks (put_own (settle t) q h d).seat (Axis a) ≡ false
 axes_back t q names h c d a w joint s g y f n =
     let yj : asks (put_own t q h c).seat (Axis a) ≡ true = ap (λ (o : Own). asks o.seat (Axis a)) (sym (same_at t q c h s)) ∙ y in
-    let fj : mine (put t q h) c a ≡ false = sym (mine_same t q h c a w.runs s) ∙ f in
+    let fj : mine (with_effect t q h) c a ≡ false = sym (mine_same t q h c a w.runs s) ∙ f in
     elim (cases_Bool (ready t d)) [
       | inl r ↦ spent t q h d (Axis a) w.runs r
       | inr z ↦ ap (λ (o : Own). asks o.seat (Axis a)) (same_at t q d h z) ∙ joint.axes c d a g yj fj n
     ]
 
-pub goes_back : (t : State) (q : ℕ) (names : ℕ → Bool) (h : Effect) → Between t q names h → Joint t q names h → GoesClean (put t q h) → GoesClean (put (settle t) q h)
+pub goes_back : (t : State) (q : ℕ) (names : ℕ → Bool) (h : Effect) → Between t q names h → Joint t q names h → GoesClean (with_effect t q h) → GoesClean (with_effect (settle t) q h)
 goes_back t q names h b w joint = record {
   marks = λ d c k r at_k n.
       let s = spent_ready t q h d w.runs r in

@@ -4,7 +4,7 @@ use Rattle.std.proofs.Math.Path.{fun_ext}
 use Rattle.std.specs.List.{list_all, list_any}
 use Rattle.std.proofs.lemmas.Bool.{cases_Bool, eqb-true, eq-eqb, and_parts, and_from, or_cases, or_left, true≢false}
 use Rattle.sync_types.specs.Boards.{IsIdle, IsRunning, IsHolding, HasEnded, AtMarks, AtEnds, AtAxes, State as Doing}
-use Rattle.board_laws.specs.Machine.{Need, Mark, End, Axis, Call, Seat, In, Called, Own, State, same, needs_of, holds, is_listed, asks, is_at, is_idle, is_ended, is_running, met, ready_at, larger, most, heard, clock_of, partner, mine}
+use Rattle.board_laws.specs.Machine.{Need, Mark, End, Axis, Call, Seat, In, Called, Own, State, same, needs_of, holds, is_listed, asks, is_at, is_idle, is_ended, is_running, is_met, ready_at, larger, most, heard, clock_of, partner, mine}
 
 pub no : {A : Type 0} {b : Bool} → b ≡ true → b ≡ false → A
 no on off = absurd (true≢false (sym on ∙ off))
@@ -43,23 +43,23 @@ from_all f (m ∷ ns) each =
     or_there n m ns there = elim (cases_Bool (same n m)) [ inl y ↦ rw y refl | inr z ↦ rw (z, there) refl ]
 
 -- what is ready has all that it needs
-pub ready_met : (t : State) (c : ℕ) (s : Seat) (n : Need) → ready_at t c s ≡ true → asks s n ≡ true → met t c n ≡ true
+pub ready_met : (t : State) (c : ℕ) (s : Seat) (n : Need) → ready_at t c s ≡ true → asks s n ≡ true → is_met t c n ≡ true
 unfolding ready_at asks
 ready_met t c s n r a =
-    all_at (met t c) (needs_of s) n (and_parts (is_listed c s) (list_all (met t c) (needs_of s)) (and_parts (holds s) (is_listed c s && list_all (met t c) (needs_of s)) r).1).1 a
+    all_at (is_met t c) (needs_of s) n (and_parts (is_listed c s) (list_all (is_met t c) (needs_of s)) (and_parts (holds s) (is_listed c s && list_all (is_met t c) (needs_of s)) r).1).1 a
 
 pub ready_holds : (t : State) (c : ℕ) (s : Seat) → ready_at t c s ≡ true → holds s ≡ true
 unfolding ready_at
-ready_holds t c s r = (and_parts (holds s) (is_listed c s && list_all (met t c) (needs_of s)) r).0
+ready_holds t c s r = (and_parts (holds s) (is_listed c s && list_all (is_met t c) (needs_of s)) r).0
 
 pub ready_listed : (t : State) (c : ℕ) (s : Seat) → ready_at t c s ≡ true → is_listed c s ≡ true
 unfolding ready_at
-ready_listed t c s r = (and_parts (is_listed c s) (list_all (met t c) (needs_of s)) (and_parts (holds s) (is_listed c s && list_all (met t c) (needs_of s)) r).1).0
+ready_listed t c s r = (and_parts (is_listed c s) (list_all (is_met t c) (needs_of s)) (and_parts (holds s) (is_listed c s && list_all (is_met t c) (needs_of s)) r).1).0
 
-pub ready_from : (t : State) (c : ℕ) (s : Seat) → holds s ≡ true → is_listed c s ≡ true → ((n : Need) → asks s n ≡ true → met t c n ≡ true) → ready_at t c s ≡ true
+pub ready_from : (t : State) (c : ℕ) (s : Seat) → holds s ≡ true → is_listed c s ≡ true → ((n : Need) → asks s n ≡ true → is_met t c n ≡ true) → ready_at t c s ≡ true
 unfolding ready_at asks
 ready_from t c s h l each =
-    and_from (holds s) (is_listed c s && list_all (met t c) (needs_of s)) h (and_from (is_listed c s) (list_all (met t c) (needs_of s)) l (from_all (met t c) (needs_of s) each))
+    and_from (holds s) (is_listed c s && list_all (is_met t c) (needs_of s)) h (and_from (is_listed c s) (list_all (is_met t c) (needs_of s)) l (from_all (is_met t c) (needs_of s) each))
 
 pub Bool_eq : (x y : Bool) → (x ≡ true → y ≡ true) → (y ≡ true → x ≡ true) → x ≡ y
 Bool_eq x y to back = elim (cases_Bool x) [
@@ -67,7 +67,7 @@ Bool_eq x y to back = elim (cases_Bool x) [
   | inr b ↦ elim (cases_Bool y) [ inl c ↦ no (back c) b | inr d ↦ rw (b, d) refl ]
 ]
 
-pub ready_agree : (t u : State) (c : ℕ) (s : Seat) → ((n : Need) → asks s n ≡ true → met t c n ≡ met u c n) → ready_at t c s ≡ ready_at u c s
+pub ready_agree : (t u : State) (c : ℕ) (s : Seat) → ((n : Need) → asks s n ≡ true → is_met t c n ≡ is_met u c n) → ready_at t c s ≡ ready_at u c s
 ready_agree t u c s agree = Bool_eq (ready_at t c s) (ready_at u c s)
     (λ r. ready_from u c s (ready_holds t c s r) (ready_listed t c s r) (λ n a. sym (agree n a) ∙ ready_met t c s n r a))
     (λ r. ready_from t c s (ready_holds u c s r) (ready_listed u c s r) (λ n a. agree n a ∙ ready_met u c s n r a))

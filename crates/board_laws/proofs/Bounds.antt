@@ -1,7 +1,7 @@
 -- Fresh places, and what clocks cannot exceed.
 use Rattle.std.proofs.Common.{◌≡◌, ℕ, zero, suc, ◌≤◌, ◌==◌, ◌&&◌, not, Bool, true, false, inl, inr, refl, ap, ◌∙◌, arith, if◌then◌else◌}
 use Rattle.std.proofs.lemmas.Bool.{cases_Bool, eqb-true, and_parts}
-use Rattle.board_laws.specs.Machine.{Need, Mark, End, Axis, Call, Seat, Own, State, Effect, Clock, same, holds, asks, is_at, is_idle, is_running, mine, ready, larger, heard, go_clock, settle_own, released, put_own, put_axis, put}
+use Rattle.board_laws.specs.Machine.{Need, Mark, End, Axis, Call, Seat, Own, State, Effect, Clock, same, holds, asks, is_at, is_idle, is_running, mine, ready, larger, heard, go_clock, settle_own, cell_after_release, put_own, put_axis, with_effect}
 use Rattle.board_laws.specs.Clean.{MarkChange, Stays, Raises, Lowers, IsAct, Inv}
 use Rattle.board_laws.proofs.Basics.{no, off_from, clock_under, mark_at, running_ready, idle_holds}
 use Rattle.board_laws.proofs.Parts.{settle_goes, settle_stays, gone_started, gone_lowered_at, gone_lowered_off, gone_needs_on, gone_needs_off, gone_took_on, gone_took_off, put_same, put_other, touched_awake, touched_asks, axis_off, axis_kept, axis_freed}
@@ -100,8 +100,8 @@ raised_under t q names h e k c inv act other = elim (cases_Bool (e == q)) [
     changes (Raises down up l r) a b = rw (ap (λ (f : Clock). f c) l, act.past c other) b
     changes (Lowers down up l r) a b = rw (ap (λ (f : Clock). f c) l) a
 
-pub freed_by : (t : State) (q : ℕ) (h : Effect) (a : ℕ) → (released t q h a).freed ≡ h.own.past
-unfolding released
+pub freed_by : (t : State) (q : ℕ) (h : Effect) (a : ℕ) → (cell_after_release t q h a).freed ≡ h.own.past
+unfolding cell_after_release
 freed_by t q h a = refl
 
 pub freed_under : (t : State) (q : ℕ) (names : ℕ → Bool) (h : Effect) (a c : ℕ) → Inv t → IsAct q (t.own q) names h → (c == q) ≡ false → (put_axis t q h a).freed c ≤ (t.own c).count
@@ -114,7 +114,7 @@ freed_under t q names h a c inv act other = elim (cases_Bool (mine t q a)) [
 ]
 
 heard_under : (t : State) (q : ℕ) (names : ℕ → Bool) (h : Effect) (d c : ℕ) (n : Need) → Joint t q names h → Inv t → (c == q) ≡ false → ready t c ≡ true → ready t d ≡ false
-    → asks (put_own t q h d).seat n ≡ true → heard (put t q h) d c n ≤ (t.own c).count
+    → asks (put_own t q h d).seat n ≡ true → heard (with_effect t q h) d c n ≤ (t.own c).count
 unfolding heard
 heard_under t q names h d c (Mark e j) w inv other g s y = elim (cases_Bool (c == e)) [
   | inl here ↦
@@ -126,7 +126,7 @@ heard_under t q names h d c (Mark e j) w inv other g s y = elim (cases_Bool (c =
         | inr z ↦ z
       ] in
       let off' : asks (put_own t q h e).seat (Mark d j) ≡ false = rw x at off in
-      rw (off') (flat_off (e == d) (c == e) (ready (put t q h) e) ((put_own t q h e).raised j c) (suc (put_own t q h e).count) (t.own c).count (raised_under t q names h e j c inv w.act other))
+      rw (off') (flat_off (e == d) (c == e) (ready (with_effect t q h) e) ((put_own t q h e).raised j c) (suc (put_own t q h e).count) (t.own c).count (raised_under t q names h e j c inv w.act other))
   | inr there ↦ rw there (flat (e == d) ((put_own t q h e).raised j c) (t.own c).count (raised_under t q names h e j c inv w.act other))
 ]
   where
@@ -144,7 +144,7 @@ heard_under t q names h d c (Mark e j) w inv other g s y = elim (cases_Bool (c =
     flat_off false true false m i n l = rw (larger_zero m) l
     flat_off false false z m i n l = rw (larger_zero m) l
 heard_under t q names h d c (End e) w inv other g s y = past_under t q names h e c inv w.act other
-heard_under t q names h d c (Axis a) w inv other g s y = elim (cases_Bool (mine (put t q h) d a)) [
+heard_under t q names h d c (Axis a) w inv other g s y = elim (cases_Bool (mine (with_effect t q h) d a)) [
   | inl f ↦ rw f (omega arith)
   | inr f ↦ rw f (freed_under t q names h a c inv w.act other)
 ]
@@ -152,8 +152,8 @@ heard_under t q names h d c (Call e) w inv other g s y = past_under t q names h 
 
 -- the clock of a later Go counts no Go of the first step
 pub clock_of_later : (t : State) (q : ℕ) (names : ℕ → Bool) (h : Effect) (d c : ℕ) → Joint t q names h → Inv t → (c == d) ≡ false → ready t c ≡ true → ready t d ≡ false
-    → go_clock (put t q h) d c ≤ (t.own c).count
+    → go_clock (with_effect t q h) d c ≤ (t.own c).count
 clock_of_later t q names h d c w inv n g s =
     let other = not_q t q c w.runs g in
-    clock_under (put t q h) d c (put_own t q h d) (t.own c).count n (past_under t q names h d c inv w.act other)
+    clock_under (with_effect t q h) d c (put_own t q h d) (t.own c).count n (past_under t q names h d c inv w.act other)
     (λ m y. heard_under t q names h d c m w inv other g s y)

@@ -15,7 +15,7 @@ use Rattle.sync_types.specs.declared.Action.{Action}
 use Rattle.sync_types.specs.declared.Action.TheVariants.{WaitM, SetM, ClearM, Init, Start, WaitE, Release, Get, End, Alarm}
 use Rattle.sync_types.specs.declared.Grant.{Grant}
 use Rattle.sync_types.specs.declared.Step.{Step}
-use Rattle.board_laws.specs.Machine.{In, is_at, is_idle, touches, selected}
+use Rattle.board_laws.specs.Machine.{In, is_at, is_idle, touches, selects_program}
 
 -- what the own part of a step of p by this action reads is the same on both boards
 pub record ReadsSame (a b : Board) (p : ℕ) (action : Action) : Type 0 where
@@ -234,7 +234,7 @@ part_calls (Some code) action y off = refl
 part_calls None (Start named) y off = off
 part_calls None other y off = refl
 
-pub part_selects : (alarm : Option ℕ) (action : Action) (y : ℕ) → touches action y ≡ false → selected alarm action y ≡ false
+pub part_selects : (alarm : Option ℕ) (action : Action) (y : ℕ) → touches action y ≡ false → selects_program alarm action y ≡ false
 part_selects None (Init c program) y off = go (c == y) off
   where
     go : (b : Bool) → (b || false) ≡ false → b ≡ false

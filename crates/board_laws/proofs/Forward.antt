@@ -1,7 +1,7 @@
 -- The half law forward: two clean steps are a clean joint step.
 use Rattle.std.proofs.Common.{◌≡◌, ℕ, suc, ◌≤◌, ◌==◌, Bool, true, false, inl, inr, refl, sym, ap, ◌∙◌, arith}
 use Rattle.std.proofs.lemmas.Bool.{cases_Bool, eqb-true, ne_eqb}
-use Rattle.board_laws.specs.Machine.{Mark, Axis, Call, Own, Cell, State, Effect, Clock, asks, is_at, is_running, is_free, mine, ready, clock_of, go_clock, gone, settle_own, settle, put_own, put_axis, put}
+use Rattle.board_laws.specs.Machine.{Mark, Axis, Call, Own, Cell, State, Effect, Clock, asks, is_at, is_running, is_free, mine, ready, clock_of, go_clock, own_after_go, settle_own, settle, put_own, put_axis, with_effect}
 use Rattle.board_laws.specs.Clean.{MarkClean, GoesClean, ActClean, IsAct, Inv}
 use Rattle.board_laws.proofs.Basics.{no, ready_met}
 use Rattle.board_laws.proofs.Parts.{settle_goes, settle_stays, gone_needs_on, put_same, of_free}
@@ -100,22 +100,22 @@ needs_later : (t : State) (q : ℕ) (names : ℕ → Bool) (h : Effect) (c d k :
 needs_later t q names h c d k w inv = elim (cases_Bool (ready t c)) [
   | inl g ↦
       let u = needs_up t c d k inv in
-      let v : (t.own c).needs d k ≤ (gone t c).needs d k = rw (settle_goes t c g) at u in
+      let v : (t.own c).needs d k ≤ (own_after_go t c).needs d k = rw (settle_goes t c g) at u in
       rw (gone_at t q c h w.runs g, goer_at t q c h w.runs g) v
   | inr s ↦ rw (same_at t q c h s) (omega arith)
 ]
 
 -- the clock after the first step is the joint one
-pub clock_later : (t : State) (q : ℕ) (names : ℕ → Bool) (h : Effect) (d : ℕ) → Joint t q names h → ready t d ≡ false → ready (put t q h) d ≡ true
-    → go_clock (put (settle t) q h) d ≡ go_clock (put t q h) d
+pub clock_later : (t : State) (q : ℕ) (names : ℕ → Bool) (h : Effect) (d : ℕ) → Joint t q names h → ready t d ≡ false → ready (with_effect t q h) d ≡ true
+    → go_clock (with_effect (settle t) q h) d ≡ go_clock (with_effect t q h) d
 clock_later t q names h d w s g =
-    ap (λ (o : Own). clock_of (put (settle t) q h) d o) (same_at t q d h s) ∙ clock_same t q names h w d s g
+    ap (λ (o : Own). clock_of (with_effect (settle t) q h) d o) (same_at t q d h s) ∙ clock_same t q names h w d s g
 
-pub clock_first : (t : State) (q : ℕ) (names : ℕ → Bool) (h : Effect) (d : ℕ) → Joint t q names h → ready t d ≡ true → go_clock (put t q h) d ≡ go_clock t d
-clock_first t q names h d w g = ap (λ (o : Own). clock_of (put t q h) d o) (goer_at t q d h w.runs g) ∙ clock_goes t q names h w d g
+pub clock_first : (t : State) (q : ℕ) (names : ℕ → Bool) (h : Effect) (d : ℕ) → Joint t q names h → ready t d ≡ true → go_clock (with_effect t q h) d ≡ go_clock t d
+clock_first t q names h d w g = ap (λ (o : Own). clock_of (with_effect t q h) d o) (goer_at t q d h w.runs g) ∙ clock_goes t q names h w d g
 
 marks_first : (t : State) (q : ℕ) (names : ℕ → Bool) (h : Effect) (d c k : ℕ) → Joint t q names h → GoesClean t
-    → ready t d ≡ true → is_at (put_own t q h d).seat k ≡ true → (c == d) ≡ false → MarkClean (put t q h) d c k
+    → ready t d ≡ true → is_at (put_own t q h d).seat k ≡ true → (c == d) ≡ false → MarkClean (with_effect t q h) d c k
 marks_first t q names h d c k w goes g at_k n =
     let at_t : is_at (t.own d).seat k ≡ true = ap (λ (o : Own). is_at o.seat k) (sym (goer_at t q d h w.runs g)) ∙ at_k in
     let m = goes.marks d c k g at_t n in
@@ -131,14 +131,14 @@ marks_first t q names h d c k w goes g at_k n =
       needed = rw (needs_kept t q names h c d k w.act, clock_first t q names h d w g) m.needed;
     }
 
-marks_later : (t : State) (q : ℕ) (names : ℕ → Bool) (h : Effect) (d c k : ℕ) → Joint t q names h → Inv t → GoesClean (put (settle t) q h)
-    → ready t d ≡ false → ready (put t q h) d ≡ true → is_at (put_own t q h d).seat k ≡ true → (c == d) ≡ false → MarkClean (put t q h) d c k
+marks_later : (t : State) (q : ℕ) (names : ℕ → Bool) (h : Effect) (d c k : ℕ) → Joint t q names h → Inv t → GoesClean (with_effect (settle t) q h)
+    → ready t d ≡ false → ready (with_effect t q h) d ≡ true → is_at (put_own t q h d).seat k ≡ true → (c == d) ≡ false → MarkClean (with_effect t q h) d c k
 marks_later t q names h d c k w inv later s g at_k n =
-    let rS : ready (put (settle t) q h) d ≡ true = same_ready t q names h w d s ∙ g in
+    let rS : ready (with_effect (settle t) q h) d ≡ true = same_ready t q names h w d s ∙ g in
     let atS : is_at (put_own (settle t) q h d).seat k ≡ true = ap (λ (o : Own). is_at o.seat k) (same_at t q d h s) ∙ at_k in
     let m = later.marks d c k rS atS n in
-    let clock : go_clock (put (settle t) q h) d c ≡ go_clock (put t q h) d c = ap (λ (f : Clock). f c) (clock_later t q names h d w s g) in
-    let needed' : (put_own (settle t) q h c).needs d k ≤ go_clock (put t q h) d c = rw clock at m.needed in
+    let clock : go_clock (with_effect (settle t) q h) d c ≡ go_clock (with_effect t q h) d c = ap (λ (f : Clock). f c) (clock_later t q names h d w s g) in
+    let needed' : (put_own (settle t) q h c).needs d k ≤ go_clock (with_effect t q h) d c = rw clock at m.needed in
     record {
       goes = λ y. elim (cases_Bool (ready t c)) [
         | inl r ↦ goes_too t q names h w c r
@@ -147,7 +147,7 @@ marks_later t q names h d c k w inv later s g at_k n =
       set = λ y. elim (cases_Bool (ready t c)) [
         | inl r ↦
             let y' : asks (t.own c).seat (Mark d k) ≡ true = rw (goer_at t q c h w.runs r) at y in
-            let fresh : suc (t.own c).count ≤ go_clock (put t q h) d c = rw (gone_at t q c h w.runs r, gone_needs_on t c d k y') at needed' in
+            let fresh : suc (t.own c).count ≤ go_clock (with_effect t q h) d c = rw (gone_at t q c h w.runs r, gone_needs_on t c d k y') at needed' in
             let bound = clock_of_later t q names h d c w inv n r s in
             absurd (omega (arith, fresh, bound))
         | inr z ↦ rw (same_at t q c h z, same_at t q d h s) at (m.set (ap (λ (o : Own). asks o.seat (Mark d k)) (same_at t q c h z) ∙ y))
@@ -155,13 +155,13 @@ marks_later t q names h d c k w inv later s g at_k n =
       needed = let u = needs_later t q names h c d k w inv in omega (arith, u, needed');
     }
 
-axes_later : (t : State) (q : ℕ) (names : ℕ → Bool) (h : Effect) (c d a : ℕ) → Joint t q names h → GoesClean (put (settle t) q h)
-    → ready t c ≡ false → ready (put t q h) c ≡ true → asks (put_own t q h c).seat (Axis a) ≡ true → mine (put t q h) c a ≡ false → (d == c) ≡ false
+axes_later : (t : State) (q : ℕ) (names : ℕ → Bool) (h : Effect) (c d a : ℕ) → Joint t q names h → GoesClean (with_effect (settle t) q h)
+    → ready t c ≡ false → ready (with_effect t q h) c ≡ true → asks (put_own t q h c).seat (Axis a) ≡ true → mine (with_effect t q h) c a ≡ false → (d == c) ≡ false
     → asks (put_own t q h d).seat (Axis a) ≡ false
 axes_later t q names h c d a w later s g y f n =
-    let rS : ready (put (settle t) q h) c ≡ true = same_ready t q names h w c s ∙ g in
+    let rS : ready (with_effect (settle t) q h) c ≡ true = same_ready t q names h w c s ∙ g in
     let yS : asks (put_own (settle t) q h c).seat (Axis a) ≡ true = ap (λ (o : Own). asks o.seat (Axis a)) (same_at t q c h s) ∙ y in
-    let fS : mine (put (settle t) q h) c a ≡ false = mine_same t q h c a w.runs s ∙ f in
+    let fS : mine (with_effect (settle t) q h) c a ≡ false = mine_same t q h c a w.runs s ∙ f in
     elim (cases_Bool (ready t d)) [
       | inr z ↦ ap (λ (o : Own). asks o.seat (Axis a)) (sym (same_at t q d h z)) ∙ later.axes c d a rS yS fS n
       | inl r ↦ elim (cases_Bool (asks (t.own d).seat (Axis a))) [
@@ -170,20 +170,20 @@ axes_later t q names h c d a w later s g y f n =
           | inr off ↦ no y (w.apart_axes d c a r on off (differ_back t d c r s))
           | inl own ↦
               let here : put_axis t q h a ≡ t.axis a = goer_cell t q d h a w.runs r on in
-              let free : is_free (t.axis a).owner ≡ true = ap (λ (z : Cell). is_free z.owner) (sym here) ∙ took_free (put t q h) c a g y f in
+              let free : is_free (t.axis a).owner ≡ true = ap (λ (z : Cell). is_free z.owner) (sym here) ∙ took_free (with_effect t q h) c a g y f in
               no free (of_free (t.axis a).owner d own)
         ]
       ]
     ]
 
 axes_first : (t : State) (q : ℕ) (names : ℕ → Bool) (h : Effect) (c d a : ℕ) → Joint t q names h
-    → ready t c ≡ true → asks (put_own t q h c).seat (Axis a) ≡ true → mine (put t q h) c a ≡ false → (d == c) ≡ false
+    → ready t c ≡ true → asks (put_own t q h c).seat (Axis a) ≡ true → mine (with_effect t q h) c a ≡ false → (d == c) ≡ false
     → asks (put_own t q h d).seat (Axis a) ≡ false
 axes_first t q names h c d a w r y f n =
     let y' : asks (t.own c).seat (Axis a) ≡ true = rw (goer_at t q c h w.runs r) at y in
     w.apart_axes c d a r y' (sym (mine_other t q h c a (not_q t q c w.runs r)) ∙ f) n
 
-pub goes_forward : (t : State) (q : ℕ) (names : ℕ → Bool) (h : Effect) → Joint t q names h → Inv t → GoesClean t → GoesClean (put (settle t) q h) → GoesClean (put t q h)
+pub goes_forward : (t : State) (q : ℕ) (names : ℕ → Bool) (h : Effect) → Joint t q names h → Inv t → GoesClean t → GoesClean (with_effect (settle t) q h) → GoesClean (with_effect t q h)
 goes_forward t q names h w inv goes later = record {
   marks = λ d c k r at_k n. elim (cases_Bool (ready t d)) [
     | inl g ↦ marks_first t q names h d c k w goes g at_k n

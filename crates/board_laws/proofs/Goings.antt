@@ -4,7 +4,7 @@ use Rattle.std.proofs.lemmas.Bool.{cases_Bool, eqb-true, eq-eqb, and_parts, and_
 use Rattle.sync_types.specs.Boards.{IsIdle, IsHolding, AtMarks, AtEnds, State as Doing, Board, among}
 use Rattle.sync_types.specs.Events.{channels_in}
 use Rattle.sync_types.specs.GoingOn.{Going, next_taker, goers_at_once, after_goings}
-use Rattle.board_laws.specs.Machine.{Axis, Call, Seat, In, Called, State, asks, is_free, mine, ready_at, ready, shown, board_of}
+use Rattle.board_laws.specs.Machine.{Axis, Call, Seat, In, Called, State, asks, is_free, mine, ready_at, ready, doing_of, board_of}
 use Rattle.board_laws.specs.Clean.{GoesClean}
 use Rattle.board_laws.specs.Zones.{Zones}
 use Rattle.board_laws.proofs.Basics.{no, called_self, ready_met, ready_holds}
@@ -20,7 +20,7 @@ use Rattle.sync_types.specs.BoardActions.{after_own_part, channels_started}
 use Rattle.sync_types.specs.BoardAlarms.{alarm_of}
 use Rattle.sync_types.specs.Turns.{after_step}
 use Rattle.sync_types.specs.declared.Step.{Step}
-use Rattle.board_laws.specs.Machine.{taking, is_running, put, put_own, effect, turn_by}
+use Rattle.board_laws.specs.Machine.{axes_taken, is_running, with_effect, put_own, effect, turn_by}
 use Rattle.board_laws.proofs.Zones.{zones_part}
 use Rattle.sync_types.proofs.Settling.{settled}
 use Rattle.sync_types.specs.Boards as boards
@@ -64,17 +64,17 @@ from_of (Called p) = IsIdle
 pub record Went (t : State) (g : Going) : Type 0 where
   pub goes : ready t g.channel ≡ true
   pub from : g.from ≡ from_of (t.own g.channel).seat
-  pub took : (x : ℕ) → among g.took x ≡ taking t g.channel (t.own g.channel).seat x
+  pub took : (x : ℕ) → among g.took x ≡ axes_taken t g.channel (t.own g.channel).seat x
 
 no_axis : (s : Seat) (x : ℕ) → is_getting s ≡ false → asks s (Axis x) ≡ false
 no_axis s x off = elim (cases_Bool (asks s (Axis x))) [ inl on ↦ no (axis_getting s x on) off | inr n ↦ n ]
 
-quick_in : (t : State) (c : ℕ) (s : Seat) → is_quick s ≡ true → (shown t c s ≡ from_of s) × (is_getting s ≡ false)
+quick_in : (t : State) (c : ℕ) (s : Seat) → is_quick s ≡ true → (doing_of t c s ≡ from_of s) × (is_getting s ≡ false)
 quick_in t c (In (IsHolding (AtMarks k named) line)) on = (refl, refl)
 quick_in t c (In (IsHolding (AtEnds named) line)) on = (refl, refl)
 quick_in t c s on = absurd (true≢false (sym on))
 
-getting_in : (t : State) (c : ℕ) (s : Seat) → is_getting s ≡ true → shown t c s ≡ from_of s
+getting_in : (t : State) (c : ℕ) (s : Seat) → is_getting s ≡ true → doing_of t c s ≡ from_of s
 getting_in t c (In state) on = refl
 getting_in t c (Called p) on = absurd (true≢false (sym on))
 
@@ -86,12 +86,12 @@ called_ready : (t : State) (c : ℕ) (s : Seat) → is_called s ≡ true → rea
 called_ready t c (Called p) on = call_ready t c (Called p) p (called_self p)
 called_ready t c (In state) on = absurd (true≢false (sym on))
 
-none_taken : (t : State) (c : ℕ) → is_getting (t.own c).seat ≡ false → (x : ℕ) → false ≡ taking t c (t.own c).seat x
-unfolding taking
+none_taken : (t : State) (c : ℕ) → is_getting (t.own c).seat ≡ false → (x : ℕ) → false ≡ axes_taken t c (t.own c).seat x
+unfolding axes_taken
 none_taken t c off x = ap (λ (b : Bool). b && not (mine t c x)) (sym (no_axis (t.own c).seat x off))
 
-took_told : (t : State) (c x : ℕ) → ready t c ≡ true → (asks (t.own c).seat (Axis x) && is_free (t.axis x).owner) ≡ taking t c (t.own c).seat x
-unfolding taking
+took_told : (t : State) (c x : ℕ) → ready t c ≡ true → (asks (t.own c).seat (Axis x) && is_free (t.axis x).owner) ≡ axes_taken t c (t.own c).seat x
+unfolding axes_taken
 took_told t c x r = elim (cases_Bool (asks (t.own c).seat (Axis x))) [
   | inr off ↦ rw off refl
   | inl on ↦ ap (λ (b : Bool). asks (t.own c).seat (Axis x) && b) (elim (met_axis t c x (ready_met t c (t.own c).seat (Axis x) r on)) [
@@ -160,9 +160,9 @@ all_in t starts c clean zs over called r = elim (ready_kinds (t.own c).seat (rea
 
 -- a step, as its own part and what goes on after it
 pub record Part (t : State) (p : ℕ) (step : Step) : Type 0 where
-  pub board : after_own_part (board_of t) p step ≡ board_of (put t p (effect t p step))
-  pub zones : Zones (board_of (put t p (effect t p step)))
-  pub over : next_taker (after_goings (board_of (put t p (effect t p step)))) ≡ None
+  pub board : after_own_part (board_of t) p step ≡ board_of (with_effect t p (effect t p step))
+  pub zones : Zones (board_of (with_effect t p (effect t p step)))
+  pub over : next_taker (after_goings (board_of (with_effect t p (effect t p step)))) ≡ None
   pub called : (c : ℕ) → among (channels_started (alarm_of (board_of t) p step.action) step.action) c ≡ is_called (put_own t p (effect t p step) c).seat
 
 pub part_of : (t : State) (p : ℕ) (step : Step) → is_running (t.own p).seat ≡ true → ((d r : ℕ) → asks (t.own d).seat (Call r) ≡ false) → Zones (board_of t) → Part t p step
@@ -176,14 +176,14 @@ part_of t p step run uncalled zs =
     }
 
 -- a clean step of the machine is the board's
-pub turn_board : (t : State) (p : ℕ) (step : Step) → is_running (t.own p).seat ≡ true → ((d r : ℕ) → asks (t.own d).seat (Call r) ≡ false) → Zones (board_of t) → GoesClean (put t p (effect t p step))
+pub turn_board : (t : State) (p : ℕ) (step : Step) → is_running (t.own p).seat ≡ true → ((d r : ℕ) → asks (t.own d).seat (Call r) ≡ false) → Zones (board_of t) → GoesClean (with_effect t p (effect t p step))
     → after_step (board_of t) p step ≡ board_of (turn_by t p step)
 turn_board t p step run uncalled zs clean =
     let w = part_of t p step run uncalled zs in
-    ap after_goings w.board ∙ settled_board (put t p (effect t p step)) clean w.zones w.over
+    ap after_goings w.board ∙ settled_board (with_effect t p (effect t p step)) clean w.zones w.over
 
 -- who does not go on does what it did, and who goes on runs
-pub kept_state : (t : State) (starts : List ℕ) (c : ℕ) → Zones (board_of t) → among (channels_in (goings_on (board_of t) starts)) c ≡ false → (after_goings (board_of t)).state c ≡ shown t c (t.own c).seat
+pub kept_state : (t : State) (starts : List ℕ) (c : ℕ) → Zones (board_of t) → among (channels_in (goings_on (board_of t) starts)) c ≡ false → (after_goings (board_of t)).state c ≡ doing_of t c (t.own c).seat
 kept_state t starts c zs out =
     let not_went : went t c ≡ false = elim (cases_Bool (went t c)) [ inl on ↦ no (went_in_goings t starts c on) out | inr off ↦ off ] in
     let not_quick : among (goers_at_once (board_of t)) c ≡ false = elim (cases_Bool (among (goers_at_once (board_of t)) c)) [
@@ -226,7 +226,7 @@ gone_runs t starts g zs called on = elim (of_append g (map (going_of_start (boar
     called_quick (Called p) yes_it = refl
     called_quick (In state) yes_it = absurd (true≢false (sym yes_it))
 
-    called_runs : (c : ℕ) (s : Seat) → is_called s ≡ true → boards.is_running (shown t c s) ≡ true
+    called_runs : (c : ℕ) (s : Seat) → is_called s ≡ true → boards.is_running (doing_of t c s) ≡ true
     called_runs c (Called p) yes_it = refl
     called_runs c (In state) yes_it = absurd (true≢false (sym yes_it))
 

@@ -1,7 +1,7 @@
 -- The invariant is kept by both halves of a step.
 use Rattle.std.proofs.Common.{◌≡◌, ℕ, zero, suc, ◌≤◌, ◌==◌, ◌&&◌, not, Bool, true, false, Some, inl, inr, refl, sym, ap, ◌∙◌, arith, if◌then◌else◌}
 use Rattle.std.proofs.lemmas.Bool.{cases_Bool, eqb-true, and_parts, true≢false}
-use Rattle.board_laws.specs.Machine.{Need, Mark, End, Axis, Call, Seat, Own, Cell, State, Effect, Clock, asks, is_at, mine, ready, larger, partner, heard, go_clock, taker, given, settle_own, settle, put_own, put}
+use Rattle.board_laws.specs.Machine.{Need, Mark, End, Axis, Call, Seat, Own, Cell, State, Effect, Clock, asks, is_at, mine, ready, larger, partner, heard, go_clock, taker, cell_after_taking, settle_own, settle, put_own, with_effect}
 use Rattle.board_laws.specs.Clean.{MarkChange, Stays, Raises, Lowers, IsAct, Inv, Rests}
 use Rattle.board_laws.proofs.Basics.{no, off_from, clock_own, clock_under}
 use Rattle.board_laws.proofs.Parts.{settle_goes, settle_stays, gone_seat, gone_asks, gone_count, gone_past, gone_raised, gone_started, gone_lowered_at, gone_lowered_off, gone_needs_on, gone_needs_off, gone_took_on, gone_took_off, put_same, put_other, touched_kept, Kept, touched_at, axis_off, axis_kept, axis_freed, settle_axis_none, settle_axis_some, cases_first}
@@ -59,7 +59,7 @@ put_raised b p names e k x inv act = go (act.mark k) (inv.raised p k x) (count_p
     go (Raises d h r i) l u v = rw (ap (λ (f : Clock). f x) r) v
     go (Lowers h d r i) l u v = rw (ap (λ (f : Clock). f x) r) (omega (arith, l, u))
 
-pub put_inv : (b : State) (p : ℕ) (names : ℕ → Bool) (e : Effect) → Inv b → IsAct p (b.own p) names e → Inv (put b p e)
+pub put_inv : (b : State) (p : ℕ) (names : ℕ → Bool) (e : Effect) → Inv b → IsAct p (b.own p) names e → Inv (with_effect b p e)
 put_inv b p names e inv act = record {
   past = λ c x. elim (cases_Bool (c == p)) [
     | inl i ↦ rw (ap (λ (z : ℕ). (put_own b p e z).past x) (eqb-true c p i) ∙ ap (λ (o : Own). o.past x) (put_same b p e)) (put_past b p names e x inv act)
@@ -141,8 +141,8 @@ go_clock_bound t c x inv g = elim (cases_Bool (x == c)) [
       clock_under t c x (t.own c) (settle_own t x).count n (omega (arith, l, u)) (λ m y. heard_bound t c x m inv)
 ]
 
-given_freed : (t : State) (c : ℕ) (cell : Cell) → (given t (Some c) cell).freed ≡ cell.freed
-unfolding given
+given_freed : (t : State) (c : ℕ) (cell : Cell) → (cell_after_taking t (Some c) cell).freed ≡ cell.freed
+unfolding cell_after_taking
 given_freed t c cell = refl
 
 pub settle_inv : (t : State) → Inv t → Inv (settle t)

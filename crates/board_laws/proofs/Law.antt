@@ -3,7 +3,7 @@ use Rattle.std.proofs.Common.{◌≡◌, ℕ, ◌==◌, Bool, true, false, inl, 
 use Rattle.std.proofs.lemmas.Bool.{cases_Bool}
 use Rattle.sync_types.specs.Runs.{Script}
 use Rattle.sync_types.specs.declared.Step.{Step}
-use Rattle.board_laws.specs.Machine.{Own, State, Effect, is_running, settle, put_own, put, touches, effect, next_step, turn_by, turn, runs_at}
+use Rattle.board_laws.specs.Machine.{Own, State, Effect, is_running, settle, put_own, with_effect, touches, effect, next_step, turn_by, turn, runs_at}
 use Rattle.board_laws.specs.Clean.{GoesClean, ActClean, IsClean, Clean, IsAct, Rests}
 use Rattle.board_laws.proofs.Basics.{no}
 use Rattle.board_laws.proofs.Absorb.{Joint, absorbed}
@@ -15,8 +15,8 @@ use Rattle.board_laws.proofs.Actions.{act_is}
 use Rattle.board_laws.specs.Laws.{Swapped}
 use Rattle.board_laws.proofs.Swap.{runner_put, effect_settle, effect_put, put_swap, between, disjoint_names, act_first, act_later}
 
-goes_at : (t : State) (q : ℕ) (e h : Effect) → e ≡ h → GoesClean (put t q e) → GoesClean (put t q h)
-goes_at t q e h s g = subst (λ (z : Effect). GoesClean (put t q z)) s g
+goes_at : (t : State) (q : ℕ) (e h : Effect) → e ≡ h → GoesClean (with_effect t q e) → GoesClean (with_effect t q h)
+goes_at t q e h s g = subst (λ (z : Effect). GoesClean (with_effect t q z)) s g
 
 pub swap_turns : (b : State) (p q : ℕ) (sp sq : Step) → Rests b → (p == q) ≡ false → (q == p) ≡ false → runs_at b p ≡ true → runs_at b q ≡ true
     → IsClean b p sp → IsClean (turn_by b p sp) q sq → Swapped b p q sp sq
@@ -27,8 +27,8 @@ swap_turns b p q sp sq rests pq qp run_p run_q clean_p clean_q =
     let nq : ℕ → Bool = touches sq.action in
     let act_p : IsAct p (b.own p) np e = act_is b p sp in
     let act_q : IsAct q (b.own q) nq h = act_is b q sq in
-    let t1 : State = put b p e in
-    let t2 : State = put b q h in
+    let t1 : State = with_effect b p e in
+    let t2 : State = with_effect b q h in
     let own_q : put_own b p e q ≡ b.own q = runner_put b p q e qp run_q in
     let own_p : put_own b q h p ≡ b.own p = runner_put b q p h pq run_p in
     let run_q1 : is_running (put_own b p e q).seat ≡ true = ap (λ (o : Own). is_running o.seat) own_q ∙ run_q in
@@ -41,16 +41,16 @@ swap_turns b p q sp sq rests pq qp run_p run_q clean_p clean_q =
     let between_q : Between t1 q nq h = between b p q np nq e h rests act_p act_q pq qp run_q in
     let between_p : Between t2 p np e = between b q p nq np h e rests act_q act_p qp pq run_p in
     let act1 : ActClean (settle t1) q nq h = subst (λ (z : Effect). ActClean (settle t1) q nq z) eff_q act0 in
-    let going1 : GoesClean (put (settle t1) q h) = goes_at (settle t1) q (effect (settle t1) q sq) h eff_q clean_q.going in
+    let going1 : GoesClean (with_effect (settle t1) q h) = goes_at (settle t1) q (effect (settle t1) q sq) h eff_q clean_q.going in
     let joint1 : Joint t1 q nq h = joint_forward t1 q nq h between_q clean_p.going act1 in
     let act_q1 : ActClean t1 q nq h = act_forward t1 q nq h between_q act1 in
-    let goes1 : GoesClean (put t1 q h) = goes_forward t1 q nq h joint1 between_q.inv clean_p.going going1 in
-    let swap : put t1 q h ≡ put t2 p e = put_swap b p q np nq e h act_p act_q pq qp disjoint in
-    let goes2 : GoesClean (put t2 p e) = subst (λ (z : State). GoesClean z) swap goes1 in
+    let goes1 : GoesClean (with_effect t1 q h) = goes_forward t1 q nq h joint1 between_q.inv clean_p.going going1 in
+    let swap : with_effect t1 q h ≡ with_effect t2 p e = put_swap b p q np nq e h act_p act_q pq qp disjoint in
+    let goes2 : GoesClean (with_effect t2 p e) = subst (λ (z : State). GoesClean z) swap goes1 in
     let act_p2 : ActClean t2 p np e = act_later b p q np nq e h rests act_p act_q pq qp run_p run_q disjoint clean_p.act act_q1 in
     let joint2 : Joint t2 p np e = joint_back t2 p np e between_p act_p2 goes2 in
     let act2 : ActClean (settle t2) p np e = act_back t2 p np e joint2 act_p2 in
-    let going2 : GoesClean (put (settle t2) p e) = goes_back t2 p np e between_p joint2 goes2 in
+    let going2 : GoesClean (with_effect (settle t2) p e) = goes_back t2 p np e between_p joint2 goes2 in
     record {
       first = record { act = act_first b p q np nq e h rests act_p qp run_p run_q act_q1; going = first_back t2 p np e joint2 goes2 };
       second = record {
@@ -58,11 +58,11 @@ swap_turns b p q sp sq rests pq qp run_p run_q clean_p clean_q =
         going = goes_at (settle t2) p e (effect (settle t2) p sp) (sym eff_p) going2;
       };
       state =
-          ap (λ (z : Effect). settle (put (settle t1) q z)) eff_q
+          ap (λ (z : Effect). settle (with_effect (settle t1) q z)) eff_q
           ∙ absorbed t1 q nq h joint1
           ∙ ap (λ (z : State). settle z) swap
           ∙ sym (absorbed t2 p np e joint2)
-          ∙ sym (ap (λ (z : Effect). settle (put (settle t2) p z)) eff_p);
+          ∙ sym (ap (λ (z : Effect). settle (with_effect (settle t2) p z)) eff_p);
     }
 
 -- a running channel stays as it is at another's step
@@ -70,13 +70,13 @@ pub stays_running : (b : State) (p q : ℕ) (step : Step) → (q == p) ≡ false
 stays_running b p q step qp run_q =
     let here : put_own b p (effect b p step) q ≡ b.own q = runner_put b p q (effect b p step) qp run_q in
     let run : is_running (put_own b p (effect b p step) q).seat ≡ true = ap (λ (o : Own). is_running o.seat) here ∙ run_q in
-    q_stays (put b p (effect b p step)) q run ∙ here
+    q_stays (with_effect b p (effect b p step)) q run ∙ here
 
 pub persists : (b : State) (p q : ℕ) (step : Step) → (q == p) ≡ false → runs_at b q ≡ true → runs_at (turn_by b p step) q ≡ true
 persists b p q step qp run_q = ap (λ (o : Own). is_running o.seat) (stays_running b p q step qp run_q) ∙ run_q
 
 pub turn_rests : (b : State) (p : ℕ) (step : Step) → Rests b → Rests (turn_by b p step)
-turn_rests b p step rests = settle_rests (put b p (effect b p step)) (put_inv b p (touches step.action) (effect b p step) rests.inv (act_is b p step))
+turn_rests b p step rests = settle_rests (with_effect b p (effect b p step)) (put_inv b p (touches step.action) (effect b p step) rests.inv (act_is b p step))
 
 -- the same where the steps are those of a script
 pub record ScriptSwapped (script : Script) (b : State) (p q : ℕ) : Type 0 where

@@ -14,7 +14,7 @@ use Rattle.sync_types.specs.Starts.{first_position}
 use Rattle.sync_types.specs.declared.Action.{Action}
 use Rattle.sync_types.specs.declared.Action.TheVariants.{Init, Start, Release}
 use Rattle.sync_types.specs.declared.Step.{Step}
-use Rattle.board_laws.specs.Machine.{Call, Seat, In, Called, Own, Cell, State, Effect, asks, is_idle, is_running, mine, owning, holds_zone, grant_by, places_of, granted, touched, released, put_own, put_axis, put_on, put, shown, board_of, acted, axes_freed, selected, program_selected, effect}
+use Rattle.board_laws.specs.Machine.{Call, Seat, In, Called, Own, Cell, State, Effect, asks, is_idle, is_running, mine, axes_then_owned, holds_zone, grant_by, places_of, grant_at_go, own_after_call, cell_after_release, put_own, put_axis, put_on, with_effect, doing_of, board_of, own_after_act, axes_freed, selects_program, program_selected, effect}
 use Rattle.board_laws.specs.Zones.{Zones}
 use Rattle.board_laws.proofs.Basics.{no, called_self}
 use Rattle.board_laws.proofs.Parts.{put_same, put_other, touched_off, touched_kept}
@@ -28,16 +28,16 @@ on_told : (t : State) (p : ℕ) (step : Step) (z : ℕ) → (effect t p step).on
 unfolding effect
 on_told t p step z = refl
 
-called_granted : (u : State) (c : ℕ) (o : Own) (p : ℕ) → o.seat ≡ Called p → granted u c o ≡ grant_by u.start c (mine u c) (positions_where (mine u c) (first_position u.start)) u.on o.program
-unfolding granted owning places_of asks
-called_granted u c o p seat = ap (λ (s : Seat). grant_by u.start c (owning u c s) (places_of u c s) u.on o.program) seat
+called_granted : (u : State) (c : ℕ) (o : Own) (p : ℕ) → o.seat ≡ Called p → grant_at_go u c o ≡ grant_by u.start c (mine u c) (positions_where (mine u c) (first_position u.start)) u.on o.program
+unfolding grant_at_go axes_then_owned places_of asks
+called_granted u c o p seat = ap (λ (s : Seat). grant_by u.start c (axes_then_owned u c s) (places_of u c s) u.on o.program) seat
 
 -- an effect by its alarm
 record ByAlarm (t : State) (p : ℕ) (step : Step) (alarm : Option ℕ) : Type 0 where
   pub is : alarm_of (board_of t) p step.action ≡ alarm
   pub frees : (x : ℕ) → (effect t p step).frees x ≡ among (axes_freed alarm step.action) x
   pub calls : (c : ℕ) → (effect t p step).calls c ≡ among (channels_started alarm step.action) c
-  pub selects : (c : ℕ) → (effect t p step).selects c ≡ selected alarm step.action c
+  pub selects : (c : ℕ) → (effect t p step).selects c ≡ selects_program alarm step.action c
   pub program : (effect t p step).program ≡ program_selected step.action
   pub place : (x : ℕ) → (effect t p step).place x ≡ position_or_zero (position_of step.at x)
   pub on : (z : ℕ) → (effect t p step).on z ≡ has step.on z
@@ -48,22 +48,22 @@ by_alarm t p step alarm e = record {
   is = e;
   frees = λ x. ap (λ (a : Option ℕ). among (axes_freed a step.action) x) e;
   calls = λ c. ap (λ (a : Option ℕ). among (channels_started a step.action) c) e;
-  selects = λ c. ap (λ (a : Option ℕ). selected a step.action c) e;
+  selects = λ c. ap (λ (a : Option ℕ). selects_program a step.action c) e;
   program = refl;
   place = λ x. refl;
   on = λ z. refl;
 }
 
 own_marks : (t : State) (p : ℕ) (step : Step) → (effect t p step).own.marks ≡ (after_own_part (board_of t) p step).marks p
-unfolding effect acted
+unfolding effect own_after_act
 own_marks t p step = refl
 
 own_seat : (t : State) (p : ℕ) (step : Step) → (effect t p step).own.seat ≡ In ((after_own_part (board_of t) p step).state p)
-unfolding effect acted
+unfolding effect own_after_act
 own_seat t p step = refl
 
 own_program : (t : State) (p : ℕ) (step : Step) → (effect t p step).own.program ≡ (t.own p).program
-unfolding effect acted
+unfolding effect own_after_act
 own_program t p step = refl
 
 -- what an action does without an alarm
@@ -71,7 +71,7 @@ starts_idle : (b : Board) (p : ℕ) (action : Action) (c : ℕ) → NoAlarm b p 
 starts_idle b p (Start named) c w on = passes (λ d. boards.is_idle (b.state d)) (members_of named) c (not_not (list_all (λ d. boards.is_idle (b.state d)) (members_of named)) w.awake) on
 starts_idle b p other c w on = absurd (true≢false (sym on))
 
-selects_idle : (b : Board) (p : ℕ) (action : Action) (c : ℕ) → NoAlarm b p action → selected None action c ≡ true → boards.is_idle (b.state c) ≡ true
+selects_idle : (b : Board) (p : ℕ) (action : Action) (c : ℕ) → NoAlarm b p action → selects_program None action c ≡ true → boards.is_idle (b.state c) ≡ true
 selects_idle b p (Init target program) c w on = ap (λ (d : ℕ). boards.is_idle (b.state d)) (sym (eqb-true target c on)) ∙ not_not (boards.is_idle (b.state target)) w.awake
 selects_idle b p other c w on = absurd (true≢false (sym on))
 
@@ -79,11 +79,11 @@ frees_own : (b : Board) (p : ℕ) (action : Action) (x : ℕ) → NoAlarm b p ac
 frees_own b p (Release axes) x w on = passes (owns b p) (members_of axes) x (not_not (list_all (owns b p) (members_of axes)) w.own) on
 frees_own b p other x w on = absurd (true≢false (sym on))
 
-program_told : (action : Action) (c : ℕ) (old : Option ℕ) → program_after action c old ≡ (if selected None action c then program_selected action else old)
+program_told : (action : Action) (c : ℕ) (old : Option ℕ) → program_after action c old ≡ (if selects_program None action c then program_selected action else old)
 program_told (Init target program) c old = ap (λ (b : Bool). if b then Some program else old) (eqb_turned c target)
 program_told other c old = refl
 
-selects_not_calls : (action : Action) (c : ℕ) → selected None action c ≡ true → among (channels_to_start action) c ≡ false
+selects_not_calls : (action : Action) (c : ℕ) → selects_program None action c ≡ true → among (channels_to_start action) c ≡ false
 selects_not_calls (Init target program) c on = refl
 selects_not_calls other c on = absurd (true≢false (sym on))
 
@@ -108,20 +108,20 @@ marks_put t p step c m = elim (cases_Bool (c == p)) [
     go None n = others_marks t p step c m n
 
 -- a channel that is touched
-select_touched : (e : Effect) (p c : ℕ) (o : Own) → e.calls c ≡ false → e.selects c ≡ true → is_idle o.seat ≡ true → (touched e p c o).program ≡ e.program
-unfolding touched
+select_touched : (e : Effect) (p c : ℕ) (o : Own) → e.calls c ≡ false → e.selects c ≡ true → is_idle o.seat ≡ true → (own_after_call e p c o).program ≡ e.program
+unfolding own_after_call
 select_touched e p c o calls selects idle = rw (calls, selects, idle) refl
 
-keep_touched : (e : Effect) (p c : ℕ) (o : Own) → e.selects c ≡ false → (touched e p c o).program ≡ o.program
-unfolding touched
+keep_touched : (e : Effect) (p c : ℕ) (o : Own) → e.selects c ≡ false → (own_after_call e p c o).program ≡ o.program
+unfolding own_after_call
 keep_touched e p c o selects = elim (cases_Bool (e.calls c && is_idle o.seat)) [ inl y ↦ rw y refl | inr n ↦ rw (n, selects) refl ]
 
-call_touched : (e : Effect) (p c : ℕ) (o : Own) → e.calls c ≡ true → is_idle o.seat ≡ true → (touched e p c o).seat ≡ Called p
-unfolding touched
+call_touched : (e : Effect) (p c : ℕ) (o : Own) → e.calls c ≡ true → is_idle o.seat ≡ true → (own_after_call e p c o).seat ≡ Called p
+unfolding own_after_call
 call_touched e p c o calls idle = rw (calls, idle) refl
 
-uncalled_touched : (e : Effect) (p c : ℕ) (o : Own) → e.calls c ≡ false → (touched e p c o).seat ≡ o.seat
-unfolding touched
+uncalled_touched : (e : Effect) (p c : ℕ) (o : Own) → e.calls c ≡ false → (own_after_call e p c o).seat ≡ o.seat
+unfolding own_after_call
 uncalled_touched e p c o calls = elim (cases_Bool (e.selects c && is_idle o.seat)) [ inl y ↦ rw (calls, y) refl | inr n ↦ rw (calls, n) refl ]
 
 runs_awake : (s : Seat) → is_running s ≡ true → is_idle s ≡ false
@@ -144,7 +144,7 @@ program_put t p step c run = go (alarm_of (board_of t) p step.action) (by_alarm 
     ]
     go None w =
         let none = no_alarm (board_of t) p step.action w.is in
-        program_told step.action c (t.own c).program ∙ elim (cases_Bool (selected None step.action c)) [
+        program_told step.action c (t.own c).program ∙ elim (cases_Bool (selects_program None step.action c)) [
           | inl on ↦
               let idle : is_idle (t.own c).seat ≡ true = sym (idle_shown t c (t.own c).seat) ∙ selects_idle (board_of t) p step.action c none on in
               elim (cases_Bool (c == p)) [
@@ -167,7 +167,7 @@ unfolding put_axis
 cell_kept t p e x off = rw off refl
 
 cell_freed : (t : State) (p : ℕ) (e : Effect) (x : ℕ) → e.frees x ≡ true → mine t p x ≡ true → ownership_of (put_axis t p e x).owner (put_axis t p e x).position ≡ FreeAt (e.place x)
-unfolding put_axis released
+unfolding put_axis cell_after_release
 cell_freed t p e x on own = rw (on, own) refl
 
 freed_axis : (t : State) (step : Step) (x : ℕ) → among (axes_to_free step.action) x ≡ true → ownership_after (board_of t) step x ≡ FreeAt (position_or_zero (position_of step.at x))
@@ -210,7 +210,7 @@ start_part b p step (Some code) = refl
 start_part b p step None = refl
 
 -- what each channel does
-alarm_other : (t : State) (p : ℕ) (step : Step) (code c : ℕ) → (c == p) ≡ false → state_after_alarm (board_of t) p step code c ≡ shown t c (t.own c).seat
+alarm_other : (t : State) (p : ℕ) (step : Step) (code c : ℕ) → (c == p) ≡ false → state_after_alarm (board_of t) p step code c ≡ doing_of t c (t.own c).seat
 unfolding state_after_alarm
 alarm_other t p step code c n = rw n refl
 
@@ -220,17 +220,17 @@ unfolding state_after_action
 action_starts t p step c n on = rw (n, on) refl
 
 action_other : (t : State) (p : ℕ) (step : Step) (c : ℕ) → (c == p) ≡ false → among (channels_to_start step.action) c ≡ false
-    → state_after_action (after_effects (board_of t) p step) p step c ≡ shown t c (t.own c).seat
+    → state_after_action (after_effects (board_of t) p step) p step c ≡ doing_of t c (t.own c).seat
 unfolding state_after_action
 action_other t p step c n off = rw (n, off) refl
 
 -- who is started goes on with what the machine gives
 starts_with : (t : State) (p : ℕ) (step : Step) (c : ℕ) → is_running (t.own p).seat ≡ true → NoAlarm (board_of t) p step.action → Zones (board_of t) → alarm_of (board_of t) p step.action ≡ None
-    → (put_own t p (effect t p step) c).seat ≡ Called p → boards.start_grant (after_effects (board_of t) p step) c ≡ granted (put t p (effect t p step)) c (put_own t p (effect t p step) c)
+    → (put_own t p (effect t p step) c).seat ≡ Called p → boards.start_grant (after_effects (board_of t) p step) c ≡ grant_at_go (with_effect t p (effect t p step)) c (put_own t p (effect t p step) c)
 unfolding boards.start_grant
 starts_with t p step c run none zs is seat =
     let b : Board = after_effects (board_of t) p step in
-    let u : State = put t p (effect t p step) in
+    let u : State = with_effect t p (effect t p step) in
     let own : (x : ℕ) → owns b c x ≡ mine u c x = λ x.
     ap (λ (a : Ownership). is_this (owner_of a) c) (ap (λ (a : Option ℕ). (after_part (board_of t) p step a).axis x) (sym is) ∙ axis_put t p step x)
     ∙ ap (λ (o : Option ℕ). is_this o c) (owner_is (put_axis t p (effect t p step) x).owner (put_axis t p (effect t p step) x).position) in
@@ -243,21 +243,21 @@ starts_with t p step c run none zs is seat =
     ∙ sym (called_granted u c (put_own t p (effect t p step) c) p seat)
 
 state_put : (t : State) (p : ℕ) (step : Step) (c : ℕ) → is_running (t.own p).seat ≡ true → Zones (board_of t) → ((d r : ℕ) → asks (t.own d).seat (Call r) ≡ false)
-    → (after_own_part (board_of t) p step).state c ≡ shown (put t p (effect t p step)) c (put_own t p (effect t p step) c).seat
+    → (after_own_part (board_of t) p step).state c ≡ doing_of (with_effect t p (effect t p step)) c (put_own t p (effect t p step) c).seat
 state_put t p step c run zs uncalled = elim (cases_Bool (c == p)) [
   | inl i ↦
       let s : c ≡ p = eqb-true c p i in
       ap (λ (d : ℕ). (after_own_part (board_of t) p step).state d) s
-      ∙ sym (ap (λ (d : ℕ). shown (put t p (effect t p step)) d (put_own t p (effect t p step) d).seat) s
-      ∙ ap (λ (x : Seat). shown (put t p (effect t p step)) p x) (ap (λ (o : Own). o.seat) (put_same t p (effect t p step)) ∙ own_seat t p step))
+      ∙ sym (ap (λ (d : ℕ). doing_of (with_effect t p (effect t p step)) d (put_own t p (effect t p step) d).seat) s
+      ∙ ap (λ (x : Seat). doing_of (with_effect t p (effect t p step)) p x) (ap (λ (o : Own). o.seat) (put_same t p (effect t p step)) ∙ own_seat t p step))
   | inr n ↦ go (alarm_of (board_of t) p step.action) (by_alarm t p step (alarm_of (board_of t) p step.action) refl) n
 ]
   where
-    still : (x : Seat) → (t.own c).seat ≡ x → (put_own t p (effect t p step) c).seat ≡ x → shown t c (t.own c).seat ≡ shown (put t p (effect t p step)) c (put_own t p (effect t p step) c).seat
-    still (In state) e f = ap (λ (x : Seat). shown t c x) e ∙ sym (ap (λ (x : Seat). shown (put t p (effect t p step)) c x) f)
+    still : (x : Seat) → (t.own c).seat ≡ x → (put_own t p (effect t p step) c).seat ≡ x → doing_of t c (t.own c).seat ≡ doing_of (with_effect t p (effect t p step)) c (put_own t p (effect t p step) c).seat
+    still (In state) e f = ap (λ (x : Seat). doing_of t c x) e ∙ sym (ap (λ (x : Seat). doing_of (with_effect t p (effect t p step)) c x) f)
     still (Called r) e f = no (ap (λ (x : Seat). asks x (Call r)) e ∙ called_self r) (uncalled c r)
 
-    go : (alarm : Option ℕ) → ByAlarm t p step alarm → (c == p) ≡ false → (after_part (board_of t) p step alarm).state c ≡ shown (put t p (effect t p step)) c (put_own t p (effect t p step) c).seat
+    go : (alarm : Option ℕ) → ByAlarm t p step alarm → (c == p) ≡ false → (after_part (board_of t) p step alarm).state c ≡ doing_of (with_effect t p (effect t p step)) c (put_own t p (effect t p step) c).seat
     go (Some code) w n =
         alarm_other t p step code c n
         ∙ still (t.own c).seat refl (ap (λ (o : Own). o.seat) (put_other t p (effect t p step) c n ∙ touched_off (effect t p step) p c (t.own c) (w.calls c) (w.selects c)))
@@ -267,7 +267,7 @@ state_put t p step c run zs uncalled = elim (cases_Bool (c == p)) [
           | inl on ↦
               let idle : is_idle (t.own c).seat ≡ true = sym (idle_shown t c (t.own c).seat) ∙ starts_idle (board_of t) p step.action c none on in
               let seat : (put_own t p (effect t p step) c).seat ≡ Called p = ap (λ (o : Own). o.seat) (put_other t p (effect t p step) c n) ∙ call_touched (effect t p step) p c (t.own c) (w.calls c ∙ on) idle in
-              action_starts t p step c n on ∙ ap IsRunning (starts_with t p step c run none zs w.is seat) ∙ sym (ap (λ (x : Seat). shown (put t p (effect t p step)) c x) seat)
+              action_starts t p step c n on ∙ ap IsRunning (starts_with t p step c run none zs w.is seat) ∙ sym (ap (λ (x : Seat). doing_of (with_effect t p (effect t p step)) c x) seat)
           | inr off ↦
               action_other t p step c n off
               ∙ still (t.own c).seat refl (ap (λ (o : Own). o.seat) (put_other t p (effect t p step) c n) ∙ uncalled_touched (effect t p step) p c (t.own c) (w.calls c ∙ off))
@@ -275,15 +275,15 @@ state_put t p step c run zs uncalled = elim (cases_Bool (c == p)) [
 
 -- the own part of a step on the board of a machine is that of the machine
 pub put_board : (t : State) (p : ℕ) (step : Step) → is_running (t.own p).seat ≡ true → ((d r : ℕ) → asks (t.own d).seat (Call r) ≡ false) → Zones (board_of t)
-    → after_own_part (board_of t) p step ≡ board_of (put t p (effect t p step))
+    → after_own_part (board_of t) p step ≡ board_of (with_effect t p (effect t p step))
 put_board t p step run uncalled zs =
     let start : (after_own_part (board_of t) p step).start ≡ t.start = start_part (board_of t) p step (alarm_of (board_of t) p step.action) in
-    board_eq (after_own_part (board_of t) p step) (board_of (put t p (effect t p step))) start
+    board_eq (after_own_part (board_of t) p step) (board_of (with_effect t p (effect t p step))) start
     (λ c m. marks_put t p step c m)
     (λ c. state_put t p step c run zs uncalled)
     (λ c. program_put t p step c run)
     (λ x. axis_put t p step x)
-    (holder_by_axes (after_own_part (board_of t) p step) (put t p (effect t p step)) (zones_part (board_of t) p step zs) start (λ x. axis_put t p step x))
+    (holder_by_axes (after_own_part (board_of t) p step) (with_effect t p (effect t p step)) (zones_part (board_of t) p step zs) start (λ x. axis_put t p step x))
     (λ z. on_put t p step z)
 
 -- who is started is called

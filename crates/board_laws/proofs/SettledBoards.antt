@@ -9,7 +9,7 @@ use Rattle.sync_types.specs.GoingOn.{first_of, axes_asked, next_taker, free_posi
 use Rattle.sync_types.specs.Starts.{axes_of_zone, first_holder}
 use Rattle.sync_types.specs.Views.{StartView}
 use Rattle.sync_types.specs.declared.Grant.{Grant}
-use Rattle.board_laws.specs.Machine.{Axis, Call, Seat, In, Called, Own, Cell, State, holds, asks, is_at, is_free, mine, ready, granted, takes, taker, given, settle_own, settle_axis, settle, carrier, shown, board_of, grant_by}
+use Rattle.board_laws.specs.Machine.{Axis, Call, Seat, In, Called, Own, Cell, State, holds, asks, is_at, is_free, mine, ready, grant_at_go, takes, taker, cell_after_taking, settle_own, settle_axis, settle, carrier, doing_of, board_of, grant_by}
 use Rattle.board_laws.specs.Clean.{GoesClean}
 use Rattle.board_laws.specs.Zones.{Zones}
 use Rattle.board_laws.proofs.Basics.{no, called_self, ready_holds}
@@ -34,7 +34,7 @@ quick_other (In (IsHolding (AtMarks k named) line)) on = (refl, refl)
 quick_other (In (IsHolding (AtEnds named) line)) on = (refl, refl)
 quick_other s on = absurd (true≢false (sym on))
 
-called_shown : (t : State) (c : ℕ) (s : Seat) → is_called s ≡ true → shown t c s ≡ IsRunning (granted t c (t.own c))
+called_shown : (t : State) (c : ℕ) (s : Seat) → is_called s ≡ true → doing_of t c s ≡ IsRunning (grant_at_go t c (t.own c))
 called_shown t c (Called p) on = refl
 called_shown t c (In state) on = absurd (true≢false (sym on))
 
@@ -60,7 +60,7 @@ before_same : (t : State) (c : ℕ) → is_getting (t.own c).seat ≡ true → t
 before_same t c get = ap (λ (s : Doing). grant_in t c s) (getting_stays t c get)
 
 -- a channel that went runs with what the machine gives
-pub after_went : (t : State) (c : ℕ) → Zones (board_of t) → went t c ≡ true → (taken_in t).board.state c ≡ IsRunning (granted t c (t.own c))
+pub after_went : (t : State) (c : ℕ) → Zones (board_of t) → went t c ≡ true → (taken_in t).board.state c ≡ IsRunning (grant_at_go t c (t.own c))
 after_went t c zs on =
     let g = in_channels (taken_in t).goings c on in
     let w = (takings_of t zs).each g.0 g.1.0 in
@@ -68,11 +68,11 @@ after_went t c zs on =
     ap (λ (d : ℕ). (taken_in t).board.state d) (sym g.1.1) ∙ w.runs ∙ ap IsRunning (w.grant ∙ ap (λ (d : ℕ). taker_grant (before_takings t) d) g.1.1 ∙ before_same t c r.1 ∙ taken_grant t c r.0 r.1)
 
 -- what each channel does
-state_after : (t : State) (c : ℕ) → GoesClean t → Zones (board_of t) → next_taker (taken_in t).board ≡ None → (taken_in t).board.state c ≡ shown (settle t) c (settle_own t c).seat
+state_after : (t : State) (c : ℕ) → GoesClean t → Zones (board_of t) → next_taker (taken_in t).board ≡ None → (taken_in t).board.state c ≡ doing_of (settle t) c (settle_own t c).seat
 state_after t c clean zs over = elim (cases_Bool (ready t c)) [
   | inl r ↦
-      let right : shown (settle t) c (settle_own t c).seat ≡ IsRunning (granted t c (t.own c)) =
-      ap (λ (s : Seat). shown (settle t) c s) (ap (λ (o : Own). o.seat) (settle_goes t c r) ∙ gone_seat t c) in
+      let right : doing_of (settle t) c (settle_own t c).seat ≡ IsRunning (grant_at_go t c (t.own c)) =
+      ap (λ (s : Seat). doing_of (settle t) c s) (ap (λ (o : Own). o.seat) (settle_goes t c r) ∙ gone_seat t c) in
       elim (ready_kinds (t.own c).seat (ready_holds t c (t.own c).seat r)) [
         | inl quick ↦
             let kinds = quick_other (t.own c).seat quick in
@@ -88,7 +88,7 @@ state_after t c clean zs over = elim (cases_Bool (ready t c)) [
   | inr s ↦
       let out : went t c ≡ false = elim (cases_Bool (went t c)) [ inl on ↦ no (went_ready t c zs on).0 s | inr off ↦ off ] in
       (takings_of t zs).kept c out ∙ stays_state t c (stays_off t c (and_first (ready t c) (is_quick (t.own c).seat) s)) ∙ unready (t.own c).seat refl s
-      ∙ sym (ap (λ (x : Seat). shown (settle t) c x) (ap (λ (o : Own). o.seat) (settle_stays t c s)))
+      ∙ sym (ap (λ (x : Seat). doing_of (settle t) c x) (ap (λ (o : Own). o.seat) (settle_stays t c s)))
 ]
   where
     not_went : (t : State) (c : ℕ) → Zones (board_of t) → is_getting (t.own c).seat ≡ false → went t c ≡ false
@@ -98,7 +98,7 @@ state_after t c clean zs over = elim (cases_Bool (ready t c)) [
     called_gets (Called p) on = refl
     called_gets (In state) on = absurd (true≢false (sym on))
 
-    unready : (s : Seat) → (t.own c).seat ≡ s → ready t c ≡ false → shown t c s ≡ shown (settle t) c s
+    unready : (s : Seat) → (t.own c).seat ≡ s → ready t c ≡ false → doing_of t c s ≡ doing_of (settle t) c s
     unready (In state) e s = refl
     unready (Called p) e s = no (call_ready t c (t.own c).seat p (ap (λ (z : Seat). asks z (Call p)) e ∙ called_self p)) s
 
@@ -106,7 +106,7 @@ state_after t c clean zs over = elim (cases_Bool (ready t c)) [
 pub marks_after : (t : State) (c m : ℕ) → marks_after_goes (board_of t) c m ≡ (settle_own t c).marks m
 unfolding marks_after_goes
 marks_after t c m =
-    let low : (among (goers_at_once (board_of t)) c && lowers (shown t c (t.own c).seat) m) ≡ ((ready t c && is_quick (t.own c).seat) && is_at (t.own c).seat m) =
+    let low : (among (goers_at_once (board_of t)) c && lowers (doing_of t c (t.own c).seat) m) ≡ ((ready t c && is_quick (t.own c).seat) && is_at (t.own c).seat m) =
     ap₂ (λ (a b : Bool). a && b) (quick_goes t c) (lowers_shown t c m (t.own c).seat) in
     ap (λ (b : Bool). (t.own c).marks m && not b) low ∙ elim (cases_Bool (ready t c)) [
       | inr s ↦ ap (λ (b : Bool). (t.own c).marks m && not ((b && is_quick (t.own c).seat) && is_at (t.own c).seat m)) s ∙ and_true ((t.own c).marks m) ∙ sym (ap (λ (o : Own). o.marks m) (settle_stays t c s))
@@ -136,8 +136,8 @@ program_after t c = elim (cases_Bool (ready t c)) [
   | inr s ↦ sym (ap (λ (o : Own). o.program) (settle_stays t c s))
 ]
 
-given_shown : (t : State) (c : ℕ) (cell : Cell) → ownership_of (given t (Some c) cell).owner (given t (Some c) cell).position ≡ OwnedBy c
-unfolding given
+given_shown : (t : State) (c : ℕ) (cell : Cell) → ownership_of (cell_after_taking t (Some c) cell).owner (cell_after_taking t (Some c) cell).position ≡ OwnedBy c
+unfolding cell_after_taking
 given_shown t c cell = refl
 
 -- axes

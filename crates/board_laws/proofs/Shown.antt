@@ -9,7 +9,7 @@ use Rattle.sync_types.specs.Boards as boards
 use Rattle.sync_types.specs.GoingOn.{axes_asked, waits_for_axes, goes_at_once, goers_at_once, lowers, free_position}
 use Rattle.sync_types.specs.Starts.{first_position}
 use Rattle.sync_types.specs.declared.Grant.{Grant}
-use Rattle.board_laws.specs.Machine.{Need, Mark, End, Axis, Seat, In, Called, State, same, holds, is_listed, asks, is_at, is_ended, is_free, mine, met, ready_at, ready, taking, owning, grant_by, places_of, granted, shown, board_of}
+use Rattle.board_laws.specs.Machine.{Need, Mark, End, Axis, Seat, In, Called, State, same, holds, is_listed, asks, is_at, is_ended, is_free, mine, is_met, ready_at, ready, axes_taken, axes_then_owned, grant_by, places_of, grant_at_go, doing_of, board_of}
 use Rattle.board_laws.specs.Zones.{Zones}
 use Rattle.board_laws.proofs.Basics.{no, same_true, ready_met, ready_from}
 use Rattle.board_laws.proofs.Parts.{free_of, of_free}
@@ -44,7 +44,7 @@ all_map : {A : Type 0} (f : A → Bool) (g : ℕ → A) (xs : List ℕ) → list
 all_map f g [] = refl
 all_map f g (x ∷ xs) = ap (λ (b : Bool). f (g x) && b) (all_map f g xs)
 
-pub ended_shown : (t : State) (c : ℕ) (s : Seat) → has_ended (shown t c s) ≡ is_ended s
+pub ended_shown : (t : State) (c : ℕ) (s : Seat) → has_ended (doing_of t c s) ≡ is_ended s
 ended_shown t c (In (HasEnded line)) = refl
 ended_shown t c (In state) = refl
 ended_shown t c (Called p) = refl
@@ -60,13 +60,13 @@ nothing true false = refl
 nothing false true = refl
 nothing false false = refl
 
-quick_at : (t : State) (c : ℕ) (s : Seat) → (among channel_numbers c && goes_at_once (board_of t) (shown t c s)) ≡ (ready_at t c s && is_quick s)
-unfolding ready_at met
+quick_at : (t : State) (c : ℕ) (s : Seat) → (among channel_numbers c && goes_at_once (board_of t) (doing_of t c s)) ≡ (ready_at t c s && is_quick s)
+unfolding ready_at is_met
 quick_at t c (In (IsHolding (AtMarks k named) line)) =
-    ap (λ (b : Bool). among channel_numbers c && b) (sym (all_map (met t c) (λ d. Mark d k) named)) ∙ and_true (among channel_numbers c && list_all (met t c) (map (λ (d : ℕ). Mark d k) named))
+    ap (λ (b : Bool). among channel_numbers c && b) (sym (all_map (is_met t c) (λ d. Mark d k) named)) ∙ and_true (among channel_numbers c && list_all (is_met t c) (map (λ (d : ℕ). Mark d k) named))
 quick_at t c (In (IsHolding (AtEnds named) line)) =
     ap (λ (f : ℕ → Bool). among channel_numbers c && list_all f named) (fun_ext λ d. ended_shown t d (t.own d).seat)
-    ∙ ap (λ (b : Bool). among channel_numbers c && b) (sym (all_map (met t c) (λ d. End d) named)) ∙ and_true (among channel_numbers c && list_all (met t c) (map (λ (d : ℕ). End d) named))
+    ∙ ap (λ (b : Bool). among channel_numbers c && b) (sym (all_map (is_met t c) (λ d. End d) named)) ∙ and_true (among channel_numbers c && list_all (is_met t c) (map (λ (d : ℕ). End d) named))
 quick_at t c (In (IsHolding (AtAxes axes) line)) = nothing (among channel_numbers c) (ready_at t c (In (IsHolding (AtAxes axes) line)))
 quick_at t c (In state) = nothing (among channel_numbers c) false
 quick_at t c (Called p) = nothing (among channel_numbers c) true
@@ -76,7 +76,7 @@ pub quick_goes : (t : State) (c : ℕ) → among (goers_at_once (board_of t)) c 
 quick_goes t c = among_kept (λ d. goes_at_once (board_of t) ((board_of t).state d)) channel_numbers c ∙ quick_at t c (t.own c).seat
 
 -- the axes for which it asks
-pub asked_shown : (t : State) (c x : ℕ) (s : Seat) → among (axes_asked (shown t c s)) x ≡ asks s (Axis x)
+pub asked_shown : (t : State) (c x : ℕ) (s : Seat) → among (axes_asked (doing_of t c s)) x ≡ asks s (Axis x)
 unfolding asks
 asked_shown t c x (In (IsHolding (AtAxes axes) line)) = go axes
   where
@@ -97,19 +97,19 @@ asked_shown t c x (In state) = refl
 asked_shown t c x (Called p) = refl
 
 -- and the named channels
-pub named_shown : (t : State) (c d k line : ℕ) (named : List ℕ) (s : Seat) → shown t c s ≡ IsHolding (AtMarks k named) line → s ≡ In (IsHolding (AtMarks k named) line)
+pub named_shown : (t : State) (c d k line : ℕ) (named : List ℕ) (s : Seat) → doing_of t c s ≡ IsHolding (AtMarks k named) line → s ≡ In (IsHolding (AtMarks k named) line)
 named_shown t c d k line named (In state) e = ap In e
 named_shown t c d k line named (Called p) e = let bad : ⊥ = runs_not e in absurd bad
   where
     runs_not : {g : Grant} → IsRunning g ≡ IsHolding (AtMarks k named) line → ⊥
     runs_not e = true≢false (ap (λ (s : Doing). boards.is_running s) e)
 
-pub waits_shown : (t : State) (c : ℕ) (s : Seat) → waits_for_axes (shown t c s) ≡ is_getting s
+pub waits_shown : (t : State) (c : ℕ) (s : Seat) → waits_for_axes (doing_of t c s) ≡ is_getting s
 waits_shown t c (In (IsHolding (AtAxes axes) line)) = refl
 waits_shown t c (In state) = refl
 waits_shown t c (Called p) = refl
 
-pub lowers_shown : (t : State) (c m : ℕ) (s : Seat) → lowers (shown t c s) m ≡ is_at s m
+pub lowers_shown : (t : State) (c m : ℕ) (s : Seat) → lowers (doing_of t c s) m ≡ is_at s m
 lowers_shown t c m (In (IsHolding (AtMarks k named) line)) = eqb_turned m k
 lowers_shown t c m (In state) = refl
 lowers_shown t c m (Called p) = refl
@@ -151,7 +151,7 @@ axis_needs s n get on = absurd (true≢false (sym get))
 
 -- one that asks for axes is ready where all are free or its own
 pub getting_ready : (t : State) (c : ℕ) → is_getting (t.own c).seat ≡ true → among channel_numbers c ≡ true → ((x : ℕ) → asks (t.own c).seat (Axis x) ≡ true → (is_free (t.axis x).owner || mine t c x) ≡ true) → ready t c ≡ true
-unfolding met
+unfolding is_met
 getting_ready t c get listed each = ready_from t c (t.own c).seat (getting_holds (t.own c).seat get) (getting_listed (t.own c).seat get) (λ n on. go n (only (t.own c).seat get n on) on)
   where
     getting_holds : (s : Seat) → is_getting s ≡ true → holds s ≡ true
@@ -165,12 +165,12 @@ getting_ready t c get listed each = ready_from t c (t.own c).seat (getting_holds
     only : (s : Seat) → is_getting s ≡ true → (n : Need) → asks s n ≡ true → (x : ℕ) × (n ≡ Axis x)
     only s on n a = axis_needs s n on a
 
-    go : (n : Need) → (x : ℕ) × (n ≡ Axis x) → asks (t.own c).seat n ≡ true → met t c n ≡ true
+    go : (n : Need) → (x : ℕ) × (n ≡ Axis x) → asks (t.own c).seat n ≡ true → is_met t c n ≡ true
     go n w on = rw w.1 (each w.0 (rw w.1 at on))
 
 -- what goes on at once goes on with what the machine gives
-pub quick_grant : (t : State) (c : ℕ) → Zones (board_of t) → is_getting (t.own c).seat ≡ false → is_called (t.own c).seat ≡ false → grant_with (board_of t) c no_positions ≡ granted t c (t.own c)
-unfolding granted owning places_of taking
+pub quick_grant : (t : State) (c : ℕ) → Zones (board_of t) → is_getting (t.own c).seat ≡ false → is_called (t.own c).seat ≡ false → grant_with (board_of t) c no_positions ≡ grant_at_go t c (t.own c)
+unfolding grant_at_go axes_then_owned places_of axes_taken
 quick_grant t c zs get call =
     let none : (x : ℕ) → asks (t.own c).seat (Axis x) ≡ false = λ x. elim (cases_Bool (asks (t.own c).seat (Axis x))) [
       | inl on ↦ no (axis_getting (t.own c).seat x on) get
@@ -182,10 +182,10 @@ quick_grant t c zs get call =
   where
     no_places : (s : Seat) → ((x : ℕ) → asks s (Axis x) ≡ false) → is_called s ≡ false → no_positions ≡ places_of t c s
     no_places (Called p) none call = no refl call
-    no_places (In state) none call = positions_same (λ x. false) (taking t c (In state)) (λ a. (t.axis a).position) (λ a. (t.axis a).position) (λ x. ap (λ (b : Bool). b && not (mine t c x)) (sym (none x))) (λ x on. refl)
+    no_places (In state) none call = positions_same (λ x. false) (axes_taken t c (In state)) (λ a. (t.axis a).position) (λ a. (t.axis a).position) (λ x. ap (λ (b : Bool). b && not (mine t c x)) (sym (none x))) (λ x on. refl)
 
-pub started_grant : (t : State) (c : ℕ) → Zones (board_of t) → is_called (t.own c).seat ≡ true → boards.start_grant (board_of t) c ≡ granted t c (t.own c)
-unfolding granted owning places_of boards.start_grant asks
+pub started_grant : (t : State) (c : ℕ) → Zones (board_of t) → is_called (t.own c).seat ≡ true → boards.start_grant (board_of t) c ≡ grant_at_go t c (t.own c)
+unfolding grant_at_go axes_then_owned places_of boards.start_grant asks
 started_grant t c zs call =
     grant_told (board_of t) zs c (positions_where (owns (board_of t) c) (first_position t.start))
     ∙ ap (λ (f : ℕ → Bool). grant_by t.start c f (positions_where f (first_position t.start)) t.on (t.own c).program) (fun_ext λ x. owns_mine t c x)
@@ -196,10 +196,10 @@ started_grant t c zs call =
     go (In state) on = no on refl
 
 -- and who takes axes
-pub taken_grant : (t : State) (c : ℕ) → ready t c ≡ true → is_getting (t.own c).seat ≡ true → taker_grant (board_of t) c ≡ granted t c (t.own c)
-unfolding granted owning places_of taking
+pub taken_grant : (t : State) (c : ℕ) → ready t c ≡ true → is_getting (t.own c).seat ≡ true → taker_grant (board_of t) c ≡ grant_at_go t c (t.own c)
+unfolding grant_at_go axes_then_owned places_of axes_taken
 taken_grant t c r get =
-    ap (λ (f : ℕ → Bool). grant_by t.start c f (positions_where (λ x. among (axes_asked (shown t c (t.own c).seat)) x && boards.is_free ((board_of t).axis x)) (λ x. free_position ((board_of t).axis x))) t.on (t.own c).program)
+    ap (λ (f : ℕ → Bool). grant_by t.start c f (positions_where (λ x. among (axes_asked (doing_of t c (t.own c).seat)) x && boards.is_free ((board_of t).axis x)) (λ x. free_position ((board_of t).axis x))) t.on (t.own c).program)
     (fun_ext λ x. ap₂ (λ (a b : Bool). a || b) (asked_shown t c x (t.own c).seat) (owns_mine t c x))
     ∙ ap (λ (at : List (Option ℤ)). grant_by t.start c (λ x. asks (t.own c).seat (Axis x) || mine t c x) at t.on (t.own c).program) (places (t.own c).seat get refl)
   where
@@ -218,8 +218,8 @@ taken_grant t c r get =
     ]
 
     places : (s : Seat) → is_getting s ≡ true → (t.own c).seat ≡ s
-        → positions_where (λ x. among (axes_asked (shown t c (t.own c).seat)) x && boards.is_free ((board_of t).axis x)) (λ x. free_position ((board_of t).axis x)) ≡ places_of t c s
-    places (In state) on e = positions_same (λ x. among (axes_asked (shown t c (t.own c).seat)) x && boards.is_free ((board_of t).axis x)) (taking t c (In state)) (λ x. free_position ((board_of t).axis x)) (λ a. (t.axis a).position)
+        → positions_where (λ x. among (axes_asked (doing_of t c (t.own c).seat)) x && boards.is_free ((board_of t).axis x)) (λ x. free_position ((board_of t).axis x)) ≡ places_of t c s
+    places (In state) on e = positions_same (λ x. among (axes_asked (doing_of t c (t.own c).seat)) x && boards.is_free ((board_of t).axis x)) (axes_taken t c (In state)) (λ x. free_position ((board_of t).axis x)) (λ a. (t.axis a).position)
         (λ x. ap (λ (b : Bool). b && boards.is_free ((board_of t).axis x)) (asked_shown t c x (t.own c).seat) ∙ both x ∙ ap (λ (z : Seat). asks z (Axis x) && not (mine t c x)) e)
         (λ x on. at_free (t.axis x).owner (t.axis x).position (not_mine x (ap (λ (z : Seat). asks z (Axis x)) e ∙ (and_parts (asks (In state) (Axis x)) (not (mine t c x)) on).0) ∙ (and_parts (asks (In state) (Axis x)) (not (mine t c x)) on).1))
       where

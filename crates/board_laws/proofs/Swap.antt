@@ -4,7 +4,7 @@ use Rattle.std.proofs.Common.{◌≡◌, ℕ, suc, ◌≤◌, ◌==◌, Bool, tr
 use Rattle.std.proofs.lemmas.Bool.{cases_Bool, eqb-true, true≢false}
 use Rattle.sync_types.specs.Boards.{IsRunning, is_this}
 use Rattle.sync_types.specs.declared.Step.{Step}
-use Rattle.board_laws.specs.Machine.{Mark, Call, Seat, In, Called, Own, Cell, State, Effect, asks, is_idle, is_running, mine, ready, holds_zone, settle_own, settle, touched, put_own, put_axis, put_on, put, touches, effect}
+use Rattle.board_laws.specs.Machine.{Mark, Call, Seat, In, Called, Own, Cell, State, Effect, asks, is_idle, is_running, mine, ready, holds_zone, settle_own, settle, own_after_call, put_own, put_axis, put_on, with_effect, touches, effect}
 use Rattle.board_laws.specs.Clean.{ActClean, MarkChange, Stays, Raises, Lowers, IsAct, Inv, Rests}
 use Rattle.board_laws.proofs.Basics.{no, running_ready, running_asks, ready_awake}
 use Rattle.board_laws.proofs.Parts.{settle_goes, settle_stays, gone_seat, gone_program, put_same, put_other, touched_awake, touched_off, touched_seat, axis_off, axis_kept, axis_freed, released_free, of_other}
@@ -39,8 +39,8 @@ effect_settle t q step run = effect_agree (settle t) t q step (record {
 
 -- nor does another's own part, where the two name no one channel
 pub effect_put : (b : State) (p q : ℕ) (names : ℕ → Bool) (e : Effect) (step : Step) → IsAct p (b.own p) names e → is_running (b.own p).seat ≡ true → (q == p) ≡ false
-    → is_running (b.own q).seat ≡ true → ((y : ℕ) → touches step.action y ≡ true → names y ≡ false) → effect (put b p e) q step ≡ effect b q step
-effect_put b p q names e step act run other run_q disjoint = effect_agree (put b p e) b q step (record {
+    → is_running (b.own q).seat ≡ true → ((y : ℕ) → touches step.action y ≡ true → names y ≡ false) → effect (with_effect b p e) q step ≡ effect b q step
+effect_put b p q names e step act run other run_q disjoint = effect_agree (with_effect b p e) b q step (record {
   start = refl;
   own = runner_put b p q e other run_q;
   mine = λ a. mine_other b p e q a other;
@@ -70,21 +70,21 @@ of_after b p q h a off = elim (cases_Bool (mine b q a)) [
 ]
 
 axis_swap : (b : State) (p q : ℕ) (e h : Effect) (a : ℕ) → (p == q) ≡ false → (put_own b p e q).count ≡ (b.own q).count → (put_own b q h p).count ≡ (b.own p).count
-    → put_axis (put b p e) q h a ≡ put_axis (put b q h) p e a
+    → put_axis (with_effect b p e) q h a ≡ put_axis (with_effect b q h) p e a
 axis_swap b p q e h a other count_q count_p = elim (cases_Bool (mine b p a)) [
   | inl held ↦
       let off : mine b q a ≡ false = of_other (b.axis a).owner p q other held in
-      axis_off (put b p e) q h a (of_after b q p e a off) ∙ sym (put_axis_agree (put b q h) b p e a count_p (axis_off b q h a off))
+      axis_off (with_effect b p e) q h a (of_after b q p e a off) ∙ sym (put_axis_agree (with_effect b q h) b p e a count_p (axis_off b q h a off))
   | inr off ↦
-      put_axis_agree (put b p e) b q h a count_q (axis_off b p e a off) ∙ sym (axis_off (put b q h) p e a (of_after b p q h a off))
+      put_axis_agree (with_effect b p e) b q h a count_q (axis_off b p e a off) ∙ sym (axis_off (with_effect b q h) p e a (of_after b p q h a off))
 ]
 
 -- zones of the one are not of the other
-on_swap : (b : State) (p q : ℕ) (e h : Effect) (z : ℕ) → (p == q) ≡ false → (q == p) ≡ false → put_on (put b p e) q h z ≡ put_on (put b q h) p e z
+on_swap : (b : State) (p q : ℕ) (e h : Effect) (z : ℕ) → (p == q) ≡ false → (q == p) ≡ false → put_on (with_effect b p e) q h z ≡ put_on (with_effect b q h) p e z
 unfolding put_on
 on_swap b p q e h z pq qp =
-    let mq : holds_zone b.start (mine (put b p e) q) q z ≡ holds_zone b.start (mine b q) q z = ap (λ (f : ℕ → Bool). holds_zone b.start f q z) (fun_ext λ a. mine_other b p e q a qp) in
-    let mp : holds_zone b.start (mine (put b q h) p) p z ≡ holds_zone b.start (mine b p) p z = ap (λ (f : ℕ → Bool). holds_zone b.start f p z) (fun_ext λ a. mine_other b q h p a pq) in
+    let mq : holds_zone b.start (mine (with_effect b p e) q) q z ≡ holds_zone b.start (mine b q) q z = ap (λ (f : ℕ → Bool). holds_zone b.start f q z) (fun_ext λ a. mine_other b p e q a qp) in
+    let mp : holds_zone b.start (mine (with_effect b q h) p) p z ≡ holds_zone b.start (mine b p) p z = ap (λ (f : ℕ → Bool). holds_zone b.start f p z) (fun_ext λ a. mine_other b q h p a pq) in
     elim (cases_Bool (holds_zone b.start (mine b p) p z)) [
       | inl y ↦ elim (cases_Bool (holds_zone b.start (mine b q) q z)) [
         | inl x ↦ zone_apart b.start (mine b p) (mine b q) p q z pq (λ a u v. no v (of_other (b.axis a).owner p q pq u)) y x
@@ -94,48 +94,48 @@ on_swap b p q e h z pq qp =
     ]
 
 own_swap : (b : State) (p q : ℕ) (np nq : ℕ → Bool) (e h : Effect) (c : ℕ) → IsAct p (b.own p) np e → IsAct q (b.own q) nq h → (p == q) ≡ false → (q == p) ≡ false
-    → ((y : ℕ) → np y ≡ true → nq y ≡ false) → put_own (put b p e) q h c ≡ put_own (put b q h) p e c
+    → ((y : ℕ) → np y ≡ true → nq y ≡ false) → put_own (with_effect b p e) q h c ≡ put_own (with_effect b q h) p e c
 own_swap b p q np nq e h c act_p act_q pq qp disjoint = elim (cases_Bool (c == p)) [
   | inl i ↦
       let s : c ≡ p = eqb-true c p i in
-      let left : put_own (put b p e) q h p ≡ e.own =
-      put_other (put b p e) q h p pq ∙ ap (λ (o : Own). touched h q p o) (put_same b p e) ∙ touched_awake h q p e.own act_p.awake in
-      ap (λ (z : ℕ). put_own (put b p e) q h z) s ∙ left ∙ sym (ap (λ (z : ℕ). put_own (put b q h) p e z) s ∙ put_same (put b q h) p e)
+      let left : put_own (with_effect b p e) q h p ≡ e.own =
+      put_other (with_effect b p e) q h p pq ∙ ap (λ (o : Own). own_after_call h q p o) (put_same b p e) ∙ touched_awake h q p e.own act_p.awake in
+      ap (λ (z : ℕ). put_own (with_effect b p e) q h z) s ∙ left ∙ sym (ap (λ (z : ℕ). put_own (with_effect b q h) p e z) s ∙ put_same (with_effect b q h) p e)
   | inr n ↦ elim (cases_Bool (c == q)) [
     | inl i ↦
         let s : c ≡ q = eqb-true c q i in
-        let right : put_own (put b q h) p e q ≡ h.own =
-        put_other (put b q h) p e q qp ∙ ap (λ (o : Own). touched e p q o) (put_same b q h) ∙ touched_awake e p q h.own act_q.awake in
-        ap (λ (z : ℕ). put_own (put b p e) q h z) s ∙ put_same (put b p e) q h ∙ sym (ap (λ (z : ℕ). put_own (put b q h) p e z) s ∙ right)
+        let right : put_own (with_effect b q h) p e q ≡ h.own =
+        put_other (with_effect b q h) p e q qp ∙ ap (λ (o : Own). own_after_call e p q o) (put_same b q h) ∙ touched_awake e p q h.own act_q.awake in
+        ap (λ (z : ℕ). put_own (with_effect b p e) q h z) s ∙ put_same (with_effect b p e) q h ∙ sym (ap (λ (z : ℕ). put_own (with_effect b q h) p e z) s ∙ right)
     | inr m ↦
-        put_other (put b p e) q h c m ∙ ap (λ (o : Own). touched h q c o) (put_other b p e c n)
+        put_other (with_effect b p e) q h c m ∙ ap (λ (o : Own). own_after_call h q c o) (put_other b p e c n)
         ∙ touches
-        ∙ sym (put_other (put b q h) p e c n ∙ ap (λ (o : Own). touched e p c o) (put_other b q h c m))
+        ∙ sym (put_other (with_effect b q h) p e c n ∙ ap (λ (o : Own). own_after_call e p c o) (put_other b q h c m))
   ]
 ]
   where
-    touches : touched h q c (touched e p c (b.own c)) ≡ touched e p c (touched h q c (b.own c))
+    touches : own_after_call h q c (own_after_call e p c (b.own c)) ≡ own_after_call e p c (own_after_call h q c (b.own c))
     touches = elim (cases_Bool (np c)) [
       | inl y ↦
           let off = disjoint c y in
-          touched_off h q c (touched e p c (b.own c)) (act_q.calls c off) (act_q.selects c off)
-          ∙ sym (ap (λ (o : Own). touched e p c o) (touched_off h q c (b.own c) (act_q.calls c off) (act_q.selects c off)))
+          touched_off h q c (own_after_call e p c (b.own c)) (act_q.calls c off) (act_q.selects c off)
+          ∙ sym (ap (λ (o : Own). own_after_call e p c o) (touched_off h q c (b.own c) (act_q.calls c off) (act_q.selects c off)))
       | inr off ↦
-          ap (λ (o : Own). touched h q c o) (touched_off e p c (b.own c) (act_p.calls c off) (act_p.selects c off))
-          ∙ sym (touched_off e p c (touched h q c (b.own c)) (act_p.calls c off) (act_p.selects c off))
+          ap (λ (o : Own). own_after_call h q c o) (touched_off e p c (b.own c) (act_p.calls c off) (act_p.selects c off))
+          ∙ sym (touched_off e p c (own_after_call h q c (b.own c)) (act_p.calls c off) (act_p.selects c off))
     ]
 
 pub put_swap : (b : State) (p q : ℕ) (np nq : ℕ → Bool) (e h : Effect) → IsAct p (b.own p) np e → IsAct q (b.own q) nq h → (p == q) ≡ false → (q == p) ≡ false
-    → ((y : ℕ) → np y ≡ true → nq y ≡ false) → put (put b p e) q h ≡ put (put b q h) p e
+    → ((y : ℕ) → np y ≡ true → nq y ≡ false) → with_effect (with_effect b p e) q h ≡ with_effect (with_effect b q h) p e
 put_swap b p q np nq e h act_p act_q pq qp disjoint =
-    state_eq b.start (put_own (put b p e) q h) (put_own (put b q h) p e) (put_axis (put b p e) q h) (put_axis (put b q h) p e) (put_on (put b p e) q h) (put_on (put b q h) p e)
+    state_eq b.start (put_own (with_effect b p e) q h) (put_own (with_effect b q h) p e) (put_axis (with_effect b p e) q h) (put_axis (with_effect b q h) p e) (put_on (with_effect b p e) q h) (put_on (with_effect b q h) p e)
     (fun_ext λ c. own_swap b p q np nq e h c act_p act_q pq qp disjoint)
     (fun_ext λ a. axis_swap b p q e h a pq (other_kept b p q e qp).count (other_kept b q p h pq).count)
     (fun_ext λ z. on_swap b p q e h z pq qp)
 
 -- after the first own part
 pub between : (b : State) (p q : ℕ) (np nq : ℕ → Bool) (e h : Effect) → Rests b → IsAct p (b.own p) np e → IsAct q (b.own q) nq h → (p == q) ≡ false → (q == p) ≡ false
-    → is_running (b.own q).seat ≡ true → Between (put b p e) q nq h
+    → is_running (b.own q).seat ≡ true → Between (with_effect b p e) q nq h
 between b p q np nq e h rests act_p act_q pq qp run_q =
     let here : put_own b p e q ≡ b.own q = runner_put b p q e qp run_q in
     record {
@@ -146,7 +146,7 @@ between b p q np nq e h rests act_p act_q pq qp run_q =
             let same : put_own b p e c ≡ e.own = ap (λ (z : ℕ). put_own b p e z) (eqb-true c p i) ∙ put_same b p e in
             no (ap (λ (o : Own). asks o.seat (Call r)) (sym same) ∙ y) (act_p.uncalled r)
         | inr n ↦
-            let y' : asks (touched e p c (b.own c)).seat (Call r) ≡ true = ap (λ (o : Own). asks o.seat (Call r)) (sym (put_other b p e c n)) ∙ y in
+            let y' : asks (own_after_call e p c (b.own c)).seat (Call r) ≡ true = ap (λ (o : Own). asks o.seat (Call r)) (sym (put_other b p e c n)) ∙ y in
             elim (touched_seat e p c (b.own c)) [
               | inl s ↦ no (ap (λ (x : Seat). asks x (Call r)) (sym s) ∙ y') (rests.uncalled c r)
               | inr w ↦
@@ -159,16 +159,16 @@ between b p q np nq e h rests act_p act_q pq qp run_q =
 
 -- the two name no one channel
 pub disjoint_names : (b : State) (p q : ℕ) (np nq : ℕ → Bool) (e h : Effect) → Rests b → IsAct p (b.own p) np e → (p == q) ≡ false → (q == p) ≡ false
-    → is_running (b.own q).seat ≡ true → ActClean (settle (put b p e)) q nq h → (y : ℕ) → np y ≡ true → nq y ≡ false
+    → is_running (b.own q).seat ≡ true → ActClean (settle (with_effect b p e)) q nq h → (y : ℕ) → np y ≡ true → nq y ≡ false
 disjoint_names b p q np nq e h rests act_p pq qp run_q act y on = elim (cases_Bool (nq y)) [
   | inr off ↦ off
   | inl also ↦
       let l = act.starting p y also pq in
       let here : put_own b p e q ≡ b.own q = runner_put b p q e qp run_q in
       let run : is_running (put_own b p e q).seat ≡ true = ap (λ (o : Own). is_running o.seat) here ∙ run_q in
-      let left : (settle_own (put b p e) p).started y ≡ suc (b.own p).count =
-      started_same (put b p e) p y ∙ ap (λ (o : Own). o.started y) (put_same b p e) ∙ act_p.named y on in
-      let right : (settle_own (put b p e) q).past p ≡ (b.own q).past p = ap (λ (o : Own). o.past p) (q_stays (put b p e) q run ∙ here) in
+      let left : (settle_own (with_effect b p e) p).started y ≡ suc (b.own p).count =
+      started_same (with_effect b p e) p y ∙ ap (λ (o : Own). o.started y) (put_same b p e) ∙ act_p.named y on in
+      let right : (settle_own (with_effect b p e) q).past p ≡ (b.own q).past p = ap (λ (o : Own). o.past p) (q_stays (with_effect b p e) q run ∙ here) in
       let bound = rests.inv.past q p in
       absurd (omega (arith, l, left, right, bound))
 ]
@@ -213,7 +213,7 @@ took_put b p np e d a act = elim (cases_Bool (d == p)) [
 
 -- q's Act is clean before p's, if it is after
 pub act_first : (b : State) (p q : ℕ) (np nq : ℕ → Bool) (e h : Effect) → Rests b → IsAct p (b.own p) np e → (q == p) ≡ false → is_running (b.own p).seat ≡ true → is_running (b.own q).seat ≡ true
-    → ActClean (put b p e) q nq h → ActClean b q nq h
+    → ActClean (with_effect b p e) q nq h → ActClean b q nq h
 act_first b p q np nq e h rests act_p qp run_p run_q act =
     let here : put_own b p e q ≡ b.own q = runner_put b p q e qp run_q in
     record {
@@ -248,7 +248,7 @@ act_first b p q np nq e h rests act_p qp run_p run_q act =
 -- p's Act is clean after q's, if it is before and q's is clean after it
 pub act_later : (b : State) (p q : ℕ) (np nq : ℕ → Bool) (e h : Effect) → Rests b → IsAct p (b.own p) np e → IsAct q (b.own q) nq h → (p == q) ≡ false → (q == p) ≡ false
     → is_running (b.own p).seat ≡ true → is_running (b.own q).seat ≡ true → ((y : ℕ) → np y ≡ true → nq y ≡ false)
-    → ActClean b p np e → ActClean (put b p e) q nq h → ActClean (put b q h) p np e
+    → ActClean b p np e → ActClean (with_effect b p e) q nq h → ActClean (with_effect b q h) p np e
 act_later b p q np nq e h rests act_p act_q pq qp run_p run_q disjoint first later =
     let here_p : put_own b q h p ≡ b.own p = runner_put b q p h pq run_p in
     let here_q : put_own b p e q ≡ b.own q = runner_put b p q e qp run_q in

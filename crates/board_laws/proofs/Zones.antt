@@ -16,7 +16,7 @@ use Rattle.sync_types.specs.declared.Action.{Action}
 use Rattle.sync_types.specs.declared.Action.TheVariants.{Release, Get}
 use Rattle.sync_types.specs.declared.Grant.{Grant}
 use Rattle.sync_types.specs.declared.Step.{Step}
-use Rattle.board_laws.specs.Machine.{carried, carrier, holds_zone, grant_by}
+use Rattle.board_laws.specs.Machine.{holds_by_carrier, carrier, holds_zone, grant_by}
 use Rattle.board_laws.specs.Zones.{Zones}
 use Rattle.board_laws.proofs.Footprint.{no_alarm}
 
@@ -50,7 +50,7 @@ pub held_told : (b : Board) → Zones b → (c z : ℕ) → is_this (b.holder z)
 unfolding holds_zone
 held_told b zs c z = ap (λ (o : Option ℕ). is_this o c) (holder_told b zs z) ∙ go (first_of (members_of (axes_of_zone b.start z)))
   where
-    go : (o : Option ℕ) → is_this (carrier o (λ a. owner_of (b.axis a)) (first_holder b.start z)) c ≡ carried o (owns b c) (is_this (first_holder b.start z) c)
+    go : (o : Option ℕ) → is_this (carrier o (λ a. owner_of (b.axis a)) (first_holder b.start z)) c ≡ holds_by_carrier o (owns b c) (is_this (first_holder b.start z) c)
     go (Some a) = refl
     go None = refl
 
@@ -66,15 +66,15 @@ bare_free : (b : Board) (axes : List ℕ) (z : ℕ) → first_of (members_of (ax
 bare_free b axes z none = none_pass (has (axes_of_zone b.start z)) axes (λ x on. no_member b.start z x none)
 
 -- an axis and its zone go the same way
-goes_free : (test carried : Bool) (a : Ownership) (holder : Option ℕ) (position : ℤ) → carried ≡ test → owner_of a ≡ holder
-    → owner_of (cond test (FreeAt position) a) ≡ cond carried None holder
-goes_free true carried a holder position same at_holder = sym (ap (λ t. cond t None holder) same)
-goes_free false carried a holder position same at_holder = at_holder ∙ sym (ap (λ t. cond t None holder) same)
+goes_free : (test holds_by_carrier : Bool) (a : Ownership) (holder : Option ℕ) (position : ℤ) → holds_by_carrier ≡ test → owner_of a ≡ holder
+    → owner_of (cond test (FreeAt position) a) ≡ cond holds_by_carrier None holder
+goes_free true holds_by_carrier a holder position same at_holder = sym (ap (λ t. cond t None holder) same)
+goes_free false holds_by_carrier a holder position same at_holder = at_holder ∙ sym (ap (λ t. cond t None holder) same)
 
-goes_to : (test carried : Bool) (a : Ownership) (holder : Option ℕ) (c : ℕ) → carried ≡ test → owner_of a ≡ holder
-    → owner_of (cond test (OwnedBy c) a) ≡ cond carried (Some c) holder
-goes_to true carried a holder c same at_holder = sym (ap (λ t. cond t (Some c) holder) same)
-goes_to false carried a holder c same at_holder = at_holder ∙ sym (ap (λ t. cond t (Some c) holder) same)
+goes_to : (test holds_by_carrier : Bool) (a : Ownership) (holder : Option ℕ) (c : ℕ) → holds_by_carrier ≡ test → owner_of a ≡ holder
+    → owner_of (cond test (OwnedBy c) a) ≡ cond holds_by_carrier (Some c) holder
+goes_to true holds_by_carrier a holder c same at_holder = sym (ap (λ t. cond t (Some c) holder) same)
+goes_to false holds_by_carrier a holder c same at_holder = at_holder ∙ sym (ap (λ t. cond t (Some c) holder) same)
 
 named_alike : (b : Board) (action : Action) (z x y : ℕ) → splits_a_zone b action ≡ false → has (axes_of_zone b.start z) x ≡ true → has (axes_of_zone b.start z) y ≡ true
     → has (named_axes action) x ≡ has (named_axes action) y

@@ -2,11 +2,11 @@
 use Rattle.std.specs.Prelude.{◌≡◌, ◌↔◌, ℕ, ◌==◌, true, false}
 use Rattle.sync_types.specs.declared.Step.{Step}
 use Rattle.board_laws.specs.Clean.{GoesClean, IsClean, IsAct, Rests}
-use Rattle.board_laws.specs.Machine.{Mark, Axis, Call, State, asks, is_at, mine, ready, settle, put, touches, effect, turn_by, runs_at}
+use Rattle.board_laws.specs.Machine.{Mark, Axis, Call, State, asks, is_at, mine, ready, settle, with_effect, touches, effect, turn_by, runs_at}
 
 -- the own part of a step, after which nobody has gone on yet
 abbrev pub own_part_by : State → ℕ → Step → State
-own_part_by b p step = put b p (effect b p step)
+own_part_by b p step = with_effect b p (effect b p step)
 
 -- All that is ready and the own part of q's step leave each other alone: the marks of q that are needed still stand, who stays does
 -- not wait then for a mark that is lowered, nobody else asks then for an axis that is taken, and nobody goes on by q's START.

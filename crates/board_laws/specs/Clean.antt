@@ -2,7 +2,7 @@
 use Rattle.std.specs.Prelude.{◌≡◌, ℕ, suc, ◌≤◌, ◌==◌, ◌||◌, Bool, true, false}
 use Rattle.sync_types.specs.Runs.{Script}
 use Rattle.sync_types.specs.declared.Step.{Step}
-use Rattle.board_laws.specs.Machine.{Mark, Axis, Call, Seat, Own, State, Effect, asks, is_at, is_idle, mine, ready, go_clock, put, touches, effect, next_step}
+use Rattle.board_laws.specs.Machine.{Mark, Axis, Call, Seat, Own, State, Effect, asks, is_at, is_idle, mine, ready, go_clock, with_effect, touches, effect, next_step}
 
 -- one set of own and named channels
 abbrev pub SameSet : ℕ → Seat → ℕ → Seat → ℕ → Type 0
@@ -31,7 +31,7 @@ pub record ActClean (x : State) (p : ℕ) (names : ℕ → Bool) (e : Effect) : 
 -- the step has no race
 pub record IsClean (x : State) (p : ℕ) (step : Step) : Type 0 where
   pub act : ActClean x p (touches step.action) (effect x p step)
-  pub going : GoesClean (put x p (effect x p step))
+  pub going : GoesClean (with_effect x p (effect x p step))
 
 abbrev pub Clean : Script → State → ℕ → Type 0
 Clean script x p = IsClean x p (next_step script x p)

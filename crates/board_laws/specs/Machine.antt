@@ -139,15 +139,15 @@ is_free (Some d) = false
 abbrev pub mine : State → ℕ → ℕ → Bool
 mine t c a = is_this (t.axis a).owner c
 
-unfoldable pub met : State → ℕ → Need → Bool
-met t c (Mark d k) = (t.own d).marks k
-met t c (End d) = is_ended (t.own d).seat
-met t c (Axis a) = is_free (t.axis a).owner || mine t c a
-met t c (Call p) = true
+unfoldable pub is_met : State → ℕ → Need → Bool
+is_met t c (Mark d k) = (t.own d).marks k
+is_met t c (End d) = is_ended (t.own d).seat
+is_met t c (Axis a) = is_free (t.axis a).owner || mine t c a
+is_met t c (Call p) = true
 
 -- the channel in this seat goes on
 unfoldable pub ready_at : State → ℕ → Seat → Bool
-ready_at t c s = holds s && (is_listed c s && list_all (met t c) (needs_of s))
+ready_at t c s = holds s && (is_listed c s && list_all (is_met t c) (needs_of s))
 
 abbrev pub ready : State → ℕ → Bool
 ready t c = ready_at t c (t.own c).seat
@@ -180,20 +180,20 @@ abbrev pub go_clock : State → ℕ → Clock
 go_clock t c = clock_of t c (t.own c)
 
 -- the axes that a channel takes: those that it names and that are not its own
-unfoldable pub taking : State → ℕ → Seat → ℕ → Bool
-taking t c s = λ (a : ℕ). asks s (Axis a) && not (mine t c a)
+unfoldable pub axes_taken : State → ℕ → Seat → ℕ → Bool
+axes_taken t c s = λ (a : ℕ). asks s (Axis a) && not (mine t c a)
 
 -- and those that it owns after that
-unfoldable pub owning : State → ℕ → Seat → ℕ → Bool
-owning t c s = λ (a : ℕ). asks s (Axis a) || mine t c a
+unfoldable pub axes_then_owned : State → ℕ → Seat → ℕ → Bool
+axes_then_owned t c s = λ (a : ℕ). asks s (Axis a) || mine t c a
 
 -- a zone goes with the first axis that carries it, and where none does it stays with its first holder
-abbrev pub carried : Option ℕ → (ℕ → Bool) → Bool → Bool
-carried (Some a) own first = own a
-carried None own first = first
+abbrev pub holds_by_carrier : Option ℕ → (ℕ → Bool) → Bool → Bool
+holds_by_carrier (Some a) own first = own a
+holds_by_carrier None own first = first
 
 unfoldable pub holds_zone : StartView → (ℕ → Bool) → ℕ → ℕ → Bool
-holds_zone start own c z = carried (first_of (members_of (axes_of_zone start z))) own (is_this (first_holder start z) c)
+holds_zone start own c z = holds_by_carrier (first_of (members_of (axes_of_zone start z))) own (is_this (first_holder start z) c)
 
 -- what a channel goes on with that owns these axes
 unfoldable pub grant_by : StartView → ℕ → (ℕ → Bool) → List (Option ℤ) → (ℕ → Bool) → Option ℕ → Grant
@@ -206,15 +206,15 @@ grant_by start c own at on program = record {
 
 -- it learns where all its axes stand that it is started with, and where those stand that it has taken
 unfoldable pub places_of : State → ℕ → Seat → List (Option ℤ)
-places_of t c (In state) = positions_where (taking t c (In state)) (λ a. (t.axis a).position)
+places_of t c (In state) = positions_where (axes_taken t c (In state)) (λ a. (t.axis a).position)
 places_of t c (Called p) = positions_where (mine t c) (first_position t.start)
 
-unfoldable pub granted : State → ℕ → Own → Grant
-granted t c o = grant_by t.start c (owning t c o.seat) (places_of t c o.seat) t.on o.program
+unfoldable pub grant_at_go : State → ℕ → Own → Grant
+grant_at_go t c o = grant_by t.start c (axes_then_owned t c o.seat) (places_of t c o.seat) t.on o.program
 
 -- a value at a place
-abbrev pub placed : {A : Type 0} → ℕ → A → (ℕ → A) → ℕ → A
-placed i new old j = if j == i then new else old j
+abbrev pub with_value_at : {A : Type 0} → ℕ → A → (ℕ → A) → ℕ → A
+with_value_at i new old j = if j == i then new else old j
 
 abbrev pub span_of : Doing → List Grant → Span
 span_of state grants = record { state = state; grants = length grants }
@@ -228,8 +228,8 @@ gone_of o clock taken grant = record {
   grants = o.grants ++ grant ∷ [];
   count = suc o.count;
   past = clock;
-  log = placed (suc o.count) clock o.log;
-  spans = placed (suc o.count) (span_of (IsRunning grant) (o.grants ++ grant ∷ [])) o.spans;
+  log = with_value_at (suc o.count) clock o.log;
+  spans = with_value_at (suc o.count) (span_of (IsRunning grant) (o.grants ++ grant ∷ [])) o.spans;
   raised = o.raised;
   lowered = λ (k : ℕ). if is_at o.seat k then suc o.count else o.lowered k;
   needs = λ (d k : ℕ). if asks o.seat (Mark d k) then suc o.count else o.needs d k;
@@ -237,8 +237,8 @@ gone_of o clock taken grant = record {
   started = o.started;
 }
 
-abbrev pub gone : State → ℕ → Own
-gone t c = gone_of (t.own c) (go_clock t c) (taking t c (t.own c).seat) (granted t c (t.own c))
+abbrev pub own_after_go : State → ℕ → Own
+own_after_go t c = gone_of (t.own c) (go_clock t c) (axes_taken t c (t.own c).seat) (grant_at_go t c (t.own c))
 
 unfoldable pub takes : State → ℕ → ℕ → Bool
 takes t a c = ready t c && (asks (t.own c).seat (Axis a) && not (mine t c a))
@@ -252,29 +252,29 @@ span_now t (Some c) = (t.own c).count
 span_now t None = 0
 
 -- from this event on another has the axis, or nobody
-abbrev pub handed : Option ℕ → ℕ → Place → List Tenure → List Tenure
-handed to upto e [] = []
-handed to upto e (t ∷ ts) =
+abbrev pub tenures_handed_on : Option ℕ → ℕ → Place → List Tenure → List Tenure
+tenures_handed_on to upto e [] = []
+tenures_handed_on to upto e (t ∷ ts) =
     record { owner = to; first = Some e; last = None; from = e.place; upto = 0 }
     ∷ (record { owner = t.owner; first = t.first; last = Some e; from = t.from; upto = upto } ∷ ts)
 
 abbrev pub next_event : State → ℕ → Place
 next_event t c = record { channel = c; place = suc (t.own c).count }
 
-unfoldable pub given : State → Option ℕ → Cell → Cell
-given t None cell = cell
-given t (Some c) cell = record {
+unfoldable pub cell_after_taking : State → Option ℕ → Cell → Cell
+cell_after_taking t None cell = cell
+cell_after_taking t (Some c) cell = record {
   owner = Some c;
   position = pos 0;
   freed = cell.freed;
-  tenures = handed (Some c) (span_now t cell.owner) (next_event t c) cell.tenures;
+  tenures = tenures_handed_on (Some c) (span_now t cell.owner) (next_event t c) cell.tenures;
 }
 
 unfoldable pub settle_own : State → ℕ → Own
-settle_own t c = if ready t c then gone t c else t.own c
+settle_own t c = if ready t c then own_after_go t c else t.own c
 
 unfoldable pub settle_axis : State → ℕ → Cell
-settle_axis t a = given t (taker t a) (t.axis a)
+settle_axis t a = cell_after_taking t (taker t a) (t.axis a)
 
 -- all that is ready goes on, at once
 abbrev pub settle : State → State
@@ -292,36 +292,36 @@ pub record Effect : Type 0 where
   pub on : ℕ → Bool
 
 -- what START and INIT do to a channel
-unfoldable pub touched : Effect → ℕ → ℕ → Own → Own
-touched e p c o =
+unfoldable pub own_after_call : Effect → ℕ → ℕ → Own → Own
+own_after_call e p c o =
     if e.calls c && is_idle o.seat then record o { seat = Called p }
     else (if e.selects c && is_idle o.seat then record o { program = e.program } else o)
 
 unfoldable pub put_own : State → ℕ → Effect → ℕ → Own
-put_own b p e c = if c == p then e.own else touched e p c (b.own c)
+put_own b p e c = if c == p then e.own else own_after_call e p c (b.own c)
 
 -- an axis after it was let go
-unfoldable pub released : State → ℕ → Effect → ℕ → Cell
-released b p e a = record {
+unfoldable pub cell_after_release : State → ℕ → Effect → ℕ → Cell
+cell_after_release b p e a = record {
   owner = None;
   position = e.place a;
   freed = e.own.past;
-  tenures = handed None (b.own p).count (next_event b p) (b.axis a).tenures;
+  tenures = tenures_handed_on None (b.own p).count (next_event b p) (b.axis a).tenures;
 }
 
 unfoldable pub put_axis : State → ℕ → Effect → ℕ → Cell
-put_axis b p e a = if e.frees a && mine b p a then released b p e a else b.axis a
+put_axis b p e a = if e.frees a && mine b p a then cell_after_release b p e a else b.axis a
 
 unfoldable pub put_on : State → ℕ → Effect → ℕ → Bool
 put_on b p e z = if holds_zone b.start (mine b p) p z then e.on z else b.on z
 
-abbrev pub put : State → ℕ → Effect → State
-put b p e = record { start = b.start; own = put_own b p e; axis = put_axis b p e; on = put_on b p e }
+abbrev pub with_effect : State → ℕ → Effect → State
+with_effect b p e = record { start = b.start; own = put_own b p e; axis = put_axis b p e; on = put_on b p e }
 
 -- the board: who is started runs already, by what it will get
-abbrev pub shown : State → ℕ → Seat → Doing
-shown t c (In state) = state
-shown t c (Called p) = IsRunning (granted t c (t.own c))
+abbrev pub doing_of : State → ℕ → Seat → Doing
+doing_of t c (In state) = state
+doing_of t c (Called p) = IsRunning (grant_at_go t c (t.own c))
 
 abbrev pub carrier : Option ℕ → (ℕ → Option ℕ) → Option ℕ → Option ℕ
 carrier (Some a) owner first = owner a
@@ -331,7 +331,7 @@ abbrev pub board_of : State → Board
 board_of t = record {
   start = t.start;
   marks = λ c. (t.own c).marks;
-  state = λ c. shown t c (t.own c).seat;
+  state = λ c. doing_of t c (t.own c).seat;
   program = λ c. (t.own c).program;
   axis = λ a. ownership_of (t.axis a).owner (t.axis a).position;
   holder = λ z. carrier (first_of (members_of (axes_of_zone t.start z))) (λ a. (t.axis a).owner) (first_holder t.start z);
@@ -348,16 +348,16 @@ abbrev pub act_clock : ℕ → Own → Clock
 act_clock p o = λ (x : ℕ). if x == p then suc o.count else o.past x
 
 -- a channel after its act, which leaves these marks and this state
-unfoldable pub acted : ℕ → Own → (ℕ → Bool) → Doing → (ℕ → Bool) → Own
-acted p o marks state names = record {
+unfoldable pub own_after_act : ℕ → Own → (ℕ → Bool) → Doing → (ℕ → Bool) → Own
+own_after_act p o marks state names = record {
   marks = marks;
   seat = In state;
   program = o.program;
   grants = o.grants ++ as_list (grant_in state);
   count = suc o.count;
   past = act_clock p o;
-  log = placed (suc o.count) (act_clock p o) o.log;
-  spans = placed (suc o.count) (span_of state (o.grants ++ as_list (grant_in state))) o.spans;
+  log = with_value_at (suc o.count) (act_clock p o) o.log;
+  spans = with_value_at (suc o.count) (span_of state (o.grants ++ as_list (grant_in state))) o.spans;
   raised = λ (k : ℕ). if marks k && not (o.marks k) then act_clock p o else o.raised k;
   lowered = λ (k : ℕ). if o.marks k && not (marks k) then suc o.count else o.lowered k;
   needs = o.needs;
@@ -370,9 +370,9 @@ abbrev pub axes_freed : Option ℕ → Action → List ℕ
 axes_freed (Some code) action = []
 axes_freed None action = axes_to_free action
 
-abbrev pub selected : Option ℕ → Action → ℕ → Bool
-selected None (Init c program) y = c == y
-selected alarm action y = false
+abbrev pub selects_program : Option ℕ → Action → ℕ → Bool
+selects_program None (Init c program) y = c == y
+selects_program alarm action y = false
 
 abbrev pub program_selected : Action → Option ℕ
 program_selected (Init c program) = Some program
@@ -381,11 +381,11 @@ program_selected other = None
 -- what a step of a channel makes
 unfoldable pub effect : State → ℕ → Step → Effect
 effect b p step = record {
-  own = acted p (b.own p) ((after_own_part (board_of b) p step).marks p) ((after_own_part (board_of b) p step).state p) (touches step.action);
+  own = own_after_act p (b.own p) ((after_own_part (board_of b) p step).marks p) ((after_own_part (board_of b) p step).state p) (touches step.action);
   frees = among (axes_freed (alarm_of (board_of b) p step.action) step.action);
   place = λ a. position_or_zero (position_of step.at a);
   calls = among (channels_started (alarm_of (board_of b) p step.action) step.action);
-  selects = selected (alarm_of (board_of b) p step.action) step.action;
+  selects = selects_program (alarm_of (board_of b) p step.action) step.action;
   program = program_selected step.action;
   on = has step.on;
 }
@@ -395,7 +395,7 @@ abbrev pub next_step : Script → State → ℕ → Step
 next_step script b p = script p (b.own p).grants
 
 abbrev pub turn_by : State → ℕ → Step → State
-turn_by b p step = settle (put b p (effect b p step))
+turn_by b p step = settle (with_effect b p (effect b p step))
 
 abbrev pub turn : Script → State → ℕ → State
 turn script b p = turn_by b p (next_step script b p)

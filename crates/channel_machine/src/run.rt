@@ -141,12 +141,23 @@ fn find_block<'a>(job: &'a Job, here: &Place) -> Option<NextBlock<'a>>
     }
 }
 
+/// Makes room for the first item of a segment, and for that alone: most segments have no more, and an item is large.
+fn make_room(items: &mut Vec<Item>) -> Result<(), AllocError>
+    ensures { items.new.items ≡ items.old.items }
+{
+    if items.is_empty() {
+        items.reserve_exact(1)?;
+    }
+    Ok(())
+}
+
 /// Adds the item, if there is one.
 #[inline(never)]
 fn push_some(items: &mut Vec<Item>, item: &mut Option<Item>) -> Result<(), AllocError>
     ensures { OnOk result (items.new.items ≡ items.old.items ++ option_to_list item.old) }
 {
     if let Some(item) = item.take() {
+        make_room(items)?;
         items.push(item)?;
     }
     Ok(())
@@ -157,6 +168,7 @@ fn push_some(items: &mut Vec<Item>, item: &mut Option<Item>) -> Result<(), Alloc
 fn push_switch(items: &mut Vec<Item>, line: u32, zone: ZoneId, on: bool) -> Result<(), AllocError>
     ensures { OnOk result (items.new.items ≡ items.old.items ++ record { line = line; part = part.Switch zone on } ∷ []) }
 {
+    make_room(items)?;
     items.push(Item {
         line,
         part: Part::Switch(zone, on),

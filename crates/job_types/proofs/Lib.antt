@@ -1,4 +1,3 @@
 pub mod Crosses
 pub mod Digits
 pub mod Owners
-pub mod RunnableJobs

@@ -97,12 +97,3 @@ pub record IsSoundJob (job : JobView) : Type 0 where
 -- the number of each parameter that a block names is one of the 1,000
 abbrev pub BlocksFit : JobView → Type 0
 BlocksFit job = All (λ program. All (λ block. StatementFits block.1.statement) program.1.blocks) job.programs
-
--- the job can be run and judged: it has few axes, they start in range, its motions are cut at most four times, its programs can be numbered,
--- and its blocks name parameters that there are
-pub record IsRunnable (job : JobView) : Type 0 where
-  pub axes : length job.axes ≤ AXIS_LIMIT
-  pub starts : All (λ line. IsPosition line.at) job.axes
-  pub depth : job.depth ≤ DEPTH_LIMIT
-  pub programs : length job.programs ≤ PROGRAM_LIMIT
-  pub blocks : BlocksFit job

@@ -13,7 +13,7 @@ use Rattle.order_clocks.specs.Courses.{IsEventIn}
 use Rattle.order_clocks.specs.Happenings.{Happening, Trace, Lowered, Needed, Took, Touched, board_at, happening_of, happening_at, going_of, of_going, act_leaves, going_leaves, act_minds, going_minds}
 use Rattle.order_clocks.specs.Races.{Apart, StillWaits, Differ, StillAsks, AreApart, leaves_at, minds_at}
 use Rattle.order_clocks.proofs.OrderLaws.{event_in}
-use Rattle.board_laws.specs.Machine.{Mark, Axis, Seat, In, Called, Own, State, asks, is_at, shown, board_of, effect, go_clock}
+use Rattle.board_laws.specs.Machine.{Mark, Axis, Seat, In, Called, Own, State, asks, is_at, doing_of, board_of, effect, go_clock}
 use Rattle.board_laws.specs.Clean.{IsClean, Inv}
 use Rattle.board_laws.proofs.Basics.{no, off_from}
 use Rattle.board_laws.proofs.Parts.{put_other, touched_asks}
@@ -140,7 +140,7 @@ waited b moves i w d hold line e =
     ] in
     (out, unshown (mid w) d ((mid w).own d).seat (sym (kept_told b moves i w d out) ∙ state))
   where
-    unshown : (t : State) (c : ℕ) (s : Seat) → shown t c s ≡ IsHolding hold line → s ≡ In (IsHolding hold line)
+    unshown : (t : State) (c : ℕ) (s : Seat) → doing_of t c s ≡ IsHolding hold line → s ≡ In (IsHolding hold line)
     unshown t c (In state) e = ap In e
     unshown t c (Called p) e = absurd (true≢false (ap (λ (s : Doing). boards.is_running s) e))
 

@@ -14,7 +14,7 @@ use Rattle.order_clocks.specs.CourseOf.{course_of}
 use Rattle.order_clocks.specs.Courses.{IsEventIn, FollowsIn, IsBeforeIn}
 use Rattle.order_clocks.proofs.CounterLaws.{opened_actor, opened_other, closed_goer, closed_other, member, contains_from, top_above, one_back, one_row, before_from, before_to, follows_later}
 use Rattle.order_clocks.proofs.OrderLaws.{goings_are, order_in, order_from}
-use Rattle.board_laws.specs.Machine.{Clock, placed}
+use Rattle.board_laws.specs.Machine.{Clock, with_value_at}
 use Rattle.board_laws.proofs.Basics.{no}
 use Rattle.schedule_laws.specs.EventPlaces.{act_in, going_in, event_in, events_upto, IsEventAt, HaveSameOrder}
 use Rattle.schedule_laws.specs.Tracked.{rows_at, rows_in, actor, goes_in, clocks_in, clocks_at}
@@ -82,7 +82,7 @@ only_one e f zero on = (refl, let s : f ≡ e = cc in s)
 only_one e f (suc k) on = let bad : ⊥ = cc in absurd bad
 
 phase_add : (b : Board) (moves : List Move) (c : ℕ) (xs : List EventId) (log : ℕ → Clock) (limit : ℕ) (new : EventId) → Phase b moves c xs log limit → new.channel ≡ c → IsEventIn (course_of b moves) new → new.step < limit
-    → row (course_of b moves) new c ≡ suc (length xs) → Phase b moves c (xs ++ new ∷ []) (placed (suc (length xs)) (row (course_of b moves) new) log) limit
+    → row (course_of b moves) new c ≡ suc (length xs) → Phase b moves c (xs ++ new ∷ []) (with_value_at (suc (length xs)) (row (course_of b moves) new) log) limit
 phase_add b moves c xs log limit new w channel there early place = record {
   channel = λ n e on. either n e on (λ o. w.channel n e o) (λ s t. ap (λ (z : EventId). z.channel) t ∙ channel);
   there = λ n e on. either n e on (λ o. w.there n e o) (λ s t. subst (λ (z : EventId). IsEventIn (course_of b moves) z) (sym t) there);
@@ -99,10 +99,10 @@ phase_add b moves c xs log limit new w channel there early place = record {
       | inr r ↦ let z = only_one new e r.0 r.1.1 in let s = r.1.0 in let t = z.0 in fresh (omega (arith, s, t)) z.1
     ]
 
-    kept : (j i : ℕ) (f : Clock) (old : ℕ → Clock) (x : ℕ) → (j == i) ≡ false → placed i f old j x ≡ old j x
+    kept : (j i : ℕ) (f : Clock) (old : ℕ → Clock) (x : ℕ) → (j == i) ≡ false → with_value_at i f old j x ≡ old j x
     kept j i f old x off = ap (λ (t : Bool). (if t then f else old j) x) off
 
-    chosen : (j i : ℕ) (f : Clock) (old : ℕ → Clock) (x : ℕ) → (j == i) ≡ true → placed i f old j x ≡ f x
+    chosen : (j i : ℕ) (f : Clock) (old : ℕ → Clock) (x : ℕ) → (j == i) ≡ true → with_value_at i f old j x ≡ f x
     chosen j i f old x on = ap (λ (t : Bool). (if t then f else old j) x) on
 
 phase_wider : (b : Board) (moves : List Move) (c : ℕ) (xs : List EventId) (log : ℕ → Clock) (i : ℕ) → Phase b moves c xs log i → Phase b moves c xs log (suc i)
@@ -140,9 +140,9 @@ act_told b moves c i inside w = elim (cases_Bool (actor b moves i == c)) [
       let r = opened_actor (course_of b moves) i (rows_at b moves i) c in
       let more = phase_add b moves c (events_upto b moves c i) (clocks_at b moves i c) (suc i) (event i c false) (phase_wider b moves c (events_upto b moves c i) (clocks_at b moves i c) i w.phase) refl s (omega arith)
       (sym (r c s) ∙ n ∙ ap suc (sym k)) in
-      let log : placed (suc (length (events_upto b moves c i))) (row (course_of b moves) (event i c false)) (clocks_at b moves i c) ≡ clocks_in b moves i (clocks_at b moves i c) c =
-      ap₂ (λ (m : ℕ) (f : Clock). placed m f (clocks_at b moves i c)) (ap suc k ∙ sym n) (fun_ext λ x. sym (r x s))
-      ∙ sym (if_true (c == actor b moves i) (placed ((rows_in b moves i).past c c) ((rows_in b moves i).past c) (clocks_at b moves i c)) (clocks_at b moves i c) (eqb_back c (actor b moves i) ∙ y)) in
+      let log : with_value_at (suc (length (events_upto b moves c i))) (row (course_of b moves) (event i c false)) (clocks_at b moves i c) ≡ clocks_in b moves i (clocks_at b moves i c) c =
+      ap₂ (λ (m : ℕ) (f : Clock). with_value_at m f (clocks_at b moves i c)) (ap suc k ∙ sym n) (fun_ext λ x. sym (r x s))
+      ∙ sym (if_true (c == actor b moves i) (with_value_at ((rows_in b moves i).past c c) ((rows_in b moves i).past c) (clocks_at b moves i c)) (clocks_at b moves i c) (eqb_back c (actor b moves i) ∙ y)) in
       record {
         count = ap (λ (zs : List EventId). length (events_upto b moves c i ++ zs)) one ∙ length-append (events_upto b moves c i) (event i c false ∷ []) ∙ (omega (arith, k, n));
         phase = subst (λ (zs : List EventId). Phase b moves c (events_upto b moves c i ++ zs) (clocks_in b moves i (clocks_at b moves i c) c) (suc i)) (sym one)
@@ -153,7 +153,7 @@ act_told b moves c i inside w = elim (cases_Bool (actor b moves i == c)) [
       let k = w.count in
       let r = opened_other (course_of b moves) i (rows_at b moves i) c c (eqb_back c (actor b moves i) ∙ off) in
       let log : clocks_in b moves i (clocks_at b moves i c) c ≡ clocks_at b moves i c =
-      if_false (c == actor b moves i) (placed ((rows_in b moves i).past c c) ((rows_in b moves i).past c) (clocks_at b moves i c)) (clocks_at b moves i c) (eqb_back c (actor b moves i) ∙ off) in
+      if_false (c == actor b moves i) (with_value_at ((rows_in b moves i).past c c) ((rows_in b moves i).past c) (clocks_at b moves i c)) (clocks_at b moves i c) (eqb_back c (actor b moves i) ∙ off) in
       let same : events_upto b moves c i ++ act_in moves c i ≡ events_upto b moves c i = ap (λ (zs : List EventId). events_upto b moves c i ++ zs) none ∙ append_none (events_upto b moves c i) in
       record {
         count = ap length same ∙ k ∙ sym r;
@@ -170,9 +170,9 @@ go_told b moves c i xs w = elim (cases_Bool (goes_in b moves i c)) [
       let n = count_go b moves i c y in
       let r : (x : ℕ) → (rows_at b moves (suc i)).past c x ≡ row (course_of b moves) (event i c true) x = λ x. closed_goer (course_of b moves) i (rows_in b moves i) c x y in
       let more = phase_add b moves c xs (clocks_in b moves i (clocks_at b moves i c) c) (suc i) (event i c true) w.phase refl y (omega arith) (sym (r c) ∙ n ∙ ap suc (sym k)) in
-      let log : placed (suc (length xs)) (row (course_of b moves) (event i c true)) (clocks_in b moves i (clocks_at b moves i c) c) ≡ clocks_at b moves (suc i) c =
-      ap₂ (λ (m : ℕ) (f : Clock). placed m f (clocks_in b moves i (clocks_at b moves i c) c)) (ap suc k ∙ sym n) (fun_ext λ x. sym (r x))
-      ∙ sym (if_true (goes_in b moves i c) (placed ((rows_at b moves (suc i)).past c c) ((rows_at b moves (suc i)).past c) (clocks_in b moves i (clocks_at b moves i c) c)) (clocks_in b moves i (clocks_at b moves i c) c) y) in (
+      let log : with_value_at (suc (length xs)) (row (course_of b moves) (event i c true)) (clocks_in b moves i (clocks_at b moves i c) c) ≡ clocks_at b moves (suc i) c =
+      ap₂ (λ (m : ℕ) (f : Clock). with_value_at m f (clocks_in b moves i (clocks_at b moves i c) c)) (ap suc k ∙ sym n) (fun_ext λ x. sym (r x))
+      ∙ sym (if_true (goes_in b moves i c) (with_value_at ((rows_at b moves (suc i)).past c c) ((rows_at b moves (suc i)).past c) (clocks_in b moves i (clocks_at b moves i c) c)) (clocks_in b moves i (clocks_at b moves i c) c) y) in (
         ap (λ (zs : List EventId). length (xs ++ zs)) one ∙ length-append xs (event i c true ∷ []) ∙ omega (arith, k, n),
         subst (λ (zs : List EventId). Phase b moves c (xs ++ zs) (clocks_at b moves (suc i) c) (suc i)) (sym one) (subst (λ (f : ℕ → Clock). Phase b moves c (xs ++ event i c true ∷ []) f (suc i)) log more),
       )
@@ -180,7 +180,7 @@ go_told b moves c i xs w = elim (cases_Bool (goes_in b moves i c)) [
       let none : going_in b moves c i ≡ [] = if_false (among (channels_in (goings_at b moves i)) c) (event i c true ∷ []) [] (goes b moves i c ∙ off) in
       let r = closed_other (course_of b moves) i (rows_in b moves i) c c off in
       let log : clocks_at b moves (suc i) c ≡ clocks_in b moves i (clocks_at b moves i c) c =
-      if_false (goes_in b moves i c) (placed ((rows_at b moves (suc i)).past c c) ((rows_at b moves (suc i)).past c) (clocks_in b moves i (clocks_at b moves i c) c)) (clocks_in b moves i (clocks_at b moves i c) c) off in
+      if_false (goes_in b moves i c) (with_value_at ((rows_at b moves (suc i)).past c c) ((rows_at b moves (suc i)).past c) (clocks_in b moves i (clocks_at b moves i c) c)) (clocks_in b moves i (clocks_at b moves i c) c) off in
       let same : xs ++ going_in b moves c i ≡ xs = ap (λ (zs : List EventId). xs ++ zs) none ∙ append_none xs in (
         ap length same ∙ w.count ∙ sym r,
         subst (λ (zs : List EventId). Phase b moves c zs (clocks_at b moves (suc i) c) (suc i)) (sym same) (subst (λ (f : ℕ → Clock). Phase b moves c xs f (suc i)) (sym log) w.phase),

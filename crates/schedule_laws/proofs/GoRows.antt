@@ -11,7 +11,7 @@ use Rattle.order_clocks.specs.CourseOf.{course_of}
 use Rattle.order_clocks.specs.Happenings.{Key, Raised, Freed, Started, Ended, happening_at, going_of, rests_in, rests_on}
 use Rattle.order_clocks.proofs.CounterLaws.{is_in, contains_from, member, member_parts, go_elsewhere, top_above}
 use Rattle.order_clocks.proofs.MemberLaws.{in_map, map_in}
-use Rattle.board_laws.specs.Machine.{Need, Mark, End, Axis, Call, Seat, In, Called, Own, State, Effect, same, holds, asks, is_at, is_ended, mine, met, ready_at, ready, heard, go_clock, taking, touched, settle_own, effect}
+use Rattle.board_laws.specs.Machine.{Need, Mark, End, Axis, Call, Seat, In, Called, Own, State, Effect, same, holds, asks, is_at, is_ended, mine, is_met, ready_at, ready, heard, go_clock, axes_taken, own_after_call, settle_own, effect}
 use Rattle.board_laws.specs.Clean.{Inv}
 use Rattle.board_laws.proofs.Basics.{no, same_true, asks_holds, off_from, ready_met, ready_holds, mark_at, at_needs, clock_own, clock_under, clock_past, clock_heard, heard_mark, heard_partner, heard_axis, heard_own_axis, heard_end, heard_call, heard_under, called_self}
 use Rattle.board_laws.proofs.Parts.{settle_goes, gone_count, put_same, put_other, touched_seat}
@@ -41,15 +41,15 @@ calls_actor b moves i w c r on = elim (cases_Bool (c == w.p)) [
       ∙ (act_is (tracked b moves i) w.p w.step).uncalled r)
   | inr n ↦
       let e : Effect = effect (tracked b moves i) w.p w.step in
-      let on' : asks (touched e w.p c (own_at b moves i c)).seat (Call r) ≡ true = ap (λ (o : Own). asks o.seat (Call r)) (sym (put_other (tracked b moves i) w.p e c n)) ∙ on in
+      let on' : asks (own_after_call e w.p c (own_at b moves i c)).seat (Call r) ≡ true = ap (λ (o : Own). asks o.seat (Call r)) (sym (put_other (tracked b moves i) w.p e c n)) ∙ on in
       elim (touched_seat e w.p c (own_at b moves i c)) [
         | inl s ↦ no (ap (λ (z : Seat). asks z (Call r)) (sym s) ∙ on') (w.uncalled c r)
         | inr s ↦ called_only w.p r (ap (λ (z : Seat). asks z (Call r)) (sym s.1) ∙ on')
       ]
 ]
 
-ended_met : (t : State) (c d : ℕ) → met t c (End d) ≡ true → is_ended (t.own d).seat ≡ true
-unfolding met
+ended_met : (t : State) (c d : ℕ) → is_met t c (End d) ≡ true → is_ended (t.own d).seat ≡ true
+unfolding is_met
 ended_met t c d m = m
 
 asks_mark : (k : ℕ) (named : List ℕ) (line d : ℕ) → IsIn d named → asks (In (IsHolding (AtMarks k named) line)) (Mark d k) ≡ true
@@ -102,8 +102,8 @@ called_need : (p : ℕ) (m : Need) → asks (Called p) m ≡ true → m ≡ Call
 unfolding asks
 called_need p m on = elim (or_cases (same m (Call p)) false on) [ inl here ↦ same_true m (Call p) here | inr never ↦ absurd (true≢false (sym never)) ]
 
-taking_from : (t : State) (c : ℕ) (s : Seat) (x : ℕ) → asks s (Axis x) ≡ true → mine t c x ≡ false → taking t c s x ≡ true
-unfolding taking
+taking_from : (t : State) (c : ℕ) (s : Seat) (x : ℕ) → asks s (Axis x) ≡ true → mine t c x ≡ false → axes_taken t c s x ≡ true
+unfolding axes_taken
 taking_from t c s x on off = rw (on, off) refl
 
 -- a channel that goes on, and its keys
@@ -112,7 +112,7 @@ pub record Goer {b : Board} {moves : List Move} {i : ℕ} (w : Here b moves i) (
   pub found : going_of (happening_at b moves i).goings c ≡ Some going
   pub channel : going.channel ≡ c
   pub from : going.from ≡ from_of ((mid w).own c).seat
-  pub took : (x : ℕ) → among going.took x ≡ taking (mid w) c ((mid w).own c).seat x
+  pub took : (x : ℕ) → among going.took x ≡ axes_taken (mid w) c ((mid w).own c).seat x
   pub goes : ready (mid w) c ≡ true
 
 pub goer : (b : Board) (moves : List Move) (i : ℕ) (w : Here b moves i) (c : ℕ) → goes_in b moves i c ≡ true → Goer w c
@@ -125,12 +125,12 @@ goer b moves i w c on =
       found = g.1;
       channel = f.1;
       from = z.from ∙ ap (λ (d : ℕ). from_of ((mid w).own d).seat) f.1;
-      took = λ x. z.took x ∙ ap (λ (d : ℕ). taking (mid w) d ((mid w).own d).seat x) f.1;
+      took = λ x. z.took x ∙ ap (λ (d : ℕ). axes_taken (mid w) d ((mid w).own d).seat x) f.1;
       goes = ap (λ (d : ℕ). ready (mid w) d) (sym f.1) ∙ z.goes;
     }
 
-pub taking_parts : (t : State) (c : ℕ) (s : Seat) (x : ℕ) → taking t c s x ≡ true → (asks s (Axis x) ≡ true) × (mine t c x ≡ false)
-unfolding taking
+pub taking_parts : (t : State) (c : ℕ) (s : Seat) (x : ℕ) → axes_taken t c s x ≡ true → (asks s (Axis x) ≡ true) × (mine t c x ≡ false)
+unfolding axes_taken
 taking_parts t c s x on = let p = and_parts (asks s (Axis x)) (not (mine t c x)) on in (p.0, off_from (mine t c x) p.1)
 
 -- each key on which it rests is a need, and has its value
@@ -146,7 +146,7 @@ key_value b moves i w held c g (In (IsHolding (AtEnds named) line)) e x k on =
     (End r.0, (asked, ap (λ (z : Key). (rows_in b moves i).last z x) r.1.1 ∙ held.ended r.0 x ended))
 key_value b moves i w held c g (In (IsHolding (AtAxes axes) line)) e x k on =
     let r = map_in Freed k g.going.took on in
-    let took : taking (mid w) c ((mid w).own c).seat r.0 ≡ true = sym (g.took r.0) ∙ contains_from g.going.took r.0 r.1.0 in
+    let took : axes_taken (mid w) c ((mid w).own c).seat r.0 ≡ true = sym (g.took r.0) ∙ contains_from g.going.took r.0 r.1.0 in
     let p = taking_parts (mid w) c ((mid w).own c).seat r.0 took in
     (Axis r.0, (ap (λ (z : Seat). asks z (Axis r.0)) (sym e) ∙ p.0, ap (λ (z : Key). (rows_in b moves i).last z x) r.1.1 ∙ sym (freed_in b moves i w r.0 x) ∙ sym (ap (λ (t : Bool). if t then 0 else ((mid w).axis r.0).freed x) p.1)))
 key_value b moves i w held c g (Called p) e x k on = elim on [

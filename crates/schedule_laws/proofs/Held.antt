@@ -12,7 +12,7 @@ use Rattle.order_clocks.specs.Happenings.{Happening, Raised, Freed, Ended, Trace
 use Rattle.order_clocks.specs.CourseOf.{course_of}
 use Rattle.order_clocks.proofs.CounterLaws.{opened_actor, opened_other, opened_given, opened_kept, closed_other, closed_last}
 use Rattle.order_clocks.proofs.WholeLaws.{board_zero}
-use Rattle.board_laws.specs.Machine.{Call, Seat, In, Called, Own, State, Effect, Clock, asks, is_at, is_ended, ready, shown, board_of, touches, acted, effect}
+use Rattle.board_laws.specs.Machine.{Call, Seat, In, Called, Own, State, Effect, Clock, asks, is_at, is_ended, ready, doing_of, board_of, touches, own_after_act, effect}
 use Rattle.board_laws.specs.Clean.{IsAct, MarkChange, Stays, Raises, Lowers, Inv, Rests}
 use Rattle.board_laws.proofs.Basics.{no, in_no_call}
 use Rattle.board_laws.proofs.Parts.{put_same, put_other, touched_kept, touched_at, touched_ended}
@@ -100,7 +100,7 @@ abbrev goings_of : {b : Board} {moves : List Move} {i : ℕ} → Here b moves i 
 goings_of {b} {moves} {i} w = goings_on (board_of (mid w)) (starts w)
 
 effect_seat : (t : State) (p : ℕ) (step : Step) → (effect t p step).own.seat ≡ In ((after_own_part (board_of t) p step).state p)
-unfolding effect acted
+unfolding effect own_after_act
 effect_seat t p step = refl
 
 own_seat_in : {b : Board} {moves : List Move} {i : ℕ} (w : Here b moves i) → ((mid w).own w.p).seat ≡ In (after_part_state w)
@@ -138,7 +138,7 @@ held_in b moves i w held =
     }
 
 -- who does not go on does as within the step
-pub kept_told : (b : Board) (moves : List Move) (i : ℕ) (w : Here b moves i) (c : ℕ) → goes_in b moves i c ≡ false → (board_at b moves (suc i)).state c ≡ shown (mid w) c ((mid w).own c).seat
+pub kept_told : (b : Board) (moves : List Move) (i : ℕ) (w : Here b moves i) (c : ℕ) → goes_in b moves i c ≡ false → (board_at b moves (suc i)).state c ≡ doing_of (mid w) c ((mid w).own c).seat
 kept_told b moves i w c out =
     ap (λ (a : Board). a.state c) (after_told b moves i w)
     ∙ kept_state (mid w) (starts w) c w.parts.zones (ap (λ (gs : List Going). among (channels_in gs) c) (sym (goings_told b moves i w)) ∙ out)
@@ -151,11 +151,11 @@ runs_told b moves i w c on =
     ap (λ (a : Board). boards.is_running (a.state c)) (after_told b moves i w) ∙ ap (λ (d : ℕ). boards.is_running ((after_goings (board_of (mid w))).state d)) (sym g.1.1)
     ∙ gone_runs (mid w) (starts w) g.0 w.parts.zones w.parts.called g.1.0
 
-at_shown : (t : State) (c k : ℕ) (s : Seat) → is_at (In (shown t c s)) k ≡ is_at s k
+at_shown : (t : State) (c k : ℕ) (s : Seat) → is_at (In (doing_of t c s)) k ≡ is_at s k
 at_shown t c k (In state) = refl
 at_shown t c k (Called p) = refl
 
-ended_shown : (t : State) (c : ℕ) (s : Seat) → is_ended (In (shown t c s)) ≡ is_ended s
+ended_shown : (t : State) (c : ℕ) (s : Seat) → is_ended (In (doing_of t c s)) ≡ is_ended s
 ended_shown t c (In state) = refl
 ended_shown t c (Called p) = refl
 

@@ -11,7 +11,7 @@ use Rattle.order_clocks.specs.Counters.{row}
 use Rattle.order_clocks.specs.CourseOf.{course_of}
 use Rattle.order_clocks.proofs.CounterLaws.{opened_other, closed_other, before_from, before_to}
 use Rattle.order_clocks.proofs.OrderLaws.{one_in, one_from, order_in, order_from}
-use Rattle.board_laws.specs.Machine.{State, Clock, placed}
+use Rattle.board_laws.specs.Machine.{State, Clock, with_value_at}
 use Rattle.schedule_laws.specs.EventPlaces.{event_in, events_upto}
 use Rattle.schedule_laws.specs.Swaps.{HasNoRaceAt}
 use Rattle.schedule_laws.specs.Tracked.{rows_at, rows_in, actor, goes_in, clocks_in, clocks_at, own_at, tracked}
@@ -67,7 +67,7 @@ quiet_are_clean start moves sound run =
 
 -- the clock of a channel's last event
 abbrev chosen_at : ℕ → Clock → (ℕ → Clock) → ℕ → ℕ
-chosen_at n f old x = placed n f old n x
+chosen_at n f old x = with_value_at n f old n x
 
 placed_there : (n : ℕ) (f : Clock) (old : ℕ → Clock) (x : ℕ) → chosen_at n f old x ≡ f x
 placed_there n f old x = ap (λ (t : Bool). (if t then f else old n) x) (eq-eqb n n refl)
@@ -76,11 +76,11 @@ last_in : (b : Board) (moves : List Move) (i c x : ℕ) → ((y : ℕ) → clock
     → clocks_in b moves i (clocks_at b moves i c) c ((rows_in b moves i).past c c) x ≡ (rows_in b moves i).past c x
 last_in b moves i c x old = elim (cases_Bool (c == actor b moves i)) [
   | inl y ↦
-      ap (λ (f : ℕ → Clock). f ((rows_in b moves i).past c c) x) (if_true (c == actor b moves i) (placed ((rows_in b moves i).past c c) ((rows_in b moves i).past c) (clocks_at b moves i c)) (clocks_at b moves i c) y)
+      ap (λ (f : ℕ → Clock). f ((rows_in b moves i).past c c) x) (if_true (c == actor b moves i) (with_value_at ((rows_in b moves i).past c c) ((rows_in b moves i).past c) (clocks_at b moves i c)) (clocks_at b moves i c) y)
       ∙ placed_there ((rows_in b moves i).past c c) ((rows_in b moves i).past c) (clocks_at b moves i c) x
   | inr n ↦
       let same : (z : ℕ) → (rows_in b moves i).past c z ≡ (rows_at b moves i).past c z = λ z. opened_other (course_of b moves) i (rows_at b moves i) c z n in
-      ap (λ (f : ℕ → Clock). f ((rows_in b moves i).past c c) x) (if_false (c == actor b moves i) (placed ((rows_in b moves i).past c c) ((rows_in b moves i).past c) (clocks_at b moves i c)) (clocks_at b moves i c) n)
+      ap (λ (f : ℕ → Clock). f ((rows_in b moves i).past c c) x) (if_false (c == actor b moves i) (with_value_at ((rows_in b moves i).past c c) ((rows_in b moves i).past c) (clocks_at b moves i c)) (clocks_at b moves i c) n)
       ∙ ap (λ (j : ℕ). clocks_at b moves i c j x) (same c) ∙ old x ∙ sym (same x)
 ]
 
@@ -91,11 +91,11 @@ last_clock b moves (suc i) c x =
     let there : ℕ = (rows_at b moves (suc i)).past c c in
     elim (cases_Bool (goes_in b moves i c)) [
       | inl y ↦
-          ap (λ (f : ℕ → Clock). f there x) (if_true (goes_in b moves i c) (placed there ((rows_at b moves (suc i)).past c) inner) inner y)
+          ap (λ (f : ℕ → Clock). f there x) (if_true (goes_in b moves i c) (with_value_at there ((rows_at b moves (suc i)).past c) inner) inner y)
           ∙ placed_there there ((rows_at b moves (suc i)).past c) inner x
       | inr n ↦
           let same : (z : ℕ) → (rows_at b moves (suc i)).past c z ≡ (rows_in b moves i).past c z = λ z. closed_other (course_of b moves) i (rows_in b moves i) c z n in
-          ap (λ (f : ℕ → Clock). f there x) (if_false (goes_in b moves i c) (placed there ((rows_at b moves (suc i)).past c) inner) inner n)
+          ap (λ (f : ℕ → Clock). f there x) (if_false (goes_in b moves i c) (with_value_at there ((rows_at b moves (suc i)).past c) inner) inner n)
           ∙ ap (λ (j : ℕ). inner j x) (same c) ∙ last_in b moves i c x (λ y. last_clock b moves i c y) ∙ sym (same x)
     ]
 

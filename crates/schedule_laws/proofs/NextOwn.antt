@@ -12,7 +12,7 @@ use Rattle.sync_types.specs.declared.Grant.{Grant}
 use Rattle.order_clocks.specs.CourseOf.{course_of}
 use Rattle.order_clocks.specs.Happenings.{Trace, Lowered, Needed, Took, Touched, Raised, board_at, happening_at, going_of, of_going, going_leaves}
 use Rattle.order_clocks.proofs.CounterLaws.{closed_last}
-use Rattle.board_laws.specs.Machine.{Need, Mark, Axis, Call, Seat, In, Called, Own, Cell, State, Effect, Clock, Span, Tenure, Place, asks, is_at, is_free, mine, ready, ready_at, taking, takes, taker, granted, gone, placed, span_of, handed, span_now, next_event, given, settle_own, settle_axis, settle, touched, released, put, put_own, put_axis, put_on, shown, board_of, touches, act_clock, acted, effect, turn_by, go_clock}
+use Rattle.board_laws.specs.Machine.{Need, Mark, Axis, Call, Seat, In, Called, Own, Cell, State, Effect, Clock, Span, Tenure, Place, asks, is_at, is_free, mine, ready, ready_at, axes_taken, takes, taker, grant_at_go, own_after_go, with_value_at, span_of, tenures_handed_on, span_now, next_event, cell_after_taking, settle_own, settle_axis, settle, own_after_call, cell_after_release, with_effect, put_own, put_axis, put_on, doing_of, board_of, touches, act_clock, own_after_act, effect, turn_by, go_clock}
 use Rattle.board_laws.specs.Machine as machine
 use Rattle.board_laws.proofs.Basics.{no, running_ready}
 use Rattle.board_laws.proofs.Parts.{settle_goes, settle_stays, gone_seat, gone_count, gone_past, gone_raised, gone_started, touched_seat, touched_awake}
@@ -36,8 +36,8 @@ leaves_some b moves i q c t test old on e m =
     ∙ picked test ((rows_at b moves (suc i)).past c c) (place_mid b moves i c t) (suc ((mid q.here).own c).count) old (count_goes b moves i q c on) m
 
 -- fields of one that goes on
-pub gone_fields : (o : Own) (clock : Clock) (taken : ℕ → Bool) (grant : Grant) → ((machine.gone_of o clock taken grant).log ≡ placed (suc o.count) clock o.log) × ((machine.gone_of o clock taken grant).grants ≡ o.grants ++ grant ∷ [])
-    × ((machine.gone_of o clock taken grant).spans ≡ placed (suc o.count) (span_of (IsRunning grant) (o.grants ++ grant ∷ [])) o.spans)
+pub gone_fields : (o : Own) (clock : Clock) (taken : ℕ → Bool) (grant : Grant) → ((machine.gone_of o clock taken grant).log ≡ with_value_at (suc o.count) clock o.log) × ((machine.gone_of o clock taken grant).grants ≡ o.grants ++ grant ∷ [])
+    × ((machine.gone_of o clock taken grant).spans ≡ with_value_at (suc o.count) (span_of (IsRunning grant) (o.grants ++ grant ∷ [])) o.spans)
 unfolding machine.gone_of
 gone_fields o clock taken grant = (refl, refl, refl)
 
@@ -51,7 +51,7 @@ lowered_next b moves i q c k = elim (cases_Bool (ready (mid q.here) c)) [
   | inl r ↦
       let on = goes_all b moves i q c ∙ r in
       leaves_some b moves i q c (Lowered c k) (is_at ((mid q.here).own c).seat k) (((mid q.here).own c).lowered k) on (going_lowers b moves i q.here c k (goer b moves i q.here c on)) (lowered_mid b moves i q.here c k)
-      ∙ sym (ap (λ (o : Own). o.lowered k) (settle_goes (mid q.here) c r) ∙ (gone_places ((mid q.here).own c) (go_clock (mid q.here) c) (taking (mid q.here) c ((mid q.here).own c).seat) (granted (mid q.here) c ((mid q.here).own c)) k 0 0).0)
+      ∙ sym (ap (λ (o : Own). o.lowered k) (settle_goes (mid q.here) c r) ∙ (gone_places ((mid q.here).own c) (go_clock (mid q.here) c) (axes_taken (mid q.here) c ((mid q.here).own c).seat) (grant_at_go (mid q.here) c ((mid q.here).own c)) k 0 0).0)
   | inr s ↦ leaves_none b moves i c (Lowered c k) (goes_all b moves i q c ∙ s) ∙ lowered_mid b moves i q.here c k ∙ sym (ap (λ (o : Own). o.lowered k) (settle_stays (mid q.here) c s))
 ]
 
@@ -63,7 +63,7 @@ needs_next b moves i q c d k = elim (cases_Bool (ready (mid q.here) c)) [
       let leaves : of_going (going_of (happening_at b moves i).goings c) (λ g. going_leaves g (Needed d k)) ≡ asks ((mid q.here).own c).seat (Mark d k) =
       ap (λ (o : Option Going). of_going o (λ g. going_leaves g (Needed d k))) g.found ∙ ap (λ (s : Doing). names_at s k d) g.from ∙ names_told ((mid q.here).own c).seat k d in
       leaves_some b moves i q c (Needed d k) (asks ((mid q.here).own c).seat (Mark d k)) (((mid q.here).own c).needs d k) on leaves (needs_mid b moves i q.here c d k)
-      ∙ sym (ap (λ (o : Own). o.needs d k) (settle_goes (mid q.here) c r) ∙ (gone_places ((mid q.here).own c) (go_clock (mid q.here) c) (taking (mid q.here) c ((mid q.here).own c).seat) (granted (mid q.here) c ((mid q.here).own c)) k d 0).1)
+      ∙ sym (ap (λ (o : Own). o.needs d k) (settle_goes (mid q.here) c r) ∙ (gone_places ((mid q.here).own c) (go_clock (mid q.here) c) (axes_taken (mid q.here) c ((mid q.here).own c).seat) (grant_at_go (mid q.here) c ((mid q.here).own c)) k d 0).1)
   | inr s ↦ leaves_none b moves i c (Needed d k) (goes_all b moves i q c ∙ s) ∙ needs_mid b moves i q.here c d k ∙ sym (ap (λ (o : Own). o.needs d k) (settle_stays (mid q.here) c s))
 ]
 
@@ -72,10 +72,10 @@ took_next b moves i q c x = elim (cases_Bool (ready (mid q.here) c)) [
   | inl r ↦
       let on = goes_all b moves i q c ∙ r in
       let g = goer b moves i q.here c on in
-      let leaves : of_going (going_of (happening_at b moves i).goings c) (λ g. going_leaves g (Took x)) ≡ taking (mid q.here) c ((mid q.here).own c).seat x =
+      let leaves : of_going (going_of (happening_at b moves i).goings c) (λ g. going_leaves g (Took x)) ≡ axes_taken (mid q.here) c ((mid q.here).own c).seat x =
       ap (λ (o : Option Going). of_going o (λ g. going_leaves g (Took x))) g.found ∙ g.took x in
-      leaves_some b moves i q c (Took x) (taking (mid q.here) c ((mid q.here).own c).seat x) (((mid q.here).own c).took x) on leaves (took_mid b moves i q.here c x)
-      ∙ sym (ap (λ (o : Own). o.took x) (settle_goes (mid q.here) c r) ∙ (gone_places ((mid q.here).own c) (go_clock (mid q.here) c) (taking (mid q.here) c ((mid q.here).own c).seat) (granted (mid q.here) c ((mid q.here).own c)) 0 0 x).2)
+      leaves_some b moves i q c (Took x) (axes_taken (mid q.here) c ((mid q.here).own c).seat x) (((mid q.here).own c).took x) on leaves (took_mid b moves i q.here c x)
+      ∙ sym (ap (λ (o : Own). o.took x) (settle_goes (mid q.here) c r) ∙ (gone_places ((mid q.here).own c) (go_clock (mid q.here) c) (axes_taken (mid q.here) c ((mid q.here).own c).seat) (grant_at_go (mid q.here) c ((mid q.here).own c)) 0 0 x).2)
   | inr s ↦ leaves_none b moves i c (Took x) (goes_all b moves i q c ∙ s) ∙ took_mid b moves i q.here c x ∙ sym (ap (λ (o : Own). o.took x) (settle_stays (mid q.here) c s))
 ]
 
@@ -112,13 +112,13 @@ pub log_next : (b : Board) (moves : List Move) (i : ℕ) (q : Tidy b moves i) (c
 log_next b moves i q c = elim (cases_Bool (ready (mid q.here) c)) [
   | inl r ↦
       let on = goes_all b moves i q c ∙ r in
-      if_true (goes_in b moves i c) (placed ((rows_at b moves (suc i)).past c c) ((rows_at b moves (suc i)).past c) (clocks_in b moves i (clocks_at b moves i c) c)) (clocks_in b moves i (clocks_at b moves i c) c) on
-      ∙ ap (λ (n : ℕ). placed n ((rows_at b moves (suc i)).past c) (clocks_in b moves i (clocks_at b moves i c) c)) (count_goes b moves i q c on)
-      ∙ ap (λ (f : Clock). placed (suc ((mid q.here).own c).count) f (clocks_in b moves i (clocks_at b moves i c) c)) (fun_ext λ x. past_goes b moves i q c x on)
-      ∙ ap (λ (old : ℕ → Clock). placed (suc ((mid q.here).own c).count) (go_clock (mid q.here) c) old) (clocks_mid b moves i q.here c)
-      ∙ sym (ap (λ (o : Own). o.log) (settle_goes (mid q.here) c r) ∙ (gone_fields ((mid q.here).own c) (go_clock (mid q.here) c) (taking (mid q.here) c ((mid q.here).own c).seat) (granted (mid q.here) c ((mid q.here).own c))).0)
+      if_true (goes_in b moves i c) (with_value_at ((rows_at b moves (suc i)).past c c) ((rows_at b moves (suc i)).past c) (clocks_in b moves i (clocks_at b moves i c) c)) (clocks_in b moves i (clocks_at b moves i c) c) on
+      ∙ ap (λ (n : ℕ). with_value_at n ((rows_at b moves (suc i)).past c) (clocks_in b moves i (clocks_at b moves i c) c)) (count_goes b moves i q c on)
+      ∙ ap (λ (f : Clock). with_value_at (suc ((mid q.here).own c).count) f (clocks_in b moves i (clocks_at b moves i c) c)) (fun_ext λ x. past_goes b moves i q c x on)
+      ∙ ap (λ (old : ℕ → Clock). with_value_at (suc ((mid q.here).own c).count) (go_clock (mid q.here) c) old) (clocks_mid b moves i q.here c)
+      ∙ sym (ap (λ (o : Own). o.log) (settle_goes (mid q.here) c r) ∙ (gone_fields ((mid q.here).own c) (go_clock (mid q.here) c) (axes_taken (mid q.here) c ((mid q.here).own c).seat) (grant_at_go (mid q.here) c ((mid q.here).own c))).0)
   | inr s ↦
-      if_false (goes_in b moves i c) (placed ((rows_at b moves (suc i)).past c c) ((rows_at b moves (suc i)).past c) (clocks_in b moves i (clocks_at b moves i c) c)) (clocks_in b moves i (clocks_at b moves i c) c) (goes_all b moves i q c ∙ s)
+      if_false (goes_in b moves i c) (with_value_at ((rows_at b moves (suc i)).past c c) ((rows_at b moves (suc i)).past c) (clocks_in b moves i (clocks_at b moves i c) c)) (clocks_in b moves i (clocks_at b moves i c) c) (goes_all b moves i q c ∙ s)
       ∙ clocks_mid b moves i q.here c ∙ sym (ap (λ (o : Own). o.log) (settle_stays (mid q.here) c s))
 ]
 
@@ -148,11 +148,11 @@ in_one {s} {r} e = ap (λ (z : Seat). out_of z) e
     out_of (In state) = state
     out_of (Called p) = s
 
-pub acted_seat : (p : ℕ) (o : Own) (marks : ℕ → Bool) (state : Doing) (names : ℕ → Bool) → (acted p o marks state names).seat ≡ In state
-unfolding acted
+pub acted_seat : (p : ℕ) (o : Own) (marks : ℕ → Bool) (state : Doing) (names : ℕ → Bool) → (own_after_act p o marks state names).seat ≡ In state
+unfolding own_after_act
 acted_seat p o marks state names = refl
 
-pub state_goes : (b : Board) (moves : List Move) (i : ℕ) (q : Tidy b moves i) (c : ℕ) → ready (mid q.here) c ≡ true → (board_at b moves (suc i)).state c ≡ IsRunning (granted (mid q.here) c ((mid q.here).own c))
+pub state_goes : (b : Board) (moves : List Move) (i : ℕ) (q : Tidy b moves i) (c : ℕ) → ready (mid q.here) c ≡ true → (board_at b moves (suc i)).state c ≡ IsRunning (grant_at_go (mid q.here) c ((mid q.here).own c))
 state_goes b moves i q c r = in_one (seat_next b moves i q c ∙ ap (λ (o : Own). o.seat) (settle_goes (mid q.here) c r) ∙ gone_seat (mid q.here) c)
 
 pub state_stays : (b : Board) (moves : List Move) (i : ℕ) (q : Tidy b moves i) (c : ℕ) → ready (mid q.here) c ≡ false → In ((board_at b moves (suc i)).state c) ≡ ((mid q.here).own c).seat
@@ -182,7 +182,7 @@ grants_next b moves i q c = elim (cases_Bool (c == q.here.p)) [
         | inl r ↦
             let none : as_list (grant_in (part_state q.here c)) ≡ [] = holds_grant (mid q.here) c (part_state q.here c) (ap (λ (s : Seat). ready_at (mid q.here) c s) (sym (seat_actor b moves i q.here c y)) ∙ r) in
             ap₂ (λ (gs : List Grant) (s : Doing). gs ++ as_list (grant_in s)) (sym (append_none (grants_at b moves i c)) ∙ ap (λ (hs : List Grant). grants_at b moves i c ++ hs) (sym none) ∙ grants_mid b moves i q.here c y) (state_goes b moves i q c r)
-            ∙ sym (ap (λ (o : Own). o.grants) (settle_goes (mid q.here) c r) ∙ (gone_fields ((mid q.here).own c) (go_clock (mid q.here) c) (taking (mid q.here) c ((mid q.here).own c).seat) (granted (mid q.here) c ((mid q.here).own c))).1)
+            ∙ sym (ap (λ (o : Own). o.grants) (settle_goes (mid q.here) c r) ∙ (gone_fields ((mid q.here).own c) (go_clock (mid q.here) c) (axes_taken (mid q.here) c ((mid q.here).own c).seat) (grant_at_go (mid q.here) c ((mid q.here).own c))).1)
         | inr s ↦
             ap (λ (z : Doing). grants_at b moves i c ++ as_list (grant_in z)) (in_one (state_stays b moves i q c s ∙ seat_actor b moves i q.here c y)) ∙ grants_mid b moves i q.here c y ∙ sym (ap (λ (o : Own). o.grants) (settle_stays (mid q.here) c s))
       ]
@@ -198,7 +198,7 @@ grants_next b moves i q c = elim (cases_Bool (c == q.here.p)) [
         got gets ∙ elim (cases_Bool (ready (mid q.here) c)) [
           | inl r ↦
               ap₂ (λ (gs : List Grant) (s : Doing). gs ++ as_list (grant_in s)) (sym (grants_other b moves i q.here c n)) (state_goes b moves i q c r)
-              ∙ sym (ap (λ (o : Own). o.grants) (settle_goes (mid q.here) c r) ∙ (gone_fields ((mid q.here).own c) (go_clock (mid q.here) c) (taking (mid q.here) c ((mid q.here).own c).seat) (granted (mid q.here) c ((mid q.here).own c))).1)
+              ∙ sym (ap (λ (o : Own). o.grants) (settle_goes (mid q.here) c r) ∙ (gone_fields ((mid q.here).own c) (go_clock (mid q.here) c) (axes_taken (mid q.here) c ((mid q.here).own c).seat) (grant_at_go (mid q.here) c ((mid q.here).own c))).1)
           | inr s ↦
               let quiet = not_running b moves i q.here c ((board_at b moves (suc i)).state c) n off (sym (state_stays b moves i q c s)) in
               ap (λ (hs : List Grant). grants_at b moves i c ++ hs) (runs_grant ((board_at b moves (suc i)).state c) quiet) ∙ append_none (grants_at b moves i c)
@@ -223,14 +223,14 @@ pub spans_next : (b : Board) (moves : List Move) (i : ℕ) (q : Tidy b moves i) 
 spans_next b moves i q c = elim (cases_Bool (ready (mid q.here) c)) [
   | inl r ↦
       let on = goes_all b moves i q c ∙ r in
-      let grants : grants_at b moves (suc i) c ≡ ((mid q.here).own c).grants ++ granted (mid q.here) c ((mid q.here).own c) ∷ [] =
-      grants_next b moves i q c ∙ ap (λ (o : Own). o.grants) (settle_goes (mid q.here) c r) ∙ (gone_fields ((mid q.here).own c) (go_clock (mid q.here) c) (taking (mid q.here) c ((mid q.here).own c).seat) (granted (mid q.here) c ((mid q.here).own c))).1 in
-      if_true (goes_in b moves i c) (placed ((rows_at b moves (suc i)).past c c) (span_of ((board_at b moves (suc i)).state c) (grants_at b moves (suc i) c)) (spans_in b moves i (spans_at b moves i c) c)) (spans_in b moves i (spans_at b moves i c) c) on
-      ∙ ap (λ (n : ℕ). placed n (span_of ((board_at b moves (suc i)).state c) (grants_at b moves (suc i) c)) (spans_in b moves i (spans_at b moves i c) c)) (count_goes b moves i q c on)
-      ∙ ap₂ (λ (s : Doing) (gs : List Grant). placed (suc ((mid q.here).own c).count) (span_of s gs) (spans_in b moves i (spans_at b moves i c) c)) (state_goes b moves i q c r) grants
-      ∙ ap (λ (old : ℕ → Span). placed (suc ((mid q.here).own c).count) (span_of (IsRunning (granted (mid q.here) c ((mid q.here).own c))) (((mid q.here).own c).grants ++ granted (mid q.here) c ((mid q.here).own c) ∷ [])) old) (spans_mid b moves i q.here c)
-      ∙ sym (ap (λ (o : Own). o.spans) (settle_goes (mid q.here) c r) ∙ (gone_fields ((mid q.here).own c) (go_clock (mid q.here) c) (taking (mid q.here) c ((mid q.here).own c).seat) (granted (mid q.here) c ((mid q.here).own c))).2)
+      let grants : grants_at b moves (suc i) c ≡ ((mid q.here).own c).grants ++ grant_at_go (mid q.here) c ((mid q.here).own c) ∷ [] =
+      grants_next b moves i q c ∙ ap (λ (o : Own). o.grants) (settle_goes (mid q.here) c r) ∙ (gone_fields ((mid q.here).own c) (go_clock (mid q.here) c) (axes_taken (mid q.here) c ((mid q.here).own c).seat) (grant_at_go (mid q.here) c ((mid q.here).own c))).1 in
+      if_true (goes_in b moves i c) (with_value_at ((rows_at b moves (suc i)).past c c) (span_of ((board_at b moves (suc i)).state c) (grants_at b moves (suc i) c)) (spans_in b moves i (spans_at b moves i c) c)) (spans_in b moves i (spans_at b moves i c) c) on
+      ∙ ap (λ (n : ℕ). with_value_at n (span_of ((board_at b moves (suc i)).state c) (grants_at b moves (suc i) c)) (spans_in b moves i (spans_at b moves i c) c)) (count_goes b moves i q c on)
+      ∙ ap₂ (λ (s : Doing) (gs : List Grant). with_value_at (suc ((mid q.here).own c).count) (span_of s gs) (spans_in b moves i (spans_at b moves i c) c)) (state_goes b moves i q c r) grants
+      ∙ ap (λ (old : ℕ → Span). with_value_at (suc ((mid q.here).own c).count) (span_of (IsRunning (grant_at_go (mid q.here) c ((mid q.here).own c))) (((mid q.here).own c).grants ++ grant_at_go (mid q.here) c ((mid q.here).own c) ∷ [])) old) (spans_mid b moves i q.here c)
+      ∙ sym (ap (λ (o : Own). o.spans) (settle_goes (mid q.here) c r) ∙ (gone_fields ((mid q.here).own c) (go_clock (mid q.here) c) (axes_taken (mid q.here) c ((mid q.here).own c).seat) (grant_at_go (mid q.here) c ((mid q.here).own c))).2)
   | inr s ↦
-      if_false (goes_in b moves i c) (placed ((rows_at b moves (suc i)).past c c) (span_of ((board_at b moves (suc i)).state c) (grants_at b moves (suc i) c)) (spans_in b moves i (spans_at b moves i c) c)) (spans_in b moves i (spans_at b moves i c) c) (goes_all b moves i q c ∙ s)
+      if_false (goes_in b moves i c) (with_value_at ((rows_at b moves (suc i)).past c c) (span_of ((board_at b moves (suc i)).state c) (grants_at b moves (suc i) c)) (spans_in b moves i (spans_at b moves i c) c)) (spans_in b moves i (spans_at b moves i c) c) (goes_all b moves i q c ∙ s)
       ∙ spans_mid b moves i q.here c ∙ sym (ap (λ (o : Own). o.spans) (settle_stays (mid q.here) c s))
 ]

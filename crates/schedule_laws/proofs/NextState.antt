@@ -10,7 +10,7 @@ use Rattle.sync_types.specs.declared.Grant.{Grant}
 use Rattle.order_clocks.specs.CourseOf.{course_of}
 use Rattle.order_clocks.specs.Happenings.{Freed, board_at, happening_at, of_going}
 use Rattle.order_clocks.proofs.CounterLaws.{closed_last}
-use Rattle.board_laws.specs.Machine.{Axis, Seat, Own, Cell, State, Effect, Clock, Span, Tenure, Place, asks, is_free, mine, ready, taking, takes, taker, handed, span_now, next_event, given, settle_own, settle_axis, released, effect, turn_by}
+use Rattle.board_laws.specs.Machine.{Axis, Seat, Own, Cell, State, Effect, Clock, Span, Tenure, Place, asks, is_free, mine, ready, axes_taken, takes, taker, tenures_handed_on, span_now, next_event, cell_after_taking, settle_own, settle_axis, cell_after_release, effect, turn_by}
 use Rattle.board_laws.proofs.Basics.{no}
 use Rattle.board_laws.proofs.Parts.{axis_kept, axis_freed, settle_axis_none, settle_axis_some, cases_first, first_is, takes_parts}
 use Rattle.board_laws.proofs.Absorb.{took_free}
@@ -96,12 +96,12 @@ cell_plain b moves i x = go ((board_at b moves i).axis x)
     go (OwnedBy c) = refl
     go (FreeAt p) = refl
 
-released_plain : (t : State) (p : ℕ) (e : Effect) (x : ℕ) → IsPlain (released t p e x)
-unfolding released
+released_plain : (t : State) (p : ℕ) (e : Effect) (x : ℕ) → IsPlain (cell_after_release t p e x)
+unfolding cell_after_release
 released_plain t p e x = refl
 
-given_plain : (t : State) (c : ℕ) (z : Cell) → IsPlain (given t (Some c) z)
-unfolding given
+given_plain : (t : State) (c : ℕ) (z : Cell) → IsPlain (cell_after_taking t (Some c) z)
+unfolding cell_after_taking
 given_plain t c z = refl
 
 mid_plain : (b : Board) (moves : List Move) (i : ℕ) (w : Here b moves i) (x : ℕ) → IsPlain ((mid w).axis x)
@@ -116,8 +116,8 @@ settle_plain b moves i w x = elim (cases_first (taker (mid w) x)) [
   | inr c ↦ subst (λ (z : Cell). IsPlain z) (sym (settle_axis_some (mid w) x c.0 c.1)) (given_plain (mid w) c.0 ((mid w).axis x))
 ]
 
-taking_is : (t : State) (c : ℕ) (s : Seat) (x : ℕ) → taking t c s x ≡ (asks s (Axis x) && not (mine t c x))
-unfolding taking
+taking_is : (t : State) (c : ℕ) (s : Seat) (x : ℕ) → axes_taken t c s x ≡ (asks s (Axis x) && not (mine t c x))
+unfolding axes_taken
 taking_is t c s x = refl
 
 -- who takes an axis
@@ -135,16 +135,16 @@ takes_told b moves i q x c = elim (cases_Bool (ready (mid q.here) c)) [
 taker_told : (b : Board) (moves : List Move) (i : ℕ) (q : Tidy b moves i) (x : ℕ) → first_of (filter (takes_in b moves i x) channel_numbers) ≡ taker (mid q.here) x
 taker_told b moves i q x = ap (λ (f : ℕ → Bool). first_of (filter f channel_numbers)) (fun_ext λ c. takes_told b moves i q x c)
 
-given_tenures : (t : State) (c : ℕ) (z : Cell) → (given t (Some c) z).tenures ≡ handed (Some c) (span_now t z.owner) (next_event t c) z.tenures
-unfolding given
+given_tenures : (t : State) (c : ℕ) (z : Cell) → (cell_after_taking t (Some c) z).tenures ≡ tenures_handed_on (Some c) (span_now t z.owner) (next_event t c) z.tenures
+unfolding cell_after_taking
 given_tenures t c z = refl
 
-given_clock : (t : State) (c : ℕ) (z : Cell) → (given t (Some c) z).freed ≡ z.freed
-unfolding given
+given_clock : (t : State) (c : ℕ) (z : Cell) → (cell_after_taking t (Some c) z).freed ≡ z.freed
+unfolding cell_after_taking
 given_clock t c z = refl
 
-released_tenures : (t : State) (p : ℕ) (e : Effect) (x : ℕ) → (released t p e x).tenures ≡ handed None (t.own p).count (next_event t p) (t.axis x).tenures
-unfolding released
+released_tenures : (t : State) (p : ℕ) (e : Effect) (x : ℕ) → (cell_after_release t p e x).tenures ≡ tenures_handed_on None (t.own p).count (next_event t p) (t.axis x).tenures
+unfolding cell_after_release
 released_tenures t p e x = refl
 
 tenures_own : (b : Board) (moves : List Move) (i x : ℕ) → (cell_at b moves i x).tenures ≡ tenures_at b moves i x
@@ -162,15 +162,15 @@ tenures_mid : (b : Board) (moves : List Move) (i : ℕ) (w : Here b moves i) (x 
 tenures_mid b moves i w x = elim (cases_Bool ((effect (tracked b moves i) w.p w.step).frees x)) [
   | inl on ↦
       if_true (among (happening_at b moves i).frees x)
-      (handed None ((rows_at b moves i).past (actor b moves i) (actor b moves i)) (place_made (actor b moves i) ((rows_at b moves i).past (actor b moves i) (actor b moves i))) (tenures_at b moves i x)) (tenures_at b moves i x)
+      (tenures_handed_on None ((rows_at b moves i).past (actor b moves i) (actor b moves i)) (place_made (actor b moves i) ((rows_at b moves i).past (actor b moves i) (actor b moves i))) (tenures_at b moves i x)) (tenures_at b moves i x)
       (frees_told b moves i w x ∙ on)
-      ∙ ap (λ (p : ℕ). handed None ((rows_at b moves i).past p p) (place_made p ((rows_at b moves i).past p p)) (tenures_at b moves i x)) (actor_told b moves i w)
-      ∙ ap₂ (λ (n : ℕ) (ts : List Tenure). handed None n (place_made w.p n) ts) (sym (count_own b moves i w.p)) (sym (tenures_own b moves i x))
+      ∙ ap (λ (p : ℕ). tenures_handed_on None ((rows_at b moves i).past p p) (place_made p ((rows_at b moves i).past p p)) (tenures_at b moves i x)) (actor_told b moves i w)
+      ∙ ap₂ (λ (n : ℕ) (ts : List Tenure). tenures_handed_on None n (place_made w.p n) ts) (sym (count_own b moves i w.p)) (sym (tenures_own b moves i x))
       ∙ sym (ap (λ (z : Cell). z.tenures) (axis_freed (tracked b moves i) w.p (effect (tracked b moves i) w.p w.step) x on (frees_mine (tracked b moves i) w.p w.step x on))
       ∙ released_tenures (tracked b moves i) w.p (effect (tracked b moves i) w.p w.step) x)
   | inr off ↦
       if_false (among (happening_at b moves i).frees x)
-      (handed None ((rows_at b moves i).past (actor b moves i) (actor b moves i)) (place_made (actor b moves i) ((rows_at b moves i).past (actor b moves i) (actor b moves i))) (tenures_at b moves i x)) (tenures_at b moves i x)
+      (tenures_handed_on None ((rows_at b moves i).past (actor b moves i) (actor b moves i)) (place_made (actor b moves i) ((rows_at b moves i).past (actor b moves i) (actor b moves i))) (tenures_at b moves i x)) (tenures_at b moves i x)
       (frees_told b moves i w x ∙ off)
       ∙ sym (ap (λ (z : Cell). z.tenures) (axis_kept (tracked b moves i) w.p (effect (tracked b moves i) w.p w.step) x off) ∙ tenures_own b moves i x)
 ]
@@ -187,7 +187,7 @@ tenures_next b moves i q x =
           let p = takes_parts (mid q.here) x c.0 (first_is (takes (mid q.here) x) channel_numbers c.0 c.1) in
           let free = took_free (mid q.here) c.0 x p.0 p.1 p.2 in
           ap (λ (o : Option ℕ). taken_by b moves i o ((mid q.here).axis x).tenures) c.1
-          ∙ ap₂ (λ (n : ℕ) (m : ℕ). handed (Some c.0) n (place_made c.0 m) ((mid q.here).axis x).tenures) (sym (free_span (mid q.here) ((mid q.here).axis x).owner free)) (sym (count_in b moves i q.here c.0))
+          ∙ ap₂ (λ (n : ℕ) (m : ℕ). tenures_handed_on (Some c.0) n (place_made c.0 m) ((mid q.here).axis x).tenures) (sym (free_span (mid q.here) ((mid q.here).axis x).owner free)) (sym (count_in b moves i q.here c.0))
           ∙ sym (ap (λ (z : Cell). z.tenures) (settle_axis_some (mid q.here) x c.0 c.1) ∙ given_tenures (mid q.here) c.0 ((mid q.here).axis x))
     ]
 

@@ -13,7 +13,7 @@ use Rattle.sync_types.specs.declared.Step.{Step}
 use Rattle.order_clocks.specs.CourseOf.{course_of}
 use Rattle.order_clocks.specs.Happenings.{Happening, Trace, Lowered, Needed, Took, Touched, board_at, happening_of, happening_at, act_leaves}
 use Rattle.order_clocks.proofs.CounterLaws.{closed_goer, closed_other}
-use Rattle.board_laws.specs.Machine.{Need, Mark, Axis, Call, Seat, In, Called, Own, Cell, State, Effect, Clock, Span, Tenure, Place, asks, is_at, is_free, mine, ready, taking, takes, taker, granted, gone, placed, span_of, handed, span_now, next_event, given, settle_own, settle_axis, settle, touched, released, put, put_own, put_axis, put_on, shown, board_of, touches, act_clock, acted, effect, turn_by, go_clock}
+use Rattle.board_laws.specs.Machine.{Need, Mark, Axis, Call, Seat, In, Called, Own, Cell, State, Effect, Clock, Span, Tenure, Place, asks, is_at, is_free, mine, ready, axes_taken, takes, taker, grant_at_go, own_after_go, with_value_at, span_of, tenures_handed_on, span_now, next_event, cell_after_taking, settle_own, settle_axis, settle, own_after_call, cell_after_release, with_effect, put_own, put_axis, put_on, doing_of, board_of, touches, act_clock, own_after_act, effect, turn_by, go_clock}
 use Rattle.board_laws.specs.Machine as machine
 use Rattle.board_laws.specs.Clean.{GoesClean, Inv}
 use Rattle.board_laws.proofs.Basics.{no, called_self, clock_own}
@@ -46,7 +46,7 @@ goes_all b moves i q c = elim (cases_Bool (ready (mid q.here) c)) [
 pub board_next : (b : Board) (moves : List Move) (i : ℕ) (q : Tidy b moves i) → board_at b moves (suc i) ≡ board_of (settle (mid q.here))
 board_next b moves i q = after_told b moves i q.here ∙ settled_board (mid q.here) q.clean q.here.parts.zones q.here.parts.over
 
-pub shown_in : (t : State) (c : ℕ) (s : Seat) → ((r : ℕ) → asks s (Call r) ≡ false) → In (shown t c s) ≡ s
+pub shown_in : (t : State) (c : ℕ) (s : Seat) → ((r : ℕ) → asks s (Call r) ≡ false) → In (doing_of t c s) ≡ s
 shown_in t c (In state) off = refl
 shown_in t c (Called p) off = no (called_self p) (off p)
 
@@ -67,64 +67,64 @@ pub count_stays : (b : Board) (moves : List Move) (i : ℕ) (q : Tidy b moves i)
 count_stays b moves i q c off = closed_other (course_of b moves) i (rows_in b moves i) c c off ∙ sym (count_in b moves i q.here c)
 
 -- of the actor and of others within the step
-pub acted_is : (t : State) (p : ℕ) (step : Step) → (effect t p step).own ≡ acted p (t.own p) ((after_own_part (board_of t) p step).marks p) ((after_own_part (board_of t) p step).state p) (touches step.action)
+pub acted_is : (t : State) (p : ℕ) (step : Step) → (effect t p step).own ≡ own_after_act p (t.own p) ((after_own_part (board_of t) p step).marks p) ((after_own_part (board_of t) p step).state p) (touches step.action)
 unfolding effect
 acted_is t p step = refl
 
 pub at_actor : (b : Board) (moves : List Move) (i : ℕ) (w : Here b moves i) (c : ℕ) → (c == w.p) ≡ true
-    → (mid w).own c ≡ acted c (own_at b moves i c) ((after_own_part (board_of (tracked b moves i)) w.p w.step).marks c) ((after_own_part (board_of (tracked b moves i)) w.p w.step).state c) (touches w.step.action)
+    → (mid w).own c ≡ own_after_act c (own_at b moves i c) ((after_own_part (board_of (tracked b moves i)) w.p w.step).marks c) ((after_own_part (board_of (tracked b moves i)) w.p w.step).state c) (touches w.step.action)
 at_actor b moves i w c y =
     let s : c ≡ w.p = eqb-true c w.p y in
     ap (λ (z : ℕ). (mid w).own z) s ∙ put_same (tracked b moves i) w.p (effect (tracked b moves i) w.p w.step) ∙ acted_is (tracked b moves i) w.p w.step
-    ∙ ap (λ (z : ℕ). acted z (own_at b moves i z) ((after_own_part (board_of (tracked b moves i)) w.p w.step).marks z) ((after_own_part (board_of (tracked b moves i)) w.p w.step).state z) (touches w.step.action)) (sym s)
+    ∙ ap (λ (z : ℕ). own_after_act z (own_at b moves i z) ((after_own_part (board_of (tracked b moves i)) w.p w.step).marks z) ((after_own_part (board_of (tracked b moves i)) w.p w.step).state z) (touches w.step.action)) (sym s)
 
 -- a field that INIT and START leave alone
-pub touched_grants : (e : Effect) (p c : ℕ) (o : Own) → (touched e p c o).grants ≡ o.grants
-unfolding touched
+pub touched_grants : (e : Effect) (p c : ℕ) (o : Own) → (own_after_call e p c o).grants ≡ o.grants
+unfolding own_after_call
 touched_grants e p c o = elim (cases_Bool (e.calls c && machine.is_idle o.seat)) [ inl y ↦ rw y refl | inr n ↦ elim (cases_Bool (e.selects c && machine.is_idle o.seat)) [ inl z ↦ rw (n, z) refl | inr m ↦ rw (n, m) refl ] ]
 
-pub touched_log : (e : Effect) (p c : ℕ) (o : Own) → (touched e p c o).log ≡ o.log
-unfolding touched
+pub touched_log : (e : Effect) (p c : ℕ) (o : Own) → (own_after_call e p c o).log ≡ o.log
+unfolding own_after_call
 touched_log e p c o = elim (cases_Bool (e.calls c && machine.is_idle o.seat)) [ inl y ↦ rw y refl | inr n ↦ elim (cases_Bool (e.selects c && machine.is_idle o.seat)) [ inl z ↦ rw (n, z) refl | inr m ↦ rw (n, m) refl ] ]
 
-pub touched_spans : (e : Effect) (p c : ℕ) (o : Own) → (touched e p c o).spans ≡ o.spans
-unfolding touched
+pub touched_spans : (e : Effect) (p c : ℕ) (o : Own) → (own_after_call e p c o).spans ≡ o.spans
+unfolding own_after_call
 touched_spans e p c o = elim (cases_Bool (e.calls c && machine.is_idle o.seat)) [ inl y ↦ rw y refl | inr n ↦ elim (cases_Bool (e.selects c && machine.is_idle o.seat)) [ inl z ↦ rw (n, z) refl | inr m ↦ rw (n, m) refl ] ]
 
-pub other_own : (b : Board) (moves : List Move) (i : ℕ) (w : Here b moves i) (c : ℕ) → (c == w.p) ≡ false → (mid w).own c ≡ touched (effect (tracked b moves i) w.p w.step) w.p c (own_at b moves i c)
+pub other_own : (b : Board) (moves : List Move) (i : ℕ) (w : Here b moves i) (c : ℕ) → (c == w.p) ≡ false → (mid w).own c ≡ own_after_call (effect (tracked b moves i) w.p w.step) w.p c (own_at b moves i c)
 other_own b moves i w c n = put_other (tracked b moves i) w.p (effect (tracked b moves i) w.p w.step) c n
 
 -- fields by their definitions
-pub acted_grants : (p : ℕ) (o : Own) (marks : ℕ → Bool) (state : Doing) (names : ℕ → Bool) → (acted p o marks state names).grants ≡ o.grants ++ as_list (grant_in state)
-unfolding acted
+pub acted_grants : (p : ℕ) (o : Own) (marks : ℕ → Bool) (state : Doing) (names : ℕ → Bool) → (own_after_act p o marks state names).grants ≡ o.grants ++ as_list (grant_in state)
+unfolding own_after_act
 acted_grants p o marks state names = refl
 
-pub acted_log : (p : ℕ) (o : Own) (marks : ℕ → Bool) (state : Doing) (names : ℕ → Bool) → (acted p o marks state names).log ≡ placed (suc o.count) (act_clock p o) o.log
-unfolding acted
+pub acted_log : (p : ℕ) (o : Own) (marks : ℕ → Bool) (state : Doing) (names : ℕ → Bool) → (own_after_act p o marks state names).log ≡ with_value_at (suc o.count) (act_clock p o) o.log
+unfolding own_after_act
 acted_log p o marks state names = refl
 
-pub acted_spans : (p : ℕ) (o : Own) (marks : ℕ → Bool) (state : Doing) (names : ℕ → Bool) → (acted p o marks state names).spans ≡ placed (suc o.count) (span_of state (o.grants ++ as_list (grant_in state))) o.spans
-unfolding acted
+pub acted_spans : (p : ℕ) (o : Own) (marks : ℕ → Bool) (state : Doing) (names : ℕ → Bool) → (own_after_act p o marks state names).spans ≡ with_value_at (suc o.count) (span_of state (o.grants ++ as_list (grant_in state))) o.spans
+unfolding own_after_act
 acted_spans p o marks state names = refl
 
-pub acted_count : (p : ℕ) (o : Own) (marks : ℕ → Bool) (state : Doing) (names : ℕ → Bool) → (acted p o marks state names).count ≡ suc o.count
-unfolding acted
+pub acted_count : (p : ℕ) (o : Own) (marks : ℕ → Bool) (state : Doing) (names : ℕ → Bool) → (own_after_act p o marks state names).count ≡ suc o.count
+unfolding own_after_act
 acted_count p o marks state names = refl
 
-pub acted_past : (p : ℕ) (o : Own) (marks : ℕ → Bool) (state : Doing) (names : ℕ → Bool) → (acted p o marks state names).past ≡ act_clock p o
-unfolding acted
+pub acted_past : (p : ℕ) (o : Own) (marks : ℕ → Bool) (state : Doing) (names : ℕ → Bool) → (own_after_act p o marks state names).past ≡ act_clock p o
+unfolding own_after_act
 acted_past p o marks state names = refl
 
-pub acted_lowered : (p : ℕ) (o : Own) (marks : ℕ → Bool) (state : Doing) (names : ℕ → Bool) (k : ℕ) → (acted p o marks state names).lowered k ≡ (if o.marks k && not (marks k) then suc o.count else o.lowered k)
-unfolding acted
+pub acted_lowered : (p : ℕ) (o : Own) (marks : ℕ → Bool) (state : Doing) (names : ℕ → Bool) (k : ℕ) → (own_after_act p o marks state names).lowered k ≡ (if o.marks k && not (marks k) then suc o.count else o.lowered k)
+unfolding own_after_act
 acted_lowered p o marks state names k = refl
 
-pub acted_started : (p : ℕ) (o : Own) (marks : ℕ → Bool) (state : Doing) (names : ℕ → Bool) (y : ℕ) → (acted p o marks state names).started y ≡ (if names y then suc o.count else o.started y)
-unfolding acted
+pub acted_started : (p : ℕ) (o : Own) (marks : ℕ → Bool) (state : Doing) (names : ℕ → Bool) (y : ℕ) → (own_after_act p o marks state names).started y ≡ (if names y then suc o.count else o.started y)
+unfolding own_after_act
 acted_started p o marks state names y = refl
 
-pub acted_needs : (p : ℕ) (o : Own) (marks : ℕ → Bool) (state : Doing) (names : ℕ → Bool) → ((acted p o marks state names).needs ≡ o.needs) × ((acted p o marks state names).took ≡ o.took)
-unfolding acted
+pub acted_needs : (p : ℕ) (o : Own) (marks : ℕ → Bool) (state : Doing) (names : ℕ → Bool) → ((own_after_act p o marks state names).needs ≡ o.needs) × ((own_after_act p o marks state names).took ≡ o.took)
+unfolding own_after_act
 acted_needs p o marks state names = (refl, refl)
 
 pub log_at : (b : Board) (moves : List Move) (i c : ℕ) → (own_at b moves i c).log ≡ clocks_at b moves i c
@@ -155,7 +155,7 @@ abbrev pub part_state : {b : Board} {moves : List Move} {i : ℕ} → Here b mov
 part_state {b} {moves} {i} w = (after_own_part (board_of (tracked b moves i)) w.p w.step).state
 
 abbrev pub actor_own : {b : Board} {moves : List Move} {i : ℕ} → Here b moves i → ℕ → Own
-actor_own {b} {moves} {i} w c = acted c (own_at b moves i c) (part_marks w c) (part_state w c) (touches w.step.action)
+actor_own {b} {moves} {i} w c = own_after_act c (own_at b moves i c) (part_marks w c) (part_state w c) (touches w.step.action)
 
 pub count_actor : (b : Board) (moves : List Move) (i : ℕ) (w : Here b moves i) (c : ℕ) → (c == w.p) ≡ true → suc (own_at b moves i c).count ≡ (rows_in b moves i).past c c
 count_actor b moves i w c y = sym (ap (λ (o : Own). o.count) (at_actor b moves i w c y) ∙ acted_count c (own_at b moves i c) (part_marks w c) (part_state w c) (touches w.step.action)) ∙ count_in b moves i w c
@@ -167,12 +167,12 @@ past_actor b moves i w c y = sym (ap (λ (o : Own). o.past) (at_actor b moves i 
 pub clocks_mid : (b : Board) (moves : List Move) (i : ℕ) (w : Here b moves i) (c : ℕ) → clocks_in b moves i (clocks_at b moves i c) c ≡ ((mid w).own c).log
 clocks_mid b moves i w c = elim (cases_Bool (c == w.p)) [
   | inl y ↦
-      if_true (c == actor b moves i) (placed ((rows_in b moves i).past c c) ((rows_in b moves i).past c) (clocks_at b moves i c)) (clocks_at b moves i c) (acts_here b moves i w c ∙ y)
-      ∙ ap (λ (n : ℕ). placed n ((rows_in b moves i).past c) (clocks_at b moves i c)) (sym (count_actor b moves i w c y)) ∙ ap (λ (f : Clock). placed (suc (own_at b moves i c).count) f (clocks_at b moves i c)) (sym (past_actor b moves i w c y))
-      ∙ ap (λ (old : ℕ → Clock). placed (suc (own_at b moves i c).count) (act_clock c (own_at b moves i c)) old) (sym (log_at b moves i c))
+      if_true (c == actor b moves i) (with_value_at ((rows_in b moves i).past c c) ((rows_in b moves i).past c) (clocks_at b moves i c)) (clocks_at b moves i c) (acts_here b moves i w c ∙ y)
+      ∙ ap (λ (n : ℕ). with_value_at n ((rows_in b moves i).past c) (clocks_at b moves i c)) (sym (count_actor b moves i w c y)) ∙ ap (λ (f : Clock). with_value_at (suc (own_at b moves i c).count) f (clocks_at b moves i c)) (sym (past_actor b moves i w c y))
+      ∙ ap (λ (old : ℕ → Clock). with_value_at (suc (own_at b moves i c).count) (act_clock c (own_at b moves i c)) old) (sym (log_at b moves i c))
       ∙ sym (ap (λ (o : Own). o.log) (at_actor b moves i w c y) ∙ acted_log c (own_at b moves i c) (part_marks w c) (part_state w c) (touches w.step.action))
   | inr n ↦
-      if_false (c == actor b moves i) (placed ((rows_in b moves i).past c c) ((rows_in b moves i).past c) (clocks_at b moves i c)) (clocks_at b moves i c) (acts_here b moves i w c ∙ n)
+      if_false (c == actor b moves i) (with_value_at ((rows_in b moves i).past c c) ((rows_in b moves i).past c) (clocks_at b moves i c)) (clocks_at b moves i c) (acts_here b moves i w c ∙ n)
       ∙ sym (ap (λ (o : Own). o.log) (other_own b moves i w c n) ∙ touched_log (effect (tracked b moves i) w.p w.step) w.p c (own_at b moves i c) ∙ log_at b moves i c)
 ]
 
@@ -189,14 +189,14 @@ pub spans_mid : (b : Board) (moves : List Move) (i : ℕ) (w : Here b moves i) (
 spans_mid b moves i w c = elim (cases_Bool (c == w.p)) [
   | inl y ↦
       let part : (part_at b moves i).state c ≡ part_state w c = ap (λ (a : Board). a.state c) w.part in
-      if_true (c == actor b moves i) (placed ((rows_in b moves i).past c c) (span_of ((part_at b moves i).state c) (grants_at b moves i c ++ as_list (grant_in ((part_at b moves i).state c)))) (spans_at b moves i c)) (spans_at b moves i c) (acts_here b moves i w c ∙ y)
-      ∙ ap (λ (n : ℕ). placed n (span_of ((part_at b moves i).state c) (grants_at b moves i c ++ as_list (grant_in ((part_at b moves i).state c)))) (spans_at b moves i c)) (sym (count_actor b moves i w c y))
-      ∙ ap (λ (s : Doing). placed (suc (own_at b moves i c).count) (span_of s (grants_at b moves i c ++ as_list (grant_in s))) (spans_at b moves i c)) part
-      ∙ ap (λ (gs : List Grant). placed (suc (own_at b moves i c).count) (span_of (part_state w c) (gs ++ as_list (grant_in (part_state w c)))) (spans_at b moves i c)) (sym (grants_own b moves i c))
-      ∙ ap (λ (old : ℕ → Span). placed (suc (own_at b moves i c).count) (span_of (part_state w c) ((own_at b moves i c).grants ++ as_list (grant_in (part_state w c)))) old) (sym (spans_own b moves i c))
+      if_true (c == actor b moves i) (with_value_at ((rows_in b moves i).past c c) (span_of ((part_at b moves i).state c) (grants_at b moves i c ++ as_list (grant_in ((part_at b moves i).state c)))) (spans_at b moves i c)) (spans_at b moves i c) (acts_here b moves i w c ∙ y)
+      ∙ ap (λ (n : ℕ). with_value_at n (span_of ((part_at b moves i).state c) (grants_at b moves i c ++ as_list (grant_in ((part_at b moves i).state c)))) (spans_at b moves i c)) (sym (count_actor b moves i w c y))
+      ∙ ap (λ (s : Doing). with_value_at (suc (own_at b moves i c).count) (span_of s (grants_at b moves i c ++ as_list (grant_in s))) (spans_at b moves i c)) part
+      ∙ ap (λ (gs : List Grant). with_value_at (suc (own_at b moves i c).count) (span_of (part_state w c) (gs ++ as_list (grant_in (part_state w c)))) (spans_at b moves i c)) (sym (grants_own b moves i c))
+      ∙ ap (λ (old : ℕ → Span). with_value_at (suc (own_at b moves i c).count) (span_of (part_state w c) ((own_at b moves i c).grants ++ as_list (grant_in (part_state w c)))) old) (sym (spans_own b moves i c))
       ∙ sym (ap (λ (o : Own). o.spans) (at_actor b moves i w c y) ∙ acted_spans c (own_at b moves i c) (part_marks w c) (part_state w c) (touches w.step.action))
   | inr n ↦
-      if_false (c == actor b moves i) (placed ((rows_in b moves i).past c c) (span_of ((part_at b moves i).state c) (grants_at b moves i c ++ as_list (grant_in ((part_at b moves i).state c)))) (spans_at b moves i c)) (spans_at b moves i c) (acts_here b moves i w c ∙ n)
+      if_false (c == actor b moves i) (with_value_at ((rows_in b moves i).past c c) (span_of ((part_at b moves i).state c) (grants_at b moves i c ++ as_list (grant_in ((part_at b moves i).state c)))) (spans_at b moves i c)) (spans_at b moves i c) (acts_here b moves i w c ∙ n)
       ∙ sym (ap (λ (o : Own). o.spans) (other_own b moves i w c n) ∙ touched_spans (effect (tracked b moves i) w.p w.step) w.p c (own_at b moves i c) ∙ spans_own b moves i c)
 ]
 

@@ -11,19 +11,19 @@ use Rattle.order_clocks.specs.Happenings as happenings
 use Rattle.order_clocks.specs.Counters.{act_row}
 use Rattle.order_clocks.specs.CourseOf.{course_of}
 use Rattle.order_clocks.proofs.CounterLaws.{opened_actor, opened_other, opened_given, opened_kept}
-use Rattle.board_laws.specs.Machine.{Own, Cell, State, Effect, Clock, released, board_of, act_clock, acted, axes_freed, effect}
+use Rattle.board_laws.specs.Machine.{Own, Cell, State, Effect, Clock, cell_after_release, board_of, act_clock, own_after_act, axes_freed, effect}
 use Rattle.board_laws.proofs.Parts.{put_same, put_other, touched_kept, axis_kept, axis_freed}
 use Rattle.board_laws.proofs.PutBoards.{frees_mine}
 use Rattle.schedule_laws.specs.Tracked.{rows_at, rows_in, actor, own_at, cell_at, tracked}
 use Rattle.schedule_laws.proofs.Steps.{Here, mid, starts, actor_told}
 
 effect_past : (t : State) (p : ℕ) (step : Step) → (effect t p step).own.past ≡ act_clock p (t.own p)
-unfolding effect acted
+unfolding effect own_after_act
 effect_past t p step = refl
 
 effect_raised : (t : State) (p : ℕ) (step : Step) (k : ℕ)
     → (effect t p step).own.raised k ≡ (if (after_own_part (board_of t) p step).marks p k && not ((t.own p).marks k) then act_clock p (t.own p) else (t.own p).raised k)
-unfolding effect acted
+unfolding effect own_after_act
 effect_raised t p step k = refl
 
 effect_frees : (t : State) (p : ℕ) (step : Step) (x : ℕ) → (effect t p step).frees x ≡ among (axes_freed (alarm_of (board_of t) p step.action) step.action) x
@@ -81,7 +81,7 @@ past_in b moves i w c x = elim (cases_Bool (c == w.p)) [
 ]
 
 effect_count : (t : State) (p : ℕ) (step : Step) → (effect t p step).own.count ≡ suc (t.own p).count
-unfolding effect acted
+unfolding effect own_after_act
 effect_count t p step = refl
 
 pub count_in : (b : Board) (moves : List Move) (i : ℕ) (w : Here b moves i) (c : ℕ) → ((mid w).own c).count ≡ (rows_in b moves i).past c c
@@ -135,8 +135,8 @@ frees_told b moves i w x = ap (λ (h : Happening). among h.frees x) w.happens �
     go (Some code) = refl
     go None = refl
 
-released_freed : (t : State) (p : ℕ) (e : Effect) (x : ℕ) → (released t p e x).freed ≡ e.own.past
-unfolding released
+released_freed : (t : State) (p : ℕ) (e : Effect) (x : ℕ) → (cell_after_release t p e x).freed ≡ e.own.past
+unfolding cell_after_release
 released_freed t p e x = refl
 
 pub freed_in : (b : Board) (moves : List Move) (i : ℕ) (w : Here b moves i) (a x : ℕ) → ((mid w).axis a).freed x ≡ (rows_in b moves i).last (Freed a) x

@@ -12,7 +12,7 @@ use Rattle.order_clocks.specs.CourseOf.{course_of}
 use Rattle.order_clocks.specs.Courses.{Course}
 use Rattle.order_clocks.specs.Groups.{labels}
 use Rattle.order_clocks.specs.Happenings.{Happening, Trace, Lowered, Needed, Took, Touched, Raised, Freed, board_at, happening_at, gives, going_of, of_going, rests_on, act_leaves, going_leaves}
-use Rattle.board_laws.specs.Machine.{In, Own, Cell, State, Clock, Span, Tenure, placed, span_of, handed}
+use Rattle.board_laws.specs.Machine.{In, Own, Cell, State, Clock, Span, Tenure, with_value_at, span_of, tenures_handed_on}
 use Rattle.schedule_laws.specs.Tracked.{rows_at, rows_in, part_at, last_place, grants_at, clocks_at, spans_at, takes_in, tenures_in, taken_by, tenures_at, own_at, cell_at, tracked}
 
 -- the boards and happenings of the first steps
@@ -79,25 +79,25 @@ abbrev grants_by : Happening → Board → Board → ℕ → List Grant → List
 grants_by h old new c gs = if gets_a_grant old h.channel c then gs ++ as_list (grant_in (new.state c)) else gs
 
 abbrev clocks_in_by : Happening → LastRows → ℕ → (ℕ → Clock) → ℕ → Clock
-clocks_in_by h inner c old = if c == h.channel then placed (inner.past c c) (inner.past c) old else old
+clocks_in_by h inner c old = if c == h.channel then with_value_at (inner.past c c) (inner.past c) old else old
 
 abbrev clocks_by : Happening → LastRows → LastRows → ℕ → (ℕ → Clock) → ℕ → Clock
-clocks_by h inner next c old = if among (channels_in h.goings) c then placed (next.past c c) (next.past c) (clocks_in_by h inner c old) else clocks_in_by h inner c old
+clocks_by h inner next c old = if among (channels_in h.goings) c then with_value_at (next.past c c) (next.past c) (clocks_in_by h inner c old) else clocks_in_by h inner c old
 
 abbrev spans_in_by : Happening → LastRows → Board → ℕ → List Grant → (ℕ → Span) → ℕ → Span
-spans_in_by h inner part c gs old = if c == h.channel then placed (inner.past c c) (span_of (part.state c) (gs ++ as_list (grant_in (part.state c)))) old else old
+spans_in_by h inner part c gs old = if c == h.channel then with_value_at (inner.past c c) (span_of (part.state c) (gs ++ as_list (grant_in (part.state c)))) old else old
 
 abbrev spans_by : Happening → LastRows → LastRows → Board → Board → ℕ → List Grant → List Grant → (ℕ → Span) → ℕ → Span
-spans_by h inner next part new c gs hs old = if among (channels_in h.goings) c then placed (next.past c c) (span_of (new.state c) hs) (spans_in_by h inner part c gs old) else spans_in_by h inner part c gs old
+spans_by h inner next part new c gs hs old = if among (channels_in h.goings) c then with_value_at (next.past c c) (span_of (new.state c) hs) (spans_in_by h inner part c gs old) else spans_in_by h inner part c gs old
 
 abbrev handed_by : LastRows → Option ℕ → List Tenure → List Tenure
 handed_by inner None old = old
-handed_by inner (Some c) old = handed (Some c) 0 (record { channel = c; place = suc (inner.past c c) }) old
+handed_by inner (Some c) old = tenures_handed_on (Some c) 0 (record { channel = c; place = suc (inner.past c c) }) old
 
 abbrev tenures_by : Happening → LastRows → LastRows → ℕ → List Tenure → List Tenure
 tenures_by h rows inner x old =
     handed_by inner (first_of (filter (λ c. of_going (going_of h.goings c) (λ g. among g.took x)) channel_numbers))
-    (if among h.frees x then handed None (rows.past h.channel h.channel) (record { channel = h.channel; place = suc (rows.past h.channel h.channel) }) old else old)
+    (if among h.frees x then tenures_handed_on None (rows.past h.channel h.channel) (record { channel = h.channel; place = suc (rows.past h.channel h.channel) }) old else old)
 
 tenures_are : (b : Board) (ms : List Move) (i x : ℕ) → tenures_at b ms (suc i) x ≡ tenures_by (happening_at b ms i) (rows_at b ms i) (rows_in b ms i) x (tenures_at b ms i x)
 tenures_are b ms i x = go (first_of (filter (takes_in b ms i x) channel_numbers)) (tenures_in b ms i (tenures_at b ms i x) x)

@@ -11,7 +11,7 @@ use Rattle.order_clocks.specs.Happenings.{Happening, Trace, Lowered, Needed, Too
 use Rattle.order_clocks.specs.RaceOrder.{letter_c, letter_d, letter_f}
 use Rattle.order_clocks.specs.Races.{StillWaits, Differ, StillAsks, place_of}
 use Rattle.order_clocks.proofs.OrderLaws.{event_from}
-use Rattle.board_laws.specs.Machine.{Mark, Axis, Seat, In, Own, State, Effect, asks, is_at, mine, ready, shown, board_of, touches, effect, acted}
+use Rattle.board_laws.specs.Machine.{Mark, Axis, Seat, In, Own, State, Effect, asks, is_at, mine, ready, doing_of, board_of, touches, effect, own_after_act}
 use Rattle.board_laws.specs.Clean.{SameSet, ActClean, IsClean, Inv}
 use Rattle.board_laws.proofs.Basics.{no, ready_met, mark_at}
 use Rattle.board_laws.proofs.Parts.{put_same, put_other, touched_kept}
@@ -54,11 +54,11 @@ unfolding own_at
 started_at b moves i d y = refl
 
 pub effect_seat : (t : State) (p : ℕ) (step : Step) → (effect t p step).own.seat ≡ In ((after_own_part (board_of t) p step).state p)
-unfolding effect acted
+unfolding effect own_after_act
 effect_seat t p step = refl
 
 pub effect_marks : (t : State) (p : ℕ) (step : Step) → (effect t p step).own.marks ≡ (after_own_part (board_of t) p step).marks p
-unfolding effect acted
+unfolding effect own_after_act
 effect_marks t p step = refl
 
 -- what the act minds
@@ -85,7 +85,7 @@ after_at b moves i w c = ap (λ (h : Happening). h.after c) w.happens ∙ ap (λ
 
 -- one that asks and does not go on still asks
 still : (b : Board) (moves : List Move) (i : ℕ) (w : Here b moves i) (c : ℕ) (s : Doing) → ((mid w).own c).seat ≡ In s → goes_in b moves i c ≡ false → (happening_at b moves i).after c ≡ s
-still b moves i w c s seat out = after_at b moves i w c ∙ kept_told b moves i w c out ∙ ap (λ (z : Seat). shown (mid w) c z) seat
+still b moves i w c s seat out = after_at b moves i w c ∙ kept_told b moves i w c out ∙ ap (λ (z : Seat). doing_of (mid w) c z) seat
 
 pub unready_stays : (b : Board) (moves : List Move) (i : ℕ) (w : Here b moves i) (c : ℕ) → ready (mid w) c ≡ false → goes_in b moves i c ≡ false
 unready_stays b moves i w c off = elim (cases_Bool (goes_in b moves i c)) [ inl on ↦ no (goer b moves i w c on).goes off | inr out ↦ out ]
@@ -222,8 +222,8 @@ asking_stays b moves i w d x y out =
     let get = axis_getting ((mid w).own d).seat x y in
     let s = asks_axis_in (mid w) d x y in
     let z = axis_state s.state x s.asks in
-    let f : (board_at b moves (suc i)).state d ≡ shown (mid w) d ((mid w).own d).seat = ap (λ (a : Board). a.state d) (after_told b moves i w) ∙ (takings_of (mid w) w.parts.zones).kept d out ∙ getting_stays (mid w) d get in
-    (z.axes, (z.line, (after_at b moves i w d ∙ f ∙ ap (λ (v : Seat). shown (mid w) d v) s.seat ∙ z.state, z.names)))
+    let f : (board_at b moves (suc i)).state d ≡ doing_of (mid w) d ((mid w).own d).seat = ap (λ (a : Board). a.state d) (after_told b moves i w) ∙ (takings_of (mid w) w.parts.zones).kept d out ∙ getting_stays (mid w) d get in
+    (z.axes, (z.line, (after_at b moves i w d ∙ f ∙ ap (λ (v : Seat). doing_of (mid w) d v) s.seat ∙ z.state, z.names)))
 
 -- one that took is among those that go on
 took_there : (b : Board) (moves : List Move) (i : ℕ) (w : Here b moves i) (g : Going) → IsOf g (taken_in (mid w)).goings → IsOf g (happening_at b moves i).goings

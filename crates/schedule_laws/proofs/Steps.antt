@@ -10,7 +10,7 @@ use Rattle.sync_types.specs.Turns.{Move, after_step, AreOfRunning}
 use Rattle.sync_types.specs.declared.Step.{Step}
 use Rattle.order_clocks.specs.Happenings.{Happening, board_at, happening_of, happening_at, going_of}
 use Rattle.order_clocks.proofs.WholeLaws.{board_zero}
-use Rattle.board_laws.specs.Machine.{Need, Mark, Axis, Call, Seat, In, Called, Own, Cell, State, Effect, asks, ready, shown, board_of, put, put_own, effect}
+use Rattle.board_laws.specs.Machine.{Need, Mark, Axis, Call, Seat, In, Called, Own, Cell, State, Effect, asks, ready, doing_of, board_of, with_effect, put_own, effect}
 use Rattle.board_laws.specs.Machine as machine
 use Rattle.board_laws.specs.Zones.{Zones}
 use Rattle.board_laws.proofs.Basics.{in_no_call}
@@ -102,7 +102,7 @@ here b moves i zs run inside =
 
 -- the machine within the step, after the own part
 abbrev pub mid : {b : Board} {moves : List Move} {i : ℕ} → Here b moves i → State
-mid {b} {moves} {i} w = put (tracked b moves i) w.p (effect (tracked b moves i) w.p w.step)
+mid {b} {moves} {i} w = with_effect (tracked b moves i) w.p (effect (tracked b moves i) w.p w.step)
 
 abbrev pub starts : {b : Board} {moves : List Move} {i : ℕ} → Here b moves i → List ℕ
 starts {b} {moves} {i} w = channels_started (alarm_of (board_of (tracked b moves i)) w.p w.step.action) w.step.action

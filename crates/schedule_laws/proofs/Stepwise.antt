@@ -9,7 +9,7 @@ use Rattle.sync_types.specs.declared.Step.{Step}
 use Rattle.sync_types.proofs.BoardTests.{by_test}
 use Rattle.order_clocks.specs.Happenings.{board_at}
 use Rattle.order_clocks.proofs.WholeLaws.{board_zero}
-use Rattle.board_laws.specs.Machine.{Seat, In, Own, State, ready, shown, put, effect, touches, turn_by, runs_at}
+use Rattle.board_laws.specs.Machine.{Seat, In, Own, State, ready, doing_of, with_effect, effect, touches, turn_by, runs_at}
 use Rattle.board_laws.specs.Machine as machine
 use Rattle.board_laws.specs.Clean.{IsClean, Rests}
 use Rattle.board_laws.proofs.Actions.{act_is}
@@ -133,7 +133,7 @@ runs_on b ms m q fresh run m_runs q_runs n =
     let seat : ((mid w).own q).seat ≡ In ((board_at b all (length ms)).state q) = ap (λ (o : Own). o.seat) own ∙ seat_at b all (length ms) q in
     let running : machine.is_running ((mid w).own q).seat ≡ true = ap (λ (s : Seat). machine.is_running s) seat ∙ running_in ((board_at b all (length ms)).state q) (ap (λ (a : Board). is_running (a.state q)) end ∙ q_runs) in
     let out = unready_stays b all (length ms) w q (running_ready (mid w) q ((mid w).own q).seat running) in
-    ap (λ (a : Board). is_running (a.state q)) (sym next) ∙ ap is_running (kept_told b all (length ms) w q out ∙ ap (λ (s : Seat). shown (mid w) q s) seat) ∙ ap (λ (a : Board). is_running (a.state q)) end ∙ q_runs
+    ap (λ (a : Board). is_running (a.state q)) (sym next) ∙ ap is_running (kept_told b all (length ms) w q out ∙ ap (λ (s : Seat). doing_of (mid w) q s) seat) ∙ ap (λ (a : Board). is_running (a.state q)) end ∙ q_runs
 
 pub count_own : (b : Board) (ms : List Move) (i c : ℕ) → (own_at b ms i c).count ≡ (rows_at b ms i).past c c
 unfolding own_at

@@ -1,6 +1,6 @@
 -- Steps. Each run, after so many of its steps, as the machine of the laws of the board has it.
 use Rattle.std.specs.Prelude.{ℕ, zero, suc, ◌==◌, ◌&&◌, Bool, List, [], ◌∷◌, ◌++◌, filter, Option, Some, None, if◌then◌else◌}
-use Rattle.board_laws.specs.Machine.{In, Own, Cell, State, Clock, Span, Tenure, placed, span_of, handed}
+use Rattle.board_laws.specs.Machine.{In, Own, Cell, State, Clock, Span, Tenure, with_value_at, span_of, tenures_handed_on}
 use Rattle.order_clocks.specs.Counters.{LastRows, last_rows, rows_after_act}
 use Rattle.order_clocks.specs.CourseOf.{course_of}
 use Rattle.order_clocks.specs.Happenings.{Trace, Lowered, Needed, Took, Touched, Raised, Freed, board_at, happening_at, going_of, of_going, act_leaves, going_leaves}
@@ -54,24 +54,24 @@ grants_at b moves (suc i) c =
 
 -- by places: the clocks of a channel's events
 abbrev pub clocks_in : Board → List Move → ℕ → (ℕ → Clock) → ℕ → ℕ → Clock
-clocks_in b moves i old c = if c == actor b moves i then placed ((rows_in b moves i).past c c) ((rows_in b moves i).past c) old else old
+clocks_in b moves i old c = if c == actor b moves i then with_value_at ((rows_in b moves i).past c c) ((rows_in b moves i).past c) old else old
 
 abbrev pub clocks_at : Board → List Move → ℕ → ℕ → ℕ → Clock
 clocks_at b moves zero c = λ j x. 0
 clocks_at b moves (suc i) c =
-    if goes_in b moves i c then placed ((rows_at b moves (suc i)).past c c) ((rows_at b moves (suc i)).past c) (clocks_in b moves i (clocks_at b moves i c) c)
+    if goes_in b moves i c then with_value_at ((rows_at b moves (suc i)).past c c) ((rows_at b moves (suc i)).past c) (clocks_in b moves i (clocks_at b moves i c) c)
     else clocks_in b moves i (clocks_at b moves i c) c
 
 -- and the spans that they begin
 abbrev pub spans_in : Board → List Move → ℕ → (ℕ → Span) → ℕ → ℕ → Span
 spans_in b moves i old c =
-    if c == actor b moves i then placed ((rows_in b moves i).past c c) (span_of ((part_at b moves i).state c) (grants_at b moves i c ++ as_list (grant_in ((part_at b moves i).state c)))) old
+    if c == actor b moves i then with_value_at ((rows_in b moves i).past c c) (span_of ((part_at b moves i).state c) (grants_at b moves i c ++ as_list (grant_in ((part_at b moves i).state c)))) old
     else old
 
 abbrev pub spans_at : Board → List Move → ℕ → ℕ → ℕ → Span
 spans_at b moves zero c = λ j. span_of (b.state c) (as_list (grant_in (b.state c)))
 spans_at b moves (suc i) c =
-    if goes_in b moves i c then placed ((rows_at b moves (suc i)).past c c) (span_of ((board_at b moves (suc i)).state c) (grants_at b moves (suc i) c)) (spans_in b moves i (spans_at b moves i c) c)
+    if goes_in b moves i c then with_value_at ((rows_at b moves (suc i)).past c c) (span_of ((board_at b moves (suc i)).state c) (grants_at b moves (suc i) c)) (spans_in b moves i (spans_at b moves i c) c)
     else spans_in b moves i (spans_at b moves i c) c
 
 -- the tenures of an axis
@@ -81,12 +81,12 @@ takes_in b moves i x c = of_going (going_of (happening_at b moves i).goings c) (
 abbrev pub tenures_in : Board → List Move → ℕ → List Tenure → ℕ → List Tenure
 tenures_in b moves i old x =
     if among (happening_at b moves i).frees x
-    then handed None ((rows_at b moves i).past (actor b moves i) (actor b moves i)) (record { channel = actor b moves i; place = suc ((rows_at b moves i).past (actor b moves i) (actor b moves i)) }) old
+    then tenures_handed_on None ((rows_at b moves i).past (actor b moves i) (actor b moves i)) (record { channel = actor b moves i; place = suc ((rows_at b moves i).past (actor b moves i) (actor b moves i)) }) old
     else old
 
 abbrev pub taken_by : Board → List Move → ℕ → Option ℕ → List Tenure → List Tenure
 taken_by b moves i None old = old
-taken_by b moves i (Some c) old = handed (Some c) 0 (record { channel = c; place = suc ((rows_in b moves i).past c c) }) old
+taken_by b moves i (Some c) old = tenures_handed_on (Some c) 0 (record { channel = c; place = suc ((rows_in b moves i).past c c) }) old
 
 abbrev pub tenures_at : Board → List Move → ℕ → ℕ → List Tenure
 tenures_at b moves zero x = record { owner = owner_of (b.axis x); first = None; last = None; from = 0; upto = 0 } ∷ []

@@ -3,7 +3,7 @@ use Rattle.std.proofs.Common.{◌≡◌, ◌∙◌, ℕ, zero, suc, ◌+◌, ◌
 use Rattle.std.proofs.lemmas.Bool.{and_parts, cases_Bool, eqb-true, eq-eqb, ne_eqb}
 use Rattle.board_laws.proofs.Parts.{first_is}
 use Rattle.board_laws.proofs.Takings.{Taken}
-use Rattle.board_laws.specs.Machine.{Place, Tenure, handed}
+use Rattle.board_laws.specs.Machine.{Place, Tenure, tenures_handed_on}
 use Rattle.board_laws.specs.Zones.{Zones}
 use Rattle.order_clocks.proofs.CounterLaws.{closed_other, opened_other}
 use Rattle.order_clocks.proofs.DepartLaws.{going_there}
@@ -71,7 +71,7 @@ next_place counts o = record { channel = o.channel; place = suc (counts o.channe
 
 -- an event lets the axis go, or takes it, or neither
 abbrev pub hand : ℕ → (ℕ → ℕ) → Occurrence → List Tenure → List Tenure
-hand x counts o ts = if o.frees x then handed None (counts o.channel) (next_place counts o) ts else if o.takes x then handed (Some o.channel) 0 (next_place counts o) ts else ts
+hand x counts o ts = if o.frees x then tenures_handed_on None (counts o.channel) (next_place counts o) ts else if o.takes x then tenures_handed_on (Some o.channel) 0 (next_place counts o) ts else ts
 
 abbrev pub hands : ℕ → (ℕ → ℕ) → List Tenure → List Occurrence → List Tenure
 hands x counts ts [] = ts
@@ -97,7 +97,7 @@ hands_same : (x : ℕ) (f g : ℕ → ℕ) (ts : List Tenure) (os : List Occurre
 hands_same x f g ts [] same = refl
 hands_same x f g ts (o ∷ os) same =
     hands_same x (counted f o.channel) (counted g o.channel) (hand x f o ts) os (counted_same f g o.channel same)
-    ∙ ap (λ (n : ℕ). hands x (counted g o.channel) (if o.frees x then handed None n (record { channel = o.channel; place = suc n }) ts else if o.takes x then handed (Some o.channel) 0 (record { channel = o.channel; place = suc n }) ts else ts) os) (same o.channel)
+    ∙ ap (λ (n : ℕ). hands x (counted g o.channel) (if o.frees x then tenures_handed_on None n (record { channel = o.channel; place = suc n }) ts else if o.takes x then tenures_handed_on (Some o.channel) 0 (record { channel = o.channel; place = suc n }) ts else ts) os) (same o.channel)
 
 after_same : (f g : ℕ → ℕ) (os : List Occurrence) → ((d : ℕ) → f d ≡ g d) → (d : ℕ) → counts_after f os d ≡ counts_after g os d
 after_same f g [] same d = same d
@@ -107,11 +107,11 @@ after_same f g (o ∷ os) same d = after_same (counted f o.channel) (counted g o
 
 module _ (x i : ℕ) (all : List Going) where
   hand_not : (counts : ℕ → ℕ) (ts : List Tenure) (g : Going) → among g.took x ≡ false → hand x counts (going_on_of i all g) ts ≡ ts
-  hand_not counts ts g off = ap (λ (t : Bool). if t then handed (Some g.channel) 0 (record { channel = g.channel; place = suc (counts g.channel) }) ts else ts) off
+  hand_not counts ts g off = ap (λ (t : Bool). if t then tenures_handed_on (Some g.channel) 0 (record { channel = g.channel; place = suc (counts g.channel) }) ts else ts) off
 
   hand_takes : (counts : ℕ → ℕ) (ts : List Tenure) (g : Going) → among g.took x ≡ true
-      → hand x counts (going_on_of i all g) ts ≡ handed (Some g.channel) 0 (record { channel = g.channel; place = suc (counts g.channel) }) ts
-  hand_takes counts ts g on = ap (λ (t : Bool). if t then handed (Some g.channel) 0 (record { channel = g.channel; place = suc (counts g.channel) }) ts else ts) on
+      → hand x counts (going_on_of i all g) ts ≡ tenures_handed_on (Some g.channel) 0 (record { channel = g.channel; place = suc (counts g.channel) }) ts
+  hand_takes counts ts g on = ap (λ (t : Bool). if t then tenures_handed_on (Some g.channel) 0 (record { channel = g.channel; place = suc (counts g.channel) }) ts else ts) on
 
   none_takes : (counts : ℕ → ℕ) (ts : List Tenure) (gs : List Going) → ((g : Going) → IsIn g gs → among g.took x ≡ false) → hands x counts ts (map (going_on_of i all) gs) ≡ ts
   none_takes counts ts [] none = refl
@@ -120,7 +120,7 @@ module _ (x i : ℕ) (all : List Going) where
       ∙ (none_takes (counted counts g.channel) ts gs (λ h within. none h (inr within)))
 
   one_takes : (counts : ℕ → ℕ) (ts : List Tenure) (gs : List Going) (g : Going) → Once gs → IsIn g gs → among g.took x ≡ true → ((h : Going) → IsIn h gs → among h.took x ≡ true → h.channel ≡ g.channel)
-      → hands x counts ts (map (going_on_of i all) gs) ≡ handed (Some g.channel) 0 (record { channel = g.channel; place = suc (counts g.channel) }) ts
+      → hands x counts ts (map (going_on_of i all) gs) ≡ tenures_handed_on (Some g.channel) 0 (record { channel = g.channel; place = suc (counts g.channel) }) ts
   one_takes counts ts [] g once within takes only = absurd within
   one_takes counts ts (h ∷ gs) g once (inl e) takes only =
       let on : among h.took x ≡ true = ap (λ (k : Going). among k.took x) (sym e) ∙ takes in
@@ -129,14 +129,14 @@ module _ (x i : ℕ) (all : List Going) where
         | inl yes_it ↦ absurd (once.0 k there (only h (inl refl) on ∙ sym (only k (inr there) yes_it)))
       ] in
       ap (λ (us : List Tenure). hands x (counted counts h.channel) us (map (going_on_of i all) gs)) (hand_takes counts ts h on)
-      ∙ none_takes (counted counts h.channel) (handed (Some h.channel) 0 (record { channel = h.channel; place = suc (counts h.channel) }) ts) gs rest
-      ∙ (ap (λ (k : Going). handed (Some k.channel) 0 (record { channel = k.channel; place = suc (counts k.channel) }) ts) (sym e))
+      ∙ none_takes (counted counts h.channel) (tenures_handed_on (Some h.channel) 0 (record { channel = h.channel; place = suc (counts h.channel) }) ts) gs rest
+      ∙ (ap (λ (k : Going). tenures_handed_on (Some k.channel) 0 (record { channel = k.channel; place = suc (counts k.channel) }) ts) (sym e))
   one_takes counts ts (h ∷ gs) g once (inr there) takes only =
       let apart : g.channel ≡ h.channel → ⊥ = λ same. once.0 g there (sym same) in
       let off : among h.took x ≡ false = elim (cases_Bool (among h.took x)) [ inl on ↦ absurd (apart (sym (only h (inl refl) on))) | inr off ↦ off ] in
       ap (λ (us : List Tenure). hands x (counted counts h.channel) us (map (going_on_of i all) gs)) (hand_not counts ts h off)
       ∙ (one_takes (counted counts h.channel) ts gs g once.1 there takes (λ k within on. only k (inr within) on)
-      ∙ ap (λ (n : ℕ). handed (Some g.channel) 0 (record { channel = g.channel; place = suc n }) ts) (rw (ne_eqb g.channel h.channel apart) refl))
+      ∙ ap (λ (n : ℕ). tenures_handed_on (Some g.channel) 0 (record { channel = g.channel; place = suc n }) ts) (rw (ne_eqb g.channel h.channel apart) refl))
 
   goings_counted : (counts : ℕ → ℕ) (gs : List Going) (c : ℕ) → Once gs → counts_after counts (map (going_on_of i all) gs) c ≡ cond (among (channels_in gs) c) (suc (counts c)) (counts c)
   goings_counted counts [] c once = refl
@@ -180,7 +180,7 @@ pub record AreTakers (x : ℕ) (gs : List Going) : Type 0 where
 
 abbrev by_taker : (ℕ → ℕ) → Option ℕ → List Tenure → List Tenure
 by_taker counts None ts = ts
-by_taker counts (Some c) ts = handed (Some c) 0 (record { channel = c; place = suc (counts c) }) ts
+by_taker counts (Some c) ts = tenures_handed_on (Some c) 0 (record { channel = c; place = suc (counts c) }) ts
 
 goings_hand : (x i : ℕ) (all gs : List Going) (counts : ℕ → ℕ) (ts : List Tenure) → AreTakers x gs
     → hands x counts ts (map (going_on_of i all) gs) ≡ by_taker counts (first_of (filter (λ c. of_going (going_of gs c) (λ g. among g.took x)) channel_numbers)) ts
@@ -190,12 +190,12 @@ goings_hand x i all gs counts ts takers = by_first (first_of (filter takes chann
     takes c = of_going (going_of gs c) (λ g. among g.took x)
 
     by_going : (o : Option Going) → (c : ℕ) → going_of gs c ≡ o → of_going o (λ g. among g.took x) ≡ true
-        → hands x counts ts (map (going_on_of i all) gs) ≡ handed (Some c) 0 (record { channel = c; place = suc (counts c) }) ts
+        → hands x counts ts (map (going_on_of i all) gs) ≡ tenures_handed_on (Some c) 0 (record { channel = c; place = suc (counts c) }) ts
     by_going None c e on = absurd cc
     by_going (Some g) c e on =
         let f = found_in gs c g e in
         one_takes x i all counts ts gs g takers.once f.0 on (λ h within takes_it. takers.only g h f.0 within on takes_it)
-        ∙ ap (λ (d : ℕ). handed (Some d) 0 (record { channel = d; place = suc (counts d) }) ts) f.1
+        ∙ ap (λ (d : ℕ). tenures_handed_on (Some d) 0 (record { channel = d; place = suc (counts d) }) ts) f.1
 
     by_first : (o : Option ℕ) → first_of (filter (λ c. of_going (going_of gs c) (λ g. among g.took x)) channel_numbers) ≡ o → hands x counts ts (map (going_on_of i all) gs) ≡ by_taker counts o ts
     by_first None e = none_takes x i all counts ts gs (λ g within. elim (cases_Bool (among g.took x)) [

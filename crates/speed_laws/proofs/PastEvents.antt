@@ -5,7 +5,7 @@ use Rattle.std.proofs.lemmas.List.{map-append}
 use Rattle.std.proofs.lemmas.List.Elements.{All-head, All-tail, filter-append}
 use Rattle.std.specs.List.{list_all}
 use Rattle.board_laws.proofs.Zones.{zones_first, zones_step}
-use Rattle.board_laws.specs.Machine.{Clock, State as Machine, placed}
+use Rattle.board_laws.specs.Machine.{Clock, State as Machine, with_value_at}
 use Rattle.board_laws.specs.Zones.{Zones}
 use Rattle.order_clocks.proofs.CounterLaws.{before_to, one_row}
 use Rattle.order_clocks.proofs.OrderLaws.{one_in, order_in}
@@ -223,7 +223,7 @@ place_told b moves c k o run zs is =
 
 -- ---- clocks by places
 
-unplaced : {A : Type 0} (i : ℕ) (new : A) (old : ℕ → A) (j : ℕ) → j < i → placed i new old j ≡ old j
+unplaced : {A : Type 0} (i : ℕ) (new : A) (old : ℕ → A) (j : ℕ) → j < i → with_value_at i new old j ≡ old j
 unplaced i new old j below = rw (ne_eqb j i (λ same. absurd (omega (arith, below, same)))) refl
 
 -- no clock counts more events of a channel than there are
@@ -243,12 +243,12 @@ clocks_within b moves (suc i) c j x =
     at_place false new old n one two = two
 
     by_actor : (t : Bool) → clocks_at b moves i c j x ≤ (rows_at b moves i).past x x
-        → cond t (placed ((rows_in b moves i).past c c) ((rows_in b moves i).past c) (clocks_at b moves i c)) (clocks_at b moves i c) j x ≤ (rows_at b moves (suc i)).past x x
+        → cond t (with_value_at ((rows_in b moves i).past c c) ((rows_in b moves i).past c) (clocks_at b moves i c)) (clocks_at b moves i c) j x ≤ (rows_at b moves (suc i)).past x x
     by_actor true old = at_place (j == (rows_in b moves i).past c c) ((rows_in b moves i).past c) (clocks_at b moves i c j) ((rows_at b moves (suc i)).past x x) inner (omega (arith, old, up))
     by_actor false old = omega (arith, old, up)
 
     by_going : (t : Bool) → clocks_in b moves i (clocks_at b moves i c) c j x ≤ (rows_at b moves (suc i)).past x x
-        → cond t (placed ((rows_at b moves (suc i)).past c c) ((rows_at b moves (suc i)).past c) (clocks_in b moves i (clocks_at b moves i c) c)) (clocks_in b moves i (clocks_at b moves i c) c) j x ≤ (rows_at b moves (suc i)).past x x
+        → cond t (with_value_at ((rows_at b moves (suc i)).past c c) ((rows_at b moves (suc i)).past c) (clocks_in b moves i (clocks_at b moves i c) c)) (clocks_in b moves i (clocks_at b moves i c) c) j x ≤ (rows_at b moves (suc i)).past x x
     by_going true mid = at_place (j == (rows_at b moves (suc i)).past c c) ((rows_at b moves (suc i)).past c) (clocks_in b moves i (clocks_at b moves i c) c j) ((rows_at b moves (suc i)).past x x) ((rows_within (course_of b moves) (suc i)).past c x) mid
     by_going false mid = mid
 
@@ -256,12 +256,12 @@ clocks_within b moves (suc i) c j x =
 clocks_stay : (b : Board) (moves : List Move) (i c j : ℕ) → j ≤ (rows_at b moves i).past c c → clocks_at b moves (suc i) c j ≡ clocks_at b moves i c j
 clocks_stay b moves i c j below = by_going (goes_in b moves i c) refl ∙ by_actor (c == actor b moves i) refl
   where
-    by_actor : (t : Bool) → (c == actor b moves i) ≡ t → cond t (placed ((rows_in b moves i).past c c) ((rows_in b moves i).past c) (clocks_at b moves i c)) (clocks_at b moves i c) j ≡ clocks_at b moves i c j
+    by_actor : (t : Bool) → (c == actor b moves i) ≡ t → cond t (with_value_at ((rows_in b moves i).past c c) ((rows_in b moves i).past c) (clocks_at b moves i c)) (clocks_at b moves i c) j ≡ clocks_at b moves i c j
     by_actor true is = let one = count_act b moves i c (sym (eqb-true c (actor b moves i) is)) in unplaced ((rows_in b moves i).past c c) ((rows_in b moves i).past c) (clocks_at b moves i c) j (omega (arith, one, below))
     by_actor false is = refl
 
     by_going : (t : Bool) → goes_in b moves i c ≡ t
-        → cond t (placed ((rows_at b moves (suc i)).past c c) ((rows_at b moves (suc i)).past c) (clocks_in b moves i (clocks_at b moves i c) c)) (clocks_in b moves i (clocks_at b moves i c) c) j ≡ clocks_in b moves i (clocks_at b moves i c) c j
+        → cond t (with_value_at ((rows_at b moves (suc i)).past c c) ((rows_at b moves (suc i)).past c) (clocks_in b moves i (clocks_at b moves i c) c)) (clocks_in b moves i (clocks_at b moves i c) c) j ≡ clocks_in b moves i (clocks_at b moves i c) c j
     by_going true is =
         let one = count_go b moves i c is in
         let up = rows_up b moves i c in

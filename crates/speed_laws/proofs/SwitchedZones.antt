@@ -8,7 +8,7 @@ use Rattle.axis_sets.proofs.SetLaws.{list_any-members_of}
 use Rattle.axis_sets.specs.Sets.{has, members_of}
 use Rattle.board_laws.proofs.Takings.{IsOf, taker_grant}
 use Rattle.board_laws.proofs.Zones.{zones_goes, zones_part, zones_step, zones_takings}
-use Rattle.board_laws.specs.Machine.{carried, grant_by, holds_zone}
+use Rattle.board_laws.specs.Machine.{holds_by_carrier, grant_by, holds_zone}
 use Rattle.board_laws.specs.Zones.{Zones}
 use Rattle.order_clocks.proofs.MemberLaws.{in_append}
 use Rattle.order_clocks.proofs.ReadLaws.{part_acts, part_alarms}
@@ -143,7 +143,7 @@ module _ (b : Board) (p : ℕ) (step : Step) (zs : Zones b) (running : is_runnin
       or_there false v on = on
 
       by_first : (o : Option ℕ) → first_of (members_of (axes_of_zone before.start z)) ≡ o
-          → carried (first_of (members_of (axes_of_zone before.start z))) (λ x. among (axes_asked (before.state g.channel)) x || owns before g.channel x) (is_this (first_holder before.start z) g.channel) ≡ true
+          → holds_by_carrier (first_of (members_of (axes_of_zone before.start z))) (λ x. among (axes_asked (before.state g.channel)) x || owns before g.channel x) (is_this (first_holder before.start z) g.channel) ≡ true
       by_first None is =
           let starts_same : final.start ≡ before.start = (taken b p step zs running).start in
           let bare : final.holder z ≡ first_holder final.start z = zones_final.bare z (ap (λ s. first_of (members_of (axes_of_zone s z))) starts_same ∙ is) in

@@ -5,7 +5,7 @@ use Rattle.std.proofs.lemmas.List.Elements.{All-head, All-tail}
 use Rattle.std.specs.Option.{option_map_or}
 use Rattle.axis_sets.specs.Positions.{stands}
 use Rattle.axis_sets.specs.Sets.{has}
-use Rattle.board_laws.specs.Machine.{Place, handed}
+use Rattle.board_laws.specs.Machine.{Place, tenures_handed_on}
 use Rattle.board_laws.specs.Machine as machine
 use Rattle.job_types.specs.Zones.{has_axis}
 use Rattle.job_types.specs.declared.job.ZoneLine.{ZoneLine}
@@ -90,10 +90,10 @@ module _ (zone : ZoneLine) (x : ℕ) (carries : has_axis zone x ≡ true) where
       not_taken : carry zone o.takes ≡ false → o.takes x ≡ false
       not_taken off = elim (cases_Bool (o.takes x)) [ inl on ↦ no_truth (carry zone o.takes) (carry_to zone o.takes x carries on) off | inr out ↦ out ]
 
-  pub hand_frees : (counts : ℕ → ℕ) (o : Occurrence) (ts : List machine.Tenure) → o.frees x ≡ true → hand x counts o ts ≡ handed None (counts o.channel) (next_place counts o) ts
+  pub hand_frees : (counts : ℕ → ℕ) (o : Occurrence) (ts : List machine.Tenure) → o.frees x ≡ true → hand x counts o ts ≡ tenures_handed_on None (counts o.channel) (next_place counts o) ts
   hand_frees counts o ts on = rw on refl
 
-  pub hand_takes : (counts : ℕ → ℕ) (o : Occurrence) (ts : List machine.Tenure) → o.frees x ≡ false → o.takes x ≡ true → hand x counts o ts ≡ handed (Some o.channel) 0 (next_place counts o) ts
+  pub hand_takes : (counts : ℕ → ℕ) (o : Occurrence) (ts : List machine.Tenure) → o.frees x ≡ false → o.takes x ≡ true → hand x counts o ts ≡ tenures_handed_on (Some o.channel) 0 (next_place counts o) ts
   hand_takes counts o ts off on = rw (off, on) refl
 
   pub hand_neither : (counts : ℕ → ℕ) (o : Occurrence) (ts : List machine.Tenure) → o.frees x ≡ false → o.takes x ≡ false → hand x counts o ts ≡ ts
@@ -163,7 +163,7 @@ module _ (zone : ZoneLine) (x : ℕ) (carries : has_axis zone x ≡ true) where
       at : At all (next_place counts o) o
       at = left_here all counts o os left
 
-      until_is : (to : Option ℕ) (upto : ℕ) → handed to upto (next_place counts o) (u ∷ older)
+      until_is : (to : Option ℕ) (upto : ℕ) → tenures_handed_on to upto (next_place counts o) (u ∷ older)
           ≡ record { owner = to; first = Some (next_place counts o); last = None; from = suc (counts o.channel); upto = 0 } ∷ until u upto (next_place counts o) ∷ older
       until_is to upto = refl
 
@@ -206,7 +206,7 @@ module _ (zone : ZoneLine) (x : ℕ) (carries : has_axis zone x ≡ true) where
   stays_older (o ∷ os) counts u older v within = by_test (o.frees x) (o.takes x) (λ u' older' there. stays_older os (counted counts o.channel) u' older' v there)
     where
       by_test : (f t : Bool) → ((u' : machine.Tenure) (older' : List machine.Tenure) → IsIn v older' → IsIn v (hands x (counted counts o.channel) (u' ∷ older') os))
-          → IsIn v (hands x (counted counts o.channel) (cond f (handed None (counts o.channel) (next_place counts o) (u ∷ older)) (cond t (handed (Some o.channel) 0 (next_place counts o) (u ∷ older)) (u ∷ older))) os)
+          → IsIn v (hands x (counted counts o.channel) (cond f (tenures_handed_on None (counts o.channel) (next_place counts o) (u ∷ older)) (cond t (tenures_handed_on (Some o.channel) 0 (next_place counts o) (u ∷ older)) (u ∷ older))) os)
       by_test true t rest = rest _ _ (inr within)
       by_test false true rest = rest _ _ (inr within)
       by_test false false rest = rest u older within
@@ -244,7 +244,7 @@ module _ (zone : ZoneLine) (x : ℕ) (carries : has_axis zone x ≡ true) where
           }
 
       by_test : (f t : Bool) → LastsIn base u (hands x (counted counts o.channel) (u ∷ older) os)
-          → LastsIn base u (hands x (counted counts o.channel) (cond f (handed None (counts o.channel) (next_place counts o) (u ∷ older)) (cond t (handed (Some o.channel) 0 (next_place counts o) (u ∷ older)) (u ∷ older))) os)
+          → LastsIn base u (hands x (counted counts o.channel) (cond f (tenures_handed_on None (counts o.channel) (next_place counts o) (u ∷ older)) (cond t (tenures_handed_on (Some o.channel) 0 (next_place counts o) (u ∷ older)) (u ∷ older))) os)
       by_test true t rest = over _ _
       by_test false true rest = over _ _
       by_test false false rest = rest
@@ -276,7 +276,7 @@ module _ (zone : ZoneLine) (x : ℕ) (carries : has_axis zone x ≡ true) where
       record {
         tenure = record { owner = None; first = Some (next_place counts o); last = None; from = suc (counts o.channel); upto = 0 };
         older = record { owner = n.tenure.owner; first = n.tenure.first; last = Some (next_place counts o); from = n.tenure.from; upto = counts o.channel } ∷ n.older;
-        are = hand_frees counts o ts on ∙ ap (handed None (counts o.channel) (next_place counts o)) n.are;
+        are = hand_frees counts o ts on ∙ ap (tenures_handed_on None (counts o.channel) (next_place counts o)) n.are;
         owned = rw (changes, off) refl;
         lasting = refl;
         from = tt;
@@ -287,7 +287,7 @@ module _ (zone : ZoneLine) (x : ℕ) (carries : has_axis zone x ≡ true) where
       record {
         tenure = record { owner = Some o.channel; first = Some (next_place counts o); last = None; from = suc (counts o.channel); upto = 0 };
         older = record { owner = n.tenure.owner; first = n.tenure.first; last = Some (next_place counts o); from = n.tenure.from; upto = 0 } ∷ n.older;
-        are = hand_takes counts o ts stays on ∙ ap (handed (Some o.channel) 0 (next_place counts o)) n.are;
+        are = hand_takes counts o ts stays on ∙ ap (tenures_handed_on (Some o.channel) 0 (next_place counts o)) n.are;
         owned = rw (changes, takes_it) refl;
         lasting = refl;
         from = omega (arith, mine);
