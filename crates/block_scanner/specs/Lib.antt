@@ -1,5 +1,6 @@
 pub mod Bytes
 pub mod Front
+pub mod LineParts
 pub mod Scanned
 pub mod Signs
 pub mod Texts

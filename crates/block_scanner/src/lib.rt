@@ -5,6 +5,7 @@ ghost use Rattle.std.specs.Prelude.{◌≡◌, ◌<◌, length, slice_index_or};
 
 mod beginnings;
 mod bytes;
+mod cutter;
 mod laws;
 mod limits;
 mod numbers;
@@ -12,6 +13,7 @@ mod scanning;
 mod signs;
 
 pub use bytes::{is_blank, is_name_part, is_name_start};
+pub use cutter::Cutter;
 pub use laws::lines_say_one_thing;
 pub use limits::LINE_LIMIT;
 pub use scanning::scan;

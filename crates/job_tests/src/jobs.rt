@@ -1,4 +1,7 @@
 //! Whole jobs, and each refusal, read from texts.
+ghost use Rattle.std.specs.Prelude.{◌+◌, ◌<◌, ◌≤◌, length};
+
+use nc_faults::NoMemory;
 use std::alloc::{AllocError, Global};
 use std::test::Fail;
 use tape_job::*;
@@ -9,6 +12,32 @@ fn read_text(alloc: Global, text: &str) -> Result<Job, JobFault> {
         return Err(JobFault::NoMemory);
     }
     read_job(alloc, text.as_bytes())
+}
+
+/// Gives a reader bytes in pieces of a size.
+fn feed_in_pieces(reader: &mut JobReader, bytes: &[u8], size: usize) -> Result<(), NoMemory>
+    requires some { 0 < size }
+    requires few { reader.old.given + length bytes.now ≤ 8388609 }
+{
+    let mut rest = bytes;
+    while !rest.is_empty() {
+        let (piece, after) = rest.split_at(size.min(rest.len()));
+        reader.feed(piece)?;
+        rest = after;
+    }
+    Ok(())
+}
+
+/// Reads the job of a text that comes in pieces of a size.
+fn read_in_pieces(alloc: Global, text: &str, size: usize) -> Result<Job, JobFault>
+    requires { 0 < size }
+{
+    if text.len() > 8_388_609 {
+        return Err(JobFault::NoMemory);
+    }
+    let mut reader = JobReader::new(alloc)?;
+    feed_in_pieces(&mut reader, text.as_bytes(), size)?;
+    reader.finish()
 }
 
 /// The text of marks: `~` is a line feed, `&` a carriage return, `^` a byte that no text has, and `*` stands for 510 semicolons.
@@ -71,9 +100,13 @@ fn reads_lines_and_options(rt: HostRuntime) -> Result<(), Fail> {
     let alloc = rt.alloc();
     for row in JOBS.lines() {
         let (marks, want) = row.split_once(" => ").ok_or("no row")?;
-        let job = read_text(alloc, &text_of(alloc, marks)?)?;
-        let got = lines_and_options(alloc, &job)?;
+        let text = text_of(alloc, marks)?;
+        let got = lines_and_options(alloc, &read_text(alloc, &text)?)?;
         assert!(rt; got.as_str() == want, "of {row}");
+        let got = lines_and_options(alloc, &read_in_pieces(alloc, &text, 1)?)?;
+        assert!(rt; got.as_str() == want, "in bytes, of {row}");
+        let got = lines_and_options(alloc, &read_in_pieces(alloc, &text, 7)?)?;
+        assert!(rt; got.as_str() == want, "in pieces, of {row}");
     }
     Ok(())
 }
@@ -91,6 +124,7 @@ JOB 1~%_N_A_MPF~X5 ^ \"a~ => 3 3
 JOB 1~%_N_A_MPF~X5 \"a ^~ => 20 3
 JOB 1~%_N_A_MPF~MSG(\"a;b\") ;^ \"~ => read
 JOB 1~%_N_A_MPF~LOOP~%^~ => 25 3
+JOB 1~%_N_A_MPF~LOOP~%*;~ => 25 3
 JOB 1~*;~ => read
 JOB 1~*;;~ => 2 2
 JOB 1~*&~ => read
@@ -98,11 +132,12 @@ JOB 1~*;&~ => 2 2
 JOB 1~*;; => read
 JOB 1~*;;; => 2 2
 JOB 1~^*;~ => 2 2
+JOB 1~FOO~%_N_A_MPF~M30~JOB 1 ^~ => 4 2
 ";
 
-/// The code and the line of the refusal of a text, or that it is read.
-fn outcome(alloc: Global, text: &str) -> Result<String, Fail> {
-    match read_text(alloc, text) {
+/// The code and the line of a refusal, or that a job is read.
+fn outcome(alloc: Global, read: Result<Job, JobFault>) -> Result<String, Fail> {
+    match read {
         Ok(_) => Ok(format!(in alloc; "read")?),
         Err(JobFault::Refused(refused)) => {
             Ok(format!(in alloc; "{} {}", refused.code, refused.line)?)
@@ -116,8 +151,13 @@ fn refuses_in_the_order_of_the_rules(rt: HostRuntime) -> Result<(), Fail> {
     let alloc = rt.alloc();
     for row in REFUSALS.lines() {
         let (marks, want) = row.split_once(" => ").ok_or("no row")?;
-        let got = outcome(alloc, &text_of(alloc, marks)?)?;
+        let text = text_of(alloc, marks)?;
+        let got = outcome(alloc, read_text(alloc, &text))?;
         assert!(rt; got.as_str() == want, "of {row}");
+        let got = outcome(alloc, read_in_pieces(alloc, &text, 1))?;
+        assert!(rt; got.as_str() == want, "in bytes, of {row}");
+        let got = outcome(alloc, read_in_pieces(alloc, &text, 7))?;
+        assert!(rt; got.as_str() == want, "in pieces, of {row}");
     }
     Ok(())
 }

@@ -13,6 +13,8 @@ mod control;
 #[cfg(test)]
 mod coordination;
 #[cfg(test)]
+mod cutting;
+#[cfg(test)]
 mod expressions;
 #[cfg(test)]
 mod groups;

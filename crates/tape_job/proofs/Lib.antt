@@ -1,9 +1,11 @@
 pub mod BareLines
 pub mod FirstRefusalLemmas
 pub mod FitLemmas
+pub mod InputLemmas
 pub mod LibraryLemmas
 pub mod LineLemmas
 pub mod NestLemmas
+pub mod PieceLemmas
 pub mod ReadingLemmas
 pub mod SoundJobLines
 pub mod SoundJobs

@@ -1,6 +1,8 @@
 pub mod Draft
 pub mod FirstRefusal
+pub mod Input
 pub mod Lines
+pub mod Pieces
 pub mod Read
 pub mod Reading
 pub mod Rules

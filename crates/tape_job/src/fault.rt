@@ -12,3 +12,14 @@ pub enum JobFault {
     #[error("out of memory")]
     NoMemory,
 }
+
+impl From<NoMemory> for JobFault {
+    ghost use Rattle.std.specs.Prelude.{◌≡◌};
+    ghost use Rattle.tape_job.specs.declared.fault.JobFault.TheVariants as faults;
+
+    ghost from_gives = { λ _ fault. fault ≡ faults.NoMemory };
+
+    fn from(_: NoMemory) -> JobFault {
+        JobFault::NoMemory
+    }
+}

@@ -4,9 +4,12 @@
 mod adding;
 mod draft;
 mod fault;
+mod job_reader;
 mod laws;
 mod library;
 mod lines;
+mod numbered_reader;
+mod piece_reader;
 mod programs;
 mod read;
 mod reader;
@@ -14,6 +17,7 @@ mod reading;
 mod rules;
 
 pub use fault::JobFault;
+pub use job_reader::JobReader;
 pub use job_types::{AxisLine, ChannelLine, GeoLine, Job, OffsetLine, Program, Side, ZoneLine};
 pub use laws::{accepted_jobs_are_sound, refusals_are_first};
 pub use read::read_job;

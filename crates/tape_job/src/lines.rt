@@ -1,8 +1,9 @@
 //! Lines of bytes, their texts and their words.
-ghost use Rattle.std.specs.Prelude.{◌≡◌, ◌∷◌, ◌<◌, ◌≤◌, IfOk, map, length, position};
+ghost use Rattle.std.specs.Prelude.{◌≡◌, ◌≤◌, true, IfOk, IfSome, map, length, position};
 ghost use Rattle.block_scanner.specs.Bytes.{is_semicolon};
+ghost use Rattle.block_scanner.specs.LineParts.{first_of};
 ghost use Rattle.nc_blocks.specs.Names.{upper};
-ghost use Rattle.tape_job.specs.Lines.{is_feed, raw_lines, text_of, before_comment, words, is_visible, has_token, begins_with_percent, is_bare};
+ghost use Rattle.tape_job.specs.Lines.{is_feed, text_of, before_comment, words, is_visible, has_token, begins_with_percent, is_bare};
 
 use block_scanner::is_blank;
 use std::alloc::{AllocError, Global};
@@ -14,17 +15,14 @@ fn feed_in(bytes: &[u8]) -> Option<usize>
     bytes.iter().position(|byte| *byte == b'\n')
 }
 
-/// The first line with its line end, and what follows it.
-#[tactic(auto, using(crate::proofs::LineLemmas::raw_lines_found, crate::proofs::LineLemmas::raw_lines_none))]
-pub(crate) fn first_line(bytes: &[u8]) -> (&[u8], &[u8])
-    requires { 0 < length bytes.now }
-    ensures lines { raw_lines bytes.now ≡ result.0.now ∷ raw_lines result.1.now }
-    ensures shorter { length result.1.now < length bytes.now }
+/// How many bytes the first line has with its line feed, where it has one.
+#[tactic(auto, unfolding(block_scanner::specs::LineParts::first_of))]
+pub(crate) fn length_of_first(bytes: &[u8]) -> Option<usize>
+    ensures first { IfSome result (λ n. first_of bytes.now ≡ (n, true)) }
+    ensures within { IfSome result (λ n. n ≤ length bytes.now) }
 {
-    match feed_in(bytes) {
-        Some(at) => bytes.split_at(at + 1),
-        None => bytes.split_at(bytes.len()),
-    }
+    let at = feed_in(bytes)?;
+    Some(at + 1)
 }
 
 /// The text of a line, without its line end.

@@ -3,9 +3,7 @@ ghost use Rattle.std.specs.Prelude.{◌≤◌, length, IfOk, IfErr};
 ghost use Rattle.tape_job.specs.Read.{read_of, GivesRead, IsListed};
 ghost use Rattle.job_types.specs.SoundJob.{BlocksFit};
 
-use crate::JobFault;
-use crate::lines::first_line;
-use crate::reader::Reader;
+use crate::{JobFault, JobReader};
 use job_types::Job;
 use std::alloc::Global;
 
@@ -22,14 +20,7 @@ pub fn read_job(alloc: Global, bytes: &[u8]) -> Result<Job, JobFault>
     ensures indices { IfOk result BlocksFit }
     ensures listed { IfErr result IsListed }
 {
-    let mut reader = Reader::new(alloc);
-    let mut rest = bytes;
-    let mut number = 0;
-    while !rest.is_empty() {
-        let (raw, after) = first_line(rest);
-        number += 1;
-        reader.line(alloc, number, raw)?;
-        rest = after;
-    }
-    reader.finish(alloc)
+    let mut reader = JobReader::new(alloc)?;
+    reader.feed(bytes)?;
+    reader.finish()
 }

@@ -31,13 +31,14 @@ impl Model for Reader {
 }
 
 impl Reader {
-    ghost use Rattle.std.specs.Prelude.{◌≡◌, ◌<◌, ◌≤◌, ◌+◌, ◌^◌, [], Ok, None, OnOk, IfOk, IfErr, IfSome};
+    ghost use Rattle.std.specs.Prelude.{◌≡◌, ◌<◌, ◌≤◌, ◌+◌, ◌^◌, ℕ, List, [], length, Ok, None, Some, OnOk, IfOk, IfErr, IfSome};
     ghost use Rattle.nc_faults.specs.Texts.{IsRefusalCode};
     ghost use Rattle.tape_job.specs.Reading.{reading_view, reading_of, ReadingFits, FaultIsListed};
     ghost use Rattle.tape_job.specs.Rules.{last_count, rule_of};
     ghost use Rattle.job_types.specs.SoundJob.{BlocksFit};
     ghost use Rattle.tape_job.specs.Told.{facts_of};
-    ghost use Rattle.tape_job.specs.Read.{answer, code_by, end_of_program, end_trial, GivesRead, IsListed};
+    ghost use Rattle.tape_job.specs.Lines.{begins_with_percent};
+    ghost use Rattle.tape_job.specs.Read.{answer, code_by, end_of_program, end_trial, trial, GivesRead, IsListed};
     ghost use Rattle.tape_job.specs.Steps.{tell, Adds, Admits, Tells};
 
     /// A reader to which no line is told.
@@ -131,6 +132,19 @@ impl Reader {
             Ok(()) => Ok(()),
             Err(LineFault::Broken(code)) => Err(JobFault::Refused(Refusal { code, line: number })),
             Err(LineFault::NoMemory) => Err(JobFault::NoMemory),
+        }
+    }
+
+    /// The refusal of a line that begins so and has more bytes than a line may have.
+    #[tactic(auto, using(crate::proofs::PieceLemmas::long_trial))]
+    pub(crate) fn too_long(&self, number: u32, front: &[u8]) -> Refusal
+        ensures exact { (line : List ℕ) → 512 < length line → begins_with_percent line ≡ begins_with_percent front.now
+            → trial self.now (number, line) ≡ Some result }
+        ensures listed { IsRefusalCode result.code }
+    {
+        match self.unmatched(front) {
+            Some(refused) => refused,
+            None => refusal(Code::LineTooLong, number),
         }
     }
 
