@@ -25,7 +25,7 @@ pub struct StepRows {
 pub struct StepPlaces {
     /// The place of the act's.
     pub first: usize,
-    /// By channel: how far behind it that of the channel stands.
+    /// By channel: how far after it that of the channel stands.
     pub goes: [u8; CHANNEL_PLACES],
 }
 
@@ -46,7 +46,7 @@ impl Model for RowTable {
     ghost invariant = { λ t. IsWhole (record { rows = t.rows.items; steps = t.steps.items }) };
 }
 
-/// Puts the rows of a step behind the others, and tells where they stand.
+/// Puts the rows of a step after the others, and tells where they stand.
 pub(crate) fn push_rows(
     list: &mut Vec<Row>,
     rows: &StepRows,
@@ -98,19 +98,19 @@ impl RowTable {
         Ok(())
     }
 
-    /// The row of an event of a step; no event past the end.
-    pub fn row(&self, step: usize, channel: usize, go: bool) -> Row
+    /// How many events of a channel are counted in the row of an event of a step; none past the end.
+    pub fn count(&self, step: usize, channel: usize, go: bool, of: usize) -> u64
         requires { channel < CHANNEL_PLACES }
-        ensures { (c : ℕ) → count_of result c ≡ count_of (row_at self.now step channel go) c }
+        ensures { result ≡ count_of (row_at self.now step channel go) of }
     {
         if step >= self.steps.len() {
-            return Row::zero();
+            return 0;
         }
         let places = &self.steps[step];
         if go {
-            self.rows[places.first + usize::from(places.goes[channel])]
+            self.rows[places.first + usize::from(places.goes[channel])].at(of)
         } else {
-            self.rows[places.first]
+            self.rows[places.first].at(of)
         }
     }
 }

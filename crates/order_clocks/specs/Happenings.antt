@@ -19,7 +19,7 @@ pub data Key : Type 0 where
   Started : (channel : ℕ) → Key
   Ended : (channel : ℕ) → Key
 
--- what an event leaves behind that a later one may mind: a mark was lowered, a mark was needed, an axis was
+-- what an event leaves that a later one may mind: a mark was lowered, a mark was needed, an axis was
 -- taken, INIT or START named a channel
 pub data Trace : Type 0 where
   Lowered : (channel number : ℕ) → Trace
@@ -128,7 +128,7 @@ abbrev pub rests_on : Option Going → List Key
 rests_on (Some g) = rests_in g g.from
 rests_on None = []
 
--- what an act and one that goes on leave behind
+-- what an act and one that goes on leave
 abbrev pub act_leaves : Happening → Trace → Bool
 act_leaves h (Lowered c m) = (c == h.channel) && h.lowers m
 act_leaves h (Touched c) = among h.touches c

@@ -9,7 +9,7 @@ ghost use Rattle.sync_types.specs.Runs.{ComesFrom};
 ghost use Rattle.sync_types.specs.Views.{StartView};
 
 use crate::counting::read_run;
-use counter_rows::{Row, RowTable};
+use counter_rows::RowTable;
 use nc_faults::NoMemory;
 use std::alloc::Global;
 use std::marker::Model;
@@ -38,12 +38,12 @@ impl Clocks {
         Clocks { rows, race }
     }
 
-    /// The counters of an event; none past the end.
-    fn row(&self, e: &EventId) -> Row
-        ensures { (c : ℕ) → count_of result c ≡ count_of (row_in self.now.rows e.now) c }
+    /// How many events of a channel are counted in the row of an event; none past the end.
+    fn count(&self, e: &EventId, of: usize) -> u64
+        ensures { result ≡ count_of (row_in self.now.rows e.now) of }
     {
         self.rows
-            .row(e.step as usize, usize::from(e.channel.number), e.go)
+            .count(e.step as usize, usize::from(e.channel.number), e.go, of)
     }
 
     /// Whether one event of the run is before another, each by its lowest channel. It takes no memory.
@@ -51,8 +51,8 @@ impl Clocks {
         ensures { result ≡ is_before_in self.now.rows a b }
     {
         let c = usize::from(a.channel.number);
-        let late = self.row(&b).at(c);
-        let early = self.row(&a).at(c);
+        let late = self.count(&b, c);
+        let early = self.count(&a, c);
         !is_same(&a, &b) && !(late < early)
     }
 

@@ -3,29 +3,17 @@ ghost use Rattle.order_clocks.specs.Clocked.{IsOrderOf, moves_in};
 ghost use Rattle.order_clocks.specs.Races.{IsFirst};
 ghost use Rattle.order_clocks.specs.Stops.{IsWhole};
 ghost use Rattle.order_clocks.specs.Tells.{is_before_in};
-ghost use Rattle.std.specs.Prelude.{◌≡◌, suc, ◌<◌, ◌^◌, length, map, sum, IfOk};
+ghost use Rattle.std.specs.Prelude.{◌<◌, ◌^◌, length, IfOk};
 ghost use Rattle.sync_types.specs.Boards.{Board};
 
 use crate::clocks::Clocks;
-use crate::reader::{Reader, goes_of};
+use crate::reader::Reader;
 use crate::search::Search;
 use counter_rows::{Row, RowTable};
 use nc_faults::NoMemory;
 use std::alloc::Global;
 use step_deeds::goers;
 use sync_types::{ChannelEnd, Entry};
-
-/// How many events the entries have: an act of each, and each that goes on.
-pub(crate) fn event_count(entries: &[Entry]) -> usize
-    requires { length entries.now < 2 ^ 32 }
-    ensures { result ≡ sum (map (λ e. suc (length e.goes)) entries.now) }
-{
-    let mut count = 0usize;
-    for place in 0..entries.len() {
-        count += 1 + goes_of(&entries[place]).len();
-    }
-    count
-}
 
 /// The counters of the events of a whole run, and its first race.
 pub(crate) fn read_run(
@@ -42,7 +30,8 @@ pub(crate) fn read_run(
     let first = Reader::new(entries, ends);
     let mut reader = first;
     let mut search = Search::new();
-    let mut table = RowTable::new(alloc, entries.len(), event_count(entries))?;
+    // Room for the acts. It grows for those that go on.
+    let mut table = RowTable::new(alloc, entries.len(), entries.len())?;
     for place in 0..entries.len() {
         let read = reader.next(entries, place);
         search.look(&first, entries, place, &read, &reader.watch);

@@ -81,47 +81,57 @@ pub(crate) fn go_event(channel: ChannelId, gone: &Departure, row: Row) -> Event
     }
 }
 
-/// That a channel goes on, where it does.
-pub(crate) fn go_event_at(
+/// Empties a place. One that is empty is not written.
+fn empty(place: &mut Option<Event>)
+    ensures { place.new ≡ None }
+{
+    if place.is_some() {
+        *place = None;
+    }
+}
+
+/// Puts in its place that a channel goes on, where it does.
+pub(crate) fn put_go(
     goes: &[Option<Departure>; CHANNEL_PLACES],
     rows: &[Row; CHANNEL_PLACES],
     channel: ChannelId,
-) -> Option<Event>
+    place: &mut Option<Event>,
+)
     requires numbers { (c : ℕ) → DepartsFromMark (slice_index_or goes.now c None) }
-    ensures { IsGoAt goes.now rows.now channel result }
+    ensures { IsGoAt goes.now rows.now channel place.new }
 {
     let c = usize::from(channel.number);
     match &goes[c] {
-        None => None,
-        Some(gone) => Some(go_event(channel, gone, rows[c])),
+        None => empty(place),
+        Some(gone) => *place = Some(go_event(channel, gone, rows[c])),
     }
 }
 
-/// By channel that it goes on.
-pub(crate) fn go_events(
+/// Puts in their places, by channel, that channels go on.
+pub(crate) fn put_goes(
     goes: &[Option<Departure>; CHANNEL_PLACES],
     rows: &[Row; CHANNEL_PLACES],
-) -> [Option<Event>; EVENT_PLACES]
+    events: &mut [Option<Event>; EVENT_PLACES],
+)
     requires numbers { (c : ℕ) → DepartsFromMark (slice_index_or goes.now c None) }
-    ensures go { (c : ℕ) → 0 < c → c < CHANNEL_PLACES → IsGoAt goes.now rows.now c (slice_index_or result c None) }
-    ensures none { slice_index_or result 0 None ≡ None }
-    ensures size { length result ≡ EVENT_PLACES }
+    ensures go { (c : ℕ) → 0 < c → c < CHANNEL_PLACES → IsGoAt goes.now rows.now c (slice_index_or events.new c None) }
+    ensures none { slice_index_or events.new 0 None ≡ None }
+    ensures size { length events.new ≡ EVENT_PLACES }
 {
-    let mut events = [None; EVENT_PLACES];
+    empty(&mut events[0]);
     for number in 1..CHANNEL_PLACES as u8 {
-        events[usize::from(number)] = go_event_at(goes, rows, ChannelId { number });
+        let place = &mut events[usize::from(number)];
+        put_go(goes, rows, ChannelId { number }, place);
     }
-    events
 }
 
-/// The events of a step: by channel that it goes on, and last the act.
-pub(crate) fn events_of(deed: &Deed, rows: &StepRows) -> [Option<Event>; EVENT_PLACES]
+/// Puts the events of a step in their places: by channel that it goes on, and last the act. What stood there is gone.
+pub(crate) fn put_events(deed: &Deed, rows: &StepRows, events: &mut [Option<Event>; EVENT_PLACES])
     requires numbers { (c : ℕ) → DepartsFromMark (departure_of deed.now c) }
-    ensures { AreEvents deed.now rows.now result }
+    ensures { AreEvents deed.now rows.now events.new }
 {
-    let mut events = go_events(&deed.goes, &rows.goes);
+    put_goes(&deed.goes, &rows.goes, events);
     events[CHANNEL_PLACES] = Some(act_event(deed, rows.act));
-    events
 }
 
 /// The wait of a channel.
@@ -141,29 +151,32 @@ pub(crate) fn wait_event(channel: ChannelId, held: &HoldAtLine) -> Event
     }
 }
 
-/// The wait of a channel, where it waits.
-pub(crate) fn wait_at(
+/// Puts the wait of a channel in its place, where it waits.
+pub(crate) fn put_wait(
     holds: &[Option<HoldAtLine>; CHANNEL_PLACES],
     channel: ChannelId,
-) -> Option<Event>
-    ensures { IsWaitAt (slice_index_or holds.now channel None) channel result }
+    place: &mut Option<Event>,
+)
+    ensures { IsWaitAt (slice_index_or holds.now channel None) channel place.new }
 {
     match &holds[usize::from(channel.number)] {
-        None => None,
-        Some(held) => Some(wait_event(channel, held)),
+        None => empty(place),
+        Some(held) => *place = Some(wait_event(channel, held)),
     }
 }
 
-/// The waits of the channels.
-pub(crate) fn waits_of(
+/// Puts the waits of the channels in their places. What stood there is gone.
+pub(crate) fn put_waits(
     holds: &[Option<HoldAtLine>; CHANNEL_PLACES],
-) -> [Option<Event>; EVENT_PLACES]
-    ensures waits { AreWaits holds.now result }
+    waits: &mut [Option<Event>; EVENT_PLACES],
+)
+    ensures waits { AreWaits holds.now waits.new }
     ensures size { length holds.now ≡ CHANNEL_PLACES }
 {
-    let mut waits = [None; EVENT_PLACES];
+    empty(&mut waits[0]);
+    empty(&mut waits[CHANNEL_PLACES]);
     for number in 1..CHANNEL_PLACES as u8 {
-        waits[usize::from(number)] = wait_at(holds, ChannelId { number });
+        let place = &mut waits[usize::from(number)];
+        put_wait(holds, ChannelId { number }, place);
     }
-    waits
 }

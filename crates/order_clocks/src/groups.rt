@@ -68,6 +68,9 @@ pub(crate) fn join_to(
     ensures linked { (ps : List Pair) → PairsAllPartners ps goes.now → AreAllLinked ps group.old → AreAllLinked ps group.new }
     ensures size { length group.new ≡ CHANNEL_PLACES }
 {
+    if goes[usize::from(a)].is_none() {
+        return;
+    }
     for b in 1..CHANNEL_PLACES as u8 {
         join_partners(group, goes, a, b);
     }

@@ -160,9 +160,11 @@ impl Places {
         ensures { IsTrue result ↔ ((c d : ℕ) × (((d == c) ≡ false) × (count_of (slice_index_or rows.now c []) d < top (λ t. count_of (spot_at self.now t) d) (departure_minds c (slice_index_or goes.now c None))))) }
     {
         for c in 0..CHANNEL_PLACES {
-            let limit = self.go_limit(c, &goes[c]);
-            if rows[c].misses(&limit, c) {
-                return true;
+            if goes[c].is_some() {
+                let limit = self.go_limit(c, &goes[c]);
+                if rows[c].misses(&limit, c) {
+                    return true;
+                }
             }
         }
         false

@@ -14,7 +14,7 @@ ghost use Rattle.sync_types.specs.Boards.{Board};
 ghost use Rattle.sync_types.specs.Turns.{Move};
 ghost use Rattle.step_deeds.specs.Holds.{BeginsAtMark, DepartsFromMark, departure_of};
 
-use crate::events::{EVENT_PLACES, Event, events_of, waits_of};
+use crate::events::{EVENT_PLACES, Event, put_events, put_waits};
 use crate::pairs::{Meeting, least_between};
 use crate::places::Places;
 use crate::reader::{Reader, StepRead};
@@ -26,6 +26,9 @@ use sync_types::{Entry, Race};
 pub(crate) struct Search {
     pub(crate) places: Places,
     pub(crate) race: Option<Race>,
+    // Room for the events of a step, and for the waits after it: nothing is kept there from step to step.
+    events: [Option<Event>; EVENT_PLACES],
+    waits: [Option<Event>; EVENT_PLACES],
 }
 
 /// The least of the races of one step alone: c, d and f.
@@ -55,12 +58,43 @@ pub(crate) fn least_before(
 {
     let mut reader = *first;
     let mut least = start;
+    let mut earlies = [None; EVENT_PLACES];
     for j in 0..place {
         let read = reader.next(entries, j);
-        let earlies = events_of(&read.deed, &read.rows);
+        put_events(&read.deed, &read.rows, &mut earlies);
         least = least_between(&Meeting::Later, &earlies, lates, least);
     }
     least
+}
+
+/// The least race of a step, where there was none before it. The steps before it are read once more only
+/// where there is one with them. The events and the waits are put in the room that is given for them.
+pub(crate) fn least_at(
+    places: &Places,
+    first: &Reader,
+    entries: &[Entry],
+    place: usize,
+    read: &StepRead,
+    watch: &Watch,
+    events: &mut [Option<Event>; EVENT_PLACES],
+    waits: &mut [Option<Event>; EVENT_PLACES],
+) -> Option<Race>
+    requires place { place ≤ length entries.now }
+    requires few { length entries.now < 2 ^ 32 }
+    requires reader { (b : Board) × IsReaderAt b entries.now 0 first.now }
+    requires departures { (c : ℕ) → DepartsFromMark (departure_of read.now.deed c) }
+    requires begins { BeginsAtMark read.now.deed.begins }
+    ensures { (b : Board) → IsReaderAt b entries.now 0 first.now → IsReadAt b (moves_in entries.now) place read.now watch.now → AreLast (course_of b (moves_in entries.now)) (tracks_of b (moves_in entries.now)) place places.now
+        → place < length entries.now → IsLeastWith (IsRace b (moves_in entries.now) place) None result }
+{
+    put_events(&read.deed, &read.rows, events);
+    put_waits(&watch.holds, waits);
+    let within = least_within(events, waits);
+    if places.is_racy(&read.deed, &read.rows) {
+        least_before(first, entries, place, events, within)
+    } else {
+        within
+    }
 }
 
 impl Search {
@@ -71,34 +105,8 @@ impl Search {
         Search {
             places: Places::new(),
             race: None,
-        }
-    }
-
-    /// The least race of a step, where there was none before it. The steps before it are read once more only
-    /// where there is one with them.
-    pub(crate) fn least_at(
-        &self,
-        first: &Reader,
-        entries: &[Entry],
-        place: usize,
-        read: &StepRead,
-        watch: &Watch,
-    ) -> Option<Race>
-        requires place { place ≤ length entries.now }
-        requires few { length entries.now < 2 ^ 32 }
-        requires reader { (b : Board) × IsReaderAt b entries.now 0 first.now }
-        requires departures { (c : ℕ) → DepartsFromMark (departure_of read.now.deed c) }
-        requires begins { BeginsAtMark read.now.deed.begins }
-        ensures { (b : Board) → IsReaderAt b entries.now 0 first.now → IsReadAt b (moves_in entries.now) place read.now watch.now → AreLast (course_of b (moves_in entries.now)) (tracks_of b (moves_in entries.now)) place self.now.places
-            → place < length entries.now → IsLeastWith (IsRace b (moves_in entries.now) place) None result }
-    {
-        let events = events_of(&read.deed, &read.rows);
-        let waits = waits_of(&watch.holds);
-        let within = least_within(&events, &waits);
-        if self.places.is_racy(&read.deed, &read.rows) {
-            least_before(first, entries, place, &events, within)
-        } else {
-            within
+            events: [None; EVENT_PLACES],
+            waits: [None; EVENT_PLACES],
         }
     }
 
@@ -121,7 +129,16 @@ impl Search {
         match self.race {
             Some(_) => {}
             None => {
-                self.race = self.least_at(first, entries, place, read, watch);
+                self.race = least_at(
+                    &self.places,
+                    first,
+                    entries,
+                    place,
+                    read,
+                    watch,
+                    &mut self.events,
+                    &mut self.waits,
+                );
                 self.places.note(&read.deed, &read.rows);
             }
         }

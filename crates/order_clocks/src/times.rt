@@ -1,6 +1,7 @@
 //! The counters of the last events.
+ghost use Rattle.axis_sets.specs.Sets.{has};
 ghost use Rattle.axis_sets.specs.declared.limits.TheConstants.{CHANNEL_PLACES};
-ghost use Rattle.std.specs.Prelude.{◌≡◌, ℕ, suc, ◌+◌, ◌<◌, ◌^◌, ◌==◌, max, length, [], None, true, slice_index_or, if◌then◌else◌};
+ghost use Rattle.std.specs.Prelude.{◌≡◌, ℕ, suc, ◌+◌, ◌<◌, ◌^◌, ◌==◌, IsTrue, false, max, length, [], None, true, slice_index_or, if◌then◌else◌};
 ghost use Rattle.order_clocks.specs.Happenings.{Key};
 ghost use Rattle.order_clocks.specs.Courses.{Course};
 ghost use Rattle.order_clocks.specs.Counters.{LastRows, rows_after_goings, go_row, last_rows};
@@ -28,6 +29,18 @@ pub struct Times {
     pub started: [Row; CHANNEL_PLACES],
     /// By channel: of the program end.
     pub ended: [Row; CHANNEL_PLACES],
+}
+
+/// Whether no channel is chosen.
+fn is_nobody(chosen: &[bool; CHANNEL_PLACES]) -> bool
+    ensures { IsTrue result → (c : ℕ) → has chosen.now c ≡ false }
+{
+    for c in 0..CHANNEL_PLACES {
+        if chosen[c] {
+            return false;
+        }
+    }
+    true
 }
 
 impl Times {
@@ -114,9 +127,26 @@ impl Times {
         ensures rows { (run : Course) (i : ℕ) (s : LastRows) → IsStep run i deed.now → Shows self.old s → (c x : ℕ) → goes_in deed.now c ≡ true → count_of (slice_index_or result c []) x ≡ go_row run i s (run.group i c) x }
     {
         let goes = goers(&deed.goes);
+        if is_nobody(&goes) {
+            [Row::zero(); CHANNEL_PLACES]
+        } else {
+            self.close_goes(deed, &goes)
+        }
+    }
+
+    /// The same where some channel goes on.
+    #[inline(never)]
+    fn close_goes(&mut self, deed: &Deed, goes: &[bool; CHANNEL_PLACES]) -> [Row; CHANNEL_PLACES]
+        requires room { HasRoom self.old 1 }
+        requires numbers { (c : ℕ) → DepartsFromMark (departure_of deed.now c) }
+        requires goers { (c : ℕ) → has goes.now c ≡ goes_in deed.now c }
+        requires size { length goes.now ≡ CHANNEL_PLACES }
+        ensures shows { (run : Course) (i : ℕ) (s : LastRows) → IsStep run i deed.now → Shows self.old s → Shows self.new (rows_after_goings run i s) }
+        ensures rows { (run : Course) (i : ℕ) (s : LastRows) → IsStep run i deed.now → Shows self.old s → (c x : ℕ) → goes_in deed.now c ≡ true → count_of (slice_index_or result c []) x ≡ go_row run i s (run.group i c) x }
+    {
         let own = self.own_rows(&deed.goes);
-        let rows = joint_rows(&own, &goes, &deed.group);
-        put_rows(&mut self.past, &goes, &rows);
+        let rows = joint_rows(&own, goes, &deed.group);
+        put_rows(&mut self.past, goes, &rows);
         rows
     }
 

@@ -1,7 +1,7 @@
 //! Reads the steps of a run from its entries.
 ghost use Rattle.axis_sets.specs.declared.limits.TheConstants.{CHANNEL_PLACES};
 ghost use Rattle.std.specs.List.{list_any};
-ghost use Rattle.std.specs.Prelude.{◌≡◌, [], List, Option, Some, ℕ, ◌<◌, ◌≤◌, ◌==◌, ◌&&◌, ◌||◌, not, Bool, false, true, find, is_some, None, if◌then◌else◌, slice_index_or, length, map, option_map};
+ghost use Rattle.std.specs.Prelude.{◌≡◌, [], List, Option, Some, ℕ, ◌<◌, ◌≤◌, ◌==◌, ◌&&◌, ◌||◌, not, Bool, false, true, find, is_some, None, if◌then◌else◌, slice_index_or, length, map, option_copied, option_map};
 ghost use Rattle.axis_sets.specs.Positions.{position_of};
 ghost use Rattle.axis_sets.specs.Sets.{has};
 ghost use Rattle.order_clocks.specs.Happenings.{happening_of};
@@ -102,6 +102,9 @@ impl Watch {
         ensures none { slice_index_or result 0 None ≡ None }
         ensures size { length result ≡ CHANNEL_PLACES }
     {
+        if goes.is_empty() {
+            return [None; CHANNEL_PLACES];
+        }
         let goers = goers_in(goes);
         let mut gone = [None; CHANNEL_PLACES];
         for number in 1..CHANNEL_PLACES as u8 {
@@ -191,8 +194,8 @@ pub(crate) fn goers_in(goes: &[Go]) -> [bool; CHANNEL_PLACES]
 }
 
 /// How a channel goes on; none where it does not.
-pub(crate) fn go_of(goes: &[Go], channel: ChannelId) -> Option<Go>
-    ensures { result ≡ go_in goes.now channel }
+pub(crate) fn go_of(goes: &[Go], channel: ChannelId) -> Option<&Go>
+    ensures { option_copied result ≡ go_in goes.now channel }
 {
-    goes.iter().copied().find(|go| go.channel == channel)
+    goes.iter().find(|go| go.channel == channel)
 }

@@ -1,24 +1,16 @@
-use Rattle.std.proofs.Common.{◌≡◌, true, refl, ◌∙◌}
-use Rattle.axis_sets.specs.Sets.{has}
-use Rattle.order_clocks.proofs.StepLaws.{joint_room, go_shows, closed_shows, row_at_same, below_nine}
+use Rattle.std.proofs.Common.{[], refl, sym, ◌∙◌}
+use Rattle.std.proofs.lemmas.Bool.{true≢false}
+use Rattle.order_clocks.proofs.StepLaws.{closed_shows}
 use Rattle.order_clocks.proofs.times.Times.close.Goals as goal
 
-pub joint_rows-rows-requires : goal.joint_rows-rows-requires
-joint_rows-rows-requires c = λ g x.
-    joint_room c.args.self.now c.goers-goes.result c.args.deed.now.goes c.args.deed.now.group c.own_rows-own.result g x c.requires.room c.own_rows-own.ensures.rows
+pub returns-then-is_nobody-clause-rows : goal.returns-then-is_nobody-clause-rows
+returns-then-is_nobody-clause-rows c = λ run i s is shows d x here.
+    absurd (true≢false (sym (c.goers-goes.ensures.members d ∙ here) ∙ c.is_nobody.ensures c.if-is_nobody.true d))
 
-pub returns-clause-rows : goal.returns-clause-rows
-returns-clause-rows c = λ run i s is shows d x here.
-    let on : has c.goers-goes.result d ≡ true = c.goers-goes.ensures.members d ∙ here in
-    c.joint_rows-rows.ensures.rows d x (below_nine c.goers-goes.result d c.goers-goes.ensures.size on) on
-    ∙ go_shows run i s c.args.deed.now c.args.self.now c.goers-goes.result c.own_rows-own.result d x is shows c.goers-goes.ensures.members c.goers-goes.ensures.size c.own_rows-own.ensures.rows here
-
-pub returns-clause-shows : goal.returns-clause-shows
-returns-clause-shows c = λ run i s is shows.
-    closed_shows run i s c.args.deed.now c.args.self.now _ c.goers-goes.result c.joint_rows-rows.result is shows c.goers-goes.ensures.members
-    (λ d x here.
-    let on : has c.goers-goes.result d ≡ true = c.goers-goes.ensures.members d ∙ here in
-    c.joint_rows-rows.ensures.rows d x (below_nine c.goers-goes.result d c.goers-goes.ensures.size on) on
-    ∙ go_shows run i s c.args.deed.now c.args.self.now c.goers-goes.result c.own_rows-own.result d x is shows c.goers-goes.ensures.members c.goers-goes.ensures.size c.own_rows-own.ensures.rows here)
-    c.put_rows.ensures.rows
-    (λ k. let s_old = c.args.self.now in row_at_same (record { past = c.put_rows.new.past; raised = s_old.raised; freed = s_old.freed; started = s_old.started; ended = s_old.ended }) s_old refl refl refl refl k)
+pub returns-then-is_nobody-clause-shows : goal.returns-then-is_nobody-clause-shows
+returns-then-is_nobody-clause-shows c = λ run i s is shows.
+    let off = c.is_nobody.ensures c.if-is_nobody.true in
+    closed_shows run i s c.args.deed.now c.args.self.now c.args.self.now c.goers-goes.result [] is shows c.goers-goes.ensures.members
+    (λ d x here. absurd (true≢false (sym (c.goers-goes.ensures.members d ∙ here) ∙ off d)))
+    (λ d. rw (off d) refl)
+    (λ k. refl)

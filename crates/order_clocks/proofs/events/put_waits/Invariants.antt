@@ -1,6 +1,6 @@
 use Rattle.std.proofs.Common.{◌≡◌, ℕ, ◌<◌, length, None, slice_index_or}
 use Rattle.order_clocks.specs.Pairs.{IsWaitAt}
-use Rattle.order_clocks.proofs.events.waits_of.Given as goal
+use Rattle.order_clocks.proofs.events.put_waits.Given as goal
 
 abbrev pub invariant-loop-number : goal.invariant-loop-number
 invariant-loop-number l = record {

@@ -6,35 +6,35 @@ use Rattle.order_clocks.specs.Tracks.{tracks_of}
 use Rattle.order_clocks.proofs.StepRaceLaws.{none_earlier}
 use Rattle.order_clocks.proofs.WholeLaws.{moves_size}
 use Rattle.order_clocks.proofs.WithinLaws.{IsTold, step_least}
-use Rattle.order_clocks.proofs.search.Search.least_at.Goals as goal
+use Rattle.order_clocks.proofs.search.least_at.Goals as goal
 
 pub returns-then-is_racy : goal.returns-then-is_racy
 returns-then-is_racy c = λ b reader read last inside.
-    let told : IsTold b (moves_in c.args.entries.now) c.args.place c.args.read.now.deed c.args.read.now.rows c.events_of-events.result c.waits_of-waits.result c.args.watch.now.holds = record {
+    let told : IsTold b (moves_in c.args.entries.now) c.args.place c.args.read.now.deed c.args.read.now.rows c.put_events.new.events c.put_waits.new.waits c.args.watch.now.holds = record {
       inside = rw (moves_size c.args.entries.now) inside;
       read = read.deed;
       alone = read.alone;
       known = read.known;
-      are = c.events_of-events.ensures;
+      are = c.put_events.ensures;
       held = read.holds;
-      size = c.waits_of-waits.ensures.size;
-      waited = c.waits_of-waits.ensures.waits;
+      size = c.put_waits.ensures.size;
+      waited = c.put_waits.ensures.waits;
     } in
-    step_least b (moves_in c.args.entries.now) c.args.place c.args.read.now.deed c.args.read.now.rows c.events_of-events.result c.waits_of-waits.result c.args.watch.now.holds c.least_within-within.result c.least_before.result told c.least_within-within.ensures
-    (c.least_before.ensures b c.args.read.now.deed c.args.read.now.rows reader read.known c.events_of-events.ensures)
+    step_least b (moves_in c.args.entries.now) c.args.place c.args.read.now.deed c.args.read.now.rows c.put_events.new.events c.put_waits.new.waits c.args.watch.now.holds c.least_within-within.result c.least_before.result told c.least_within-within.ensures
+    (c.least_before.ensures b c.args.read.now.deed c.args.read.now.rows reader read.known c.put_events.ensures)
 
 pub returns-else-is_racy : goal.returns-else-is_racy
 returns-else-is_racy c = λ b reader read last inside.
-    let told : IsTold b (moves_in c.args.entries.now) c.args.place c.args.read.now.deed c.args.read.now.rows c.events_of-events.result c.waits_of-waits.result c.args.watch.now.holds = record {
+    let told : IsTold b (moves_in c.args.entries.now) c.args.place c.args.read.now.deed c.args.read.now.rows c.put_events.new.events c.put_waits.new.waits c.args.watch.now.holds = record {
       inside = rw (moves_size c.args.entries.now) inside;
       read = read.deed;
       alone = read.alone;
       known = read.known;
-      are = c.events_of-events.ensures;
+      are = c.put_events.ensures;
       held = read.holds;
-      size = c.waits_of-waits.ensures.size;
-      waited = c.waits_of-waits.ensures.waits;
+      size = c.put_waits.ensures.size;
+      waited = c.put_waits.ensures.waits;
     } in
-    step_least b (moves_in c.args.entries.now) c.args.place c.args.read.now.deed c.args.read.now.rows c.events_of-events.result c.waits_of-waits.result c.args.watch.now.holds c.least_within-within.result c.least_within-within.result told c.least_within-within.ensures
+    step_least b (moves_in c.args.entries.now) c.args.place c.args.read.now.deed c.args.read.now.rows c.put_events.new.events c.put_waits.new.waits c.args.watch.now.holds c.least_within-within.result c.least_within-within.result told c.least_within-within.ensures
     (none_earlier (course_of b (moves_in c.args.entries.now)) (tracks_of b (moves_in c.args.entries.now)) c.args.place c.least_within-within.result
     (λ racy. true≢false (sym ((c.is_racy.ensures (course_of b (moves_in c.args.entries.now)) (tracks_of b (moves_in c.args.entries.now)) c.args.place read.known.is read.known.tracked read.known.are last).1 racy) ∙ c.if-is_racy.false)))

@@ -1,7 +1,7 @@
 use Rattle.std.proofs.Common.{◌≡◌, ◌^◌, ◌<◌, length, rules, arith}
 use Rattle.std.specs.Vec.{vec_len}
 use Rattle.counter_rows.proofs.TableLaws.{place_below}
-use Rattle.counter_rows.proofs.table.RowTable.row.Goals as goal
+use Rattle.counter_rows.proofs.table.RowTable.count.Goals as goal
 
 pub overflow_add-places : goal.overflow_add-places
 overflow_add-places c =
