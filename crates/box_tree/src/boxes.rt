@@ -6,28 +6,22 @@ ghost use Rattle.swept_boxes.specs.Boxes.{boxes_meet, do_touch};
 
 use swept_boxes::Box3;
 
-/// Whether two boxes are apart in a direction.
-fn are_apart(left: &Box3, right: &Box3, direction: usize) -> bool
+/// Whether two boxes touch in a direction: the greater low bound is not above the lesser high bound.
+fn do_touch(left: &Box3, right: &Box3, direction: usize) -> bool
     requires { direction < 3 }
-    ensures { result ≡ true → do_touch left.now right.now direction ≡ false }
+    ensures { result ≡ do_touch left.now right.now direction }
 {
-    left.hi[direction] < right.lo[direction] || right.hi[direction] < left.lo[direction]
+    let low = left.lo[direction].max(right.lo[direction]);
+    let high = left.hi[direction].min(right.hi[direction]);
+    low <= high
 }
 
-/// Whether two boxes share a point. Most boxes that do not are apart in a direction, which is looked at first.
+/// Whether two boxes share a point: they touch in all three directions.
+#[tactic(auto, unfolding(swept_boxes::specs::Boxes::boxes_meet))]
 pub fn do_meet(left: &Box3, right: &Box3) -> bool
     ensures { result ≡ boxes_meet left.now right.now }
 {
-    if are_apart(left, right, 0) {
-        return false;
-    }
-    if are_apart(left, right, 1) {
-        return false;
-    }
-    if are_apart(left, right, 2) {
-        return false;
-    }
-    left.meets(right)
+    do_touch(left, right, 0) && do_touch(left, right, 1) && do_touch(left, right, 2)
 }
 
 /// The number of the first of some boxes, from this number on, that meets a box.

@@ -7,7 +7,7 @@ use Rattle.std.specs.Option.{option_map}
 use Rattle.box_tree.proofs.HullLaws.{lies_in_itself}
 use Rattle.box_tree.specs.Hulls.{LiesIn}
 use Rattle.clash_check.proofs.Each.{Each, Each-weaker, Each-append, Each-map, Each-flat_map, Each-drop, Each-take}
-use Rattle.clash_check.proofs.FitLaws.{fit_items, holds_at}
+use Rattle.protection_zones.proofs.FitLaws.{fit_items, holds_at}
 use Rattle.clash_check.proofs.PieceLaws.{piece_box_is, piece_lies}
 use Rattle.job_types.specs.Job.{JobView}
 use Rattle.job_types.specs.Zones.{zones_in_order}

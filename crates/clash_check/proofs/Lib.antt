@@ -1,11 +1,8 @@
-pub mod FitLaws
 pub mod Each
-pub mod Directions
 pub mod PieceLaws
 pub mod CoverLaws
 pub mod FirstLaws
 pub mod TimeLaws
-pub mod ZoneLaws
 pub mod MeetLaws
 pub mod AscentLaws
 pub mod NearLaws
@@ -16,3 +13,5 @@ pub mod KeptLaws
 pub mod CountLaws
 pub mod StopLaws
 pub mod VerdictLaws
+pub mod PairLaws
+pub mod ChunkLaws

@@ -7,9 +7,10 @@ use Rattle.clash_check.proofs.CoverLaws.{IsTimeInCover, times_in_cover}
 use Rattle.clash_check.proofs.Each.{Each}
 use Rattle.clash_check.proofs.MeetLaws.{names_of, meetings_are}
 use Rattle.clash_check.specs.Counts.{count_of}
+use Rattle.clash_check.specs.FirstAnswer.{first_some}
 use Rattle.clash_check.specs.Judged.{IsTold}
-use Rattle.clash_check.specs.Meetings.{Names, first_in_times}
-use Rattle.clash_check.specs.Verdicts.{budget_verdict, meeting_verdict, no_by, or_else}
+use Rattle.clash_check.specs.Meetings.{first_in_times, verdict_by_names}
+use Rattle.clash_check.specs.Verdicts.{alarm_by, budget_verdict, meeting_verdict, no_by, or_else, race_verdict, stops_of, stuck_by, verdict_by}
 use Rattle.job_types.specs.Job.{JobView}
 use Rattle.order_clocks.specs.Clocked.{ClocksView}
 use Rattle.protection_zones.proofs.BoxCounts.{pairs_are_few}
@@ -39,11 +40,7 @@ few_enough before job stretches n later counted few = by_count (nat_lt job.budge
     by_count true e = let many : job.budget < count_of before job stretches = ltb-true job.budget (count_of before job stretches) e in absurd (omega arith)
     by_count false e = refl
 
--- NO by the names of two boxes, or YES
-abbrev pub verdict_by_names : Option Names → Verdict
-verdict_by_names None = verdicts.Yes
-verdict_by_names (Some names) = verdicts.No names.0 names.1
-
+-- the boxes are compared
 pub by_names : (job : JobView) (run : RunView) (stretches : StretchesView) (clocks : ClocksView) (before : Order) → IsTold job run stretches clocks → All (All IsFit) run.items
     → verdict_by_names (first_in_times (record { job = job; run = run; before = before }) (zone_times job stretches)) ≡ or_else (meeting_verdict before job run stretches) verdicts.Yes
 unfolding meeting_verdict
@@ -63,3 +60,23 @@ pub few_pairs : (job : JobView) (run : RunView) (stretches : StretchesView) (clo
 unfolding count_of
 few_pairs job run stretches clocks before told size =
     subst (λ (s : StretchesView). length (compared_pairs before job s) < 2 ^ 64) (sym told.told) (pairs_are_few before job told.start run size told.whole)
+
+-- what comes before the boxes are compared
+abbrev pub Precedes : JobView → RunView → StretchesView → ClocksView → Order → Option Verdict → Type 0
+Precedes job run stretches clocks before early =
+    (later : Verdict) → or_else early later
+    ≡ or_else (race_verdict clocks.race)
+    (or_else (first_some (λ stop. alarm_by stop.0 stop.1) (stops_of job run))
+    (or_else (first_some (λ stop. stuck_by stop.0 stop.1) (stops_of job run))
+    (or_else (budget_verdict before job stretches) later)))
+
+pub comes_before : (job : JobView) (run : RunView) (stretches : StretchesView) (clocks : ClocksView) (before : Order) (verdict : Verdict) → Precedes job run stretches clocks before (Some verdict)
+    → verdict ≡ verdict_by before clocks.race job run stretches
+unfolding verdict_by
+comes_before job run stretches clocks before verdict precedes = precedes (or_else (meeting_verdict before job run stretches) verdicts.Yes)
+
+pub by_boxes : (job : JobView) (run : RunView) (stretches : StretchesView) (clocks : ClocksView) (before : Order) → IsTold job run stretches clocks → All (All IsFit) run.items
+    → Precedes job run stretches clocks before None → verdict_by_names (first_in_times (record { job = job; run = run; before = before }) (zone_times job stretches)) ≡ verdict_by before clocks.race job run stretches
+unfolding verdict_by
+by_boxes job run stretches clocks before told fit precedes =
+    by_names job run stretches clocks before told fit ∙ precedes (or_else (meeting_verdict before job run stretches) verdicts.Yes)

@@ -11,3 +11,5 @@ pub mod Running
 pub mod PlaceRanges
 pub mod Shown
 pub mod Keeping
+pub mod ZonePairs
+pub mod Chunks

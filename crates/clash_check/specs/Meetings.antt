@@ -16,6 +16,8 @@ use Rattle.swept_boxes.specs.Boxes.{boxes_meet}
 use Rattle.swept_boxes.specs.declared.Box3.{Box3}
 use Rattle.sync_types.specs.Views.{RunView}
 use Rattle.sync_types.specs.declared.verdicts.PlaceName.{PlaceName}
+use Rattle.sync_types.specs.declared.verdicts.Verdict.{Verdict}
+use Rattle.sync_types.specs.declared.verdicts.Verdict.TheVariants as verdicts
 
 abbrev pub Names : Type 0
 Names = PlaceName × PlaceName
@@ -86,3 +88,8 @@ abbrev pub first_from_place : Case → List (List StretchView) → ℕ → Optio
 first_from_place case lists place =
     option_and_then (λ zone. first_some (first_of_zones case (record { zone = zone; stretches = slice_index_or lists place [] })) (times_from case.job lists (place + 1)))
     (slice_get (zones_in_order case.job) place)
+
+-- NO by the names of two boxes, or YES
+abbrev pub verdict_by_names : Option Names → Verdict
+verdict_by_names None = verdicts.Yes
+verdict_by_names (Some names) = verdicts.No names.0 names.1

@@ -1,24 +1,28 @@
 //! The verdict on a whole run of a job.
-ghost use Rattle.std.specs.Prelude.{◌≡◌, ◌<◌, ◌≤◌, ◌^◌, All, IfOk, Some, length, sum_by};
+ghost use Rattle.std.specs.Prelude.{◌≡◌, ◌<◌, ◌≤◌, ◌^◌, All, IfOk, length, sum_by};
 ghost use Rattle.axis_sets.specs.declared.limits.TheConstants.{CHANNEL_LIMIT};
-ghost use Rattle.clash_check.specs.Counts.{count_of};
+ghost use Rattle.clash_check.specs.FirstAnswer.{first_some};
 ghost use Rattle.clash_check.specs.Judged.{IsTold};
+ghost use Rattle.clash_check.specs.Meetings.{verdict_by_names};
 ghost use Rattle.clash_check.specs.Verdicts as model;
 ghost use Rattle.job_types.specs.SoundJob.{IsSoundJob};
 ghost use Rattle.order_clocks.specs.Tells.{is_before_in};
 ghost use Rattle.protection_zones.specs.ZoneBoxes.{IsFit};
-ghost use Rattle.sync_types.specs.declared.verdicts.Verdict.TheVariants as verdicts;
+ghost use Rattle.sync_types.specs.declared.verdicts.Verdict.{Verdict};
 
-use crate::meetings::{Scene, first_meeting};
+use crate::meetings::Scene;
+use crate::nearby::KEPT_LIMIT;
 use crate::pair_counts::count;
+use crate::sharing::first_by_threads;
 use crate::stops::{first_alarm, first_stuck, stops_of};
-use crate::zones::lists_of;
+use crate::zone_pairs::{first_of_pairs, lists_of, zone_pairs};
 use job_types::Job;
 use nc_faults::NoMemory;
 use order_clocks::Clocks;
 use protection_zones::Stretches;
 use std::alloc::Global;
-use sync_types::{Entry, Run, Verdict};
+use std::thread::Threads;
+use sync_types::{Entry, PlaceName, Run, Verdict};
 
 /// How many channels go on in a step: at most as many as there may be.
 fn goes_in(entry: &Entry) -> usize
@@ -44,47 +48,63 @@ fn entries_of(run: &Run) -> &[Entry]
     run.entries.as_slice()
 }
 
-/// How many pairs of boxes are compared in a whole run.
-fn count_of(job: &Job, run: &Run, stretches: &Stretches, clocks: &Clocks) -> u64
-    requires told { IsTold job.now run.now stretches.now clocks.now }
-    requires few_entries { length run.now.entries < 2 ^ 20 }
-    requires few_items { sum_by length run.now.items < 2 ^ 20 }
-    ensures { result ≡ count_of (is_before_in clocks.now.rows) job.now stretches.now }
+/// The verdict of a run that has not come to its end: RACE where the run has a race, with the first; ALARM of the lowest channel that
+/// an alarm has stopped; STUCK of the lowest that waits.
+fn stopped_verdict(job: &Job, run: &Run, clocks: &Clocks) -> Option<Verdict>
+    ensures { (later : Verdict) → model.or_else result later ≡ model.or_else (model.race_verdict clocks.now.race)
+        (model.or_else (first_some (λ stop. model.alarm_by stop.0 stop.1) (model.stops_of job.now run.now))
+        (model.or_else (first_some (λ stop. model.stuck_by stop.0 stop.1) (model.stops_of job.now run.now)) later)) }
 {
-    see_goes(run);
-    count(job, stretches, clocks)
+    if let Some(race) = clocks.first_race() {
+        return Some(Verdict::Race(race));
+    }
+    let stops = stops_of(job, run);
+    if let Some(verdict) = first_alarm(stops.as_slice()) {
+        return Some(verdict);
+    }
+    first_stuck(stops.as_slice())
 }
 
-/// The verdict by the boxes alone. They are not compared where there are too many pairs.
-fn judge_pairs(
-    alloc: Global,
-    job: &Job,
-    run: &Run,
-    stretches: &Stretches,
-    clocks: &Clocks,
-) -> Verdict
-    requires sound { IsSoundJob job.now }
+/// UNDECIDED where more pairs of boxes are to be compared than the job allows.
+fn budget_verdict(job: &Job, run: &Run, stretches: &Stretches, clocks: &Clocks) -> Option<Verdict>
     requires told { IsTold job.now run.now stretches.now clocks.now }
     requires few_entries { length run.now.entries < 2 ^ 20 }
     requires few_items { sum_by length run.now.items < 2 ^ 20 }
-    requires fit { All (All IsFit) run.now.items }
-    ensures { result ≡ model.or_else (model.budget_verdict (is_before_in clocks.now.rows) job.now stretches.now)
-        (model.or_else (model.meeting_verdict (is_before_in clocks.now.rows) job.now run.now stretches.now) verdicts.Yes) }
+    ensures { (later : Verdict) → model.or_else result later ≡ model.or_else (model.budget_verdict (is_before_in clocks.now.rows) job.now stretches.now) later }
 {
-    let count = count_of(job, run, stretches, clocks);
+    see_goes(run);
+    let count = count(job, stretches, clocks);
     if count > u64::from(job.budget) {
-        return Verdict::Undecided {
+        Some(Verdict::Undecided {
             count,
             budget: job.budget,
-        };
+        })
+    } else {
+        None
     }
-    let scene = Scene {
-        alloc,
-        job,
-        run,
-        clocks,
-    };
-    match first_meeting(&scene, lists_of(stretches)) {
+}
+
+/// The verdict where it comes before any two boxes are compared.
+fn verdict_before(job: &Job, run: &Run, stretches: &Stretches, clocks: &Clocks) -> Option<Verdict>
+    requires told { IsTold job.now run.now stretches.now clocks.now }
+    requires few_entries { length run.now.entries < 2 ^ 20 }
+    requires few_items { sum_by length run.now.items < 2 ^ 20 }
+    ensures { (later : Verdict) → model.or_else result later ≡ model.or_else (model.race_verdict clocks.now.race)
+        (model.or_else (first_some (λ stop. model.alarm_by stop.0 stop.1) (model.stops_of job.now run.now))
+        (model.or_else (first_some (λ stop. model.stuck_by stop.0 stop.1) (model.stops_of job.now run.now))
+        (model.or_else (model.budget_verdict (is_before_in clocks.now.rows) job.now stretches.now) later))) }
+{
+    match stopped_verdict(job, run, clocks) {
+        Some(verdict) => Some(verdict),
+        None => budget_verdict(job, run, stretches, clocks),
+    }
+}
+
+/// NO by the names of two boxes that meet, and YES where there are none.
+fn verdict_by_names(names: Option<(PlaceName, PlaceName)>) -> Verdict
+    ensures { result ≡ verdict_by_names names }
+{
+    match names {
         Some((first, second)) => Verdict::No(first, second),
         None => Verdict::Yes,
     }
@@ -92,10 +112,9 @@ fn judge_pairs(
 
 /// The verdict on a whole run of a job, the first that fits: RACE where the run has a race, with the first; ALARM of the lowest
 /// channel that an alarm has stopped; STUCK of the lowest that waits; UNDECIDED where more pairs of boxes are to be compared than
-/// the job allows; NO with the first two boxes that meet; YES. It takes memory for the places of stretches, and for what is kept of
-/// the boxes of one stretch at a time: a tree over their covers, and their pieces as far as there is room. It works on without,
-/// though not as fast, where it finds too little.
-#[tactic(auto, unfolding(crate::specs::Verdicts::verdict_by))]
+/// the job allows; NO with the first two boxes that meet; YES. `NoMemory` where it finds too little for the pairs of zones, of 16
+/// bytes each. It takes memory for the places of stretches too, and for what is kept of the boxes of one stretch at a time: a tree
+/// over their covers, and their pieces as far as there is room. It works on without these, though not as fast.
 pub fn judge(
     alloc: Global,
     job: &Job,
@@ -110,15 +129,52 @@ pub fn judge(
     requires fit { All (All IsFit) run.now.items }
     ensures { IfOk result (λ verdict. verdict ≡ model.verdict_by (is_before_in clocks.now.rows) clocks.now.race job.now run.now stretches.now) }
 {
-    if let Some(race) = clocks.first_race() {
-        return Ok(Verdict::Race(race));
-    }
-    let stops = stops_of(job, run);
-    if let Some(verdict) = first_alarm(stops.as_slice()) {
+    if let Some(verdict) = verdict_before(job, run, stretches, clocks) {
         return Ok(verdict);
     }
-    if let Some(verdict) = first_stuck(stops.as_slice()) {
+    let scene = Scene {
+        alloc,
+        room: KEPT_LIMIT,
+        job,
+        run,
+        clocks,
+    };
+    let lists = lists_of(stretches);
+    let pairs = zone_pairs(alloc, lists.len())?;
+    Ok(verdict_by_names(first_of_pairs(&scene, lists, &pairs)))
+}
+
+/// The verdict that `judge` gives. The pairs of zones are shared out to threads, in at most 16 chunks, each with a thread of its own
+/// where one can be made; the verdict does not depend on how. It takes memory as `judge` does, in each chunk at the same time, and
+/// for what is found in the chunks; the pieces that are kept at one time take no more room than those of `judge`. Where it finds too
+/// little for the chunks, it looks at one pair of zones after another. `NoMemory` as `judge` answers it.
+pub fn judge_shared<R: Threads + Sync>(
+    rt: &R,
+    alloc: Global,
+    job: &Job,
+    run: &Run,
+    stretches: &Stretches,
+    clocks: &Clocks,
+) -> Result<Verdict, NoMemory>
+    requires sound { IsSoundJob job.now }
+    requires whole { IsTold job.now run.now stretches.now clocks.now }
+    requires few_entries { length run.now.entries < 2 ^ 20 }
+    requires few_items { sum_by length run.now.items < 2 ^ 20 }
+    requires fit { All (All IsFit) run.now.items }
+    ensures { IfOk result (λ verdict. verdict ≡ model.verdict_by (is_before_in clocks.now.rows) clocks.now.race job.now run.now stretches.now) }
+{
+    if let Some(verdict) = verdict_before(job, run, stretches, clocks) {
         return Ok(verdict);
     }
-    Ok(judge_pairs(alloc, job, run, stretches, clocks))
+    let scene = Scene {
+        alloc,
+        room: KEPT_LIMIT,
+        job,
+        run,
+        clocks,
+    };
+    let lists = lists_of(stretches);
+    let pairs = zone_pairs(alloc, lists.len())?;
+    let names = first_by_threads(rt, &scene, lists, &pairs);
+    Ok(verdict_by_names(names))
 }

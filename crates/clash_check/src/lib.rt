@@ -2,19 +2,18 @@
 #![tactic(auto)]
 
 mod ascents;
-mod bounds;
 mod judging;
 mod meetings;
 mod nearby;
 mod overlaps;
 mod pair_counts;
-mod pieces;
 mod place_ranges;
 mod running;
+mod sharing;
 mod shown;
 mod stops;
-mod zones;
+mod zone_pairs;
 
 pub use box_tree::plain_first;
-pub use judging::judge;
+pub use judging::{judge, judge_shared};
 pub use pair_counts::count;

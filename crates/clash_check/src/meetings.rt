@@ -7,7 +7,6 @@ ghost use Rattle.clash_check.specs.Keeping.{IsKeptOf, is_near};
 ghost use Rattle.clash_check.specs.Meetings as model;
 ghost use Rattle.clash_check.specs.PlaceRanges as places;
 ghost use Rattle.clash_check.specs.Shown.{IsNext};
-ghost use Rattle.clash_check.specs.Times.{lists_in, times_from};
 ghost use Rattle.clash_check.specs.Verdicts.{name_of};
 ghost use Rattle.job_lines.specs.declared.limits.TheConstants.{DEPTH_LIMIT};
 ghost use Rattle.order_clocks.specs.Tells.{is_before_in};
@@ -18,14 +17,12 @@ ghost use Rattle.protection_zones.specs.declared.stretches.ZoneBox.{ZoneBox};
 use crate::ascents::{Range, do_ascend, part, range_of};
 use crate::nearby::{Kept, kept_for, next_near};
 use crate::overlaps::{may_overlap, share_channel};
-use crate::pieces::boxes_by_pieces;
 use crate::place_ranges::{do_boxes_ascend, place_range};
 use crate::shown::next_shown;
-use crate::zones::zone_at;
 use box_tree::PieceTree;
 use job_types::{Job, ZoneLine};
 use order_clocks::Clocks;
-use protection_zones::{Stretch, ZoneBox};
+use protection_zones::{Stretch, ZoneBox, boxes_by_pieces};
 use std::alloc::Global;
 use sync_types::{PlaceName, Run};
 
@@ -34,6 +31,8 @@ use sync_types::{PlaceName, Run};
 pub(crate) struct Scene<'a> {
     /// Where memory comes from.
     pub(crate) alloc: Global,
+    /// How many boxes of pieces are kept at most, of 56 bytes each.
+    pub(crate) room: usize,
     /// The job.
     pub(crate) job: &'a Job,
     /// The run.
@@ -88,7 +87,13 @@ fn pieces_touch(
     if let Some(met) = kept.pieces.meets(pieces, place) {
         return met;
     }
-    let others = PieceTree::over(boxes_by_pieces(scene.job, scene.run, held, later));
+    let others = PieceTree::over(boxes_by_pieces(
+        scene.job,
+        scene.run,
+        held.zone,
+        held.stretch,
+        later,
+    ));
     kept.pieces.keep(scene.alloc, boxes.len(), place, &others);
     pieces.meets(&others)
 }
@@ -147,7 +152,13 @@ fn first_touched(
     if first == boxes.len() {
         return None;
     }
-    let pieces = PieceTree::over(boxes_by_pieces(scene.job, scene.run, left, own));
+    let pieces = PieceTree::over(boxes_by_pieces(
+        scene.job,
+        scene.run,
+        left.zone,
+        left.stretch,
+        own,
+    ));
     first_by_pieces(scene, shared, left, own, &pieces, right, boxes, kept, first)
 }
 
@@ -164,7 +175,7 @@ fn first_in_all_boxes(
 {
     let stretch = left.stretch;
     let other = right.stretch;
-    let mut kept = kept_for(scene.alloc, stretch.boxes.len(), &other.boxes);
+    let mut kept = kept_for(scene.alloc, scene.room, stretch.boxes.len(), &other.boxes);
     for own in &stretch.boxes {
         if let Some(names) = first_touched(
             scene,
@@ -199,7 +210,7 @@ fn first_in_places(
     for own in boxes {
         range = place_range(own, others, range);
         let near = part(others, range);
-        let mut kept = kept_for(scene.alloc, 1, near);
+        let mut kept = kept_for(scene.alloc, scene.room, 1, near);
         if let Some(names) = first_touched(scene, true, left, own, right, near, &mut kept) {
             return Some(names);
         }
@@ -386,7 +397,7 @@ fn first_of_ascending<'a>(
 /// The names of the first two boxes of two zones that meet, where they are of different groups. Where memory is too short for the
 /// places of the stretches that have boxes, each stretch is looked at with each.
 #[tactic(auto, unfolding(crate::specs::Meetings::first_of_zones))]
-fn first_of_zones(
+pub(crate) fn first_of_zones(
     scene: &Scene,
     zone: &ZoneLine,
     own: &[Stretch],
@@ -408,77 +419,4 @@ fn first_of_zones(
         Ok(next) => first_of_ascending(scene, zone, own, other, others, next.as_slice()),
         Err(_) => first_of_all(scene, zone, own, other, others),
     }
-}
-
-/// The names of the first two boxes of a zone and that of this place that meet.
-fn first_with_place(
-    scene: &Scene,
-    lists: &[Vec<Stretch>],
-    zone: &ZoneLine,
-    own: &[Stretch],
-    place: usize,
-) -> Option<(PlaceName, PlaceName)>
-    requires fit { All (All IsFit) scene.now.run.now.items }
-    requires timed { IsTimed (is_before_in scene.now.clocks.now.rows) own.now (lists_in lists.now) }
-    requires place { place < length lists.now }
-    ensures { result ≡ model.first_with_place (record { job = scene.now.job.now; run = scene.now.run.now; before = is_before_in scene.now.clocks.now.rows })
-        (record { zone = zone.now; stretches = own.now }) (lists_in lists.now) place }
-{
-    match zone_at(scene.job, place) {
-        None => None,
-        Some(other) => first_of_zones(scene, zone, own, &other, lists[place].as_slice()),
-    }
-}
-
-/// The names of the first two boxes of a zone and one from this place on that meet.
-fn first_with(
-    scene: &Scene,
-    lists: &[Vec<Stretch>],
-    zone: &ZoneLine,
-    own: &[Stretch],
-    from: usize,
-) -> Option<(PlaceName, PlaceName)>
-    requires fit { All (All IsFit) scene.now.run.now.items }
-    requires timed { IsTimed (is_before_in scene.now.clocks.now.rows) own.now (lists_in lists.now) }
-    ensures { result ≡ first_some (model.first_of_zones (record { job = scene.now.job.now; run = scene.now.run.now; before = is_before_in scene.now.clocks.now.rows })
-        (record { zone = zone.now; stretches = own.now })) (times_from scene.now.job.now (lists_in lists.now) from) }
-{
-    for place in from..lists.len() {
-        if let Some(names) = first_with_place(scene, lists, zone, own, place) {
-            return Some(names);
-        }
-    }
-    None
-}
-
-/// The names of the first two boxes of the zone of this place and a later one that meet.
-fn first_from_place(
-    scene: &Scene,
-    lists: &[Vec<Stretch>],
-    place: usize,
-) -> Option<(PlaceName, PlaceName)>
-    requires fit { All (All IsFit) scene.now.run.now.items }
-    requires timed { IsTimed (is_before_in scene.now.clocks.now.rows) [] (lists_in lists.now) }
-    requires place { place < length lists.now }
-    ensures { result ≡ model.first_from_place (record { job = scene.now.job.now; run = scene.now.run.now; before = is_before_in scene.now.clocks.now.rows }) (lists_in lists.now) place }
-{
-    match zone_at(scene.job, place) {
-        None => None,
-        Some(zone) => first_with(scene, lists, &zone, lists[place].as_slice(), place + 1),
-    }
-}
-
-/// The names of the first two boxes of two zones of different groups that meet.
-pub(crate) fn first_meeting(scene: &Scene, lists: &[Vec<Stretch>]) -> Option<(PlaceName, PlaceName)>
-    requires fit { All (All IsFit) scene.now.run.now.items }
-    requires timed { IsTimed (is_before_in scene.now.clocks.now.rows) [] (lists_in lists.now) }
-    ensures { result ≡ model.first_in_times (record { job = scene.now.job.now; run = scene.now.run.now; before = is_before_in scene.now.clocks.now.rows })
-        (times_from scene.now.job.now (lists_in lists.now) 0) }
-{
-    for place in 0..lists.len() {
-        if let Some(names) = first_from_place(scene, lists, place) {
-            return Some(names);
-        }
-    }
-    None
 }

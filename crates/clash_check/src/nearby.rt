@@ -17,7 +17,7 @@ const TREE_OWN: usize = 8;
 /// From how many others on.
 const TREE_OTHERS: usize = 16;
 /// How many boxes of pieces are kept at most, of 56 bytes each.
-const KEPT_LIMIT: usize = 524_288;
+pub(crate) const KEPT_LIMIT: usize = 524_288;
 
 /// What is kept of the boxes of a stretch.
 #[derive(Drop)]
@@ -56,14 +56,15 @@ fn cover_tree(alloc: Global, others: usize, boxes: &[ZoneBox]) -> Option<BoxTree
     }
 }
 
-/// Nothing is kept yet of these boxes but a tree over their covers, where so many others are held against them that it serves.
-pub(crate) fn kept_for(alloc: Global, others: usize, boxes: &[ZoneBox]) -> Kept
+/// Nothing is kept yet of these boxes but a tree over their covers, where so many others are held against them that it serves. There
+/// is room for so many boxes of their pieces.
+pub(crate) fn kept_for(alloc: Global, room: usize, others: usize, boxes: &[ZoneBox]) -> Kept
     ensures covers { IsRowOf (map (λ own. own.cover) boxes.now) result.covers }
     ensures pieces { result.pieces ≡ [] }
 {
     Kept {
         covers: cover_tree(alloc, others, boxes),
-        pieces: KeptTrees::new(alloc, if others < 2 { 0 } else { KEPT_LIMIT }),
+        pieces: KeptTrees::new(alloc, if others < 2 { 0 } else { room }),
     }
 }
 

@@ -16,11 +16,11 @@ use crate::ascents::{Range, do_ascend, range_of};
 use crate::overlaps::{may_overlap, share_channel, share_place};
 use crate::place_ranges::{do_boxes_ascend, place_range};
 use crate::running::{Boxes, boxes_before, count_in_range, mark_latest};
-use crate::zones::{lists_of, zone_at};
+use crate::zone_pairs::lists_of;
 use axis_sets::CHANNEL_PLACES;
 use job_types::{Job, ZoneLine};
 use order_clocks::Clocks;
-use protection_zones::{Stretch, Stretches, ZoneBox};
+use protection_zones::{Stretch, Stretches, ZoneBox, zone_at};
 
 /// With how many of these a box holds a place in common.
 fn count_near(own: &ZoneBox, others: &[ZoneBox]) -> u64

@@ -1,5 +1,8 @@
 pub mod RowLaws
 pub mod BoxLaws
+pub mod Directions
+pub mod FitLaws
+pub mod ZoneLaws
 pub mod NoteLaws
 pub mod SpanLaws
 pub mod TenureLaws

@@ -3,6 +3,7 @@
 
 mod laws;
 mod notes;
+mod pieces;
 mod rows;
 mod sights;
 mod spans;
@@ -12,12 +13,15 @@ mod tenures;
 mod times;
 mod zone_boxes;
 mod zone_time;
+mod zones;
 
 pub use laws::{
     boxes_are_few, boxes_have_covers, ends_are_lowest_names, orders_compare_the_same,
     stretches_ascend,
 };
+pub use pieces::boxes_by_pieces;
 pub(crate) use rows::Row;
 pub use sights::Sight;
 pub use stretches::{Stretch, Stretches, ZoneBox};
 pub use times::stretches_of;
+pub use zones::zone_at;

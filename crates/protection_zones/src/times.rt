@@ -1,5 +1,5 @@
 //! The time of all zones of a job in a run.
-ghost use Rattle.std.specs.Prelude.{◌≡◌, ◌==◌, ◌≤◌, ◌<◌, ◌^◌, All, IfOk, List, filter, find, length, map};
+ghost use Rattle.std.specs.Prelude.{◌≡◌, ◌≤◌, ◌<◌, ◌^◌, All, IfOk, List, filter, length, map};
 ghost use Rattle.axis_sets.specs.declared.limits.TheConstants.{AXIS_LIMIT};
 ghost use Rattle.job_types.specs.SoundJob.{IsSoundJob};
 ghost use Rattle.job_types.specs.Zones.{zones_in_order};
@@ -16,6 +16,7 @@ use crate::spans::{Outset, outsets_of};
 use crate::stretches::{Stretch, Stretches};
 use crate::tenures::terms_of;
 use crate::zone_time::Scene;
+use crate::zones::zone_numbered;
 use axis_sets::{CHANNEL_PLACES, ChannelId, ZONE_LIMIT};
 use job_types::{Job, ZoneLine};
 use nc_faults::NoMemory;
@@ -61,16 +62,6 @@ fn stretches_of_zone(
 {
     let terms = terms_of(alloc, scene.job, entries, notes, scene.zone)?;
     scene.stretches(alloc, outsets, terms.as_slice())
-}
-
-/// The zone of this number.
-fn zone_numbered(job: &Job, number: u8) -> Option<ZoneLine>
-    ensures { result ≡ find (λ zone. zone.zone == number) job.now.zones }
-{
-    job.zones
-        .iter()
-        .copied()
-        .find(|zone| zone.zone.number == number)
 }
 
 /// The stretches of each zone, in ascending order of the zones.

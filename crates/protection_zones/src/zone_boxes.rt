@@ -18,7 +18,7 @@ fn standing(at: &Row, axis: AxisId) -> Um
 }
 
 /// The range that is named for an axis.
-fn range_of(ranges: &[(AxisId, Um, Um)], axis: AxisId) -> Option<(AxisId, Um, Um)>
+pub(crate) fn range_of(ranges: &[(AxisId, Um, Um)], axis: AxisId) -> Option<(AxisId, Um, Um)>
     ensures { result ≡ find (λ range. range.0 == axis) ranges.now }
 {
     ranges.iter().copied().find(|range| range.0 == axis)
@@ -65,7 +65,7 @@ fn grown(margin: Um, side: &Side) -> (i32, i32)
 }
 
 /// The bounds of a direction whose carrier is between two positions, grown by the margin.
-fn bounds_between(margin: Um, side: &Side, minus: bool, low: Um, high: Um) -> (i32, i32)
+pub(crate) fn bounds_between(margin: Um, side: &Side, minus: bool, low: Um, high: Um) -> (i32, i32)
     ensures low { result.0 ≡ model.carried_bound (side.now.lo -ℤ margin) (if minus then high else low) minus }
     ensures high { result.1 ≡ model.carried_bound (side.now.hi +ℤ margin) (if minus then low else high) minus }
 {

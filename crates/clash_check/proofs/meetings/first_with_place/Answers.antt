@@ -1,6 +1,0 @@
-use Rattle.order_clocks.specs.Tells.{is_before_in}
-use Rattle.clash_check.proofs.NearLaws.{timed_other}
-use Rattle.clash_check.proofs.meetings.first_with_place.Goals as goal
-
-pub first_of_zones-requires-clause-timed : goal.first_of_zones-requires-clause-timed
-first_of_zones-requires-clause-timed c = timed_other (is_before_in c.args.scene.now.clocks.now.rows) c.args.own.now c.args.lists.now c.args.place c.index-lists-place.result c.as_slice.result.now c.requires.place c.index-lists-place.is c.as_slice.ensures.value c.requires.timed

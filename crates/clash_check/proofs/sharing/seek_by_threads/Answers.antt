@@ -1,0 +1,49 @@
+-- The first answer of the chunks is that of all pairs.
+use denote.Param.Send.{IsSync, sendable}
+use Rattle.std.proofs.Common.{◌∙◌, ◌<◌, List, ap, rules}
+use Rattle.std.proofs.Crossing.{crosses}
+use Rattle.std.specs.Prelude.{Option}
+use Rattle.clash_check.proofs.ChunkLaws.{first_of_chunks}
+use Rattle.clash_check.specs.FirstAnswer.{first_some}
+use Rattle.clash_check.specs.Meetings.{Case, Names}
+use Rattle.clash_check.specs.Times.{lists_in}
+use Rattle.clash_check.specs.ZonePairs.{first_of_pair}
+use Rattle.job_types.proofs.Crosses.{job_sync}
+use Rattle.order_clocks.specs.Tells.{is_before_in}
+use Rattle.protection_zones.specs.Stretches.{StretchView}
+use Rattle.order_clocks.specs.contracts.clocks.Clocks as Clocks
+use Rattle.protection_zones.specs.contracts.stretches.Stretch as Stretch
+use Rattle.sync_types.specs.contracts.runs.Entry as Entry
+use Rattle.sync_types.specs.contracts.runs.Run as Run
+use Rattle.sync_types.specs.contracts.Item as Item
+use Rattle.sync_types.specs.contracts.ChannelEnd as ChannelEnd
+use Rattle.clash_check.proofs.sharing.seek_by_threads.Goals as goal
+
+item_sync : IsSync Item.the_field.row
+item_sync = search (sendable, crosses) depth 40 fits 20000
+
+entry_sync : IsSync Entry.the_field.row
+entry_sync = search (sendable, crosses) depth 40 fits 20000
+
+end_sync : IsSync ChannelEnd.the_field.row
+end_sync = search (sendable, crosses) depth 40 fits 20000
+
+run_sync : IsSync Run.the_field.row
+run_sync = search (sendable, crosses, item_sync, entry_sync, end_sync) depth 40 fits 20000
+
+clocks_sync : IsSync Clocks.the_field.row
+clocks_sync = search (sendable, crosses) depth 40 fits 20000
+
+stretch_sync : IsSync Stretch.the_field.row
+stretch_sync = search (sendable, crosses) depth 40 fits 20000
+
+pub seek_in_chunks-requires-sync-S : goal.seek_in_chunks-requires-sync-S
+seek_in_chunks-requires-sync-S g c κs within = search (sendable, crosses, job_sync, run_sync, clocks_sync, stretch_sync) depth 40 fits 20000
+
+pub returns : goal.returns
+returns g c =
+    let case : Case = record { job = c.args.scene.now.job.now; run = c.args.scene.now.run.now; before = is_before_in c.args.scene.now.clocks.now.rows } in
+    let lists : List (List StretchView) = lists_in c.args.lists.now in
+    let some : 0 < c.max-size.result = search rules in
+    c.first_answer.ensures ∙ ap (λ (answers : List (Option Names)). first_some (λ answer. answer) answers) c.deref.ensures.value
+    ∙ first_of_chunks (first_of_pair case lists) c.max-size.result c.args.pairs.now c.in_ok-answers.answers.items some c.in_ok-answers.ensures

@@ -1,0 +1,94 @@
+//! The pairs of zones, and the first two boxes of some of these pairs that meet.
+ghost use Rattle.std.specs.Prelude.{◌≡◌, ℕ, ◌+◌, ◌-◌, ◌<◌, [], ◌++◌, All, IfOk, length, slice_index_or};
+ghost use Rattle.clash_check.specs.Ascents.{IsTimed};
+ghost use Rattle.clash_check.specs.Times.{lists_in};
+ghost use Rattle.clash_check.specs.ZonePairs as model;
+ghost use Rattle.order_clocks.specs.Tells.{is_before_in};
+ghost use Rattle.protection_zones.specs.ZoneBoxes.{IsFit};
+
+use crate::meetings::{Scene, first_of_zones};
+use nc_faults::NoMemory;
+use protection_zones::{Stretch, Stretches, zone_at};
+use std::alloc::Global;
+use sync_types::PlaceName;
+
+/// Appends the pairs of the zone of a place with each later one, of so many.
+fn push_pairs(pairs: &mut Vec<(usize, usize)>, place: usize, count: usize) -> Result<(), NoMemory>
+    requires { place < count }
+    ensures { IfOk result (λ done. pairs.new.items ≡ pairs.old.items ++ model.pairs_with place (place + 1) (count - (place + 1))) }
+{
+    for other in place + 1..count {
+        pairs.push((place, other))?;
+    }
+    Ok(())
+}
+
+/// Each of so many zones with each later one, by their places: the lower zone first.
+pub(crate) fn zone_pairs(alloc: Global, count: usize) -> Result<Vec<(usize, usize)>, NoMemory>
+    ensures { IfOk result (λ pairs. pairs.items ≡ model.pairs_from 0 count) }
+{
+    let mut pairs = Vec::new(alloc);
+    for place in 0..count {
+        push_pairs(&mut pairs, place, count)?;
+    }
+    Ok(pairs)
+}
+
+/// The stretches of all zones.
+pub(crate) fn lists_of(stretches: &Stretches) -> &[Vec<Stretch>]
+    ensures { lists_in result.now ≡ stretches.now.zones }
+{
+    stretches.zones.as_slice()
+}
+
+/// The stretches of the zone of this place; none past the last zone.
+fn stretches_at(lists: &[Vec<Stretch>], place: usize) -> &[Stretch]
+    ensures { result.now ≡ slice_index_or (lists_in lists.now) place [] }
+{
+    match lists.get(place) {
+        None => &[],
+        Some(stretches) => stretches.as_slice(),
+    }
+}
+
+/// The names of the first two boxes of two zones that meet.
+#[tactic(auto, unfolding(crate::specs::ZonePairs::first_of_pair))]
+fn first_of_pair(
+    scene: &Scene,
+    lists: &[Vec<Stretch>],
+    pair: (usize, usize),
+) -> Option<(PlaceName, PlaceName)>
+    requires fit { All (All IsFit) scene.now.run.now.items }
+    requires timed { IsTimed (is_before_in scene.now.clocks.now.rows) [] (lists_in lists.now) }
+    ensures { result ≡ model.first_of_pair (record { job = scene.now.job.now; run = scene.now.run.now; before = is_before_in scene.now.clocks.now.rows }) (lists_in lists.now) pair }
+{
+    let (place, later) = pair;
+    match zone_at(scene.job, place) {
+        None => None,
+        Some(zone) => match zone_at(scene.job, later) {
+            None => None,
+            Some(other) => {
+                let own = stretches_at(lists, place);
+                first_of_zones(scene, &zone, own, &other, stretches_at(lists, later))
+            }
+        },
+    }
+}
+
+/// The names of the first two boxes that meet of the zones of these pairs, one pair after another.
+pub(crate) fn first_of_pairs(
+    scene: &Scene,
+    lists: &[Vec<Stretch>],
+    pairs: &[(usize, usize)],
+) -> Option<(PlaceName, PlaceName)>
+    requires fit { All (All IsFit) scene.now.run.now.items }
+    requires timed { IsTimed (is_before_in scene.now.clocks.now.rows) [] (lists_in lists.now) }
+    ensures { result ≡ model.first_of_pairs (record { job = scene.now.job.now; run = scene.now.run.now; before = is_before_in scene.now.clocks.now.rows }) (lists_in lists.now) pairs.now }
+{
+    for pair in pairs {
+        if let Some(names) = first_of_pair(scene, lists, *pair) {
+            return Some(names);
+        }
+    }
+    None
+}

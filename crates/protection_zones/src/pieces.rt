@@ -1,0 +1,128 @@
+//! The boxes by which a box of a zone is compared: those of the pieces of its motion.
+ghost use Rattle.std.specs.Prelude.{◌≡◌, ◌<◌, ◌≤◌, [], ◌∷◌, ◌-◌, All, map, option_copied, slice_get, slice_index_or};
+ghost use Rattle.job_lines.specs.declared.limits.TheConstants.{DEPTH_LIMIT};
+ghost use Rattle.path_geometry.specs.Motions.{IsSound};
+ghost use Rattle.protection_zones.specs.Pieces.{motion_at, piece_box, piece_boxes, piece_high, piece_low};
+ghost use Rattle.protection_zones.specs.ZoneBoxes.{IsFit};
+ghost use Rattle.swept_boxes.specs.Boxes.{low_of, high_of};
+ghost use Rattle.swept_boxes.specs.Pieces.{pieces_at};
+
+use crate::zone_boxes::{bounds_between, range_of};
+use crate::{Stretch, ZoneBox};
+use arrayvec::ArrayVec;
+use job_types::{Job, Side, ZoneLine};
+use micro_units::Um;
+use path_geometry::Motion;
+use swept_boxes::{Box3, Ranges, pieces_of};
+use sync_types::{Item, Run};
+
+/// What the channel of an entry did before it; nothing past the last entry.
+fn items_at(run: &Run, entry: usize) -> &[Item]
+    ensures { result.now ≡ slice_index_or run.now.items entry [] }
+{
+    match run.items.get(entry) {
+        None => &[],
+        Some(items) => items.as_slice(),
+    }
+}
+
+/// The item of this number.
+fn item_at(items: &[Item], place: usize) -> Option<&Item>
+    ensures { option_copied result ≡ slice_get items.now place }
+{
+    items.get(place)
+}
+
+/// The motion of a place of an entry; none where the box stands.
+fn motion_at(run: &Run, entry: u32, place: Option<u32>) -> Option<&Motion>
+    ensures { option_copied result ≡ motion_at run.now entry place }
+{
+    match place {
+        None => None,
+        Some(place) => match item_at(
+            items_at(run, entry as usize),
+            (place as usize).saturating_sub(1),
+        ) {
+            None => None,
+            Some(item) => item.motion(),
+        },
+    }
+}
+
+/// The bounds of a direction in a piece of a motion with this cover.
+#[tactic(auto, unfolding(crate::specs::Pieces::piece_low, crate::specs::Pieces::piece_high))]
+fn piece_bounds(
+    margin: Um,
+    side: &Side,
+    ranges: &Ranges,
+    cover: &Box3,
+    direction: usize,
+) -> (i32, i32)
+    requires { direction < 3 }
+    ensures low { result.0 ≡ piece_low margin ranges.now side.now (low_of cover.now direction) }
+    ensures high { result.1 ≡ piece_high margin ranges.now side.now (high_of cover.now direction) }
+{
+    let whole = (cover.lo[direction], cover.hi[direction]);
+    match side.carrier {
+        None => whole,
+        Some((axis, minus)) => match range_of(&ranges.axes, axis) {
+            Some(range) => bounds_between(margin, side, minus, range.1, range.2),
+            None => whole,
+        },
+    }
+}
+
+/// The box of a zone in a piece of a motion with this cover.
+fn piece_box(margin: Um, sides: &[Side; 3], ranges: &Ranges, cover: &Box3) -> Box3
+    ensures { result ≡ piece_box margin sides.now ranges.now cover.now }
+{
+    let x = piece_bounds(margin, &sides[0], ranges, cover, 0);
+    let y = piece_bounds(margin, &sides[1], ranges, cover, 1);
+    let z = piece_bounds(margin, &sides[2], ranges, cover, 2);
+    Box3 {
+        lo: [x.0, y.0, z.0],
+        hi: [x.1, y.1, z.1],
+    }
+}
+
+/// The boxes of a zone in the pieces of a motion with this cover.
+fn boxes_of_pieces(job: &Job, zone: &ZoneLine, motion: &Motion, cover: &Box3) -> ArrayVec<Box3, 80>
+    requires sound { IsSound motion.now }
+    requires deep { job.now.depth ≤ DEPTH_LIMIT }
+    ensures { result.items ≡ map (λ piece. piece_box job.now.margin zone.now.sides piece cover.now) (pieces_at motion.now job.now.depth) }
+{
+    let mut boxes = ArrayVec::new();
+    for piece in pieces_of(motion, job.depth) {
+        boxes.push(piece_box(job.margin, &zone.sides, &piece, cover));
+    }
+    boxes
+}
+
+/// One box.
+fn one_box(only: Box3) -> ArrayVec<Box3, 80>
+    ensures { result.items ≡ only ∷ [] }
+{
+    let mut boxes = ArrayVec::new();
+    boxes.push(only);
+    boxes
+}
+
+/// The boxes by which a box of a stretch of a zone is compared, in a run of a job: those of the pieces of its motion at the depth of
+/// the job, or where it stands the box itself. It takes no memory.
+#[tactic(auto, unfolding(crate::specs::Pieces::piece_boxes), using(crate::proofs::FitLaws::fit_motion))]
+pub fn boxes_by_pieces(
+    job: &Job,
+    run: &Run,
+    zone: &ZoneLine,
+    stretch: &Stretch,
+    own: &ZoneBox,
+) -> ArrayVec<Box3, 80>
+    requires fit { All (All IsFit) run.now.items }
+    requires deep { job.now.depth ≤ DEPTH_LIMIT }
+    ensures { result.items ≡ piece_boxes job.now run.now (record { zone = zone.now; stretch = stretch.now; box = own.now }) }
+{
+    match motion_at(run, stretch.entry, own.motion) {
+        None => one_box(own.cover),
+        Some(motion) => boxes_of_pieces(job, zone, motion, &own.cover),
+    }
+}
