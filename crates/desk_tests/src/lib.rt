@@ -1,4 +1,4 @@
-//! Tests of turns at a board, of passes, and of threads that meet at a board.
+//! Tests of turns at a board, of passes, and of threads that meet at a board, under a lock and by tickets.
 #![tactic(auto)]
 
 #[cfg(test)]
@@ -8,4 +8,8 @@ mod steps;
 #[cfg(test)]
 mod threads;
 #[cfg(test)]
+mod tickets;
+#[cfg(test)]
 mod turns;
+#[cfg(test)]
+mod working;

@@ -4,7 +4,7 @@ ghost use Rattle.coordination_tests.specs.MarkRows.{three_channels};
 ghost use Rattle.sync_types.specs.Starts.{IsSound};
 
 use arrayvec::ArrayVec;
-use axis_sets::{ChannelId, ChannelSet, Positions, ZoneSet};
+use axis_sets::{ChannelId, ChannelSet, MarkSet, Positions, ZoneSet};
 use sync_types::{Action, StartState, Step};
 
 pub(crate) const ONE: ChannelId = ChannelId { number: 1 };
@@ -54,4 +54,9 @@ pub(crate) fn end(line: u32) -> Step {
 pub(crate) fn wait(line: u32, one: ChannelId, other: ChannelId) -> Step {
     let named = ChannelSet::empty().with(one).with(other);
     step(line, Action::WaitM(1, named))
+}
+
+/// A step that waits for nobody: all own marks are lowered.
+pub(crate) fn lower_marks(line: u32) -> Step {
+    step(line, Action::ClearM(MarkSet::empty()))
 }

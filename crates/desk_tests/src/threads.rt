@@ -1,60 +1,14 @@
-//! Threads that meet at a board.
+//! Threads that meet at a board under a lock.
 
-use crate::steps::{ONE, THREE, TWO, end, three_channels, wait};
-use axis_sets::ChannelId;
-use coord_core::{Board, Desk, Outcome};
+use crate::steps::three_channels;
+use crate::working::{meet_five_times, wait_or_close};
+use coord_core::{Board, Outcome};
 use shared_board::{Pass, SharedBoard};
 use std::alloc::Global;
 use std::sync::Wait;
 use std::test::Fail;
 use std::thread;
 use std::thread::Threads;
-use sync_types::Step;
-
-/// Where a channel waits for the two others, and where it ends.
-fn steps_of(channel: ChannelId) -> (Step, Step) {
-    match channel.number {
-        1 => (wait(7, TWO, THREE), end(9)),
-        2 => (wait(12, ONE, THREE), end(14)),
-        _ => (wait(17, ONE, TWO), end(19)),
-    }
-}
-
-/// Brings the one step five times and then the other, as long as the channel may go on.
-fn bring<R: Wait>(
-    rt: &R,
-    desk: &SharedBoard,
-    pass: &mut Pass,
-    meeting: &Step,
-    last: &Step,
-) -> Outcome {
-    let mut outcome = desk.wait_start(rt, pass);
-    for place in 0..6u8 {
-        let Outcome::Granted(_) = outcome else {
-            return outcome;
-        };
-        let step = if place < 5 { meeting } else { last };
-        outcome = desk.act_and_wait(rt, pass, *step);
-    }
-    outcome
-}
-
-/// A channel that five times waits for the two others, and then ends.
-fn meet_five_times<R: Wait>(rt: &R, desk: &SharedBoard, pass: Pass) -> Outcome {
-    let mut pass = pass;
-    let (meeting, last) = steps_of(pass.channel);
-    bring(rt, desk, &mut pass, &meeting, &last)
-}
-
-/// The channel 3 closes the board, the others wait for it.
-fn wait_or_close<R: Wait>(rt: &R, desk: &SharedBoard, pass: Pass) -> Outcome {
-    let mut pass = pass;
-    let (meeting, _) = steps_of(pass.channel);
-    if pass.channel == THREE {
-        desk.close(rt, &mut pass);
-    }
-    desk.act_and_wait(rt, &mut pass, meeting)
-}
 
 /// Each pass in a thread of its own, and the board after that.
 fn meet<R: Threads + Wait + Sync>(rt: &R, alloc: Global) -> Result<(Vec<Outcome>, Board), Fail> {
@@ -62,7 +16,14 @@ fn meet<R: Threads + Wait + Sync>(rt: &R, alloc: Global) -> Result<(Vec<Outcome>
     let Ok((desk, passes)) = SharedBoard::new(alloc, &start) else {
         return Err(Fail::from("no memory"));
     };
-    let outcomes = thread::map_vec(rt, passes, &|pass: Pass| meet_five_times(rt, &desk, pass))?;
+    let outcomes = thread::map_vec(
+        rt,
+        passes,
+        &|pass: Pass| {
+            let mut pass = pass;
+            meet_five_times(rt, &desk, pass.channel, &mut pass)
+        },
+    )?;
     Ok((outcomes, desk.finish()))
 }
 
@@ -88,7 +49,14 @@ fn meet_in_vain<R: Threads + Wait + Sync>(rt: &R, alloc: Global) -> Result<Vec<O
     let Ok((desk, passes)) = SharedBoard::new(alloc, &start) else {
         return Err(Fail::from("no memory"));
     };
-    let outcomes = thread::map_vec(rt, passes, &|pass: Pass| wait_or_close(rt, &desk, pass))?;
+    let outcomes = thread::map_vec(
+        rt,
+        passes,
+        &|pass: Pass| {
+            let mut pass = pass;
+            wait_or_close(rt, &desk, pass.channel, &mut pass)
+        },
+    )?;
     Ok(outcomes)
 }
 

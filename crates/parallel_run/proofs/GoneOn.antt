@@ -7,17 +7,19 @@ use Rattle.channel_machine.proofs.RunTurns.{run_turn}
 use Rattle.channel_machine.specs.Kept.{StateView}
 use Rattle.channel_machine.specs.Locals.{IsKeptOf, IsReady}
 use Rattle.channel_machine.specs.Scripts.{IsMaximalRunOf, items_of, script_of}
+use Rattle.coord_core.proofs.Running.{after_both}
 use Rattle.coord_core.proofs.Usage.{accords_first, no_usage}
 use Rattle.coord_core.specs.Boards.{BoardView, replayed}
 use Rattle.job_types.specs.Job.{JobView}
 use Rattle.parallel_run.proofs.Joins.{joins}
-use Rattle.parallel_run.specs.Joining.{AreReady, BeginsWith, IsMadeByScript, IsTurn, Rows}
+use Rattle.parallel_run.specs.Joining.{AreReady, IsMadeByScript, IsTurn, Rows}
+use Rattle.parallel_run.specs.ThreadRuns.{AreOfLowest, GoOnWith}
 use Rattle.parallel_run.specs.Workers.{grants_used, items_for}
 use Rattle.sync_types.proofs.Replays.{sequential_is_one}
 use Rattle.sync_types.specs.BoardEnds.{ends_of}
 use Rattle.sync_types.specs.Boards.{Board, first_board, grant_in}
 use Rattle.sync_types.specs.Runs.{first_stage, lowest_running, moves_of}
-use Rattle.sync_types.specs.Turns.{entries_of, entry_of}
+use Rattle.sync_types.specs.Turns.{after_entries, after_step, entries_of, entry_of}
 use Rattle.sync_types.specs.Views.{EntryView, RunView, StartView}
 use Rattle.sync_types.specs.declared.Grant.{Grant}
 use Rattle.sync_types.specs.declared.Item.{Item}
@@ -45,17 +47,28 @@ turned job start c grant board new rows later_rows locals later begins so grante
     run_turn job start board rows locals begins so c grant turn.segment (get_or locals c None) granted refl turn.told new turn.acted later later_rows
     (record { places = ready.places; here = turn.here; others = turn.others }) turn.items turn.ready
 
--- it begins with what was there before
-pub turn_begins : (job : JobView) (c : ℕ) (grant : Grant) (first : List EntryView) (board new : BoardView) (rows later_rows : List (List Item)) (locals later : List (Option StateView))
-    → BeginsWith first board.entries → IsTurn job c grant board rows locals new later_rows later → BeginsWith first new.entries
-turn_begins job c grant first board new rows later_rows locals later begins turn =
-    let entry : EntryView = entry_of (replayed board) c turn.segment.step in (
-      begins.0 ++ entry ∷ [],
-      turn.acted.entries ∙ ap (λ (es : List EntryView). es ++ entry ∷ []) begins.1 ∙ append_assoc first begins.0 (entry ∷ []),
-    )
+-- ---- it goes on with what was there before
 
-pub begins_itself : (es : List EntryView) → BeginsWith es es
-begins_itself es = ([], sym (append-nil es))
+lowest-push : (b : Board) (es : List EntryView) (e : EntryView) → AreOfLowest b es → lowest_running (after_entries b es) ≡ Some e.channel → AreOfLowest b (es ++ e ∷ [])
+lowest-push b [] e so lowest = (lowest, tt)
+lowest-push b (x ∷ es) e so lowest = (so.0, lowest-push (after_step b x.channel x.step) es e so.1 lowest)
+
+pub turn_goes_on : (job : JobView) (start : StartView) (c : ℕ) (grant : Grant) (first : List EntryView) (board new : BoardView) (rows later_rows : List (List Item)) (locals later : List (Option StateView))
+    → board.start ≡ start → lowest_running (replayed board) ≡ Some c → GoOnWith start first board.entries → IsTurn job c grant board rows locals new later_rows later → GoOnWith start first new.entries
+turn_goes_on job start c grant first board new rows later_rows locals later begins lowest goes turn =
+    let entry : EntryView = entry_of (replayed board) c turn.segment.step in
+    let same : replayed board ≡ after_entries (after_entries (first_board start) first) goes.more =
+    ap (λ (s : StartView). after_entries (first_board s) board.entries) begins
+    ∙ ap (after_entries (first_board start)) goes.begins
+    ∙ after_both (first_board start) first goes.more in
+    record {
+      more = goes.more ++ entry ∷ [];
+      begins = turn.acted.entries ∙ ap (λ (es : List EntryView). es ++ entry ∷ []) goes.begins ∙ append_assoc first goes.more (entry ∷ []);
+      lowest = lowest-push (after_entries (first_board start) first) goes.more entry goes.lowest (ap lowest_running (sym same) ∙ lowest);
+    }
+
+pub goes_itself : (start : StartView) (es : List EntryView) → GoOnWith start es es
+goes_itself start es = record { more = []; begins = sym (append-nil es); lowest = tt }
 
 -- the run is maximal where no channel runs
 pub maximal : (job : JobView) (start : StartView) (es : List EntryView) (rows : List (List Item)) (locals : List (Option StateView)) → IsRunSoFar job start es rows locals

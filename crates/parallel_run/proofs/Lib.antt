@@ -1,10 +1,10 @@
 mod Histories
 mod Walks
-mod Sameness
 mod Tellings
 mod Notes
 mod Joins
-mod Agreeing
+mod Strangers
 mod GoneOn
 mod Assembly
 mod Parting
+mod Returning

@@ -1,60 +1,51 @@
--- Steps. How what the threads have made is put together: the replay, what each worker leaves, and the items of each entry.
-use Rattle.std.specs.Prelude.{◌≡◌, ℕ, ◌==◌, false, List, [], ◌∷◌, ◌++◌, drop, length, slice_index_or, slice_set, take, Option, Some, None, IfSome, if◌then◌else◌}
+-- Steps. How what the workers have made is put together: what each leaves, and the items of each entry.
+use Rattle.std.specs.Prelude.{◌≡◌, ℕ, ◌==◌, false, List, [], ◌∷◌, ◌++◌, drop, length, slice_index_or, slice_set, Option, Some, None, IfSome, if◌then◌else◌}
 use Rattle.axis_sets.specs.declared.limits.TheConstants.{CHANNEL_PLACES}
 use Rattle.channel_machine.specs.Kept.{KeptSegment, StateView}
 use Rattle.channel_machine.specs.Locals.{IsKeptOf, IsReady, IsSegmentOf}
 use Rattle.coord_core.specs.Boards.{BoardView, HaveSameEntries, with_step}
 use Rattle.job_types.specs.Job.{JobView}
-use Rattle.parallel_run.specs.ThreadRuns.{IsCut}
-use Rattle.parallel_run.specs.Workers.{WorkedView, IsWorked, grants_used, items_for, own_steps, steps_for}
-use Rattle.sync_types.specs.Boards.{Board, first_board, is_running}
-use Rattle.sync_types.specs.Turns.{AreEntries, after_step, entry_of}
+use Rattle.parallel_run.specs.Workers.{WorkedView, HasMade, HasStepsOfScript, grants_used, items_for}
+use Rattle.sync_types.specs.Boards.{first_board}
+use Rattle.sync_types.specs.Turns.{AreEntries}
 use Rattle.sync_types.specs.Views.{EntryView, StartView}
 use Rattle.sync_types.specs.declared.Grant.{Grant}
 use Rattle.sync_types.specs.declared.Item.{Item}
-use Rattle.sync_types.specs.declared.Step.{Step}
 
--- the replay of entries from a board, up to the first whose channel does not run there
-abbrev pub front_of : Board → List EntryView → List EntryView
-front_of b [] = []
-front_of b (e ∷ es) = if is_running (b.state e.channel) then entry_of b e.channel e.step ∷ front_of (after_step b e.channel e.step) es else []
-
--- what all workers leave: for each channel, by its number, the steps up to the cut, what it did before each step, and what is kept of it
+-- what all workers leave: for each channel, by its number, what it did before each step, and what is kept of it
 pub record PartsView : Type 0 where
-  pub lists : List (List Step)
   pub rows : List (List (List Item))
   pub locals : List (Option StateView)
 
 -- each has a place for each number of a channel
 pub record HasPlaces (parts : PartsView) : Type 0 where
-  pub lists : length parts.lists ≡ CHANNEL_PLACES
   pub rows : length parts.rows ≡ CHANNEL_PLACES
   pub locals : length parts.locals ≡ CHANNEL_PLACES
 
--- what a worker leaves stands at its channel, where the replay has these grants, and the others are as before
-pub record HasPut (before : PartsView) (w : WorkedView) (replayed : List Grant) (after : PartsView) : Type 0 where
-  pub count : ℕ
-  pub cut : IsCut w.grants replayed count
-  pub lists : after.lists ≡ slice_set before.lists w.channel (take count w.steps)
+-- what a worker leaves stands at its channel, and the others are as before
+pub record HasPut (before : PartsView) (w : WorkedView) (after : PartsView) : Type 0 where
   pub rows : after.rows ≡ slice_set before.rows w.channel w.items
   pub locals : after.locals ≡ slice_set before.locals w.channel w.last
 
--- nothing stands at a channel
-pub record HasNothingAt (c : ℕ) (parts : PartsView) : Type 0 where
-  pub list : slice_index_or parts.lists c [] ≡ []
-  pub rows : slice_index_or parts.rows c [] ≡ []
-  pub local : slice_index_or parts.locals c None ≡ None
+-- a worker of a channel that has got nothing
+abbrev pub nobody : ℕ → WorkedView
+nobody c = record { channel = c; items = []; last = None }
 
--- what one of them leaves of a channel
-pub record LeavesOf (job : JobView) (c : ℕ) (replayed : List Grant) (parts : PartsView) : Type 0 where
-  pub worked : WorkedView
-  pub channel : worked.channel ≡ c
-  pub is : IsWorked job worked
-  pub count : ℕ
-  pub cut : IsCut worked.grants replayed count
-  pub list : slice_index_or parts.lists c [] ≡ take count worked.steps
-  pub rows : slice_index_or parts.rows c [] ≡ worked.items
-  pub local : slice_index_or parts.locals c None ≡ worked.last
+-- what stands at the channel of a worker is what it leaves
+pub record HasPart (w : WorkedView) (parts : PartsView) : Type 0 where
+  pub rows : slice_index_or parts.rows w.channel [] ≡ w.items
+  pub local : slice_index_or parts.locals w.channel None ≡ w.last
+
+-- nothing stands at a channel
+abbrev pub HasNothingAt : ℕ → PartsView → Type 0
+HasNothingAt c parts = HasPart (nobody c) parts
+
+-- what stands at a channel is of a worker that made what these entries have of it
+pub record LeavesOf (job : JobView) (start : StartView) (entries : List EntryView) (c : ℕ) (parts : PartsView) : Type 0 where
+  pub worker : WorkedView
+  pub channel : worker.channel ≡ c
+  pub made : HasMade job start entries worker
+  pub part : HasPart worker parts
 
 -- rows of items by the numbers of channels
 abbrev pub Rows : Type 0
@@ -82,15 +73,11 @@ pub record AreReady (job : JobView) (locals : List (Option StateView)) : Type 0 
   pub places : length locals ≡ CHANNEL_PLACES
   pub each : (c : ℕ) → IfSome (slice_index_or locals c None) (IsReady job c)
 
--- entries that go on with others
-abbrev pub BeginsWith : List EntryView → List EntryView → Type 0
-BeginsWith first all = (more : List EntryView) × (all ≡ first ++ more)
-
 -- Each channel has the steps that the script makes of the grants with which the entries are made, the rows are its items before them, and this is
 -- kept of it after them.
 pub record IsMadeByScript (job : JobView) (start : StartView) (es : List EntryView) (rows : List (List Item)) (locals : List (Option StateView)) : Type 0 where
   pub lawful : AreEntries (first_board start) es
-  pub steps : (c : ℕ) → own_steps c es ≡ steps_for job c [] (grants_used c (first_board start) es)
+  pub steps : (c : ℕ) → HasStepsOfScript job c start es
   pub items : rows ≡ dealt (λ c. items_for job c [] (grants_used c (first_board start) es)) es
   pub kept : (c : ℕ) → IsKeptOf job c (grants_used c (first_board start) es) (slice_index_or locals c None)
 

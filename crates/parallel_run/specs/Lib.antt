@@ -1,3 +1,4 @@
 pub mod Workers
 pub mod ThreadRuns
 pub mod Joining
+pub mod Returns

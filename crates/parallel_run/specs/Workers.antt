@@ -3,13 +3,13 @@ use Rattle.std.specs.Prelude.{◌≡◌, ℕ, ◌==◌, List, [], ◌∷◌, ◌
 use Rattle.channel_machine.specs.Kept.{StateView}
 use Rattle.channel_machine.specs.Locals.{IsKeptOf, IsReady}
 use Rattle.channel_machine.specs.Run.{SegmentView}
-use Rattle.channel_machine.specs.Scripts.{segment_after}
+use Rattle.channel_machine.specs.Scripts.{script_of, segment_after}
 use Rattle.coord_core.specs.Desks.{Told, own_entries}
 use Rattle.job_types.specs.Job.{JobView}
 use Rattle.sync_types.specs.Boards.{Board, first_board, grant_in}
 use Rattle.sync_types.specs.Runs.{as_list}
 use Rattle.sync_types.specs.Turns.{after_step}
-use Rattle.sync_types.specs.Views.{EntryView}
+use Rattle.sync_types.specs.Views.{EntryView, StartView}
 use Rattle.sync_types.specs.declared.Grant.{Grant}
 use Rattle.sync_types.specs.declared.Item.{Item}
 use Rattle.sync_types.specs.declared.Step.{Step}
@@ -26,26 +26,26 @@ steps_for job c made grants = map (λ segment. segment.step) (segments_for job c
 abbrev pub items_for : JobView → ℕ → List Grant → List Grant → List (List Item)
 items_for job c made grants = map (λ segment. segment.items) (segments_for job c made grants)
 
--- the worker of a channel: its grants, the steps that it made of them with what it did before each, and what is kept of the channel after the last
+-- the worker of a channel: what the channel did before each of its steps, and what is kept of it after the last
 pub record WorkedView : Type 0 where
   pub channel : ℕ
-  pub grants : List Grant
-  pub steps : List Step
   pub items : List (List Item)
   pub last : Option StateView
 
--- it made of its grants what the script of the job makes of them
-pub record IsWorked (job : JobView) (w : WorkedView) : Type 0 where
-  pub steps : w.steps ≡ steps_for job w.channel [] w.grants
-  pub items : w.items ≡ items_for job w.channel [] w.grants
-  pub kept : IsKeptOf job w.channel w.grants w.last
-  pub ready : IfSome w.last (IsReady job w.channel)
+-- it made of these grants what the script of the job makes of them
+pub record IsWorked (job : JobView) (grants : List Grant) (w : WorkedView) : Type 0 where
+  pub items : w.items ≡ items_for job w.channel [] grants
+  pub kept : IsKeptOf job w.channel grants w.last
 
--- with one grant more, and the step that was made of it
-pub record HasNoted (before : WorkedView) (grant : Grant) (step : Step) (after : WorkedView) : Type 0 where
+-- what is kept of the channel can go on
+abbrev pub CanGoOn : JobView → WorkedView → Type 0
+CanGoOn job w = IfSome w.last (IsReady job w.channel)
+
+-- with one grant more, and the step that it made of it
+pub record HasNoted (job : JobView) (before : WorkedView) (grant : Grant) (step : Step) (after : WorkedView) : Type 0 where
   pub channel : after.channel ≡ before.channel
-  pub grants : after.grants ≡ before.grants ++ grant ∷ []
-  pub steps : after.steps ≡ before.steps ++ step ∷ []
+  pub scripted : (grants : List Grant) → IsWorked job grants before → step ≡ script_of job before.channel (grants ++ grant ∷ [])
+  pub worked : (grants : List Grant) → IsWorked job grants before → IsWorked job (grants ++ grant ∷ []) after
 
 -- ---- in a history
 
@@ -59,15 +59,17 @@ grants_used c b [] = []
 grants_used c b (e ∷ es) = if e.channel == c then as_list (grant_in (b.state c)) ++ grants_used c (after_step b e.channel e.step) es
     else grants_used c (after_step b e.channel e.step) es
 
--- what the history that a pass has seen has of its channel is what the script makes of the grants of that history
-pub record IsOwnOf (job : JobView) (c : ℕ) (told : Told) : Type 0 where
-  pub channel : told.channel ≡ c
-  pub steps : own_steps c told.seen.entries ≡ steps_for job c [] (grants_used c (first_board told.start) told.seen.entries)
+-- a channel has in these entries the steps that the script of the job makes of the grants that it gets there
+abbrev pub HasStepsOfScript : JobView → ℕ → StartView → List EntryView → Type 0
+HasStepsOfScript job c start entries = own_steps c entries ≡ steps_for job c [] (grants_used c (first_board start) entries)
 
--- where the pass tells
-abbrev pub TellsOwn : JobView → ℕ → Option Told → Type 0
-TellsOwn job c None = Unit {0}
-TellsOwn job c (Some told) = IsOwnOf job c told
+-- a worker made what these entries have of its channel, and what it keeps can go on
+pub record HasMade (job : JobView) (start : StartView) (entries : List EntryView) (w : WorkedView) : Type 0 where
+  pub steps : HasStepsOfScript job w.channel start entries
+  pub worked : IsWorked job (grants_used w.channel (first_board start) entries) w
+  pub ready : CanGoOn job w
+
+-- ---- what a pass tells of its worker
 
 -- a pass of this channel with which nothing was done yet
 pub record IsFreshOf (c : ℕ) (told : Told) : Type 0 where
@@ -77,3 +79,14 @@ pub record IsFreshOf (c : ℕ) (told : Told) : Type 0 where
 abbrev pub TellsNothingYet : ℕ → Option Told → Type 0
 TellsNothingYet c None = Unit {0}
 TellsNothingYet c (Some told) = IsFreshOf c told
+
+-- the same pass later: what the history that it has seen has of its channel is of the script
+pub record IsOwnLater (job : JobView) (c : ℕ) (before after : Told) : Type 0 where
+  pub channel : after.channel ≡ c
+  pub start : after.start ≡ before.start
+  pub steps : HasStepsOfScript job c after.start after.seen.entries
+
+-- where the pass tells, the worker has made what the pass has seen of the channel
+abbrev pub TellsMade : JobView → WorkedView → Option Told → Type 0
+TellsMade job w None = Unit {0}
+TellsMade job w (Some told) = HasMade job told.start told.seen.entries w

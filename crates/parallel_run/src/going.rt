@@ -1,17 +1,17 @@
 //! What still runs after the workers are joined goes on.
-ghost use Rattle.std.specs.Prelude.{◌≡◌, ◌≤◌, ◌++◌, List, length, map, Some, IfOk, IfSome, OnOk};
+ghost use Rattle.std.specs.Prelude.{◌≡◌, ◌≤◌, ◌++◌, List, length, map, Some, IfOk, OnOk};
 ghost use Rattle.channel_machine.specs.Scripts.{IsMaximalRunOf};
 ghost use Rattle.coord_core.specs.Boards.{replayed};
 ghost use Rattle.job_lines.specs.declared.limits.TheConstants.{PROGRAM_LIMIT};
 ghost use Rattle.job_types.specs.SoundJob.{BlocksFit};
-ghost use Rattle.parallel_run.specs.Joining.{AreReady, BeginsWith, IsMadeByScript, IsTurn};
-ghost use Rattle.sync_types.specs.Boards.{first_board, grant_in};
-ghost use Rattle.sync_types.specs.Turns.{AreEntries};
+ghost use Rattle.parallel_run.specs.Joining.{AreReady, IsMadeByScript, IsTurn};
+ghost use Rattle.parallel_run.specs.ThreadRuns.{GoOnWith};
+ghost use Rattle.sync_types.specs.Boards.{grant_in};
 
 use arrayvec::ArrayVec;
-use axis_sets::{CHANNEL_LIMIT, CHANNEL_PLACES, ChannelId, ChannelSet};
-use channel_machine::{Locals, Segment, grant_fits, next_segment};
-use coord_core::{Board, end_by, ends_of};
+use axis_sets::{CHANNEL_LIMIT, ChannelId};
+use channel_machine::{Locals, Segment, next_segment};
+use coord_core::{Board, ends_of};
 use job_types::Job;
 use nc_faults::NoMemory;
 use std::alloc::Global;
@@ -54,9 +54,7 @@ fn whole_run(board: Board, items: Vec<Vec<Item>>, ends: ArrayVec<ChannelEnd, CHA
     ensures entries { result.entries ≡ board.entries }
     ensures items { result.items ≡ map (λ items. items.items) items.items }
     ensures ends { result.ends ≡ ends.items }
-    ensures lawful { AreEntries (first_board board.start) result.entries }
 {
-    let _lawful = board.entries();
     Run {
         entries: board.into_entries(),
         items,
@@ -81,8 +79,7 @@ pub(crate) fn go_on<R: Wait>(
     requires start { board.start ≡ start.now }
     requires made { IsMadeByScript job.now start.now board.entries (map (λ items. items.items) items.items) locals.items }
     ensures maximal { IfOk result (IsMaximalRunOf job.now start.now) }
-    ensures begins { IfOk result (λ run. BeginsWith board.entries run.entries) }
-    ensures lawful { IfOk result (λ run. AreEntries (first_board start.now) run.entries) }
+    ensures goes_on { IfOk result (λ run. GoOnWith start.now board.entries run.entries) }
 {
     let mut board = board;
     let mut locals = locals;
@@ -106,77 +103,4 @@ pub(crate) fn go_on<R: Wait>(
         )?;
     }
     unreachable!()
-}
-
-/// The lowest channel that runs and is not left, with its grant.
-fn next_not_left(board: &Board, left: ChannelSet) -> Option<(ChannelId, Grant)>
-    ensures { IfSome result (λ next. grant_in ((replayed board.now).state next.0) ≡ Some next.1) }
-{
-    for number in 1..CHANNEL_PLACES {
-        let channel = ChannelId {
-            number: number as u8,
-        };
-        if !left.contains(channel) {
-            if let Some(grant) = board.grant_of(channel) {
-                return Some((channel, grant));
-            }
-        }
-    }
-    None
-}
-
-/// How each channel has stopped, the lowest first; one that was left as idle.
-fn ends_with_left(board: &Board, start: &StartState) -> ArrayVec<ChannelEnd, CHANNEL_LIMIT> {
-    let mut ends = ArrayVec::new();
-    for line in &start.channels {
-        let end = end_by(board.state_of(line.0)).unwrap_or(ChannelEnd::Idle);
-        if !ends.is_full() {
-            ends.push(end);
-        }
-    }
-    ends
-}
-
-/// Lets what still runs go on, the lowest channel first. A channel whose grant does not fit it is left, as if it had not
-/// started: a board that gives such a grant has no run of the job.
-pub(crate) fn go_on_where_grants_fit<R: Wait>(
-    rt: &R,
-    alloc: Global,
-    job: &Job,
-    start: &StartState,
-    board: Board,
-    locals: Locals,
-    items: Vec<Vec<Item>>,
-) -> Result<Run, NoMemory>
-    requires blocks { BlocksFit job.now }
-    requires programs { length job.now.programs ≤ PROGRAM_LIMIT }
-    requires ready { AreReady job.now locals.items }
-    requires start { board.start ≡ start.now }
-    ensures begins { IfOk result (λ run. BeginsWith board.entries run.entries) }
-    ensures lawful { IfOk result (λ run. AreEntries (first_board start.now) run.entries) }
-{
-    let mut board = board;
-    let mut locals = locals;
-    let mut items = items;
-    let mut left = ChannelSet::empty();
-    'turns: for _ in rt.forever() {
-        let Some((channel, grant)) = next_not_left(&board, left) else {
-            break;
-        };
-        if grant_fits(job, locals[usize::from(channel.number)].as_ref(), &grant) {
-            turn(
-                alloc,
-                job,
-                channel,
-                &grant,
-                &mut board,
-                &mut locals,
-                &mut items,
-            )?;
-        } else {
-            left = left.with(channel);
-        }
-    }
-    let ends = ends_with_left(&board, start);
-    Ok(whole_run(board, items, ends))
 }

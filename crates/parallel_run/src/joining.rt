@@ -1,24 +1,18 @@
 //! What the workers have made is put together.
-ghost use Rattle.std.specs.Prelude.{◌≡◌, ℕ, ◌≤◌, true, All, length, map, IfOk};
+ghost use Rattle.std.specs.Prelude.{◌≡◌, ℕ, ◌≤◌, false, All, length, map, IfOk, Ok};
 ghost use Rattle.channel_machine.specs.Scripts.{IsMaximalRunOf};
-ghost use Rattle.channel_machine.specs.StartStates.{start_of};
 ghost use Rattle.job_lines.specs.declared.limits.TheConstants.{PROGRAM_LIMIT};
 ghost use Rattle.job_types.specs.SoundJob.{BlocksFit};
-ghost use Rattle.parallel_run.specs.Joining.{AreReady, BeginsWith, IsMadeByScript, dealt, first_row, rows_at, without_first};
-ghost use Rattle.parallel_run.specs.ThreadRuns.{IsThreadRun};
-ghost use Rattle.parallel_run.specs.Workers.{IsWorked};
-ghost use Rattle.sync_types.specs.Boards.{first_board};
-ghost use Rattle.sync_types.specs.Starts.{IsSound};
-ghost use Rattle.sync_types.specs.Turns.{AreEntries};
+ghost use Rattle.parallel_run.specs.Joining.{dealt, first_row, rows_at, without_first};
+ghost use Rattle.parallel_run.specs.ThreadRuns.{IsBegunBy};
+ghost use Rattle.parallel_run.specs.Workers.{HasMade};
+ghost use Rattle.sync_types.specs.Boards.{among};
+ghost use Rattle.sync_types.specs.Starts.{has_channel};
 
-use crate::ThreadRun;
-use crate::difference::lists_agree;
-use crate::going::{go_on, go_on_where_grants_fit};
+use crate::going::go_on;
 use crate::parts::{Parts, parts_of};
-use crate::replay::{Replayed, replay};
 use crate::worked::Worked;
 use axis_sets::ChannelId;
-use channel_machine::Locals;
 use coord_core::Board;
 use job_types::Job;
 use nc_faults::NoMemory;
@@ -26,6 +20,24 @@ use std::alloc::Global;
 use std::collections::VecDeque;
 use std::sync::Wait;
 use sync_types::{Entry, Item, Run, StartState};
+
+/// The passes that workers bring back, and what the workers have made, both in the order of the workers. The only error is want
+/// of memory, of a worker too.
+pub(crate) fn passes_and_workers<P: Drop>(
+    alloc: Global,
+    back: Vec<(P, Result<Worked, NoMemory>)>,
+) -> Result<(Vec<P>, Vec<Worked>), NoMemory>
+    ensures passes { IfOk result (λ made. made.0.items ≡ map (λ one. one.0) back.items) }
+    ensures workers { IfOk result (λ made. map (λ worked. Ok worked) made.1.items ≡ map (λ one. one.1) back.items) }
+{
+    let mut passes = Vec::new(alloc);
+    let mut workers = Vec::new(alloc);
+    for (pass, worked) in back {
+        passes.push(pass)?;
+        workers.push(worked?)?;
+    }
+    Ok((passes, workers))
+}
 
 /// Takes the next row of a channel; an empty one, where there is none.
 fn take_row(alloc: Global, rows: &mut Vec<VecDeque<Vec<Item>>>, channel: ChannelId) -> Vec<Item>
@@ -59,68 +71,26 @@ fn deal(
     Ok(items)
 }
 
-/// The whole run: what still runs goes on. Where the lists agree each grant fits, and no channel is left.
-fn finish<R: Wait>(
-    rt: &R,
-    alloc: Global,
-    job: &Job,
-    start: &StartState,
-    agree: bool,
-    board: Board,
-    locals: Locals,
-    items: Vec<Vec<Item>>,
-) -> Result<Run, NoMemory>
-    requires blocks { BlocksFit job.now }
-    requires programs { length job.now.programs ≤ PROGRAM_LIMIT }
-    requires ready { AreReady job.now locals.items }
-    requires start { board.start ≡ start.now }
-    requires made { agree ≡ true → IsMadeByScript job.now start.now board.entries (map (λ items. items.items) items.items) locals.items }
-    ensures maximal { agree ≡ true → IfOk result (IsMaximalRunOf job.now start.now) }
-    ensures begins { IfOk result (λ run. BeginsWith board.entries run.entries) }
-    ensures lawful { IfOk result (λ run. AreEntries (first_board start.now) run.entries) }
-{
-    if agree {
-        go_on(rt, alloc, job, start, board, locals, items)
-    } else {
-        go_on_where_grants_fit(rt, alloc, job, start, board, locals, items)
-    }
-}
-
-/// The run that these workers have made, with the entries of their board.
+/// The run that begins with the entries of the board at which these workers were. What still runs goes on, the lowest channel
+/// first.
 pub(crate) fn join<R: Wait>(
     rt: &R,
     alloc: Global,
     job: &Job,
     start: &StartState,
-    entries: &[Entry],
-    workers: Vec<Result<Worked, NoMemory>>,
-) -> Result<ThreadRun, NoMemory>
+    board: Board,
+    workers: Vec<Worked>,
+) -> Result<Run, NoMemory>
     requires blocks { BlocksFit job.now }
     requires programs { length job.now.programs ≤ PROGRAM_LIMIT }
-    requires start { start.now ≡ start_of job.now }
-    requires sound { IsSound start.now }
-    requires workers { All (λ w. IfOk w (IsWorked job.now)) workers.items }
-    ensures { IfOk result (IsThreadRun job.now) }
+    requires start { board.start ≡ start.now }
+    requires made { All (HasMade job.now start.now board.entries) workers.items }
+    requires all { (c : ℕ) → among (map (λ worked. worked.channel) workers.items) c ≡ false → has_channel start.now c ≡ false }
+    ensures maximal { IfOk result (IsMaximalRunOf job.now start.now) }
+    ensures begun { IfOk result (IsBegunBy job.now start.now board.entries) }
 {
-    let made = replay(alloc, start, entries)?;
-    let Replayed { board, used } = made;
-    let parts = parts_of(alloc, workers, &used)?;
-    let Parts {
-        mut lists,
-        rows,
-        locals,
-    } = parts;
-    lists.remove(0);
-    let entries = board.entries();
-    let Ok(joined) = u32::try_from(entries.len()) else {
-        return Err(NoMemory);
-    };
-    let agree = lists_agree(&lists, entries);
-    let items = deal(alloc, rows, entries)?;
-    let run = finish(rt, alloc, job, start, agree, board, locals, items)?;
-    Ok(ThreadRun {
-        run,
-        joined,
-        workers: lists,
-    })
+    let parts = parts_of(alloc, workers)?;
+    let Parts { rows, locals } = parts;
+    let items = deal(alloc, rows, board.entries())?;
+    go_on(rt, alloc, job, start, board, locals, items)
 }

@@ -1,12 +1,14 @@
 //! A worker for each channel of a job, in a thread of its own.
-ghost use Rattle.std.specs.Prelude.{◌≡◌, ◌≤◌, All, length, IfOk};
+ghost use Rattle.std.specs.Prelude.{◌≡◌, ℕ, ◌<◌, ◌≤◌, All, length, slice_index_or, IfOk};
+ghost use Rattle.channel_machine.specs.Scripts.{IsMaximalRunOf};
+ghost use Rattle.channel_machine.specs.StartStates.{start_of};
 ghost use Rattle.job_lines.specs.declared.limits.TheConstants.{PROGRAM_LIMIT};
 ghost use Rattle.job_types.specs.SoundJob.{BlocksFit, IsSoundJob};
-ghost use Rattle.parallel_run.specs.ThreadRuns.{IsThreadRun};
-ghost use Rattle.parallel_run.specs.Workers.{IsWorked};
+ghost use Rattle.parallel_run.specs.Returns.{BackView, IsBack, IsFirstPass};
+ghost use Rattle.parallel_run.specs.ThreadRuns.{IsBegunByWorkers};
+ghost use Rattle.ticket_board.specs.Passes.{TicketPassView};
 
-use crate::ThreadRun;
-use crate::joining::join;
+use crate::joining::{join, passes_and_workers};
 use crate::meeting::Meeting;
 use crate::worked::Worked;
 use crate::worker::work;
@@ -14,11 +16,12 @@ use channel_machine::start_state;
 use edge_io::Gate;
 use job_types::Job;
 use nc_faults::NoMemory;
-use shared_board::{Pass, SharedBoard};
 use std::alloc::{AllocError, Global};
 use std::sync::Wait;
 use std::thread;
 use std::thread::Threads;
+use sync_types::Run;
+use ticket_board::{TicketBoard, TicketPass};
 
 /// Something that lends the job that all workers read.
 ///
@@ -42,61 +45,72 @@ impl Lends for Job {
     }
 }
 
-/// A worker for each pass, each in a thread of its own, until all of them are joined.
+/// What a worker brings back: its pass, and what it has made.
+type Back = (TicketPass, Result<Worked, NoMemory>);
+
+/// A worker for each pass, each in a thread of its own, until all of them are joined. Each brings its pass back.
 fn work_all<R: Threads + Wait + Sync, J: Lends + Sync, G: Gate + Sync>(
     rt: &R,
     alloc: Global,
     lender: &J,
-    board: &SharedBoard,
+    board: &TicketBoard,
     meeting: &Meeting,
     gate: &G,
-    passes: Vec<Pass>,
-) -> Result<Vec<Result<Worked, NoMemory>>, AllocError>
+    passes: Vec<TicketPass>,
+) -> Result<Vec<Back>, AllocError>
     requires blocks { BlocksFit (J.lent lender.now) }
     requires programs { length (J.lent lender.now).programs ≤ PROGRAM_LIMIT }
-    ensures { IfOk result (λ workers. All (λ w. IfOk w (IsWorked (J.lent lender.now))) workers.items) }
+    requires passes { All (IsFirstPass board.now) passes.items }
+    ensures len { IfOk result (λ back. length back.items ≡ length passes.items) }
+    ensures back { IfOk result (λ back. (k : ℕ) (p : TicketPassView) (d : BackView) → k < length passes.items
+        → IsBack (J.lent lender.now) board.now (slice_index_or passes.items k p) (slice_index_or back.items k d)) }
 {
     thread::map_vec(
         rt,
         passes,
-        &|pass: Pass| -> Result<Worked, NoMemory>
+        &|pass: TicketPass| -> (TicketPass, Result<Worked, NoMemory>)
             requires blocks { BlocksFit (J.lent lender.now) }
             requires programs { length (J.lent lender.now).programs ≤ PROGRAM_LIMIT }
-            ensures { IfOk result (IsWorked (J.lent lender.entry.now)) }
+            requires first { IsFirstPass board.now pass }
+            ensures { IsBack (J.lent lender.entry.now) board.entry.now pass result }
         {
             let mut pass = pass;
-            let channel = pass.channel;
+            let channel = pass.channel();
             if meeting.all_come() {
-                work(rt, alloc, lender.lend(), board, gate, channel, &mut pass)
+                let worked = work(rt, alloc, lender.lend(), board, gate, channel, &mut pass);
+                (pass, worked)
             } else {
-                Ok(Worked::new(alloc, channel))
+                (pass, Ok(Worked::new(alloc, channel)))
             }
         },
     )
 }
 
-/// Runs a job with a worker for each channel, each in a thread of its own. They meet at a board under a lock and are joined. The
-/// entries of that board are replayed from where the job starts, up to the first whose channel does not run there; each worker's
-/// list is cut at the first step that was made of another grant than the replay gives its channel; and what still runs goes on,
-/// the lowest channel first. The only error is want of memory, of a worker too.
+/// Runs a job with a worker for each channel, each in a thread of its own. They meet at a board of tickets and are joined; each
+/// has a pass of the board and brings it back, and with all of them the board gives its one history. The run begins with that
+/// history: each worker's steps are the entries of its channel there, in order, and nothing is held against anything. What still
+/// runs after it goes on, the lowest channel first, until no channel runs. The only error is want of memory, of a worker too.
 ///
 /// Where a thread cannot be made, or comes too late, no worker begins, and the whole run is made after they are joined.
 ///
-/// Not proved: that the workers run beside each other, that the entries are those that they made, and that a call returns.
+/// Not proved: that the workers run beside each other, that the history is that of their board and not another such history,
+/// and that a call returns.
 pub fn run_threads<R: Threads + Wait + Sync, G: Gate + Sync>(
     rt: &R,
     alloc: Global,
     job: &Job,
     gate: &G,
-) -> Result<ThreadRun, NoMemory>
+) -> Result<Run, NoMemory>
     requires sound { IsSoundJob job.now }
     requires blocks { BlocksFit job.now }
-    ensures { IfOk result (IsThreadRun job.now) }
+    ensures maximal { IfOk result (IsMaximalRunOf job.now (start_of job.now)) }
+    ensures workers { IfOk result (IsBegunByWorkers job.now) }
 {
     let start = start_state(job);
-    let (board, passes) = SharedBoard::new(alloc, &start)?;
+    let (board, passes) = TicketBoard::new(alloc, &start)?;
     let meeting = Meeting::new(passes.len());
-    let workers = work_all(rt, alloc, job, &board, &meeting, gate, passes)?;
-    let board = board.finish();
-    join(rt, alloc, job, &start, board.entries(), workers)
+    let back = work_all(rt, alloc, job, &board, &meeting, gate, passes)?;
+    let (passes, workers) = passes_and_workers(alloc, back)?;
+    let board = board.finish(passes);
+    join(rt, alloc, job, &start, board, workers)
 }

@@ -2,15 +2,12 @@
 
 use crate::meeting::Meeting;
 use crate::worked::Worked;
-use crate::{Differs, ThreadRun};
 
 /// Asks this of a type, and does nothing: each call is proved.
 fn crosses_threads<T: Send + Sync>() {}
 
 /// Asks it of each of them.
 fn types_cross_threads() {
-    crosses_threads::<Differs>();
     crosses_threads::<Meeting>();
-    crosses_threads::<ThreadRun>();
     crosses_threads::<Worked>();
 }

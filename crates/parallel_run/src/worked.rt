@@ -3,7 +3,7 @@ ghost use Rattle.std.specs.Prelude.{◌≡◌, ◌≤◌, [], length, IfOk, OnOk
 ghost use Rattle.job_lines.specs.declared.limits.TheConstants.{PROGRAM_LIMIT};
 ghost use Rattle.job_types.specs.Job.{JobView};
 ghost use Rattle.job_types.specs.SoundJob.{BlocksFit};
-ghost use Rattle.parallel_run.specs.Workers.{HasNoted, IsWorked};
+ghost use Rattle.parallel_run.specs.Workers.{CanGoOn, HasNoted, IsWorked};
 
 use axis_sets::ChannelId;
 use channel_machine::{Local, Segment, next_segment};
@@ -14,16 +14,12 @@ use std::collections::VecDeque;
 use std::marker::Model;
 use sync_types::{Grant, Item, Step};
 
-/// What the worker of a channel has got and made. A contract sees plain lists.
+/// What the worker of a channel has made. A contract sees plain lists.
 #[derive(Drop)]
-pub(crate) struct Worked {
+pub struct Worked {
     /// The channel.
     pub channel: ChannelId,
-    /// Its grants.
-    pub grants: Vec<Grant>,
-    /// The step that it made of each.
-    pub steps: Vec<Step>,
-    /// What it did before each step.
+    /// What it did before each of its steps.
     pub items: VecDeque<Vec<Item>>,
     /// What is kept of the channel after the last segment.
     pub last: Option<Local>,
@@ -35,41 +31,35 @@ impl Model for Worked {
 
     ghost Value = { WorkedView };
 
-    ghost view = { λ w. record { channel = w.channel; grants = w.grants.items; steps = w.steps.items; items = map (λ items. items.items) w.items.items; last = w.last } };
+    ghost view = { λ w. record { channel = w.channel; items = map (λ items. items.items) w.items.items; last = w.last } };
 }
 
 impl Worked {
     /// A worker that has got nothing yet.
     pub(crate) fn new(alloc: Global, channel: ChannelId) -> Worked
         ensures channel { result.channel ≡ channel }
-        ensures grants { result.grants ≡ [] }
-        ensures steps { result.steps ≡ [] }
-        ensures worked { (job : JobView) → IsWorked job result }
+        ensures worked { (job : JobView) → IsWorked job [] result }
+        ensures ready { (job : JobView) → CanGoOn job result }
     {
         Worked {
             channel,
-            grants: Vec::new(alloc),
-            steps: Vec::new(alloc),
             items: VecDeque::new(alloc),
             last: None,
         }
     }
 
-    /// Makes the segment of one grant more, and keeps what it made. After an error nothing is known of it.
+    /// Makes the segment of one grant more, and keeps what it did. After an error nothing is known of it.
     pub(crate) fn note(&mut self, alloc: Global, job: &Job, grant: &Grant) -> Result<Step, NoMemory>
         requires blocks { BlocksFit job.now }
         requires programs { length job.now.programs ≤ PROGRAM_LIMIT }
-        requires worked { IsWorked job.now self.old }
-        ensures noted { IfOk result (λ step. HasNoted self.old grant.now step self.new) }
-        ensures worked { OnOk result (IsWorked job.now self.new) }
+        requires ready { CanGoOn job.now self.old }
+        ensures ready { OnOk result (CanGoOn job.now self.new) }
+        ensures noted { IfOk result (λ step. HasNoted job.now self.old grant.now step self.new) }
     {
         let local = self.last.take();
         let Segment { items, step, after } = next_segment(alloc, job, self.channel, local, grant)?;
-        self.grants.push(*grant)?;
-        let made = &step;
-        self.steps.push(*made)?;
         self.items.push_back(items)?;
         self.last = Some(after);
-        Ok(*made)
+        Ok(step)
     }
 }

@@ -1,8 +1,9 @@
 //! A worker: it makes the steps of a channel at a board.
 ghost use Rattle.std.specs.Prelude.{◌≡◌, ◌≤◌, length, IfOk};
+ghost use Rattle.coord_core.specs.Desks.{TellsOn};
 ghost use Rattle.job_lines.specs.declared.limits.TheConstants.{PROGRAM_LIMIT};
 ghost use Rattle.job_types.specs.SoundJob.{BlocksFit};
-ghost use Rattle.parallel_run.specs.Workers.{IsWorked, TellsNothingYet, TellsOwn};
+ghost use Rattle.parallel_run.specs.Workers.{CanGoOn, IsOwnLater, TellsMade, TellsNothingYet};
 
 use crate::worked::Worked;
 use axis_sets::ChannelId;
@@ -17,7 +18,10 @@ use std::sync::Wait;
 /// Makes the segments and the steps of a channel, each after the gate, until the channel is done, the run is over or the board
 /// is closed. It stops at a grant that does not fit the channel. Where it finds no memory itself it closes the board; the only
 /// error is want of memory, its own or another's.
-pub(crate) fn work<R: Wait, D: Desk, G: Gate>(
+///
+/// Where the pass tells what it has seen, the channel has there, in order, the steps that the script of the job makes of the
+/// grants that it gets there; and where there is no error they are those that the worker has made.
+pub fn work<R: Wait, D: Desk, G: Gate>(
     rt: &R,
     alloc: Global,
     job: &Job,
@@ -31,8 +35,10 @@ pub(crate) fn work<R: Wait, D: Desk, G: Gate>(
     requires fits { D.fits desk.now pass.old }
     requires fresh { TellsNothingYet channel (D.tells pass.old) }
     ensures fits { D.fits desk.now pass.new }
-    ensures worked { IfOk result (λ w. IsWorked job.now w) }
-    ensures own { TellsOwn job.now channel (D.tells pass.new) }
+    ensures channel { IfOk result (λ w. w.channel ≡ channel) }
+    ensures ready { IfOk result (CanGoOn job.now) }
+    ensures own { TellsOn (IsOwnLater job.now channel) (D.tells pass.old) (D.tells pass.new) }
+    ensures made { IfOk result (λ w. TellsMade job.now w (D.tells pass.new)) }
 {
     let mut worked = Worked::new(alloc, channel);
     let mut outcome = desk.wait_start(rt, pass);

@@ -2,11 +2,12 @@
 ghost use Rattle.std.specs.Prelude.{IfSome};
 ghost use Rattle.job_types.specs.SoundJob.{BlocksFit, IsSoundJob};
 
+use axis_sets::ChannelId;
 use nc_faults::NoMemory;
 use product_run::run_in_order;
 use std::alloc::Global;
 use std::test::Fail;
-use sync_types::Action;
+use sync_types::{Action, Item, Step};
 use tape_job::{Job, read_job};
 
 /// Jobs, each with its run: of each step the channel, the lines of what the channel did before it, its line and its word; and
@@ -136,6 +137,21 @@ fn word(action: &Action) -> &'static str {
     }
 }
 
+/// Writes the step of a channel, after what the channel did before it.
+pub(crate) fn write_step(
+    told: &mut String,
+    channel: ChannelId,
+    items: &[Item],
+    step: &Step,
+) -> Result<(), Fail> {
+    write!(told, "{}:", channel.number)?;
+    for item in items {
+        write!(told, "{},", item.line)?;
+    }
+    write!(told, "{} {} ", step.line, word(&step.action))?;
+    Ok(())
+}
+
 /// The run of a job as a text.
 fn run_text(alloc: Global, text: &str) -> Result<String, Fail> {
     let Some(job) = job_of(alloc, text) else {
@@ -147,11 +163,7 @@ fn run_text(alloc: Global, text: &str) -> Result<String, Fail> {
     };
     let mut told = String::new(alloc);
     for (entry, items) in run.entries.iter().zip(run.items.iter()) {
-        write!(told, "{}:", entry.channel.number)?;
-        for item in items {
-            write!(told, "{},", item.line)?;
-        }
-        write!(told, "{} {} ", entry.step.line, word(&entry.step.action))?;
+        write_step(&mut told, entry.channel, items, &entry.step)?;
     }
     write!(told, "{:?}", run.ends)?;
     Ok(told)

@@ -3,7 +3,7 @@ use Rattle.channel_machine.proofs.RunsSoFar.{board_after}
 use Rattle.channel_machine.specs.Scripts.{IsMaximalRunOf}
 use Rattle.coord_core.proofs.Granted.{is_granted, lowest_runs}
 use Rattle.coord_core.specs.Boards.{replayed}
-use Rattle.parallel_run.proofs.GoneOn.{begins_itself, maximal, run_so_far, turn_begins, turned}
+use Rattle.parallel_run.proofs.GoneOn.{goes_itself, maximal, run_so_far, turn_goes_on, turned}
 use Rattle.parallel_run.proofs.going.go_on.Goals as goal
 use Rattle.sync_types.specs.BoardEnds.{ends_of}
 use Rattle.sync_types.specs.Boards.{Board, first_board}
@@ -17,7 +17,7 @@ pub turns-init : goal.turns-init
 turns-init g c = record {
   ready = c.requires.ready;
   start = c.requires.start;
-  begins = begins_itself c.args.board.entries;
+  goes_on = goes_itself c.args.start.now c.args.board.entries;
   run = run_so_far c.args.job.now c.args.start.now c.args.board.entries (map (λ items. items.items) c.args.items.items) c.args.locals.items c.requires.ready c.requires.made;
 }
 
@@ -35,8 +35,8 @@ turns-preserved g c =
     record {
       ready = c.in_ok-turn.ensures.ready;
       start = one.0;
-      begins = turn_begins c.args.job.now c.in-Some-lowest_running.channel c.in-Some-grant_of.grant c.args.board.entries c.turns.board c.turn.new.board rows later c.turns.locals.items c.turn.new.locals.items
-          c.turns.invariant.begins c.in_ok-turn.ensures.turn;
+      goes_on = turn_goes_on c.args.job.now c.args.start.now c.in-Some-lowest_running.channel c.in-Some-grant_of.grant c.args.board.entries c.turns.board c.turn.new.board rows later c.turns.locals.items c.turn.new.locals.items
+          c.turns.invariant.start (sym c.lowest_running.ensures ∙ c.in-Some-lowest_running.is) c.turns.invariant.goes_on c.in_ok-turn.ensures.turn;
       run = one.1;
     }
 

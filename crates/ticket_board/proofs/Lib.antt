@@ -1,0 +1,9 @@
+mod Totals
+mod Histories
+mod Channels
+mod Keeps
+mod Cuts
+mod Framing
+mod Turning
+mod Waits
+pub mod Passes
