@@ -57,7 +57,7 @@ pub record Stands {X : Type 0} (xs : List X) (place : ℕ) (x : X) : Type 0 wher
   pub within : place < length xs
   pub there : get_or xs place x ≡ x
 
--- the elements before it, it, and those behind it
+-- the elements before it, it, and those after it
 take-next : {X : Type 0} (xs : List X) (place : ℕ) (x : X) → Stands xs place x → take (place + 1) xs ≡ take place xs ++ x ∷ []
 take-next xs place x at = take_more xs place x at.within ∙ ap (λ (y : _). take place xs ++ y ∷ []) at.there
 

@@ -11,11 +11,11 @@ use Rattle.sync_types.specs.declared.Action.TheVariants.{WaitM, SetM, ClearM, In
 use Rattle.sync_types.specs.declared.Step.{Step}
 use Rattle.job_report.specs.Positions.{axis_text}
 
--- a number behind others
+-- a number after others
 unfoldable pub next_number : ℕ → List ℕ
 next_number number = codes " " ++ decimal number
 
--- an axis behind others
+-- an axis after others
 unfoldable pub next_axis : JobView → ℕ → List ℕ
 next_axis job axis = codes " " ++ axis_text job axis
 

@@ -12,7 +12,7 @@ pub record Stage : Type 0 where
 abbrev pub stage : Option (List ℕ) → Option ℕ → List ℕ → Stage
 stage written count page = record { written = written; count = count; page = page }
 
--- this text has come behind what there was: a front of it all is written, and the page has the rest
+-- this text has come after what there was: a front of it all is written, and the page has the rest
 pub record Prints (old new : Stage) (text : List ℕ) : Type 0 where
   pub gone : List ℕ
   pub split : old.page ++ text ≡ gone ++ new.page

@@ -17,7 +17,7 @@ const MEMBERS_ROOM: usize = AXIS_LIMIT * (AXIS_ROOM + 1);
 /// The most bytes of what an action speaks of, with its word.
 const ACTION_ROOM: usize = MEMBERS_ROOM + NUMBER_ROOM + 8;
 
-/// Puts a number behind others.
+/// Puts a number after others.
 #[tactic(auto, unfolding(crate::specs::Actions::next_number))]
 fn push_next_number(page: &mut Page, number: u8)
     requires { length page.old + (NUMBER_ROOM + 1) ≤ PAGE_ROOM }
@@ -57,7 +57,7 @@ fn push_marks(page: &mut Page, set: &MarkSet)
     }
 }
 
-/// Puts an axis behind others.
+/// Puts an axis after others.
 #[tactic(auto, unfolding(crate::specs::Actions::next_axis))]
 fn push_next_axis(page: &mut Page, job: &Job, axis: AxisId)
     requires { length page.old + (AXIS_ROOM + 1) ≤ PAGE_ROOM }

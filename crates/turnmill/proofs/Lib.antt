@@ -2,6 +2,7 @@ pub mod ClapLemmas
 pub mod WordLemmas
 pub mod ClearLemmas
 pub mod QuietRuns
+pub mod ReadLemmas
 pub mod JudgeLemmas
 pub mod OneOutput
 pub mod TurnLemmas

@@ -1,14 +1,16 @@
 //! The check of an input, from the words of the call to the bytes of the answer.
-ghost use Rattle.std.specs.Prelude.{◌≡◌, ◌≢◌, ◌↔◌, ◌⊎◌, ℕ, ◌-◌, ◌^◌, ◌<◌, ◌≤◌, Bool, true, false, [], All, length, map, None, IfSome, IfOk, IsOkAnd, IsErr, IsErrAnd, Some, Ok, Err};
+ghost use Rattle.std.specs.Prelude.{◌≡◌, ◌≢◌, ◌↔◌, ◌⊎◌, ℕ, ◌-◌, ◌^◌, ◌<◌, ◌≤◌, Bool, true, false, [], All, List, length, map, None, IfSome, IfOk, IfErr, IsOkAnd, IsErr, IsErrAnd, Some, Ok, Err};
 ghost use Rattle.edge_io.specs.Moves.{Grows};
 ghost use Rattle.job_report.specs.Channels.{IsListedEnd};
 ghost use Rattle.job_report.specs.Report.{refusal_bytes};
 ghost use Rattle.job_types.specs.SoundJob.{BlocksFit, IsSoundJob};
 ghost use Rattle.nc_faults.specs.Texts.{IsRefusalCode};
 ghost use Rattle.speed_laws.specs.Safety.{IsSafeAlways};
+ghost use Rattle.tape_job.specs.Input.{HasTaken};
 ghost use Rattle.tape_job.specs.Read.{read_of};
 ghost use Rattle.turnmill.specs.JobDoings.{doings_of};
-ghost use Rattle.turnmill.specs.Input.{is_check, ReadsInput, TakesTooMany};
+ghost use Rattle.turnmill.specs.Input.{is_check, ReadsJob, TakesTooMany};
+ghost use Rattle.turnmill.specs.declared.check.InputFault.TheVariants as faults;
 ghost use Rattle.turnmill.specs.Judged.{IsClear};
 ghost use Rattle.turnmill.specs.OneResult.{HasOneResult};
 ghost use Rattle.turnmill.specs.Output.{status_of, IsAnswer, IsOutput, IsOutputOf, IsReadWhole, IsReportedBy, IsVerdict, Writes, WritesFront};
@@ -21,11 +23,11 @@ use crate::words::{Request, request_of};
 use edge_io::{Failed, Sink, Source};
 use job_lines::INPUT_LIMIT;
 use job_report::{refused, report};
-use nc_faults::Refusal;
-use std::alloc::{AllocError, Global};
+use nc_faults::{NoMemory, Refusal};
+use std::alloc::Global;
 use std::process::ExitCode;
 use sync_types::Verdict;
-use tape_job::{Job, JobFault, read_job};
+use tape_job::{Job, JobFault, JobReader};
 
 /// How a call ends.
 #[derive(Clone, Copy, Debug, PartialEq, Eq)]
@@ -96,33 +98,55 @@ impl From<Failed> for InputFault {
     }
 }
 
-impl From<AllocError> for InputFault {
+impl From<NoMemory> for InputFault {
     ghost use Rattle.std.specs.Prelude.{◌≡◌};
     ghost use Rattle.turnmill.specs.declared.check.InputFault.TheVariants as faults;
 
     ghost from_gives = { λ _ fault. fault ≡ faults.NoMemory };
 
-    fn from(_: AllocError) -> InputFault {
+    fn from(_: NoMemory) -> InputFault {
         InputFault::NoMemory
     }
 }
 
-/// Reads an input to its end, or to its `TOO_MANY`th byte. The first read that gives no byte or fails is the last one: what
-/// may be done with a source allows no read after it.
-pub(crate) fn read_input<S: Source>(alloc: Global, source: &mut S) -> Result<Vec<u8>, InputFault>
+/// The job that an input is, or its refusal, after all its bytes were given to the reader.
+fn read_whole(reader: JobReader) -> Result<Result<Job, Refusal>, InputFault>
+    ensures exact { (bytes : List ℕ) → HasTaken reader bytes → IfOk result (λ read. read_of bytes ≡ read) }
+    ensures memory { IfErr result (λ fault. fault ≡ faults.NoMemory) }
+    ensures indices { IfOk result (λ read. IfOk read BlocksFit) }
+    ensures listed { IfOk result (λ read. IfErr read (λ refusal. IsRefusalCode refusal.code)) }
+{
+    match reader.finish() {
+        Ok(job) => Ok(Ok(job)),
+        Err(JobFault::Refused(refusal)) => Ok(Err(refusal)),
+        Err(JobFault::NoMemory) => Err(InputFault::NoMemory),
+    }
+}
+
+/// Reads the job that an input is, or its refusal. The input is read to its end, or to its `TOO_MANY`th byte, a piece after
+/// another, and no piece is kept. The first read that gives no byte or fails is the last one: what may be done with a source
+/// allows no read after it.
+pub(crate) fn read_job_from<S: Source>(
+    alloc: Global,
+    source: &mut S,
+) -> Result<Result<Job, Refusal>, InputFault>
     requires few { S.faults source.old < 2 ^ 64 - 1 }
     requires readable { S.can_read source.old }
-    ensures { ReadsInput result (S.left source.old) (S.left source.new) (S.faults source.old) (S.faults source.new) }
+    ensures exact { ReadsJob result (S.left source.old) (S.left source.new) (S.faults source.old) (S.faults source.new) }
+    ensures indices { IfOk result (λ read. IfOk read BlocksFit) }
+    ensures listed { IfOk result (λ read. IfErr read (λ refusal. IsRefusalCode refusal.code)) }
 {
-    let mut bytes = Vec::new(alloc);
+    let mut reader = JobReader::new(alloc)?;
     let mut buffer = [0; PIECE];
-    while bytes.len() < TOO_MANY {
-        let room = (TOO_MANY - bytes.len()).min(PIECE);
+    let mut given = 0;
+    while given < TOO_MANY {
+        let room = (TOO_MANY - given).min(PIECE);
         let taken = source.read(&mut buffer[..room])?;
         if taken == 0 {
-            return Ok(bytes);
+            return read_whole(reader);
         }
-        bytes.extend_from_slice(&buffer[..taken])?;
+        reader.feed(&buffer[..taken])?;
+        given += taken;
     }
     Err(InputFault::TooLong)
 }
@@ -194,21 +218,22 @@ pub(crate) fn answer_refusal<K: Sink>(refusal: &Refusal, sink: &mut K) -> Status
     }
 }
 
-/// Answers an input that is not too long.
-fn answer_input<K: Sink>(alloc: Global, bytes: &[u8], sink: &mut K) -> Status
-    requires short { length bytes.now ≤ INPUT_LIMIT }
+/// Answers an input that is not too long, as what it was read.
+fn answer_read<K: Sink>(alloc: Global, read: &Result<Job, Refusal>, sink: &mut K) -> Status
+    requires accepted { IfOk read.now IsSoundJob }
+    requires indices { IfOk read.now BlocksFit }
+    requires listed { IfErr read.now (λ refusal. IsRefusalCode refusal.code) }
     requires few { K.faults sink.old < 2 ^ 64 - 1 }
-    ensures whole { IsReadWhole result → Writes (IsOutput bytes.now) result (K.written sink.old) (K.written sink.new) }
-    ensures front { result ≡ Status.WriteFault → WritesFront (IsOutput bytes.now) (K.written sink.old) (K.written sink.new) }
+    ensures whole { IsReadWhole result → Writes (IsOutputOf read.now) result (K.written sink.old) (K.written sink.new) }
+    ensures front { result ≡ Status.WriteFault → WritesFront (IsOutputOf read.now) (K.written sink.old) (K.written sink.new) }
     ensures silent { result ≡ Status.NoMemory → sink.new ≡ sink.old }
     ensures cause { (result ≡ Status.WriteFault) ↔ (K.faults sink.old < K.faults sink.new) }
     ensures never_fall { K.faults sink.old ≤ K.faults sink.new }
     ensures ends { IsAnswer result }
 {
-    match read_job(alloc, bytes) {
-        Ok(job) => answer_job(alloc, &job, sink),
-        Err(JobFault::Refused(refusal)) => answer_refusal(&refusal, sink),
-        Err(JobFault::NoMemory) => Status::NoMemory,
+    match read {
+        Ok(job) => answer_job(alloc, job, sink),
+        Err(refusal) => answer_refusal(refusal, sink),
     }
 }
 
@@ -256,13 +281,13 @@ fn check_source<S: Source, K: Sink>(alloc: Global, source: &mut S, sink: &mut K)
     ensures silent { (result ≡ Status.ReadFault) ⊎ (result ≡ Status.TooLong) ⊎ (result ≡ Status.NoMemory)
         → sink.new ≡ sink.old }
 {
-    let bytes = match read_input(alloc, source) {
-        Ok(bytes) => bytes,
+    let read = match read_job_from(alloc, source) {
+        Ok(read) => read,
         Err(InputFault::Failed) => return Status::ReadFault,
         Err(InputFault::TooLong) => return Status::TooLong,
         Err(InputFault::NoMemory) => return Status::NoMemory,
     };
-    answer_input(alloc, &bytes, sink)
+    answer_read(alloc, &read, sink)
 }
 
 /// Answers the words of a call: checks the input of the source, or judges the sample that they ask for, and writes what is called for

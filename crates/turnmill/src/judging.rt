@@ -11,12 +11,13 @@ ghost use Rattle.channel_machine.specs.Scripts.{IsMaximalRunOf, IsRunInOrder};
 ghost use Rattle.turnmill.specs.Judgements.{IsJudgedBy};
 ghost use Rattle.turnmill.specs.Output.{IsReportedBy};
 
-use clash_check::{count, judge};
+use clash_check::{count, judge, judge_shared};
 use nc_faults::NoMemory;
 use order_clocks::{Clocks, clocks_of};
 use product_run::run_in_order;
 use protection_zones::{Stretches, stretches_of};
 use std::alloc::Global;
+use std::thread::Threads;
 use sync_types::{Entry, Run, Verdict};
 use tape_job::Job;
 
@@ -39,6 +40,29 @@ pub(crate) fn judge_run(alloc: Global, job: &Job, run: Run) -> Result<Judgement,
     let clocks = clocks_of(alloc, &run)?;
     let stretches = stretches_of(alloc, job, &run, &clocks)?;
     let verdict = judge(alloc, job, &run, &stretches, &clocks)?;
+    Ok(Judgement {
+        run,
+        clocks,
+        stretches,
+        verdict,
+    })
+}
+
+/// Judges a run as `judge_run` does. The pairs of zones are shared out to threads.
+pub(crate) fn judge_by_threads<R: Threads + Sync>(
+    rt: &R,
+    alloc: Global,
+    job: &Job,
+    run: Run,
+) -> Result<Judgement, NoMemory>
+    requires accepted { IsSoundJob job.now }
+    requires maximal { IsMaximalRunOf job.now (start_of job.now) run }
+    ensures judged { IfOk result (λ j. IsJudgedBy job.now j.run j.clocks j.stretches j.verdict) }
+    ensures same { IfOk result (λ j. j.run ≡ run) }
+{
+    let clocks = clocks_of(alloc, &run)?;
+    let stretches = stretches_of(alloc, job, &run, &clocks)?;
+    let verdict = judge_shared(rt, alloc, job, &run, &stretches, &clocks)?;
     Ok(Judgement {
         run,
         clocks,

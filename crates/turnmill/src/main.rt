@@ -3,6 +3,8 @@
 
 mod arguments;
 mod check;
+#[cfg(test)]
+mod fault_tests;
 mod judging;
 mod laws;
 mod running;

@@ -1,12 +1,12 @@
 //! Words that may ask for a run of the job by threads.
-ghost use Rattle.std.specs.Prelude.{◌≡◌, ◌≢◌, ◌↔◌, ◌⊎◌, ◌-◌, ◌^◌, ◌<◌, ◌≤◌, true, false, [], All, length, map, None, IfSome, IfOk, IsOkAnd, IsErr, IsErrAnd, Some, Ok};
+ghost use Rattle.std.specs.Prelude.{◌≡◌, ◌≢◌, ◌↔◌, ◌⊎◌, ◌-◌, ◌^◌, ◌<◌, ◌≤◌, true, false, [], All, length, map, None, IfSome, IfOk, IfErr, IsOkAnd, IsErr, IsErrAnd, Some, Ok};
 ghost use Rattle.channel_machine.specs.Scripts.{IsMaximalRunOf};
 ghost use Rattle.channel_machine.specs.StartStates.{start_of};
 ghost use Rattle.edge_io.specs.Moves.{Grows};
 ghost use Rattle.job_report.specs.Channels.{IsListedEnd};
 ghost use Rattle.job_report.specs.Report.{refusal_bytes};
 ghost use Rattle.job_types.specs.SoundJob.{BlocksFit, IsSoundJob};
-ghost use Rattle.parallel_run.specs.ThreadRuns.{IsThreadRun};
+ghost use Rattle.nc_faults.specs.Texts.{IsRefusalCode};
 ghost use Rattle.product_run.specs.RunLaws.{step_limit};
 ghost use Rattle.speed_laws.specs.Safety.{IsSafeAlways};
 ghost use Rattle.tape_job.specs.Read.{read_of};
@@ -18,21 +18,26 @@ ghost use Rattle.turnmill.specs.Output.{IsAnswer, IsOutput, IsOutputOf, IsReadWh
 ghost use Rattle.turnmill.specs.Summary.{IsOutputFor};
 ghost use Rattle.turnmill.specs.Words.{call_of, input_for, reads_input};
 
-use crate::check::{InputFault, Status, answer_refusal, check_words, read_input, write_report};
-use crate::judging::{Judgement, entries_of, judge_in_order, judge_run};
+use crate::check::{InputFault, Status, answer_refusal, check_words, read_job_from, write_report};
+use crate::judging::{Judgement, entries_of, judge_by_threads, judge_in_order};
 use crate::words::is_run;
 use edge_io::{Gate, Sink, Source};
 use job_lines::INPUT_LIMIT;
-use nc_faults::NoMemory;
-use parallel_run::{ThreadRun, run_threads};
+use nc_faults::{NoMemory, Refusal};
+use parallel_run::run_threads;
 use std::alloc::Global;
 use std::sync::Wait;
 use std::thread::Threads;
 use sync_types::{Entry, Run};
-use tape_job::{Job, JobFault, read_job};
+use tape_job::Job;
 
-/// Judges a run of the job after which no channel runs. Where it has a race the job calls for the run in order, and that is judged.
-fn judge_made(alloc: Global, job: &Job, run: Run) -> Result<Judgement, NoMemory>
+/// Judges a run of the job after which no channel runs, with its pairs of zones shared out to threads. Where it has a race the job calls for the run in order, and that is judged.
+fn judge_made<R: Threads + Sync>(
+    rt: &R,
+    alloc: Global,
+    job: &Job,
+    run: Run,
+) -> Result<Judgement, NoMemory>
     requires accepted { IsSoundJob job.now }
     requires indices { BlocksFit job.now }
     requires maximal { IsMaximalRunOf job.now (start_of job.now) run }
@@ -40,25 +45,10 @@ fn judge_made(alloc: Global, job: &Job, run: Run) -> Result<Judgement, NoMemory>
     ensures listed { IfOk result (λ j. All IsListedEnd j.run.ends) }
     ensures few { IfOk result (λ j. length j.run.entries ≤ step_limit) }
 {
-    let judgement = judge_run(alloc, job, run)?;
+    let judgement = judge_by_threads(rt, alloc, job, run)?;
     match judgement.clocks.first_race() {
         Some(_) => judge_in_order(alloc, job),
         None => Ok(judgement),
-    }
-}
-
-/// Judges the run that threads have made. Where what a worker did is not what stands on the board, the run in order is judged.
-fn judge_joined(alloc: Global, job: &Job, made: ThreadRun) -> Result<Judgement, NoMemory>
-    requires accepted { IsSoundJob job.now }
-    requires indices { BlocksFit job.now }
-    requires made { IsThreadRun job.now made }
-    ensures reported { IfOk result (λ j. IsReportedBy job.now j.run j.verdict) }
-    ensures listed { IfOk result (λ j. All IsListedEnd j.run.ends) }
-    ensures few { IfOk result (λ j. length j.run.entries ≤ step_limit) }
-{
-    match made.check() {
-        Ok(run) => judge_made(alloc, job, run),
-        Err(_) => judge_in_order(alloc, job),
     }
 }
 
@@ -90,37 +80,38 @@ fn answer_run<R: Threads + Wait + Sync, K: Sink, G: Gate + Sync>(
     ensures never_fall { K.faults sink.old ≤ K.faults sink.new }
     ensures ends { IsAnswer result }
 {
-    let Ok(made) = run_threads(rt, alloc, job, gate) else {
+    let Ok(run) = run_threads(rt, alloc, job, gate) else {
         return Status::NoMemory;
     };
-    let Ok(judgement) = judge_joined(alloc, job, made) else {
+    let Ok(judgement) = judge_made(rt, alloc, job, run) else {
         return Status::NoMemory;
     };
     tell(gate, entries_of(&judgement.run));
     write_report(job, &judgement, sink)
 }
 
-/// Answers an input that is not too long, by a run of threads where it is a job.
-fn answer_input<R: Threads + Wait + Sync, K: Sink, G: Gate + Sync>(
+/// Answers an input that is not too long, as what it was read, by a run of threads where it is a job.
+fn answer_read<R: Threads + Wait + Sync, K: Sink, G: Gate + Sync>(
     rt: &R,
     alloc: Global,
-    bytes: &[u8],
+    read: &Result<Job, Refusal>,
     sink: &mut K,
     gate: &G,
 ) -> Status
-    requires short { length bytes.now ≤ INPUT_LIMIT }
+    requires accepted { IfOk read.now IsSoundJob }
+    requires indices { IfOk read.now BlocksFit }
+    requires listed { IfErr read.now (λ refusal. IsRefusalCode refusal.code) }
     requires few { K.faults sink.old < 2 ^ 64 - 1 }
-    ensures whole { IsReadWhole result → Writes (IsOutput bytes.now) result (K.written sink.old) (K.written sink.new) }
-    ensures front { result ≡ Status.WriteFault → WritesFront (IsOutput bytes.now) (K.written sink.old) (K.written sink.new) }
+    ensures whole { IsReadWhole result → Writes (IsOutputOf read.now) result (K.written sink.old) (K.written sink.new) }
+    ensures front { result ≡ Status.WriteFault → WritesFront (IsOutputOf read.now) (K.written sink.old) (K.written sink.new) }
     ensures silent { result ≡ Status.NoMemory → sink.new ≡ sink.old }
     ensures cause { (result ≡ Status.WriteFault) ↔ (K.faults sink.old < K.faults sink.new) }
     ensures never_fall { K.faults sink.old ≤ K.faults sink.new }
     ensures ends { IsAnswer result }
 {
-    match read_job(alloc, bytes) {
-        Ok(job) => answer_run(rt, alloc, &job, sink, gate),
-        Err(JobFault::Refused(refusal)) => answer_refusal(&refusal, sink),
-        Err(JobFault::NoMemory) => Status::NoMemory,
+    match read {
+        Ok(job) => answer_run(rt, alloc, job, sink, gate),
+        Err(refusal) => answer_refusal(refusal, sink),
     }
 }
 
@@ -200,11 +191,11 @@ pub fn run_words<R: Threads + Wait + Sync, S: Source, K: Sink, G: Gate + Sync>(
     if !is_run(words) {
         return check_words(alloc, words, source, sink);
     }
-    let bytes = match read_input(alloc, source) {
-        Ok(bytes) => bytes,
+    let read = match read_job_from(alloc, source) {
+        Ok(read) => read,
         Err(InputFault::Failed) => return Status::ReadFault,
         Err(InputFault::TooLong) => return Status::TooLong,
         Err(InputFault::NoMemory) => return Status::NoMemory,
     };
-    answer_input(rt, alloc, &bytes, sink, gate)
+    answer_read(rt, alloc, &read, sink, gate)
 }

@@ -98,6 +98,59 @@ STATE ENDED 19
 VERDICT NO ZONE 1 CHANNEL 1 RUN 15 ZONE 2 CHANNEL 2 RUN 18
 ";
 
+// A job of two turrets, and its output.
+const TURRETS: &str = "JOB 1
+CHANNEL 1 UPPER START
+CHANNEL 2 LOWER START
+AXIS X1 1 150
+AXIS Z1 1 200
+AXIS X2 2 150
+AXIS Z2 2 200
+GEO 1 X X1
+GEO 1 Z Z1
+GEO 2 X X2
+GEO 2 Z Z2
+OFFSET 1 G54 Z 50
+OFFSET 2 G54 Z 50
+ZONE 1 1 1 ON +X1 0 40 - -10 10 +Z1 0 60
+ZONE 2 2 2 ON -X2 -40 0 - -10 10 +Z2 0 60
+%_N_UPPER_MPF
+N10 G18 G90 G54 G95 DIAMON
+N20 G96 S180 LIMS=2500 M4
+N30 G0 X62 Z2
+N40 G1 X-1.6 F0.2
+N50 G0 Z5
+N60 G0 X300 Z150
+N70 WAITM(1,2)
+N80 M30
+%_N_LOWER_MPF
+N10 G18 G90 G54 G95 DIAMON
+N20 WAITM(1,1)
+N30 G0 X62 Z2
+N40 G1 X-1.6 F0.2
+N50 G0 X300
+N60 M30
+";
+
+const TURRETS_OUTPUT: &str = "TURNMILL 1
+CHANNEL 1
+19 LINE X1=31.000 Z1=52.000
+20 LINE X1=-0.800
+21 LINE Z1=55.000
+22 LINE X1=150.000 Z1=200.000
+23 WAITM 1 2
+24 END
+STATE ENDED 24
+CHANNEL 2
+27 WAITM 1 1
+28 LINE X2=31.000 Z2=52.000
+29 LINE X2=-0.800
+30 LINE X2=150.000
+31 END
+STATE ENDED 31
+VERDICT YES
+";
+
 // How a call ends and, below, what it writes, where reads and writes move pieces of a size and the listed ones fail.
 fn answer(
     alloc: Global,
@@ -133,6 +186,32 @@ fn answers_inputs(rt: HostRuntime) -> Result<(), Fail> {
     assert!(rt; answer_to(alloc, ONE, ARC)?.as_str() == ARC_ANSWER);
     assert!(rt; answer_to(alloc, ONE, OPEN_LINE)?.as_str() == OPEN_LINE_ANSWER);
     assert!(rt; answer_to(alloc, TWO, MEETING)?.as_str() == MEETING_ANSWER);
+    Ok(())
+}
+
+// However an input comes, in pieces of a byte, of a part of a line or of all its lines, it is answered as a whole.
+#[test]
+fn answers_an_input_in_pieces(rt: HostRuntime) -> Result<(), Fail> {
+    let alloc = rt.alloc();
+    let want = format!(in alloc; "Yes\n{}", TURRETS_OUTPUT)?;
+    let bytes = answer(alloc, &["check"], TURRETS, (1, &[]), (1000, &[]))?;
+    assert!(rt; bytes.as_str() == want.as_str());
+    let parts = answer(alloc, &["check"], TURRETS, (7, &[]), (1000, &[]))?;
+    assert!(rt; parts.as_str() == want.as_str());
+    let whole = answer(alloc, &["check"], TURRETS, (4096, &[]), (1000, &[]))?;
+    assert!(rt; whole.as_str() == want.as_str());
+    Ok(())
+}
+
+// A refusal is answered after the whole input was read: a read that fails after it ends the call.
+#[test]
+fn reads_on_after_a_refusal(rt: HostRuntime) -> Result<(), Fail> {
+    let alloc = rt.alloc();
+    let input = format!(in alloc; "{}CYCLE95\n{}", ONE, MOVES)?;
+    let refused = answer(alloc, &["check"], &input, (16, &[]), (1000, &[]))?;
+    assert!(rt; refused.as_str() == "Refused\nREFUSED 42 9 cycle not supported\n");
+    let failed = answer(alloc, &["check"], &input, (16, &[10]), (1000, &[]))?;
+    assert!(rt; failed.as_str() == "ReadFault\n");
     Ok(())
 }
 
