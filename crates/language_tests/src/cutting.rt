@@ -1,4 +1,6 @@
 //! Lines, cut from an input that comes in pieces.
+ghost use Rattle.std.specs.Prelude.{◌<◌};
+
 use block_scanner::*;
 use std::alloc::Global;
 use std::test::Fail;
