@@ -1,2 +1,4 @@
+pub mod Kept
 pub mod Positions
 pub mod Sets
+pub mod Words

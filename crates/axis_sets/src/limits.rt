@@ -17,3 +17,6 @@ pub const CHANNEL_PLACES: usize = CHANNEL_LIMIT + 1;
 
 /// The size of a list that has a place for each zone by its number; the place 0 is of none.
 pub const ZONE_PLACES: usize = ZONE_LIMIT + 1;
+
+/// How many places the word of a set has.
+pub(crate) const WORD_BITS: usize = 64;

@@ -1,5 +1,6 @@
 //! What can be a member of a set.
 ghost use Rattle.std.specs.Prelude.{◌≡◌, ℕ, ◌<◌, ◌≤◌};
+ghost use Rattle.axis_sets.specs.declared.limits.TheConstants.{WORD_BITS};
 
 use crate::{AXIS_LIMIT, AxisId, CHANNEL_PLACES, ChannelId, MARK_LIMIT, ZONE_PLACES, ZoneId};
 
@@ -10,6 +11,8 @@ pub trait Member<const N: usize>: Copy {
     ghost lowest_number: { ℕ };
 
     ghost CanStand: { Self → Type 0 };
+
+    ghost fits: { N ≤ WORD_BITS };
 
     /// The number of a member.
     fn number(self) -> usize
@@ -25,14 +28,17 @@ pub trait Member<const N: usize>: Copy {
 }
 
 impl Member<AXIS_LIMIT> for AxisId {
-    ghost use Rattle.std.specs.Prelude.{ℕ, ◌<◌};
-    ghost use Rattle.axis_sets.specs.declared.limits.TheConstants.{AXIS_LIMIT};
+    ghost use Rattle.std.specs.Prelude.{ℕ, ◌<◌, ◌≤◌};
+    ghost use Rattle.std.proofs.Common.{arith};
+    ghost use Rattle.axis_sets.specs.declared.limits.TheConstants.{AXIS_LIMIT, WORD_BITS};
 
     ghost number_of = { λ member. member };
 
     ghost lowest_number = { 0 };
 
     ghost CanStand = { λ _. Unit {0} };
+
+    ghost fits = { omega arith };
 
     fn number(self) -> usize {
         usize::from(self.index)
@@ -46,14 +52,17 @@ impl Member<AXIS_LIMIT> for AxisId {
 }
 
 impl Member<CHANNEL_PLACES> for ChannelId {
-    ghost use Rattle.std.specs.Prelude.{ℕ, ◌<◌};
-    ghost use Rattle.axis_sets.specs.declared.limits.TheConstants.{CHANNEL_PLACES};
+    ghost use Rattle.std.specs.Prelude.{ℕ, ◌<◌, ◌≤◌};
+    ghost use Rattle.std.proofs.Common.{arith};
+    ghost use Rattle.axis_sets.specs.declared.limits.TheConstants.{CHANNEL_PLACES, WORD_BITS};
 
     ghost number_of = { λ member. member };
 
     ghost lowest_number = { 1 };
 
     ghost CanStand = { λ _. Unit {0} };
+
+    ghost fits = { omega arith };
 
     fn number(self) -> usize {
         usize::from(self.number)
@@ -67,14 +76,17 @@ impl Member<CHANNEL_PLACES> for ChannelId {
 }
 
 impl Member<MARK_LIMIT> for u8 {
-    ghost use Rattle.std.specs.Prelude.{ℕ, ◌<◌};
-    ghost use Rattle.axis_sets.specs.declared.limits.TheConstants.{MARK_LIMIT};
+    ghost use Rattle.std.specs.Prelude.{ℕ, ◌<◌, ◌≤◌};
+    ghost use Rattle.std.proofs.Common.{arith};
+    ghost use Rattle.axis_sets.specs.declared.limits.TheConstants.{MARK_LIMIT, WORD_BITS};
 
     ghost number_of = { λ member. member };
 
     ghost lowest_number = { 0 };
 
     ghost CanStand = { λ mark. mark < MARK_LIMIT };
+
+    ghost fits = { omega arith };
 
     fn number(self) -> usize {
         usize::from(self)
@@ -86,14 +98,17 @@ impl Member<MARK_LIMIT> for u8 {
 }
 
 impl Member<ZONE_PLACES> for ZoneId {
-    ghost use Rattle.std.specs.Prelude.{ℕ, ◌<◌};
-    ghost use Rattle.axis_sets.specs.declared.limits.TheConstants.{ZONE_PLACES};
+    ghost use Rattle.std.specs.Prelude.{ℕ, ◌<◌, ◌≤◌};
+    ghost use Rattle.std.proofs.Common.{arith};
+    ghost use Rattle.axis_sets.specs.declared.limits.TheConstants.{ZONE_PLACES, WORD_BITS};
 
     ghost number_of = { λ member. member };
 
     ghost lowest_number = { 1 };
 
     ghost CanStand = { λ _. Unit {0} };
+
+    ghost fits = { omega arith };
 
     fn number(self) -> usize {
         usize::from(self.number)

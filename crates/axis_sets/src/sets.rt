@@ -27,14 +27,14 @@ pub type MarkSet = Set<u8, MARK_LIMIT>;
 pub type ZoneSet = Set<ZoneId, ZONE_PLACES>;
 
 impl<I: Member<N>, const N: usize> Model for Set<I, N> {
-    ghost use Rattle.std.specs.Prelude.{Bool, List, ℕ, false, ◌≡◌, ◌<◌};
+    ghost use Rattle.std.specs.Prelude.{Bool, List, ℕ, false, length, ◌≡◌, ◌<◌};
     ghost use Rattle.axis_sets.specs.Sets.{has};
 
     ghost Value = { List Bool };
 
     ghost view = { λ s. s.places };
 
-    ghost invariant = { λ s. (m : ℕ) → m < I.lowest_number → has s.places m ≡ false };
+    ghost invariant = { λ s. (length s.places ≡ N) × ((m : ℕ) → m < I.lowest_number → has s.places m ≡ false) };
 
     ghost inverse = { λ set. record { places = set; members = record {} } };
 }
