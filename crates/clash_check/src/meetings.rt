@@ -1,10 +1,12 @@
 //! The first two boxes that meet, of zones that may not.
 ghost use Rattle.std.specs.Prelude.{◌≡◌, ◌≤◌, ◌<◌, true, [], ◌∷◌, All, drop, length, slice_index_or, take};
+ghost use Rattle.std.specs.List.{list_any};
 ghost use Rattle.clash_check.specs.Ascents as ascents;
 ghost use Rattle.clash_check.specs.Ascents.{IsTimed};
 ghost use Rattle.clash_check.specs.FirstAnswer.{first_some};
 ghost use Rattle.clash_check.specs.Keeping.{IsKeptOf, is_near};
 ghost use Rattle.clash_check.specs.Meetings as model;
+ghost use Rattle.clash_check.specs.Passing.{ArePassed};
 ghost use Rattle.clash_check.specs.PlaceRanges as places;
 ghost use Rattle.clash_check.specs.Shown.{IsNext};
 ghost use Rattle.clash_check.specs.Verdicts.{name_of};
@@ -13,6 +15,7 @@ ghost use Rattle.order_clocks.specs.Tells.{is_before_in};
 ghost use Rattle.protection_zones.specs.Pieces.{piece_boxes};
 ghost use Rattle.protection_zones.specs.ZoneBoxes.{IsFit};
 ghost use Rattle.protection_zones.specs.declared.stretches.ZoneBox.{ZoneBox};
+ghost use Rattle.swept_boxes.specs.Boxes.{boxes_meet};
 
 use crate::ascents::{Range, do_ascend, part, range_of};
 use crate::nearby::{Kept, kept_for, next_near};
@@ -22,7 +25,8 @@ use crate::shown::next_shown;
 use box_tree::PieceTree;
 use job_types::{Job, ZoneLine};
 use order_clocks::Clocks;
-use protection_zones::{Stretch, ZoneBox, boxes_by_pieces};
+use passed_boxes::PassedBoxes;
+use protection_zones::{Stretch, ZoneBox, boxes_by_pieces, motion_at};
 use std::alloc::Global;
 use sync_types::{PlaceName, Run};
 
@@ -63,6 +67,29 @@ fn named(held: &Held, own: &ZoneBox) -> PlaceName
     }
 }
 
+/// Whether some boxes and those by which the box of this place is compared meet. The latter are made here, and kept.
+fn meets_made(
+    scene: &Scene,
+    pieces: &PieceTree,
+    held: &Held,
+    boxes: &[ZoneBox],
+    place: usize,
+    kept: &mut Kept,
+) -> bool
+    requires fit { All (All IsFit) scene.now.run.now.items }
+    requires place { place < length boxes.now }
+    requires kept { IsKeptOf scene.now.job.now scene.now.run.now held.now.zone.now held.now.stretch.now boxes.now kept.old }
+    ensures met { (d : ZoneBox) → result ≡ list_any (λ piece. list_any (boxes_meet piece)
+        (piece_boxes scene.now.job.now scene.now.run.now (model.place_of held.now.zone.now held.now.stretch.now (slice_index_or boxes.now place d)))) pieces.now }
+    ensures kept { IsKeptOf scene.now.job.now scene.now.run.now held.now.zone.now held.now.stretch.now boxes.now kept.new }
+{
+    let later = &boxes[place];
+    let made = boxes_by_pieces(scene.job, scene.run, held.zone, held.stretch, later);
+    let others = PieceTree::over(made);
+    kept.pieces.keep(scene.alloc, boxes.len(), place, &others);
+    pieces.meets(&others)
+}
+
 /// Whether some boxes and those by which the box of this place is compared meet: first with the cover of that box, and then with its
 /// boxes, which are kept.
 fn pieces_touch(
@@ -87,15 +114,7 @@ fn pieces_touch(
     if let Some(met) = kept.pieces.meets(pieces, place) {
         return met;
     }
-    let others = PieceTree::over(boxes_by_pieces(
-        scene.job,
-        scene.run,
-        held.zone,
-        held.stretch,
-        later,
-    ));
-    kept.pieces.keep(scene.alloc, boxes.len(), place, &others);
-    pieces.meets(&others)
+    meets_made(scene, pieces, held, boxes, place, kept)
 }
 
 /// The names of a box and of the first of these of a stretch, from this place on, that it meets. The one of this place is compared
@@ -130,8 +149,33 @@ fn first_by_pieces(
     None
 }
 
-/// The names of a box and of the first of these of a stretch that it meets. The boxes by which it is compared are made once, and
-/// only where its cover meets another.
+/// The names of a box and of the first of these of a stretch, from this place on, that it meets. The one of this place is compared
+/// with it, and their covers meet. The boxes by which it is compared are made here: their room is long, so no box that is far makes it.
+fn first_from(
+    scene: &Scene,
+    shared: bool,
+    left: &Held,
+    own: &ZoneBox,
+    right: &Held,
+    boxes: &[ZoneBox],
+    kept: &mut Kept,
+    from: usize,
+) -> Option<(PlaceName, PlaceName)>
+    requires fit { All (All IsFit) scene.now.run.now.items }
+    requires from { from ≤ length boxes.now }
+    requires near { (d : ZoneBox) → from < length boxes.now → is_near shared own.now (slice_index_or boxes.now from d) ≡ true }
+    requires kept { IsKeptOf scene.now.job.now scene.now.run.now right.now.zone.now right.now.stretch.now boxes.now kept.old }
+    ensures names { result ≡ first_some (λ later. model.names_where_met (record { job = scene.now.job.now; run = scene.now.run.now; before = is_before_in scene.now.clocks.now.rows }) shared
+        (model.place_of left.now.zone.now left.now.stretch.now own.now) (model.place_of right.now.zone.now right.now.stretch.now later)) (drop from boxes.now) }
+    ensures kept { IsKeptOf scene.now.job.now scene.now.run.now right.now.zone.now right.now.stretch.now boxes.now kept.new }
+{
+    let boxes_of_own = boxes_by_pieces(scene.job, scene.run, left.zone, left.stretch, own);
+    let pieces = PieceTree::over(boxes_of_own);
+    first_by_pieces(scene, shared, left, own, &pieces, right, boxes, kept, from)
+}
+
+/// The names of a box and of the first of these of a stretch that it meets. An equal box of an equal motion that met none of
+/// them is passed over.
 #[tactic(auto, unfolding(crate::specs::Meetings::first_touched_among))]
 fn first_touched(
     scene: &Scene,
@@ -141,25 +185,30 @@ fn first_touched(
     right: &Held,
     boxes: &[ZoneBox],
     kept: &mut Kept,
+    passed: &mut PassedBoxes,
 ) -> Option<(PlaceName, PlaceName)>
     requires fit { All (All IsFit) scene.now.run.now.items }
+    requires passed { ArePassed scene.now.job.now scene.now.run.now left.now.zone.now right.now.zone.now right.now.stretch.now boxes.now passed.old }
     requires kept { IsKeptOf scene.now.job.now scene.now.run.now right.now.zone.now right.now.stretch.now boxes.now kept.old }
     ensures names { result ≡ model.first_touched_among (record { job = scene.now.job.now; run = scene.now.run.now; before = is_before_in scene.now.clocks.now.rows }) shared
         (model.place_of left.now.zone.now left.now.stretch.now own.now) right.now.zone.now right.now.stretch.now boxes.now }
     ensures kept { IsKeptOf scene.now.job.now scene.now.run.now right.now.zone.now right.now.stretch.now boxes.now kept.new }
+    ensures passed { ArePassed scene.now.job.now scene.now.run.now left.now.zone.now right.now.zone.now right.now.stretch.now boxes.now passed.new }
 {
     let first = next_near(shared, own, boxes, &kept.covers, 0);
     if first == boxes.len() {
         return None;
     }
-    let pieces = PieceTree::over(boxes_by_pieces(
-        scene.job,
-        scene.run,
-        left.zone,
-        left.stretch,
-        own,
-    ));
-    first_by_pieces(scene, shared, left, own, &pieces, right, boxes, kept, first)
+    let stretch = left.stretch;
+    let motion = motion_at(scene.run, stretch.entry, own.motion);
+    if passed.has(&own.cover, motion) {
+        return None;
+    }
+    let names = first_from(scene, shared, left, own, right, boxes, kept, first);
+    if !shared && names.is_none() {
+        passed.keep(&own.cover, motion);
+    }
+    names
 }
 
 /// The names of the first two boxes of two stretches that meet, where they share a channel or not.
@@ -176,6 +225,7 @@ fn first_in_all_boxes(
     let stretch = left.stretch;
     let other = right.stretch;
     let mut kept = kept_for(scene.alloc, scene.room, stretch.boxes.len(), &other.boxes);
+    let mut passed = PassedBoxes::new(scene.alloc);
     for own in &stretch.boxes {
         if let Some(names) = first_touched(
             scene,
@@ -185,6 +235,7 @@ fn first_in_all_boxes(
             right,
             &other.boxes,
             &mut kept,
+            &mut passed,
         ) {
             return Some(names);
         }
@@ -211,7 +262,17 @@ fn first_in_places(
         range = place_range(own, others, range);
         let near = part(others, range);
         let mut kept = kept_for(scene.alloc, scene.room, 1, near);
-        if let Some(names) = first_touched(scene, true, left, own, right, near, &mut kept) {
+        let mut passed = PassedBoxes::new(scene.alloc);
+        if let Some(names) = first_touched(
+            scene,
+            true,
+            left,
+            own,
+            right,
+            near,
+            &mut kept,
+            &mut passed,
+        ) {
             return Some(names);
         }
     }

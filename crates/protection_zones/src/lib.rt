@@ -19,7 +19,7 @@ pub use laws::{
     boxes_are_few, boxes_have_covers, ends_are_lowest_names, orders_compare_the_same,
     stretches_ascend,
 };
-pub use pieces::boxes_by_pieces;
+pub use pieces::{boxes_by_pieces, motion_at};
 pub(crate) use rows::Row;
 pub use sights::Sight;
 pub use stretches::{Stretch, Stretches, ZoneBox};

@@ -33,8 +33,8 @@ fn item_at(items: &[Item], place: usize) -> Option<&Item>
     items.get(place)
 }
 
-/// The motion of a place of an entry; none where the box stands.
-fn motion_at(run: &Run, entry: u32, place: Option<u32>) -> Option<&Motion>
+/// The motion of a place of an entry of a run, as a box names it; none where the box stands.
+pub fn motion_at(run: &Run, entry: u32, place: Option<u32>) -> Option<&Motion>
     ensures { option_copied result ≡ motion_at run.now entry place }
 {
     match place {

@@ -4,6 +4,7 @@ use Rattle.std.proofs.lemmas.List.{get_or_default}
 use Rattle.order_clocks.specs.Tells.{is_before_in}
 use Rattle.clash_check.proofs.KeptLaws.{no_rows}
 use Rattle.clash_check.proofs.FirstLaws.{first_some-drop_more}
+use Rattle.clash_check.proofs.PassedLaws.{none_passed}
 use Rattle.clash_check.proofs.PlaceLaws.{no_box, passing_places, first_between}
 use Rattle.clash_check.specs.FirstAnswer.{first_some}
 use Rattle.clash_check.specs.Meetings.{Case, Names, place_of, first_touched_among}
@@ -44,3 +45,7 @@ first_touched-requires-clause-kept c = record {
       no_rows c.args.scene.now.job.now c.args.scene.now.run.now c.args.right.now.zone.now c.args.right.now.stretch.now c.part-near.result.now c.kept_for-kept.result.pieces
       c.kept_for-kept.ensures.pieces;
 }
+
+pub first_touched-requires-clause-passed : goal.first_touched-requires-clause-passed
+first_touched-requires-clause-passed c =
+    none_passed c.args.scene.now.job.now c.args.scene.now.run.now c.args.left.now.zone.now c.args.right.now.zone.now c.args.right.now.stretch.now c.part-near.result.now c.new-passed.result c.new-passed.ensures

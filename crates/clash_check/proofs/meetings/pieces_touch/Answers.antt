@@ -1,7 +1,6 @@
 use Rattle.std.proofs.Common.{◌≡◌, ◌∙◌, ◌&&◌, Bool, true, List, get_or, ap, refl, sym}
 use Rattle.std.proofs.lemmas.List.{get_or_default}
 use Rattle.std.specs.List.{list_any}
-use Rattle.clash_check.proofs.KeptLaws.{rows_more}
 use Rattle.clash_check.specs.Meetings.{place_of}
 use Rattle.protection_zones.specs.Pieces.{piece_boxes}
 use Rattle.protection_zones.specs.declared.stretches.ZoneBox.{ZoneBox}
@@ -19,10 +18,8 @@ returns-in-Some-clause-met c d =
     ∙ passed c.meets_box.result (list_any (λ piece. boxes_meet piece (get_or c.args.boxes.now c.args.place d).cover) c.args.pieces.now) _
     (c.meets_box.ensures ∙ ap (λ (b : ZoneBox). list_any (λ piece. boxes_meet piece b.cover) c.args.pieces.now) (get_or_default c.args.boxes.now c.args.place _ d c.requires.place)) c.if-not-meets_box.false
 
-pub returns-clause-kept : goal.returns-clause-kept
-returns-clause-kept c = record {
-  covers = c.requires.kept.covers;
-  pieces =
-      rows_more c.args.scene.now.job.now c.args.scene.now.run.now c.args.held.now.zone.now c.args.held.now.stretch.now c.args.boxes.now c.args.kept.now.pieces c.keep.new.self c.args.place _
-      c.over-others.result c.requires.place (c.over-others.ensures ∙ c.boxes_by_pieces.ensures) c.requires.kept.pieces c.keep.ensures.place c.keep.ensures.others;
-}
+pub returns-clause-met : goal.returns-clause-met
+returns-clause-met c d =
+    c.meets_made.ensures.met d
+    ∙ passed c.meets_box.result (list_any (λ piece. boxes_meet piece (get_or c.args.boxes.now c.args.place d).cover) c.args.pieces.now) _
+    (c.meets_box.ensures ∙ ap (λ (b : ZoneBox). list_any (λ piece. boxes_meet piece b.cover) c.args.pieces.now) (get_or_default c.args.boxes.now c.args.place _ d c.requires.place)) c.if-not-meets_box.false

@@ -1,0 +1,22 @@
+-- Steps. Boxes that met none of the boxes of a stretch.
+use Rattle.std.specs.Prelude.{◌≡◌, not, Bool, true, All, List, Option}
+use Rattle.std.specs.List.{list_all}
+use Rattle.clash_check.specs.Meetings.{place_of, touches}
+use Rattle.job_types.specs.Job.{JobView}
+use Rattle.job_types.specs.declared.job.ZoneLine.{ZoneLine}
+use Rattle.passed_boxes.specs.declared.passed.PassedBox.{PassedBox}
+use Rattle.path_geometry.specs.declared.motion.Motion.{Motion}
+use Rattle.protection_zones.specs.Pieces.{boxes_in_pieces, piece_boxes}
+use Rattle.protection_zones.specs.Stretches.{StretchView}
+use Rattle.protection_zones.specs.declared.stretches.ZoneBox.{ZoneBox}
+use Rattle.swept_boxes.specs.declared.Box3.{Box3}
+use Rattle.sync_types.specs.Views.{RunView}
+
+-- a box of a zone, in a motion or standing, meets none of these boxes of a stretch of another
+unfoldable pub meets_none : JobView → RunView → ZoneLine → ZoneLine → StretchView → List ZoneBox → Box3 → Option Motion → Bool
+meets_none job run own zone stretch boxes cover motion =
+    list_all (λ later. not (touches cover (boxes_in_pieces job.margin job.depth own.sides cover motion) later.cover (piece_boxes job run (place_of zone stretch later)))) boxes
+
+-- so do all of these
+abbrev pub ArePassed : JobView → RunView → ZoneLine → ZoneLine → StretchView → List ZoneBox → List PassedBox → Type 0
+ArePassed job run own zone stretch boxes passed = All (λ box. meets_none job run own zone stretch boxes box.cover box.motion ≡ true) passed

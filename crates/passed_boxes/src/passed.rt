@@ -1,0 +1,111 @@
+//! Boxes that passed a test.
+ghost use Rattle.std.specs.Prelude.{◌≡◌, Bool, true, [], All, IfOk, Option, option_copied};
+ghost use Rattle.path_geometry.specs.declared.motion.Motion.{Motion};
+ghost use Rattle.swept_boxes.specs.declared.Box3.{Box3};
+
+use crate::motions::is_same_motion;
+use nc_faults::NoMemory;
+use path_geometry::Motion;
+use std::alloc::Global;
+use std::marker::Model;
+use swept_boxes::Box3;
+
+/// How many boxes are kept at most.
+const PASSED_LIMIT: usize = 64;
+
+/// A box with its motion.
+#[derive(Drop)]
+pub struct PassedBox {
+    /// The box.
+    pub cover: Box3,
+    /// The motion in which a zone sweeps it; none where it stands.
+    pub motion: Option<Motion>,
+}
+
+/// The latest 64 boxes that passed a test, as far as there is memory for them. What all of them pass, an equal box of an equal
+/// motion passes too.
+#[derive(Drop)]
+pub struct PassedBoxes {
+    boxes: Vec<PassedBox>,
+    next: usize,
+}
+
+impl Model for PassedBoxes {
+    ghost use Rattle.std.specs.Prelude.{List};
+    ghost use Rattle.passed_boxes.specs.declared.passed.PassedBox.{PassedBox};
+
+    ghost Value = { List PassedBox };
+
+    ghost view = { λ passed. passed.boxes.items };
+}
+
+/// Whether two boxes both stand, or have the same motion.
+fn move_alike(kept: &Option<Motion>, motion: Option<&Motion>) -> bool
+    ensures { result ≡ true → kept.now ≡ option_copied motion.entry }
+{
+    match kept {
+        None => motion.is_none(),
+        Some(one) => match motion {
+            None => false,
+            Some(other) => is_same_motion(one, other),
+        },
+    }
+}
+
+/// Whether it is this box with this motion.
+fn is_same(kept: &PassedBox, cover: &Box3, motion: Option<&Motion>) -> bool
+    ensures { result ≡ true → (kept.now.cover ≡ cover.now) × (kept.now.motion ≡ option_copied motion.entry) }
+{
+    kept.cover == *cover && move_alike(&kept.motion, motion)
+}
+
+/// A box with its motion, to be kept.
+fn passed_box(cover: &Box3, motion: Option<&Motion>) -> Result<PassedBox, NoMemory>
+    ensures { IfOk result (λ kept. (kept.cover ≡ cover.now) × (kept.motion ≡ option_copied motion.entry)) }
+{
+    Ok(PassedBox {
+        cover: *cover,
+        motion: motion.cloned()?,
+    })
+}
+
+impl PassedBoxes {
+    /// None yet.
+    pub fn new(alloc: Global) -> PassedBoxes
+        ensures { result ≡ [] }
+    {
+        PassedBoxes {
+            boxes: Vec::new(alloc),
+            next: 0,
+        }
+    }
+
+    /// Whether an equal box of an equal motion is kept.
+    pub fn has(&self, cover: &Box3, motion: Option<&Motion>) -> bool
+        ensures { result ≡ true → (test : Box3 → Option Motion → Bool) → All (λ kept. test kept.cover kept.motion ≡ true) self.now → test cover.now (option_copied motion.entry) ≡ true }
+    {
+        for kept in &self.boxes {
+            if is_same(kept, cover, motion) {
+                return true;
+            }
+        }
+        false
+    }
+
+    /// Keeps a box with its motion, in the place of the earliest where there are 64.
+    pub fn keep(&mut self, cover: &Box3, motion: Option<&Motion>)
+        ensures { (test : Box3 → Option Motion → Bool) → All (λ kept. test kept.cover kept.motion ≡ true) self.old → test cover.now (option_copied motion.entry) ≡ true
+            → All (λ kept. test kept.cover kept.motion ≡ true) self.new }
+    {
+        let Ok(kept) = passed_box(cover, motion) else {
+            return;
+        };
+        if self.boxes.len() < PASSED_LIMIT {
+            let _ = self.boxes.push(kept);
+        } else {
+            let place = self.next % self.boxes.len();
+            self.boxes[place] = kept;
+            self.next = place + 1;
+        }
+    }
+}
