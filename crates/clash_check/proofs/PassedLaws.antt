@@ -1,13 +1,16 @@
 -- Boxes that met none of the boxes of a stretch.
-use Rattle.std.proofs.Common.{◌≡◌, ◌∙◌, ◌&&◌, ◌||◌, not, Bool, true, false, cond, List, [], ◌∷◌, All, Option, None, Some, refl, sym, ap, subst}
+use Rattle.std.proofs.Common.{◌≡◌, ◌∙◌, ◌&&◌, ◌||◌, not, Bool, true, false, cond, List, [], ◌∷◌, All, map, Option, None, Some, refl, sym, ap, subst}
 use Rattle.std.proofs.lemmas.Bool.{and_parts}
 use Rattle.std.proofs.lemmas.List.Elements.{All-nil, All-same}
 use Rattle.std.specs.List.{list_all}
 use Rattle.std.specs.Option.{option_or}
+use Rattle.box_tree.specs.Rows.{IsRowOf}
+use Rattle.clash_check.proofs.KeptLaws.{no_rows}
 use Rattle.clash_check.specs.FirstAnswer.{first_some}
-use Rattle.clash_check.specs.Passing.{ArePassed, meets_none}
+use Rattle.clash_check.specs.Passing.{ArePassed, IsMemory, meets_none}
 use Rattle.clash_check.specs.Meetings.{Case, Names, compared, names_where_met, place_of, touches}
 use Rattle.clash_check.specs.Verdicts.{name_of}
+use Rattle.clash_check.specs.declared.nearby.Memory.{Memory}
 use Rattle.job_types.specs.Job.{JobView}
 use Rattle.job_types.specs.declared.job.ZoneLine.{ZoneLine}
 use Rattle.passed_boxes.specs.declared.passed.PassedBox.{PassedBox}
@@ -24,6 +27,17 @@ pub none_passed : (job : JobView) (run : RunView) (own zone : ZoneLine) (stretch
 none_passed job run own zone stretch boxes kept none =
     All-same (λ (box : PassedBox). meets_none job run own zone stretch boxes box.cover box.motion ≡ true) kept [] none
     (All-nil (λ (box : PassedBox). meets_none job run own zone stretch boxes box.cover box.motion ≡ true))
+
+-- so a memory in which nothing is kept is of any stretch
+pub empty_memory : (job : JobView) (run : RunView) (own zone : ZoneLine) (stretch : StretchView) (memory : Memory) → memory.kept.covers ≡ None → memory.kept.pieces ≡ [] → memory.passed ≡ []
+    → IsMemory job run own zone stretch memory
+empty_memory job run own zone stretch memory covers pieces passed = record {
+  kept = record {
+    covers = subst (λ (row : Option (List Box3)). IsRowOf (map (λ (b : ZoneBox). b.cover) stretch.boxes) row) (sym covers) tt;
+    pieces = no_rows job run zone stretch stretch.boxes memory.kept.pieces pieces;
+  };
+  passed = none_passed job run own zone stretch stretch.boxes memory.passed passed;
+}
 
 both_true : (a b : Bool) → a ≡ true → b ≡ true → (a && b) ≡ true
 both_true a b p q = rw (p, q) refl

@@ -6,7 +6,7 @@ ghost use Rattle.clash_check.specs.Ascents.{IsTimed};
 ghost use Rattle.clash_check.specs.FirstAnswer.{first_some};
 ghost use Rattle.clash_check.specs.Keeping.{IsKeptOf, is_near};
 ghost use Rattle.clash_check.specs.Meetings as model;
-ghost use Rattle.clash_check.specs.Passing.{ArePassed};
+ghost use Rattle.clash_check.specs.Passing.{ArePassed, IsMemory, IsMemoryOfAny, StaysMemory};
 ghost use Rattle.clash_check.specs.PlaceRanges as places;
 ghost use Rattle.clash_check.specs.Shown.{IsNext};
 ghost use Rattle.clash_check.specs.Verdicts.{name_of};
@@ -18,7 +18,7 @@ ghost use Rattle.protection_zones.specs.declared.stretches.ZoneBox.{ZoneBox};
 ghost use Rattle.swept_boxes.specs.Boxes.{boxes_meet};
 
 use crate::ascents::{Range, do_ascend, part, range_of};
-use crate::nearby::{Kept, kept_for, next_near};
+use crate::nearby::{Kept, Memory, TREE_OTHERS, kept_for, new_memory, next_near, renew};
 use crate::overlaps::{may_overlap, share_channel};
 use crate::place_ranges::{do_boxes_ascend, place_range};
 use crate::shown::next_shown;
@@ -217,15 +217,26 @@ fn first_in_all_boxes(
     shared: bool,
     left: &Held,
     right: &Held,
+    place: usize,
+    memory: &mut Memory,
 ) -> Option<(PlaceName, PlaceName)>
     requires fit { All (All IsFit) scene.now.run.now.items }
-    ensures { result ≡ first_some (λ own. model.first_touched (record { job = scene.now.job.now; run = scene.now.run.now; before = is_before_in scene.now.clocks.now.rows }) shared
+    requires memory { memory.old.place ≡ place → IsMemory scene.now.job.now scene.now.run.now left.now.zone.now right.now.zone.now right.now.stretch.now memory.old }
+    ensures names { result ≡ first_some (λ own. model.first_touched (record { job = scene.now.job.now; run = scene.now.run.now; before = is_before_in scene.now.clocks.now.rows }) shared
         (model.place_of left.now.zone.now left.now.stretch.now own) right.now.zone.now right.now.stretch.now) left.now.stretch.now.boxes }
+    ensures place { memory.new.place ≡ place }
+    ensures memory { IsMemory scene.now.job.now scene.now.run.now left.now.zone.now right.now.zone.now right.now.stretch.now memory.new }
 {
     let stretch = left.stretch;
     let other = right.stretch;
-    let mut kept = kept_for(scene.alloc, scene.room, stretch.boxes.len(), &other.boxes);
-    let mut passed = PassedBoxes::new(scene.alloc);
+    renew(
+        scene.alloc,
+        scene.room,
+        stretch.boxes.len(),
+        &other.boxes,
+        place,
+        memory,
+    );
     for own in &stretch.boxes {
         if let Some(names) = first_touched(
             scene,
@@ -234,8 +245,8 @@ fn first_in_all_boxes(
             own,
             right,
             &other.boxes,
-            &mut kept,
-            &mut passed,
+            &mut memory.kept,
+            &mut memory.passed,
         ) {
             return Some(names);
         }
@@ -279,31 +290,46 @@ fn first_in_places(
     None
 }
 
-/// The names of the first two boxes of two stretches that meet, where they share a channel or not.
+/// The names of the first two boxes of two stretches that meet, where they share a channel or not. A stretch of few boxes leaves the memory
+/// to the others.
 fn first_in_boxes(
     scene: &Scene,
     shared: bool,
     left: &Held,
     right: &Held,
+    place: usize,
+    memory: &mut Memory,
 ) -> Option<(PlaceName, PlaceName)>
     requires fit { All (All IsFit) scene.now.run.now.items }
-    ensures { result ≡ first_some (λ own. model.first_touched (record { job = scene.now.job.now; run = scene.now.run.now; before = is_before_in scene.now.clocks.now.rows }) shared
+    requires memory { memory.old.place ≡ place → IsMemory scene.now.job.now scene.now.run.now left.now.zone.now right.now.zone.now right.now.stretch.now memory.old }
+    ensures memory { StaysMemory scene.now.job.now scene.now.run.now left.now.zone.now right.now.zone.now right.now.stretch.now place memory.old memory.new }
+    ensures names { result ≡ first_some (λ own. model.first_touched (record { job = scene.now.job.now; run = scene.now.run.now; before = is_before_in scene.now.clocks.now.rows }) shared
         (model.place_of left.now.zone.now left.now.stretch.now own) right.now.zone.now right.now.stretch.now) left.now.stretch.now.boxes }
 {
     let own = left.stretch;
     let other = right.stretch;
     if shared && do_boxes_ascend(&other.boxes) {
         first_in_places(scene, left, &own.boxes, right, &other.boxes)
+    } else if other.boxes.len() < TREE_OTHERS {
+        first_in_all_boxes(scene, shared, left, right, 0, &mut new_memory(scene.alloc))
     } else {
-        first_in_all_boxes(scene, shared, left, right)
+        first_in_all_boxes(scene, shared, left, right, place, memory)
     }
 }
 
 /// The names of the first two boxes of two stretches that meet. One with no boxes is looked at once.
 #[tactic(auto, unfolding(crate::specs::Meetings::first_in_stretches))]
-fn first_in_stretches(scene: &Scene, left: &Held, right: &Held) -> Option<(PlaceName, PlaceName)>
+fn first_in_stretches(
+    scene: &Scene,
+    left: &Held,
+    right: &Held,
+    place: usize,
+    memory: &mut Memory,
+) -> Option<(PlaceName, PlaceName)>
     requires fit { All (All IsFit) scene.now.run.now.items }
-    ensures { result ≡ model.first_in_stretches (record { job = scene.now.job.now; run = scene.now.run.now; before = is_before_in scene.now.clocks.now.rows })
+    requires memory { memory.old.place ≡ place → IsMemory scene.now.job.now scene.now.run.now left.now.zone.now right.now.zone.now right.now.stretch.now memory.old }
+    ensures memory { StaysMemory scene.now.job.now scene.now.run.now left.now.zone.now right.now.zone.now right.now.stretch.now place memory.old memory.new }
+    ensures names { result ≡ model.first_in_stretches (record { job = scene.now.job.now; run = scene.now.run.now; before = is_before_in scene.now.clocks.now.rows })
         left.now.zone.now left.now.stretch.now right.now.zone.now right.now.stretch.now }
 {
     let stretch = right.stretch;
@@ -318,6 +344,8 @@ fn first_in_stretches(scene: &Scene, left: &Held, right: &Held) -> Option<(Place
         share_channel(left.stretch, right.stretch),
         left,
         right,
+        place,
+        memory,
     )
 }
 
@@ -342,7 +370,8 @@ fn first_against<'a>(
             zone: other,
             stretch,
         };
-        if let Some(names) = first_in_stretches(scene, left, &right) {
+        let mut memory = new_memory(scene.alloc);
+        if let Some(names) = first_in_stretches(scene, left, &right, 0, &mut memory) {
             return Some(names);
         }
     }
@@ -358,12 +387,15 @@ fn first_of_shown<'a>(
     others: &'a [Stretch],
     next: &[usize],
     range: Range,
+    memory: &mut Memory,
 ) -> Option<(PlaceName, PlaceName)>
     requires fit { All (All IsFit) scene.now.run.now.items }
     requires next { IsNext others.now next.now }
     requires within_from { range.from ≤ length others.now }
     requires within { range.upto ≤ length others.now }
-    ensures { result ≡ first_some (model.first_in_stretches (record { job = scene.now.job.now; run = scene.now.run.now; before = is_before_in scene.now.clocks.now.rows })
+    requires memory { IsMemoryOfAny scene.now.job.now scene.now.run.now left.now.zone.now other.now others.now memory.old }
+    ensures memory { IsMemoryOfAny scene.now.job.now scene.now.run.now left.now.zone.now other.now others.now memory.new }
+    ensures names { result ≡ first_some (model.first_in_stretches (record { job = scene.now.job.now; run = scene.now.run.now; before = is_before_in scene.now.clocks.now.rows })
         left.now.zone.now left.now.stretch.now other.now) (drop range.from (take range.upto others.now)) }
 {
     let mut place = next[range.from];
@@ -372,7 +404,7 @@ fn first_of_shown<'a>(
             zone: other,
             stretch: &others[place],
         };
-        if let Some(names) = first_in_stretches(scene, left, &right) {
+        if let Some(names) = first_in_stretches(scene, left, &right, place, memory) {
             return Some(names);
         }
         place = next[place + 1];
@@ -390,19 +422,22 @@ fn first_in_range<'a>(
     others: &'a [Stretch],
     next: &[usize],
     range: Range,
+    memory: &mut Memory,
 ) -> Option<(PlaceName, PlaceName)>
     requires fit { All (All IsFit) scene.now.run.now.items }
     requires next { IsNext others.now next.now }
     requires within_from { range.from ≤ length others.now }
     requires within { range.upto ≤ length others.now }
-    ensures { result ≡ model.first_against (record { job = scene.now.job.now; run = scene.now.run.now; before = is_before_in scene.now.clocks.now.rows })
+    requires memory { IsMemoryOfAny scene.now.job.now scene.now.run.now left.now.zone.now other.now others.now memory.old }
+    ensures memory { IsMemoryOfAny scene.now.job.now scene.now.run.now left.now.zone.now other.now others.now memory.new }
+    ensures names { result ≡ model.first_against (record { job = scene.now.job.now; run = scene.now.run.now; before = is_before_in scene.now.clocks.now.rows })
         left.now.zone.now (record { zone = other.now; stretches = drop range.from (take range.upto others.now) }) left.now.stretch.now }
 {
     let own = left.stretch;
     if own.boxes.is_empty() {
         None
     } else {
-        first_of_shown(scene, left, other, others, next, range)
+        first_of_shown(scene, left, other, others, next, range, memory)
     }
 }
 
@@ -445,10 +480,11 @@ fn first_of_ascending<'a>(
         zone.now (record { zone = other.now; stretches = others.now })) own.now }
 {
     let mut range = Range { from: 0, upto: 0 };
+    let mut memory = new_memory(scene.alloc);
     for stretch in own {
         let left = Held { zone, stretch };
         range = range_of(scene.clocks, stretch, others, range);
-        if let Some(names) = first_in_range(scene, &left, other, others, next, range) {
+        if let Some(names) = first_in_range(scene, &left, other, others, next, range, &mut memory) {
             return Some(names);
         }
     }

@@ -1,5 +1,5 @@
 //! The boxes of a stretch that are near a box, and what is kept of them while those of another stretch are held against them.
-ghost use Rattle.std.specs.Prelude.{◌≡◌, ℕ, ◌<◌, ◌≤◌, [], true, false, IfOk, length, map, slice_index_or};
+ghost use Rattle.std.specs.Prelude.{◌≡◌, ◌⊎◌, ℕ, ◌<◌, ◌≤◌, [], true, false, None, IfOk, length, map, slice_index_or};
 ghost use Rattle.box_tree.specs.Rows.{IsRowOf};
 ghost use Rattle.clash_check.specs.Keeping as model;
 ghost use Rattle.protection_zones.specs.declared.stretches.ZoneBox.{ZoneBox};
@@ -8,6 +8,7 @@ ghost use Rattle.swept_boxes.specs.Boxes.{boxes_meet};
 use crate::overlaps::share_place;
 use box_tree::{BoxTree, KeptTrees, do_meet};
 use nc_faults::NoMemory;
+use passed_boxes::PassedBoxes;
 use protection_zones::ZoneBox;
 use std::alloc::Global;
 use swept_boxes::Box3;
@@ -15,7 +16,7 @@ use swept_boxes::Box3;
 /// From how many boxes on that are held against others a tree over the covers of these serves.
 const TREE_OWN: usize = 8;
 /// From how many others on.
-const TREE_OTHERS: usize = 16;
+pub(crate) const TREE_OTHERS: usize = 16;
 /// How many boxes of pieces are kept at most, of 56 bytes each.
 pub(crate) const KEPT_LIMIT: usize = 524_288;
 
@@ -26,6 +27,36 @@ pub(crate) struct Kept {
     pub(crate) covers: Option<BoxTree>,
     /// For each place the boxes by which its box is compared, where they are kept.
     pub(crate) pieces: KeptTrees,
+}
+
+/// What is kept of the stretch of a place from one stretch that is held against it to the next.
+#[derive(Drop)]
+pub(crate) struct Memory {
+    /// Its place.
+    pub(crate) place: usize,
+    /// How many were held against it: none, one, or more.
+    pub(crate) times: usize,
+    /// What is kept of its boxes.
+    pub(crate) kept: Kept,
+    /// Boxes that met none of them.
+    pub(crate) passed: PassedBoxes,
+}
+
+/// Nothing is kept yet.
+pub(crate) fn new_memory(alloc: Global) -> Memory
+    ensures covers { result.kept.covers ≡ None }
+    ensures pieces { result.kept.pieces ≡ [] }
+    ensures passed { result.passed ≡ [] }
+{
+    Memory {
+        place: 0,
+        times: 0,
+        kept: Kept {
+            covers: None,
+            pieces: KeptTrees::new(alloc, 0),
+        },
+        passed: PassedBoxes::new(alloc),
+    }
 }
 
 /// The covers of some boxes.
@@ -115,4 +146,34 @@ pub(crate) fn next_near(
         place = past_far(own, boxes, covers, place + 1);
     }
     place
+}
+
+/// Makes the memory ready for these boxes of the stretch of a place, against which so many others are held: anew where it is of another
+/// place, and with all that it may keep where a second stretch is held against this one.
+pub(crate) fn renew(
+    alloc: Global,
+    room: usize,
+    others: usize,
+    boxes: &[ZoneBox],
+    place: usize,
+    memory: &mut Memory,
+)
+    ensures place { memory.new.place ≡ place }
+    ensures kept { (IsRowOf (map (λ own. own.cover) boxes.now) memory.new.kept.covers × (memory.new.kept.pieces ≡ [])) ⊎ ((memory.old.place ≡ place) × (memory.new.kept ≡ memory.old.kept)) }
+    ensures passed { (memory.new.passed ≡ []) ⊎ ((memory.old.place ≡ place) × (memory.new.passed ≡ memory.old.passed)) }
+{
+    let times = if memory.place == place {
+        memory.times
+    } else {
+        0
+    };
+    if times == 0 {
+        memory.passed = PassedBoxes::new(alloc);
+    }
+    if times < 2 {
+        let held = if times == 0 { others } else { usize::MAX };
+        memory.kept = kept_for(alloc, room, held, boxes);
+    }
+    memory.place = place;
+    memory.times = times.saturating_add(1);
 }

@@ -1,9 +1,10 @@
-use Rattle.std.proofs.Common.{◌≡◌, ◌∙◌, ◌+◌, drop, take, refl, sym, ap, subst, Bool, false, Option}
+use Rattle.std.proofs.Common.{◌≡◌, ◌∙◌, ◌+◌, get_or, drop, take, refl, sym, ap, subst, Bool, false, Option}
 use Rattle.std.specs.Option.{option_or}
 use Rattle.order_clocks.specs.Tells.{is_before_in}
 use Rattle.clash_check.proofs.AscentLaws.{passing_at}
 use Rattle.clash_check.proofs.FirstLaws.{first_some-drop_more}
 use Rattle.clash_check.proofs.NearLaws.{first_of_part}
+use Rattle.clash_check.proofs.PassedLaws.{empty_memory}
 use Rattle.clash_check.specs.Ascents.{PassFirst, passes}
 use Rattle.clash_check.specs.FirstAnswer.{first_some}
 use Rattle.clash_check.specs.Meetings.{Case, Names, first_against}
@@ -23,10 +24,10 @@ returns-in-Some c =
     subst (λ (x : StretchView). PassFirst (passes case.before false x) c.args.others.now) (sym c.stretch-item.is)
     (passing_at case.before c.args.own.now c.args.others.now c.loop-stretch.stretch-index c.stretch-item.result c.requires.timed c.requires.ascend c.loop-stretch-test.true false) in
     let here : c.first_in_range.result ≡ found c.stretch-item.result =
-    c.first_in_range.ensures ∙ first_of_part case c.args.zone.now c.stretch-item.result c.args.other.now c.args.others.now (drop c.range_of-range.result.from (take c.range_of-range.result.upto c.args.others.now)) c.range_of-range.result.from c.range_of-range.result.upto first
+    c.first_in_range.ensures.names ∙ first_of_part case c.args.zone.now c.stretch-item.result c.args.other.now c.args.others.now (drop c.range_of-range.result.from (take c.range_of-range.result.upto c.args.others.now)) c.range_of-range.result.from c.range_of-range.result.upto first
     c.range_of-range.ensures.from c.range_of-range.ensures.upto refl in
     ap (λ (r : Option Names). option_or r (first_some found (drop (c.loop-stretch.stretch-index + 1) c.args.own.now))) (sym c.in-Some.is ∙ here)
-    ∙ sym (first_some-drop_more found c.args.own.now c.loop-stretch.stretch-index c.stretch-item.result c.loop-stretch-test.true c.stretch-item.is) ∙ c.loop-stretch.invariant
+    ∙ sym (first_some-drop_more found c.args.own.now c.loop-stretch.stretch-index c.stretch-item.result c.loop-stretch-test.true c.stretch-item.is) ∙ c.loop-stretch.invariant.0
 
 pub loop-stretch-preserved : goal.loop-stretch-preserved
 loop-stretch-preserved c =
@@ -36,7 +37,16 @@ loop-stretch-preserved c =
     subst (λ (x : StretchView). PassFirst (passes case.before false x) c.args.others.now) (sym c.stretch-item.is)
     (passing_at case.before c.args.own.now c.args.others.now c.loop-stretch.stretch-index c.stretch-item.result c.requires.timed c.requires.ascend c.loop-stretch-test.true false) in
     let here : c.first_in_range.result ≡ found c.stretch-item.result =
-    c.first_in_range.ensures ∙ first_of_part case c.args.zone.now c.stretch-item.result c.args.other.now c.args.others.now (drop c.range_of-range.result.from (take c.range_of-range.result.upto c.args.others.now)) c.range_of-range.result.from c.range_of-range.result.upto first
-    c.range_of-range.ensures.from c.range_of-range.ensures.upto refl in
-    ap (λ (r : Option Names). option_or r (first_some found (drop (c.loop-stretch.stretch-index + 1) c.args.own.now))) (sym c.in_default.is ∙ here)
-    ∙ sym (first_some-drop_more found c.args.own.now c.loop-stretch.stretch-index c.stretch-item.result c.loop-stretch-test.true c.stretch-item.is) ∙ c.loop-stretch.invariant
+    c.first_in_range.ensures.names ∙ first_of_part case c.args.zone.now c.stretch-item.result c.args.other.now c.args.others.now (drop c.range_of-range.result.from (take c.range_of-range.result.upto c.args.others.now)) c.range_of-range.result.from c.range_of-range.result.upto first
+    c.range_of-range.ensures.from c.range_of-range.ensures.upto refl in (
+      ap (λ (r : Option Names). option_or r (first_some found (drop (c.loop-stretch.stretch-index + 1) c.args.own.now))) (sym c.in_default.is ∙ here)
+          ∙ sym (first_some-drop_more found c.args.own.now c.loop-stretch.stretch-index c.stretch-item.result c.loop-stretch-test.true c.stretch-item.is) ∙ c.loop-stretch.invariant.0,
+      c.first_in_range.ensures.memory,
+    )
+
+pub loop-stretch-init : goal.loop-stretch-init
+loop-stretch-init c = (
+  refl,
+  λ k d below at. empty_memory c.args.scene.now.job.now c.args.scene.now.run.now c.args.zone.now c.args.other.now (get_or c.args.others.now k d) c.new_memory-memory.result
+      c.new_memory-memory.ensures.covers c.new_memory-memory.ensures.pieces c.new_memory-memory.ensures.passed,
+)
