@@ -1,5 +1,5 @@
 -- Meaning. What each token of a line is to a block.
-use Rattle.std.specs.Prelude.{ℕ, ◌+◌, Bool, true, false, List, [], Option, Some, None, slice_get, nat_lt, if◌then◌else◌}
+use Rattle.std.specs.Prelude.{ℕ, ◌+◌, ◌==◌, not, Bool, true, false, List, [], Option, Some, None, slice_get, nat_lt, if◌then◌else◌}
 use Rattle.block_scanner.specs.declared.Kind.{Kind}
 use Rattle.block_scanner.specs.declared.Kind.TheVariants as kind
 use Rattle.block_scanner.specs.declared.Sign.{Sign}
@@ -51,6 +51,14 @@ plain_piece (kind.Sign s) from to one = sign_piece s
 unfoldable pub piece_of : Token → Symbol → Piece
 piece_of token symbol.Exponent = piece.Broken
 piece_of token one = plain_piece token.kind token.start token.end one
+
+-- a token that its kind alone tells: no name, no number, and no E, which is an exponent after a number
+abbrev pub is_read_by_kind : Kind → Bool
+is_read_by_kind (kind.Letter b) = not (b == 69)
+is_read_by_kind kind.Name = false
+is_read_by_kind kind.Number = false
+is_read_by_kind kind.Text = true
+is_read_by_kind (kind.Sign s) = true
 
 abbrev pub found_piece : Option Token → Option Symbol → Piece
 found_piece None one = piece.End

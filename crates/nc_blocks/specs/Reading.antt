@@ -1,5 +1,5 @@
 -- Meaning. What a step of reading gives, and the expressions of a block.
-use Rattle.std.specs.Prelude.{◌≡◌, ℕ, ℤ, ◌+◌, ◌/◌, ◌&&◌, nat_le, length, neg_ℤ, Bool, ◌==◌, if◌then◌else◌, List, Option, Some, None, Result, Ok, Err}
+use Rattle.std.specs.Prelude.{◌≡◌, ℕ, ℤ, ◌+◌, ◌/◌, ◌&&◌, nat_le, length, neg_ℤ, ◌==◌, if◌then◌else◌, List, Option, Some, None, Result, Ok, Err}
 use Rattle.std.specs.Int.RustNames.{unsigned_abs}
 use Rattle.block_scanner.specs.WordsView.{WordsView}
 use Rattle.nc_expressions.specs.declared.trees.Expr.{Expr}

@@ -1,8 +1,10 @@
 //! What each token of a line is to a block.
 
-ghost use Rattle.std.specs.Prelude.{◌≡◌, ◌<◌, ◌≤◌, length};
+ghost use Rattle.std.specs.Prelude.{◌≡◌, ◌<◌, ◌≤◌, Bool, not, length};
 ghost use Rattle.block_scanner.specs.Scanned.{IsScanned};
-ghost use Rattle.nc_blocks.specs.Pieces.{sign_piece, number_piece, plain_piece, piece_of, piece_at, text_at, Stands};
+ghost use Rattle.micro_units.specs.NumberText.{number_of};
+ghost use Rattle.nc_expressions.specs.Symbols.{number_symbol};
+ghost use Rattle.nc_blocks.specs.Pieces.{sign_piece, number_piece, plain_piece, piece_of, is_end, is_read_by_kind, piece_at, text_at, Stands};
 
 use crate::limits::NAME_LIMIT;
 use block_scanner::{Kind, Sign, Token, Words};
@@ -113,18 +115,65 @@ fn piece_of(token: Token, symbol: Symbol) -> Piece
     }
 }
 
+/// What a number is to a block.
+#[tactic(auto, unfolding(crate::specs::Pieces::number_piece, nc_expressions::specs::Symbols::number_symbol))]
+fn number_of_text(text: &[u8]) -> Piece
+    ensures { (digits : Bool) → result ≡ number_piece (number_symbol (number_of text.now) digits) }
+{
+    match Num::parse(text) {
+        Ok(number) => Piece::Number(number),
+        Err(_) => Piece::Broken,
+    }
+}
+
+/// Whether a token is read by its kind alone: it is no name, no number and no E, which a number before it makes an exponent.
+fn is_read_by_kind(kind: Kind) -> bool
+    ensures { result ≡ is_read_by_kind kind }
+{
+    match kind {
+        Kind::Letter(letter) => letter != b'E',
+        Kind::Text | Kind::Sign(_) => true,
+        Kind::Name | Kind::Number => false,
+    }
+}
+
+/// What the token at a place is to a block.
+#[tactic(auto, using(crate::proofs::Places::tokens))]
+fn token_piece(words: &Words<'_>, at: usize) -> Piece
+    requires scanned { IsScanned words.now }
+    requires within { at < length words.now.tokens }
+    ensures { result ≡ piece_at words.now at }
+{
+    let token = words.token(at);
+    if is_read_by_kind(token.kind) {
+        plain_piece(token.kind, token.start, token.end, Symbol::Other)
+    } else {
+        match token.kind {
+            Kind::Number => number_of_text(words.text(&token)),
+            _ => piece_of(token, symbol_at(words, at)),
+        }
+    }
+}
+
 /// What stands at a place.
-#[tactic(auto, using(crate::proofs::Places::places))]
+#[tactic(auto, using(crate::proofs::Places::piece_past))]
 pub fn piece_at(words: &Words<'_>, at: usize) -> Piece
     requires { IsScanned words.now }
     ensures value { result ≡ piece_at words.now at }
     ensures within { Stands result (at < length words.now.tokens) }
 {
     if at < words.tokens.len() {
-        piece_of(words.token(at), symbol_at(words, at))
+        token_piece(words, at)
     } else {
         Piece::End
     }
+}
+
+/// Whether the line goes on at a place.
+pub(crate) fn has_more(words: &Words<'_>, at: usize) -> bool
+    ensures { result ≡ not (is_end (piece_at words.now at)) }
+{
+    at < words.tokens.len()
 }
 
 /// The text of the token at a place.

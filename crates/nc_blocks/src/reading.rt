@@ -75,7 +75,7 @@ pub(crate) fn after_sign(words: &Words<'_>, at: usize) -> usize
 }
 
 /// The number after what may be its sign.
-fn signed(first: Piece, number: Num) -> Num
+pub(crate) fn signed(first: Piece, number: Num) -> Num
     ensures { result ≡ with_sign first number }
 {
     match first {

@@ -10,7 +10,7 @@ use std::alloc::{AllocError, Global};
 pub fn address(alloc: Global, letter: u8, following: &[u8]) -> Result<Vec<u8>, AllocError>
     ensures { IfOk result (λ v. v.items ≡ letter ∷ following.now) }
 {
-    let mut text = Vec::new(alloc);
+    let mut text = Vec::with_capacity(alloc, 1 + following.len())?;
     text.push(letter)?;
     text.extend_from_slice(following)?;
     Ok(text)

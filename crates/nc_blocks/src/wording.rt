@@ -15,8 +15,8 @@ use crate::blocks::{Measure, Operand, Stmt, Word};
 use crate::marks::{
     assign_at, close_at, close_bracket_at, is_keyword, is_word, open_at, word_code,
 };
-use crate::pieces::{Piece, piece_at, text_at};
-use crate::reading::{after_sign, constant_at, index_at, value_at};
+use crate::pieces::{Piece, has_more, piece_at, text_at};
+use crate::reading::{index_at, signed, value_at};
 use crate::texts::{address, same_text, unquoted, upper_text};
 use block_scanner::Words;
 use g_groups::GWord;
@@ -183,19 +183,21 @@ fn letter_word(
     ensures within { IfOk result (λ p. (at < p.1) × (p.1 ≤ length words.now.tokens)) }
 {
     let address = address(alloc, letter, &[])?;
-    match piece_at(words, at) {
+    let first = piece_at(words, at);
+    match first {
         Piece::Assign => measured_word(alloc, words, address, at + 1),
         Piece::Number(number) => Ok((
             Word::Axis(address, Measure::Modal, Expr::Number(number)),
             at + 1,
         )),
-        _ => match constant_at(words, at, word_code(words, after_sign(words, at))) {
-            Ok((number, end)) => Ok((
-                Word::Axis(address, Measure::Modal, Expr::Number(number)),
-                end,
+        Piece::Plus | Piece::Minus => match piece_at(words, at + 1) {
+            Piece::Number(number) => Ok((
+                Word::Axis(address, Measure::Modal, Expr::Number(signed(first, number))),
+                at + 2,
             )),
-            Err(code) => Err(SyntaxFault::Refused(code)),
+            _ => Err(SyntaxFault::Refused(word_code(words, at + 1))),
         },
+        _ => Err(SyntaxFault::Refused(word_code(words, at))),
     }
 }
 
@@ -500,7 +502,7 @@ fn word_item_at(
     ensures within { IfOk result (λ p. (at < p.2) × (p.2 ≤ length words.now.tokens)) }
 {
     let (word, end) = word_at(alloc, words, at)?;
-    let more = !matches!(piece_at(words, end), Piece::End);
+    let more = has_more(words, end);
     Ok((word, more, end))
 }
 

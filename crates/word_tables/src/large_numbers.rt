@@ -34,9 +34,13 @@ fn is_large_token(words: &Words<'_>, token: Token) -> bool
     }
 }
 
+/// So many bytes write no number that is out of range: their digits are at most 99,999,999.
+const SHORT_TEXT: usize = 8;
+
 /// Whether a text is a number out of range.
+#[tactic(auto, using(crate::proofs::ShortNumbers::small_if_short))]
 fn is_large(text: &[u8]) -> bool
     ensures { result ≡ is_large (number_of text.now) }
 {
-    matches!(Num::parse(text), Err(NumFault::TooLarge))
+    SHORT_TEXT < text.len() && matches!(Num::parse(text), Err(NumFault::TooLarge))
 }
