@@ -1,5 +1,5 @@
 -- The motion of a block, whatever it says.
-use Rattle.std.proofs.Common.{◌≡◌, ◌∙◌, ℕ, ℤ, Bool, true, false, not, ◌&&◌, cond, List, [], Option, None, Some, option_map, Result, Ok, Err, refl, ap, subst}
+use Rattle.std.proofs.Common.{◌≡◌, ◌∙◌, ℕ, Bool, true, false, not, ◌&&◌, cond, List, [], Option, None, Some, option_map, Result, Ok, Err, refl, ap, subst}
 use Rattle.block_motions.specs.Arcs.{arc_motion}
 use Rattle.block_motions.specs.declared.words.ArcWords.{ArcWords}
 use Rattle.block_motions.proofs.ArcLaws.{arc_is}

@@ -3,7 +3,7 @@
 ghost use Rattle.std.specs.Prelude.{◌≡◌, ◌++◌, ◌∷◌, [], All, IsTrue, IfOk, List, OnErr, None, map, not, option_map};
 ghost use Rattle.block_motions.specs.Goals.{ConditionsView, AreInForce};
 ghost use Rattle.axis_sets.specs.Positions.{stands};
-ghost use Rattle.block_motions.specs.Motions.{StandsAtEndOf};
+ghost use Rattle.block_motions.specs.Motions.{StandsAtEndOf, given_motion};
 ghost use Rattle.sync_types.specs.Items.{StandsAtEnd};
 ghost use Rattle.frames.specs.Composition.{IsComposed};
 ghost use Rattle.frames.specs.Maps.{Map};
@@ -61,23 +61,26 @@ fn has_stray_words(conditions: &Conditions, arc: &ArcWords) -> bool
     arc.radius.is_some() || (word(conditions, MOTION_GROUP) != 33 && is_any(&arc.centre))
 }
 
-/// Gives the motion of a block: an arc, or else a straight line or a rapid.
+/// Puts the motion of a block in its place: an arc, or else a straight line or a rapid.
 fn make_motion(
     axes: &ChannelAxes,
     conditions: &Conditions,
     targets: &Targets,
     arc: &ArcWords,
     at: &mut Positions,
-) -> Result<Option<Motion>, u16>
+    motion: &mut Option<Motion>,
+) -> Result<(), u16>
+    requires { motion.old ≡ None }
     ensures made { (h : ConditionsView) → AreInForce h conditions.now
-        → result ≡ model.motion_made axes.now.slots axes.now.owned h (stands at.old) targets.now arc.now }
-    ensures stand { IfOk result (λ motion. StandsAtEndOf motion at.old at.new) }
+        → given_motion motion.new result ≡ model.motion_made axes.now.slots axes.now.owned h (stands at.old) targets.now arc.now }
+    ensures stand { IfOk result (λ _. StandsAtEndOf motion.new at.old at.new) }
     ensures unmoved { OnErr result (at.new ≡ at.old) }
 {
     if is_arc(conditions) {
-        arc_motion(&axes.slots, axes.owned, conditions, targets, arc, at)
+        *motion = arc_motion(&axes.slots, axes.owned, conditions, targets, arc, at)?;
+        Ok(())
     } else {
-        straight_motion(&axes.slots, axes.owned, conditions, targets, at)
+        straight_motion(&axes.slots, axes.owned, conditions, targets, at, motion)
     }
 }
 
@@ -87,21 +90,24 @@ fn move_programmed(
     axes: &ChannelAxes,
     conditions: &Conditions,
     groups: &[GWord],
-    done: &WordsDone,
+    targets: &Targets,
+    arc: &ArcWords,
     at: &mut Positions,
-) -> Result<Option<Motion>, u16>
+    motion: &mut Option<Motion>,
+) -> Result<(), u16>
+    requires { motion.old ≡ None }
     ensures made { (h : ConditionsView) → AreInForce h conditions.now
-        → result ≡ model.moved_or_still axes.now.slots axes.now.owned h (stands at.old) groups.now done.now.targets done.now.arc }
-    ensures stand { IfOk result (λ motion. StandsAtEndOf motion at.old at.new) }
+        → given_motion motion.new result ≡ model.moved_or_still axes.now.slots axes.now.owned h (stands at.old) groups.now targets.now arc.now }
+    ensures stand { IfOk result (λ _. StandsAtEndOf motion.new at.old at.new) }
     ensures unmoved { OnErr result (at.new ≡ at.old) }
 {
-    if !is_arc(conditions) && has_stray_words(conditions, &done.arc) {
+    if !is_arc(conditions) && has_stray_words(conditions, arc) {
         return Err(ARC_WORDS);
     }
     if stands_still(groups) {
-        return Ok(None);
+        return Ok(());
     }
-    make_motion(axes, conditions, &done.targets, &done.arc, at)
+    make_motion(axes, conditions, targets, arc, at, motion)
 }
 
 /// Moves the axes as the words of the block say.
@@ -111,16 +117,19 @@ fn move_axes<S: Setup>(
     modal: &Modal,
     frame: &Frame,
     groups: &[GWord],
-    done: &WordsDone,
+    targets: &Targets,
+    arc: &ArcWords,
     at: &mut Positions,
-) -> Result<Option<Motion>, u16>
+    motion: &mut Option<Motion>,
+) -> Result<(), u16>
+    requires { motion.old ≡ None }
     ensures made { (blocks : List (List GWord)) (chain : List Map) → IsAfter blocks modal.now → IsComposed chain frame.now
-        → result ≡ model.moved_or_still axes.now.slots axes.now.owned (model.held_after (S.offset setup.now) blocks chain) (stands at.old) groups.now done.now.targets done.now.arc }
-    ensures stand { IfOk result (λ motion. StandsAtEndOf motion at.old at.new) }
+        → given_motion motion.new result ≡ model.moved_or_still axes.now.slots axes.now.owned (model.held_after (S.offset setup.now) blocks chain) (stands at.old) groups.now targets.now arc.now }
+    ensures stand { IfOk result (λ _. StandsAtEndOf motion.new at.old at.new) }
     ensures unmoved { OnErr result (at.new ≡ at.old) }
 {
     let conditions = conditions(setup, modal, frame);
-    move_programmed(axes, &conditions, groups, done, at)
+    move_programmed(axes, &conditions, groups, targets, arc, at, motion)
 }
 
 /// Does what these words of a block say, from left to right, and then moves the axes as all its words say. After an alarm
@@ -146,10 +155,11 @@ fn run_from<S: Setup>(
     ensures at { OnErr result (at.new ≡ at.old) }
 {
     let [word, others @ ..] = words else {
+        done.motion = None;
         if done.moves {
-            done.motion = move_axes(setup, axes, modal, frame, groups, done, at)?;
-        } else {
-            done.motion = None;
+            let (targets, arc) = (&done.targets, &done.arc);
+            let motion = &mut done.motion;
+            move_axes(setup, axes, modal, frame, groups, targets, arc, at, motion)?;
         }
         return Ok(());
     };

@@ -1,5 +1,5 @@
 -- The motion of a block with an arc is sound, and one of axes that the channel owns.
-use Rattle.std.proofs.Common.{◌≡◌, ◌≢◌, ℕ, ℤ, pos, ◌+ℤ◌, ◌*ℤ◌, not, Bool, true, false, cond, List, Option, None, Some, option_map, IfSome, Result, Ok, Err, IfOk, All, AllPairs, refl, sym, subst, arith}
+use Rattle.std.proofs.Common.{◌≡◌, ◌≢◌, ℕ, ℤ, pos, ◌+ℤ◌, ◌*ℤ◌, not, Bool, true, false, cond, List, Option, None, Some, IfSome, Result, Ok, Err, IfOk, All, AllPairs, refl, sym, subst, arith}
 use Rattle.std.proofs.lemmas.Bool.{leb-true}
 use Rattle.std.proofs.lemmas.List.Elements.{All-weaker}
 use Rattle.std.specs.Prelude.{int_lt, unsigned_abs}

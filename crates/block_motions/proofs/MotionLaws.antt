@@ -1,15 +1,10 @@
 -- The motion of a block is one of axes that the channel owns, from where they stand.
-use Rattle.std.proofs.Common.{◌≡◌, ◌≢◌, ◌⊎◌, ◌∙◌, ℕ, zero, suc, ℤ, ◌+◌, ◌≤◌, ◌<◌, ◌==◌, ◌+ℤ◌, not, Bool, true, false, cond, List, [], ◌∷◌, ◌++◌, append-nil, length, length-append, find, take, get_or, slice_get, Option, None, Some, option_map, unwrap_or, IfSome, Result, Ok, Err, All, AllPairs, inl, inr, refl, sym, ap, subst, arith}
+use Rattle.std.proofs.Common.{◌≡◌, ◌≢◌, ◌⊎◌, ℕ, suc, ℤ, ◌≤◌, ◌<◌, ◌==◌, ◌+ℤ◌, not, Bool, true, false, cond, List, [], ◌∷◌, length, find, get_or, Option, None, Some, option_map, Result, Ok, Err, All, AllPairs, inl, inr, refl, sym, ap, subst, arith}
 use Rattle.std.proofs.Math.ListN.{get_or-eq_default}
-use Rattle.std.proofs.Math.Seq.{take-append_seam}
 use Rattle.std.proofs.lemmas.Bool.{leb-true, eq-eqb, ne_eqb}
-use Rattle.std.proofs.lemmas.List.{take-append-le}
-use Rattle.std.proofs.lemmas.List.Elements.{All-nil, All-cons, All-head, All-tail, All-take, All-weaker}
-use Rattle.std.proofs.lemmas.Option.{slice_get_within, slice_get-get_or}
-use Rattle.std.specs.List.{filter_map, last_or, cons_option}
-use Rattle.std.specs.Option.{option_to_list}
+use Rattle.std.proofs.lemmas.List.Elements.{All-nil, All-cons, All-weaker}
 use Rattle.path_geometry.specs.Ends.{EndsView}
-use Rattle.path_geometry.specs.Motions.{axes_of, AreSound, IsSound}
+use Rattle.path_geometry.specs.Motions.{axes_of, AreSound}
 use Rattle.micro_units.specs.Position.{IsPosition}
 use Rattle.path_geometry.specs.declared.motion.Motion.{Motion}
 use Rattle.axis_sets.specs.Sets.{has}

@@ -1,9 +1,8 @@
 -- Meaning. The motion of a block with an arc: about a centre or by a radius, in the plane of two of the axes X, Y and Z.
-use Rattle.std.specs.Prelude.{◌≡◌, ◌≢◌, All, AllPairs, ℕ, ℤ, pos, ◌+ℤ◌, ◌*ℤ◌, ◌==◌, ◌&&◌, ◌||◌, not, int_lt, Bool, true, false, if◌then◌else◌, List, slice_index_or, slice_set, Option, None, Some, is_some, is_none, Result, Ok, Err}
+use Rattle.std.specs.Prelude.{ℕ, ℤ, pos, ◌+ℤ◌, ◌*ℤ◌, ◌==◌, ◌&&◌, ◌||◌, not, int_lt, Bool, true, false, if◌then◌else◌, List, slice_index_or, slice_set, Option, None, Some, is_some, is_none, Result, Ok, Err}
 use Rattle.std.specs.Int.RustNames.{unsigned_abs}
 use Rattle.std.specs.List.{list_all, list_any}
 use Rattle.std.specs.Ordering.{int_eq}
-use Rattle.axis_sets.specs.Sets.{has}
 use Rattle.block_motions.specs.declared.goals.Goal.{Goal}
 use Rattle.block_motions.specs.declared.goals.Goal.TheVariants.{To, By, TooFar}
 use Rattle.block_motions.specs.declared.goals.Programmed.{Programmed}
@@ -19,8 +18,7 @@ use Rattle.nc_blocks.specs.declared.blocks.Measure.{Measure}
 use Rattle.nc_blocks.specs.declared.blocks.Measure.TheVariants.{Modal, Absolute, Incremental}
 use Rattle.path_geometry.specs.Arcs.{arc_about, arc_of_radius}
 use Rattle.path_geometry.specs.Ends.{EndsView}
-use Rattle.path_geometry.specs.Motions.{axes_of, IsSound}
-use Rattle.micro_units.specs.Position.{IsPosition, is_position}
+use Rattle.micro_units.specs.Position.{is_position}
 use Rattle.path_geometry.specs.declared.motion.Motion.{Motion}
 use Rattle.block_motions.specs.Sides.{SideView}
 use Rattle.block_motions.specs.declared.words.ArcWords.{ArcWords}

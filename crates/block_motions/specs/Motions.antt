@@ -1,6 +1,6 @@
 -- Meaning. The motion of a block by a line or as a rapid, and where it takes the axes of the channel.
-use Rattle.std.specs.Prelude.{◌≡◌, ◌≢◌, ◌<◌, All, AllPairs, ℕ, ℤ, pos, ◌+ℤ◌, ◌==◌, ◌&&◌, ◌||◌, not, Bool, true, false, if◌then◌else◌, List, [], ◌∷◌, find, filter_map, slice_index_or, Option, None, Some, option_map, option_and_then, unwrap_or, Result, Ok, Err}
-use Rattle.std.specs.List.{last_or, list_all, range_with_len}
+use Rattle.std.specs.Prelude.{⊤, ◌≡◌, ◌≢◌, ◌<◌, All, AllPairs, ℕ, ℤ, ◌+ℤ◌, ◌==◌, ◌&&◌, ◌||◌, not, Bool, true, false, if◌then◌else◌, List, [], ◌∷◌, filter_map, slice_index_or, Option, None, Some, option_map, option_and_then, unwrap_or, Result, Ok, Err}
+use Rattle.std.specs.List.{list_all, range_with_len}
 use Rattle.axis_sets.specs.Positions.{stands}
 use Rattle.axis_sets.specs.Sets.{has}
 use Rattle.path_geometry.specs.Ends.{EndsView}
@@ -86,6 +86,11 @@ unfoldable pub straight_motion : List (Option ℕ) → List Bool → ConditionsV
 straight_motion slots owned h at targets =
     if not (have_axes slots h targets.slots) then Err NO_SUCH_AXIS
     else straight_motion_to owned at (is_rapid h) (goals_of slots h targets)
+
+-- the answer of one who puts a motion in its place
+abbrev pub given_motion : Option Motion → Result ⊤ ℕ → Result (Option Motion) ℕ
+given_motion motion (Ok done) = Ok motion
+given_motion motion (Err code) = Err code
 
 -- the axes stand at the ends of these goals, and elsewhere where they stood
 abbrev pub StandsMoved : List (Option Goal) → List (Option ℤ) → List (Option ℤ) → Type 0

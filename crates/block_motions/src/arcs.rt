@@ -12,8 +12,8 @@ ghost use Rattle.micro_units.specs.Position.{IsPosition};
 ghost use Rattle.block_motions.specs.Arcs as model;
 
 use crate::goals::{
-    Conditions, Goal, Programmed, Targets, change_through, frame_in, goal_through, goals_of,
-    have_axes,
+    Conditions, Goal, Programmed, Targets, change_through, frame_in, goal_through, have_axes,
+    put_goals,
 };
 use crate::motions::{are_in_reach, are_own, move_axes, stands};
 use crate::planes::Side;
@@ -48,8 +48,9 @@ fn arc_goals(
     ensures { (h : ConditionsView) → AreInForce h conditions.now
         → result ≡ model.arc_goals slots.now h targets.now sides.now }
 {
-    let goals = staying(goals_of(slots, conditions, targets), sides.0.moved);
-    staying(goals, sides.1.moved)
+    let mut goals = [None; AXIS_LIMIT];
+    put_goals(&mut goals, slots, conditions, targets);
+    staying(staying(goals, sides.0.moved), sides.1.moved)
 }
 
 /// Twice a value in millimetres, in millionths.

@@ -1,6 +1,6 @@
 //! What a block programs for axes, what holds in it, and where the axes are to go.
 
-ghost use Rattle.std.specs.Prelude.{◌≡◌, ◌<◌, ◌==◌, List, map, option_map};
+ghost use Rattle.std.specs.Prelude.{◌≡◌, ◌<◌, ◌==◌, ℕ, List, None, map, option_map, slice_index_or};
 ghost use Rattle.frames.specs.Composition.{IsComposed};
 ghost use Rattle.frames.specs.Images.{image_of};
 ghost use Rattle.frames.specs.Maps.{Map, mapped_point};
@@ -184,24 +184,28 @@ fn position_at(value: Num) -> Goal
     }
 }
 
+/// The goal of X, Y or Z with this value, through the frame of the block.
+fn goal_in(conditions: &Conditions, frame: &Frame, axis: u8, programmed: Programmed) -> Goal
+    requires { axis < 3 }
+    ensures { (h : ConditionsView) → AreInForce h conditions.now → IsComposed (model.chain_in h) frame.now
+        → result ≡ model.goal_through h axis programmed }
+{
+    let change = is_change(conditions, programmed.measure);
+    let twice = twice_of(conditions, axis, programmed);
+    if change {
+        change_through(frame, axis, twice)
+    } else {
+        let offset = offset_in(conditions, slot_of(frame, axis));
+        place_through(frame, axis, twice, offset)
+    }
+}
+
 /// The goal of X, Y or Z with this value, through the frame.
 pub(crate) fn goal_through(conditions: &Conditions, axis: u8, programmed: Programmed) -> Goal
     requires { axis < 3 }
     ensures { (h : ConditionsView) → AreInForce h conditions.now → result ≡ model.goal_through h axis programmed }
 {
-    let frame = frame_in(conditions);
-    let change = is_change(conditions, programmed.measure);
-    let twice = twice_of(conditions, axis, programmed);
-    if change {
-        change_through(&frame, axis, twice)
-    } else {
-        place_through(
-            &frame,
-            axis,
-            twice,
-            offset_in(conditions, slot_of(&frame, axis)),
-        )
-    }
+    goal_in(conditions, &frame_in(conditions), axis, programmed)
 }
 
 /// The goal of an axis by its own name.
@@ -215,6 +219,14 @@ fn goal_by_name(conditions: &Conditions, programmed: Programmed) -> Goal
     }
 }
 
+/// The axis that X, Y or Z moves through the frame of the block.
+fn axis_through(slots: &[Option<AxisId>; 3], frame: &Frame, axis: u8) -> Option<AxisId>
+    requires { axis < 3 }
+    ensures { (h : ConditionsView) → IsComposed (model.chain_in h) frame.now → result ≡ model.axis_in slots.now h axis }
+{
+    slots[usize::from(slot_of(frame, axis))]
+}
+
 /// The axis that X, Y or Z moves.
 pub(crate) fn axis_in(
     slots: &[Option<AxisId>; 3],
@@ -224,21 +236,20 @@ pub(crate) fn axis_in(
     requires { axis < 3 }
     ensures { (h : ConditionsView) → AreInForce h conditions.now → result ≡ model.axis_in slots.now h axis }
 {
-    let frame = frame_in(conditions);
-    slots[usize::from(slot_of(&frame, axis))]
+    axis_through(slots, &frame_in(conditions), axis)
 }
 
 /// Whether X, Y or Z has an axis that it moves, or is not programmed.
 fn has_axis(
     slots: &[Option<AxisId>; 3],
-    conditions: &Conditions,
+    frame: &Frame,
     axis: u8,
     programmed: Option<Programmed>,
 ) -> bool
     requires { axis < 3 }
-    ensures { (h : ConditionsView) → AreInForce h conditions.now → result ≡ model.has_axis slots.now h axis programmed }
+    ensures { (h : ConditionsView) → IsComposed (model.chain_in h) frame.now → result ≡ model.has_axis slots.now h axis programmed }
 {
-    programmed.is_none() || axis_in(slots, conditions, axis).is_some()
+    programmed.is_none() || axis_through(slots, frame, axis).is_some()
 }
 
 /// Whether each of X, Y and Z that is programmed has an axis that it moves.
@@ -250,69 +261,73 @@ pub(crate) fn have_axes(
 ) -> bool
     ensures { (h : ConditionsView) → AreInForce h conditions.now → result ≡ model.have_axes slots.now h values.now }
 {
-    has_axis(slots, conditions, 0, values[0])
-        && has_axis(slots, conditions, 1, values[1])
-        && has_axis(slots, conditions, 2, values[2])
+    let frame = frame_in(conditions);
+    has_axis(slots, &frame, 0, values[0])
+        && has_axis(slots, &frame, 1, values[1])
+        && has_axis(slots, &frame, 2, values[2])
 }
 
-/// The goal of an axis by its own name, if it is programmed.
-fn named_goal(conditions: &Conditions, programmed: Option<Programmed>) -> Option<Goal>
+/// Puts the goal of an axis by its own name in its place, if it is programmed.
+fn put_named(place: &mut Option<Goal>, conditions: &Conditions, programmed: Option<Programmed>)
+    requires { place.old ≡ None }
     ensures { (h : ConditionsView) → AreInForce h conditions.now
-        → result ≡ option_map (model.goal_by_name h) programmed }
-{
-    match programmed {
-        Some(programmed) => Some(goal_by_name(conditions, programmed)),
-        None => None,
-    }
-}
-
-/// The goals of axes by their own names.
-fn named_goals(
-    conditions: &Conditions,
-    axes: &[Option<Programmed>; AXIS_LIMIT],
-) -> [Option<Goal>; AXIS_LIMIT]
-    ensures { (h : ConditionsView) → AreInForce h conditions.now
-        → result ≡ map (λ value. option_map (model.goal_by_name h) value) axes.now }
-{
-    let mut goals = [None; AXIS_LIMIT];
-    for index in 0..AXIS_LIMIT {
-        goals[index] = named_goal(conditions, axes[index]);
-    }
-    goals
-}
-
-/// The goals with that of X, Y or Z, if it is programmed and moves an axis.
-fn with_goal(
-    mut goals: [Option<Goal>; AXIS_LIMIT],
-    slots: &[Option<AxisId>; 3],
-    conditions: &Conditions,
-    axis: u8,
-    programmed: Option<Programmed>,
-) -> [Option<Goal>; AXIS_LIMIT]
-    requires { axis < 3 }
-    ensures { (h : ConditionsView) → AreInForce h conditions.now
-        → result ≡ model.with_goal slots.now h axis programmed goals }
+        → place.new ≡ option_map (model.goal_by_name h) programmed }
 {
     if let Some(programmed) = programmed {
-        if let Some(moved) = axis_in(slots, conditions, axis) {
-            goals[usize::from(moved.index)] = Some(goal_through(conditions, axis, programmed));
-        }
+        *place = Some(goal_by_name(conditions, programmed));
     }
-    goals
 }
 
-/// The goals of a block by the numbers of the axes.
+/// Puts the goals of axes by their own names.
+fn put_named_goals(
+    goals: &mut [Option<Goal>; AXIS_LIMIT],
+    conditions: &Conditions,
+    axes: &[Option<Programmed>; AXIS_LIMIT],
+)
+    requires { (axis : ℕ) → slice_index_or goals.old axis None ≡ None }
+    ensures { (h : ConditionsView) → AreInForce h conditions.now
+        → goals.new ≡ map (λ value. option_map (model.goal_by_name h) value) axes.now }
+{
+    for index in 0..AXIS_LIMIT {
+        put_named(&mut goals[index], conditions, axes[index]);
+    }
+}
+
+/// Puts the goal of X, Y or Z among the goals, if it is programmed and moves an axis.
+fn put_goal(
+    goals: &mut [Option<Goal>; AXIS_LIMIT],
+    slots: &[Option<AxisId>; 3],
+    conditions: &Conditions,
+    frame: &Frame,
+    axis: u8,
+    programmed: Option<Programmed>,
+)
+    requires { axis < 3 }
+    ensures { (h : ConditionsView) → AreInForce h conditions.now → IsComposed (model.chain_in h) frame.now
+        → goals.new ≡ model.with_goal slots.now h axis programmed goals.old }
+{
+    if let Some(programmed) = programmed {
+        if let Some(moved) = axis_through(slots, frame, axis) {
+            goals[usize::from(moved.index)] = Some(goal_in(conditions, frame, axis, programmed));
+        }
+    }
+}
+
+/// Puts the goals of a block by the numbers of the axes.
 #[tactic(auto, unfolding(crate::specs::Goals::goals_of))]
-pub(crate) fn goals_of(
+pub(crate) fn put_goals(
+    goals: &mut [Option<Goal>; AXIS_LIMIT],
     slots: &[Option<AxisId>; 3],
     conditions: &Conditions,
     targets: &Targets,
-) -> [Option<Goal>; AXIS_LIMIT]
-    ensures { (h : ConditionsView) → AreInForce h conditions.now → result ≡ model.goals_of slots.now h targets.now }
+)
+    requires { (axis : ℕ) → slice_index_or goals.old axis None ≡ None }
+    ensures { (h : ConditionsView) → AreInForce h conditions.now → goals.new ≡ model.goals_of slots.now h targets.now }
 {
     let [x, y, z] = targets.slots;
-    let named = named_goals(conditions, &targets.axes);
-    let with_x = with_goal(named, slots, conditions, 0, x);
-    let with_y = with_goal(with_x, slots, conditions, 1, y);
-    with_goal(with_y, slots, conditions, 2, z)
+    let frame = frame_in(conditions);
+    put_named_goals(goals, conditions, &targets.axes);
+    put_goal(goals, slots, conditions, &frame, 0, x);
+    put_goal(goals, slots, conditions, &frame, 1, y);
+    put_goal(goals, slots, conditions, &frame, 2, z);
 }

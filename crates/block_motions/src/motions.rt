@@ -1,11 +1,12 @@
 //! The motion of a block by a line or as a rapid.
 
-ghost use Rattle.std.specs.Prelude.{◌≡◌, true, IsTrue, IfOk, OnErr};
+ghost use Rattle.std.specs.Prelude.{◌≡◌, true, IsTrue, IfOk, OnErr, None, []};
+ghost use Rattle.axis_sets.specs.Sets.{has};
 ghost use Rattle.axis_sets.specs.Positions as positions;
 ghost use Rattle.block_motions.specs.Goals.{ConditionsView, AreInForce};
 ghost use Rattle.block_motions.specs.Motions as model;
 
-use crate::goals::{Conditions, Goal, Targets, goals_of, have_axes, word};
+use crate::goals::{Conditions, Goal, Targets, have_axes, put_goals, word};
 use crate::words::is_any;
 use arrayvec::ArrayVec;
 use axis_sets::{AXIS_LIMIT, AxisId, AxisSet, Positions};
@@ -24,12 +25,12 @@ pub fn stands(at: &Positions, axis: AxisId) -> Um
     }
 }
 
-/// Whether an axis that starts there reaches its goal, if it has one.
-fn is_in_reach(owned: bool, start: Um, goal: Option<Goal>) -> bool
-    ensures { result ≡ model.is_in_reach owned start goal }
+/// Whether an axis reaches its goal, if it has one.
+fn is_in_reach(owned: AxisSet, at: &Positions, axis: AxisId, goal: Option<Goal>) -> bool
+    ensures { result ≡ model.is_in_reach (has owned axis) (positions.stands at.now axis) goal }
 {
     match goal {
-        Some(goal) => is_goal_in_reach(owned, start, goal),
+        Some(goal) => is_goal_in_reach(owned.contains(axis), stands(at, axis), goal),
         None => true,
     }
 }
@@ -56,7 +57,7 @@ pub(crate) fn are_in_reach(
 {
     for index in 0..AXIS_LIMIT {
         let axis = AxisId { index: index as u8 };
-        if !is_in_reach(owned.contains(axis), stands(at, axis), goals[index]) {
+        if !is_in_reach(owned, at, axis, goals[index]) {
             return false;
         }
     }
@@ -91,13 +92,17 @@ pub(crate) fn end_from(start: Um, goal: Goal) -> Um
     }
 }
 
-/// Moves the axes to their goals, and answers their starts and ends.
-pub(crate) fn move_axes(goals: &[Option<Goal>; AXIS_LIMIT], at: &mut Positions) -> Ends
-    requires { model.AreReached (positions.stands at.old) goals.now }
-    ensures ends { result.axes ≡ model.ends_from (positions.stands at.old) goals.now }
+/// Moves the axes to their goals, and puts their starts and ends.
+fn put_ends(
+    goals: &[Option<Goal>; AXIS_LIMIT],
+    at: &mut Positions,
+    axes: &mut ArrayVec<(AxisId, Um, Um), AXIS_LIMIT>,
+)
+    requires reached { model.AreReached (positions.stands at.old) goals.now }
+    requires none { axes.old.items ≡ [] }
+    ensures ends { axes.new.items ≡ model.ends_from (positions.stands at.old) goals.now }
     ensures stand { model.StandsMoved goals.now at.old at.new }
 {
-    let mut axes = ArrayVec::new();
     for index in 0..AXIS_LIMIT {
         if let Some(goal) = goals[index] {
             let axis = AxisId { index: index as u8 };
@@ -107,7 +112,19 @@ pub(crate) fn move_axes(goals: &[Option<Goal>; AXIS_LIMIT], at: &mut Positions) 
             at.set(axis, end);
         }
     }
-    Ends { axes }
+}
+
+/// Moves the axes to their goals, and answers their starts and ends.
+pub(crate) fn move_axes(goals: &[Option<Goal>; AXIS_LIMIT], at: &mut Positions) -> Ends
+    requires { model.AreReached (positions.stands at.old) goals.now }
+    ensures ends { result.axes ≡ model.ends_from (positions.stands at.old) goals.now }
+    ensures stand { model.StandsMoved goals.now at.old at.new }
+{
+    let mut ends = Ends {
+        axes: ArrayVec::new(),
+    };
+    put_ends(goals, at, &mut ends.axes);
+    ends
 }
 
 /// Whether each axis goes by itself.
@@ -129,16 +146,18 @@ fn motion_between(rapid: bool, ends: Ends) -> Motion
     }
 }
 
-/// Gives the motion to these goals, or alarms.
+/// Puts the motion to these goals in its place, or alarms.
 #[tactic(auto, unfolding(crate::specs::Motions::straight_motion_to))]
 fn move_to(
     owned: AxisSet,
     rapid: bool,
     goals: &[Option<Goal>; AXIS_LIMIT],
     at: &mut Positions,
-) -> Result<Option<Motion>, u16>
-    ensures made { result ≡ model.straight_motion_to owned (positions.stands at.old) rapid goals.now }
-    ensures stand { IfOk result (λ motion. model.StandsAtEndOf motion at.old at.new) }
+    motion: &mut Option<Motion>,
+) -> Result<(), u16>
+    requires { motion.old ≡ None }
+    ensures made { model.given_motion motion.new result ≡ model.straight_motion_to owned (positions.stands at.old) rapid goals.now }
+    ensures stand { IfOk result (λ _. model.StandsAtEndOf motion.new at.old at.new) }
     ensures unmoved { OnErr result (at.new ≡ at.old) }
 {
     if !are_in_reach(owned, at, goals) {
@@ -147,14 +166,18 @@ fn move_to(
     if !are_own(owned, goals) {
         return Err(AXIS_NOT_OWNED);
     }
-    let ends = move_axes(goals, at);
+    let mut ends = Ends {
+        axes: ArrayVec::new(),
+    };
+    put_ends(goals, at, &mut ends.axes);
     if ends.axes.is_empty() {
-        return Ok(None);
+        return Ok(());
     }
-    Ok(Some(motion_between(rapid, ends)))
+    *motion = Some(motion_between(rapid, ends));
+    Ok(())
 }
 
-/// Gives the motion of a block, and takes the axes to its ends. A block that programs no axis has
+/// Puts the motion of a block in its place, and takes the axes to its ends. A block that programs no axis has
 /// none. It is a straight line; under G0 with RTLIOF it is a rapid, in which each axis
 /// goes by itself.
 ///
@@ -174,22 +197,21 @@ pub fn straight_motion(
     conditions: &Conditions,
     targets: &Targets,
     at: &mut Positions,
-) -> Result<Option<Motion>, u16>
+    motion: &mut Option<Motion>,
+) -> Result<(), u16>
+    requires { motion.old ≡ None }
     ensures made { (h : ConditionsView) → AreInForce h conditions.now
-        → result ≡ model.straight_motion slots.now owned h (positions.stands at.old) targets.now }
-    ensures stand { IfOk result (λ motion. model.StandsAtEndOf motion at.old at.new) }
+        → model.given_motion motion.new result ≡ model.straight_motion slots.now owned h (positions.stands at.old) targets.now }
+    ensures stand { IfOk result (λ _. model.StandsAtEndOf motion.new at.old at.new) }
     ensures unmoved { OnErr result (at.new ≡ at.old) }
 {
     if !is_any(&targets.slots) && !is_any(&targets.axes) {
-        return Ok(None);
+        return Ok(());
     }
     if !have_axes(slots, conditions, &targets.slots) {
         return Err(NO_SUCH_AXIS);
     }
-    move_to(
-        owned,
-        is_rapid(conditions),
-        &goals_of(slots, conditions, targets),
-        at,
-    )
+    let mut goals = [None; AXIS_LIMIT];
+    put_goals(&mut goals, slots, conditions, targets);
+    move_to(owned, is_rapid(conditions), &goals, at, motion)
 }

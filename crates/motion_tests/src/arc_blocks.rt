@@ -105,7 +105,9 @@ fn said(
 fn made(lathe: &mut Lathe, words: &str, block: &Block) -> Result<Option<Motion>, u16> {
     let (slots, conditions, at) = (&lathe.slots, &lathe.conditions, &mut lathe.at);
     if words.trim_end().ends_with("G1") {
-        straight_motion(slots, owned(), conditions, &block.targets, at)
+        let mut motion = None;
+        straight_motion(slots, owned(), conditions, &block.targets, at, &mut motion)?;
+        Ok(motion)
     } else {
         let (targets, words) = (&block.targets, &block.words);
         arc_motion(slots, owned(), conditions, targets, words, at)

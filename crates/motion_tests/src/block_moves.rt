@@ -182,14 +182,16 @@ fn done(
     lathe.conditions.modal = after(&lathe.conditions.modal, words)?;
     let before = lathe.at;
     let targets = targets(rt, letters)?;
+    let mut motion = None;
     match straight_motion(
         &lathe.slots,
         owned(),
         &lathe.conditions,
         &targets,
         &mut lathe.at,
+        &mut motion,
     ) {
-        Ok(motion) => said(rt, alloc, &motion, &lathe.at),
+        Ok(()) => said(rt, alloc, &motion, &lathe.at),
         Err(code) => {
             assert!(rt; lathe.at == before);
             Ok(format!(in alloc; "ALARM {code}")?)

@@ -3,14 +3,14 @@ use Rattle.std.specs.List.{filter_map, range_with_len}
 use Rattle.axis_sets.specs.Positions.{stands}
 use Rattle.block_motions.specs.Motions as model
 use Rattle.block_motions.proofs.Moves.{moves_on, moves_not, reaches}
-use Rattle.block_motions.proofs.motions.move_axes.Goals as goal
-use Rattle.block_motions.proofs.motions.move_axes.Goals.{in-Some, in_default}
+use Rattle.block_motions.proofs.motions.put_ends.Goals as goal
+use Rattle.block_motions.proofs.motions.put_ends.Goals.{in-Some, in_default}
 
 pub end_from-end-requires : goal.end_from-end-requires
 end_from-end-requires c =
     let long : length c.args.goals.now ≡ 16 = c.type_inv.goals in
     reaches c.args.goals.now c.args.at.now c.loop-index.index c.loop-index.at c.loop-index.axes.items c.loop-index.invariant
-    c.in-Some.goal c.stands-start.result _ c.loop-index-test.true long c.in-Some.is c.stands-start.ensures c.requires
+    c.in-Some.goal c.stands-start.result _ c.loop-index-test.true long c.in-Some.is c.stands-start.ensures c.requires.reached
 
 pub loop-index-preserved : goal.loop-index-preserved
 loop-index-preserved c =

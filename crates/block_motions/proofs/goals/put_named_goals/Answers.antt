@@ -3,7 +3,7 @@ use Rattle.std.proofs.lemmas.List.{ext_get_or, get_or-map, length-map}
 use Rattle.block_motions.specs.declared.goals.Goal.{Goal}
 use Rattle.block_motions.specs.declared.goals.Programmed.{Programmed}
 use Rattle.block_motions.specs.Goals.{goal_by_name}
-use Rattle.block_motions.proofs.goals.named_goals.Goals as goal
+use Rattle.block_motions.proofs.goals.put_named_goals.Goals as goal
 
 pub returns : goal.returns
 returns c h are =
