@@ -20,6 +20,19 @@ pub struct StepRows {
     pub goes: [Row; CHANNEL_PLACES],
 }
 
+impl StepRows {
+    /// No event: a place for the rows of a step.
+    pub fn none() -> StepRows
+        ensures { (c : ℕ) → count_of result.act c ≡ 0 }
+    {
+        let zero = Row::zero();
+        StepRows {
+            act: zero,
+            goes: [zero; CHANNEL_PLACES],
+        }
+    }
+}
+
 /// Where the rows of one step stand among all.
 #[derive(Clone, Copy)]
 pub struct StepPlaces {

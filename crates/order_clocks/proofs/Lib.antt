@@ -26,6 +26,7 @@ pub mod StepLaws
 pub mod StepRaceLaws
 pub mod StopLaws
 pub mod TellLaws
+pub mod TracelessLaws
 pub mod TrackLaws
 pub mod WatchLaws
 pub mod WholeLaws

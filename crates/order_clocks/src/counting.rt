@@ -7,7 +7,7 @@ ghost use Rattle.std.specs.Prelude.{◌<◌, ◌^◌, length, IfOk};
 ghost use Rattle.sync_types.specs.Boards.{Board};
 
 use crate::clocks::Clocks;
-use crate::reader::Reader;
+use crate::reader::{Reader, StepRead};
 use crate::search::Search;
 use counter_rows::{Row, RowTable};
 use nc_faults::NoMemory;
@@ -30,10 +30,11 @@ pub(crate) fn read_run(
     let first = Reader::new(entries, ends);
     let mut reader = first;
     let mut search = Search::new();
+    let mut read = StepRead::none();
     // Room for the acts. It grows for those that go on.
     let mut table = RowTable::new(alloc, entries.len(), entries.len())?;
     for place in 0..entries.len() {
-        let read = reader.next(entries, place);
+        reader.next(entries, place, &mut read);
         search.look(&first, entries, place, &read, &reader.watch);
         table.push(&read.rows, &goers(&read.deed.goes))?;
     }

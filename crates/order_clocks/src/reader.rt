@@ -27,6 +27,18 @@ pub(crate) struct StepRead {
     pub(crate) rows: StepRows,
 }
 
+impl StepRead {
+    /// Nothing: a place for what is read.
+    pub(crate) fn none() -> StepRead
+        ensures { (c : ℕ) → goes_in result.deed c ≡ false }
+    {
+        StepRead {
+            deed: Deed::none(),
+            rows: StepRows::none(),
+        }
+    }
+}
+
 /// What is known of a run up to some step.
 #[derive(Clone, Copy)]
 pub(crate) struct Reader {
@@ -57,18 +69,24 @@ pub(crate) fn goes_of(entry: &Entry) -> &[Go]
     entry.goes.as_slice()
 }
 
-/// Reads the next entry.
-pub(crate) fn tell_entry(watch: &mut Watch, entry: &Entry, alarms: bool) -> Deed
+/// Reads the next entry, and puts what happens in the place of an earlier one.
+pub(crate) fn tell_entry(watch: &mut Watch, entry: &Entry, alarms: bool, deed: &mut Deed)
     requires sound { WatchIsSound watch.old }
     ensures sound { WatchIsSound watch.new }
-    ensures reads { (b : Board) → Keeps watch.old b → IsLawful b entry.now.channel entry.now.step entry.now.goes alarms → IsRead result (happening_of b entry.now.channel entry.now.step) }
+    ensures reads { (b : Board) → Keeps watch.old b → IsLawful b entry.now.channel entry.now.step entry.now.goes alarms → IsRead deed.new (happening_of b entry.now.channel entry.now.step) }
     ensures keeps { (b : Board) → Keeps watch.old b → IsLawful b entry.now.channel entry.now.step entry.now.goes alarms → Keeps watch.new (after_step b entry.now.channel entry.now.step) }
-    ensures departures { (c : ℕ) → DepartsFromMark (departure_of result c) }
-    ensures begins { BeginIsSound result.begins }
-    ensures none { goes_in result 0 ≡ false }
-    ensures size { length result.goes ≡ CHANNEL_PLACES }
+    ensures departures { (c : ℕ) → DepartsFromMark (departure_of deed.new c) }
+    ensures begins { BeginIsSound deed.new.begins }
+    ensures none { goes_in deed.new 0 ≡ false }
+    ensures size { length deed.new.goes ≡ CHANNEL_PLACES }
 {
-    watch.tell(channel_of(entry), step_of(entry), goes_of(entry), alarms)
+    watch.tell(
+        channel_of(entry),
+        step_of(entry),
+        goes_of(entry),
+        alarms,
+        deed,
+    );
 }
 
 impl Reader {
@@ -83,21 +101,20 @@ impl Reader {
         }
     }
 
-    /// Reads the next step.
-    pub(crate) fn next(&mut self, entries: &[Entry], place: usize) -> StepRead
+    /// Reads the next step, and puts it in the place of an earlier one.
+    pub(crate) fn next(&mut self, entries: &[Entry], place: usize, read: &mut StepRead)
         requires place { place < length entries.now }
         requires few { length entries.now < 2 ^ 32 }
         requires reader { (b : Board) × IsReaderAt b entries.now place self.old }
         ensures next { (b : Board) → IsReaderAt b entries.now place self.old → IsReaderAt b entries.now (suc place) self.new }
-        ensures read { (b : Board) → IsReaderAt b entries.now place self.old → IsReadAt b (moves_in entries.now) place result self.new.watch }
-        ensures departures { (c : ℕ) → DepartsFromMark (departure_of result.deed c) }
-        ensures begins { BeginsAtMark result.deed.begins }
+        ensures read { (b : Board) → IsReaderAt b entries.now place self.old → IsReadAt b (moves_in entries.now) place read.new self.new.watch }
+        ensures departures { (c : ℕ) → DepartsFromMark (departure_of read.new.deed c) }
+        ensures begins { BeginsAtMark read.new.deed.begins }
     {
         let _zero = Row::zero();
         let entry = &entries[place];
         let alarms = self.stops.is_at(entry, place);
-        let deed = tell_entry(&mut self.watch, entry, alarms);
-        let rows = self.times.step(&deed);
-        StepRead { deed, rows }
+        tell_entry(&mut self.watch, entry, alarms, &mut read.deed);
+        self.times.step(&read.deed, &mut read.rows);
     }
 }

@@ -59,8 +59,9 @@ pub(crate) fn least_before(
     let mut reader = *first;
     let mut least = start;
     let mut earlies = [None; EVENT_PLACES];
+    let mut read = StepRead::none();
     for j in 0..place {
-        let read = reader.next(entries, j);
+        reader.next(entries, j, &mut read);
         put_events(&read.deed, &read.rows, &mut earlies);
         least = least_between(&Meeting::Later, &earlies, lates, least);
     }
@@ -129,6 +130,10 @@ impl Search {
         match self.race {
             Some(_) => {}
             None => {
+                // A step that leaves no trace and minds none is in no race.
+                if read.deed.is_traceless() {
+                    return;
+                }
                 self.race = least_at(
                     &self.places,
                     first,

@@ -48,7 +48,8 @@ impl StepReader {
     {
         let entry = &entries[place];
         let alarms = self.stops.is_at(entry, place);
-        let deed = tell_entry(&mut self.watch, entry, alarms);
+        let mut deed = Deed::none();
+        tell_entry(&mut self.watch, entry, alarms, &mut deed);
         ReadStep { deed, alarms }
     }
 }

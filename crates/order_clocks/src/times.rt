@@ -1,7 +1,7 @@
 //! The counters of the last events.
 ghost use Rattle.axis_sets.specs.Sets.{has};
 ghost use Rattle.axis_sets.specs.declared.limits.TheConstants.{CHANNEL_PLACES};
-ghost use Rattle.std.specs.Prelude.{◌≡◌, ℕ, suc, ◌+◌, ◌<◌, ◌^◌, ◌==◌, IsTrue, false, max, length, [], None, true, slice_index_or, if◌then◌else◌};
+ghost use Rattle.std.specs.Prelude.{◌≡◌, ℕ, suc, ◌+◌, ◌<◌, ◌^◌, ◌==◌, max, length, [], None, true, slice_index_or, if◌then◌else◌};
 ghost use Rattle.order_clocks.specs.Happenings.{Key};
 ghost use Rattle.order_clocks.specs.Courses.{Course};
 ghost use Rattle.order_clocks.specs.Counters.{LastRows, rows_after_goings, go_row, last_rows};
@@ -11,10 +11,10 @@ ghost use Rattle.step_deeds.specs.Holds.{DepartsFromMark, departure_of, goes_in}
 
 use axis_sets::{AXIS_LIMIT, CHANNEL_PLACES, MARK_LIMIT};
 use counter_rows::{
-    Row, StepRows, at_channel, axis_flags, channel_flags, joint_rows, mark_flags, most_chosen,
-    most_column, put_at, put_chosen, put_column, put_rows,
+    Row, StepRows, at_channel, axis_flags, channel_flags, joint_rows, most_chosen, most_column,
+    put_at, put_axes, put_channels, put_marks, put_rows,
 };
-use step_deeds::{Deed, Departure, Hold, goers};
+use step_deeds::{Deed, Departure, Hold, goers, is_nobody};
 
 /// The counters of the last event of each channel, and of the last Act that gave each key.
 #[derive(Clone, Copy)]
@@ -29,18 +29,6 @@ pub struct Times {
     pub started: [Row; CHANNEL_PLACES],
     /// By channel: of the program end.
     pub ended: [Row; CHANNEL_PLACES],
-}
-
-/// Whether no channel is chosen.
-fn is_nobody(chosen: &[bool; CHANNEL_PLACES]) -> bool
-    ensures { IsTrue result → (c : ℕ) → has chosen.now c ≡ false }
-{
-    for c in 0..CHANNEL_PLACES {
-        if chosen[c] {
-            return false;
-        }
-    }
-    true
 }
 
 impl Times {
@@ -69,9 +57,9 @@ impl Times {
         let c = usize::from(deed.channel.number);
         let row = self.past[c].counted(c);
         put_at(&mut self.past, c, row);
-        put_column(&mut self.raised, &mark_flags(&deed.raises), c, row);
-        put_chosen(&mut self.freed, &axis_flags(&deed.frees), row);
-        put_chosen(&mut self.started, &channel_flags(&deed.starts), row);
+        put_marks(&mut self.raised, &deed.raises, c, row);
+        put_axes(&mut self.freed, &deed.frees, row);
+        put_channels(&mut self.started, &deed.starts, row);
         if deed.ends {
             put_at(&mut self.ended, c, row);
         }
@@ -119,46 +107,47 @@ impl Times {
         own
     }
 
-    /// Counts the Gos, and gives their rows.
-    pub(crate) fn close(&mut self, deed: &Deed) -> [Row; CHANNEL_PLACES]
+    /// Counts the Gos, and puts down their rows; that of a channel that does not go on stays as it was.
+    pub(crate) fn close(&mut self, deed: &Deed, rows: &mut [Row; CHANNEL_PLACES])
         requires room { HasRoom self.old 1 }
         requires numbers { (c : ℕ) → DepartsFromMark (departure_of deed.now c) }
         ensures shows { (run : Course) (i : ℕ) (s : LastRows) → IsStep run i deed.now → Shows self.old s → Shows self.new (rows_after_goings run i s) }
-        ensures rows { (run : Course) (i : ℕ) (s : LastRows) → IsStep run i deed.now → Shows self.old s → (c x : ℕ) → goes_in deed.now c ≡ true → count_of (slice_index_or result c []) x ≡ go_row run i s (run.group i c) x }
+        ensures rows { (run : Course) (i : ℕ) (s : LastRows) → IsStep run i deed.now → Shows self.old s → (c x : ℕ) → goes_in deed.now c ≡ true → count_of (slice_index_or rows.new c []) x ≡ go_row run i s (run.group i c) x }
     {
-        let goes = goers(&deed.goes);
-        if is_nobody(&goes) {
-            [Row::zero(); CHANNEL_PLACES]
-        } else {
-            self.close_goes(deed, &goes)
+        if is_nobody(&deed.goes) {
+            return;
         }
+        self.close_goes(deed, &goers(&deed.goes), rows);
     }
 
     /// The same where some channel goes on.
     #[inline(never)]
-    fn close_goes(&mut self, deed: &Deed, goes: &[bool; CHANNEL_PLACES]) -> [Row; CHANNEL_PLACES]
+    fn close_goes(
+        &mut self,
+        deed: &Deed,
+        goes: &[bool; CHANNEL_PLACES],
+        rows: &mut [Row; CHANNEL_PLACES],
+    )
         requires room { HasRoom self.old 1 }
         requires numbers { (c : ℕ) → DepartsFromMark (departure_of deed.now c) }
         requires goers { (c : ℕ) → has goes.now c ≡ goes_in deed.now c }
         requires size { length goes.now ≡ CHANNEL_PLACES }
         ensures shows { (run : Course) (i : ℕ) (s : LastRows) → IsStep run i deed.now → Shows self.old s → Shows self.new (rows_after_goings run i s) }
-        ensures rows { (run : Course) (i : ℕ) (s : LastRows) → IsStep run i deed.now → Shows self.old s → (c x : ℕ) → goes_in deed.now c ≡ true → count_of (slice_index_or result c []) x ≡ go_row run i s (run.group i c) x }
+        ensures rows { (run : Course) (i : ℕ) (s : LastRows) → IsStep run i deed.now → Shows self.old s → (c x : ℕ) → goes_in deed.now c ≡ true → count_of (slice_index_or rows.new c []) x ≡ go_row run i s (run.group i c) x }
     {
         let own = self.own_rows(&deed.goes);
-        let rows = joint_rows(&own, goes, &deed.group);
-        put_rows(&mut self.past, goes, &rows);
-        rows
+        *rows = joint_rows(&own, goes, &deed.group);
+        put_rows(&mut self.past, goes, rows);
     }
 
-    /// Counts the events of the next step, and gives their rows.
-    pub fn step(&mut self, deed: &Deed) -> StepRows
+    /// Counts the events of the next step, and puts down their rows.
+    pub fn step(&mut self, deed: &Deed, rows: &mut StepRows)
         requires room { HasRoom self.old 2 }
         requires numbers { (c : ℕ) → DepartsFromMark (departure_of deed.now c) }
         ensures shows { (run : Course) (i : ℕ) → IsStep run i deed.now → Shows self.old (last_rows run i) → Shows self.new (last_rows run (suc i)) }
-        ensures rows { (run : Course) (i : ℕ) → IsStep run i deed.now → Shows self.old (last_rows run i) → AreRows run i result }
+        ensures rows { (run : Course) (i : ℕ) → IsStep run i deed.now → Shows self.old (last_rows run i) → AreRows run i rows.new }
     {
-        let act = self.open(deed);
-        let goes = self.close(deed);
-        StepRows { act, goes }
+        rows.act = self.open(deed);
+        self.close(deed, &mut rows.goes);
     }
 }

@@ -1,20 +1,22 @@
 //! Reads the steps of a run from its entries.
 ghost use Rattle.axis_sets.specs.declared.limits.TheConstants.{CHANNEL_PLACES};
 ghost use Rattle.std.specs.List.{list_any};
-ghost use Rattle.std.specs.Prelude.{◌≡◌, [], List, Option, Some, ℕ, ◌<◌, ◌≤◌, ◌==◌, ◌&&◌, ◌||◌, not, Bool, false, true, find, is_some, None, if◌then◌else◌, slice_index_or, length, map, option_copied, option_map};
+ghost use Rattle.std.specs.Prelude.{◌≡◌, [], List, Option, Some, ℕ, ◌<◌, ◌≤◌, ◌==◌, ◌&&◌, ◌||◌, not, Bool, false, true, find, is_some, None, if◌then◌else◌, slice_index, slice_index_or, length, map, option_copied, option_map};
 ghost use Rattle.axis_sets.specs.Positions.{position_of};
 ghost use Rattle.axis_sets.specs.Sets.{has};
 ghost use Rattle.order_clocks.specs.Happenings.{happening_of};
 ghost use Rattle.order_clocks.specs.Watching.{BeginIsSound, Keeps, IsRead, IsLawful, IsGone, WatchIsSound, begun_at, go_in};
 ghost use Rattle.sync_types.specs.Boards.{Board};
 ghost use Rattle.sync_types.specs.Turns.{after_step};
-ghost use Rattle.step_deeds.specs.Holds.{DepartsFromMark, HoldAtLineOfMark, departure_of, goes_in, is_at_axes, lowers_at};
+ghost use Rattle.order_clocks.specs.Partners.{AreAllLinked, PairsAllPartners};
+ghost use Rattle.step_deeds.specs.Holds.{DepartsFromMark, HoldAtLineOfMark, are_partners, departure_of, goes_in, is_at_axes, is_given, lowers_at};
+ghost use Rattle.sync_types.specs.Events.{Pair};
 
 use crate::acts::{Act, changes_of, touches_of};
 use crate::groups::groups_of;
 use axis_sets::{AxisId, AxisSet, CHANNEL_PLACES, ChannelId, ChannelSet, MarkSet, Positions};
 use std::marker::Model;
-use step_deeds::{Deed, Departure, HoldAtLine, marks_left, took_of};
+use step_deeds::{Deed, Departure, HoldAtLine, clear_goes, marks_left, took_of};
 use sync_types::{Go, Step};
 
 /// The marks that stand and for what channels wait, by their numbers.
@@ -93,57 +95,60 @@ impl Watch {
         }
     }
 
-    /// All that go on.
-    pub(crate) fn depart(&mut self, goes: &[Go]) -> [Option<Departure>; CHANNEL_PLACES]
-        ensures goes { (c : ℕ) → IsGone (slice_index_or result c None) (slice_index_or self.old.holds c None) (go_in goes.now c) }
+    /// All that go on, and the numbers of their groups. What stood in their places is gone; where nobody goes
+    /// on, the numbers stay as they were.
+    pub(crate) fn depart(
+        &mut self,
+        goes: &[Go],
+        gone: &mut [Option<Departure>; CHANNEL_PLACES],
+        group: &mut [u8; CHANNEL_PLACES],
+    )
+        ensures goes { (c : ℕ) → IsGone (slice_index_or gone.new c None) (slice_index_or self.old.holds c None) (go_in goes.now c) }
         ensures holds { (c : ℕ) → slice_index_or self.new.holds c None ≡ (if is_some (go_in goes.now c) then None else slice_index_or self.old.holds c None) }
         ensures marks { (c m : ℕ) → has (slice_index_or self.new.marks c []) m
             ≡ (has (slice_index_or self.old.marks c []) m && not (is_some (go_in goes.now c) && lowers_at (slice_index_or self.old.holds c None) m)) }
-        ensures none { slice_index_or result 0 None ≡ None }
-        ensures size { length result ≡ CHANNEL_PLACES }
+        ensures none { slice_index_or gone.new 0 None ≡ None }
+        ensures joined { (k : ℕ) → is_given (slice_index_or gone.new k None) ≡ true → (a b : ℕ) → 1 ≤ a → a < CHANNEL_PLACES → 1 ≤ b → b < CHANNEL_PLACES → are_partners gone.new a b ≡ true → slice_index group.new a ≡ slice_index group.new b }
+        ensures linked { (k : ℕ) → is_given (slice_index_or gone.new k None) ≡ true → (ps : List Pair) → PairsAllPartners ps gone.new → AreAllLinked ps group.new }
+        ensures size { length gone.new ≡ CHANNEL_PLACES }
     {
+        clear_goes(gone);
         if goes.is_empty() {
-            return [None; CHANNEL_PLACES];
+            return;
         }
         let goers = goers_in(goes);
-        let mut gone = [None; CHANNEL_PLACES];
         for number in 1..CHANNEL_PLACES as u8 {
             gone[usize::from(number)] = self.let_go_of(goes, &goers, number);
         }
-        gone
+        *group = groups_of(gone);
     }
 }
 
 impl Watch {
-    /// Reads a step, and goes on to the next: who acts, with what, and who goes on.
+    /// Reads a step, and goes on to the next: who acts, with what, and who goes on. It is put in the place of
+    /// an earlier one.
     pub(crate) fn tell(
         &mut self,
         channel: ChannelId,
         step: &Step,
         goes: &[Go],
         alarms: bool,
-    ) -> Deed
+        deed: &mut Deed,
+    )
         requires sound { WatchIsSound self.old }
         ensures sound { WatchIsSound self.new }
-        ensures reads { (b : Board) → Keeps self.old b → IsLawful b channel step.now goes.now alarms → IsRead result (happening_of b channel step.now) }
+        ensures reads { (b : Board) → Keeps self.old b → IsLawful b channel step.now goes.now alarms → IsRead deed.new (happening_of b channel step.now) }
         ensures keeps { (b : Board) → Keeps self.old b → IsLawful b channel step.now goes.now alarms → Keeps self.new (after_step b channel step.now) }
-        ensures departures { (c : ℕ) → DepartsFromMark (departure_of result c) }
-        ensures begins { BeginIsSound result.begins }
-        ensures none { goes_in result 0 ≡ false }
-        ensures size { length result.goes ≡ CHANNEL_PLACES }
+        ensures departures { (c : ℕ) → DepartsFromMark (departure_of deed.new c) }
+        ensures begins { BeginIsSound deed.new.begins }
+        ensures none { goes_in deed.new 0 ≡ false }
+        ensures size { length deed.new.goes ≡ CHANNEL_PLACES }
     {
         let act = changes_of(channel, &step.action, self.own(channel), alarms);
         self.open(channel, step.line, &act);
-        let departures = self.depart(goes);
-        let group = groups_of(&departures);
-        deed_of(
-            channel,
-            step.line,
-            &act,
-            touches_of(&step.action),
-            departures,
-            group,
-        )
+        self.depart(goes, &mut deed.goes, &mut deed.group);
+        let touches = touches_of(&step.action);
+        put_act(channel, step.line, &act, touches, deed);
     }
 
     /// The own marks of a channel.
@@ -154,30 +159,25 @@ impl Watch {
     }
 }
 
-/// A step, made of its parts.
-pub(crate) fn deed_of(
+/// Puts down who acts, at which line, and what the act changes.
+pub(crate) fn put_act(
     channel: ChannelId,
     line: u32,
     act: &Act,
     touches: ChannelSet,
-    goes: [Option<Departure>; CHANNEL_PLACES],
-    group: [u8; CHANNEL_PLACES],
-) -> Deed
-    ensures { result ≡ (record { channel = channel; line = line; raises = act.now.raises; lowers = act.now.lowers; frees = act.now.frees; starts = act.now.starts; ends = act.now.ends; touches = touches; begins = act.now.begins; goes = goes; group = group }) }
+    deed: &mut Deed,
+)
+    ensures { deed.new ≡ (record { channel = channel; line = line; raises = act.now.raises; lowers = act.now.lowers; frees = act.now.frees; starts = act.now.starts; ends = act.now.ends; touches = touches; begins = act.now.begins; goes = deed.old.goes; group = deed.old.group }) }
 {
-    Deed {
-        channel,
-        line,
-        raises: act.raises,
-        lowers: act.lowers,
-        frees: act.frees,
-        starts: act.starts,
-        ends: act.ends,
-        touches,
-        begins: act.begins,
-        goes,
-        group,
-    }
+    deed.channel = channel;
+    deed.line = line;
+    deed.raises = act.raises;
+    deed.lowers = act.lowers;
+    deed.frees = act.frees;
+    deed.starts = act.starts;
+    deed.ends = act.ends;
+    deed.touches = touches;
+    deed.begins = act.begins;
 }
 
 /// For each channel whether it is among those that go on.

@@ -1,5 +1,5 @@
 -- Steps. Waits and goings on as the code has them.
-use Rattle.std.specs.Prelude.{ℕ, ◌<◌, ◌==◌, ◌&&◌, Bool, true, false, List, Option, Some, None, slice_index_or}
+use Rattle.std.specs.Prelude.{◌≡◌, ℕ, ◌<◌, ◌==◌, ◌&&◌, Bool, true, false, List, Option, Some, None, slice_index_or}
 use Rattle.axis_sets.specs.Sets.{has}
 use Rattle.axis_sets.specs.declared.limits.TheConstants.{MARK_LIMIT}
 use Rattle.step_deeds.specs.declared.deed.Deed.{Deed}
@@ -19,6 +19,13 @@ departure_of deed c = slice_index_or deed.goes c None
 
 abbrev pub goes_in : Deed → ℕ → Bool
 goes_in deed c = is_given (departure_of deed c)
+
+-- nothing of the step may be in a race: no wait begins, no mark is lowered, no channel is named, nobody goes on
+pub record IsTraceless (deed : Deed) : Type 0 where
+  pub begins : deed.begins ≡ None
+  pub lowers : (m : ℕ) → has deed.lowers m ≡ false
+  pub touches : (c : ℕ) → has deed.touches c ≡ false
+  pub goes : (c : ℕ) → goes_in deed c ≡ false
 
 -- the number of a hold at marks is a mark's
 abbrev pub HoldOfMark : Hold → Type 0

@@ -1,7 +1,9 @@
 //! What a step does.
 ghost use Rattle.axis_sets.specs.declared.limits.TheConstants.{CHANNEL_PLACES};
-ghost use Rattle.std.specs.Prelude.{◌≡◌, ◌<◌};
+ghost use Rattle.std.specs.Prelude.{◌≡◌, ℕ, ◌<◌, ◌↔◌, IsTrue, false};
+ghost use Rattle.step_deeds.specs.Holds.{IsTraceless, goes_in};
 
+use crate::holds::is_nobody;
 use axis_sets::{AxisSet, CHANNEL_PLACES, ChannelId, ChannelSet, MarkSet};
 
 /// At what a channel holds.
@@ -61,6 +63,36 @@ pub struct Deed {
 }
 
 impl Deed {
+    /// Nothing: a place for what happens.
+    pub fn none() -> Deed
+        ensures { (c : ℕ) → goes_in result c ≡ false }
+    {
+        Deed {
+            channel: ChannelId::default(),
+            line: 0,
+            raises: MarkSet::empty(),
+            lowers: MarkSet::empty(),
+            frees: AxisSet::empty(),
+            starts: ChannelSet::empty(),
+            ends: false,
+            touches: ChannelSet::empty(),
+            begins: None,
+            goes: [None; CHANNEL_PLACES],
+            group: [0; CHANNEL_PLACES],
+        }
+    }
+
+    /// Whether the step is in no race for sure: no wait begins, no mark is lowered, no INIT or START names a
+    /// channel, and nobody goes on.
+    pub fn is_traceless(&self) -> bool
+        ensures { IsTrue result ↔ IsTraceless self.now }
+    {
+        self.begins.is_none()
+            && self.lowers.is_empty()
+            && self.touches.is_empty()
+            && is_nobody(&self.goes)
+    }
+
     /// The number of the channel that acts.
     pub fn actor(&self) -> usize
         ensures channel { result ≡ self.now.channel }

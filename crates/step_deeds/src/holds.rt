@@ -2,7 +2,7 @@
 ghost use Rattle.axis_sets.specs.Positions.{position_of};
 ghost use Rattle.axis_sets.specs.Sets.{has};
 ghost use Rattle.axis_sets.specs.declared.limits.TheConstants.{CHANNEL_PLACES};
-ghost use Rattle.std.specs.Prelude.{◌≡◌, ℕ, ◌&&◌, ◌≤◌, ◌<◌, not, is_some, length, None, slice_index_or};
+ghost use Rattle.std.specs.Prelude.{◌≡◌, ℕ, ◌&&◌, ◌≤◌, ◌<◌, ◌↔◌, IsTrue, false, not, is_some, length, None, slice_index_or};
 ghost use Rattle.step_deeds.specs.Holds.{HoldAtLineOfMark, are_partners, asks_begun, asks_of_hold, is_at_axes, is_given, line_of_held, lowers_at, marks_begun, marks_in, marks_of_hold, named_marks};
 
 use crate::deed::{Departure, Hold, HoldAtLine};
@@ -159,6 +159,30 @@ pub fn marks_left(marks: MarkSet, held: &Option<HoldAtLine>) -> MarkSet
             Hold::Ends(_) => marks,
             Hold::Axes(_) => marks,
         },
+    }
+}
+
+/// Whether nobody goes.
+pub fn is_nobody(gone: &[Option<Departure>; CHANNEL_PLACES]) -> bool
+    ensures { IsTrue result ↔ ((c : ℕ) → is_given (slice_index_or gone.now c None) ≡ false) }
+{
+    for c in 0..CHANNEL_PLACES {
+        if gone[c].is_some() {
+            return false;
+        }
+    }
+    true
+}
+
+/// Lets nobody go. A place where nobody does is not written.
+pub fn clear_goes(gone: &mut [Option<Departure>; CHANNEL_PLACES])
+    ensures none { (c : ℕ) → slice_index_or gone.new c None ≡ None }
+    ensures size { length gone.new ≡ CHANNEL_PLACES }
+{
+    for c in 0..CHANNEL_PLACES {
+        if gone[c].is_some() {
+            gone[c] = None;
+        }
     }
 }
 

@@ -8,7 +8,8 @@ mod named;
 
 pub use deed::{Deed, Departure, Hold, HoldAtLine};
 pub use holds::{
-    are_partners_at, axes_begun, axes_of_hold, axes_with_position, goers, line_of, marks_begun,
-    marks_left, marks_lowered, marks_needed, marks_of, marks_of_hold, took_of,
+    are_partners_at, axes_begun, axes_of_hold, axes_with_position, clear_goes, goers, is_nobody,
+    line_of, marks_begun, marks_left, marks_lowered, marks_needed, marks_of, marks_of_hold,
+    took_of,
 };
 pub use named::{NamedMarks, differ, meets_wait, share_axes, share_channels};

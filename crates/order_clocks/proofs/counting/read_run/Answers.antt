@@ -25,11 +25,11 @@ loop-place-preserved c =
     record {
       size = omega arith;
       first = i.first;
-      reader = λ b whole. rw add-one (c.next-read.ensures.next b (i.reader b whole));
-      searched = λ b whole. rw add-one (c.look.ensures b (i.first b whole) (c.next-read.ensures.read b (i.reader b whole)) (i.searched b whole));
+      reader = λ b whole. rw add-one (c.next.ensures.next b (i.reader b whole));
+      searched = λ b whole. rw add-one (c.look.ensures b (i.first b whole) (c.next.ensures.read b (i.reader b whole)) (i.searched b whole));
       tells = λ b whole.
-          let read = c.next-read.ensures.read b (i.reader b whole) in
-          tells_more (course_of b (moves_in c.args.entries.now)) c.loop-place.table c.push.new.self c.next-read.result.rows c.goers.result (i.tells b whole)
+          let read = c.next.ensures.read b (i.reader b whole) in
+          tells_more (course_of b (moves_in c.args.entries.now)) c.loop-place.table c.push.new.self c.next.new.read.rows c.goers.result (i.tells b whole)
           (rw i.size read.known.are) more (c.in_ok-push.ensures.kept refl) (c.in_ok-push.ensures.act refl) (c.in_ok-push.ensures.goes refl)
           (rw i.size (λ d. read.known.is.goers d ∙ sym (c.goers.ensures.members d)));
     }

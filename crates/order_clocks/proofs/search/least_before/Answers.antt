@@ -14,10 +14,10 @@ loop-j-init c = record {
 
 pub loop-j-preserved : goal.loop-j-preserved
 loop-j-preserved c = record {
-  reader = λ b reader. rw add-one (c.next-read.ensures.next b (c.loop-j.invariant.reader b reader));
+  reader = λ b reader. rw add-one (c.next.ensures.next b (c.loop-j.invariant.reader b reader));
   least = λ b late rows reader known are. rw add-one (
-      let read = c.next-read.ensures.read b (c.loop-j.invariant.reader b reader) in
-      earlier_more (course_of b (moves_in c.args.entries.now)) (tracks_of b (moves_in c.args.entries.now)) c.loop-j.j c.args.place c.next-read.result.deed late c.next-read.result.rows rows c.put_events.new.events c.args.lates.now
+      let read = c.next.ensures.read b (c.loop-j.invariant.reader b reader) in
+      earlier_more (course_of b (moves_in c.args.entries.now)) (tracks_of b (moves_in c.args.entries.now)) c.loop-j.j c.args.place c.next.new.read.deed late c.next.new.read.rows rows c.put_events.new.events c.args.lates.now
       c.args.start c.loop-j.least c.least_between-least.result read.known known c.put_events.ensures are c.loop-j-test.true (c.loop-j.invariant.least b late rows reader known are) c.least_between-least.ensures);
 }
 

@@ -6,8 +6,8 @@ use Rattle.order_clocks.proofs.CountingLaws.{shows_room}
 use Rattle.order_clocks.proofs.ReadingLaws.{entry_read, next_reader, read_at}
 use Rattle.order_clocks.proofs.reader.Reader.next.Goals as goal
 
-pub step-rows-requires-clause-room : goal.step-rows-requires-clause-room
-step-rows-requires-clause-room c =
+pub step-requires-clause-room : goal.step-requires-clause-room
+step-requires-clause-room c =
     let within = c.requires.place in
     let few = c.requires.few in
     shows_room (course_of c.requires.reader.0 (moves_in c.args.entries.now)) c.args.place c.args.self.now.times (omega arith) c.requires.reader.1.shows
@@ -16,19 +16,19 @@ pub returns-clause-next : goal.returns-clause-next
 returns-clause-next c = λ b reader.
     let one = c.index-entries-place.result in
     let entry = entry_read b c.args.entries.now c.args.place one c.args.self.now c.is_at-alarms.result c.requires.place c.index-entries-place.is reader c.is_at-alarms.ensures in
-    next_reader b c.args.entries.now c.args.place one c.is_at-alarms.result c.tell_entry-deed.result c.args.self.now c.tell_entry-deed.new.watch c.step-rows.new.self entry reader
-    (c.tell_entry-deed.ensures.reads (board_at b (moves_in c.args.entries.now) c.args.place) reader.keeps entry.lawful)
-    c.tell_entry-deed.ensures.sound
-    (c.tell_entry-deed.ensures.keeps (board_at b (moves_in c.args.entries.now) c.args.place) reader.keeps entry.lawful)
-    (λ step. c.step-rows.ensures.shows (course_of b (moves_in c.args.entries.now)) c.args.place step reader.shows)
+    next_reader b c.args.entries.now c.args.place one c.is_at-alarms.result c.tell_entry.new.deed c.args.self.now c.tell_entry.new.watch c.step.new.self entry reader
+    (c.tell_entry.ensures.reads (board_at b (moves_in c.args.entries.now) c.args.place) reader.keeps entry.lawful)
+    c.tell_entry.ensures.sound
+    (c.tell_entry.ensures.keeps (board_at b (moves_in c.args.entries.now) c.args.place) reader.keeps entry.lawful)
+    (λ step. c.step.ensures.shows (course_of b (moves_in c.args.entries.now)) c.args.place step reader.shows)
 
 pub returns-clause-read : goal.returns-clause-read
 returns-clause-read c = λ b reader.
     let one = c.index-entries-place.result in
     let entry = entry_read b c.args.entries.now c.args.place one c.args.self.now c.is_at-alarms.result c.requires.place c.index-entries-place.is reader c.is_at-alarms.ensures in
-    read_at b c.args.entries.now c.args.place one c.is_at-alarms.result c.tell_entry-deed.result c.step-rows.result c.tell_entry-deed.new.watch entry
-    (c.tell_entry-deed.ensures.reads (board_at b (moves_in c.args.entries.now) c.args.place) reader.keeps entry.lawful)
-    c.tell_entry-deed.ensures.sound
-    (c.tell_entry-deed.ensures.keeps (board_at b (moves_in c.args.entries.now) c.args.place) reader.keeps entry.lawful)
-    c.tell_entry-deed.ensures.none c.tell_entry-deed.ensures.size
-    (λ step. c.step-rows.ensures.rows (course_of b (moves_in c.args.entries.now)) c.args.place step reader.shows)
+    read_at b c.args.entries.now c.args.place one c.is_at-alarms.result c.tell_entry.new.deed c.step.new.rows c.tell_entry.new.watch entry
+    (c.tell_entry.ensures.reads (board_at b (moves_in c.args.entries.now) c.args.place) reader.keeps entry.lawful)
+    c.tell_entry.ensures.sound
+    (c.tell_entry.ensures.keeps (board_at b (moves_in c.args.entries.now) c.args.place) reader.keeps entry.lawful)
+    c.tell_entry.ensures.none c.tell_entry.ensures.size
+    (λ step. c.step.ensures.rows (course_of b (moves_in c.args.entries.now)) c.args.place step reader.shows)

@@ -60,3 +60,9 @@ returns-clause-marks c = λ k m.
     let last : c.loop-number.number ≡ 9 = search rules in
     let goers = c.goers_in-goers.ensures in
     c.loop-number.invariant.marks k m ∙ rw (last, all_found c.args.goes.now c.goers_in-goers.result k goers.members goers.from goers.size) refl
+
+pub returns-clause-joined : goal.returns-clause-joined
+returns-clause-joined c = λ k on. c.groups_of.ensures.joined
+
+pub returns-clause-linked : goal.returns-clause-linked
+returns-clause-linked c = λ k on. c.groups_of.ensures.linked

@@ -18,14 +18,14 @@ returns-clause-reads c = λ b keeps lawful.
     changes_are b c.args.channel c.args.step.now (has c.own.result) c.changes_of-act.result c.args.alarms lawful.alarm own c.changes_of-act.ensures.none c.changes_of-act.ensures.act in
     let part = keeps_part c.args.self.now c.open.new.self b c.args.channel c.args.step.now c.changes_of-act.result keeps lawful.running change c.open.ensures.marks c.open.ensures.holds in
     let sound : (d : ℕ) → WaitIsSound (slice_index_or c.open.new.self.holds d None) = λ d. rw (c.open.ensures.holds d) (sound_begun (d == c.args.channel) c.changes_of-act.result.begins c.args.step.now.line (slice_index_or c.args.self.now.holds d None) (c.requires.sound.holds d) c.changes_of-act.ensures.sound) in
-    let read = λ (d : ℕ). going_read c.open.new.self b c.args.channel c.args.step.now c.args.goes.now d (slice_index_or c.depart-departures.result d None) lawful.running part (sound d) lawful.goings (c.depart-departures.ensures.goes d) in
-    let are : AreRead c.depart-departures.result (goings_in_step b c.args.channel c.args.step.now) (after_own_part b c.args.channel c.args.step.now) = record {
+    let read = λ (d : ℕ). going_read c.open.new.self b c.args.channel c.args.step.now c.args.goes.now d (slice_index_or c.depart.new.gone d None) lawful.running part (sound d) lawful.goings (c.depart.ensures.goes d) in
+    let are : AreRead c.depart.new.gone (goings_in_step b c.args.channel c.args.step.now) (after_own_part b c.args.channel c.args.step.now) = record {
       from = λ g within. (goes_from b c.args.channel c.args.step.now g lawful.running within).from;
       read = read;
-      size = c.depart-departures.ensures.size;
-      none = c.depart-departures.ensures.none;
+      size = c.depart.ensures.size;
+      none = c.depart.ensures.none;
     } in
-    rw c.deed_of.ensures (record {
+    rw c.put_act.ensures (record {
       channel = refl;
       line = refl;
       raises = change.raises;
@@ -33,13 +33,13 @@ returns-clause-reads c = λ b keeps lawful.
       frees = change.frees;
       starts = change.starts;
       ends = change.ends;
-      touches = c.touches_of.ensures;
+      touches = c.touches_of-touches.ensures;
       begins = change.begins;
       goings = read;
-      group = λ d e d_on e_on. groups_are c.depart-departures.result (goings_in_step b c.args.channel c.args.step.now) (after_own_part b c.args.channel c.args.step.now) c.groups_of-group.result are
-          c.groups_of-group.ensures.joined
-          (c.groups_of-group.ensures.linked (pairs_of (goings_in_step b c.args.channel c.args.step.now)) (pairs_all c.depart-departures.result (goings_in_step b c.args.channel c.args.step.now) (after_own_part b c.args.channel c.args.step.now) are))
-          d e (given_below c.depart-departures.result d c.depart-departures.ensures.size d_on) (given_below c.depart-departures.result e c.depart-departures.ensures.size e_on);
+      group = λ d e d_on e_on. groups_are c.depart.new.gone (goings_in_step b c.args.channel c.args.step.now) (after_own_part b c.args.channel c.args.step.now) c.depart.new.group are
+          (c.depart.ensures.joined d d_on)
+          (c.depart.ensures.linked d d_on (pairs_of (goings_in_step b c.args.channel c.args.step.now)) (pairs_all c.depart.new.gone (goings_in_step b c.args.channel c.args.step.now) (after_own_part b c.args.channel c.args.step.now) are))
+          d e (given_below c.depart.new.gone d c.depart.ensures.size d_on) (given_below c.depart.new.gone e c.depart.ensures.size e_on);
     })
 
 pub returns-clause-keeps : goal.returns-clause-keeps
@@ -48,4 +48,4 @@ returns-clause-keeps c = λ b keeps lawful.
     let change : IsChange c.changes_of-act.result (happening_of b c.args.channel c.args.step.now) =
     changes_are b c.args.channel c.args.step.now (has c.own.result) c.changes_of-act.result c.args.alarms lawful.alarm own c.changes_of-act.ensures.none c.changes_of-act.ensures.act in
     let part = keeps_part c.args.self.now c.open.new.self b c.args.channel c.args.step.now c.changes_of-act.result keeps lawful.running change c.open.ensures.marks c.open.ensures.holds in
-    keeps_goings c.open.new.self c.depart-departures.new.self b c.args.channel c.args.step.now c.args.goes.now lawful.running part lawful.goings c.depart-departures.ensures.holds c.depart-departures.ensures.marks
+    keeps_goings c.open.new.self c.depart.new.self b c.args.channel c.args.step.now c.args.goes.now lawful.running part lawful.goings c.depart.ensures.holds c.depart.ensures.marks

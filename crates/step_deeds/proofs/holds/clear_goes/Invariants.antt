@@ -1,0 +1,9 @@
+use Rattle.std.proofs.Common.{◌≡◌, ℕ, ◌<◌, None, length}
+use Rattle.std.specs.Prelude.{slice_index_or}
+use Rattle.step_deeds.proofs.holds.clear_goes.Given as goal
+
+abbrev pub invariant-loop-c : goal.invariant-loop-c
+invariant-loop-c l = record {
+  size : length l.gone ≡ 9;
+  done : (k : ℕ) → k < l.c → slice_index_or l.gone k None ≡ None;
+}
