@@ -7,7 +7,7 @@ use mathlib.Core.Path.{fun_ext}
 use mir.Val.{to_z, of_z, SFits}
 use Rattle.job_types.specs.declared.job.ZoneLine.{ZoneLine}
 use Rattle.protection_zones.specs.Sweeps.{standing_box, moving_box, box_until, ended_before, opened_after, sweep, opened_at_first}
-use Rattle.protection_zones.specs.ZoneBoxes.{zone_box, low_in, high_in, stand_after, Opened, Shut, Waiting, Moving, closed, closed_before, next_open, walk, boxes_of, seen, shown_box}
+use Rattle.protection_zones.specs.ZoneBoxes.{stand_after, Opened, Shut, Waiting, Moving, closed, closed_before, next_open, walk, boxes_of, seen, shown_box}
 use Rattle.protection_zones.specs.declared.sights.Sight.{Sight}
 use Rattle.protection_zones.specs.declared.sights.Sight.TheVariants.{Nothing, Turns, Moves}
 use Rattle.protection_zones.specs.declared.stretches.ZoneBox.{ZoneBox}
@@ -16,15 +16,6 @@ use Rattle.sync_types.specs.declared.Item.{Item}
 -- a signed number that is stored keeps its value
 pub stored : (z v : ℤ) → SFits w32 z → z ≡ v → to_z w32 (of_z w32 z) ≡ v
 stored z v fits e = to_z-of_z w32 z fits ∙ e
-
--- with no ranges every axis stands
-pub box_standing : (margin : ℤ) (zone : ZoneLine) (axes : List (ℕ × ℤ × ℤ)) (at : ℕ → ℤ) → axes ≡ []
-    → zone_box margin zone (low_in (record { axes = axes }) at) (high_in (record { axes = axes }) at) ≡ zone_box margin zone at at
-unfolding low_in high_in
-box_standing margin zone axes at e =
-    let low : low_in (record { axes = [] }) at ≡ at = fun_ext (λ axis. refl) in
-    let high : high_in (record { axes = [] }) at ≡ at = fun_ext (λ axis. refl) in
-    rw (e, low, high) refl
 
 -- what is open, as the code has it
 abbrev shown_open : ℤ → ZoneLine → Opened → Option ZoneBox
@@ -90,6 +81,15 @@ pub shown_boxes : (margin : ℤ) (zone : ZoneLine) (on : Bool) (line : ℕ) (at 
 unfolding boxes_of
 shown_boxes margin zone true line at items = shown_walk margin zone 0 (Waiting 0 line at) at items
 shown_boxes margin zone false line at items = shown_walk margin zone 0 Shut at items
+
+-- those of a span in which nothing is done
+pub box_at_rest : (margin : ℤ) (zone : ZoneLine) (line : ℕ) (at : ℕ → ℤ) → standing_box margin zone 0 line at ∷ [] ≡ map (shown_box margin zone) (boxes_of zone true line at [])
+unfolding boxes_of shown_box standing_box
+box_at_rest margin zone line at = refl
+
+pub no_box_at_rest : (margin : ℤ) (zone : ZoneLine) (line : ℕ) (at : ℕ → ℤ) → [] ≡ map (shown_box margin zone) (boxes_of zone false line at [])
+unfolding boxes_of
+no_box_at_rest margin zone line at = refl
 
 -- one item of the walk
 pub sweep_step : (margin : ℤ) (zone : ZoneLine) (place : ℕ) (opened : Option ZoneBox) (at moved : ℕ → ℤ) (items : List Item) (item : Item) → place < length items

@@ -1,5 +1,5 @@
 -- The sides of a zone, one for each direction of space, and their bounds within a piece of a motion.
-use Rattle.std.proofs.Common.{◌≡◌, ◌∙◌, ℕ, ℤ, ◌==◌, ◌+ℤ◌, ◌-ℤ◌, Bool, true, false, cond, List, [], ◌∷◌, length, get_or, Option, Some, find, refl, sym, arith}
+use Rattle.std.proofs.Common.{◌≡◌, ◌∙◌, ℕ, ℤ, ◌==◌, ◌+ℤ◌, ◌-ℤ◌, Bool, true, false, cond, List, [], ◌∷◌, length, get_or, Some, find, refl, sym, arith}
 use Rattle.job_types.specs.declared.job.Side.{Side}
 use Rattle.protection_zones.specs.Pieces.{by_direction, piece_high, piece_low}
 use Rattle.protection_zones.specs.ZoneBoxes.{carried_bound, carried_high, carried_low, side_high, side_low}

@@ -6,6 +6,8 @@ pub mod ZoneLaws
 pub mod NoteLaws
 pub mod SpanLaws
 pub mod TenureLaws
+pub mod ExchangeLaws
+pub mod LogLaws
 pub mod TimeLaws
 pub mod StretchLaws
 pub mod CoverLaws

@@ -1,9 +1,8 @@
 -- The events that the code notes are those of the run.
-use Rattle.std.proofs.Common.{◌≡◌, ℕ, zero, suc, ◌+◌, ◌<◌, ◌≤◌, ◌==◌, ◌&&◌, ◌||◌, Bool, true, false, inl, inr, List, [], ◌∷◌, ◌++◌, length, map, filter, All, drop, get_or, Option, Some, None, refl, sym, ap, ◌∙◌, arith, if◌then◌else◌}
+use Rattle.std.proofs.Common.{◌≡◌, ℕ, zero, suc, ◌+◌, ◌<◌, ◌≤◌, ◌==◌, ◌&&◌, ◌||◌, Bool, true, false, inl, inr, List, [], ◌∷◌, ◌++◌, length, map, filter, All, drop, Option, Some, None, refl, sym, ap, ◌∙◌, arith, if◌then◌else◌}
 use Rattle.std.specs.Prelude.{is_some, unwrap_or}
 use Rattle.std.specs.List.{range_with_len}
 use Rattle.std.proofs.lemmas.Bool.{cases_Bool, eqb-true, eqb-false, eq-eqb}
-use Rattle.std.proofs.lemmas.List.{get_or_default}
 use mathlib.Core.Path.{fun_ext}
 use Rattle.axis_sets.specs.Sets.{has}
 use Rattle.order_clocks.specs.Chains.{IsIn}
@@ -22,9 +21,8 @@ use Rattle.order_clocks.proofs.DepartLaws.{taker_waits, takers_alike}
 use Rattle.order_clocks.proofs.ReadLaws.{started_waits}
 use Rattle.order_clocks.proofs.TellLaws.{going_some, going_within}
 use Rattle.order_clocks.proofs.WholeLaws.{entry_at, board_zero, moves_size, read_step as step_read}
-use Rattle.protection_zones.specs.Notes.{IsNoted, entry_in, is_with, kind_of_act, lowest_of, no_entry, no_go, read_act, read_going, read_step, shown_note, told_in, took_in}
+use Rattle.protection_zones.specs.Notes.{entry_in, is_with, kind_of_act, lowest_of, no_entry, read_act, read_going, read_step, shown_note, took_in}
 use Rattle.protection_zones.specs.Occurrences.{act_of, going_on_of, kind_after_act, kind_in, lowest_of_event, occurrences_from, occurrences_in, occurrences_of}
-use Rattle.protection_zones.specs.declared.notes.Note.{Note}
 use Rattle.sync_types.proofs.BoardTests.{no_truth, among_kept}
 use Rattle.sync_types.specs.BoardActions.{after_own_part, after_part, after_effects, channels_started, state_of_actor, state_after_action, state_after_alarm}
 use Rattle.sync_types.specs.BoardAlarms.{alarm_of}
@@ -36,7 +34,6 @@ use Rattle.sync_types.specs.Views.{EntryView}
 use Rattle.sync_types.specs.declared.Action.{Action}
 use Rattle.sync_types.specs.declared.Action.TheVariants.{WaitM, WaitE, Get}
 use Rattle.sync_types.specs.declared.Step.{Step}
-use Rattle.sync_types.specs.declared.runs.EventId.{EventId}
 use Rattle.sync_types.specs.declared.runs.Go.{Go}
 use Rattle.sync_types.specs.declared.verdicts.StretchKind.{StretchKind}
 use Rattle.sync_types.specs.declared.verdicts.StretchKind.TheVariants.{Run, Hold as Holds, End}
@@ -75,41 +72,15 @@ lowest_none deed c none = ap (λ (o : Option ℕ). unwrap_or o c) (none_of_all (
 
 -- ---- notes as they are shown
 
-pub act_shown : (es : List EntryView) (i : ℕ) (read : ReadStep) (note : Note)
-    → note ≡ record { name = record { step = i; channel = read.deed.channel; go = false }; channel = read.deed.channel; kind = kind_of_act read; place = 0; axes = read.deed.frees }
-    → shown_note es note ≡ read_act i read (entry_in es i).step
+pub going_shown : (i : ℕ) (deed : Deed) (go : Go) (lowest : ℕ) (axes : List Bool) → lowest ≡ lowest_of deed go.channel → ((x : ℕ) → has axes x ≡ took_in (departure_of deed go.channel) x)
+    → shown_note (record { name = record { step = i; channel = lowest; go = true }; channel = go.channel; kind = Run; line = None; on = go.grant.on; axes = axes }) go.grant.at ≡ read_going i deed go
 unfolding shown_note
-act_shown es i read note is = rw is refl
-
--- the note tells that one goes on
-pub record IsGoingNote (i : ℕ) (deed : Deed) (place channel : ℕ) (note : Note) : Type 0 where
-  pub name : note.name ≡ record { step = i; channel = lowest_of deed channel; go = true }
-  pub channel_is : note.channel ≡ channel
-  pub kind : note.kind ≡ Run
-  pub place_is : note.place ≡ place
-  pub axes : (x : ℕ) → has note.axes x ≡ took_in (departure_of deed channel) x
-
-pub going_shown : (es : List EntryView) (i : ℕ) (deed : Deed) (place : ℕ) (go : Go) (note : Note) → IsGoingNote i deed place go.channel note
-    → place < length (entry_in es i).goes → go ≡ get_or (entry_in es i).goes place go → shown_note es note ≡ read_going i deed go
-unfolding shown_note
-going_shown es i deed place go note told within is =
-    let axes : has note.axes ≡ took_in (departure_of deed go.channel) = fun_ext told.axes in
-    let here : get_or (entry_in es i).goes place no_go ≡ go = get_or_default (entry_in es i).goes place no_go go within ∙ sym is in
-    rw (told.name, told.channel_is, told.kind, told.place_is, axes, here) refl
-
-pub all_one : {X : Type 0} (P : X → Type 0) (x : X) → P x → All P (x ∷ [])
-all_one P x holds zero d below = holds
-all_one P x holds (suc k) d below = absurd (omega arith)
+going_shown i deed go lowest axes lowest_is took =
+    let same : has axes ≡ took_in (departure_of deed go.channel) = fun_ext took in
+    rw (lowest_is, same) refl
 
 pub all_none : {X : Type 0} (P : X → Type 0) → All P []
 all_none P k d below = absurd (omega arith)
-
-pub noted_going : (es : List EntryView) (i : ℕ) (deed : Deed) (place : ℕ) (go : Go) (note : Note) → IsGoingNote i deed place go.channel note → i < length es
-    → place < length (entry_in es i).goes → IsNoted es note
-noted_going es i deed place go note told within inside = record { step = rw told.name within; place = λ goes. rw (told.name, told.place_is) inside }
-
-pub noted_act : (es : List EntryView) (i c : ℕ) (note : Note) → note.name ≡ record { step = i; channel = c; go = false } → i < length es → IsNoted es note
-noted_act es i c note is within = record { step = rw is within; place = λ goes. no_truth false (sym (ap (λ (e : EventId). e.go) is) ∙ goes) refl }
 
 -- ---- what the code reads of a step is what happens
 
@@ -308,24 +279,3 @@ drop_all (x ∷ xs) (suc i) far = drop_all xs i (omega arith)
 
 pub occurrences_past : (es : List EntryView) (b : Board) (i : ℕ) → length es ≤ i → occurrences_from (board_at b (moves_in es) i) i (drop i (moves_in es)) ≡ []
 occurrences_past es b i far = rw (drop_all (moves_in es) i (rw (moves_size es) far)) refl
-
--- ---- what a note tells
-
-pub told_going : (es : List EntryView) (note : Note) (e : EntryView) → IsNoted es note → note.name.go ≡ true → e ≡ get_or es note.name.step e
-    → told_in (shown_note es note) ≡ record { line = None; at = (get_or e.goes note.place no_go).grant.at; on = (get_or e.goes note.place no_go).grant.on }
-unfolding shown_note
-told_going es note e noted goes is =
-    let here : entry_in es note.name.step ≡ e = get_or_default es note.name.step no_entry e noted.step ∙ sym is in
-    rw (goes, here) refl
-
-pub going_inside : (es : List EntryView) (note : Note) (e : EntryView) → IsNoted es note → note.name.go ≡ true → e ≡ get_or es note.name.step e → note.place < length e.goes
-going_inside es note e noted goes is =
-    let here : entry_in es note.name.step ≡ e = get_or_default es note.name.step no_entry e noted.step ∙ sym is in
-    rw here at (noted.place goes)
-
-pub told_act : (es : List EntryView) (note : Note) (e : EntryView) → IsNoted es note → note.name.go ≡ false → e ≡ get_or es note.name.step e
-    → told_in (shown_note es note) ≡ record { line = Some e.step.line; at = e.step.at; on = e.step.on }
-unfolding shown_note
-told_act es note e noted goes is =
-    let here : entry_in es note.name.step ≡ e = get_or_default es note.name.step no_entry e noted.step ∙ sym is in
-    rw (goes, here) refl

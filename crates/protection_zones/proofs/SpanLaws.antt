@@ -1,10 +1,11 @@
 -- The beginnings of a channel's times as the code keeps them.
-use Rattle.std.proofs.Common.{◌≡◌, ℕ, ℤ, suc, zero, ◌+◌, ◌-◌, ◌<◌, ◌≤◌, ◌==◌, Bool, true, false, cond, All, List, [], ◌∷◌, length, map, filter, drop, take, nat_lt, get_or, Option, Some, None, refl, sym, ap, ◌∙◌, arith, add-one}
+use Rattle.std.proofs.Common.{◌≡◌, ℕ, ℤ, suc, zero, ◌+◌, ◌-◌, ◌<◌, ◌≤◌, ◌==◌, Bool, true, false, cond, All, List, [], ◌∷◌, ◌++◌, length, map, filter, drop, take, nat_lt, get_or, Option, Some, None, refl, sym, ap, ◌∙◌, arith, add-one}
 use Rattle.std.specs.Prelude.{Vec, unwrap_or}
 use Rattle.std.specs.Global.{Global}
 use Rattle.std.proofs.Math.Seq.{drop-cons}
 use Rattle.std.proofs.lemmas.Bool.{ltb-false}
-use Rattle.std.proofs.lemmas.List.{length-drop, length-map}
+use Rattle.std.proofs.lemmas.List.{append-nil, get_or-map, length-drop, length-map, map-append}
+use Rattle.std.proofs.lemmas.List.Elements.{filter-append}
 use mathlib.Core.Path.{fun_ext}
 use Rattle.axis_sets.specs.Positions.{position_of}
 use Rattle.axis_sets.specs.Sets.{has}
@@ -12,36 +13,15 @@ use Rattle.axis_sets.specs.declared.limits.TheConstants.{CHANNEL_PLACES}
 use Rattle.job_types.specs.Axes.{start_position}
 use Rattle.job_types.specs.Job.{JobView}
 use Rattle.protection_zones.specs.Beginnings.{AreOutsets, beginnings_from, end_of, first_in, items_until, outsets_in, shown_outset, span_at, spans_along}
-use Rattle.protection_zones.specs.Notes.{entry_in, no_go, shown_act, shown_going, shown_note}
 use Rattle.protection_zones.specs.Occurrences.{Occurrence}
 use Rattle.protection_zones.specs.Rows.{positions_in}
 use Rattle.protection_zones.specs.Stretches.{spans_between}
 use Rattle.protection_zones.specs.Spans.{Beginning, Span, beginning_after, first_beginning, is_on_at_first, spans_from, spans_of, starts_at_first}
-use Rattle.protection_zones.specs.declared.notes.Note.{Note}
 use Rattle.protection_zones.specs.declared.spans.Outset.{Outset}
-use Rattle.protection_zones.proofs.NoteLaws.{drop_all}
-use Rattle.sync_types.specs.Views.{EntryView}
 use Rattle.sync_types.specs.declared.Item.{Item}
 use Rattle.sync_types.specs.declared.runs.EventId.{EventId}
 use Rattle.sync_types.specs.declared.verdicts.StretchKind.{StretchKind}
 use Rattle.sync_types.specs.declared.verdicts.StretchKind.TheVariants.{Idle, Run}
-
--- a note keeps its name, channel and kind
-either_field : {A B : Type 0} (f : A → B) (b : Bool) (x y : A) (z : B) → f x ≡ z → f y ≡ z → f (cond b x y) ≡ z
-either_field f true x y z e h = e
-either_field f false x y z e h = h
-
-pub note_name : (es : List EntryView) (note : Note) → (shown_note es note).name ≡ note.name
-unfolding shown_note
-note_name es note = either_field (λ (o : Occurrence). o.name) note.name.go (shown_going note (get_or (entry_in es note.name.step).goes note.place no_go)) (shown_act note (entry_in es note.name.step).step) note.name refl refl
-
-pub note_channel : (es : List EntryView) (note : Note) → (shown_note es note).channel ≡ note.channel
-unfolding shown_note
-note_channel es note = either_field (λ (o : Occurrence). o.channel) note.name.go (shown_going note (get_or (entry_in es note.name.step).goes note.place no_go)) (shown_act note (entry_in es note.name.step).step) note.channel refl refl
-
-pub note_kind : (es : List EntryView) (note : Note) → (shown_note es note).kind ≡ note.kind
-unfolding shown_note
-note_kind es note = either_field (λ (o : Occurrence). o.kind) note.name.go (shown_going note (get_or (entry_in es note.name.step).goes note.place no_go)) (shown_act note (entry_in es note.name.step).step) note.kind refl refl
 
 -- how the time after an event begins
 pub outset_told : (before : Outset) (o : Occurrence) (kind : StretchKind) (line : ℕ) (at : List ℤ) (on : List Bool) (name : EventId) → kind ≡ o.kind → name ≡ o.name → on ≡ o.on → line ≡ unwrap_or o.line before.line
@@ -60,19 +40,38 @@ first_told job c starts at on starts_is stands turned kind is =
     let on_is : has on ≡ is_on_at_first job = fun_ext turned in
     rw (is, starts_is, at_is, on_is) refl
 
--- one event of the run
-pub own_event : (es : List EntryView) (notes : List Note) (i c : ℕ) (note : Note) (b : Beginning) → i < length notes → note ≡ get_or notes i note → (note.channel == c) ≡ true
-    → beginnings_from b (filter (λ o. o.channel == c) (map (shown_note es) (drop i notes)))
-    ≡ b ∷ beginnings_from (beginning_after b (shown_note es note)) (filter (λ o. o.channel == c) (map (shown_note es) (drop (i + 1) notes)))
-own_event es notes i c note b within is own = rw (add-one, drop-cons notes i note within, sym is, note_channel es note, own) refl
+-- how many times there are, and one event more
+beginnings_size : (b : Beginning) (os : List Occurrence) → length (beginnings_from b os) ≡ suc (length os)
+beginnings_size b [] = refl
+beginnings_size b (o ∷ os) = ap suc (beginnings_size (beginning_after b o) os)
 
-pub other_event : (es : List EntryView) (notes : List Note) (i c : ℕ) (note : Note) (b : Beginning) → i < length notes → note ≡ get_or notes i note → (note.channel == c) ≡ false
-    → beginnings_from b (filter (λ o. o.channel == c) (map (shown_note es) (drop i notes)))
-    ≡ beginnings_from b (filter (λ o. o.channel == c) (map (shown_note es) (drop (i + 1) notes)))
-other_event es notes i c note b within is other = rw (add-one, drop-cons notes i note within, sym is, note_channel es note, other) refl
+beginnings_last : (b : Beginning) (os : List Occurrence) (o : Occurrence) (d : Beginning)
+    → beginnings_from b (os ++ o ∷ []) ≡ beginnings_from b os ++ beginning_after (get_or (beginnings_from b os) (length os) d) o ∷ []
+beginnings_last b [] o d = refl
+beginnings_last b (p ∷ os) o d = ap (λ (rest : List _). b ∷ rest) (beginnings_last (beginning_after b p) os o d)
 
-pub no_event : (es : List EntryView) (notes : List Note) (i c : ℕ) (b : Beginning) → length notes ≤ i → beginnings_from b (filter (λ o. o.channel == c) (map (shown_note es) (drop i notes))) ≡ b ∷ []
-no_event es notes i c b far = rw (drop_all notes i far) refl
+pub outsets_size : (b : Beginning) (os : List Occurrence) (outsets : List Outset) → map shown_outset outsets ≡ beginnings_from b os → length outsets ≡ suc (length os)
+outsets_size b os outsets are = sym (length-map outsets shown_outset) ∙ (ap length are ∙ beginnings_size b os)
+
+pub outset_pushed : (b : Beginning) (os : List Occurrence) (o : Occurrence) (outsets : List Outset) (last next : Outset) → map shown_outset outsets ≡ beginnings_from b os
+    → last ≡ get_or outsets (length outsets - 1) last → shown_outset next ≡ beginning_after (shown_outset last) o
+    → map shown_outset (outsets ++ next ∷ []) ≡ beginnings_from b (os ++ o ∷ [])
+outset_pushed b os o outsets last next are is follows =
+    let size : length outsets ≡ suc (length os) = outsets_size b os outsets are in
+    let place : length outsets - 1 ≡ length os = omega (arith, size) in
+    let here : last ≡ get_or outsets (length os) last = is ∙ ap (λ (i : ℕ). get_or outsets i last) place in
+    let shown : get_or (beginnings_from b os) (length os) (shown_outset last) ≡ shown_outset last =
+    ap (λ (bs : List Beginning). get_or bs (length os) (shown_outset last)) (sym are)
+    ∙ (get_or-map shown_outset outsets (length os) last (shown_outset last) (omega (arith, size)) ∙ ap shown_outset (sym here)) in
+    map-append shown_outset outsets (next ∷ [])
+    ∙ (rw (are, follows) (sym (beginnings_last b os o (shown_outset last) ∙ rw shown refl)))
+
+-- those of each channel, with one event more
+pub own_last : (os : List Occurrence) (o : Occurrence) (c : ℕ) → (o.channel == c) ≡ true → filter (λ p. p.channel == c) (os ++ o ∷ []) ≡ filter (λ p. p.channel == c) os ++ o ∷ []
+own_last os o c own = filter-append (λ p. p.channel == c) os (o ∷ []) ∙ rw own refl
+
+pub other_last : (os : List Occurrence) (o : Occurrence) (c : ℕ) → (o.channel == c) ≡ false → filter (λ p. p.channel == c) (os ++ o ∷ []) ≡ filter (λ p. p.channel == c) os
+other_last os o c other = filter-append (λ p. p.channel == c) os (o ∷ []) ∙ (rw other (append-nil (filter (λ p. p.channel == c) os)))
 
 -- ---- the spans between them
 
@@ -136,7 +135,7 @@ one_span items outsets place upto below within =
 pub no_span : (spans : List Span) (place upto : ℕ) → upto ≤ place → spans_left spans place upto ≡ []
 no_span spans place upto past = let none : upto - place ≡ 0 = omega arith in rw none refl
 
-take_more : {A : Type 0} (xs : List A) (n : ℕ) → length xs ≤ n → take n xs ≡ xs
+pub take_more : {A : Type 0} (xs : List A) (n : ℕ) → length xs ≤ n → take n xs ≡ xs
 take_more [] zero far = refl
 take_more [] (suc n) far = refl
 take_more (x ∷ xs) zero far = absurd (omega arith)

@@ -10,4 +10,6 @@ pub mod Pieces
 pub mod Notes
 pub mod Beginnings
 pub mod Terms
+pub mod Exchanges
+pub mod Logs
 pub mod SoundStretches

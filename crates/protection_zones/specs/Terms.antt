@@ -1,5 +1,5 @@
 -- Steps. The tenures of a zone as the code keeps them.
-use Rattle.std.specs.Prelude.{ℕ, Bool, List, slice_index}
+use Rattle.std.specs.Prelude.{Bool}
 use Rattle.axis_sets.specs.Sets.{has}
 use Rattle.job_types.specs.declared.job.ZoneLine.{ZoneLine}
 use Rattle.protection_zones.specs.Rows.{positions_in}
@@ -16,10 +16,6 @@ shown_term t = record {
   begins = record { kind = Free; line = t.line; at = positions_in t.at; on = has t.on; first = t.first };
   last = t.last;
 }
-
--- how many events of each channel have been
-abbrev pub counts_in : List ℕ → ℕ → ℕ
-counts_in counts c = slice_index counts c
 
 -- axes of the zone change hands
 abbrev pub changes : ZoneLine → Note → Bool

@@ -1,7 +1,9 @@
 //! The time of each protection zone in a run: the stretches into which it falls, and the boxes of each.
 #![tactic(auto)]
 
+mod exchanges;
 mod laws;
+mod logs;
 mod notes;
 mod pieces;
 mod rows;

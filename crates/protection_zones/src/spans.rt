@@ -1,19 +1,22 @@
 //! The time of a channel in a run.
-ghost use Rattle.std.specs.Prelude.{◌≡◌, ◌==◌, ◌&&◌, ◌≤◌, ◌<◌, ℕ, Bool, All, IfOk, filter, map, length, Some, if◌then◌else◌, unwrap_or};
+ghost use Rattle.std.specs.Prelude.{◌≡◌, ◌==◌, ◌&&◌, ◌≤◌, ◌<◌, ◌++◌, ◌∷◌, [], ℕ, suc, List, IfOk, OnOk, length, map};
 ghost use Rattle.std.specs.List.{list_any};
-ghost use Rattle.axis_sets.specs.declared.limits.TheConstants.{AXIS_LIMIT};
-ghost use Rattle.protection_zones.specs.Beginnings.{beginnings_from, shown_outset};
-ghost use Rattle.protection_zones.specs.Notes.{IsNoted, shown_note};
-ghost use Rattle.protection_zones.specs.Spans.{beginning_after, first_beginning, starts_at_first};
 ghost use Rattle.axis_sets.specs.Sets.{has};
+ghost use Rattle.axis_sets.specs.declared.limits.TheConstants.{AXIS_LIMIT, CHANNEL_PLACES};
+ghost use Rattle.job_types.specs.Job.{JobView};
+ghost use Rattle.protection_zones.specs.Beginnings.{AreOutsets, beginnings_from, shown_outset};
+ghost use Rattle.protection_zones.specs.Exchanges.{count_in};
+ghost use Rattle.protection_zones.specs.Notes.{shown_note};
+ghost use Rattle.protection_zones.specs.Occurrences.{Occurrence};
+ghost use Rattle.protection_zones.specs.Spans.{Beginning, first_beginning, starts_at_first};
 
 use crate::Row;
-use crate::notes::{Note, told_by};
+use crate::notes::Note;
 use crate::rows::{put, start_row};
-use axis_sets::{ChannelId, ZoneSet};
+use axis_sets::{CHANNEL_PLACES, ChannelId, Positions, ZoneSet};
 use job_types::{Job, ZoneLine};
 use std::alloc::{AllocError, Global};
-use sync_types::{Entry, EventId, StretchKind};
+use sync_types::{EventId, StretchKind};
 
 /// How a time of a channel begins.
 #[derive(Clone, Copy)]
@@ -59,62 +62,87 @@ pub(crate) fn zones_on(zones: &[ZoneLine]) -> ZoneSet
     on
 }
 
-/// How the time of a channel begins with the job.
-fn first_outset(job: &Job, channel: ChannelId) -> Outset
+/// How the only time of a channel begins that has had no event.
+fn only_outset(alloc: Global, job: &Job, channel: ChannelId) -> Result<Vec<Outset>, AllocError>
     requires { length job.now.axes ≤ AXIS_LIMIT }
-    ensures { shown_outset result ≡ first_beginning job.now channel }
+    ensures { IfOk result (λ outsets. map shown_outset outsets.items ≡ first_beginning job.now channel ∷ []) }
 {
-    Outset {
-        kind: if starts_at_first(job, channel) {
-            StretchKind::Run
-        } else {
-            StretchKind::Idle
-        },
+    let kind = if starts_at_first(job, channel) {
+        StretchKind::Run
+    } else {
+        StretchKind::Idle
+    };
+    let first = Outset {
+        kind,
         line: 0,
         at: start_row(job),
         on: zones_on(zones_in(job)),
         first: None,
-    }
+    };
+    let mut outsets = Vec::new(alloc);
+    outsets.push(first)?;
+    Ok(outsets)
 }
 
-/// How the time after an event of the channel begins.
-fn outset_after(before: &Outset, entries: &[Entry], note: &Note) -> Outset
-    requires { IsNoted entries.now note.now }
-    ensures { shown_outset result ≡ beginning_after (shown_outset before.now) (shown_note entries.now note.now) }
-{
-    let told = told_by(entries, note);
-    let mut at = before.at;
-    put(&mut at, &told.at);
-    Outset {
-        kind: note.kind,
-        line: told.line.unwrap_or(before.line),
-        at,
-        on: told.on,
-        first: Some(note.name),
-    }
-}
-
-/// How the times of a channel begin, in order.
-pub(crate) fn outsets_of(
-    alloc: Global,
-    job: &Job,
-    entries: &[Entry],
-    notes: &[Note],
-    channel: ChannelId,
-) -> Result<Vec<Outset>, AllocError>
-    requires axes { length job.now.axes ≤ AXIS_LIMIT }
-    requires noted { All (IsNoted entries.now) notes.now }
-    ensures { IfOk result (λ outsets. map shown_outset outsets.items
-        ≡ beginnings_from (first_beginning job.now channel) (filter (λ o. o.channel == channel) (map (shown_note entries.now) notes.now))) }
+/// For each channel, by its number, how its time begins with the job.
+pub(crate) fn first_outsets(alloc: Global, job: &Job) -> Result<Vec<Vec<Outset>>, AllocError>
+    requires { length job.now.axes ≤ AXIS_LIMIT }
+    ensures size { IfOk result (λ outsets. length outsets.items ≡ CHANNEL_PLACES) }
+    ensures outsets { IfOk result (λ outsets. AreOutsets job.now [] outsets.items) }
 {
     let mut outsets = Vec::new(alloc);
-    let mut last = first_outset(job, channel);
-    for note in notes {
-        if note.channel == channel {
-            outsets.push(last)?;
-            last = outset_after(&last, entries, note);
-        }
+    outsets.push(Vec::new(alloc))?;
+    for number in 1..CHANNEL_PLACES as u8 {
+        let own = only_outset(alloc, job, ChannelId { number })?;
+        outsets.push(own)?;
     }
-    outsets.push(last)?;
     Ok(outsets)
+}
+
+/// Adds how the time after an event begins to how the times of its channel begin, and says how many they were.
+fn push_outset(own: &mut Vec<Outset>, note: &Note, at: &Positions) -> Result<usize, AllocError>
+    requires { 0 < length own.old.items }
+    ensures count { IfOk result (λ count. count ≡ length own.old.items) }
+    ensures outsets { (b : Beginning) (os : List Occurrence) → map shown_outset own.old.items ≡ beginnings_from b os
+        → OnOk result (map shown_outset own.new.items ≡ beginnings_from b (os ++ shown_note note.now at.now ∷ [])) }
+{
+    let count = own.len();
+    let last = &own[count - 1];
+    let mut row = last.at;
+    put(&mut row, at);
+    let next = Outset {
+        kind: note.kind,
+        line: note.line.unwrap_or(last.line),
+        at: row,
+        on: note.on,
+        first: Some(note.name),
+    };
+    own.push(next)?;
+    Ok(count)
+}
+
+/// The place of a channel in a list that has one for each channel by its number.
+fn place_of(channel: ChannelId) -> usize
+    ensures place { result ≡ channel }
+    ensures from { 1 ≤ result }
+    ensures below { result < CHANNEL_PLACES }
+{
+    usize::from(channel.number)
+}
+
+/// Adds how the time after an event begins, and says the number of that time among those of its channel.
+pub(crate) fn add_outset(
+    outsets: &mut Vec<Vec<Outset>>,
+    note: &Note,
+    at: &Positions,
+) -> Result<usize, AllocError>
+    requires size { length outsets.old.items ≡ CHANNEL_PLACES }
+    requires begun { (job : JobView) × (os : List Occurrence) × AreOutsets job os outsets.old.items }
+    ensures number { (job : JobView) (os : List Occurrence) → AreOutsets job os outsets.old.items → IfOk result (λ number. number ≡ suc (count_in os note.now.channel)) }
+    ensures outsets { (job : JobView) (os : List Occurrence) → AreOutsets job os outsets.old.items → OnOk result (AreOutsets job (os ++ shown_note note.now at.now ∷ []) outsets.new.items) }
+    ensures size { length outsets.new.items ≡ CHANNEL_PLACES }
+{
+    let place = place_of(note.channel);
+    let number = push_outset(&mut outsets[place], note, at)?;
+    Ok(number)
 }

@@ -1,5 +1,5 @@
 //! The boxes of a zone in a span of the channel that holds it.
-ghost use Rattle.std.specs.Prelude.{◌≡◌, ◌<◌, ◌≤◌, ◌^◌, ◌++◌, ◌+◌, All, OnOk, length, map, is_some};
+ghost use Rattle.std.specs.Prelude.{◌≡◌, ◌<◌, ◌≤◌, ◌^◌, ◌++◌, ◌+◌, [], All, IfOk, OnOk, length, map, is_some};
 ghost use Rattle.std.specs.Option.{option_to_list};
 ghost use Rattle.protection_zones.specs.Rows.{positions_in};
 ghost use Rattle.protection_zones.specs.Sweeps as model;
@@ -12,11 +12,11 @@ use crate::Row;
 use crate::rows::settle;
 use crate::sights::{Sight, seen};
 use crate::stretches::ZoneBox;
-use crate::zone_boxes::zone_box;
+use crate::zone_boxes::{standing_zone_box, zone_box};
 use arrayvec::ArrayVec;
 use job_types::ZoneLine;
 use micro_units::Um;
-use std::alloc::AllocError;
+use std::alloc::{AllocError, Global};
 use swept_boxes::{Ranges, cover};
 use sync_types::Item;
 
@@ -53,15 +53,12 @@ fn moving_box(margin: Um, zone: &ZoneLine, from: u32, place: u32, item: &Item, a
 fn standing_box(margin: Um, zone: &ZoneLine, from: u32, line: u32, at: &Row) -> ZoneBox
     ensures { result ≡ model.standing_box margin zone.now from line (positions_in at.now) }
 {
-    let nothing = Ranges {
-        axes: ArrayVec::new(),
-    };
     ZoneBox {
         line,
         motion: None,
         from,
         to: from,
-        cover: zone_box(margin, zone, &nothing, at),
+        cover: standing_zone_box(margin, zone, at),
     }
 }
 
@@ -191,6 +188,25 @@ fn opened_at_first(margin: Um, zone: &ZoneLine, on: bool, line: u32, at: &Row) -
         Some(standing_box(margin, zone, 0, line, at))
     } else {
         None
+    }
+}
+
+/// The boxes of a zone that is on or off as the span begins, with this line and the channel's axes there, while its holder does
+/// nothing.
+pub(crate) fn boxes_at_rest(
+    alloc: Global,
+    margin: Um,
+    zone: &ZoneLine,
+    on: bool,
+    line: u32,
+    start: &Row,
+) -> Result<Vec<ZoneBox>, AllocError>
+    ensures { IfOk result (λ boxes. boxes.items ≡ map (shown_box margin zone.now) (boxes_of zone.now on line (positions_in start.now) [])) }
+{
+    if on {
+        Ok(Vec::from_array(alloc, [standing_box(margin, zone, 0, line, start)])?)
+    } else {
+        Ok(Vec::new(alloc))
     }
 }
 

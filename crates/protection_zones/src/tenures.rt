@@ -1,20 +1,22 @@
 //! Who holds a zone in a run, one after another.
-ghost use Rattle.std.specs.Prelude.{◌≡◌, ◌==◌, ◌≤◌, ◌<◌, ◌+◌, ◌^◌, ℕ, true, All, IfOk, None, Some, if◌then◌else◌, length, map, slice_index};
+ghost use Rattle.std.specs.Prelude.{◌≡◌, ◌∷◌, [], ◌≤◌, true, IfOk, None, Some, if◌then◌else◌, length, map};
 ghost use Rattle.std.specs.Option.{option_map_or};
 ghost use Rattle.axis_sets.specs.Sets.{has};
-ghost use Rattle.axis_sets.specs.declared.limits.TheConstants.{AXIS_LIMIT, CHANNEL_PLACES};
-ghost use Rattle.protection_zones.specs.Notes.{IsNoted, shown_note};
-ghost use Rattle.protection_zones.specs.Tenures.{carry, counted, first_tenure, is_carried_by, tenure_after, tenure_until, tenures_of};
-ghost use Rattle.protection_zones.specs.Terms.{changes, counts_in, shown_term};
+ghost use Rattle.axis_sets.specs.declared.limits.TheConstants.{AXIS_LIMIT};
+ghost use Rattle.protection_zones.specs.Exchanges.{counts_in, shown_exchange, tenure_from, tenures_then};
+ghost use Rattle.protection_zones.specs.Notes.{shown_note};
+ghost use Rattle.protection_zones.specs.Tenures.{first_tenure, is_carried_by, tenure_until};
+ghost use Rattle.protection_zones.specs.Terms.{changes, shown_term};
 
 use crate::Row;
-use crate::notes::{Note, told_by};
+use crate::exchanges::Exchange;
+use crate::notes::Note;
 use crate::rows::{row_of, start_row};
 use crate::spans::{zones_in, zones_on};
 use axis_sets::{AxisId, AxisSet, CHANNEL_PLACES, ChannelId, ZoneSet};
 use job_types::{Job, ZoneLine};
 use std::alloc::{AllocError, Global};
-use sync_types::{Entry, EventId};
+use sync_types::EventId;
 
 /// A tenure of a zone.
 #[derive(Clone, Copy)]
@@ -73,13 +75,6 @@ fn first_term(job: &Job, zone: &ZoneLine) -> Term
     }
 }
 
-/// How many events of a channel have been.
-fn count_of(counts: &[usize; CHANNEL_PLACES], channel: ChannelId) -> usize
-    ensures { result ≡ slice_index counts.now channel }
-{
-    counts[usize::from(channel.number)]
-}
-
 /// The channel that holds a zone whose axes change hands in an event.
 fn owner_after(note: &Note) -> Option<ChannelId>
     ensures { result ≡ (if note.now.name.go then Some note.now.channel else None) }
@@ -97,76 +92,56 @@ fn count_of_owner(counts: &[usize; CHANNEL_PLACES], owner: Option<ChannelId>) ->
 {
     match owner {
         None => 0,
-        Some(channel) => count_of(counts, channel),
+        Some(channel) => counts[usize::from(channel.number)],
     }
 }
 
-/// The tenure that begins with an event in which axes of the zone change hands; so many events of each channel have been.
-fn term_after(
-    counts: &[usize; CHANNEL_PLACES],
-    zone: &ZoneLine,
-    entries: &[Entry],
-    note: &Note,
-) -> Term
-    requires noted { IsNoted entries.now note.now }
-    requires few { slice_index counts.now note.now.channel + 1 < 2 ^ 64 }
-    requires changes { changes zone.now note.now ≡ true }
-    ensures { shown_term result ≡ tenure_after zone.now (counts_in counts.now) (shown_note entries.now note.now) }
+/// The tenure that begins with an event in which axes of the zone change hands.
+fn term_after(zone: &ZoneLine, exchange: &Exchange) -> Term
+    requires { changes zone.now exchange.now.note ≡ true }
+    ensures { shown_term result ≡ tenure_from zone.now (shown_exchange exchange.now) }
 {
-    let told = told_by(entries, note);
+    let note = &exchange.note;
     Term {
         owner: owner_after(note),
-        from: count_of(counts, note.channel) + 1,
+        from: exchange.next,
         upto: None,
-        line: told.line.unwrap_or(0),
-        at: row_of(&told.at),
-        on: told.on,
+        line: note.line.unwrap_or(0),
+        at: row_of(&exchange.at),
+        on: note.on,
         first: Some(note.name),
         last: None,
     }
 }
 
-/// The tenure up to an event; so many events of each channel have been.
-fn term_until(counts: &[usize; CHANNEL_PLACES], term: &Term, entries: &[Entry], note: &Note) -> Term
-    ensures { shown_term result ≡ tenure_until (counts_in counts.now) (shown_term term.now) (shown_note entries.now note.now) }
+/// The tenure up to an event.
+fn term_until(term: &Term, exchange: &Exchange) -> Term
+    ensures { shown_term result ≡ tenure_until (counts_in exchange.now.counts) (shown_term term.now) (shown_note exchange.now.note exchange.now.at) }
 {
     Term {
-        upto: Some(count_of_owner(counts, term.owner)),
-        last: Some(note.name),
+        upto: Some(count_of_owner(&exchange.counts, term.owner)),
+        last: Some(exchange.note.name),
         ..*term
     }
 }
 
-/// One event more of a channel.
-fn count(counts: &mut [usize; CHANNEL_PLACES], channel: ChannelId)
-    requires { slice_index counts.old channel + 1 < 2 ^ 64 }
-    ensures { (d : ℕ) → slice_index counts.new d ≡ counted (counts_in counts.old) channel d }
-{
-    counts[usize::from(channel.number)] += 1;
-}
-
-/// The tenures of a zone in a run, in order.
-#[tactic(auto, unfolding(crate::specs::Tenures::tenures_of))]
+/// The tenures of a zone in a run with these events in which axes change hands, in order.
 pub(crate) fn terms_of(
     alloc: Global,
     job: &Job,
-    entries: &[Entry],
-    notes: &[Note],
+    exchanges: &[Exchange],
     zone: &ZoneLine,
 ) -> Result<Vec<Term>, AllocError>
-    requires axes { length job.now.axes ≤ AXIS_LIMIT }
-    requires noted { All (IsNoted entries.now) notes.now }
-    ensures { IfOk result (λ terms. map shown_term terms.items ≡ tenures_of job.now (map (shown_note entries.now) notes.now) zone.now) }
+    requires { length job.now.axes ≤ AXIS_LIMIT }
+    ensures { IfOk result (λ terms. map shown_term terms.items ≡ tenures_then zone.now (λ t. t ∷ []) (first_tenure job.now zone.now) (map shown_exchange exchanges.now)) }
 {
-    let mut counts = [0; CHANNEL_PLACES];
     let mut terms = Vec::new(alloc);
     let mut current = first_term(job, zone);
-    for note in notes {
-        if changes(zone, note) {
-            terms.push(term_until(&counts, &current, entries, note))?;
-            current = term_after(&counts, zone, entries, note);
+    for exchange in exchanges {
+        if changes(zone, &exchange.note) {
+            terms.push(term_until(&current, exchange))?;
+            current = term_after(zone, exchange);
         }
-        count(&mut counts, note.channel);
     }
     terms.push(current)?;
     Ok(terms)

@@ -111,3 +111,38 @@ pub(crate) fn zone_box(margin: Um, zone: &ZoneLine, ranges: &Ranges, at: &Row) -
 {
     box_of(margin, &zone.sides, ranges, at)
 }
+
+/// The bounds of a direction of a zone whose axes stand, grown by the margin.
+#[tactic(auto, unfolding(crate::specs::ZoneBoxes::side_low, crate::specs::ZoneBoxes::side_high))]
+fn bounds_at(margin: Um, side: &Side, at: &Row) -> (i32, i32)
+    ensures low { result.0 ≡ model.side_low margin (positions_in at.now) (positions_in at.now) side.now }
+    ensures high { result.1 ≡ model.side_high margin (positions_in at.now) (positions_in at.now) side.now }
+{
+    match side.carrier {
+        None => grown(margin, side),
+        Some((axis, minus)) => {
+            let position = standing(at, axis);
+            bounds_between(margin, side, minus, position, position)
+        }
+    }
+}
+
+/// The box whose directions have these bounds, where the axes stand.
+fn box_at(margin: Um, sides: &[Side; 3], at: &Row) -> Box3
+    ensures { result ≡ model.box_of margin sides.now (positions_in at.now) (positions_in at.now) }
+{
+    let x = bounds_at(margin, &sides[0], at);
+    let y = bounds_at(margin, &sides[1], at);
+    let z = bounds_at(margin, &sides[2], at);
+    Box3 {
+        lo: [x.0, y.0, z.0],
+        hi: [x.1, y.1, z.1],
+    }
+}
+
+/// The box of a zone whose axes stand, grown by the margin.
+pub(crate) fn standing_zone_box(margin: Um, zone: &ZoneLine, at: &Row) -> Box3
+    ensures { result ≡ model.zone_box margin zone.now (positions_in at.now) (positions_in at.now) }
+{
+    box_at(margin, &zone.sides, at)
+}

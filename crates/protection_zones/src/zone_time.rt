@@ -14,7 +14,7 @@ ghost use Rattle.protection_zones.specs.ZoneBoxes.{IsFit, boxes_of, shown_box};
 
 use crate::spans::Outset;
 use crate::stretches::{Stretch, ZoneBox};
-use crate::sweeps::write_boxes;
+use crate::sweeps::{boxes_at_rest, write_boxes};
 use crate::tenures::Term;
 use axis_sets::ChannelId;
 use job_types::{Job, ZoneLine};
@@ -135,6 +135,9 @@ impl<'a> Scene<'a> {
         let job = self.job;
         let zone = self.zone;
         let on = begins.on.contains(zone.zone);
+        if items.is_empty() {
+            return boxes_at_rest(alloc, job.margin, zone, on, begins.line, &begins.at);
+        }
         write_boxes(
             scratch,
             job.margin,

@@ -2,7 +2,7 @@ use Rattle.std.proofs.Common.{◌≡◌, ◌≤◌, ◌∙◌, ◌∷◌, [], ar
 use Rattle.std.proofs.lemmas.Bool.{cases_lt}
 use Rattle.axis_sets.specs.declared.limits.TheConstants.{CHANNEL_PLACES}
 use Rattle.protection_zones.proofs.TimeLaws.{outsets_before, outsets_last}
-use Rattle.protection_zones.proofs.times.all_outsets.Goals as goal
+use Rattle.protection_zones.proofs.spans.first_outsets.Goals as goal
 
 pub loop-number-init : goal.loop-number-init
 loop-number-init c = record {
@@ -23,5 +23,5 @@ loop-number-preserved c = record {
   ]);
 }
 
-pub returns : goal.returns
-returns c = record { own = λ d from below. c.loop-number.invariant.own d from (let done : CHANNEL_PLACES ≤ c.loop-number.number = omega arith in omega arith) }
+pub returns-clause-outsets : goal.returns-clause-outsets
+returns-clause-outsets c = record { own = λ d from below. c.loop-number.invariant.own d from (let done : CHANNEL_PLACES ≤ c.loop-number.number = omega arith in omega arith) }
