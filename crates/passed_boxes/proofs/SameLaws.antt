@@ -35,3 +35,6 @@ end_decides x y = (same, λ e. subst (λ (z : ℕ × ℤ × ℤ). end_eq x z ≡
 -- all of them
 pub same_ends : (xs ys : List (ℕ × ℤ × ℤ)) → pointwise end_eq xs ys ≡ true → xs ≡ ys
 same_ends xs ys = (pointwise_decides {E = end_eq} end_decides xs ys).0
+
+pub all_ends : (xs ys : List (ℕ × ℤ × ℤ)) → xs ≡ ys → pointwise end_eq xs ys ≡ true
+all_ends xs ys = (pointwise_decides {E = end_eq} end_decides xs ys).1
