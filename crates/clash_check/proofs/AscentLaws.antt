@@ -1,5 +1,5 @@
 -- Stretches of a zone that ascend: those that may overlap a stretch of another zone stand side by side.
-use Rattle.std.proofs.Common.{◌≡◌, ◌∙◌, ℕ, zero, suc, ◌+◌, ◌<◌, ◌||◌, not, Bool, true, false, cond, List, [], ◌∷◌, ◌++◌, drop, take, length, get_or, Option, None, Some, All, refl, sym, ap, subst, arith}
+use Rattle.std.proofs.Common.{◌≡◌, ◌∙◌, ℕ, zero, suc, ◌+◌, ◌<◌, ◌≤◌, ◌||◌, not, Bool, true, false, cond, List, [], ◌∷◌, ◌++◌, drop, take, length, get_or, Option, None, Some, All, refl, sym, ap, subst, arith}
 use Rattle.std.specs.Prelude.{IfSome, ◌==◌, if◌then◌else◌}
 use Rattle.std.proofs.lemmas.Bool.{and_parts, eqb-true}
 use Rattle.std.proofs.lemmas.List.Elements.{All-nil, All-cons, All-head, All-tail, All-weaker, All-get_or}
@@ -37,6 +37,50 @@ leading_from test (x ∷ xs) (suc k) d first within on = by_test (test x) refl (
     by_test false is rest =
         let none : test (get_or xs k d) ≡ false = All-get_or (λ y. test y ≡ false) xs k d (omega arith) (first.0 is) in
         absurd (let both : true ≡ false = sym on ∙ none in cc)
+
+-- so many pass at least
+pub leading_on : {X : Type 0} (test : X → Bool) (xs : List X) (k : ℕ) → k ≤ leading test xs → k + leading test (drop k xs) ≡ leading test xs
+leading_on test xs zero low = omega arith
+leading_on test [] (suc k) low = absurd (omega (arith, low))
+leading_on test (x ∷ xs) (suc k) low = by_test (test x) low (leading_on test xs k)
+  where
+    by_test : (b : Bool) → suc k ≤ cond b (suc (leading test xs)) 0 → (k ≤ leading test xs → k + leading test (drop k xs) ≡ leading test xs)
+        → suc k + leading test (drop k xs) ≡ cond b (suc (leading test xs)) 0
+    by_test true low rest = let more = rest (omega (arith, low)) in omega (arith, more)
+    by_test false low rest = absurd (omega (arith, low))
+
+pub leading_within : {X : Type 0} (test : X → Bool) (xs : List X) → leading test xs ≤ length xs
+leading_within test [] = omega arith
+leading_within test (x ∷ xs) = by_test (test x) (leading_within test xs)
+  where
+    by_test : (b : Bool) → leading test xs ≤ length xs → cond b (suc (leading test xs)) 0 ≤ suc (length xs)
+    by_test true rest = omega (arith, rest)
+    by_test false rest = omega arith
+
+-- one that passes is among those that pass before the first that does not, and one that does not is not
+pub leading_past : {X : Type 0} (test : X → Bool) (xs : List X) (k : ℕ) (d : X) → PassFirst test xs → k < length xs → test (get_or xs k d) ≡ true → suc k ≤ leading test xs
+leading_past test xs k d first within on = let all = leading_from test xs k d first within on in omega (arith, all)
+
+pub leading_by : {X : Type 0} (test : X → Bool) (xs : List X) (k : ℕ) (d : X) → k < length xs → test (get_or xs k d) ≡ false → leading test xs ≤ k
+leading_by test [] k d within off = absurd (omega arith)
+leading_by test (x ∷ xs) zero d within off = rw off (omega arith)
+leading_by test (x ∷ xs) (suc k) d within off = by_test (test x) (leading_by test xs k d (omega arith) off)
+  where
+    by_test : (b : Bool) → leading test xs ≤ k → cond b (suc (leading test xs)) 0 ≤ suc k
+    by_test true rest = omega (arith, rest)
+    by_test false rest = omega arith
+
+-- no fewer pass a test that each passes that passes another
+leading_more : {X : Type 0} (test test' : X → Bool) (xs : List X) → All (λ x. test x ≡ true → test' x ≡ true) xs → leading test xs ≤ leading test' xs
+leading_more test test' [] all = omega arith
+leading_more test test' (x ∷ xs) all =
+    by_tests (test x) (test' x) (All-head (λ y. test y ≡ true → test' y ≡ true) x xs all) (leading_more test test' xs (All-tail (λ y. test y ≡ true → test' y ≡ true) x xs all))
+  where
+    by_tests : (b b' : Bool) → (b ≡ true → b' ≡ true) → leading test xs ≤ leading test' xs → cond b (suc (leading test xs)) 0 ≤ cond b' (suc (leading test' xs)) 0
+    by_tests true true on rest = omega (arith, rest)
+    by_tests true false on rest = absurd (let off : false ≡ true = on refl in cc)
+    by_tests false true on rest = omega arith
+    by_tests false false on rest = omega arith
 
 -- what a list gives, where an element that passes the one test gives nothing, nor one that does not pass the other
 module _ {X M : Type 0} (F : List X → M) (early late : X → Bool) (same : (x : X) (xs ys : List X) → F xs ≡ F ys → F (x ∷ xs) ≡ F (x ∷ ys))
@@ -181,6 +225,41 @@ module _ (b : Board) (moves : List Move) (before : Order) (order : IsOrderOf b m
   pub pass_first : (own : StretchView) (xs : List StretchView) → HasLowNames b moves own → All (HasLowNames b moves) xs → do_ascend before xs ≡ true → (ended : Bool) → PassFirst (passes before ended own) xs
   pass_first own xs low lows ascend true = ended_first own xs low lows ascend
   pass_first own xs low lows ascend false = begun_first own xs low lows ascend
+
+  -- ---- stretches of two zones, of which those of the first ascend
+
+  -- what passes at a stretch passes at a later one
+  passes_on : (x y z : StretchView) → HasLowNames b moves x → is_forward before x ≡ true → IsLater x y → HasLowNames b moves z → (ended : Bool)
+      → passes before ended x z ≡ true → passes before ended y z ≡ true
+  passes_on x y z low_x forward later low_z true on = over_trans z x y low_z low_x later.low on forward later.over
+  passes_on x y z low_x forward later low_z false on = by_over (is_over before y z) refl
+    where
+      by_over : (o : Bool) → is_over before y z ≡ o → not o ≡ true
+      by_over true is = never (is_over before x z) (over_trans x y z low_x later.low low_z later.over later.forward is) (sym (twice_not (is_over before x z)) ∙ ap (λ (o : Bool). not o) on)
+      by_over false is = refl
+
+  later_at : (xs : List StretchView) (i j : ℕ) (d : StretchView) → All (HasLowNames b moves) xs → do_ascend before xs ≡ true → i < j → j < length xs
+      → (is_forward before (get_or xs i d) ≡ true) × IsLater (get_or xs i d) (get_or xs j d)
+  later_at [] i j d lows ascend less within = absurd (omega arith)
+  later_at (x ∷ xs) i zero d lows ascend less within = absurd (omega arith)
+  later_at (x ∷ xs) zero (suc j) d lows ascend less within =
+      let parts = and_parts (is_forward before x) _ ascend in (
+        parts.0,
+        All-get_or (IsLater x) xs j d (omega arith) (all_later x xs (All-head (HasLowNames b moves) x xs lows) (All-tail (HasLowNames b moves) x xs lows) ascend),
+      )
+  later_at (x ∷ xs) (suc i) (suc j) d lows ascend less within =
+      let parts = and_parts (is_forward before x) _ ascend in
+      let rest = and_parts (is_over_at_first before x xs) _ parts.1 in
+      later_at xs i j d (All-tail (HasLowNames b moves) x xs lows) rest.1 (omega arith) (omega arith)
+
+  -- no fewer pass at a later one
+  pub leading_grows : (own others : List StretchView) (i j : ℕ) (d : StretchView) → All (HasLowNames b moves) own → All (HasLowNames b moves) others → do_ascend before own ≡ true → i < j → j < length own
+      → (ended : Bool) → leading (passes before ended (get_or own i d)) others ≤ leading (passes before ended (get_or own j d)) others
+  leading_grows own others i j d lows low_others ascend less within ended =
+      let at = later_at own i j d lows ascend less within in
+      leading_more (passes before ended (get_or own i d)) (passes before ended (get_or own j d)) others
+      (All-weaker (HasLowNames b moves) (λ z. passes before ended (get_or own i d) z ≡ true → passes before ended (get_or own j d) z ≡ true)
+      (λ z low. passes_on (get_or own i d) (get_or own j d) z (All-get_or (HasLowNames b moves) own i d (omega arith) lows) at.0 at.1 low ended) others low_others)
 
 -- the stretches of another zone, at one of the stretches of a zone
 pub passing_at : (before : Order) (own others : List StretchView) (place : ℕ) (d : StretchView) → IsTimed before own (others ∷ []) → do_ascend before others ≡ true → place < length own

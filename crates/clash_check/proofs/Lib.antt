@@ -13,6 +13,6 @@ pub mod PieceLaws
 pub mod PlaceLaws
 pub mod RunningLaws
 pub mod ShownLaws
-pub mod StopLaws
 pub mod TimeLaws
 pub mod VerdictLaws
+pub mod WalkLaws

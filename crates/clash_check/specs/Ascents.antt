@@ -1,5 +1,7 @@
 -- Steps. Stretches of a zone of which each is over as the next begins, and those of them that may overlap a stretch of another zone.
-use Rattle.std.specs.Prelude.{◌≡◌, ◌&&◌, ◌||◌, not, suc, ℕ, Bool, true, false, if◌then◌else◌, All, List, [], ◌∷◌, drop, take, Option, Some, None}
+use Rattle.std.specs.Prelude.{◌≡◌, ◌<◌, ◌≤◌, ◌&&◌, ◌||◌, not, suc, ℕ, Bool, true, false, if◌then◌else◌, All, List, [], ◌∷◌, drop, length, slice_index_or, take, Option, Some, None}
+use Rattle.clash_check.specs.declared.ascents.Range.{Range}
+use Rattle.clash_check.specs.declared.ascents.Walk.{Walk}
 use Rattle.order_clocks.specs.Clocked.{IsOrderOf}
 use Rattle.order_clocks.specs.Tells.{is_same_event}
 use Rattle.protection_zones.specs.Overlaps.{Order, is_open_at}
@@ -51,6 +53,10 @@ abbrev pub passes : Order → Bool → StretchView → StretchView → Bool
 passes before true own other = is_over before other own
 passes before false own other = not (is_over before own other)
 
+-- a list is marked only where it ascends
+abbrev pub AreAscents : Order → List (List StretchView) → List Bool → Type 0
+AreAscents before lists ascents = (place : ℕ) → slice_index_or ascents place false ≡ true → do_ascend before (slice_index_or lists place []) ≡ true
+
 -- of the stretches of another zone those that are not over as this one begins, up to the first that begins after it is over
 abbrev pub near : Order → StretchView → List StretchView → List StretchView
 near before own others = drop (leading (passes before true own) others) (take (leading (passes before false own) others) others)
@@ -62,3 +68,20 @@ pub record IsTimed (before : Order) (own : List StretchView) (lists : List (List
   pub order : IsOrderOf board moves before
   pub own_names : All (HasLowNames board moves) own
   pub names : All (All (HasLowNames board moves)) lists
+
+-- ---- a walk along the stretches of a zone
+
+abbrev pub place_in : Range → Bool → ℕ
+place_in range true = range.from
+place_in range false = range.upto
+
+-- no fewer and no more stretches of another zone pass
+pub record IsBetween (before : Order) (own : StretchView) (others : List StretchView) (low high : Range) : Type 0 where
+  pub least : (ended : Bool) → place_in low ended ≤ leading (passes before ended own) others
+  pub most : (ended : Bool) → leading (passes before ended own) others ≤ place_in high ended
+  pub within : (ended : Bool) → place_in high ended ≤ length others
+
+-- where they ascend, this is known of each from this place on
+abbrev pub IsWalk : Order → List StretchView → List StretchView → ℕ → Walk → Type 0
+IsWalk before own others place walk =
+    walk.ascends ≡ true → (do_ascend before own ≡ true) × ((k : ℕ) (d : StretchView) → place ≤ k → k < length own → IsBetween before (slice_index_or own k d) others walk.range walk.limit)

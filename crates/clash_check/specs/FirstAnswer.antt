@@ -1,8 +1,2 @@
 -- Meaning. The first answer that a list gives.
-use Rattle.std.specs.Prelude.{List, [], ◌∷◌, Option, None}
-use Rattle.std.specs.Option.{option_or}
-
--- the first answer among the elements
-abbrev pub first_some : {X Y : Type 0} → (X → Option Y) → List X → Option Y
-first_some f [] = None
-first_some f (x ∷ xs) = option_or (f x) (first_some f xs)
+pub use Rattle.stop_verdicts.specs.FirstAnswer.{first_some}

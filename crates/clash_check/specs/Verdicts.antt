@@ -1,39 +1,17 @@
 -- Meaning. The verdict on a run of a job: the first that fits of RACE, ALARM, STUCK, UNDECIDED, NO and YES.
-use Rattle.std.specs.Prelude.{ℕ, ◌==◌, nat_lt, Bool, if◌then◌else◌, List, filter, find, Option, None, Some}
-use Rattle.std.specs.List.{list_any, zip}
+use Rattle.std.specs.Prelude.{nat_lt, if◌then◌else◌, find, Option, None, Some}
 use Rattle.clash_check.specs.Counts.{count_of}
-use Rattle.clash_check.specs.FirstAnswer.{first_some}
 use Rattle.job_types.specs.Job.{JobView}
 use Rattle.protection_zones.specs.Overlaps.{Order, BoxPlace, Pair, compared_pairs}
 use Rattle.protection_zones.specs.Pieces.{pair_meets}
 use Rattle.protection_zones.specs.Stretches.{StretchesView}
-use Rattle.sync_types.specs.Boards.{channel_numbers}
+use Rattle.stop_verdicts.specs.FirstAnswer.{first_some}
+pub use Rattle.stop_verdicts.specs.Stops.{alarm_by, has_channel, or_else, race_verdict, stops_of, stuck_by}
 use Rattle.sync_types.specs.Views.{RunView}
-use Rattle.sync_types.specs.declared.ChannelEnd.{ChannelEnd}
-use Rattle.sync_types.specs.declared.ChannelEnd.TheVariants as end
 use Rattle.sync_types.specs.declared.runs.Race.{Race}
 use Rattle.sync_types.specs.declared.verdicts.PlaceName.{PlaceName}
 use Rattle.sync_types.specs.declared.verdicts.Verdict.{Verdict}
 use Rattle.sync_types.specs.declared.verdicts.Verdict.TheVariants as verdicts
-
--- ---- how the channels have stopped
-
-abbrev pub has_channel : JobView → ℕ → Bool
-has_channel job channel = list_any (λ line. line.channel == channel) job.channels
-
--- each channel of the job with how it has stopped, the lowest first
-unfoldable pub stops_of : JobView → RunView → List (ℕ × ChannelEnd)
-stops_of job run = zip (filter (has_channel job) channel_numbers) run.ends
-
--- ALARM of a channel that an alarm has stopped
-abbrev pub alarm_by : ℕ → ChannelEnd → Option Verdict
-alarm_by channel (end.Alarmed alarm) = Some (verdicts.Alarm channel alarm)
-alarm_by channel other = None
-
--- STUCK of a channel that waits
-abbrev pub stuck_by : ℕ → ChannelEnd → Option Verdict
-stuck_by channel (end.Holding line) = Some (verdicts.Stuck channel line)
-stuck_by channel other = None
 
 -- ---- boxes that meet
 
@@ -55,15 +33,6 @@ budget_verdict before job stretches =
     if nat_lt job.budget (count_of before job stretches) then Some (verdicts.Undecided (count_of before job stretches) job.budget) else None
 
 -- ---- the verdict
-
-abbrev pub race_verdict : Option Race → Option Verdict
-race_verdict None = None
-race_verdict (Some race) = Some (verdicts.Race race)
-
--- the first that fits, of these
-abbrev pub or_else : Option Verdict → Verdict → Verdict
-or_else None later = later
-or_else (Some verdict) later = verdict
 
 -- the verdict on a run of a job with this order of events, this first race and these stretches
 unfoldable pub verdict_by : Order → Option Race → JobView → RunView → StretchesView → Verdict

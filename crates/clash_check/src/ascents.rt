@@ -1,10 +1,13 @@
 //! Which stretches of a zone may overlap one of another: the stretches of a zone come one after another, so these stand side by
 //! side.
-ghost use Rattle.std.specs.Prelude.{◌≡◌, ◌+◌, ◌-◌, ◌<◌, ◌≤◌, not, Bool, true, false, drop, take, length};
+ghost use Rattle.std.specs.Prelude.{◌≡◌, ◌≤◌, Bool, true, false, [], ◌∷◌, drop, take, length, slice_index_or};
 ghost use Rattle.clash_check.specs.Ascents as model;
+ghost use Rattle.clash_check.specs.Ascents.{IsTimed};
+ghost use Rattle.clash_check.specs.Times.{lists_in};
 ghost use Rattle.order_clocks.specs.Tells.{is_before_in};
 
 use crate::overlaps::{is_open_at, is_upto};
+use axis_sets::ZONE_LIMIT;
 use order_clocks::Clocks;
 use protection_zones::Stretch;
 use sync_types::EventId;
@@ -17,6 +20,17 @@ pub(crate) struct Range {
     pub(crate) from: usize,
     /// The place after the last.
     pub(crate) upto: usize,
+}
+
+/// A walk along the stretches of a zone: for each of them the places are found of the stretches of another zone that may overlap it.
+#[derive(Clone, Copy)]
+pub(crate) struct Walk {
+    /// Whether each stretch that is walked along is over as the next begins, so that the places only go on.
+    pub(crate) ascends: bool,
+    /// The places found last.
+    pub(crate) range: Range,
+    /// How far the places go, where they only go on.
+    pub(crate) limit: Range,
 }
 
 /// Whether a stretch is over as another begins.
@@ -70,6 +84,24 @@ pub(crate) fn do_ascend(clocks: &Clocks, stretches: &[Stretch]) -> bool
     true
 }
 
+/// Of the zones, by their places, those of which each stretch is over as the next begins.
+pub(crate) fn ascents_of(clocks: &Clocks, lists: &[Vec<Stretch>]) -> [bool; ZONE_LIMIT]
+    ensures { model.AreAscents (is_before_in clocks.now.rows) (lists_in lists.now) result }
+{
+    let mut ascents = [false; ZONE_LIMIT];
+    for place in 0..lists.len().min(ZONE_LIMIT) {
+        ascents[place] = do_ascend(clocks, lists[place].as_slice());
+    }
+    ascents
+}
+
+/// Whether the zone of this place is known as one of those of which each stretch is over as the next begins.
+pub(crate) fn ascends_at(ascents: &[bool; ZONE_LIMIT], place: usize) -> bool
+    ensures { result ≡ slice_index_or ascents.now place false }
+{
+    place < ZONE_LIMIT && ascents[place]
+}
+
 /// Whether a stretch of another zone is over as this one begins; or where that is asked, whether it begins before this one is
 /// over.
 fn passes(clocks: &Clocks, ended: bool, own: &Stretch, other: &Stretch) -> bool
@@ -82,51 +114,102 @@ fn passes(clocks: &Clocks, ended: bool, own: &Stretch, other: &Stretch) -> bool
     }
 }
 
-/// The place to look on from: this one, where the stretch before it passes, and else the first.
-fn place_from(clocks: &Clocks, ended: bool, own: &Stretch, others: &[Stretch], hint: usize) -> usize
-    requires { model.PassFirst (model.passes (is_before_in clocks.now.rows) ended own.now) others.now }
-    ensures within { result ≤ length others.now }
-    ensures left { result + model.leading (model.passes (is_before_in clocks.now.rows) ended own.now) (drop result others.now) ≡ model.leading (model.passes (is_before_in clocks.now.rows) ended own.now) others.now }
-{
-    if 0 < hint && hint <= others.len() && passes(clocks, ended, own, &others[hint - 1]) {
-        hint
-    } else {
-        0
-    }
-}
-
-/// How many stretches pass before the first that does not.
+/// How many stretches pass before the first that does not: no fewer than the one number and no more than the other.
 fn count_passing(
     clocks: &Clocks,
     ended: bool,
     own: &Stretch,
     others: &[Stretch],
-    hint: usize,
+    low: usize,
+    high: usize,
 ) -> usize
-    requires { model.PassFirst (model.passes (is_before_in clocks.now.rows) ended own.now) others.now }
-    ensures within { result ≤ length others.now }
-    ensures leading { result ≡ model.leading (model.passes (is_before_in clocks.now.rows) ended own.now) others.now }
+    requires low { low ≤ model.leading (model.passes (is_before_in clocks.now.rows) ended own.now) others.now }
+    requires high { model.leading (model.passes (is_before_in clocks.now.rows) ended own.now) others.now ≤ high }
+    requires within { high ≤ length others.now }
+    ensures { result ≡ model.leading (model.passes (is_before_in clocks.now.rows) ended own.now) others.now }
 {
-    let first = place_from(clocks, ended, own, others, hint);
-    for place in first..others.len() {
+    for place in low..high {
         if !passes(clocks, ended, own, &others[place]) {
             return place;
         }
     }
-    others.len()
+    high
 }
 
-/// The places of the stretches that may overlap this one, found from those of an earlier stretch.
-pub(crate) fn range_of(clocks: &Clocks, own: &Stretch, others: &[Stretch], hint: Range) -> Range
+/// How many stretches pass before the first that does not, found by halves.
+fn count_by_halves(clocks: &Clocks, ended: bool, own: &Stretch, others: &[Stretch]) -> usize
+    requires { model.PassFirst (model.passes (is_before_in clocks.now.rows) ended own.now) others.now }
+    ensures { result ≡ model.leading (model.passes (is_before_in clocks.now.rows) ended own.now) others.now }
+{
+    let mut low = 0;
+    let mut high = others.len();
+    while low < high {
+        let middle = low + (high - low) / 2;
+        if passes(clocks, ended, own, &others[middle]) {
+            low = middle + 1;
+        } else {
+            high = middle;
+        }
+    }
+    low
+}
+
+/// The places of the stretches that may overlap this one, found by halves.
+fn range_by_halves(clocks: &Clocks, own: &Stretch, others: &[Stretch]) -> Range
     requires { (ended : Bool) → model.PassFirst (model.passes (is_before_in clocks.now.rows) ended own.now) others.now }
+    ensures from { result.from ≡ model.leading (model.passes (is_before_in clocks.now.rows) true own.now) others.now }
+    ensures upto { result.upto ≡ model.leading (model.passes (is_before_in clocks.now.rows) false own.now) others.now }
+{
+    Range {
+        from: count_by_halves(clocks, true, own, others),
+        upto: count_by_halves(clocks, false, own, others),
+    }
+}
+
+/// A walk along the stretches of a zone, at its start. Where these ascend, the places go from those of the first to those of the last.
+pub(crate) fn start_walk(
+    clocks: &Clocks,
+    own: &[Stretch],
+    others: &[Stretch],
+    ascends: bool,
+) -> Walk
+    requires timed { IsTimed (is_before_in clocks.now.rows) own.now (others.now ∷ []) }
+    requires ascend { ascends ≡ true → model.do_ascend (is_before_in clocks.now.rows) own.now ≡ true }
+    requires others { model.do_ascend (is_before_in clocks.now.rows) others.now ≡ true }
+    ensures { model.IsWalk (is_before_in clocks.now.rows) own.now others.now 0 result }
+{
+    if !ascends || own.is_empty() {
+        let none = Range { from: 0, upto: 0 };
+        return Walk {
+            ascends: false,
+            range: none,
+            limit: none,
+        };
+    }
+    Walk {
+        ascends,
+        range: range_by_halves(clocks, &own[0], others),
+        limit: range_by_halves(clocks, &own[own.len() - 1], others),
+    }
+}
+
+/// The places of the stretches that may overlap this one, the next of a walk.
+pub(crate) fn range_of(clocks: &Clocks, own: &Stretch, others: &[Stretch], walk: Walk) -> Range
+    requires passing { (ended : Bool) → model.PassFirst (model.passes (is_before_in clocks.now.rows) ended own.now) others.now }
+    requires known { walk.ascends ≡ true → model.IsBetween (is_before_in clocks.now.rows) own.now others.now walk.range walk.limit }
     ensures within_from { result.from ≤ length others.now }
     ensures within { result.upto ≤ length others.now }
     ensures from { result.from ≡ model.leading (model.passes (is_before_in clocks.now.rows) true own.now) others.now }
     ensures upto { result.upto ≡ model.leading (model.passes (is_before_in clocks.now.rows) false own.now) others.now }
 {
+    if !walk.ascends {
+        return range_by_halves(clocks, own, others);
+    }
+    let low = walk.range;
+    let high = walk.limit;
     Range {
-        from: count_passing(clocks, true, own, others, hint.from),
-        upto: count_passing(clocks, false, own, others, hint.upto),
+        from: count_passing(clocks, true, own, others, low.from, high.from),
+        upto: count_passing(clocks, false, own, others, low.upto, high.upto),
     }
 }
 

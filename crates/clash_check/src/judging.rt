@@ -10,11 +10,11 @@ ghost use Rattle.order_clocks.specs.Tells.{is_before_in};
 ghost use Rattle.protection_zones.specs.ZoneBoxes.{IsFit};
 ghost use Rattle.sync_types.specs.declared.verdicts.Verdict.{Verdict};
 
+use crate::ascents::ascents_of;
 use crate::meetings::Scene;
 use crate::nearby::KEPT_LIMIT;
 use crate::pair_counts::count;
 use crate::sharing::first_by_threads;
-use crate::stops::{first_alarm, first_stuck, stops_of};
 use crate::zone_pairs::{first_of_pairs, lists_of, zone_pairs};
 use job_types::Job;
 use nc_faults::NoMemory;
@@ -22,6 +22,7 @@ use order_clocks::Clocks;
 use protection_zones::Stretches;
 use std::alloc::Global;
 use std::thread::Threads;
+use stop_verdicts::stopped_verdict;
 use sync_types::{Entry, PlaceName, Run, Verdict};
 
 /// How many channels go on in a step: at most as many as there may be.
@@ -46,23 +47,6 @@ fn entries_of(run: &Run) -> &[Entry]
     ensures { result.now ≡ run.now.entries }
 {
     run.entries.as_slice()
-}
-
-/// The verdict of a run that has not come to its end: RACE where the run has a race, with the first; ALARM of the lowest channel that
-/// an alarm has stopped; STUCK of the lowest that waits.
-fn stopped_verdict(job: &Job, run: &Run, clocks: &Clocks) -> Option<Verdict>
-    ensures { (later : Verdict) → model.or_else result later ≡ model.or_else (model.race_verdict clocks.now.race)
-        (model.or_else (first_some (λ stop. model.alarm_by stop.0 stop.1) (model.stops_of job.now run.now))
-        (model.or_else (first_some (λ stop. model.stuck_by stop.0 stop.1) (model.stops_of job.now run.now)) later)) }
-{
-    if let Some(race) = clocks.first_race() {
-        return Some(Verdict::Race(race));
-    }
-    let stops = stops_of(job, run);
-    if let Some(verdict) = first_alarm(stops.as_slice()) {
-        return Some(verdict);
-    }
-    first_stuck(stops.as_slice())
 }
 
 /// UNDECIDED where more pairs of boxes are to be compared than the job allows.
@@ -94,7 +78,7 @@ fn verdict_before(job: &Job, run: &Run, stretches: &Stretches, clocks: &Clocks) 
         (model.or_else (first_some (λ stop. model.stuck_by stop.0 stop.1) (model.stops_of job.now run.now))
         (model.or_else (model.budget_verdict (is_before_in clocks.now.rows) job.now stretches.now) later))) }
 {
-    match stopped_verdict(job, run, clocks) {
+    match stopped_verdict(job, run, clocks.first_race()) {
         Some(verdict) => Some(verdict),
         None => budget_verdict(job, run, stretches, clocks),
     }
@@ -140,8 +124,9 @@ pub fn judge(
         clocks,
     };
     let lists = lists_of(stretches);
+    let ascents = ascents_of(clocks, lists);
     let pairs = zone_pairs(alloc, lists.len())?;
-    Ok(verdict_by_names(first_of_pairs(&scene, lists, &pairs)))
+    Ok(verdict_by_names(first_of_pairs(&scene, lists, &ascents, &pairs)))
 }
 
 /// The verdict that `judge` gives. The pairs of zones are shared out to threads, in at most 16 chunks, each with a thread of its own
@@ -174,7 +159,8 @@ pub fn judge_shared<R: Threads + Sync>(
         clocks,
     };
     let lists = lists_of(stretches);
+    let ascents = ascents_of(clocks, lists);
     let pairs = zone_pairs(alloc, lists.len())?;
-    let names = first_by_threads(rt, &scene, lists, &pairs);
+    let names = first_by_threads(rt, &scene, lists, &ascents, &pairs);
     Ok(verdict_by_names(names))
 }

@@ -11,7 +11,6 @@ mod place_ranges;
 mod running;
 mod sharing;
 mod shown;
-mod stops;
 mod zone_pairs;
 
 pub use box_tree::plain_first;

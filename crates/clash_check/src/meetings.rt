@@ -17,7 +17,7 @@ ghost use Rattle.protection_zones.specs.ZoneBoxes.{IsFit};
 ghost use Rattle.protection_zones.specs.declared.stretches.ZoneBox.{ZoneBox};
 ghost use Rattle.swept_boxes.specs.Boxes.{boxes_meet};
 
-use crate::ascents::{Range, do_ascend, part, range_of};
+use crate::ascents::{Range, part, range_of, start_walk};
 use crate::nearby::{Kept, Memory, TREE_OTHERS, kept_for, new_memory, next_near, renew};
 use crate::overlaps::{may_overlap, share_channel};
 use crate::place_ranges::{do_boxes_ascend, place_range};
@@ -468,22 +468,25 @@ fn first_of_ascending<'a>(
     scene: &Scene,
     zone: &'a ZoneLine,
     own: &'a [Stretch],
+    own_ascends: bool,
     other: &ZoneLine,
     others: &[Stretch],
     next: &[usize],
 ) -> Option<(PlaceName, PlaceName)>
     requires fit { All (All IsFit) scene.now.run.now.items }
     requires timed { IsTimed (is_before_in scene.now.clocks.now.rows) own.now (others.now ∷ []) }
+    requires own_ascend { own_ascends ≡ true → ascents.do_ascend (is_before_in scene.now.clocks.now.rows) own.now ≡ true }
     requires ascend { ascents.do_ascend (is_before_in scene.now.clocks.now.rows) others.now ≡ true }
     requires next { IsNext others.now next.now }
     ensures { result ≡ first_some (model.first_against (record { job = scene.now.job.now; run = scene.now.run.now; before = is_before_in scene.now.clocks.now.rows })
         zone.now (record { zone = other.now; stretches = others.now })) own.now }
 {
-    let mut range = Range { from: 0, upto: 0 };
+    let mut walk = start_walk(scene.clocks, own, others, own_ascends);
     let mut memory = new_memory(scene.alloc);
     for stretch in own {
         let left = Held { zone, stretch };
-        range = range_of(scene.clocks, stretch, others, range);
+        let range = range_of(scene.clocks, stretch, others, walk);
+        walk.range = range;
         if let Some(names) = first_in_range(scene, &left, other, others, next, range, &mut memory) {
             return Some(names);
         }
@@ -498,22 +501,34 @@ pub(crate) fn first_of_zones(
     scene: &Scene,
     zone: &ZoneLine,
     own: &[Stretch],
+    own_ascends: bool,
     other: &ZoneLine,
     others: &[Stretch],
+    others_ascend: bool,
 ) -> Option<(PlaceName, PlaceName)>
     requires fit { All (All IsFit) scene.now.run.now.items }
     requires timed { IsTimed (is_before_in scene.now.clocks.now.rows) own.now (others.now ∷ []) }
+    requires own_ascend { own_ascends ≡ true → ascents.do_ascend (is_before_in scene.now.clocks.now.rows) own.now ≡ true }
+    requires others_ascend { others_ascend ≡ true → ascents.do_ascend (is_before_in scene.now.clocks.now.rows) others.now ≡ true }
     ensures { result ≡ model.first_of_zones (record { job = scene.now.job.now; run = scene.now.run.now; before = is_before_in scene.now.clocks.now.rows })
         (record { zone = zone.now; stretches = own.now }) (record { zone = other.now; stretches = others.now }) }
 {
     if zone.group == other.group {
         return None;
     }
-    if !do_ascend(scene.clocks, others) {
+    if !others_ascend {
         return first_of_all(scene, zone, own, other, others);
     }
     match next_shown(scene.alloc, others) {
-        Ok(next) => first_of_ascending(scene, zone, own, other, others, next.as_slice()),
+        Ok(next) => first_of_ascending(
+            scene,
+            zone,
+            own,
+            own_ascends,
+            other,
+            others,
+            next.as_slice(),
+        ),
         Err(_) => first_of_all(scene, zone, own, other, others),
     }
 }

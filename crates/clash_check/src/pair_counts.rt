@@ -1,7 +1,7 @@
 //! How many pairs of boxes are compared.
 ghost use Rattle.std.specs.Prelude.{◌≡◌, ◌<◌, ◌+◌, ◌^◌, true, [], ◌∷◌, length, sum_by};
 ghost use Rattle.std.specs.List.{count_by};
-ghost use Rattle.clash_check.specs.Ascents as ascents;
+ghost use Rattle.clash_check.specs.Ascents as orders;
 ghost use Rattle.clash_check.specs.Ascents.{IsTimed};
 ghost use Rattle.clash_check.specs.Counts.{count_of};
 ghost use Rattle.clash_check.specs.Judged.{IsTold};
@@ -12,12 +12,12 @@ ghost use Rattle.order_clocks.specs.Tells.{is_before_in};
 ghost use Rattle.protection_zones.specs.Overlaps.{ZoneTime, share_place};
 ghost use Rattle.sync_types.specs.Views.{RunView};
 
-use crate::ascents::{Range, do_ascend, range_of};
+use crate::ascents::{Range, ascends_at, ascents_of, range_of, start_walk};
 use crate::overlaps::{may_overlap, share_channel, share_place};
 use crate::place_ranges::{do_boxes_ascend, place_range};
 use crate::running::{Boxes, boxes_before, count_in_range, mark_latest};
 use crate::zone_pairs::lists_of;
-use axis_sets::CHANNEL_PLACES;
+use axis_sets::{CHANNEL_PLACES, ZONE_LIMIT};
 use job_types::{Job, ZoneLine};
 use order_clocks::Clocks;
 use protection_zones::{Stretch, Stretches, ZoneBox, zone_at};
@@ -128,18 +128,20 @@ fn count_all(clocks: &Clocks, own: &[Stretch], others: &[Stretch]) -> u64
 
 /// The pairs of the stretches of two zones, where each of the second is over as the next begins: a stretch of the first is looked
 /// at with those alone that it may overlap.
-fn count_ascending(clocks: &Clocks, own: &[Stretch], others: &[Stretch]) -> u64
+fn count_ascending(clocks: &Clocks, own: &[Stretch], others: &[Stretch], own_ascends: bool) -> u64
     requires timed { IsTimed (is_before_in clocks.now.rows) own.now (others.now ∷ []) }
-    requires ascend { ascents.do_ascend (is_before_in clocks.now.rows) others.now ≡ true }
+    requires own_ascend { own_ascends ≡ true → orders.do_ascend (is_before_in clocks.now.rows) own.now ≡ true }
+    requires ascend { orders.do_ascend (is_before_in clocks.now.rows) others.now ≡ true }
     ensures { result ≡ model.capped (sum_by (model.count_against (is_before_in clocks.now.rows) others.now) own.now) }
 {
-    let mut range = Range { from: 0, upto: 0 };
+    let mut walk = start_walk(clocks, own, others, own_ascends);
     let mut before = Boxes { place: 0, boxes: 0 };
     let mut upto = Boxes { place: 0, boxes: 0 };
     let mut latest = [0; CHANNEL_PLACES];
     let mut count: u64 = 0;
     for left in own {
-        range = range_of(clocks, left, others, range);
+        let range = range_of(clocks, left, others, walk);
+        walk.range = range;
         mark_latest(&mut latest, others, upto.place, range.upto);
         before = boxes_before(others, range.from, before);
         upto = boxes_before(others, range.upto, upto);
@@ -156,17 +158,21 @@ fn count_of_zones(
     clocks: &Clocks,
     zone: &ZoneLine,
     own: &[Stretch],
+    own_ascends: bool,
     other: &ZoneLine,
     others: &[Stretch],
+    others_ascend: bool,
 ) -> u64
     requires timed { IsTimed (is_before_in clocks.now.rows) own.now (others.now ∷ []) }
+    requires own_ascend { own_ascends ≡ true → orders.do_ascend (is_before_in clocks.now.rows) own.now ≡ true }
+    requires others_ascend { others_ascend ≡ true → orders.do_ascend (is_before_in clocks.now.rows) others.now ≡ true }
     ensures { result ≡ model.capped (model.count_of_zones (is_before_in clocks.now.rows) (record { zone = zone.now; stretches = own.now }) (record { zone = other.now; stretches = others.now })) }
 {
     if zone.group == other.group {
         return 0;
     }
-    if do_ascend(clocks, others) {
-        count_ascending(clocks, own, others)
+    if others_ascend {
+        count_ascending(clocks, own, others, own_ascends)
     } else {
         count_all(clocks, own, others)
     }
@@ -176,18 +182,30 @@ fn count_of_zones(
 fn count_with_place(
     job: &Job,
     lists: &[Vec<Stretch>],
+    ascents: &[bool; ZONE_LIMIT],
     clocks: &Clocks,
     zone: &ZoneLine,
     own: &[Stretch],
+    own_ascends: bool,
     place: usize,
 ) -> u64
     requires place { place < length lists.now }
+    requires ascents { orders.AreAscents (is_before_in clocks.now.rows) (lists_in lists.now) ascents.now }
+    requires own_ascend { own_ascends ≡ true → orders.do_ascend (is_before_in clocks.now.rows) own.now ≡ true }
     requires timed { IsTimed (is_before_in clocks.now.rows) own.now (lists_in lists.now) }
     ensures { result ≡ model.capped (model.count_with_place (is_before_in clocks.now.rows) (record { zone = zone.now; stretches = own.now }) job.now (lists_in lists.now) place) }
 {
     match zone_at(job, place) {
         None => 0,
-        Some(other) => count_of_zones(clocks, zone, own, &other, lists[place].as_slice()),
+        Some(other) => count_of_zones(
+            clocks,
+            zone,
+            own,
+            own_ascends,
+            &other,
+            lists[place].as_slice(),
+            ascends_at(ascents, place),
+        ),
     }
 }
 
@@ -195,24 +213,44 @@ fn count_with_place(
 fn count_with(
     job: &Job,
     lists: &[Vec<Stretch>],
+    ascents: &[bool; ZONE_LIMIT],
     clocks: &Clocks,
     zone: &ZoneLine,
     own: &[Stretch],
+    own_ascends: bool,
     from: usize,
 ) -> u64
+    requires ascents { orders.AreAscents (is_before_in clocks.now.rows) (lists_in lists.now) ascents.now }
+    requires own_ascend { own_ascends ≡ true → orders.do_ascend (is_before_in clocks.now.rows) own.now ≡ true }
     requires timed { IsTimed (is_before_in clocks.now.rows) own.now (lists_in lists.now) }
     ensures { result ≡ model.capped (sum_by (model.count_of_zones (is_before_in clocks.now.rows) (record { zone = zone.now; stretches = own.now })) (times_from job.now (lists_in lists.now) from)) }
 {
     let mut count: u64 = 0;
     for place in from..lists.len() {
-        count = count.saturating_add(count_with_place(job, lists, clocks, zone, own, place));
+        count = count.saturating_add(count_with_place(
+            job,
+            lists,
+            ascents,
+            clocks,
+            zone,
+            own,
+            own_ascends,
+            place,
+        ));
     }
     count
 }
 
 /// The pairs of the zone of this place with each later one.
-fn count_from_place(job: &Job, lists: &[Vec<Stretch>], clocks: &Clocks, place: usize) -> u64
+fn count_from_place(
+    job: &Job,
+    lists: &[Vec<Stretch>],
+    ascents: &[bool; ZONE_LIMIT],
+    clocks: &Clocks,
+    place: usize,
+) -> u64
     requires place { place < length lists.now }
+    requires ascents { orders.AreAscents (is_before_in clocks.now.rows) (lists_in lists.now) ascents.now }
     requires timed { IsTimed (is_before_in clocks.now.rows) [] (lists_in lists.now) }
     ensures { result ≡ model.capped (model.count_from_place (is_before_in clocks.now.rows) job.now (lists_in lists.now) place) }
 {
@@ -221,9 +259,11 @@ fn count_from_place(job: &Job, lists: &[Vec<Stretch>], clocks: &Clocks, place: u
         Some(zone) => count_with(
             job,
             lists,
+            ascents,
             clocks,
             &zone,
             lists[place].as_slice(),
+            ascends_at(ascents, place),
             place + 1,
         ),
     }
@@ -234,9 +274,10 @@ fn count_in(job: &Job, lists: &[Vec<Stretch>], clocks: &Clocks) -> u64
     requires { IsTimed (is_before_in clocks.now.rows) [] (lists_in lists.now) }
     ensures { result ≡ model.capped (model.count_in_times (is_before_in clocks.now.rows) (times_from job.now (lists_in lists.now) 0)) }
 {
+    let ascents = ascents_of(clocks, lists);
     let mut count: u64 = 0;
     for place in 0..lists.len() {
-        count = count.saturating_add(count_from_place(job, lists, clocks, place));
+        count = count.saturating_add(count_from_place(job, lists, &ascents, clocks, place));
     }
     count
 }

@@ -1,6 +1,6 @@
 //! The pairs of zones are shared out to threads, in chunks.
 ghost use Rattle.std.specs.Prelude.{◌≡◌, ℕ, ◌<◌, [], All, IfOk};
-ghost use Rattle.clash_check.specs.Ascents.{IsTimed};
+ghost use Rattle.clash_check.specs.Ascents.{AreAscents, IsTimed};
 ghost use Rattle.clash_check.specs.Chunks as model;
 ghost use Rattle.clash_check.specs.FirstAnswer.{first_some};
 ghost use Rattle.clash_check.specs.Times.{lists_in};
@@ -10,6 +10,7 @@ ghost use Rattle.protection_zones.specs.ZoneBoxes.{IsFit};
 
 use crate::meetings::Scene;
 use crate::zone_pairs::first_of_pairs;
+use axis_sets::ZONE_LIMIT;
 use protection_zones::Stretch;
 use std::alloc::{AllocError, Global};
 use std::thread;
@@ -43,22 +44,24 @@ trait Seeks {
 struct Zones<'a, 'b> {
     scene: Scene<'a>,
     lists: &'b [Vec<Stretch>],
+    ascents: &'b [bool; ZONE_LIMIT],
 }
 
 impl Seeks for Zones<'_, '_> {
     ghost use Rattle.std.specs.Prelude.{[], All};
-    ghost use Rattle.clash_check.specs.Ascents.{IsTimed};
+    ghost use Rattle.clash_check.specs.Ascents.{AreAscents, IsTimed};
     ghost use Rattle.clash_check.specs.Times.{lists_in};
     ghost use Rattle.clash_check.specs.ZonePairs.{first_of_pairs};
     ghost use Rattle.order_clocks.specs.Tells.{is_before_in};
     ghost use Rattle.protection_zones.specs.ZoneBoxes.{IsFit};
 
-    ghost ready = { λ zones. All (All IsFit) zones.scene.run.now.items × IsTimed (is_before_in zones.scene.clocks.now.rows) [] (lists_in zones.lists.now) };
+    ghost ready = { λ zones. All (All IsFit) zones.scene.run.now.items × IsTimed (is_before_in zones.scene.clocks.now.rows) [] (lists_in zones.lists.now)
+        × AreAscents (is_before_in zones.scene.clocks.now.rows) (lists_in zones.lists.now) zones.ascents.now };
 
     ghost found = { λ zones pairs. first_of_pairs (record { job = zones.scene.job.now; run = zones.scene.run.now; before = is_before_in zones.scene.clocks.now.rows }) (lists_in zones.lists.now) pairs };
 
     fn seek(&self, pairs: &[(usize, usize)]) -> Option<(PlaceName, PlaceName)> {
-        first_of_pairs(&self.scene, self.lists, pairs)
+        first_of_pairs(&self.scene, self.lists, self.ascents, pairs)
     }
 }
 
@@ -104,10 +107,12 @@ fn seek_by_threads<R: Threads + Sync>(
     rt: &R,
     scene: &Scene,
     lists: &[Vec<Stretch>],
+    ascents: &[bool; ZONE_LIMIT],
     pairs: &[(usize, usize)],
 ) -> Result<Option<(PlaceName, PlaceName)>, AllocError>
     requires fit { All (All IsFit) scene.now.run.now.items }
     requires timed { IsTimed (is_before_in scene.now.clocks.now.rows) [] (lists_in lists.now) }
+    requires ascents { AreAscents (is_before_in scene.now.clocks.now.rows) (lists_in lists.now) ascents.now }
     ensures { IfOk result (λ names. names ≡ first_of_pairs (record { job = scene.now.job.now; run = scene.now.run.now; before = is_before_in scene.now.clocks.now.rows })
         (lists_in lists.now) pairs.now) }
 {
@@ -122,6 +127,7 @@ fn seek_by_threads<R: Threads + Sync>(
             clocks: scene.clocks,
         },
         lists,
+        ascents,
     };
     let answers = seek_in_chunks(rt, scene.alloc, &zones, pairs, size)?;
     Ok(first_answer(&answers))
@@ -133,15 +139,17 @@ pub(crate) fn first_by_threads<R: Threads + Sync>(
     rt: &R,
     scene: &Scene,
     lists: &[Vec<Stretch>],
+    ascents: &[bool; ZONE_LIMIT],
     pairs: &[(usize, usize)],
 ) -> Option<(PlaceName, PlaceName)>
     requires fit { All (All IsFit) scene.now.run.now.items }
     requires timed { IsTimed (is_before_in scene.now.clocks.now.rows) [] (lists_in lists.now) }
+    requires ascents { AreAscents (is_before_in scene.now.clocks.now.rows) (lists_in lists.now) ascents.now }
     ensures { result ≡ first_of_pairs (record { job = scene.now.job.now; run = scene.now.run.now; before = is_before_in scene.now.clocks.now.rows })
         (lists_in lists.now) pairs.now }
 {
-    match seek_by_threads(rt, scene, lists, pairs) {
+    match seek_by_threads(rt, scene, lists, ascents, pairs) {
         Ok(names) => names,
-        Err(_) => first_of_pairs(scene, lists, pairs),
+        Err(_) => first_of_pairs(scene, lists, ascents, pairs),
     }
 }

@@ -1,12 +1,14 @@
 //! The pairs of zones, and the first two boxes of some of these pairs that meet.
 ghost use Rattle.std.specs.Prelude.{◌≡◌, ℕ, ◌+◌, ◌-◌, ◌<◌, [], ◌++◌, All, IfOk, length, slice_index_or};
-ghost use Rattle.clash_check.specs.Ascents.{IsTimed};
+ghost use Rattle.clash_check.specs.Ascents.{AreAscents, IsTimed};
 ghost use Rattle.clash_check.specs.Times.{lists_in};
 ghost use Rattle.clash_check.specs.ZonePairs as model;
 ghost use Rattle.order_clocks.specs.Tells.{is_before_in};
 ghost use Rattle.protection_zones.specs.ZoneBoxes.{IsFit};
 
+use crate::ascents::ascends_at;
 use crate::meetings::{Scene, first_of_zones};
+use axis_sets::ZONE_LIMIT;
 use nc_faults::NoMemory;
 use protection_zones::{Stretch, Stretches, zone_at};
 use std::alloc::Global;
@@ -56,10 +58,12 @@ fn stretches_at(lists: &[Vec<Stretch>], place: usize) -> &[Stretch]
 fn first_of_pair(
     scene: &Scene,
     lists: &[Vec<Stretch>],
+    ascents: &[bool; ZONE_LIMIT],
     pair: (usize, usize),
 ) -> Option<(PlaceName, PlaceName)>
     requires fit { All (All IsFit) scene.now.run.now.items }
     requires timed { IsTimed (is_before_in scene.now.clocks.now.rows) [] (lists_in lists.now) }
+    requires ascents { AreAscents (is_before_in scene.now.clocks.now.rows) (lists_in lists.now) ascents.now }
     ensures { result ≡ model.first_of_pair (record { job = scene.now.job.now; run = scene.now.run.now; before = is_before_in scene.now.clocks.now.rows }) (lists_in lists.now) pair }
 {
     let (place, later) = pair;
@@ -69,7 +73,18 @@ fn first_of_pair(
             None => None,
             Some(other) => {
                 let own = stretches_at(lists, place);
-                first_of_zones(scene, &zone, own, &other, stretches_at(lists, later))
+                let others = stretches_at(lists, later);
+                let own_ascends = ascends_at(ascents, place);
+                let others_ascend = ascends_at(ascents, later);
+                first_of_zones(
+                    scene,
+                    &zone,
+                    own,
+                    own_ascends,
+                    &other,
+                    others,
+                    others_ascend,
+                )
             }
         },
     }
@@ -79,14 +94,16 @@ fn first_of_pair(
 pub(crate) fn first_of_pairs(
     scene: &Scene,
     lists: &[Vec<Stretch>],
+    ascents: &[bool; ZONE_LIMIT],
     pairs: &[(usize, usize)],
 ) -> Option<(PlaceName, PlaceName)>
     requires fit { All (All IsFit) scene.now.run.now.items }
     requires timed { IsTimed (is_before_in scene.now.clocks.now.rows) [] (lists_in lists.now) }
+    requires ascents { AreAscents (is_before_in scene.now.clocks.now.rows) (lists_in lists.now) ascents.now }
     ensures { result ≡ model.first_of_pairs (record { job = scene.now.job.now; run = scene.now.run.now; before = is_before_in scene.now.clocks.now.rows }) (lists_in lists.now) pairs.now }
 {
     for pair in pairs {
-        if let Some(names) = first_of_pair(scene, lists, *pair) {
+        if let Some(names) = first_of_pair(scene, lists, ascents, *pair) {
             return Some(names);
         }
     }

@@ -1,4 +1,5 @@
 use Rattle.std.proofs.Common.{◌≡◌, drop}
+use Rattle.clash_check.specs.Ascents.{IsWalk}
 use Rattle.clash_check.specs.FirstAnswer.{first_some}
 use Rattle.clash_check.specs.Meetings as model
 use Rattle.clash_check.specs.Passing.{IsMemoryOfAny}
@@ -10,3 +11,4 @@ invariant-loop-stretch l =
     (first_some (model.first_against (record { job = l.scene.job.now; run = l.scene.run.now; before = is_before_in l.scene.clocks.now.rows }) l.zone (record { zone = l.other; stretches = l.others })) (drop l.stretch-index l.own)
     ≡ first_some (model.first_against (record { job = l.scene.job.now; run = l.scene.run.now; before = is_before_in l.scene.clocks.now.rows }) l.zone (record { zone = l.other; stretches = l.others })) l.own)
     × IsMemoryOfAny l.scene.job.now l.scene.run.now l.zone l.other l.others l.memory
+    × IsWalk (is_before_in l.scene.clocks.now.rows) l.own l.others l.stretch-index l.walk

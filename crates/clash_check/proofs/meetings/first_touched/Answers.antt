@@ -1,4 +1,4 @@
-use Rattle.std.proofs.Common.{◌≡◌, ◌∙◌, ◌≤◌, Bool, true, false, List, length, Option, None, Some, is_some, refl, ap, subst, sym, arith}
+use Rattle.std.proofs.Common.{◌≡◌, ◌∙◌, ◌≤◌, Bool, true, false, length, Option, None, Some, is_some, refl, ap, subst, sym, arith}
 use Rattle.order_clocks.specs.Tells.{is_before_in}
 use Rattle.clash_check.proofs.KeptLaws.{all_far, past_far}
 use Rattle.clash_check.proofs.PassedLaws.{no_names, none_met}

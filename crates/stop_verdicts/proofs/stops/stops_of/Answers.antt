@@ -1,10 +1,10 @@
 use Rattle.std.proofs.Common.{◌≡◌, ◌∙◌, List, length, sym, ap, arith}
 use Rattle.axis_sets.specs.declared.limits.TheConstants.{CHANNEL_PLACES}
-use Rattle.clash_check.proofs.StopLaws.{taken_from, passed, full}
-use Rattle.clash_check.specs.Verdicts.{has_channel, stops_of}
+use Rattle.stop_verdicts.proofs.StopLaws.{taken_from, passed, full}
+use Rattle.stop_verdicts.specs.Stops.{has_channel, stops_of}
 use Rattle.sync_types.specs.declared.ChannelEnd.{ChannelEnd}
-use Rattle.clash_check.proofs.stops.stops_of.Goals as goal
-use Rattle.clash_check.proofs.stops.stops_of.Goals.{then-has_channel+then-len-ends, else-has_channel, else-has_channel-via-then-has_channel+else-len-ends, else-has_channel-via-else-has_channel}
+use Rattle.stop_verdicts.proofs.stops.stops_of.Goals as goal
+use Rattle.stop_verdicts.proofs.stops.stops_of.Goals.{then-has_channel+then-len-ends, else-has_channel, else-has_channel-via-then-has_channel+else-len-ends, else-has_channel-via-else-has_channel}
 
 pub loop-number-preserved : goal.loop-number-preserved
 loop-number-preserved c =

@@ -1,7 +1,7 @@
 //! How the channels of a job have stopped.
 ghost use Rattle.std.specs.Prelude.{◌≡◌, ◌==◌};
-ghost use Rattle.clash_check.specs.FirstAnswer.{first_some};
-ghost use Rattle.clash_check.specs.Verdicts as model;
+ghost use Rattle.stop_verdicts.specs.FirstAnswer.{first_some};
+ghost use Rattle.stop_verdicts.specs.Stops as model;
 
 use arrayvec::ArrayVec;
 use axis_sets::{CHANNEL_PLACES, ChannelId};
@@ -33,7 +33,7 @@ fn ends_of(run: &Run) -> &[ChannelEnd]
 }
 
 /// Each channel of a job with how it has stopped, the lowest first.
-#[tactic(auto, unfolding(crate::specs::Verdicts::stops_of))]
+#[tactic(auto, unfolding(crate::specs::Stops::stops_of))]
 pub(crate) fn stops_of(job: &Job, run: &Run) -> Stops
     ensures { result.items ≡ model.stops_of job.now run.now }
 {

@@ -1,0 +1,8 @@
+-- Meaning. The first answer that a list gives.
+use Rattle.std.specs.Prelude.{List, [], ◌∷◌, Option, None}
+use Rattle.std.specs.Option.{option_or}
+
+-- the first answer among the elements
+abbrev pub first_some : {X Y : Type 0} → (X → Option Y) → List X → Option Y
+first_some f [] = None
+first_some f (x ∷ xs) = option_or (f x) (first_some f xs)

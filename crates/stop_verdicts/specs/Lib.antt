@@ -1,0 +1,2 @@
+pub mod FirstAnswer
+pub mod Stops
