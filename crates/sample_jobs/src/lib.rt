@@ -201,7 +201,7 @@ pub fn sample(alloc: Global, number: u32) -> Result<Vec<u8>, NoMemory>
     ensures exact { IfOk result (λ bytes. bytes.items ≡ model.sample_bytes number) }
     ensures short { IfOk result (λ bytes. length bytes.items ≤ SAMPLE_ROOM) }
 {
-    let mut bytes = Vec::new(alloc);
+    let mut bytes = Vec::with_capacity(alloc, SAMPLE_ROOM)?;
     push(&mut bytes, list_text())?;
     push_program(&mut bytes, Program::First, number)?;
     push_program(&mut bytes, Program::Second, number)?;

@@ -2,7 +2,8 @@
 use Rattle.std.proofs.Common.{◌≡◌, ◌∙◌, ℕ, zero, suc, nat_lt, List, [], ◌∷◌, filter, zip, slice_get, slice_index_or, Option, None, Some, if◌then◌else◌, refl, sym, ap, ap₂}
 use Rattle.clash_check.specs.Counts.{count_of}
 use Rattle.clash_check.specs.FirstAnswer.{first_some}
-use Rattle.clash_check.specs.Verdicts.{alarm_by, budget_verdict, has_channel, meeting_verdict, or_else, stops_of, stuck_by, verdict_by}
+use Rattle.clash_check.specs.Verdicts.{alarm_by, budget_verdict, meeting_verdict, or_else, stuck_by, verdict_by}
+use Rattle.stop_verdicts.specs.Stops.{has_channel, stops_of}
 use Rattle.job_types.specs.Job.{JobView}
 use Rattle.protection_zones.specs.Overlaps.{Order, Pair, compared_pairs}
 use Rattle.protection_zones.specs.Stretches.{StretchView}

@@ -25,6 +25,7 @@ use job_lines::INPUT_LIMIT;
 use job_report::{refused, report};
 use nc_faults::{NoMemory, Refusal};
 use std::alloc::Global;
+use std::mem::forget;
 use std::process::ExitCode;
 use sync_types::Verdict;
 use tape_job::{Job, JobFault, JobReader};
@@ -183,7 +184,8 @@ pub(crate) fn write_report<K: Sink>(job: &Job, judgement: &Judgement, sink: &mut
     }
 }
 
-/// Answers an accepted job: judges its run in order, and then writes its report. No byte is written before all memory is taken.
+/// Answers an accepted job: judges its run in order, and then writes its report. No byte is written before all memory is taken,
+/// and what was judged is left to the end of the process.
 fn answer_job<K: Sink>(alloc: Global, job: &Job, sink: &mut K) -> Status
     requires accepted { IsSoundJob job.now }
     requires indices { BlocksFit job.now }
@@ -198,7 +200,9 @@ fn answer_job<K: Sink>(alloc: Global, job: &Job, sink: &mut K) -> Status
     let Ok(judgement) = judge_in_order(alloc, job) else {
         return Status::NoMemory;
     };
-    write_report(job, &judgement, sink)
+    let status = write_report(job, &judgement, sink);
+    forget(judgement);
+    status
 }
 
 /// Answers a refused input: writes the line of its refusal.
@@ -287,7 +291,9 @@ fn check_source<S: Source, K: Sink>(alloc: Global, source: &mut S, sink: &mut K)
         Err(InputFault::TooLong) => return Status::TooLong,
         Err(InputFault::NoMemory) => return Status::NoMemory,
     };
-    answer_read(alloc, &read, sink)
+    let status = answer_read(alloc, &read, sink);
+    forget(read);
+    status
 }
 
 /// Answers the words of a call: checks the input of the source, or judges the sample that they ask for, and writes what is called for

@@ -26,6 +26,7 @@ use job_lines::INPUT_LIMIT;
 use nc_faults::{NoMemory, Refusal};
 use parallel_run::run_threads;
 use std::alloc::Global;
+use std::mem::forget;
 use std::sync::Wait;
 use std::thread::Threads;
 use sync_types::{Entry, Run};
@@ -87,7 +88,9 @@ fn answer_run<R: Threads + Wait + Sync, K: Sink, G: Gate + Sync>(
         return Status::NoMemory;
     };
     tell(gate, entries_of(&judgement.run));
-    write_report(job, &judgement, sink)
+    let status = write_report(job, &judgement, sink);
+    forget(judgement);
+    status
 }
 
 /// Answers an input that is not too long, as what it was read, by a run of threads where it is a job.
@@ -197,5 +200,7 @@ pub fn run_words<R: Threads + Wait + Sync, S: Source, K: Sink, G: Gate + Sync>(
         Err(InputFault::TooLong) => return Status::TooLong,
         Err(InputFault::NoMemory) => return Status::NoMemory,
     };
-    answer_read(rt, alloc, &read, sink, gate)
+    let status = answer_read(rt, alloc, &read, sink, gate);
+    forget(read);
+    status
 }

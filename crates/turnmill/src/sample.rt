@@ -18,6 +18,7 @@ use edge_io::{CountSink, Sink};
 use job_report::{Figures, report, summary};
 use sample_jobs::sample;
 use std::alloc::Global;
+use std::mem::forget;
 use sync_types::{Item, Part, Run, Verdict};
 use tape_job::{Job, JobFault, read_job};
 
@@ -119,8 +120,10 @@ fn answer_job<K: Sink>(alloc: Global, number: u32, job: &Job, sink: &mut K) -> S
     let Some(figures) = figures_of(number, job, &judgement) else {
         return Status::NoMemory;
     };
-    match summary(&figures, &judgement.verdict, sink) {
-        Ok(()) => status_of(&judgement.verdict),
+    let verdict = judgement.verdict;
+    forget(judgement);
+    match summary(&figures, &verdict, sink) {
+        Ok(()) => status_of(&verdict),
         Err(_) => Status::WriteFault,
     }
 }
@@ -143,7 +146,11 @@ pub(crate) fn answer_sample<K: Sink>(alloc: Global, number: u32, sink: &mut K) -
         return Status::NoMemory;
     };
     match read_job(alloc, &bytes) {
-        Ok(job) => answer_job(alloc, number, &job, sink),
+        Ok(job) => {
+            let status = answer_job(alloc, number, &job, sink);
+            forget(job);
+            status
+        }
         Err(JobFault::Refused(refusal)) => answer_refusal(&refusal, sink),
         Err(JobFault::NoMemory) => Status::NoMemory,
     }

@@ -31,8 +31,8 @@ returns-then-not-is_run-clause-verdict g c = λ verdict.
 
 -- ---- `run`
 
-pub answer_read-requires-clause-accepted : goal.answer_read-requires-clause-accepted
-answer_read-requires-clause-accepted g c = λ _ _. read_is_sound _ _ _ c.in-Ok.ensures.exact.1
+pub answer_read-status-requires-clause-accepted : goal.answer_read-status-requires-clause-accepted
+answer_read-status-requires-clause-accepted g c = λ _ _. read_is_sound _ _ _ c.in-Ok.ensures.exact.1
 
 pub returns-in-Err-TooLong-clause-exact : goal.returns-in-Err-TooLong-clause-exact
 returns-in-Err-TooLong-clause-exact g c =
@@ -45,21 +45,21 @@ returns-clause-yes g c = λ yes.
     let asked : is_run (map (λ word. word.now) c.args.words.now) ≡ true = search rules in
     let is : Some Check ≡ call_of (map (λ word. word.now) c.args.words.now) = run_calls (map (λ word. word.now) c.args.words.now) asked in
     asked_input _ (Some Check) _ _ is
-    (clear_at_yes _ _ _ _ _ _ c.in-Ok.ensures.exact.1.all c.in-Ok.ensures.exact.1.short (read_writes _ _ _ _ _ _ c.in-Ok.ensures.exact.1 c.answer_read.ensures.whole) yes)
+    (clear_at_yes _ _ _ _ _ _ c.in-Ok.ensures.exact.1.all c.in-Ok.ensures.exact.1.short (read_writes _ _ _ _ _ _ c.in-Ok.ensures.exact.1 c.answer_read-status.ensures.whole) yes)
 
 pub returns-clause-schedules : goal.returns-clause-schedules
 returns-clause-schedules g c = λ verdict other.
     let asked : is_run (map (λ word. word.now) c.args.words.now) ≡ true = search rules in
     let is : Some Check ≡ call_of (map (λ word. word.now) c.args.words.now) = run_calls (map (λ word. word.now) c.args.words.now) asked in
     asked_input _ (Some Check) _ _ is
-    (one_result_at _ _ _ _ _ _ c.in-Ok.ensures.exact.1.all c.in-Ok.ensures.exact.1.short (read_writes _ _ _ _ _ _ c.in-Ok.ensures.exact.1 c.answer_read.ensures.whole) verdict other)
+    (one_result_at _ _ _ _ _ _ c.in-Ok.ensures.exact.1.all c.in-Ok.ensures.exact.1.short (read_writes _ _ _ _ _ _ c.in-Ok.ensures.exact.1 c.answer_read-status.ensures.whole) verdict other)
 
 pub returns-clause-speeds : goal.returns-clause-speeds
 returns-clause-speeds g c = λ yes.
     let asked : is_run (map (λ word. word.now) c.args.words.now) ≡ true = search rules in
     let is : Some Check ≡ call_of (map (λ word. word.now) c.args.words.now) = run_calls (map (λ word. word.now) c.args.words.now) asked in
     asked_input _ (Some Check) _ _ is
-    (safe_at_yes _ _ _ _ _ _ c.in-Ok.ensures.exact.1.all c.in-Ok.ensures.exact.1.short (read_writes _ _ _ _ _ _ c.in-Ok.ensures.exact.1 c.answer_read.ensures.whole) yes)
+    (safe_at_yes _ _ _ _ _ _ c.in-Ok.ensures.exact.1.all c.in-Ok.ensures.exact.1.short (read_writes _ _ _ _ _ _ c.in-Ok.ensures.exact.1 c.answer_read-status.ensures.whole) yes)
 
 pub returns-clause-refused : goal.returns-clause-refused
 returns-clause-refused g c = λ refused.
@@ -67,16 +67,16 @@ returns-clause-refused g c = λ refused.
     let is : Some Check ≡ call_of (map (λ word. word.now) c.args.words.now) = run_calls (map (λ word. word.now) c.args.words.now) asked in
     asked_input _ (Some Check) _ _ is
     (read_under _ (λ input. IsErrAnd (read_of input) (λ refusal. Grows _ _ (refusal_bytes refusal))) _ _
-    (refused_wrote _ _ _ _ _ _ c.in-Ok.ensures.exact.1.all c.in-Ok.ensures.exact.1.short (read_writes _ _ _ _ _ _ c.in-Ok.ensures.exact.1 c.answer_read.ensures.whole) refused))
+    (refused_wrote _ _ _ _ _ _ c.in-Ok.ensures.exact.1.all c.in-Ok.ensures.exact.1.short (read_writes _ _ _ _ _ _ c.in-Ok.ensures.exact.1 c.answer_read-status.ensures.whole) refused))
 
 pub returns-clause-refused_comes : goal.returns-clause-refused_comes
 returns-clause-refused_comes g c =
     all_under _ _ _
-    (refused_ends _ _ _ _ _ _ _ _ _ c.in-Ok.ensures.exact.1.all c.in-Ok.ensures.exact.1.short c.answer_read.ensures.ends
-    (read_writes _ _ _ _ _ _ c.in-Ok.ensures.exact.1 c.answer_read.ensures.whole) (λ fault. c.answer_read.ensures.cause.0 fault))
+    (refused_ends _ _ _ _ _ _ _ _ _ c.in-Ok.ensures.exact.1.all c.in-Ok.ensures.exact.1.short c.answer_read-status.ensures.ends
+    (read_writes _ _ _ _ _ _ c.in-Ok.ensures.exact.1 c.answer_read-status.ensures.whole) (λ fault. c.answer_read-status.ensures.cause.0 fault))
 
 pub returns-clause-written_front : goal.returns-clause-written_front
 returns-clause-written_front g c = λ fault.
     let asked : is_run (map (λ word. word.now) c.args.words.now) ≡ true = search rules in
     let is : Some Check ≡ call_of (map (λ word. word.now) c.args.words.now) = run_calls (map (λ word. word.now) c.args.words.now) asked in
-    asked_front _ (Some Check) _ _ _ is (front_of_input _ _ _ _ _ c.in-Ok.ensures.exact.1.all (read_front _ _ _ _ _ c.in-Ok.ensures.exact.1 (c.answer_read.ensures.front fault)))
+    asked_front _ (Some Check) _ _ _ is (front_of_input _ _ _ _ _ c.in-Ok.ensures.exact.1.all (read_front _ _ _ _ _ c.in-Ok.ensures.exact.1 (c.answer_read-status.ensures.front fault)))

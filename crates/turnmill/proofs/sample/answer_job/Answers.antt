@@ -17,6 +17,6 @@ returns-in-Ok-summary-clause-whole g c = λ whole.
       grows = c.in-Ok-summary.ensures.whole;
     }
 
-pub returns-clause-front : goal.returns-clause-front
-returns-clause-front g c = λ is. front_of_summary c.args.number c.args.job.now c.in-Ok.judgement.run c.in-Ok.judgement.clocks c.in-Ok.judgement.stretches c.in-Ok.judgement.verdict c.in-Ok.ensures.judged
+pub returns-in-Err-clause-front : goal.returns-in-Err-clause-front
+returns-in-Err-clause-front g c = λ is. front_of_summary c.args.number c.args.job.now c.in-Ok.judgement.run c.in-Ok.judgement.clocks c.in-Ok.judgement.stretches c.in-Ok.judgement.verdict c.in-Ok.ensures.judged
     c.in-Ok.ensures.in_order c.in-Some.figures _ _ c.in-Some.ensures c.in-Err.ensures.front
