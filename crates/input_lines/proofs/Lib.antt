@@ -1,0 +1,4 @@
+mod LineLaws
+mod TrimLaws
+mod NumberLaws
+mod OriginLaws

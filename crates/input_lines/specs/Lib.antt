@@ -1,0 +1,5 @@
+pub mod Lines
+pub mod Numbers
+pub mod Origins
+pub mod Refusals
+pub mod Trimmed
