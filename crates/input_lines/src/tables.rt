@@ -260,7 +260,7 @@ pub(crate) static ALARMS: [Row; 33] = [
     (
         3,
         "root of a negative number",
-        "R1=SQRT(R2-R3)",
+        "The value of a SQRT is below 0.",
         "The same as for 2. With SQRT(ABS(..)) the size is taken.",
     ),
     (
