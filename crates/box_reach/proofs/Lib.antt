@@ -1,0 +1,3 @@
+pub mod ShapeLaws
+pub mod WayLaws
+pub mod LotLaws

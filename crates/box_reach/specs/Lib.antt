@@ -1,0 +1,4 @@
+pub mod Shapes
+pub mod Reaches
+pub mod Lots
+pub mod Depths

@@ -1,0 +1,69 @@
+//! Boxes whose numbers are worked by hand.
+use crate::{Way, common_box, do_lots_meet, least_way, margin_room, most_near, parting_depth};
+use arrayvec::ArrayVec;
+use std::test::Fail;
+use swept_boxes::Box3;
+
+/// A box from 0 to 10 in all three directions.
+fn cube() -> Box3 {
+    Box3 {
+        lo: [0, 0, 0],
+        hi: [10, 10, 10],
+    }
+}
+
+/// A box that reaches into the cube by 3, 5 and 1 along X, Y and Z, or is so far from it along X.
+fn other(from: i32) -> Box3 {
+    Box3 {
+        lo: [from, -5, 9],
+        hi: [20, 5, 30],
+    }
+}
+
+/// One box.
+fn lot(only: Box3) -> ArrayVec<Box3, 80> {
+    let mut boxes = ArrayVec::new();
+    boxes.push(only);
+    boxes
+}
+
+#[test]
+fn two_boxes(rt: HostRuntime) -> Result<(), Fail> {
+    let common = Box3 {
+        lo: [7, 0, 9],
+        hi: [10, 5, 10],
+    };
+    assert!(rt; common_box(&cube(), &other(7)) == common);
+    let near = Way {
+        direction: 2,
+        shift: 1,
+    };
+    assert!(rt; least_way(&cube(), &other(7)) == near);
+    let far = Way {
+        direction: 0,
+        shift: -4,
+    };
+    assert!(rt; least_way(&cube(), &other(14)) == far);
+    Ok(())
+}
+
+#[test]
+fn two_lots(rt: HostRuntime) -> Result<(), Fail> {
+    assert!(rt; most_near(&[cube()], &[other(14), other(7)]) == Some(1));
+    assert!(rt; most_near(&[cube()], &[]).is_none());
+    assert!(rt; do_lots_meet(&[cube()], &[other(14), other(7)]));
+    assert!(rt; !do_lots_meet(&[cube()], &[other(14)]));
+    assert!(rt; margin_room(&[cube()], &[other(14), other(7)]) == Some(-1));
+    assert!(rt; margin_room(&[cube()], &[other(14)]) == Some(1));
+    assert!(rt; margin_room(&[], &[other(14)]).is_none());
+    Ok(())
+}
+
+#[test]
+fn the_depth_that_parts(rt: HostRuntime) -> Result<(), Fail> {
+    let left = [lot(cube()), lot(cube()), lot(cube())];
+    let right = [lot(other(7)), lot(other(9)), lot(other(14))];
+    assert!(rt; parting_depth(&left, &right, 0) == Some(2));
+    assert!(rt; parting_depth(&left, &right, 2).is_none());
+    Ok(())
+}
