@@ -1,0 +1,4 @@
+pub mod ExecutionLaws
+pub mod TakeLaws
+pub mod StepLaws
+pub mod RunLaws

@@ -1,0 +1,3 @@
+pub mod Entries
+pub mod Executions
+pub mod LastBoards
