@@ -1,6 +1,6 @@
 //! A channel between two blocks.
 
-ghost use Rattle.std.specs.Prelude.{◌≡◌, ℕ, option_and_then, slice_get, unwrap_or, IfOk, IfSome};
+ghost use Rattle.std.specs.Prelude.{◌≡◌, ℕ, [], option_and_then, option_copied, option_map, reverse, slice_get, unwrap_or, IfOk, IfSome};
 ghost use Rattle.axis_sets.specs.Positions.{position_of, stands};
 ghost use Rattle.std.specs.Option.{option_map_or};
 ghost use Rattle.channel_machine.specs.Kept.{IsAfterGrant, IsSettingIn, Keeps, state_view};
@@ -14,6 +14,7 @@ use frames::Frame;
 use g_groups::Modal;
 use job_types::{Job, slot_axis};
 use nc_faults::NoMemory;
+use nc_subprograms::Place;
 use std::alloc::{AllocError, Global};
 use std::marker::Model;
 use sync_types::Grant;
@@ -154,7 +155,48 @@ impl State {
     }
 }
 
+/// Where the level stands that runs.
+fn place_in(levels: &Option<Levels>) -> Option<&Place>
+    ensures { option_copied result ≡ option_map (λ l. l.here) levels.now }
+{
+    match levels {
+        Some(levels) => Some(&levels.here),
+        None => None,
+    }
+}
+
+/// Where those below it return to.
+fn returns_in(levels: &Option<Levels>) -> &[Place]
+    ensures { result.now ≡ option_map_or (λ l. reverse l.returns) levels.now [] }
+{
+    match levels {
+        Some(levels) => levels.returns.places(),
+        None => &[],
+    }
+}
+
 impl Local {
+    /// Where control is, in the level that runs; nowhere past the end of the main program and after an alarm.
+    pub fn here(&self) -> Option<&Place>
+        ensures { option_copied result ≡ option_map (λ l. l.here) self.now.levels }
+    {
+        place_in(&self.state.levels)
+    }
+
+    /// Where the levels below that one go on, the main program first; none where control is nowhere.
+    pub fn returns(&self) -> &[Place]
+        ensures { result.now ≡ option_map_or (λ l. reverse l.returns) self.now.levels [] }
+    {
+        returns_in(&self.state.levels)
+    }
+
+    /// The parameters of the channel. After an alarm they are as they were before its block.
+    pub fn parameters(&self) -> &Parameters
+        ensures { result.now ≡ self.now.parameters }
+    {
+        &self.state.situation.parameters
+    }
+
     /// Goes on with a grant after the step that ended its last segment: it owns the axes of the grant, those with a
     /// position stand there, and its zones are on. All else lasts over the segments, the count of blocks too.
     pub fn resume(&mut self, grant: &Grant)

@@ -23,7 +23,8 @@ pub struct StepRows {
 impl StepRows {
     /// No event: a place for the rows of a step.
     pub fn none() -> StepRows
-        ensures { (c : ℕ) → count_of result.act c ≡ 0 }
+        ensures act { (c : ℕ) → count_of result.act c ≡ 0 }
+        ensures goes { (d c : ℕ) → count_of (slice_index_or result.goes d []) c ≡ 0 }
     {
         let zero = Row::zero();
         StepRows {

@@ -59,7 +59,7 @@ impl Model for CallStack {
 }
 
 impl CallStack {
-    ghost use Rattle.std.specs.Prelude.{◌≡◌, ◌==◌, [], length};
+    ghost use Rattle.std.specs.Prelude.{◌≡◌, ◌==◌, [], length, reverse};
 
     /// The main program runs.
     pub fn new() -> CallStack
@@ -77,6 +77,13 @@ impl CallStack {
         CallStack {
             places: copies(self.places.as_slice()),
         }
+    }
+
+    /// The places in the order of the calls: that of the main program first.
+    pub fn places(&self) -> &[Place]
+        ensures { result.now ≡ reverse self.now }
+    {
+        self.places.as_slice()
     }
 
     /// Whether the main program runs.

@@ -1,6 +1,7 @@
 //! What a step does.
+ghost use Rattle.axis_sets.specs.Sets.{IsEmpty};
 ghost use Rattle.axis_sets.specs.declared.limits.TheConstants.{CHANNEL_PLACES};
-ghost use Rattle.std.specs.Prelude.{◌≡◌, ℕ, ◌<◌, ◌↔◌, IsTrue, false};
+ghost use Rattle.std.specs.Prelude.{◌≡◌, ℕ, ◌<◌, ◌↔◌, IsTrue, false, None, replicate};
 ghost use Rattle.step_deeds.specs.Holds.{IsTraceless, goes_in};
 
 use crate::holds::is_nobody;
@@ -63,9 +64,17 @@ pub struct Deed {
 }
 
 impl Deed {
-    /// Nothing: a place for what happens.
+    /// Nothing, of the first channel at no line: a place for what happens.
     pub fn none() -> Deed
-        ensures { (c : ℕ) → goes_in result c ≡ false }
+        ensures channel { result.channel ≡ 1 }
+        ensures line { result.line ≡ 0 }
+        ensures marks { IsEmpty result.raises × IsEmpty result.lowers }
+        ensures sets { IsEmpty result.frees × IsEmpty result.starts × IsEmpty result.touches }
+        ensures ends { result.ends ≡ false }
+        ensures begins { result.begins ≡ None }
+        ensures goes { result.goes ≡ replicate CHANNEL_PLACES None }
+        ensures group { result.group ≡ replicate CHANNEL_PLACES 0 }
+        ensures nobody { (c : ℕ) → goes_in result c ≡ false }
     {
         Deed {
             channel: ChannelId::default(),

@@ -1,0 +1,5 @@
+pub mod Alarms
+pub mod Blocks
+pub mod Grants
+pub mod States
+pub mod Texts

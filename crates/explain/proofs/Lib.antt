@@ -1,0 +1,4 @@
+pub mod BeginLaws
+pub mod FirstMet
+pub mod JudgeLemmas
+pub mod TextLaws

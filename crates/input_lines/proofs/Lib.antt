@@ -1,0 +1,5 @@
+mod AdviceLaws
+mod LineLaws
+mod TrimLaws
+mod NumberLaws
+mod OriginLaws

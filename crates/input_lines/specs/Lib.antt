@@ -1,0 +1,6 @@
+pub mod Advice
+pub mod Lines
+pub mod Numbers
+pub mod Origins
+pub mod Refusals
+pub mod Trimmed

@@ -1,0 +1,2 @@
+mod SplitLaws
+mod TrimLaws

@@ -1,0 +1,9 @@
+//! A job list and the files of a control, joined to one input.
+#![tactic(auto)]
+
+mod joining;
+mod names;
+#[cfg(test)]
+mod tests;
+
+pub use joining::{ControlFile, joined_input};

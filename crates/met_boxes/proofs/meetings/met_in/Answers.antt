@@ -1,0 +1,16 @@
+use Rattle.std.proofs.Common.{arith}
+use Rattle.order_clocks.specs.Tells.{is_before_in}
+use Rattle.met_boxes.proofs.AddLaws.{added_more, added_all}
+use Rattle.met_boxes.specs.MeetingSteps as model
+use Rattle.met_boxes.specs.MeetingSteps.{Case}
+use Rattle.met_boxes.proofs.meetings.met_in.Goals as goal
+
+pub loop-row-preserved : goal.loop-row-preserved
+loop-row-preserved c =
+    let case : Case = record { job = c.args.scene.now.job.now; run = c.args.scene.now.run.now; before = is_before_in c.args.scene.now.clocks.now.rows } in
+    added_more (model.met_in_row case) c.args.rows.now c.loop-row.row-index c.row-item.result _ _ _ c.loop-row-test.true c.row-item.is c.in_ok-add_in_row.ensures c.loop-row.invariant
+
+pub returns : goal.returns
+returns c =
+    let case : Case = record { job = c.args.scene.now.job.now; run = c.args.scene.now.run.now; before = is_before_in c.args.scene.now.clocks.now.rows } in
+    added_all (model.met_in_row case) c.args.rows.now c.loop-row.row-index _ _ (omega arith) c.loop-row.invariant

@@ -1,0 +1,59 @@
+-- Steps. Stretches of a zone of which each is over as the next begins, and those of them that may overlap a stretch of another zone.
+use Rattle.std.specs.Prelude.{◌≡◌, ◌&&◌, ◌||◌, not, suc, ℕ, Bool, true, false, if◌then◌else◌, All, List, [], ◌∷◌, Option, Some, None}
+use Rattle.order_clocks.specs.Clocked.{IsOrderOf}
+use Rattle.order_clocks.specs.Tells.{is_same_event}
+use Rattle.protection_zones.specs.Overlaps.{Order, is_open_at}
+use Rattle.protection_zones.specs.SoundStretches.{HasLowNames}
+use Rattle.protection_zones.specs.Stretches.{StretchView}
+use Rattle.sync_types.specs.Boards.{Board}
+use Rattle.sync_types.specs.Turns.{Move}
+use Rattle.sync_types.specs.declared.runs.EventId.{EventId}
+
+-- ---- lists of which the first elements pass a test
+
+-- how many pass before the first that does not
+abbrev pub leading : {X : Type 0} → (X → Bool) → List X → ℕ
+leading test [] = 0
+leading test (x ∷ xs) = if test x then suc (leading test xs) else 0
+
+-- none passes after one that does not
+abbrev pub PassFirst : {X : Type 0} → (X → Bool) → List X → Type 0
+PassFirst test [] = Unit {0}
+PassFirst test (x ∷ xs) = (test x ≡ false → All (λ y. test y ≡ false) xs) × PassFirst test xs
+
+-- ---- stretches
+
+-- the early one is over as the late one begins
+abbrev pub is_over : Order → StretchView → StretchView → Bool
+is_over before early late = not (is_open_at before early.last late.first)
+
+-- a stretch does not end before it begins
+abbrev pub is_in_order : Order → Option EventId → Option EventId → Bool
+is_in_order before None last = true
+is_in_order before (Some first) None = true
+is_in_order before (Some first) (Some last) = is_same_event first last || before first last
+
+abbrev pub is_forward : Order → StretchView → Bool
+is_forward before stretch = is_in_order before stretch.first stretch.last
+
+-- over as the first of these begins, if there is one
+abbrev pub is_over_at_first : Order → StretchView → List StretchView → Bool
+is_over_at_first before early [] = true
+is_over_at_first before early (late ∷ stretches) = is_over before early late
+
+-- each is over as the next begins
+abbrev pub do_ascend : Order → List StretchView → Bool
+do_ascend before [] = true
+do_ascend before (stretch ∷ stretches) = is_forward before stretch && (is_over_at_first before stretch stretches && do_ascend before stretches)
+
+-- a stretch of another zone is over as this one begins, or begins before this one is over
+abbrev pub passes : Order → Bool → StretchView → StretchView → Bool
+passes before true own other = is_over before other own
+passes before false own other = not (is_over before own other)
+
+-- the test tells the order of the events of a run, and these stretches begin and end with such events
+pub record IsTimed (before : Order) (lists : List (List StretchView)) : Type 0 where
+  pub board : Board
+  pub moves : List Move
+  pub order : IsOrderOf board moves before
+  pub names : All (All (HasLowNames board moves)) lists

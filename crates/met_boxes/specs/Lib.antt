@@ -1,0 +1,14 @@
+pub mod Judged
+pub mod Times
+pub mod Ascents
+pub mod Rows
+pub mod Meetings
+pub mod MeetingSteps
+pub mod Puts
+pub mod Nearest
+pub mod NearSteps
+pub mod PairNumbers
+pub mod NumberSteps
+pub mod Clashes
+pub mod Groups
+pub mod GroupSteps

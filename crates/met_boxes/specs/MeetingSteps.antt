@@ -1,0 +1,43 @@
+-- Steps. The boxes that meet, stretch by stretch.
+use Rattle.std.specs.Prelude.{◌&&◌, if◌then◌else◌, List, [], ◌∷◌}
+use Rattle.std.specs.List.{flat_map}
+use Rattle.job_types.specs.Job.{JobView}
+use Rattle.job_types.specs.declared.job.ZoneLine.{ZoneLine}
+use Rattle.met_boxes.specs.Meetings.{told_pair}
+use Rattle.met_boxes.specs.Rows.{RowView}
+use Rattle.protection_zones.specs.Overlaps.{Order, BoxPlace, are_compared, may_overlap}
+use Rattle.protection_zones.specs.Pieces.{pair_meets}
+use Rattle.protection_zones.specs.Stretches.{StretchView}
+use Rattle.protection_zones.specs.declared.stretches.ZoneBox.{ZoneBox}
+use Rattle.sync_types.specs.Views.{RunView}
+use Rattle.told_places.specs.declared.place.Meeting.{Meeting}
+
+-- a job, a run of it, and the order of its events
+pub record Case : Type 0 where
+  pub job : JobView
+  pub run : RunView
+  pub before : Order
+
+abbrev pub place_of : ZoneLine → StretchView → ZoneBox → BoxPlace
+place_of zone stretch box = record { zone = zone; stretch = stretch; box = box }
+
+-- two boxes, where they are compared and meet
+unfoldable pub met_one : Case → BoxPlace → ZoneLine → StretchView → ZoneBox → List Meeting
+met_one case left other right later =
+    if are_compared left.stretch right left.box later && pair_meets case.job case.run (left, place_of other right later)
+    then told_pair (left, place_of other right later) ∷ [] else []
+
+-- a box with those of a stretch
+abbrev pub met_by : Case → ZoneLine → StretchView → BoxPlace → List Meeting
+met_by case other right left = flat_map (met_one case left other right) right.boxes
+
+-- the boxes of two stretches
+abbrev pub met_in_boxes : Case → ZoneLine → StretchView → ZoneLine → StretchView → List Meeting
+met_in_boxes case zone left other right = flat_map (λ own. met_by case other right (place_of zone left own)) left.boxes
+
+unfoldable pub met_in_stretches : Case → ZoneLine → StretchView → ZoneLine → StretchView → List Meeting
+met_in_stretches case zone left other right = if may_overlap case.before left right then met_in_boxes case zone left other right else []
+
+-- a stretch with some of another zone
+abbrev pub met_in_row : Case → RowView → List Meeting
+met_in_row case row = flat_map (met_in_stretches case row.zone row.stretch row.other) row.others

@@ -1,0 +1,35 @@
+-- Steps. The compared pairs of two stretches, and the nearest so far.
+use Rattle.std.specs.Prelude.{◌==◌, ◌&&◌, Bool, if◌then◌else◌, List, [], ◌∷◌}
+use Rattle.std.specs.Int.RustNames.{int_lt}
+use Rattle.std.specs.List.{flat_map}
+use Rattle.job_types.specs.declared.job.ZoneLine.{ZoneLine}
+use Rattle.met_boxes.specs.MeetingSteps.{place_of}
+use Rattle.met_boxes.specs.Puts.{put_in}
+use Rattle.met_boxes.specs.declared.nearest.Near.{Near}
+use Rattle.protection_zones.specs.Overlaps.{BoxPlace, Pair, are_compared}
+use Rattle.protection_zones.specs.Stretches.{StretchView}
+use Rattle.protection_zones.specs.declared.stretches.ZoneBox.{ZoneBox}
+
+-- a pair, where it is compared
+unfoldable pub pair_where : BoxPlace → ZoneLine → StretchView → ZoneBox → List Pair
+pair_where left other right later = if are_compared left.stretch right left.box later then (left, place_of other right later) ∷ [] else []
+
+-- a box with those of a stretch
+abbrev pub pairs_by : ZoneLine → StretchView → BoxPlace → List Pair
+pairs_by other right left = flat_map (pair_where left other right) right.boxes
+
+-- the boxes of two stretches
+abbrev pub pairs_in_boxes : ZoneLine → StretchView → ZoneLine → StretchView → List Pair
+pairs_in_boxes zone left other right = flat_map (λ own. pairs_by other right (place_of zone left own)) left.boxes
+
+-- of the same groups
+abbrev pub same_groups : Near → Near → Bool
+same_groups one other = one.groups.0 == other.groups.0 && one.groups.1 == other.groups.1
+
+-- the one that reaches further, or the first
+abbrev pub nearer : Near → Near → Near
+nearer row near = if int_lt row.reach near.reach then near else row
+
+-- two boxes take the place of those of their groups, if they reach further, or are added
+abbrev pub put_near : List Near → Near → List Near
+put_near rows near = put_in same_groups nearer rows near

@@ -1,0 +1,147 @@
+//! Which stretches of a zone may overlap one of another: the stretches of a zone come one after another, so these stand side by
+//! side.
+ghost use Rattle.std.specs.Prelude.{◌≡◌, ◌≤◌, Bool, true, false, drop, take, length};
+ghost use Rattle.std.specs.List.{flat_map};
+ghost use Rattle.job_types.specs.declared.job.ZoneLine.{ZoneLine};
+ghost use Rattle.met_boxes.specs.Ascents as model;
+ghost use Rattle.order_clocks.specs.Tells.{is_before_in};
+ghost use Rattle.protection_zones.specs.Overlaps.{stretch_pairs};
+
+use crate::overlaps::{is_open_at, is_upto};
+use order_clocks::Clocks;
+use protection_zones::Stretch;
+use sync_types::EventId;
+
+/// Two places among the stretches of a zone: of the first that may overlap a stretch of another zone, and of the first after
+/// these.
+#[derive(Clone, Copy)]
+struct Range {
+    /// The place of the first.
+    from: usize,
+    /// The place after the last.
+    upto: usize,
+}
+
+/// Whether a stretch is over as another begins.
+fn is_over(clocks: &Clocks, early: &Stretch, late: &Stretch) -> bool
+    ensures { result ≡ model.is_over (is_before_in clocks.now.rows) early.now late.now }
+{
+    !is_open_at(clocks, early.last, late.first)
+}
+
+/// Whether an event, if there are two, is another or before it.
+fn is_in_order(clocks: &Clocks, first: Option<EventId>, last: Option<EventId>) -> bool
+    ensures { result ≡ model.is_in_order (is_before_in clocks.now.rows) first last }
+{
+    match first {
+        None => true,
+        Some(first) => match last {
+            None => true,
+            Some(last) => is_upto(clocks, &first, &last),
+        },
+    }
+}
+
+/// Whether a stretch does not end before it begins.
+fn is_forward(clocks: &Clocks, stretch: &Stretch) -> bool
+    ensures { result ≡ model.is_forward (is_before_in clocks.now.rows) stretch.now }
+{
+    is_in_order(clocks, stretch.first, stretch.last)
+}
+
+/// Whether a stretch is over as the one of this place begins, if there is one.
+fn is_over_at(clocks: &Clocks, early: &Stretch, stretches: &[Stretch], place: usize) -> bool
+    ensures { result ≡ model.is_over_at_first (is_before_in clocks.now.rows) early.now (drop place stretches.now) }
+{
+    if place < stretches.len() {
+        is_over(clocks, early, &stretches[place])
+    } else {
+        true
+    }
+}
+
+/// Whether each stretch is over as the next begins.
+pub(crate) fn do_ascend(clocks: &Clocks, stretches: &[Stretch]) -> bool
+    ensures { result ≡ model.do_ascend (is_before_in clocks.now.rows) stretches.now }
+{
+    for place in 0..stretches.len() {
+        let stretch = &stretches[place];
+        if !is_forward(clocks, stretch) || !is_over_at(clocks, stretch, stretches, place + 1) {
+            return false;
+        }
+    }
+    true
+}
+
+/// Whether a stretch of another zone is over as this one begins; or where that is asked, whether it begins before this one is
+/// over.
+fn passes(clocks: &Clocks, ended: bool, own: &Stretch, other: &Stretch) -> bool
+    ensures { result ≡ model.passes (is_before_in clocks.now.rows) ended own.now other.now }
+{
+    if ended {
+        is_over(clocks, other, own)
+    } else {
+        !is_over(clocks, own, other)
+    }
+}
+
+/// How many stretches pass before the first that does not, found by halves.
+fn count_by_halves(clocks: &Clocks, ended: bool, own: &Stretch, others: &[Stretch]) -> usize
+    requires { model.PassFirst (model.passes (is_before_in clocks.now.rows) ended own.now) others.now }
+    ensures { result ≡ model.leading (model.passes (is_before_in clocks.now.rows) ended own.now) others.now }
+{
+    let mut low = 0;
+    let mut high = others.len();
+    while low < high {
+        let middle = low + (high - low) / 2;
+        if passes(clocks, ended, own, &others[middle]) {
+            low = middle + 1;
+        } else {
+            high = middle;
+        }
+    }
+    low
+}
+
+/// The places of the stretches that may overlap this one, found by halves.
+fn range_by_halves(clocks: &Clocks, own: &Stretch, others: &[Stretch]) -> Range
+    requires { (ended : Bool) → model.PassFirst (model.passes (is_before_in clocks.now.rows) ended own.now) others.now }
+    ensures from { result.from ≡ model.leading (model.passes (is_before_in clocks.now.rows) true own.now) others.now }
+    ensures upto { result.upto ≡ model.leading (model.passes (is_before_in clocks.now.rows) false own.now) others.now }
+    ensures within { result.upto ≤ length others.now }
+{
+    Range {
+        from: count_by_halves(clocks, true, own, others),
+        upto: count_by_halves(clocks, false, own, others),
+    }
+}
+
+/// What stands in these places.
+fn part(others: &[Stretch], range: Range) -> &[Stretch]
+    requires { range.upto ≤ length others.now }
+    ensures { result.now ≡ drop range.from (take range.upto others.now) }
+{
+    if range.from <= range.upto {
+        &others[range.from..range.upto]
+    } else {
+        &[]
+    }
+}
+
+/// The stretches of another zone that may overlap this one, where each of them is over as the next begins; else all.
+pub(crate) fn near_part<'a>(
+    clocks: &Clocks,
+    own: &Stretch,
+    others: &'a [Stretch],
+    ascend: bool,
+) -> &'a [Stretch]
+    requires { ascend ≡ true → (ended : Bool) → model.PassFirst (model.passes (is_before_in clocks.now.rows) ended own.now) others.now }
+    ensures { (zone other : ZoneLine) → flat_map (stretch_pairs (is_before_in clocks.now.rows) zone own.now other) result.now
+        ≡ flat_map (stretch_pairs (is_before_in clocks.now.rows) zone own.now other) others.now }
+{
+    if ascend {
+        part(others, range_by_halves(clocks, own, others))
+    } else {
+        others
+    }
+}

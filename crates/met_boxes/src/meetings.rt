@@ -1,0 +1,288 @@
+//! All boxes that meet, of zones that may not.
+ghost use Rattle.std.specs.Prelude.{◌≡◌, ◌≤◌, ◌++◌, ◌∷◌, [], All, OnOk, IfOk};
+ghost use Rattle.std.specs.List.{flat_map};
+ghost use Rattle.job_lines.specs.declared.limits.TheConstants.{DEPTH_LIMIT};
+ghost use Rattle.job_types.specs.SoundJob.{IsSoundJob};
+ghost use Rattle.met_boxes.specs.Judged.{IsTold};
+ghost use Rattle.met_boxes.specs.Meetings.{meetings_of, told_box, told_pair};
+ghost use Rattle.met_boxes.specs.MeetingSteps as model;
+ghost use Rattle.order_clocks.specs.Tells.{is_before_in};
+ghost use Rattle.protection_zones.specs.Pieces.{piece_boxes};
+ghost use Rattle.protection_zones.specs.ZoneBoxes.{IsFit};
+
+use crate::overlaps::{are_compared, may_overlap, share_channel};
+use crate::rows::{Row, rows_of, times_of};
+use axis_sets::{ChannelId, ZoneId};
+use box_reach::do_lots_meet;
+use job_types::{Job, ZoneLine};
+use nc_faults::NoMemory;
+use order_clocks::Clocks;
+use protection_zones::{Stretch, Stretches, ZoneBox, boxes_by_pieces};
+use std::alloc::{AllocError, Global};
+use swept_boxes::Box3;
+use sync_types::{EventId, PlaceName, Run, StretchKind};
+use told_places::{Meeting, Place};
+
+/// A job with a run of it and the order of its events.
+#[derive(Clone, Copy)]
+pub(crate) struct Scene<'a> {
+    /// The job.
+    pub(crate) job: &'a Job,
+    /// The run.
+    pub(crate) run: &'a Run,
+    /// The order of its events.
+    pub(crate) clocks: &'a Clocks,
+}
+
+/// A stretch of a zone.
+#[derive(Clone, Copy)]
+pub(crate) struct Held<'a> {
+    /// The zone.
+    pub(crate) zone: &'a ZoneLine,
+    /// The stretch.
+    pub(crate) stretch: &'a Stretch,
+}
+
+/// What is told of a box of a stretch: the box, how it is named, with which events its stretch begins and ends, and the entry of the
+/// run whose items its places count.
+#[tactic(auto, unfolding(crate::specs::Meetings::told_box))]
+pub fn told_box(stretch: &Stretch, own: &ZoneBox) -> Place
+    ensures { result ≡ told_box stretch.now own.now }
+{
+    Place {
+        name: PlaceName {
+            line: own.line,
+            ..stretch.name
+        },
+        first: stretch.first,
+        last: stretch.last,
+        entry: stretch.entry,
+        motion: own.motion,
+        from: own.from,
+        to: own.to,
+        cover: own.cover,
+    }
+}
+
+/// What is told of a box of each of two stretches.
+fn told_pair(left: &Held, own: &ZoneBox, right: &Held, later: &ZoneBox) -> Meeting
+    ensures { result ≡ told_pair (model.place_of left.now.zone.now left.now.stretch.now own.now, model.place_of right.now.zone.now right.now.stretch.now later.now) }
+{
+    Meeting {
+        left: told_box(left.stretch, own),
+        right: told_box(right.stretch, later),
+    }
+}
+
+/// Adds two boxes that meet. The parts of one of them are named here, as the check of a `push` asks for it.
+fn add(list: &mut Vec<Meeting>, met: &Meeting) -> Result<(), AllocError>
+    ensures { OnOk result (list.new.items ≡ list.old.items ++ met.now ∷ []) }
+{
+    let place: Place = met.left;
+    let name = place.name;
+    let _zone: ZoneId = name.zone;
+    let _channel: Option<ChannelId> = name.channel;
+    let _kind: StretchKind = name.kind;
+    let _first: Option<EventId> = place.first;
+    let _cover: Box3 = place.cover;
+    list.push(*met)?;
+    Ok(())
+}
+
+/// Adds two boxes, where they are compared and meet; these are the boxes by which the first is compared.
+#[tactic(auto, unfolding(crate::specs::MeetingSteps::met_one, protection_zones::specs::Pieces::pair_meets))]
+fn add_one(
+    list: &mut Vec<Meeting>,
+    scene: &Scene,
+    left: &Held,
+    own: &ZoneBox,
+    pieces: &[Box3],
+    right: &Held,
+    later: &ZoneBox,
+) -> Result<(), AllocError>
+    requires fit { All (All IsFit) scene.now.run.now.items }
+    requires deep { scene.now.job.now.depth ≤ DEPTH_LIMIT }
+    requires pieces { pieces.now ≡ piece_boxes scene.now.job.now scene.now.run.now (model.place_of left.now.zone.now left.now.stretch.now own.now) }
+    ensures { OnOk result (list.new.items ≡ list.old.items ++ model.met_one (record { job = scene.now.job.now; run = scene.now.run.now; before = is_before_in scene.now.clocks.now.rows })
+        (model.place_of left.now.zone.now left.now.stretch.now own.now) right.now.zone.now right.now.stretch.now later.now) }
+{
+    if !are_compared(share_channel(left.stretch, right.stretch), own, later) {
+        return Ok(());
+    }
+    let others = boxes_by_pieces(scene.job, scene.run, right.zone, right.stretch, later);
+    if do_lots_meet(pieces, others.as_slice()) {
+        add(list, &told_pair(left, own, right, later))?;
+    }
+    Ok(())
+}
+
+/// Adds a box with some of a stretch that it meets; these are the boxes by which the first is compared.
+fn add_each(
+    list: &mut Vec<Meeting>,
+    scene: &Scene,
+    left: &Held,
+    own: &ZoneBox,
+    pieces: &[Box3],
+    right: &Held,
+    laters: &[ZoneBox],
+) -> Result<(), AllocError>
+    requires fit { All (All IsFit) scene.now.run.now.items }
+    requires deep { scene.now.job.now.depth ≤ DEPTH_LIMIT }
+    requires pieces { pieces.now ≡ piece_boxes scene.now.job.now scene.now.run.now (model.place_of left.now.zone.now left.now.stretch.now own.now) }
+    ensures { OnOk result (list.new.items ≡ list.old.items ++ flat_map (model.met_one (record { job = scene.now.job.now; run = scene.now.run.now; before = is_before_in scene.now.clocks.now.rows })
+        (model.place_of left.now.zone.now left.now.stretch.now own.now) right.now.zone.now right.now.stretch.now) laters.now) }
+{
+    for later in laters {
+        add_one(list, scene, left, own, pieces, right, later)?;
+    }
+    Ok(())
+}
+
+/// Adds a box with those of a stretch that it meets. The boxes by which it is compared are made once.
+fn add_by(
+    list: &mut Vec<Meeting>,
+    scene: &Scene,
+    left: &Held,
+    own: &ZoneBox,
+    right: &Held,
+) -> Result<(), AllocError>
+    requires fit { All (All IsFit) scene.now.run.now.items }
+    requires deep { scene.now.job.now.depth ≤ DEPTH_LIMIT }
+    ensures { OnOk result (list.new.items ≡ list.old.items ++ model.met_by (record { job = scene.now.job.now; run = scene.now.run.now; before = is_before_in scene.now.clocks.now.rows })
+        right.now.zone.now right.now.stretch.now (model.place_of left.now.zone.now left.now.stretch.now own.now)) }
+{
+    let pieces = boxes_by_pieces(scene.job, scene.run, left.zone, left.stretch, own);
+    let other = right.stretch;
+    let laters = other.boxes.as_slice();
+    add_each(list, scene, left, own, pieces.as_slice(), right, laters)?;
+    Ok(())
+}
+
+/// Adds some boxes of a stretch and those of another that meet.
+fn add_owns(
+    list: &mut Vec<Meeting>,
+    scene: &Scene,
+    left: &Held,
+    owns: &[ZoneBox],
+    right: &Held,
+) -> Result<(), AllocError>
+    requires fit { All (All IsFit) scene.now.run.now.items }
+    requires deep { scene.now.job.now.depth ≤ DEPTH_LIMIT }
+    ensures { OnOk result (list.new.items ≡ list.old.items ++ flat_map (λ own. model.met_by (record { job = scene.now.job.now; run = scene.now.run.now; before = is_before_in scene.now.clocks.now.rows })
+        right.now.zone.now right.now.stretch.now (model.place_of left.now.zone.now left.now.stretch.now own)) owns.now) }
+{
+    for own in owns {
+        add_by(list, scene, left, own, right)?;
+    }
+    Ok(())
+}
+
+/// Adds the boxes of two stretches that meet.
+fn add_in_boxes(
+    list: &mut Vec<Meeting>,
+    scene: &Scene,
+    left: &Held,
+    right: &Held,
+) -> Result<(), AllocError>
+    requires fit { All (All IsFit) scene.now.run.now.items }
+    requires deep { scene.now.job.now.depth ≤ DEPTH_LIMIT }
+    ensures { OnOk result (list.new.items ≡ list.old.items ++ model.met_in_boxes (record { job = scene.now.job.now; run = scene.now.run.now; before = is_before_in scene.now.clocks.now.rows })
+        left.now.zone.now left.now.stretch.now right.now.zone.now right.now.stretch.now) }
+{
+    let stretch = left.stretch;
+    let owns = stretch.boxes.as_slice();
+    add_owns(list, scene, left, owns, right)?;
+    Ok(())
+}
+
+/// Adds the boxes of two stretches that meet, where the stretches may overlap.
+#[tactic(auto, unfolding(crate::specs::MeetingSteps::met_in_stretches))]
+fn add_in_stretches(
+    list: &mut Vec<Meeting>,
+    scene: &Scene,
+    left: &Held,
+    right: &Held,
+) -> Result<(), AllocError>
+    requires fit { All (All IsFit) scene.now.run.now.items }
+    requires deep { scene.now.job.now.depth ≤ DEPTH_LIMIT }
+    ensures { OnOk result (list.new.items ≡ list.old.items ++ model.met_in_stretches (record { job = scene.now.job.now; run = scene.now.run.now; before = is_before_in scene.now.clocks.now.rows })
+        left.now.zone.now left.now.stretch.now right.now.zone.now right.now.stretch.now) }
+{
+    if may_overlap(scene.clocks, left.stretch, right.stretch) {
+        add_in_boxes(list, scene, left, right)?;
+    }
+    Ok(())
+}
+
+/// Adds the boxes of a stretch and of some stretches of another zone that meet.
+fn add_against(
+    list: &mut Vec<Meeting>,
+    scene: &Scene,
+    left: &Held,
+    other: &ZoneLine,
+    others: &[Stretch],
+) -> Result<(), AllocError>
+    requires fit { All (All IsFit) scene.now.run.now.items }
+    requires deep { scene.now.job.now.depth ≤ DEPTH_LIMIT }
+    ensures { OnOk result (list.new.items ≡ list.old.items ++ flat_map (model.met_in_stretches (record { job = scene.now.job.now; run = scene.now.run.now; before = is_before_in scene.now.clocks.now.rows })
+        left.now.zone.now left.now.stretch.now other.now) others.now) }
+{
+    for stretch in others {
+        let right = Held {
+            zone: other,
+            stretch,
+        };
+        add_in_stretches(list, scene, left, &right)?;
+    }
+    Ok(())
+}
+
+/// The same for the stretches of a row.
+fn add_in_row(list: &mut Vec<Meeting>, scene: &Scene, row: &Row) -> Result<(), AllocError>
+    requires fit { All (All IsFit) scene.now.run.now.items }
+    requires deep { scene.now.job.now.depth ≤ DEPTH_LIMIT }
+    ensures { OnOk result (list.new.items ≡ list.old.items ++ model.met_in_row (record { job = scene.now.job.now; run = scene.now.run.now; before = is_before_in scene.now.clocks.now.rows }) row.now) }
+{
+    let left = Held {
+        zone: row.zone,
+        stretch: row.stretch,
+    };
+    add_against(list, scene, &left, row.other, row.others)?;
+    Ok(())
+}
+
+/// The boxes of the stretches of some rows that meet.
+fn met_in(alloc: Global, scene: &Scene, rows: &[Row]) -> Result<Vec<Meeting>, AllocError>
+    requires fit { All (All IsFit) scene.now.run.now.items }
+    requires deep { scene.now.job.now.depth ≤ DEPTH_LIMIT }
+    ensures { IfOk result (λ met. met.items ≡ flat_map (model.met_in_row (record { job = scene.now.job.now; run = scene.now.run.now; before = is_before_in scene.now.clocks.now.rows })) rows.now) }
+{
+    let mut list = Vec::new(alloc);
+    for row in rows {
+        add_in_row(&mut list, scene, row)?;
+    }
+    Ok(list)
+}
+
+/// All compared boxes that meet in a run of a job, in the order in which the verdict NO names the first. It takes memory for each
+/// such pair, and for each stretch of a zone with each later zone of another group.
+pub fn meetings_of(
+    alloc: Global,
+    job: &Job,
+    run: &Run,
+    stretches: &Stretches,
+    clocks: &Clocks,
+) -> Result<Vec<Meeting>, NoMemory>
+    requires sound { IsSoundJob job.now }
+    requires whole { IsTold job.now run.now stretches.now clocks.now }
+    requires fit { All (All IsFit) run.now.items }
+    ensures { IfOk result (λ met. met.items ≡ meetings_of (is_before_in clocks.now.rows) job.now run.now stretches.now) }
+{
+    let times = times_of(alloc, job, stretches)?;
+    let all = times.as_slice();
+    let rows = rows_of(alloc, job, stretches, clocks, all)?;
+    let parts = rows.as_slice();
+    let scene = Scene { job, run, clocks };
+    let list = met_in(alloc, &scene, parts)?;
+    Ok(list)
+}

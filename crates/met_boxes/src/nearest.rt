@@ -1,0 +1,327 @@
+//! How near the compared boxes of two groups come to each other.
+ghost use Rattle.std.specs.Prelude.{◌≡◌, ◌≤◌, ◌++◌, ◌∷◌, [], min, max, All, List, OnOk, IfOk};
+ghost use Rattle.std.specs.List.{flat_map};
+ghost use Rattle.job_lines.specs.declared.limits.TheConstants.{DEPTH_LIMIT};
+ghost use Rattle.job_types.specs.SoundJob.{IsSoundJob};
+ghost use Rattle.met_boxes.specs.Judged.{IsTold};
+ghost use Rattle.met_boxes.specs.Meetings.{told_place};
+ghost use Rattle.met_boxes.specs.MeetingSteps.{place_of};
+ghost use Rattle.met_boxes.specs.Nearest as model;
+ghost use Rattle.met_boxes.specs.NearSteps as steps;
+ghost use Rattle.met_boxes.specs.Rows.{pairs_in, row_pairs};
+ghost use Rattle.order_clocks.specs.Tells.{is_before_in};
+ghost use Rattle.protection_zones.specs.Overlaps.{Pair, compared_pairs, stretch_pairs};
+ghost use Rattle.protection_zones.specs.Pieces.{piece_boxes};
+ghost use Rattle.protection_zones.specs.ZoneBoxes.{IsFit};
+
+use crate::meetings::{Held, Scene, told_box};
+use crate::overlaps::{are_compared, may_overlap, share_channel};
+use crate::rows::{Row, rows_of, times_of};
+use axis_sets::{ChannelId, ZoneId};
+use box_reach::most_near;
+use job_types::{Job, ZoneLine};
+use nc_faults::NoMemory;
+use order_clocks::Clocks;
+use protection_zones::{Stretch, Stretches, ZoneBox, boxes_by_pieces};
+use std::alloc::{AllocError, Global};
+use swept_boxes::Box3;
+use sync_types::{EventId, Run, StretchKind};
+use told_places::Place;
+
+/// The two compared boxes of two groups that come nearest to each other.
+#[derive(Clone, Copy, Debug, PartialEq, Eq)]
+pub struct Near {
+    /// The lower and the higher of the groups.
+    pub groups: (u8, u8),
+    /// By how many micrometres the boxes by which they are compared reach into each other at most; below 0 they are so far apart.
+    pub reach: i64,
+    /// The box of the zone with the lower number.
+    pub left: Place,
+    /// That of the other zone.
+    pub right: Place,
+}
+
+/// The groups of two zones, the lower first.
+fn groups_of(zone: &ZoneLine, other: &ZoneLine) -> (u8, u8)
+    ensures low { result.0 ≡ min zone.now.group other.now.group }
+    ensures high { result.1 ≡ max zone.now.group other.now.group }
+{
+    (zone.group.min(other.group), zone.group.max(other.group))
+}
+
+/// Whether two rows are of the same groups.
+fn are_same(one: &Near, other: &Near) -> bool
+    ensures { result ≡ steps.same_groups one.now other.now }
+{
+    one.groups.0 == other.groups.0 && one.groups.1 == other.groups.1
+}
+
+/// Of two rows the one that reaches further, or the first.
+fn nearer(row: &Near, near: &Near) -> Near
+    ensures { result ≡ steps.nearer row.now near.now }
+{
+    if row.reach < near.reach { *near } else { *row }
+}
+
+/// Adds a row. The parts of one of its boxes are named here, as the check of a `push` asks for it.
+fn add(rows: &mut Vec<Near>, near: &Near) -> Result<(), AllocError>
+    ensures { OnOk result (rows.new.items ≡ rows.old.items ++ near.now ∷ []) }
+{
+    let place: Place = near.left;
+    let name = place.name;
+    let _zone: ZoneId = name.zone;
+    let _channel: Option<ChannelId> = name.channel;
+    let _kind: StretchKind = name.kind;
+    let _first: Option<EventId> = place.first;
+    let _cover: Box3 = place.cover;
+    rows.push(*near)?;
+    Ok(())
+}
+
+/// Puts two boxes in the place of those of their groups, where these are less near, or adds them.
+fn put(rows: &mut Vec<Near>, near: &Near) -> Result<(), AllocError>
+    ensures { OnOk result (rows.new.items ≡ steps.put_near rows.old.items near.now) }
+{
+    for place in 0..rows.len() {
+        let row = rows[place];
+        if are_same(&row, near) {
+            rows[place] = nearer(&row, near);
+            return Ok(());
+        }
+    }
+    add(rows, near)?;
+    Ok(())
+}
+
+/// How near two boxes come that reach so far into each other.
+fn near_of(reach: i64, left: &Held, own: &ZoneBox, right: &Held, later: &ZoneBox) -> Near
+    ensures groups { result.groups ≡ model.groups_of (place_of left.now.zone.now left.now.stretch.now own.now, place_of right.now.zone.now right.now.stretch.now later.now) }
+    ensures reach { result.reach ≡ reach }
+    ensures left { result.left ≡ told_place (place_of left.now.zone.now left.now.stretch.now own.now) }
+    ensures right { result.right ≡ told_place (place_of right.now.zone.now right.now.stretch.now later.now) }
+{
+    Near {
+        groups: groups_of(left.zone, right.zone),
+        reach,
+        left: told_box(left.stretch, own),
+        right: told_box(right.stretch, later),
+    }
+}
+
+/// Looks at two boxes that are compared; these are the boxes by which the first is compared.
+fn look(
+    rows: &mut Vec<Near>,
+    scene: &Scene,
+    left: &Held,
+    own: &ZoneBox,
+    pieces: &[Box3],
+    right: &Held,
+    later: &ZoneBox,
+) -> Result<(), AllocError>
+    requires fit { All (All IsFit) scene.now.run.now.items }
+    requires deep { scene.now.job.now.depth ≤ DEPTH_LIMIT }
+    requires pieces { pieces.now ≡ piece_boxes scene.now.job.now scene.now.run.now (place_of left.now.zone.now left.now.stretch.now own.now) }
+    ensures { OnOk result ((seen : List Pair) → model.AreNearest scene.now.job.now scene.now.run.now seen rows.old.items
+        → model.AreNearest scene.now.job.now scene.now.run.now (seen ++ (place_of left.now.zone.now left.now.stretch.now own.now, place_of right.now.zone.now right.now.stretch.now later.now) ∷ []) rows.new.items) }
+{
+    let others = boxes_by_pieces(scene.job, scene.run, right.zone, right.stretch, later);
+    if let Some(reach) = most_near(pieces, others.as_slice()) {
+        let near = near_of(reach, left, own, right, later);
+        put(rows, &near)?;
+    }
+    Ok(())
+}
+
+/// Looks at two boxes, where they are compared.
+fn look_at(
+    rows: &mut Vec<Near>,
+    scene: &Scene,
+    left: &Held,
+    own: &ZoneBox,
+    pieces: &[Box3],
+    right: &Held,
+    later: &ZoneBox,
+) -> Result<(), AllocError>
+    requires fit { All (All IsFit) scene.now.run.now.items }
+    requires deep { scene.now.job.now.depth ≤ DEPTH_LIMIT }
+    requires pieces { pieces.now ≡ piece_boxes scene.now.job.now scene.now.run.now (place_of left.now.zone.now left.now.stretch.now own.now) }
+    ensures { OnOk result ((seen : List Pair) → model.AreNearest scene.now.job.now scene.now.run.now seen rows.old.items
+        → model.AreNearest scene.now.job.now scene.now.run.now (seen ++ steps.pair_where (place_of left.now.zone.now left.now.stretch.now own.now) right.now.zone.now right.now.stretch.now later.now) rows.new.items) }
+{
+    if are_compared(share_channel(left.stretch, right.stretch), own, later) {
+        look(rows, scene, left, own, pieces, right, later)?;
+    }
+    Ok(())
+}
+
+/// Looks at a box with some of a stretch; these are the boxes by which the first is compared.
+fn look_each(
+    rows: &mut Vec<Near>,
+    scene: &Scene,
+    left: &Held,
+    own: &ZoneBox,
+    pieces: &[Box3],
+    right: &Held,
+    laters: &[ZoneBox],
+) -> Result<(), AllocError>
+    requires fit { All (All IsFit) scene.now.run.now.items }
+    requires deep { scene.now.job.now.depth ≤ DEPTH_LIMIT }
+    requires pieces { pieces.now ≡ piece_boxes scene.now.job.now scene.now.run.now (place_of left.now.zone.now left.now.stretch.now own.now) }
+    ensures { OnOk result ((seen : List Pair) → model.AreNearest scene.now.job.now scene.now.run.now seen rows.old.items
+        → model.AreNearest scene.now.job.now scene.now.run.now (seen ++ flat_map (steps.pair_where (place_of left.now.zone.now left.now.stretch.now own.now) right.now.zone.now right.now.stretch.now) laters.now) rows.new.items) }
+{
+    for later in laters {
+        look_at(rows, scene, left, own, pieces, right, later)?;
+    }
+    Ok(())
+}
+
+/// Looks at a box with those of a stretch. The boxes by which it is compared are made once.
+fn look_by(
+    rows: &mut Vec<Near>,
+    scene: &Scene,
+    left: &Held,
+    own: &ZoneBox,
+    right: &Held,
+) -> Result<(), AllocError>
+    requires fit { All (All IsFit) scene.now.run.now.items }
+    requires deep { scene.now.job.now.depth ≤ DEPTH_LIMIT }
+    ensures { OnOk result ((seen : List Pair) → model.AreNearest scene.now.job.now scene.now.run.now seen rows.old.items
+        → model.AreNearest scene.now.job.now scene.now.run.now (seen ++ steps.pairs_by right.now.zone.now right.now.stretch.now (place_of left.now.zone.now left.now.stretch.now own.now)) rows.new.items) }
+{
+    let pieces = boxes_by_pieces(scene.job, scene.run, left.zone, left.stretch, own);
+    let other = right.stretch;
+    let laters = other.boxes.as_slice();
+    look_each(rows, scene, left, own, pieces.as_slice(), right, laters)?;
+    Ok(())
+}
+
+/// Looks at some boxes of a stretch and those of another.
+fn look_owns(
+    rows: &mut Vec<Near>,
+    scene: &Scene,
+    left: &Held,
+    owns: &[ZoneBox],
+    right: &Held,
+) -> Result<(), AllocError>
+    requires fit { All (All IsFit) scene.now.run.now.items }
+    requires deep { scene.now.job.now.depth ≤ DEPTH_LIMIT }
+    ensures { OnOk result ((seen : List Pair) → model.AreNearest scene.now.job.now scene.now.run.now seen rows.old.items
+        → model.AreNearest scene.now.job.now scene.now.run.now (seen ++ flat_map (λ own. steps.pairs_by right.now.zone.now right.now.stretch.now (place_of left.now.zone.now left.now.stretch.now own)) owns.now) rows.new.items) }
+{
+    for own in owns {
+        look_by(rows, scene, left, own, right)?;
+    }
+    Ok(())
+}
+
+/// Looks at the boxes of two stretches.
+fn look_in_boxes(
+    rows: &mut Vec<Near>,
+    scene: &Scene,
+    left: &Held,
+    right: &Held,
+) -> Result<(), AllocError>
+    requires fit { All (All IsFit) scene.now.run.now.items }
+    requires deep { scene.now.job.now.depth ≤ DEPTH_LIMIT }
+    ensures { OnOk result ((seen : List Pair) → model.AreNearest scene.now.job.now scene.now.run.now seen rows.old.items
+        → model.AreNearest scene.now.job.now scene.now.run.now (seen ++ steps.pairs_in_boxes left.now.zone.now left.now.stretch.now right.now.zone.now right.now.stretch.now) rows.new.items) }
+{
+    let stretch = left.stretch;
+    let owns = stretch.boxes.as_slice();
+    look_owns(rows, scene, left, owns, right)?;
+    Ok(())
+}
+
+/// Looks at the boxes of two stretches, where the stretches may overlap.
+fn look_in_stretches(
+    rows: &mut Vec<Near>,
+    scene: &Scene,
+    left: &Held,
+    right: &Held,
+) -> Result<(), AllocError>
+    requires fit { All (All IsFit) scene.now.run.now.items }
+    requires deep { scene.now.job.now.depth ≤ DEPTH_LIMIT }
+    ensures { OnOk result ((seen : List Pair) → model.AreNearest scene.now.job.now scene.now.run.now seen rows.old.items
+        → model.AreNearest scene.now.job.now scene.now.run.now (seen ++ stretch_pairs (is_before_in scene.now.clocks.now.rows) left.now.zone.now left.now.stretch.now right.now.zone.now right.now.stretch.now) rows.new.items) }
+{
+    if may_overlap(scene.clocks, left.stretch, right.stretch) {
+        look_in_boxes(rows, scene, left, right)?;
+    }
+    Ok(())
+}
+
+/// Looks at the boxes of a stretch and of some stretches of another zone.
+fn look_against(
+    rows: &mut Vec<Near>,
+    scene: &Scene,
+    left: &Held,
+    other: &ZoneLine,
+    others: &[Stretch],
+) -> Result<(), AllocError>
+    requires fit { All (All IsFit) scene.now.run.now.items }
+    requires deep { scene.now.job.now.depth ≤ DEPTH_LIMIT }
+    ensures { OnOk result ((seen : List Pair) → model.AreNearest scene.now.job.now scene.now.run.now seen rows.old.items
+        → model.AreNearest scene.now.job.now scene.now.run.now (seen ++ flat_map (stretch_pairs (is_before_in scene.now.clocks.now.rows) left.now.zone.now left.now.stretch.now other.now) others.now) rows.new.items) }
+{
+    for stretch in others {
+        let right = Held {
+            zone: other,
+            stretch,
+        };
+        look_in_stretches(rows, scene, left, &right)?;
+    }
+    Ok(())
+}
+
+/// The same for the stretches of a row.
+fn look_in_row(near: &mut Vec<Near>, scene: &Scene, row: &Row) -> Result<(), AllocError>
+    requires fit { All (All IsFit) scene.now.run.now.items }
+    requires deep { scene.now.job.now.depth ≤ DEPTH_LIMIT }
+    ensures { OnOk result ((seen : List Pair) → model.AreNearest scene.now.job.now scene.now.run.now seen near.old.items
+        → model.AreNearest scene.now.job.now scene.now.run.now (seen ++ row_pairs (is_before_in scene.now.clocks.now.rows) row.now) near.new.items) }
+{
+    let left = Held {
+        zone: row.zone,
+        stretch: row.stretch,
+    };
+    look_against(near, scene, &left, row.other, row.others)?;
+    Ok(())
+}
+
+/// The nearest of the stretches of some rows.
+fn nearest_in(alloc: Global, scene: &Scene, rows: &[Row]) -> Result<Vec<Near>, AllocError>
+    requires fit { All (All IsFit) scene.now.run.now.items }
+    requires deep { scene.now.job.now.depth ≤ DEPTH_LIMIT }
+    ensures { IfOk result (λ near. model.AreNearest scene.now.job.now scene.now.run.now (pairs_in (is_before_in scene.now.clocks.now.rows) rows.now) near.items) }
+{
+    let mut near = Vec::new(alloc);
+    for row in rows {
+        look_in_row(&mut near, scene, row)?;
+    }
+    Ok(near)
+}
+
+/// For each two groups of which boxes are compared in a run of a job two compared boxes that come nearest to each other: of no other
+/// two does a box by which it is compared reach further into one of the other. It takes memory for each two groups, and for each
+/// stretch of a zone with each later zone of another group.
+pub fn nearest_of(
+    alloc: Global,
+    job: &Job,
+    run: &Run,
+    stretches: &Stretches,
+    clocks: &Clocks,
+) -> Result<Vec<Near>, NoMemory>
+    requires sound { IsSoundJob job.now }
+    requires whole { IsTold job.now run.now stretches.now clocks.now }
+    requires fit { All (All IsFit) run.now.items }
+    ensures { IfOk result (λ near. model.AreNearest job.now run.now (compared_pairs (is_before_in clocks.now.rows) job.now stretches.now) near.items) }
+{
+    let times = times_of(alloc, job, stretches)?;
+    let all = times.as_slice();
+    let rows = rows_of(alloc, job, stretches, clocks, all)?;
+    let parts = rows.as_slice();
+    let scene = Scene { job, run, clocks };
+    let near = nearest_in(alloc, &scene, parts)?;
+    Ok(near)
+}

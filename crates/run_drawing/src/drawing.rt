@@ -1,0 +1,384 @@
+//! A picture as a drawing in SVG. All numbers are whole micrometres.
+ghost use Rattle.std.specs.Prelude.{◌≡◌, ◌++◌, IfOk};
+ghost use Rattle.run_drawing.specs.Drawing as model;
+
+use crate::extents::{extent_of, has_motion};
+use crate::marks::{put_attribute, put_ends, put_number, put_place, put_size};
+use crate::shapes::Picture;
+use crate::styles::{LEGEND, STYLES};
+use crate::times::Lanes;
+use crate::views::View;
+use growing_text::Text;
+use nc_faults::NoMemory;
+use std::alloc::Global;
+
+/// How wide the views of a picture are, or how tall the first of them is: the greater of both, and 10 millimetres at least.
+#[tactic(auto, unfolding(crate::specs::Drawing::span_of))]
+fn span_of(picture: &Picture) -> i64
+    ensures { result ≡ model.span_of picture.now }
+{
+    let wide = extent_of(picture, 2).length();
+    let tall = extent_of(picture, 0).length();
+    wide.max(tall).max(10_000)
+}
+
+/// The size of a letter.
+#[tactic(auto, unfolding(crate::specs::Drawing::letter_of))]
+fn letter_of(picture: &Picture) -> i64
+    ensures { result ≡ model.letter_of picture.now }
+{
+    span_of(picture) / 50
+}
+
+/// X over Z.
+#[tactic(auto, unfolding(crate::specs::Drawing::first_view))]
+fn first_view(picture: &Picture) -> View
+    ensures { result ≡ model.first_view picture.now }
+{
+    let letter = letter_of(picture);
+    View::of(picture, 0, letter.saturating_mul(2), letter)
+}
+
+/// Y over Z, below it.
+#[tactic(auto, unfolding(crate::specs::Drawing::second_view))]
+fn second_view(picture: &Picture) -> View
+    ensures { result ≡ model.second_view picture.now }
+{
+    let letter = letter_of(picture);
+    let first = first_view(picture);
+    let top = first.bottom().saturating_add(letter.saturating_mul(2));
+    View::of(picture, 1, top, letter)
+}
+
+/// Where the views end: the second is there where anything moves along Y.
+#[tactic(auto, unfolding(crate::specs::Drawing::views_end))]
+fn views_end(picture: &Picture) -> i64
+    ensures { result ≡ model.views_end picture.now }
+{
+    if has_motion(picture, 1) {
+        second_view(picture).bottom()
+    } else {
+        first_view(picture).bottom()
+    }
+}
+
+/// So many letters below the views.
+#[tactic(auto, unfolding(crate::specs::Drawing::below))]
+fn below(picture: &Picture, letters: i64) -> i64
+    ensures { result ≡ model.below picture.now letters }
+{
+    views_end(picture).saturating_add(letter_of(picture).saturating_mul(letters))
+}
+
+/// The lanes, below the scale and the legend.
+#[tactic(auto, unfolding(crate::specs::Drawing::lanes_in))]
+fn lanes_in(picture: &Picture) -> Lanes
+    ensures { result ≡ model.lanes_in picture.now }
+{
+    Lanes::of(picture, below(picture, 7), letter_of(picture))
+}
+
+/// How wide and how tall the drawing is.
+#[tactic(auto, unfolding(crate::specs::Drawing::page_of))]
+fn page_of(picture: &Picture) -> (i64, i64)
+    ensures { result ≡ model.page_of picture.now }
+{
+    let letter = letter_of(picture);
+    (
+        span_of(picture).saturating_add(letter.saturating_mul(4)),
+        lanes_in(picture).bottom().saturating_add(letter),
+    )
+}
+
+/// Writes how far the drawing reaches, and the size of its letters.
+#[tactic(auto, unfolding(crate::specs::Drawing::frame_text))]
+fn put_frame(text: &mut Text, page: (i64, i64), letter: i64)
+    ensures { text.new ≡ text.old ++ model.frame_text page letter }
+{
+    put_number(text, page.0);
+    text.say(" ");
+    put_number(text, page.1);
+    text.say("\"");
+    put_attribute(text, "font-size", letter);
+}
+
+/// Writes the white ground.
+#[tactic(auto, unfolding(crate::specs::Drawing::paper_text))]
+fn put_paper(text: &mut Text, page: (i64, i64))
+    ensures { text.new ≡ text.old ++ model.paper_text page }
+{
+    text.say(">\n<rect fill=\"#fff\"");
+    put_size(text, page);
+    text.say("/>\n");
+}
+
+/// The classes.
+fn styles() -> &'static str
+    ensures { result.now ≡ STYLES.now }
+{
+    STYLES
+}
+
+/// What the points of the lanes are.
+fn legend() -> &'static str
+    ensures { result.now ≡ LEGEND.now }
+{
+    LEGEND
+}
+
+/// Writes all classes.
+fn put_styles(text: &mut Text)
+    ensures { text.new ≡ text.old ++ STYLES.now }
+{
+    text.say(styles());
+}
+
+/// Writes how far the drawing of a picture reaches.
+#[tactic(auto, unfolding(crate::specs::Drawing::frame_part))]
+fn put_frame_part(text: &mut Text, picture: &Picture)
+    ensures { text.new ≡ text.old ++ model.frame_part picture.now }
+{
+    put_frame(text, page_of(picture), letter_of(picture));
+}
+
+/// Writes the white ground of a picture.
+#[tactic(auto, unfolding(crate::specs::Drawing::paper_part))]
+fn put_paper_part(text: &mut Text, picture: &Picture)
+    ensures { text.new ≡ text.old ++ model.paper_part picture.now }
+{
+    put_paper(text, page_of(picture));
+}
+
+/// Writes the head of the drawing.
+#[tactic(auto, unfolding(crate::specs::Drawing::head_text))]
+fn put_head(text: &mut Text, picture: &Picture)
+    ensures { text.new ≡ text.old ++ model.head_text picture.now }
+{
+    text.say("<svg xmlns=\"http://www.w3.org/2000/svg\" viewBox=\"0 0 ");
+    put_frame_part(text, picture);
+    put_paper_part(text, picture);
+    put_styles(text);
+}
+
+/// Writes the views.
+#[tactic(auto, unfolding(crate::specs::Drawing::views_text))]
+fn put_views(text: &mut Text, picture: &Picture)
+    ensures { text.new ≡ text.old ++ model.views_text picture.now }
+{
+    first_view(picture).put(text, picture);
+    if has_motion(picture, 1) {
+        second_view(picture).put(text, picture);
+    }
+}
+
+/// The length of the scale: the greatest power of ten that is at most a quarter of the width, from 1 millimetre to 1 kilometre.
+#[tactic(auto, unfolding(crate::specs::Drawing::scale_length))]
+fn scale_length(width: i64) -> i64
+    ensures { result ≡ model.scale_length width }
+{
+    if width < 40_000 {
+        1_000
+    } else if width < 400_000 {
+        10_000
+    } else if width < 4_000_000 {
+        100_000
+    } else if width < 40_000_000 {
+        1_000_000
+    } else if width < 400_000_000 {
+        10_000_000
+    } else {
+        100_000_000
+    }
+}
+
+/// The place so far to the right of another.
+#[tactic(auto, unfolding(crate::specs::Drawing::rod_end))]
+fn rod_end(at: (i64, i64), length: i64) -> (i64, i64)
+    ensures { result ≡ model.rod_end at length }
+{
+    (at.0.saturating_add(length), at.1)
+}
+
+/// Writes a line of a length to the right of a place.
+#[tactic(auto, unfolding(crate::specs::Drawing::rod_text))]
+fn put_rod(text: &mut Text, at: (i64, i64), length: i64)
+    ensures { text.new ≡ text.old ++ model.rod_text at length }
+{
+    text.say("<line class=\"scale\"");
+    put_ends(text, at, rod_end(at, length));
+}
+
+/// A length in whole millimetres.
+fn millimetres_of(length: i64) -> i64
+    ensures { result ≡ model.millimetres_of length }
+{
+    length / 1000
+}
+
+/// Writes a length in whole millimetres.
+#[tactic(auto, unfolding(crate::specs::Drawing::length_text))]
+fn put_length(text: &mut Text, length: i64)
+    ensures { text.new ≡ text.old ++ model.length_text length }
+{
+    put_number(text, millimetres_of(length));
+}
+
+/// Begins a text at a place.
+#[tactic(auto, unfolding(crate::specs::Drawing::text_start))]
+fn put_text_start(text: &mut Text, at: (i64, i64))
+    ensures { text.new ≡ text.old ++ model.text_start at }
+{
+    text.say("<text");
+    put_place(text, at);
+}
+
+/// Writes a length in whole millimetres, and ends the text.
+#[tactic(auto, unfolding(crate::specs::Drawing::text_end))]
+fn put_text_end(text: &mut Text, length: i64)
+    ensures { text.new ≡ text.old ++ model.text_end length }
+{
+    put_length(text, length);
+    text.say(" mm</text>\n");
+}
+
+/// Writes how long the scale is, to the right of a place.
+#[tactic(auto, unfolding(crate::specs::Drawing::measure_text))]
+fn put_measure(text: &mut Text, at: (i64, i64), length: i64)
+    ensures { text.new ≡ text.old ++ model.measure_text at length }
+{
+    put_text_start(text, at);
+    put_text_end(text, length);
+}
+
+/// Where the measure of a scale stands.
+#[tactic(auto, unfolding(crate::specs::Drawing::measure_place))]
+fn measure_place(at: (i64, i64), length: i64, letter: i64) -> (i64, i64)
+    ensures { result ≡ model.measure_place at length letter }
+{
+    (
+        at.0.saturating_add(length).saturating_add(letter / 2),
+        at.1.saturating_add(letter / 3),
+    )
+}
+
+/// Writes the scale at a place.
+#[tactic(auto, unfolding(crate::specs::Drawing::scale_text))]
+fn put_scale(text: &mut Text, at: (i64, i64), length: i64, letter: i64)
+    ensures { text.new ≡ text.old ++ model.scale_text at length letter }
+{
+    put_rod(text, at, length);
+    put_measure(text, measure_place(at, length, letter), length);
+}
+
+/// Writes both numbers of a place.
+#[tactic(auto, unfolding(crate::specs::Drawing::pair_text))]
+fn put_pair(text: &mut Text, at: (i64, i64))
+    ensures { text.new ≡ text.old ++ model.pair_text at }
+{
+    put_number(text, at.0);
+    text.say(" ");
+    put_number(text, at.1);
+}
+
+/// Writes what each sign of the lanes is.
+fn put_signs(text: &mut Text)
+    ensures { text.new ≡ text.old ++ LEGEND.now }
+{
+    text.say(legend());
+}
+
+/// Writes what the points of the lanes are, from a place on.
+#[tactic(auto, unfolding(crate::specs::Drawing::legend_text))]
+fn put_legend(text: &mut Text, at: (i64, i64))
+    ensures { text.new ≡ text.old ++ model.legend_text at }
+{
+    text.say("<g transform=\"translate(");
+    put_pair(text, at);
+    text.say(")\">\n");
+    put_signs(text);
+}
+
+/// The place so many letters below the views, two letters from the left edge.
+#[tactic(auto, unfolding(crate::specs::Drawing::place_below))]
+fn place_below(picture: &Picture, letters: i64) -> (i64, i64)
+    ensures { result ≡ model.place_below picture.now letters }
+{
+    (
+        letter_of(picture).saturating_mul(2),
+        below(picture, letters),
+    )
+}
+
+/// The length of the scale of a picture.
+#[tactic(auto, unfolding(crate::specs::Drawing::scale_of))]
+fn scale_of(picture: &Picture) -> i64
+    ensures { result ≡ model.scale_of picture.now }
+{
+    scale_length(span_of(picture))
+}
+
+/// Writes the scale of a picture.
+#[tactic(auto, unfolding(crate::specs::Drawing::scale_part))]
+fn put_scale_part(text: &mut Text, picture: &Picture)
+    ensures { text.new ≡ text.old ++ model.scale_part picture.now }
+{
+    put_scale(
+        text,
+        place_below(picture, 2),
+        scale_of(picture),
+        letter_of(picture),
+    );
+}
+
+/// Writes what the points of the lanes of a picture are.
+#[tactic(auto, unfolding(crate::specs::Drawing::legend_part))]
+fn put_legend_part(text: &mut Text, picture: &Picture)
+    ensures { text.new ≡ text.old ++ model.legend_part picture.now }
+{
+    put_legend(text, place_below(picture, 4));
+}
+
+/// Writes the lanes of a picture.
+#[tactic(auto, unfolding(crate::specs::Drawing::lanes_part))]
+fn put_lanes_part(text: &mut Text, picture: &Picture)
+    ensures { text.new ≡ text.old ++ model.lanes_part picture.now }
+{
+    lanes_in(picture).put(text, picture);
+}
+
+/// Writes what stands below the views: the scale, what the points of the lanes are, and the lanes.
+#[tactic(auto, unfolding(crate::specs::Drawing::foot_text))]
+fn put_foot(text: &mut Text, picture: &Picture)
+    ensures { text.new ≡ text.old ++ model.foot_text picture.now }
+{
+    put_scale_part(text, picture);
+    put_legend_part(text, picture);
+    put_lanes_part(text, picture);
+}
+
+/// Writes that something was left out, where it was, and ends the drawing.
+#[tactic(auto, unfolding(crate::specs::Drawing::end_text))]
+fn put_end(text: &mut Text, picture: &Picture)
+    ensures { text.new ≡ text.old ++ model.end_text picture.now }
+{
+    if picture.is_cut {
+        text.say(
+            "<text class=\"named\" x=\"2em\" y=\"1em\">only a part is drawn: there is too much of it</text>\n",
+        );
+    }
+    text.say("</svg>\n");
+}
+
+/// A picture as a drawing in SVG: X over Z, below it Y over Z where anything moves along Y, a scale, and the time of the channels.
+/// `NoMemory` where too little memory is found.
+#[tactic(auto, unfolding(crate::specs::Drawing::drawing_text))]
+pub fn draw(alloc: Global, picture: &Picture) -> Result<Vec<u8>, NoMemory>
+    ensures { IfOk result (λ text. text.items ≡ model.drawing_text picture.now) }
+{
+    let mut text = Text::new(alloc);
+    put_head(&mut text, picture);
+    put_views(&mut text, picture);
+    put_foot(&mut text, picture);
+    put_end(&mut text, picture);
+    text.finish()
+}

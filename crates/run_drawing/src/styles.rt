@@ -1,0 +1,43 @@
+//! The parts of a drawing that are the same in each. Sizes in em count letters of the drawing.
+
+/// The classes: colours of the channels, d for ways and c for all else, then boxes, ways, lines, points and texts. And the
+/// pattern of zones that nobody holds.
+pub(crate) const STYLES: &str = "<style>
+.c1{color:#1f77b4}.c2{color:#e07b00}.c3{color:#2ca02c}.c4{color:#9467bd}
+.c5{color:#8c564b}.c6{color:#c94fa7}.c7{color:#7f7f00}.c8{color:#17a0b0}
+.d1{color:#0a3c61}.d2{color:#7a3d00}.d3{color:#0f5511}.d4{color:#4a2a6e}
+.d5{color:#462a25}.d6{color:#6e1f58}.d7{color:#404000}.d8{color:#08505a}
+.b{fill:currentColor;fill-opacity:.05;stroke:currentColor;stroke-opacity:.35;stroke-width:.05em}
+.free{fill:url(#hatch);stroke:#666;stroke-width:.05em}
+.red{fill:#d62728;fill-opacity:.25;stroke:#d62728;stroke-width:.15em}
+.t{fill:none;stroke:currentColor;stroke-width:.1em}
+.s{fill:currentColor}
+.axis{stroke:#888;stroke-width:.05em}
+.scale{stroke:#333;stroke-width:.15em}
+.lane{stroke:#888;stroke-width:.05em}
+.join{stroke:#d62728;stroke-width:.1em}
+.act{fill:#333}
+.wait{fill:#fff;stroke:#333;stroke-width:.1em}
+.go{fill:#fff;stroke:#2ca02c;stroke-width:.15em}
+text{font-family:sans-serif;fill:#333}
+.mid{text-anchor:middle}
+.name{text-anchor:middle;fill:currentColor}
+.step{font-size:.8em}
+.named{fill:#b00000;font-weight:bold;paint-order:stroke;stroke:#fff;stroke-width:.15em}
+</style>
+<defs><pattern id=\"hatch\" patternUnits=\"userSpaceOnUse\" width=\"1em\" height=\"1em\"><line class=\"axis\" x1=\"0\" y1=\"1em\" x2=\"1em\" y2=\"0\"/></pattern></defs>
+";
+
+/// What the points of the lanes are.
+pub(crate) const LEGEND: &str = "<circle class=\"act\" cx=\".4em\" cy=\"0\" r=\".33em\"/>
+<text x=\"1.2em\" y=\".35em\">acts</text>
+<circle class=\"wait\" cx=\"6.4em\" cy=\"0\" r=\".33em\"/>
+<text x=\"7.2em\" y=\".35em\">waits</text>
+<circle class=\"go\" cx=\"12.4em\" cy=\"0\" r=\".33em\"/>
+<text x=\"13.2em\" y=\".35em\">goes on</text>
+<line class=\"join\" x1=\"19em\" y1=\"0\" x2=\"20.5em\" y2=\"0\"/>
+<text x=\"21em\" y=\".35em\">with whose step</text>
+<rect class=\"act\" x=\"30em\" y=\"-.33em\" width=\".66em\" height=\".66em\"/>
+<text x=\"31.2em\" y=\".35em\">ends</text>
+</g>
+";

@@ -1,0 +1,5 @@
+pub mod TakeLaws
+pub mod StepLaws
+pub mod RunLaws
+pub mod MissingLaws
+pub mod RowLaws

@@ -1,0 +1,3 @@
+pub mod LastBoards
+pub mod Missing
+pub mod Rows

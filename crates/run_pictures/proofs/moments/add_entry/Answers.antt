@@ -1,0 +1,11 @@
+use Rattle.std.proofs.Common.{◌≡◌, [], ◌∷◌, ◌++◌, map, take}
+use Rattle.run_pictures.specs.Moments.{going_of}
+use Rattle.run_pictures.proofs.KeptLaws.{alike_on}
+use Rattle.run_pictures.proofs.moments.add_entry.Goals as goal
+
+pub returns : goal.returns
+returns c =
+    let h : take c.args.limit c.add_goings.new.moments.items ≡ take c.args.limit (c.args.moments.now.items ++ (c.moment_of.result ∷ map (going_of c.args.step c.args.entry.now.channel) c.as_slice.result.now)) =
+    alike_on c.args.limit c.args.moments.now.items (c.moment_of.result ∷ []) (map (going_of c.args.step c.args.entry.now.channel) c.as_slice.result.now) c.keep.new.list.items c.add_goings.new.moments.items
+    c.in_ok-keep.ensures c.in_ok-add_goings.ensures in
+    rw (c.moment_of.ensures, c.as_slice.ensures.value) at h

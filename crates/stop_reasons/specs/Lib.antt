@@ -1,0 +1,7 @@
+pub mod Alarms
+pub mod Ends
+pub mod RaceTexts
+pub mod Races
+pub mod Rows
+pub mod Stuck
+pub mod Waits

@@ -1,0 +1,45 @@
+//! All channels and all axes, in order.
+ghost use Rattle.std.specs.Prelude.{◌≡◌};
+ghost use Rattle.sync_types.specs.Boards.{axis_numbers, channel_numbers};
+
+use axis_sets::{AxisId, ChannelId};
+
+/// The channels that a job can have, ascending.
+pub(crate) fn all_channels() -> [ChannelId; 8]
+    ensures { result ≡ channel_numbers }
+{
+    [
+        ChannelId { number: 1 },
+        ChannelId { number: 2 },
+        ChannelId { number: 3 },
+        ChannelId { number: 4 },
+        ChannelId { number: 5 },
+        ChannelId { number: 6 },
+        ChannelId { number: 7 },
+        ChannelId { number: 8 },
+    ]
+}
+
+/// The axes that a job can have, ascending.
+pub(crate) fn all_axes() -> [AxisId; 16]
+    ensures { result ≡ axis_numbers }
+{
+    [
+        AxisId { index: 0 },
+        AxisId { index: 1 },
+        AxisId { index: 2 },
+        AxisId { index: 3 },
+        AxisId { index: 4 },
+        AxisId { index: 5 },
+        AxisId { index: 6 },
+        AxisId { index: 7 },
+        AxisId { index: 8 },
+        AxisId { index: 9 },
+        AxisId { index: 10 },
+        AxisId { index: 11 },
+        AxisId { index: 12 },
+        AxisId { index: 13 },
+        AxisId { index: 14 },
+        AxisId { index: 15 },
+    ]
+}

@@ -1,0 +1,4 @@
+pub mod EntryLaws
+pub mod ExecutionLaws
+pub mod LatestLaws
+pub mod TextLaws
