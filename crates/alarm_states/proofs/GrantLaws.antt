@@ -1,5 +1,5 @@
 -- The grants of a channel, one entry more.
-use Rattle.std.proofs.Common.{◌≡◌, ◌∙◌, ℕ, zero, suc, ◌+◌, ◌<◌, ◌≤◌, ◌==◌, Bool, true, false, cond, List, [], ◌∷◌, ◌++◌, append-nil, length, get_or, slice_get, take, Option, None, Some, refl, sym, ap, subst, arith, add-one, zero-add}
+use Rattle.std.proofs.Common.{◌≡◌, ◌∙◌, ℕ, zero, suc, ◌+◌, ◌<◌, ◌==◌, Bool, true, false, cond, List, [], ◌∷◌, ◌++◌, append-nil, length, get_or, slice_get, take, Option, None, Some, refl, sym, ap, subst, arith, add-one, zero-add}
 use Rattle.std.proofs.lemmas.Bool.{eqb-true}
 use Rattle.std.proofs.lemmas.Grind.{flat_map-append}
 use Rattle.std.proofs.lemmas.List.{take_more}
@@ -7,7 +7,7 @@ use Rattle.std.proofs.lemmas.Option.{slice_get-get_or}
 use Rattle.std.specs.List.{flat_map, range_with_len}
 use Rattle.std.specs.Option.{option_map_or}
 use Rattle.number_laws.proofs.Lists.{range_with_len-push}
-use Rattle.channel_machine.specs.Kept.{StateView}
+use Rattle.channel_machine.specs.CallLevels.{alarmed_levels}
 use Rattle.channel_machine.specs.Locals.{IsKeptOf}
 use Rattle.coord_core.proofs.Granted.{is_granted}
 use Rattle.coord_core.specs.Boards.{BoardView, HaveSameEntries, replayed, with_step}
@@ -20,11 +20,13 @@ use Rattle.sync_types.specs.Views.{EntryView, StartView}
 use Rattle.sync_types.specs.declared.Grant.{Grant}
 use Rattle.sync_types.specs.declared.Step.{Step}
 use Rattle.alarm_states.specs.Grants.{board_before, grants_at, grants_before, own_grant}
+use Rattle.alarm_states.specs.KeptChannels.{IsKept}
+use Rattle.alarm_states.specs.declared.kept.Kept.{Kept}
 
 -- before the first entry the channel has got none
-pub first_kept : (job : JobView) (start : StartView) (es : List EntryView) (c : ℕ) → IsKeptOf job c (grants_before start es c 0) None
-unfolding grants_before
-first_kept job start es c = tt
+pub first_kept : (job : JobView) (start : StartView) (es : List EntryView) (c : ℕ) (kept : Kept) → kept.local ≡ None → kept.levels ≡ None → IsKept job c (grants_before start es c 0) kept
+unfolding grants_before alarmed_levels
+first_kept job start es c kept local levels = record { local = subst (IsKeptOf job c []) (sym local) tt; levels = levels }
 
 module _ (start : StartView) (es : List EntryView) (c n : ℕ) where
   one_more : grants_before start es c (n + 1) ≡ grants_before start es c n ++ grants_at start es c n
@@ -51,13 +53,13 @@ module _ (start : StartView) (es : List EntryView) (c n : ℕ) where
         by_test false is = refl
 
     -- what is kept after the entry
-    pub next_kept : (job : JobView) (b : Board) (acting : ℕ) (grant : Grant) (after : Option StateView) → acting ≡ e.channel → b ≡ board_before start es n → grant_in (b.state acting) ≡ Some grant
-        → IsKeptOf job c (grants_before start es c n ++ own_grant c acting grant) after → IsKeptOf job c (grants_before start es c (n + 1)) after
+    pub next_kept : (job : JobView) (b : Board) (acting : ℕ) (grant : Grant) (after : Kept) → acting ≡ e.channel → b ≡ board_before start es n → grant_in (b.state acting) ≡ Some grant
+        → IsKept job c (grants_before start es c n ++ own_grant c acting grant) after → IsKept job c (grants_before start es c (n + 1)) after
     next_kept job b acting grant after acts same granted kept =
         let there : grant_in ((board_before start es n).state e.channel) ≡ Some grant =
         ap (λ (a : Board). grant_in (a.state e.channel)) (sym same) ∙ ap (λ (d : ℕ). grant_in (b.state d)) (sym acts) ∙ granted in
         let own : own_grant c acting grant ≡ grants_at start es c n = ap (λ (d : ℕ). own_grant c d grant) acts ∙ sym (grant_here grant there) in
-        subst (λ (gs : List Grant). IsKeptOf job c gs after) (ap (λ (gs : List Grant). grants_before start es c n ++ gs) own ∙ sym one_more) kept
+        subst (λ (gs : List Grant). IsKept job c gs after) (ap (λ (gs : List Grant). grants_before start es c n ++ gs) own ∙ sym one_more) kept
 
     -- the board after the entry
     pub next_board : (old new : BoardView) (acting : ℕ) (step : Step) → acting ≡ e.channel → step ≡ e.step → replayed old ≡ board_before start es n
@@ -74,15 +76,15 @@ module _ (start : StartView) (es : List EntryView) (c n : ℕ) where
         ∙ ap (after_entries (first_board start)) (sym front)
 
 -- what is kept after the entry of a channel
-pub own_kept : (job : JobView) (c acting : ℕ) (grant : Grant) (made : List Grant) (after : Option StateView) → (acting == c) ≡ true → IsKeptOf job c (made ++ grant ∷ []) after
-    → IsKeptOf job c (made ++ own_grant c acting grant) after
+pub own_kept : (job : JobView) (c acting : ℕ) (grant : Grant) (made : List Grant) (after : Kept) → (acting == c) ≡ true → IsKept job c (made ++ grant ∷ []) after
+    → IsKept job c (made ++ own_grant c acting grant) after
 own_kept job c acting grant made after own kept =
-    subst (λ (gs : List Grant). IsKeptOf job c (made ++ gs) after) (sym (ap (λ (t : Bool). cond t (grant ∷ []) []) own)) kept
+    subst (λ (gs : List Grant). IsKept job c (made ++ gs) after) (sym (ap (λ (t : Bool). cond t (grant ∷ []) []) own)) kept
 
-pub other_kept : (job : JobView) (c acting : ℕ) (grant : Grant) (made : List Grant) (after : Option StateView) → (acting == c) ≡ false → IsKeptOf job c made after
-    → IsKeptOf job c (made ++ own_grant c acting grant) after
+pub other_kept : (job : JobView) (c acting : ℕ) (grant : Grant) (made : List Grant) (after : Kept) → (acting == c) ≡ false → IsKept job c made after
+    → IsKept job c (made ++ own_grant c acting grant) after
 other_kept job c acting grant made after other kept =
-    subst (λ (gs : List Grant). IsKeptOf job c gs after) (sym (append-nil made) ∙ ap (λ (gs : List Grant). made ++ gs) (sym (ap (λ (t : Bool). cond t (grant ∷ []) []) other))) kept
+    subst (λ (gs : List Grant). IsKept job c gs after) (sym (append-nil made) ∙ ap (λ (gs : List Grant). made ++ gs) (sym (ap (λ (t : Bool). cond t (grant ∷ []) []) other))) kept
 
 -- the channel of each entry of a run runs before it
 runs_at : (b : Board) (es : List EntryView) (n : ℕ) (e : EntryView) → AreEntries b es → n < length es → e ≡ get_or es n e → is_running ((after_entries b (take n es)).state e.channel) ≡ true

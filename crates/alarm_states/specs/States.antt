@@ -1,26 +1,29 @@
 -- Meaning. What is told of a channel that an alarm stops.
-use Rattle.std.specs.Prelude.{◌≡◌, ℕ, Option, Some, None}
+use Rattle.std.specs.Prelude.{◌≡◌, ℕ, List, Option, Some, None}
 use Rattle.block_effects.specs.Words.{parameter_in}
 use Rattle.block_readings.specs.Readings.{readings_of}
+use Rattle.block_readings.specs.declared.readings.Reading.{Reading}
+use Rattle.channel_machine.specs.CallLevels.{alarmed_levels}
 use Rattle.channel_machine.specs.Kept.{StateView}
 use Rattle.channel_machine.specs.Locals.{IsKeptOf}
 use Rattle.channel_machine.specs.StartStates.{start_of}
 use Rattle.job_types.specs.Job.{JobView}
 use Rattle.sync_types.specs.Views.{RunView}
-use Rattle.alarm_states.specs.Alarms.{alarm_line}
 use Rattle.alarm_states.specs.Blocks.{IsPlaceOf, opener_at, said_at}
+use Rattle.alarm_states.specs.Calls.{calls_at}
 use Rattle.alarm_states.specs.Grants.{grants_of}
 use Rattle.alarm_states.specs.declared.state.AlarmState.{AlarmState}
 
 -- the values that a block reads where this is kept of its channel
-abbrev pub HasReadings : JobView → ℕ × ℕ → StateView → AlarmState → Type 0
-HasReadings job place kept state = state.readings.items ≡ readings_of (parameter_in kept.parameters) (opener_at job.programs place) (said_at job.programs place)
+abbrev pub HasReadings : JobView → ℕ × ℕ → StateView → List Reading → Type 0
+HasReadings job place kept readings = readings ≡ readings_of (parameter_in kept.parameters) (opener_at job.programs place) (said_at job.programs place)
 
--- The state is that after the last step of the channel, which is the alarm: nothing of the alarmed block stands then.
+-- The state is that after the last step of the channel, which is the alarm: nothing of the alarmed block stands then. The calls are those of the levels on which that block stands.
 pub record IsStateOf (job : JobView) (run : RunView) (channel : ℕ) (place : ℕ × ℕ) (state : AlarmState) : Type 0 where
   pub kept : StateView
   pub after : IsKeptOf job channel (grants_of (start_of job) run.entries channel) (Some kept)
-  pub readings : HasReadings job place kept state
+  pub readings : HasReadings job place kept state.readings.items
+  pub calls : state.calls.items ≡ calls_at job.programs (alarmed_levels job channel (grants_of (start_of job) run.entries channel))
 
 -- where the channel is kept after its steps, the state of the block of a place is told
 abbrev pub IsStateAt : JobView → RunView → ℕ → Option (ℕ × ℕ) → Option AlarmState → Type 0

@@ -1,4 +1,4 @@
-//! The values with which an alarm stops a channel.
+//! What an alarm finds in a channel that it stops.
 ghost use Rattle.std.specs.Prelude.{◌≡◌, ◌<◌, length, IfOk};
 ghost use Rattle.block_effects.specs.Words.{parameter_in};
 ghost use Rattle.block_readings.specs.Readings.{readings_of};
@@ -11,25 +11,29 @@ ghost use Rattle.sync_types.specs.Boards.{first_board};
 ghost use Rattle.sync_types.specs.Turns.{AreEntries};
 ghost use Rattle.alarm_states.specs.Alarms.{alarm_line};
 ghost use Rattle.alarm_states.specs.Blocks.{FlowFits};
+ghost use Rattle.alarm_states.specs.Calls.{calls_at};
 ghost use Rattle.alarm_states.specs.States as model;
 
 use crate::alarms::alarm_line;
 use crate::blocks::{flow_at, opener_of, place_on, statement_of};
+use crate::calls::{Call, calls_of};
 use crate::kept::kept_after;
 use axis_sets::ChannelId;
 use block_readings::{Reading, readings_in};
-use channel_machine::Local;
+use channel_machine::{Levels, Local};
 use job_types::Job;
 use nc_control_flow::Flow;
 use nc_faults::NoMemory;
 use std::alloc::Global;
 use sync_types::Run;
 
-/// The values with which an alarm stops a channel.
+/// What an alarm finds in a channel that it stops.
 #[derive(Debug, Drop)]
 pub struct AlarmState {
     /// The parameters that the alarmed block reads, with the values that they have when it comes, in the order of their numbers.
     pub readings: Vec<Reading>,
+    /// The calls that are open when it comes, that of the main program first; none where it is a block of the main program.
+    pub calls: Vec<Call>,
 }
 
 /// What the block of a place of a program reads in a channel.
@@ -56,18 +60,34 @@ fn readings_at(
     number: usize,
     pc: u32,
     local: &Local,
+) -> Result<Vec<Reading>, NoMemory>
+    requires blocks { BlocksFit job.now }
+    requires there { pc < length (lines_of job.now.programs number) }
+    ensures { IfOk result (λ list. model.HasReadings job.now (number, pc) local.now list.items) }
+{
+    match flow_at(job, number) {
+        Some(flow) => flow_readings(alloc, flow, pc, local),
+        None => unreachable!(),
+    }
+}
+
+/// What an alarm in the block of a place finds in a channel, on these levels of calls.
+fn state_at(
+    alloc: Global,
+    job: &Job,
+    number: usize,
+    pc: u32,
+    local: &Local,
+    levels: &Option<Levels>,
 ) -> Result<AlarmState, NoMemory>
     requires blocks { BlocksFit job.now }
     requires there { pc < length (lines_of job.now.programs number) }
-    ensures { IfOk result (λ state. model.HasReadings job.now (number, pc) local.now state) }
+    ensures readings { IfOk result (λ state. model.HasReadings job.now (number, pc) local.now state.readings.items) }
+    ensures calls { IfOk result (λ state. state.calls.items ≡ calls_at job.now.programs levels.now) }
 {
-    match flow_at(job, number) {
-        Some(flow) => {
-            let readings = flow_readings(alloc, flow, pc, local)?;
-            Ok(AlarmState { readings })
-        }
-        None => unreachable!(),
-    }
+    let readings = readings_at(alloc, job, number, pc, local)?;
+    let calls = calls_of(alloc, job, levels)?;
+    Ok(AlarmState { readings, calls })
 }
 
 /// What an alarm in a block of this line finds in a channel.
@@ -86,9 +106,10 @@ fn state_on(
     let Some((number, pc)) = place_on(job, line) else {
         return Ok(None);
     };
-    match kept_after(alloc, job, run, channel)? {
+    let kept = kept_after(alloc, job, run, channel)?;
+    match &kept.local {
         Some(local) => {
-            let state = readings_at(alloc, job, number, pc, &local)?;
+            let state = state_at(alloc, job, number, pc, local, &kept.levels)?;
             Ok(Some(state))
         }
         None => Ok(None),

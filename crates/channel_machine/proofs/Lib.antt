@@ -1,5 +1,7 @@
+pub mod AlarmPlaces
 pub mod Going
 pub mod Pasts
+pub mod PlacedChannels
 pub mod Ranges
 pub mod Resuming
 pub mod Rows
@@ -18,3 +20,4 @@ pub mod Pushes
 pub mod RunsSoFar
 pub mod RunTurns
 pub mod StartNumbers
+pub mod TracedChannels

@@ -1,5 +1,5 @@
 -- What blocks of coordination ask for: an action that is no alarm, or an alarm of the table.
-use Rattle.std.proofs.Common.{◌≡◌, ℕ, ℤ, List, Option, None, Some, IfOk, Result, Ok, Err, refl, subst}
+use Rattle.std.proofs.Common.{◌≡◌, ℕ, ℤ, List, Option, None, Some, IfOk, Result, Ok, Err, refl, ap, subst, ◌∙◌}
 use Rattle.std.specs.Prelude.{⊤}
 use Rattle.block_effects.proofs.AlarmLaws.{IsListed, bind_listed}
 use Rattle.block_effects.specs.Effects.{Effect, Turning, SituationView, turned_only, control_effect, effect_of}
@@ -48,6 +48,19 @@ module _ (setting : SettingView) (parameters : ℕ → ℤ) where
 
   pub asked_listed : (statement : Statement) (action : Action) → request_in setting parameters statement ≡ Ok (Some (Act action)) → IsListedAction action
   asked_listed statement action is = subst AsksListed is (statement_asks statement)
+
+  -- it asks for no alarm
+  some_no_alarm : (w : CoordWord) (operands : List OperandView) (r : Result Request ℕ) (code : ℕ) → request_of setting parameters w operands ≡ r → (r >>= λ request. Ok (Some request)) ≡ Ok (Some (Act (Alarm code))) → ⊥
+  some_no_alarm w operands (Ok request) code is asked =
+      let same : request ≡ Act (Alarm code) = cc in
+      let none : own_alarm (Alarm code) ≡ None = (asks setting parameters w operands (Act (Alarm code)) (is ∙ ap (λ (r : Request). Ok r) same)).0.no_alarm in
+      cc
+  some_no_alarm w operands (Err fault) code is asked = cc
+
+  pub asked_no_alarm : (statement : Statement) (code : ℕ) → request_in setting parameters statement ≡ Ok (Some (Act (Alarm code))) → ⊥
+  unfolding request_in
+  asked_no_alarm (Coord w operands) code asked = some_no_alarm w operands (request_of setting parameters w operands) code refl asked
+  asked_no_alarm other code asked = cc
 
 -- ---- a block of coordination moves nothing
 

@@ -85,10 +85,11 @@ module _ (s : SurroundingsView) where
 
   -- how a block was executed
   pub record IsExecuted (past : List Deed) (place : Place) (b : ℕ × BlockView) (done : Executed) : Type 0 where
+    pub line : b.0 ≡ done.line
     pub asks : request_in (setting_after s past) (parameter_in (parameters_after past)) b.1.statement ≡ Ok done.request
     pub leaves : effect_of (setup_after s past) (found_after s past) b.0 (opener_at s place) b.1.statement ≡ Ok done.effect
 
-  was_executed : (past : List Deed) (place : Place) (b : ℕ × BlockView) (done : Executed) → executed_block s past place b ≡ Ok done → IsExecuted past place b done
+  pub was_executed : (past : List Deed) (place : Place) (b : ℕ × BlockView) (done : Executed) → executed_block s past place b ≡ Ok done → IsExecuted past place b done
   was_executed past place (line, block) done is =
       let (request, asked, rest) = bind_ok (request_in (setting_after s past) (parameter_in (parameters_after past)) block.statement) _ done is in
       let (effect, made, last) = bind_ok (effect_of (setup_after s past) (found_after s past) line (opener_at s place) block.statement)
@@ -96,6 +97,7 @@ module _ (s : SurroundingsView) where
       let left : Executed = record { line = line; block = block; request = request; effect = effect } in
       let same : left ≡ done = cc in
       record {
+        line = ap (λ (e : Executed). e.line) same;
         asks = asked ∙ ap (λ (e : Executed). Ok e.request) same;
         leaves = made ∙ ap (λ (e : Executed). Ok e.effect) same;
       }

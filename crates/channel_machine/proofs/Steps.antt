@@ -27,7 +27,9 @@ use Rattle.sync_types.specs.declared.Step.{Step}
 use Rattle.channel_machine.specs.declared.levels.Levels.{Levels}
 use Rattle.channel_machine.specs.Levels.{levels_after}
 use Rattle.channel_machine.specs.Run.{SurroundingsView, Executed, Deed, Did, Channel, SegmentView, blocks_of, item_by, item_of, on_after, on_by_request, parameters_after, setting_after, setup_after, grant_after, header_of, words_after, found_after, stands_after, line_after, opener_at, block_at, executed_block, step_at, step_after, alarm_segment, with_items_before, channel_at_end, ends_main, segment_after_block, segment_after_request, run_after, segment_of}
-use Rattle.channel_machine.specs.Kept.{StateView, Keeps, GoesOn, Advances, IsFollowing, IsHeld, IsSegment, after_block}
+use Rattle.channel_machine.specs.Kept.{StateView, Keeps, GoesOn, Advances, Halts, IsFollowing, IsHeld, IsSegment, after_block}
+use Rattle.channel_machine.proofs.PlacedChannels.{placed_block}
+use Rattle.channel_machine.proofs.Requests.{asked_no_alarm}
 use Rattle.channel_machine.proofs.Pasts.{fold-did, map-did, count-did, grant-did, on-did, stands-did}
 use Rattle.channel_machine.proofs.Searching.{alarms_by_search}
 
@@ -48,13 +50,22 @@ ends_at s segment items k later line action past step is at keeps = record {
   after = subst (λ (g : SegmentView). Keeps s g.after later) (sym is) keeps;
 }
 
--- an alarm ends the segment with this step, after these items
-pub halts_at : (s : SurroundingsView) (c : Channel) (items : List Item) (k later : StateView) (line : ℕ) (action : Action) (past : List Deed) (halt : Option Step)
-    → with_items_before items (segment_of s c) ≡ ended items k line action past → halt ≡ Some (step_at k.axes k.on (stands k.at) line action) → Keeps s (channel_at_end past) later
+-- an alarm ends the segment of a channel that has done no more
+pub alarms_at : (s : SurroundingsView) (c : Channel) (items : List Item) (k later : StateView) (line : ℕ) (action : Action) (step : Step)
+    → with_items_before items (segment_of s c) ≡ ended items k line action c.past → step ≡ step_at k.axes k.on (stands k.at) line action → Keeps s (channel_at_end c.past) later
+    → Halts s c items step items later
+alarms_at s c items k later line action step is at keeps = record {
+  segment = ends_at s (with_items_before items (segment_of s c)) items k later line action c.past step is at keeps;
+  stays = λ _ _. ap (λ (g : SegmentView). g.after.past) is;
+}
+
+-- with this step, after these items
+pub halts_at : (s : SurroundingsView) (c : Channel) (items : List Item) (k later : StateView) (line : ℕ) (action : Action) (halt : Option Step)
+    → with_items_before items (segment_of s c) ≡ ended items k line action c.past → halt ≡ Some (step_at k.axes k.on (stands k.at) line action) → Keeps s (channel_at_end c.past) later
     → Advances s c items halt items later
-halts_at s c items k later line action past halt is at keeps =
+halts_at s c items k later line action halt is at keeps =
     subst (λ (h : Option Step). Advances s c items h items later) (sym at)
-    (ends_at s (with_items_before items (segment_of s c)) items k later line action past (step_at k.axes k.on (stands k.at) line action) is refl keeps)
+    (alarms_at s c items k later line action (step_at k.axes k.on (stands k.at) line action) is refl keeps)
 
 -- the step of what is kept is that of the channel
 pub step_kept : (s : SurroundingsView) (past : List Deed) (k : StateView) → k.axes ≡ (grant_after s past).axes → k.on ≡ on_after s past
@@ -271,36 +282,41 @@ module _ (s : SurroundingsView) (c : Channel) (k : StateView) (keeps : Keeps s c
               })
 
             -- control goes on
-            leads : (next : Option Levels)
+            leads : (next : Option Levels) → levels_after s.skip s.programs levels effect.course ≡ Ok next
                 → segment_after_block s c.past levels line (Ok this) (λ after. run_after s more after) ≡ with_items_before (option_to_list (item_of this)) (run_after s more (after next))
                 → GoesOn s c before items_more (kept_after next)
-            leads next goes_on = record {
+            leads next led goes_on = record {
               next = after next;
               keeps = keeps_after next;
+              placed = λ placed. placed_block s c levels there placed this next led;
               rest = ap (with_items_before before) (executed_as ∙ goes_on) ∙ both (run_after s more (after next)) ∙ ap (with_items_before items_more) (sym (there_after next));
             }
 
             -- the block ends the segment with a step
-            holds : (next : Option Levels) (action : Action)
+            holds : (next : Option Levels) (action : Action) → request ≡ Some (Act action)
                 → segment_after_block s c.past levels line (Ok this) (λ after. run_after s more after) ≡ segment_view (option_to_list (item_of this)) (step_after s past_more line action) (after next)
-                → IsSegment s (with_items_before before (segment_of s c))
-                (record { items = items_more; step = step_at mid.axes (on_by_request mid.on request) (stands mid.at) line action; after = kept_after next })
-            holds next action is = record {
-              items = ap (λ (g : SegmentView). before ++ g.items) (executed_as ∙ is);
-              step = ap (λ (g : SegmentView). g.step) (executed_as ∙ is) ∙ sym (step_more action);
-              after = subst (λ (g : SegmentView). Keeps s g.after (kept_after next)) (sym (executed_as ∙ is)) (keeps_after next);
+                → Halts s c before (step_at mid.axes (on_by_request mid.on request) (stands mid.at) line action) items_more (kept_after next)
+            holds next action acts is = record {
+              segment = record {
+                items = ap (λ (g : SegmentView). before ++ g.items) (executed_as ∙ is);
+                step = ap (λ (g : SegmentView). g.step) (executed_as ∙ is) ∙ sym (step_more action);
+                after = subst (λ (g : SegmentView). Keeps s g.after (kept_after next)) (sym (executed_as ∙ is)) (keeps_after next);
+              };
+              stays = λ code alarm.
+                  absurd (asked_no_alarm (setting_after s c.past) (parameter_in (parameters_after c.past)) block.statement code
+                  (asks ∙ ap (λ (r : Option Request). Ok r) acts ∙ ap (λ (a : Action). Ok (Some (Act a))) alarm));
             }
 
             held_so : (r : Option Request) → request ≡ r → (next : Option Levels) → ends_main levels effect.course ≡ false → levels_after s.skip s.programs levels effect.course ≡ Ok next
                 → (halt : Option Step) → IsHeld (kept_after next) line r halt → Advances s c before halt items_more (kept_after next)
-            held_so None is next on led halt none = rw none (leads next (rw (on, led) refl ∙ ap (λ (q : Option Request). segment_after_request s c.past this next q (λ after. run_after s more after)) is))
-            held_so (Some (Switch zone new)) is next on led halt none = rw none (leads next (rw (on, led) refl ∙ ap (λ (q : Option Request). segment_after_request s c.past this next q (λ after. run_after s more after)) is))
-            held_so (Some (Act action)) is next on led halt some = rw some (holds next action (rw (on, led) refl ∙ ap (λ (q : Option Request). segment_after_request s c.past this next q (λ after. run_after s more after)) is))
+            held_so None is next on led halt none = rw none (leads next led (rw (on, led) refl ∙ ap (λ (q : Option Request). segment_after_request s c.past this next q (λ after. run_after s more after)) is))
+            held_so (Some (Switch zone new)) is next on led halt none = rw none (leads next led (rw (on, led) refl ∙ ap (λ (q : Option Request). segment_after_request s c.past this next q (λ after. run_after s more after)) is))
+            held_so (Some (Act action)) is next on led halt some = rw some (holds next action is (rw (on, led) refl ∙ ap (λ (q : Option Request). segment_after_request s c.past this next q (λ after. run_after s more after)) is))
 
             led_so : (r : Result (Option Levels) ℕ) → ends_main levels effect.course ≡ false → levels_after s.skip s.programs levels effect.course ≡ r
                 → (halt : Option Step) (items : List Item) (new : StateView) → IsFollowing mid k.modal before effect.item line request false r halt items new → Advances s c before halt items new
             led_so (Err code) goes e halt items new is =
-                rw (is.0, is.1) (ends_at s (with_items_before before (segment_of s c)) before k new line (Alarm code) c.past (step_at mid.axes mid.on (stands mid.at) line (Alarm code))
+                rw (is.0, is.1) (alarms_at s c before k new line (Alarm code) (step_at mid.axes mid.on (stands mid.at) line (Alarm code))
                 (leads_not code goes e) (same_step code e) (over_before code e new is.2))
             led_so (Ok next) goes e halt items new is = rw (is.1, is.2) (held_so request refl next goes e halt is.0)
 
@@ -309,8 +325,12 @@ module _ (s : SurroundingsView) (c : Channel) (k : StateView) (keeps : Keeps s c
                 → (halt : Option Step) (items : List Item) (new : StateView) → IsFollowing mid k.modal before effect.item line request flag (levels_after s.skip s.programs levels effect.course) halt items new
                 → Advances s c before halt items new
             after_so true ends halt items new is =
-                rw (is.0, is.1) (ends_at s (with_items_before before (segment_of s c)) items_more (kept_after None) new line End past_more (step_at mid.axes (on_by_request mid.on request) (stands mid.at) line End)
-                (finishes ends) refl (over_after new is.2))
+                rw (is.0, is.1) (record {
+                  segment =
+                      ends_at s (with_items_before before (segment_of s c)) items_more (kept_after None) new line End past_more (step_at mid.axes (on_by_request mid.on request) (stands mid.at) line End)
+                      (finishes ends) refl (over_after new is.2);
+                  stays = λ code alarm. absurd cc;
+                })
             after_so false goes halt items new is = led_so (levels_after s.skip s.programs levels effect.course) goes refl halt items new is
 
       -- what comes after a block that has done this

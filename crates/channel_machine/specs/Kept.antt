@@ -5,6 +5,7 @@ use Rattle.axis_sets.specs.Positions.{position_of, stands}
 use Rattle.coordination_words.specs.declared.asked.Request.{Request}
 use Rattle.coordination_words.specs.declared.asked.Request.TheVariants.{Act, Switch}
 use Rattle.block_effects.specs.Words.{parameter_in}
+use Rattle.channel_machine.specs.CallLevels.{IsPlaced}
 use Rattle.channel_machine.specs.Coordination.{request_in, setting_in}
 use Rattle.frames.specs.Composition.{IsComposed}
 use Rattle.frames.specs.declared.Frame.{Frame}
@@ -67,6 +68,7 @@ pub record Keeps (setting : SurroundingsView) (channel : Channel) (kept : StateV
 pub record GoesOn (setting : SurroundingsView) (channel : Channel) (before after : List Item) (kept : StateView) : Type 0 where
   pub next : Channel
   pub keeps : Keeps setting next kept
+  pub placed : IsPlaced setting channel → IsPlaced setting next
   pub rest : with_items_before before (segment_of setting channel) ≡ with_items_before after (segment_of setting next)
 
 -- a segment with what is kept of the channel after it
@@ -81,10 +83,14 @@ pub record IsSegment (setting : SurroundingsView) (segment : SegmentView) (kept 
   pub step : segment.step ≡ kept.step
   pub after : Keeps setting segment.after kept.after
 
+-- a block on, with these items more, the segment ends with this step, and this is kept; before the block, where that alarms
+pub record Halts (setting : SurroundingsView) (channel : Channel) (before : List Item) (step : Step) (after : List Item) (kept : StateView) : Type 0 where
+  pub segment : IsSegment setting (with_items_before before (segment_of setting channel)) (record { items = after; step = step; after = kept })
+  pub stays : (code : ℕ) → step.action ≡ Alarm code → (segment_of setting channel).after.past ≡ channel.past
+
 -- a block on, the segment ends with this step, or the channel goes on
 abbrev pub Advances : SurroundingsView → Channel → List Item → Option Step → List Item → StateView → Type 0
-Advances setting channel before (Some step) after kept =
-    IsSegment setting (with_items_before before (segment_of setting channel)) (record { items = after; step = step; after = kept })
+Advances setting channel before (Some step) after kept = Halts setting channel before step after kept
 Advances setting channel before None after kept = GoesOn setting channel before after kept
 
 -- what a state keeps

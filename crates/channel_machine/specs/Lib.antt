@@ -6,3 +6,5 @@ pub mod Kept
 pub mod StartStates
 pub mod Scripts
 pub mod Locals
+pub mod CallLevels
+pub mod TracedSegments

@@ -1,6 +1,6 @@
 //! Laws of segments.
 
-ghost use Rattle.std.specs.Prelude.{◌≡◌, ◌≤◌, ◌+◌, ◌-◌, ℕ, All, IfSome, Some, length, slice_get, take, unwrap_or};
+ghost use Rattle.std.specs.Prelude.{◌≡◌, ◌≢◌, ◌≤◌, ◌+◌, ◌-◌, ℕ, All, IfSome, List, Some, length, slice_get, take, unwrap_or};
 ghost use Rattle.axis_sets.specs.Positions.{position_of};
 ghost use Rattle.path_geometry.specs.Motions.{IsSound};
 ghost use Rattle.path_geometry.specs.declared.motion.Motion.{Motion};
@@ -8,6 +8,11 @@ ghost use Rattle.sync_types.specs.Items.{left_at, motion_of};
 ghost use Rattle.sync_types.specs.declared.Grant.{Grant};
 ghost use Rattle.block_motions.specs.Motions.{IsMotionOf};
 ghost use Rattle.sync_types.specs.declared.Item.{Item};
+ghost use Rattle.sync_types.specs.declared.Action.TheVariants.{Alarm};
+ghost use Rattle.nc_faults.specs.declared.alarms.TheConstants.{NO_PROGRAM_END};
+ghost use Rattle.job_types.specs.Job.{JobView};
+ghost use Rattle.channel_machine.specs.CallLevels.{IsAlarmedThere};
+ghost use Rattle.channel_machine.specs.Scripts.{segment_after};
 ghost use Rattle.channel_machine.specs.Run.{SurroundingsView, Channel, blocks_of, channel_after_grant, grant_after, segment_of, stands_after, IsListedAction};
 ghost use Rattle.micro_units.specs.Position.{IsPosition};
 ghost use Rattle.channel_machine.specs.declared.limits.TheConstants.{BLOCK_LIMIT};
@@ -51,4 +56,11 @@ pub fn segments_join()
     ensures placed { (s : SurroundingsView) (c : Channel) (grant : Grant) (axis : ℕ)
         → stands_after s (channel_after_grant c grant).past axis ≡ unwrap_or (position_of grant.at axis) (stands_after s c.past axis) }
     ensures granted { (s : SurroundingsView) (c : Channel) (grant : Grant) → grant_after s (channel_after_grant c grant).past ≡ grant }
+{}
+
+/// A law: where an alarm ends a segment of a channel that is not alarm 9, control is on the levels that are told of it, at a
+/// block on the line of the alarm.
+pub fn alarms_come_on_levels()
+    ensures { (job : JobView) (c : ℕ) (grants : List Grant) (code : ℕ)
+        → (segment_after job c grants).step.action ≡ Alarm code → code ≢ NO_PROGRAM_END → IsAlarmedThere job c grants }
 {}

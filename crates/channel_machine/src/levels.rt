@@ -13,12 +13,12 @@ use job_types::Job;
 use nc_control_flow::{Flow, Next, Outcome};
 use nc_subprograms::{CallStack, Place};
 
-/// Where control stands.
+/// Where control stands on the levels of calls.
 #[derive(Drop)]
-pub(crate) struct Levels {
+pub struct Levels {
     /// Where the level stands that runs.
     pub here: Place,
-    /// Where those below it return to.
+    /// Where those below it return to: the places of the calls.
     pub returns: CallStack,
 }
 

@@ -13,14 +13,17 @@ mod run;
 mod start;
 mod surroundings;
 mod threads;
+mod traces;
 
 pub use grants::grant_fits;
 pub use laws::{
-    alarms_are_listed, motions_are_few, motions_are_sound, motions_follow_one_another,
-    segments_join,
+    alarms_are_listed, alarms_come_on_levels, motions_are_few, motions_are_sound,
+    motions_follow_one_another, segments_join,
 };
+pub use levels::Levels;
 pub use limits::BLOCK_LIMIT;
 pub use local::Local;
-pub use locals::{Locals, next_segment, no_locals};
+pub use locals::{Locals, next_segment, no_locals, traced_segment};
 pub use run::{Segment, run_on, run_segment};
 pub use start::start_state;
+pub use traces::TracedSegment;

@@ -39,7 +39,7 @@ pub(crate) struct State {
 }
 
 /// The same levels once more, if there are some.
-fn copied_some(levels: &Option<Levels>) -> Option<Levels>
+pub(crate) fn copied_some(levels: &Option<Levels>) -> Option<Levels>
     ensures { result ≡ levels.now }
 {
     match levels {

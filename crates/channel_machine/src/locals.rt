@@ -3,10 +3,12 @@ ghost use Rattle.std.specs.Prelude.{◌≡◌, ◌≤◌, ◌++◌, ◌∷◌, [
 ghost use Rattle.job_lines.specs.declared.limits.TheConstants.{PROGRAM_LIMIT};
 ghost use Rattle.job_types.specs.SoundJob.{BlocksFit};
 ghost use Rattle.channel_machine.specs.Locals.{IsReady, IsKeptOf, IsSegmentOf, IsNothingKept};
+ghost use Rattle.channel_machine.specs.TracedSegments.{IsTracedOf};
 ghost use Rattle.sync_types.specs.declared.Grant.{Grant};
 
 use crate::local::Local;
 use crate::run::{Segment, run_on, run_segment};
+use crate::traces::{TracedSegment, trace_on, trace_segment};
 use axis_sets::{CHANNEL_PLACES, ChannelId};
 use job_types::Job;
 use nc_faults::NoMemory;
@@ -47,6 +49,31 @@ pub fn next_segment(
         None => {
             let local = Local::start(alloc, job, channel, grant)?;
             run_segment(alloc, job, &local)
+        }
+    }
+}
+
+/// The segment of a channel that goes on with a grant, as `next_segment` makes it, with the levels of calls on which the block
+/// stands whose alarm ends it. After the alarm the channel itself has them no more. The only error is want of memory.
+pub fn traced_segment(
+    alloc: Global,
+    job: &Job,
+    channel: ChannelId,
+    local: Option<Local>,
+    grant: &Grant,
+) -> Result<TracedSegment, NoMemory>
+    requires blocks { BlocksFit job.now }
+    requires programs { length job.now.programs ≤ PROGRAM_LIMIT }
+    requires ready { IfSome local (IsReady job.now channel) }
+    ensures told { IfOk result (λ traced. (made : List Grant) → IsKeptOf job.now channel made local
+        → IsTracedOf job.now channel (made ++ grant.now ∷ []) traced) }
+    ensures ready { IfOk result (λ traced. IsReady job.now channel traced.segment.after) }
+{
+    match local {
+        Some(local) => trace_on(alloc, job, local, grant),
+        None => {
+            let local = Local::start(alloc, job, channel, grant)?;
+            trace_segment(alloc, job, local)
         }
     }
 }

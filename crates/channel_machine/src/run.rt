@@ -361,7 +361,7 @@ fn perform(
 ///
 /// Alarm 9 where no block comes, alarm 8 where it is one more than may be executed, and the alarms of
 /// the block and of where it leads.
-fn advance(
+pub(crate) fn advance(
     alloc: Global,
     job: &Job,
     state: &mut State,

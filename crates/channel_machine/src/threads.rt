@@ -1,12 +1,14 @@
 //! The types whose values may go to another thread, and that threads may share.
 
-use crate::{Local, Segment};
+use crate::{Levels, Local, Segment, TracedSegment};
 
 /// Asks this of a type, and does nothing: each call is proved.
 fn crosses_threads<T: Send + Sync>() {}
 
 /// Asks it of each of them.
 fn types_cross_threads() {
+    crosses_threads::<Levels>();
     crosses_threads::<Local>();
     crosses_threads::<Segment>();
+    crosses_threads::<TracedSegment>();
 }

@@ -1,10 +1,11 @@
-use Rattle.std.proofs.Common.{◌≡◌, ◌∙◌, ℕ, length, refl, sym, ap, ap₂, subst, arith}
-use Rattle.channel_machine.specs.Locals.{IsKeptOf}
+use Rattle.std.proofs.Common.{◌≡◌, ◌∙◌, ℕ, length, sym, ap₂, subst, arith}
+use Rattle.channel_machine.proofs.KeptLocals.{none_ready}
 use Rattle.coord_core.proofs.Granted.{granted_runs}
 use Rattle.coord_core.specs.Boards.{replayed}
 use Rattle.sync_types.specs.Boards.{Board, first_board}
 use Rattle.sync_types.specs.Turns.{after_entries}
 use Rattle.alarm_states.specs.Grants.{grants_before}
+use Rattle.alarm_states.specs.KeptChannels.{IsKept}
 use Rattle.alarm_states.proofs.GrantLaws.{first_kept, next_kept, next_board, has_grant}
 use Rattle.alarm_states.proofs.kept.kept_from.Goals as goal
 
@@ -22,8 +23,8 @@ act-requires c =
 pub loop-entry-init : goal.loop-entry-init
 loop-entry-init c = record {
   board = ap₂ (λ start entries. after_entries (first_board start) entries) c.in_ok-board.ensures.start c.in_ok-board.ensures.entries;
-  kept = first_kept c.args.job.now c.args.start.now c.args.entries.now c.args.channel;
-  ready = tt;
+  kept = first_kept c.args.job.now c.args.start.now c.args.entries.now c.args.channel c.none-kept.result c.none-kept.ensures.local c.none-kept.ensures.levels;
+  ready = none_ready c.args.job.now c.args.channel c.none-kept.result.local c.none-kept.ensures.local;
 }
 
 pub loop-entry-preserved : goal.loop-entry-preserved
@@ -41,4 +42,4 @@ loop-entry-preserved c = record {
 pub returns : goal.returns
 returns c = λ lawful.
     let all : c.loop-entry.entry-index ≡ length c.args.entries.now = omega arith in
-    subst (λ (n : ℕ). IsKeptOf c.args.job.now c.args.channel (grants_before c.args.start.now c.args.entries.now c.args.channel n) c.loop-entry.local) all c.loop-entry.invariant.kept
+    subst (λ (n : ℕ). IsKept c.args.job.now c.args.channel (grants_before c.args.start.now c.args.entries.now c.args.channel n) c.loop-entry.kept) all c.loop-entry.invariant.kept

@@ -3,6 +3,7 @@ use Rattle.block_effects.specs.Words.{parameter_in}
 use Rattle.block_readings.specs.Readings.{readings_of}
 use Rattle.channel_machine.proofs.Fitting.{statement_fits}
 use Rattle.channel_machine.proofs.Going.{views_are}
+use Rattle.channel_machine.proofs.Segments.{if_ok}
 use Rattle.channel_machine.specs.Levels.{lines_of}
 use Rattle.nc_blocks.specs.Statement.{BlockView}
 use Rattle.nc_control_flow.specs.Parts.{statement_at}
@@ -21,6 +22,7 @@ unreachable-requires c = let few = ap length c.in-None.ensures in omega (arith, 
 
 pub returns : goal.returns
 returns c =
-    c.in_ok-readings-in-Some.ensures
+    if_ok c.flow_readings.result (λ list is.
+    is
     ∙ ap (λ (bs : List BlockView). readings_of (parameter_in c.args.local.now.parameters) (statement_at (opening c.args.pc bs) bs) (statement_at c.args.pc bs))
-    (sym (views_are c.args.job.now.programs c.args.number c.in-Some.flow.now c.in-Some.ensures))
+    (sym (views_are c.args.job.now.programs c.args.number c.in-Some.flow.now c.in-Some.ensures))) c.flow_readings.ensures

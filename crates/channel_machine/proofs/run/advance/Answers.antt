@@ -11,13 +11,13 @@ pub returns-in_default-clause-told : goal.returns-in_default-clause-told
 returns-in_default-clause-told c s c' set keeps =
     let k = state_view c.args.state.now in
     let items = c.args.items.now.items in
-    halts_at s c' items k _ k.last (Alarm 9) c'.past _ (nowhere s c' k keeps items c.in_default.is) c.stop.ensures.step (over_keeps s c' k keeps items _ (ap state_view c.stop.ensures.nowhere))
+    halts_at s c' items k _ k.last (Alarm 9) _ (nowhere s c' k keeps items c.in_default.is) c.stop.ensures.step (over_keeps s c' k keeps items _ (ap state_view c.stop.ensures.nowhere))
 
 pub returns-in_default-find_block-clause-told : goal.returns-in_default-find_block-clause-told
 returns-in_default-find_block-clause-told c s c' set keeps =
     let k = state_view c.args.state.now in
     let items = c.args.items.now.items in
-    halts_at s c' items k _ k.last (Alarm 9) c'.past _
+    halts_at s c' items k _ k.last (Alarm 9) _
     (no_block s c' k keeps items c.in-Some.levels c.in-Some.is
     (block_there s c.args.job.now.programs set.programs c.in-Some.levels.here None c.in_default-find_block.ensures)) c.stop-in_default-find_block.ensures.step (over_keeps s c' k keeps items _ (ap state_view c.stop-in_default-find_block.ensures.nowhere))
 
@@ -26,7 +26,7 @@ returns-then-state-eq-BLOCK_LIMIT-clause-told c s c' set keeps =
     let k = state_view c.args.state.now in
     let items = c.args.items.now.items in
     let next = c.in-Some-find_block.next in
-    halts_at s c' items k _ next.line (Alarm 8) c'.past _
+    halts_at s c' items k _ next.line (Alarm 8) _
     (spent s c' k keeps items c.in-Some.levels c.in-Some.is next.line (view_of next.block.now)
     (block_there s c.args.job.now.programs set.programs c.in-Some.levels.here (Some (next.line, view_of next.block.now)) c.in-Some-find_block.ensures.found) c.if-state-eq-BLOCK_LIMIT.true)
     c.stop-then-state-eq-BLOCK_LIMIT.ensures.step (over_keeps s c' k keeps items _ (ap state_view c.stop-then-state-eq-BLOCK_LIMIT.ensures.nowhere))
@@ -37,7 +37,7 @@ returns-in-Err-clause-told c s c' set keeps =
     let items = c.args.items.now.items in
     let next = c.in-Some-find_block.next in
     let job = c.args.job.now in
-    halts_at s c' items k _ next.line (Alarm c.in-Err.code) c'.past _
+    halts_at s c' items k _ next.line (Alarm c.in-Err.code) _
     (refuses s c' k keeps items c.in-Some.levels c.in-Some.is next.line (view_of next.block.now)
     (block_there s job.programs set.programs c.in-Some.levels.here (Some (next.line, view_of next.block.now)) c.in-Some-find_block.ensures.found)
     (99999 - k.count) c.in-Err.code (room k.count c.requires.few c.if-state-eq-BLOCK_LIMIT.false)

@@ -42,7 +42,7 @@ returns-in-Alarm-clause-told c s c' levels set keeps is there asks =
     let next = c.args.next in
     let here = levels.here in
     let job = c.args.job.now in
-    halts_at s c' items k _ next.line (Alarm c.in-Alarm.code) c'.past _
+    halts_at s c' items k _ next.line (Alarm c.in-Alarm.code) _
     (stops s c' k keeps items levels is next.line (view_of next.block.now)
     (block_there s job.programs set.programs here (Some (next.line, view_of next.block.now)) there.found)
     (99999 - k.count) c.in-Alarm.code (room_below k.count c.requires.few)
