@@ -1,16 +1,16 @@
 -- Meaning. A picture as a drawing in SVG: its head, the views of space, and below them the scale and the time of the channels.
 use Rattle.std.specs.Prelude.{ℕ, ℤ, pos, List, [], ◌++◌, if◌then◌else◌, int_div, int_lt, codes}
 use Rattle.std.specs.Int.{int_max}
-use Rattle.run_drawing.specs.declared.shapes.Picture.{Picture}
+use Rattle.picture_views.specs.declared.shapes.Picture.{Picture}
 use Rattle.run_drawing.specs.declared.styles.TheConstants.{LEGEND, STYLES}
 use Rattle.run_drawing.specs.declared.times.Lanes.{Lanes}
-use Rattle.run_drawing.specs.declared.views.View.{View}
-use Rattle.run_drawing.specs.Extents.{extent_of, has_motion, length_of}
-use Rattle.run_drawing.specs.Marks.{attribute_text, ends_text, number_text, place_text, plus, size_text, times}
+use Rattle.picture_views.specs.declared.views.View.{View}
+use Rattle.picture_views.specs.Extents.{extent_of, has_motion, length_of}
+use Rattle.picture_views.specs.Marks.{attribute_text, ends_text, number_text, place_text, plus, size_text, times}
 use Rattle.run_drawing.specs.Times.{lanes_of, lanes_text}
 use Rattle.run_drawing.specs.Times.{bottom_of as lanes_bottom}
-use Rattle.run_drawing.specs.Views.{view_of, view_text}
-use Rattle.run_drawing.specs.Views.{bottom_of as view_bottom}
+use Rattle.picture_views.specs.Views.{view_of, view_text}
+use Rattle.picture_views.specs.Views.{bottom_of as view_bottom}
 
 -- the greater of how far Z and X reach, and 10 millimetres at least; a letter is the fiftieth part
 unfoldable pub span_of : Picture → ℤ

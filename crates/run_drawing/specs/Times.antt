@@ -2,13 +2,13 @@
 use Rattle.std.specs.Prelude.{ℕ, ℤ, pos, ◌+◌, ◌-◌, ◌^◌, min, not, ◌==◌, ◌&&◌, nat_le, Bool, List, [], ◌++◌, if◌then◌else◌, flat_map, length, slice_get, int_div, codes}
 use Rattle.std.specs.Option.{option_map_or}
 use Rattle.std.specs.Fmt.{decimal}
-use Rattle.run_drawing.specs.declared.shapes.Deed.{Deed}
-use Rattle.run_drawing.specs.declared.shapes.Deed.TheVariants.{Acts, Waits, GoesOn, Ends}
-use Rattle.run_drawing.specs.declared.shapes.Moment.{Moment}
-use Rattle.run_drawing.specs.declared.shapes.Picture.{Picture}
+use Rattle.picture_views.specs.declared.shapes.Deed.{Deed}
+use Rattle.picture_views.specs.declared.shapes.Deed.TheVariants.{Acts, Waits, GoesOn, Ends}
+use Rattle.picture_views.specs.declared.shapes.Moment.{Moment}
+use Rattle.picture_views.specs.declared.shapes.Picture.{Picture}
 use Rattle.run_drawing.specs.declared.times.Lanes.{Lanes}
 use Rattle.run_drawing.specs.declared.times.TheConstants.{LABEL_LIMIT}
-use Rattle.run_drawing.specs.Marks.{box_text, ends_text, minus, place_text, plus, round_text, times}
+use Rattle.picture_views.specs.Marks.{box_text, ends_text, minus, place_text, plus, round_text, times}
 
 -- how many steps a run has: one more than the last one's number
 unfoldable pub steps_in : List Moment → ℕ

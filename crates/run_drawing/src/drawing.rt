@@ -2,14 +2,13 @@
 ghost use Rattle.std.specs.Prelude.{◌≡◌, ◌++◌, IfOk};
 ghost use Rattle.run_drawing.specs.Drawing as model;
 
-use crate::extents::{extent_of, has_motion};
-use crate::marks::{put_attribute, put_ends, put_number, put_place, put_size};
-use crate::shapes::Picture;
 use crate::styles::{LEGEND, STYLES};
 use crate::times::Lanes;
-use crate::views::View;
 use growing_text::Text;
 use nc_faults::NoMemory;
+use picture_views::{
+    Picture, View, extent_of, has_motion, put_attribute, put_ends, put_number, put_place, put_size,
+};
 use std::alloc::Global;
 
 /// How wide the views of a picture are, or how tall the first of them is: the greater of both, and 10 millimetres at least.

@@ -2,15 +2,9 @@
 #![tactic(auto)]
 
 mod drawing;
-mod extents;
-mod marks;
-mod shapes;
 mod styles;
 #[cfg(test)]
 mod tests;
 mod times;
-mod turns;
-mod views;
 
 pub use drawing::draw;
-pub use shapes::{Deed, Look, Moment, Picture, Tile, Track, Turn};

@@ -2,9 +2,8 @@
 ghost use Rattle.std.specs.Prelude.{◌≡◌, ◌++◌, flat_map};
 ghost use Rattle.run_drawing.specs.Times as model;
 
-use crate::marks::{put_box, put_ends, put_place, put_round};
-use crate::shapes::{Deed, Moment, Picture};
 use growing_text::Text;
+use picture_views::{Deed, Moment, Picture, put_box, put_ends, put_place, put_round};
 
 /// Where the lanes stand.
 #[derive(Clone, Copy)]

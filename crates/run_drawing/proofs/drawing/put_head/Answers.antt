@@ -1,5 +1,5 @@
 use Rattle.run_drawing.specs.Drawing.{head_text}
-use Rattle.run_drawing.proofs.PieceLaws.{four}
+use Rattle.picture_views.proofs.PieceLaws.{four}
 use Rattle.run_drawing.proofs.drawing.put_head.Goals as goal
 
 pub returns : goal.returns

@@ -1,5 +1,5 @@
 use Rattle.run_drawing.specs.Drawing.{legend_text}
-use Rattle.run_drawing.proofs.PieceLaws.{four}
+use Rattle.picture_views.proofs.PieceLaws.{four}
 use Rattle.run_drawing.proofs.drawing.put_legend.Goals as goal
 
 pub returns : goal.returns

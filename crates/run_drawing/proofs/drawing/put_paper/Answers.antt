@@ -1,5 +1,5 @@
 use Rattle.run_drawing.specs.Drawing.{paper_text}
-use Rattle.run_drawing.proofs.PieceLaws.{three}
+use Rattle.picture_views.proofs.PieceLaws.{three}
 use Rattle.run_drawing.proofs.drawing.put_paper.Goals as goal
 
 pub returns : goal.returns

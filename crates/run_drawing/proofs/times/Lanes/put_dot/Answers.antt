@@ -1,5 +1,5 @@
 use Rattle.run_drawing.specs.Times.{dot_text}
-use Rattle.run_drawing.proofs.PieceLaws.{four}
+use Rattle.picture_views.proofs.PieceLaws.{four}
 use Rattle.run_drawing.proofs.times.Lanes.put_dot.Goals as goal
 
 pub returns : goal.returns

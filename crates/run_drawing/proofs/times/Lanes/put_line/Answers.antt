@@ -1,5 +1,5 @@
 use Rattle.run_drawing.specs.Times.{line_text}
-use Rattle.run_drawing.proofs.PieceLaws.{two}
+use Rattle.picture_views.proofs.PieceLaws.{two}
 use Rattle.run_drawing.proofs.times.Lanes.put_line.Goals as goal
 
 pub returns : goal.returns

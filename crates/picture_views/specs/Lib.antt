@@ -1,0 +1,4 @@
+pub mod Extents
+pub mod Marks
+pub mod Turns
+pub mod Views

@@ -1,0 +1,6 @@
+pub mod Boxes
+pub mod Kept
+pub mod Moments
+pub mod Named
+pub mod Tracks
+pub mod Turns

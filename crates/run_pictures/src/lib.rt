@@ -1,0 +1,14 @@
+//! The picture of a judged job: the boxes of its zones, their ways, and what its channels do.
+#![tactic(auto)]
+
+mod boxes;
+mod kept;
+mod moments;
+mod named;
+mod picture;
+#[cfg(test)]
+mod tests;
+mod tracks;
+mod turns;
+
+pub use picture::{MOMENT_LIMIT, TILE_LIMIT, picture_of};
