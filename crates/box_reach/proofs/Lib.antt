@@ -1,3 +1,4 @@
 pub mod ShapeLaws
 pub mod WayLaws
 pub mod LotLaws
+pub mod SomeLaws

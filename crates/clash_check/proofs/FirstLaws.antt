@@ -1,10 +1,10 @@
 -- The first answer that a list gives.
-use Rattle.std.proofs.Common.{◌≡◌, ◌∙◌, ◌==◌, ◌<◌, ◌≤◌, ◌+◌, ℕ, zero, suc, drop, get_or, ◌&&◌, Bool, true, false, cond, not, List, [], ◌∷◌, ◌++◌, map, filter, find, length, Option, None, Some, refl, sym, ap, arith}
+use Rattle.std.proofs.Common.{◌≡◌, ◌∙◌, ◌==◌, ◌<◌, ◌≤◌, ◌+◌, ℕ, zero, suc, drop, get_or, ◌&&◌, Bool, true, false, cond, not, List, [], ◌∷◌, ◌++◌, map, filter, find, length, Option, None, Some, All, refl, sym, ap, arith}
 use Rattle.std.proofs.lemmas.Bool.{ne_eqb}
+use Rattle.std.proofs.lemmas.List.Elements.{All-head, All-tail}
 use Rattle.std.proofs.lemmas.List.Folds.{find-append}
 use Rattle.std.specs.List.{flat_map}
 use Rattle.std.specs.Option.{option_map, option_or}
-use Rattle.clash_check.proofs.Each.{Each}
 use Rattle.clash_check.specs.FirstAnswer.{first_some}
 
 option_map-or : {X Y : Type 0} (g : X → Y) (a b : Option X) → option_map g (option_or a b) ≡ option_or (option_map g a) (option_map g b)
@@ -28,9 +28,9 @@ first_some-same f g same [] = refl
 first_some-same f g same (x ∷ xs) = rw (same x, first_some-same f g same xs) refl
 
 -- the same answers of all for which this holds
-pub first_some-each : {X Y : Type 0} (P : X → Type 0) (f g : X → Option Y) → ((x : X) → P x → f x ≡ g x) → (xs : List X) → Each P xs → first_some f xs ≡ first_some g xs
-first_some-each P f g same [] each = refl
-first_some-each P f g same (x ∷ xs) each = rw (same x each.0, first_some-each P f g same xs each.1) refl
+pub first_some-each : {X Y : Type 0} (P : X → Type 0) (f g : X → Option Y) → ((x : X) → P x → f x ≡ g x) → (xs : List X) → All P xs → first_some f xs ≡ first_some g xs
+first_some-each P f g same [] all = refl
+first_some-each P f g same (x ∷ xs) all = rw (same x (All-head P x xs all), first_some-each P f g same xs (All-tail P x xs all)) refl
 
 pub first_some-none : {X Y : Type 0} (f : X → Option Y) → ((x : X) → f x ≡ None) → (xs : List X) → first_some f xs ≡ None
 first_some-none f none [] = refl

@@ -1,15 +1,12 @@
 pub mod AscentLaws
 pub mod ChunkLaws
 pub mod CountLaws
-pub mod CoverLaws
-pub mod Each
 pub mod FirstLaws
 pub mod KeptLaws
 pub mod MeetLaws
 pub mod NearLaws
 pub mod PairLaws
 pub mod PassedLaws
-pub mod PieceLaws
 pub mod PlaceLaws
 pub mod RunningLaws
 pub mod ShownLaws

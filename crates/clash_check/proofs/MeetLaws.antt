@@ -5,14 +5,13 @@ use Rattle.std.specs.List.{flat_map, list_any}
 use Rattle.std.specs.Option.{option_map, option_or}
 use Rattle.box_tree.proofs.HullLaws.{meet_wider, meet_wider_last}
 use Rattle.box_tree.specs.Hulls.{LiesIn}
-use Rattle.clash_check.proofs.CoverLaws.{IsInCover, AreInCover, IsTimeInCover}
-use Rattle.clash_check.proofs.Each.{Each}
 use Rattle.clash_check.proofs.FirstLaws.{find-flat_map, find-made, first_some-append, first_some-each, first_some-filter, first_some-map, first_some-none, unless, unless_empty}
 use Rattle.clash_check.specs.FirstAnswer.{first_some}
 use Rattle.clash_check.specs.Meetings.{Names, Case, place_of, touches, compared, names_where_met, first_touched, first_touched_among, first_in_stretches, first_against, first_of_zones, first_in_times}
 use Rattle.clash_check.specs.Verdicts.{name_of}
 use Rattle.job_types.specs.Job.{JobView}
 use Rattle.job_types.specs.declared.job.ZoneLine.{ZoneLine}
+use Rattle.protection_zones.specs.InCovers.{IsWithin, IsInCover, AreInCover, IsTimeInCover}
 use Rattle.protection_zones.specs.Overlaps.{BoxPlace, Pair, ZoneTime, may_overlap, share_channel, box_pairs, stretch_pairs, pairs_of_zones, pairs_by_group, zone_times, compared_pairs}
 use Rattle.protection_zones.specs.Pieces.{piece_boxes, pair_meets}
 use Rattle.protection_zones.specs.Stretches.{StretchView, StretchesView}
@@ -48,6 +47,10 @@ any_weaker test other weaker (x ∷ xs) e = by_test (test x) (other x) (weaker x
     by_test false true here later e = refl
     by_test false false here later e = later e
 
+-- a piece within a cover lies in it
+lies : (cover piece : Box3) → IsWithin cover piece → LiesIn piece cover
+lies cover piece within = record { low = within.low; high = within.high }
+
 -- two boxes meet, covers first
 touch_is : (job : JobView) (run : RunView) (left right : BoxPlace) → IsInCover job run left → IsInCover job run right
     → touches left.box.cover (piece_boxes job run left) right.box.cover (piece_boxes job run right) ≡ pair_meets job run (left, right)
@@ -57,13 +60,13 @@ touch_is job run left right in_left in_right =
     let near : Bool = list_any (λ l. boxes_meet l right.box.cover) (piece_boxes job run left) in
     let reaches : (l : Box3) → list_any (boxes_meet l) (piece_boxes job run right) ≡ true → boxes_meet l right.box.cover ≡ true =
     λ (l : Box3) e. any_implies (boxes_meet l) (boxes_meet l right.box.cover) (piece_boxes job run right)
-    (All-weaker (λ piece. LiesIn piece right.box.cover) (λ piece. boxes_meet l piece ≡ true → boxes_meet l right.box.cover ≡ true)
-    (λ piece lies. meet_wider_last l piece right.box.cover lies) (piece_boxes job run right) in_right) e in
+    (All-weaker (IsWithin right.box.cover) (λ piece. boxes_meet l piece ≡ true → boxes_meet l right.box.cover ≡ true)
+    (λ piece within. meet_wider_last l piece right.box.cover (lies right.box.cover piece within)) (piece_boxes job run right) in_right) e in
     let inner : met ≡ true → near ≡ true = any_weaker (λ l. list_any (boxes_meet l) (piece_boxes job run right)) (λ l. boxes_meet l right.box.cover) reaches (piece_boxes job run left) in
     let outer : near ≡ true → boxes_meet left.box.cover right.box.cover ≡ true =
     any_implies (λ l. boxes_meet l right.box.cover) (boxes_meet left.box.cover right.box.cover) (piece_boxes job run left)
-    (All-weaker (λ piece. LiesIn piece left.box.cover) (λ piece. boxes_meet piece right.box.cover ≡ true → boxes_meet left.box.cover right.box.cover ≡ true)
-    (λ piece lies. meet_wider piece left.box.cover right.box.cover lies) (piece_boxes job run left) in_left) in
+    (All-weaker (IsWithin left.box.cover) (λ piece. boxes_meet piece right.box.cover ≡ true → boxes_meet left.box.cover right.box.cover ≡ true)
+    (λ piece within. meet_wider piece left.box.cover right.box.cover (lies left.box.cover piece within)) (piece_boxes job run left) in_left) in
     ap (λ (b : Bool). boxes_meet left.box.cover right.box.cover && b) (guarded near met inner) ∙ guarded (boxes_meet left.box.cover right.box.cover) met (λ e. outer (inner e))
 
 -- ---- a box with the boxes of a stretch
@@ -174,22 +177,24 @@ zones_are case one two in_one in_two =
 of_pair : Case → ZoneTime × ZoneTime → Option Names
 of_pair case pair = first_named case (pairs_of_zones case.before pair.0 pair.1)
 
-groups_are : (case : Case) (times : List ZoneTime) → Each (IsTimeInCover case.job case.run) times → first_some (of_pair case) (pairs_by_group times) ≡ first_in_times case times
+groups_are : (case : Case) (times : List ZoneTime) → All (IsTimeInCover case.job case.run) times → first_some (of_pair case) (pairs_by_group times) ≡ first_in_times case times
 unfolding of_pair first_of_zones
-groups_are case [] each = refl
-groups_are case (one ∷ others) each =
+groups_are case [] all = refl
+groups_are case (one ∷ others) all =
+    let own : IsTimeInCover case.job case.run one = All-head (IsTimeInCover case.job case.run) one others all in
+    let rest : All (IsTimeInCover case.job case.run) others = All-tail (IsTimeInCover case.job case.run) one others all in
     first_some-append (of_pair case) (map (λ (two : ZoneTime). (one, two)) (filter (λ two. not (one.zone.group == two.zone.group)) others)) (pairs_by_group others)
     ∙ ap (λ (r : Option Names). option_or r (first_some (of_pair case) (pairs_by_group others)))
     (first_some-map (of_pair case) (λ (two : ZoneTime). (one, two)) (filter (λ two. not (one.zone.group == two.zone.group)) others)
     ∙ first_some-filter (λ (two : ZoneTime). of_pair case (one, two)) (λ two. not (one.zone.group == two.zone.group)) others
     ∙ first_some-each (IsTimeInCover case.job case.run) (λ (two : ZoneTime). cond (not (one.zone.group == two.zone.group)) (of_pair case (one, two)) None) (first_of_zones case one)
-    (λ two in_two. unless (one.zone.group == two.zone.group) _ _ (zones_are case one two each.0 in_two)) others each.1)
-    ∙ ap (λ (r : Option Names). option_or (first_some (first_of_zones case one) others) r) (groups_are case others each.1)
+    (λ two in_two. unless (one.zone.group == two.zone.group) _ _ (zones_are case one two own in_two)) others rest)
+    ∙ ap (λ (r : Option Names). option_or (first_some (first_of_zones case one) others) r) (groups_are case others rest)
 
 -- the first compared pair that meets, and how its boxes are named
-pub meetings_are : (case : Case) (stretches : StretchesView) → Each (IsTimeInCover case.job case.run) (zone_times case.job stretches)
+pub meetings_are : (case : Case) (stretches : StretchesView) → All (IsTimeInCover case.job case.run) (zone_times case.job stretches)
     → option_map names_of (find (pair_meets case.job case.run) (compared_pairs case.before case.job stretches)) ≡ first_in_times case (zone_times case.job stretches)
 unfolding compared_pairs of_pair
-meetings_are case stretches each =
+meetings_are case stretches all =
     find-flat_map names_of (pair_meets case.job case.run) (λ (pair : ZoneTime × ZoneTime). pairs_of_zones case.before pair.0 pair.1) (pairs_by_group (zone_times case.job stretches))
-    ∙ groups_are case (zone_times case.job stretches) each
+    ∙ groups_are case (zone_times case.job stretches) all

@@ -3,8 +3,6 @@ use Rattle.std.proofs.Common.{◌≡◌, ◌∙◌, ℕ, ◌<◌, ◌≤◌, ◌
 use Rattle.std.proofs.lemmas.Bool.{lt-ltb, ltb-true}
 use Rattle.std.specs.Option.{option_map}
 use Rattle.std.specs.List.{All}
-use Rattle.clash_check.proofs.CoverLaws.{IsTimeInCover, times_in_cover}
-use Rattle.clash_check.proofs.Each.{Each}
 use Rattle.clash_check.proofs.MeetLaws.{names_of, meetings_are}
 use Rattle.clash_check.specs.Counts.{count_of}
 use Rattle.clash_check.specs.FirstAnswer.{first_some}
@@ -14,6 +12,8 @@ use Rattle.clash_check.specs.Verdicts.{alarm_by, budget_verdict, meeting_verdict
 use Rattle.job_types.specs.Job.{JobView}
 use Rattle.order_clocks.specs.Clocked.{ClocksView}
 use Rattle.protection_zones.proofs.BoxCounts.{pairs_are_few}
+use Rattle.protection_zones.proofs.PiecesInCovers.{times_in_cover}
+use Rattle.protection_zones.specs.InCovers.{IsTimeInCover}
 use Rattle.protection_zones.specs.SoundStretches.{IsOfSize}
 use Rattle.protection_zones.specs.Overlaps.{Order, Pair, compared_pairs, zone_times}
 use Rattle.protection_zones.specs.Pieces.{pair_meets}
@@ -47,8 +47,8 @@ unfolding meeting_verdict
 by_names job run stretches clocks before told fit =
     ap verdict_by_names (sym (meetings_are (record { job = job; run = run; before = before }) stretches in_cover)) ∙ by_found (find (pair_meets job run) (compared_pairs before job stretches))
   where
-    in_cover : Each (IsTimeInCover job run) (zone_times job stretches)
-    in_cover = subst (λ (s : StretchesView). Each (IsTimeInCover job run) (zone_times job s)) (sym told.told) (times_in_cover job (first_board told.start) run fit)
+    in_cover : All (IsTimeInCover job run) (zone_times job stretches)
+    in_cover = subst (λ (s : StretchesView). All (IsTimeInCover job run) (zone_times job s)) (sym told.told) (times_in_cover job (first_board told.start) run fit)
 
     by_found : (o : Option Pair) → verdict_by_names (option_map names_of o) ≡ or_else (no_by o) verdicts.Yes
     by_found None = refl

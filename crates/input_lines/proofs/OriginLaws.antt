@@ -1,8 +1,9 @@
 -- Laws of headers, and of marks in texts.
-use Rattle.std.proofs.Common.{◌≡◌, ℕ, zero, suc, ◌-◌, ◌<◌, ◌≤◌, ◌==◌, true, false, List, [], ◌∷◌, ◌++◌, length, take, drop, get_or, drop-cons, None, Some, refl, ap, arith, append-nil, length-drop}
+use Rattle.std.proofs.Common.{◌≡◌, ◌∙◌, ℕ, zero, suc, ◌+◌, ◌-◌, ◌<◌, ◌≤◌, ◌==◌, true, false, List, [], ◌∷◌, ◌++◌, length, take, drop, get_or, drop-cons, None, Some, refl, sym, subst, ap, arith, append-nil, length-drop}
 use native.Mathlib.Numerals.{unary_clauses}
-use Rattle.std.specs.List.{slice_index}
+use Rattle.std.specs.List.{slice_get, slice_index}
 use Rattle.std.specs.Str.{bytes_eq}
+use Rattle.input_lines.specs.Headers.{AreHeaders}
 use Rattle.input_lines.specs.Lines.{line_text}
 use Rattle.std.proofs.lemmas.Slice.Eq.{bytes_eq-Decides}
 use Rattle.std.proofs.lemmas.List.{length-take, take-append-drop, drop-drop}
@@ -47,3 +48,16 @@ mark_not_yet mark text n some fits none absent =
     let cut : drop (n - 1) text ≡ get_or text (n - 1) 0 ∷ drop n text = cut_at text n some fits in
     let here : bytes_eq (take (length mark) (get_or text (n - 1) 0 ∷ drop n text)) mark ≡ false = rw cut at absent in
     rw (cut, none, here) refl
+
+-- what holds of each place of a list holds of one item more
+pub kept_more : (P : ℕ → ℕ → Type 0) (xs : List ℕ) (x : ℕ) → ((n h : ℕ) → slice_get xs n ≡ Some h → P n h) → P (length xs) x
+    → (n h : ℕ) → slice_get (xs ++ x ∷ []) n ≡ Some h → P n h
+kept_more P [] x each last zero h e = let same : x ≡ h = cc in subst (λ (k : ℕ). P 0 k) same last
+kept_more P [] x each last (suc n) h e = absurd cc
+kept_more P (y ∷ ys) x each last zero h e = each zero h e
+kept_more P (y ∷ ys) x each last (suc n) h e = kept_more (λ (m k : ℕ). P (suc m) k) ys x (λ m k f. each (suc m) k f) last n h e
+
+pub headers_more : (input : List ℕ) (old new : List ℕ) (line x : ℕ) → new ≡ old ++ x ∷ [] → length old ≡ line + 1 → AreHeaders input old → x ≡ header_of input (line + 1) → AreHeaders input new
+headers_more input old new line x more long kept is =
+    subst (λ (headers : List ℕ). AreHeaders input headers) (sym more)
+    (kept_more (λ (n h : ℕ). h ≡ header_of input n) old x kept (is ∙ ap (header_of input) (sym long)))

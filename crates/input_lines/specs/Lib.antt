@@ -1,4 +1,5 @@
 pub mod Advice
+pub mod Headers
 pub mod Lines
 pub mod Numbers
 pub mod Origins

@@ -3,6 +3,7 @@
 #![tactic(auto)]
 
 mod advice;
+mod headers;
 mod lines;
 mod numbers;
 mod origins;

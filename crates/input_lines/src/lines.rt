@@ -1,8 +1,10 @@
 //! The lines of an input as they were written.
-ghost use Rattle.std.specs.Prelude.{◌≡◌, ◌+◌, ◌-◌, ◌<◌, ◌≤◌, ◌^◌, IfOk, length, slice_get, take, drop};
+ghost use Rattle.std.specs.Prelude.{◌≡◌, ◌+◌, ◌-◌, ◌<◌, ◌≤◌, ◌^◌, IfOk, IfSome, length, slice_get, take, drop};
 ghost use Rattle.std.specs.Option.{unwrap_or};
 ghost use Rattle.input_lines.specs.Lines.{line_starts, line_text, nth_line};
+ghost use Rattle.input_lines.specs.Origins.{header_of};
 
+use crate::headers::headers_of;
 use nc_faults::NoMemory;
 use std::alloc::Global;
 use std::marker::Model;
@@ -12,17 +14,20 @@ use std::marker::Model;
 pub struct Lines<'a> {
     input: &'a [u8],
     starts: Vec<usize>,
+    /// The last header up to and with each line, by its number; 0 where there is none.
+    headers: Vec<u32>,
 }
 
 impl<'a> Model for Lines<'a> {
     ghost use Rattle.std.specs.Prelude.{◌≡◌, List, ℕ};
+    ghost use Rattle.input_lines.specs.Headers.{AreHeaders};
     ghost use Rattle.input_lines.specs.Lines.{line_starts};
 
     ghost Value = { List ℕ };
 
     ghost view = { λ l. l.input.now };
 
-    ghost invariant = { λ l. l.starts.items ≡ line_starts l.input.now };
+    ghost invariant = { λ l. (l.starts.items ≡ line_starts l.input.now) × AreHeaders l.input.now l.headers.items };
 }
 
 /// Where the lines of an input begin.
@@ -55,7 +60,31 @@ impl<'a> Lines<'a> {
         ensures { IfOk result (λ lines. lines ≡ input.now) }
     {
         let starts = starts_of(alloc, input)?;
-        Ok(Lines { input, starts })
+        let lines = Lines {
+            input,
+            starts,
+            headers: Vec::new(alloc),
+        };
+        let headers = headers_of(alloc, &lines)?;
+        Ok(Lines {
+            input,
+            starts: lines.starts,
+            headers,
+        })
+    }
+
+    /// How many lines there are, up to the greatest number of a line.
+    pub(crate) fn count(&self) -> u32
+        ensures { result < 4294967295 }
+    {
+        self.starts.len().min(4_294_967_294) as u32
+    }
+
+    /// The last header up to and with a line, by its number, or 0; nothing where the input has no such line.
+    pub(crate) fn header(&self, line: u32) -> Option<u32>
+        ensures { IfSome result (λ header. header ≡ header_of self.now line) }
+    {
+        self.headers.get(line as usize).copied()
     }
 
     /// The text of a line, counted from 1, without the white space around it; nothing where the input has no such line.

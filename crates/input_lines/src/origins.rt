@@ -5,6 +5,7 @@ ghost use Rattle.std.specs.Str.{bytes_eq};
 ghost use Rattle.input_lines.specs.Origins as model;
 ghost use Rattle.input_lines.specs.Origins.{HasMark};
 
+use crate::headers::is_header;
 use crate::lines::Lines;
 use growing_text::Text;
 
@@ -90,16 +91,9 @@ fn origin_in(header: &[u8]) -> Option<Origin<'_>>
     }
 }
 
-/// Whether a line is a header.
-fn is_header(text: &[u8]) -> bool
-    ensures { result ≡ (slice_index text.now 0 == 37) }
-{
-    !text.is_empty() && text[0] == b'%'
-}
-
-/// The line of the last header up to and with a line; 0 where there is none.
+/// The line of the last header up to and with a line behind the last of the input; 0 where there is none.
 #[tactic(auto, using(crate::proofs::OriginLaws::header_stays, crate::proofs::OriginLaws::header_found))]
-fn header_line(lines: &Lines, line: u32) -> u32
+fn searched_header(lines: &Lines, line: u32) -> u32
     ensures { result ≡ model.header_of lines.now line }
 {
     let mut header = line;
@@ -110,6 +104,16 @@ fn header_line(lines: &Lines, line: u32) -> u32
         header -= 1;
     }
     0
+}
+
+/// The line of the last header up to and with a line; 0 where there is none.
+fn header_line(lines: &Lines, line: u32) -> u32
+    ensures { result ≡ model.header_of lines.now line }
+{
+    match lines.header(line) {
+        Some(header) => header,
+        None => searched_header(lines, line),
+    }
 }
 
 /// From which line of which file a line of a joined input comes; nothing where no header names one.

@@ -1,16 +1,19 @@
 -- Groups of pairs by their names, with one pair more.
-use Rattle.std.proofs.Common.{◌≡◌, ◌∙◌, ℕ, zero, suc, ◌+◌, ◌<◌, ◌≤◌, ◌==◌, ◌&&◌, Bool, true, false, cond, List, [], ◌∷◌, ◌++◌, filter, map, take, set, length, get_or, slice_get, All, Option, None, Some, refl, sym, ap, subst, arith}
-use Rattle.std.specs.List.{Any, count_by}
+use Rattle.std.proofs.Common.{◌≡◌, ◌∙◌, ℕ, zero, suc, ◌+◌, ◌<◌, ◌≤◌, ◌==◌, ◌&&◌, Bool, true, false, cond, nat_eq, not, List, [], ◌∷◌, ◌++◌, filter, map, take, set, length, get_or, slice_get, All, Option, None, Some, refl, sym, ap, subst, arith}
+use Rattle.std.specs.List.{Any, count_by, list_any, position_or_len}
+use Rattle.std.specs.Option.{option_eq}
+use Rattle.indexmap.specs.IndexSet.{insert_key}
 use Rattle.std.proofs.lemmas.Bool.{and_parts, eqb-true}
 use Rattle.std.proofs.lemmas.List.{take_all, take_more}
 use Rattle.std.proofs.lemmas.List.Sums.{length-filter}
 use Rattle.std.proofs.lemmas.List.Elements.{All-nil, All-cons, All-head, All-tail, All-map}
-use Rattle.met_boxes.proofs.PutLaws.{from_cases, in_front, in_rest, put_all, put_apart, put_apart_at, put_each}
+use Rattle.met_boxes.proofs.PutLaws.{from_cases, in_front, in_rest, put_all, put_apart, put_each, put_keys, put_known, put_new}
 use Rattle.met_boxes.specs.Groups.{AreGroups, DoAscend, IsGroup, IsIn, have_names, kind_number, same_channel, same_name}
-use Rattle.met_boxes.specs.GroupSteps.{AreNamed, DoRowsAscend, IsNamed, counted, have_same, named_at, names_in, names_of, put_named}
+use Rattle.met_boxes.specs.GroupSteps.{AreNamed, DoRowsAscend, IsNamed, counted, have_same, key_of, name_key, named_at, names_in, names_of, put_named}
 use Rattle.met_boxes.specs.PairNumbers.{capped}
-use Rattle.met_boxes.specs.Puts.{AreApart}
 use Rattle.met_boxes.specs.declared.groups.Group.{Group}
+use Rattle.met_boxes.specs.declared.groups.Key.{Key}
+use Rattle.met_boxes.specs.declared.groups.NameKey.{NameKey}
 use Rattle.met_boxes.specs.declared.groups.Named.{Named}
 use Rattle.sync_types.specs.declared.verdicts.PlaceName.{PlaceName}
 use Rattle.sync_types.specs.declared.verdicts.StretchKind.{StretchKind}
@@ -94,11 +97,66 @@ same_on a b e =
 merged : (a b : Named) → names_in a ≡ names_in b → names_in (counted a b) ≡ names_in a
 merged a b e = refl
 
--- at a place of rows of which no two are the same
-pub named_put : (rows : List Named) (place : ℕ) (new d made : Named) → AreApart names_in rows → place < length rows → have_same (get_or rows place d) new ≡ true → made ≡ counted (get_or rows place d) new
-    → set rows place made ≡ put_named rows new
-named_put rows place new d made apart within on is =
-    ap (λ (m : Named). set rows place m) is ∙ put_apart_at names_in have_same same_is same_on counted merged rows place new d apart within on
+-- ---- keys
+
+abbrev is_name_key : NameKey → NameKey → Bool
+is_name_key one other = one.line == other.line && (one.zone == other.zone && (option_eq nat_eq one.channel other.channel && one.kind == other.kind))
+
+-- how the keys of groups are compared
+abbrev pub is_key : Key → Key → Bool
+is_key one other = is_name_key one.left other.left && is_name_key one.right other.right
+
+turned : (a b : ℕ) → (a == b) ≡ (b == a)
+turned a b = grind arith
+
+channels_alike : (a b : Option ℕ) → option_eq nat_eq a b ≡ same_channel b a
+channels_alike None None = refl
+channels_alike None (Some y) = refl
+channels_alike (Some x) None = refl
+channels_alike (Some x) (Some y) = turned x y
+
+both_alike : (a b c d : Bool) → a ≡ b → c ≡ d → (a && c) ≡ (b && d)
+both_alike a b c d p q = ap (λ (x : Bool). x && c) p ∙ ap (λ (x : Bool). b && x) q
+
+names_alike : (a b : PlaceName) → is_name_key (name_key a) (name_key b) ≡ same_name b a
+names_alike a b =
+    both_alike _ _ _ _ (turned a.line b.line)
+    (both_alike _ _ _ _ (turned a.zone b.zone) (both_alike _ _ _ _ (channels_alike a.channel b.channel) (turned (kind_number a.kind) (kind_number b.kind))))
+
+keys_alike : (row new : Named) → is_key (key_of new) (key_of row) ≡ have_same row new
+keys_alike row new = both_alike _ _ _ _ (names_alike new.left row.left) (names_alike new.right row.right)
+
+key_stays : (row new : Named) → key_of (counted row new) ≡ key_of row
+key_stays row new = refl
+
+is_found : (b : Bool) (c : Bool) → c ≡ not b → c ≡ false → b ≡ true
+is_found true c is e = refl
+is_found false c is e = absurd cc
+
+is_none : (b : Bool) (c : Bool) → c ≡ not b → c ≡ true → b ≡ false
+is_none true c is e = absurd cc
+is_none false c is e = refl
+
+-- what a look-up of the key of a group tells
+module _ (rows : List Named) (keys : List Key) (new : Named) (key : Key) (are : keys ≡ map key_of rows) (key_is : key ≡ key_of new) where
+  told : (is_new : Bool) → is_new ≡ not (list_any (is_key key) keys) → is_new ≡ not (list_any (is_key (key_of new)) (map key_of rows))
+  told is_new is = is ∙ ap (λ (ks : List Key). not (list_any (is_key key) ks)) are ∙ ap (λ (k : Key). not (list_any (is_key k) (map key_of rows))) key_is
+
+  pub named_new : (is_new : Bool) → is_new ≡ not (list_any (is_key key) keys) → is_new ≡ true → rows ++ new ∷ [] ≡ put_named rows new
+  named_new is_new is on = put_new key_of is_key have_same keys_alike counted key_stays rows new (is_none _ is_new (told is_new is) on)
+
+  pub named_known : (place : ℕ) (d made : Named) (is_new : Bool) → is_new ≡ not (list_any (is_key key) keys) → is_new ≡ false → place ≡ position_or_len (is_key key) keys
+      → made ≡ counted (get_or rows place d) new → set rows place made ≡ put_named rows new
+  named_known place d made is_new is off at made_is =
+      ap (λ (m : Named). set rows place m) made_is
+      ∙ subst (λ (n : ℕ). set rows n (counted (get_or rows n d) new) ≡ put_named rows new)
+      (sym (at ∙ ap (λ (ks : List Key). position_or_len (is_key key) ks) are ∙ ap (λ (k : Key). position_or_len (is_key k) (map key_of rows)) key_is))
+      (put_known key_of is_key have_same keys_alike counted key_stays rows new d (is_found _ is_new (told is_new is) off))
+
+  pub named_keys : (more : List Key) → more ≡ insert_key is_key keys key → more ≡ map key_of (put_named rows new)
+  named_keys more is =
+      is ∙ ap (λ (ks : List Key). insert_key is_key ks key) are ∙ ap (λ (k : Key). insert_key is_key (map key_of rows) k) key_is
+      ∙ put_keys key_of is_key have_same keys_alike counted key_stays rows new
 
 -- ---- lists
 

@@ -1,22 +1,34 @@
 -- The boxes that meet, as they are found, are the compared pairs that meet.
-use Rattle.std.proofs.Common.{◌≡◌, ◌∙◌, ◌&&◌, Bool, true, false, cond, List, [], ◌∷◌, ◌++◌, map, filter, refl, ap}
+use Rattle.std.proofs.Common.{◌≡◌, ◌∙◌, ◌&&◌, ◌||◌, Bool, true, false, cond, List, [], ◌∷◌, ◌++◌, map, filter, refl, sym, ap}
 use Rattle.std.proofs.lemmas.List.{map-append}
-use Rattle.std.proofs.lemmas.List.Elements.{filter-append}
-use Rattle.std.specs.List.{flat_map}
+use Rattle.std.proofs.lemmas.List.Elements.{All-head, All-tail, filter-append}
+use Rattle.std.specs.List.{flat_map, list_any}
+use Rattle.box_reach.specs.Lots.{lots_meet}
 use Rattle.job_types.specs.declared.job.ZoneLine.{ZoneLine}
+use Rattle.protection_zones.specs.InCovers.{IsInCover, ArePairsInCover}
 use Rattle.protection_zones.specs.Overlaps.{BoxPlace, Pair, are_compared, may_overlap, box_pairs, stretch_pairs}
-use Rattle.protection_zones.specs.Pieces.{pair_meets}
+use Rattle.protection_zones.specs.Pieces.{pair_meets, piece_boxes}
 use Rattle.protection_zones.specs.Stretches.{StretchView}
 use Rattle.protection_zones.specs.declared.stretches.ZoneBox.{ZoneBox}
 use Rattle.met_boxes.proofs.AddLaws.{flat_map_same}
+use Rattle.met_boxes.proofs.CoverLaws.{covers_meet}
 use Rattle.met_boxes.specs.Meetings.{told_pair}
-use Rattle.met_boxes.specs.MeetingSteps.{Case, place_of, met_one, met_by, met_in_boxes, met_in_stretches, met_in_row}
+use Rattle.met_boxes.specs.MeetingSteps.{Case, place_of, may_meet, met_one, met_by, met_in_boxes, met_in_stretches, met_in_row}
 use Rattle.met_boxes.specs.Rows.{RowView, pairs_in, row_pairs}
+use Rattle.swept_boxes.specs.Boxes.{boxes_meet}
+use Rattle.swept_boxes.specs.declared.Box3.{Box3}
 use Rattle.told_places.specs.declared.place.Meeting.{Meeting}
 
+-- a test that passes only where another one does may be made after that one
+guarded : (c x : Bool) → (x ≡ true → c ≡ true) → (c && x) ≡ x
+guarded true x implies = refl
+guarded false true implies = absurd (let e : false ≡ true = implies refl in cc)
+guarded false false implies = refl
+
 module _ (case : Case) where
+  -- the covers first
   abbrev pub meets : Pair → Bool
-  meets pair = pair_meets case.job case.run pair
+  meets pair = boxes_meet pair.0.box.cover pair.1.box.cover && pair_meets case.job case.run pair
 
   -- what is told of those of some pairs that meet
   abbrev pub kept : List Pair → List Meeting
@@ -47,7 +59,7 @@ module _ (case : Case) where
 
       by_compared : (b : Bool) → kept (map mk (filter (are_compared left.stretch right left.box) xs)) ≡ flat_map (met_one case left other right) xs
           → kept (map mk (cond b (x ∷ filter (are_compared left.stretch right left.box) xs) (filter (are_compared left.stretch right left.box) xs)))
-          ≡ cond (b && meets (mk x)) (told_pair (mk x) ∷ []) [] ++ flat_map (met_one case left other right) xs
+          ≡ cond ((b && boxes_meet left.box.cover x.cover) && pair_meets case.job case.run (mk x)) (told_pair (mk x) ∷ []) [] ++ flat_map (met_one case left other right) xs
       by_compared true rest = by_meeting (meets (mk x)) rest
       by_compared false rest = rest
 
@@ -73,6 +85,49 @@ module _ (case : Case) where
       ∙ flat_map_same (λ (right : StretchView). kept (stretch_pairs case.before row.zone row.stretch row.other right)) (met_in_stretches case row.zone row.stretch row.other)
       (λ right. stretches_are row.zone row.stretch row.other right) row.others
 
+  rows_kept : (rows : List RowView) → kept (pairs_in case.before rows) ≡ flat_map (met_in_row case) rows
+  rows_kept rows = kept_flat (row_pairs case.before) rows ∙ flat_map_same (λ (row : RowView). kept (row_pairs case.before row)) (met_in_row case) row_is rows
+
+  -- where the boxes by which they are compared lie in their covers, the test of these leaves out none that meets
+  covers_first : (pair : Pair) → IsInCover case.job case.run pair.0 → IsInCover case.job case.run pair.1 → meets pair ≡ pair_meets case.job case.run pair
+  covers_first pair own later = guarded (boxes_meet pair.0.box.cover pair.1.box.cover) (pair_meets case.job case.run pair) (covers_meet case.job case.run pair own later)
+
+  all_kept : (pairs : List Pair) → ArePairsInCover case.job case.run pairs → filter meets pairs ≡ filter (pair_meets case.job case.run) pairs
+  all_kept [] all = refl
+  all_kept (pair ∷ pairs) all =
+      let both = All-head (λ (p : Pair). IsInCover case.job case.run p.0 × IsInCover case.job case.run p.1) pair pairs all in
+      let rest = All-tail (λ (p : Pair). IsInCover case.job case.run p.0 × IsInCover case.job case.run p.1) pair pairs all in
+      ap (λ (b : Bool). cond b (pair ∷ filter meets pairs) (filter meets pairs)) (covers_first pair both.0 both.1)
+      ∙ ap (λ (kept_rest : List Pair). cond (pair_meets case.job case.run pair) (pair ∷ kept_rest) kept_rest) (all_kept pairs rest)
+
   -- all that meet, as they are found
-  pub rows_are : (rows : List RowView) → kept (pairs_in case.before rows) ≡ flat_map (met_in_row case) rows
-  rows_are rows = kept_flat (row_pairs case.before) rows ∙ flat_map_same (λ (row : RowView). kept (row_pairs case.before row)) (met_in_row case) row_is rows
+  pub rows_are : (rows : List RowView) → ArePairsInCover case.job case.run (pairs_in case.before rows)
+      → map told_pair (filter (pair_meets case.job case.run) (pairs_in case.before rows)) ≡ flat_map (met_in_row case) rows
+  rows_are rows all = ap (map told_pair) (sym (all_kept (pairs_in case.before rows) all)) ∙ rows_kept rows
+
+-- where none may meet, none is told
+pub none_met : (case : Case) (left : BoxPlace) (other : ZoneLine) (right : StretchView) (boxes : List ZoneBox)
+    → list_any (may_meet left.stretch left.box right) boxes ≡ false → flat_map (met_one case left other right) boxes ≡ []
+unfolding met_one
+none_met case left other right [] none = refl
+none_met case left other right (x ∷ xs) none = by_test (may_meet left.stretch left.box right x) (none_met case left other right xs) none
+  where
+    by_test : (b : Bool) → (list_any (may_meet left.stretch left.box right) xs ≡ false → flat_map (met_one case left other right) xs ≡ []) → (b || list_any (may_meet left.stretch left.box right) xs) ≡ false
+        → cond (b && pair_meets case.job case.run (left, place_of other right x)) (told_pair (left, place_of other right x) ∷ []) [] ++ flat_map (met_one case left other right) xs ≡ []
+    by_test true rest none = absurd cc
+    by_test false rest none = rest none
+
+-- two boxes that may not meet, and two that may, by the boxes by which they are compared
+pub met_off : (case : Case) (left : BoxPlace) (other : ZoneLine) (right : StretchView) (later : ZoneBox) → may_meet left.stretch left.box right later ≡ false → met_one case left other right later ≡ []
+unfolding met_one
+met_off case left other right later off =
+    ap (λ (b : Bool). cond (b && pair_meets case.job case.run (left, place_of other right later)) (told_pair (left, place_of other right later) ∷ []) []) off
+
+pub met_on : (case : Case) (left : BoxPlace) (other : ZoneLine) (right : StretchView) (later : ZoneBox) (pieces others : List Box3) → may_meet left.stretch left.box right later ≡ true
+    → pieces ≡ piece_boxes case.job case.run left → others ≡ piece_boxes case.job case.run (place_of other right later)
+    → cond (lots_meet pieces others) (told_pair (left, place_of other right later) ∷ []) [] ≡ met_one case left other right later
+unfolding met_one pair_meets
+met_on case left other right later pieces others on own_is later_is =
+    ap (λ (xs : List Box3). cond (lots_meet xs others) (told_pair (left, place_of other right later) ∷ []) []) own_is
+    ∙ ap (λ (ys : List Box3). cond (lots_meet (piece_boxes case.job case.run left) ys) (told_pair (left, place_of other right later) ∷ []) []) later_is
+    ∙ ap (λ (b : Bool). cond (b && lots_meet (piece_boxes case.job case.run left) (piece_boxes case.job case.run (place_of other right later))) (told_pair (left, place_of other right later) ∷ []) []) (sym on)

@@ -3,13 +3,12 @@ pub mod AscentLaws
 pub mod NearLaws
 pub mod TimeLaws
 pub mod RowLaws
+pub mod CoverLaws
 pub mod KeptLaws
 pub mod SeenLaws
 pub mod PutLaws
 pub mod SomeLaws
 pub mod NearestLaws
 pub mod NumberLaws
-pub mod PieceLaws
-pub mod Directions
 pub mod GroupLaws
-pub mod MarginLaws
+pub mod EmptyRuns

@@ -1,6 +1,7 @@
 -- Rows of which each is merged with an earlier one that is the same.
-use Rattle.std.proofs.Common.{◌≡◌, ◌∙◌, ℕ, zero, suc, ◌+◌, ◌<◌, ◌≤◌, Bool, true, false, cond, List, [], ◌∷◌, ◌++◌, take, drop, set, length, get_or, All, refl, sym, ap, subst, append_assoc, arith}
-use Rattle.std.specs.List.{Any}
+use Rattle.std.proofs.Common.{◌≡◌, ◌∙◌, ℕ, zero, suc, ◌+◌, ◌<◌, ◌≤◌, Bool, true, false, cond, not, ◌||◌, List, [], ◌∷◌, ◌++◌, map, take, drop, set, length, get_or, All, refl, sym, ap, subst, append_assoc, arith}
+use Rattle.std.specs.List.{Any, list_any, position_or_len}
+use Rattle.indexmap.specs.IndexSet.{insert_key}
 use Rattle.std.proofs.lemmas.List.{drop_all, drop_more, set_split, take_all, take_more}
 use Rattle.std.proofs.lemmas.List.Elements.{All-nil, All-cons, All-head, All-tail, All-append, All-weaker, All-contains}
 use Rattle.met_boxes.specs.Puts.{AreApart, put_in}
@@ -67,9 +68,50 @@ module _ {R : Type 0} (same : R → R → Bool) (merge : R → R → R) where
       ∙ subst (λ (xs : List R). set xs place (merge (get_or xs place d) new) ≡ put_in same merge old new) (sym is)
       (put_found old place new d within (subst (λ (xs : List R). same (get_or xs place d) new ≡ true) is on) so_far)
 
-not_so : (b : Bool) → (b ≡ true → ⊥) → b ≡ false
-not_so true h = absurd (h refl)
-not_so false h = refl
+-- ---- by keys
+
+-- keys are equal where rows are the same
+module _ {R K : Type 0} (key : R → K) (is_key : K → K → Bool) (same : R → R → Bool) (alike : (row new : R) → is_key (key new) (key row) ≡ same row new)
+    (merge : R → R → R) (merged : (row new : R) → key (merge row new) ≡ key row) where
+  -- of a new key
+  pub put_new : (rows : List R) (new : R) → list_any (is_key (key new)) (map key rows) ≡ false → rows ++ new ∷ [] ≡ put_in same merge rows new
+  put_new [] new none = refl
+  put_new (row ∷ rows) new none = by_same (is_key (key new) (key row)) (same row new) (alike row new) (list_any (is_key (key new)) (map key rows)) none (λ off. put_new rows new off)
+    where
+      by_same : (b c : Bool) → b ≡ c → (d : Bool) → (b || d) ≡ false → (d ≡ false → rows ++ new ∷ [] ≡ put_in same merge rows new)
+          → row ∷ (rows ++ new ∷ []) ≡ cond c (merge row new ∷ rows) (row ∷ put_in same merge rows new)
+      by_same true c is d none rest = absurd cc
+      by_same false true is d none rest = absurd cc
+      by_same false false is d none rest = ap (λ (ys : List R). row ∷ ys) (rest none)
+
+  -- of a key that is there, at its place
+  pub put_known : (rows : List R) (new d : R) → list_any (is_key (key new)) (map key rows) ≡ true
+      → set rows (position_or_len (is_key (key new)) (map key rows)) (merge (get_or rows (position_or_len (is_key (key new)) (map key rows)) d) new) ≡ put_in same merge rows new
+  put_known [] new d some = absurd cc
+  put_known (row ∷ rows) new d some =
+      by_same (is_key (key new) (key row)) (same row new) (alike row new) (list_any (is_key (key new)) (map key rows)) some (position_or_len (is_key (key new)) (map key rows)) (λ on. put_known rows new d on)
+    where
+      by_same : (b c : Bool) → b ≡ c → (e : Bool) → (b || e) ≡ true → (n : ℕ) → (e ≡ true → set rows n (merge (get_or rows n d) new) ≡ put_in same merge rows new)
+          → set (row ∷ rows) (cond (not b) (1 + n) 0) (merge (get_or (row ∷ rows) (cond (not b) (1 + n) 0) d) new) ≡ cond c (merge row new ∷ rows) (row ∷ put_in same merge rows new)
+      by_same true true is e some n rest = refl
+      by_same true false is e some n rest = absurd cc
+      by_same false true is e some n rest = absurd cc
+      by_same false false is e some n rest =
+          let one : suc n ≡ 1 + n = omega arith in
+          subst (λ (k : ℕ). set (row ∷ rows) k (merge (get_or (row ∷ rows) k d) new) ≡ row ∷ put_in same merge rows new) one (ap (λ (ys : List R). row ∷ ys) (rest some))
+
+  -- what becomes of the keys
+  pub put_keys : (rows : List R) (new : R) → insert_key is_key (map key rows) (key new) ≡ map key (put_in same merge rows new)
+  put_keys [] new = refl
+  put_keys (row ∷ rows) new = by_same (is_key (key new) (key row)) (same row new) (alike row new) (list_any (is_key (key new)) (map key rows)) (put_keys rows new)
+    where
+      by_same : (b c : Bool) → b ≡ c → (d : Bool) → cond d (map key rows) (map key rows ++ key new ∷ []) ≡ map key (put_in same merge rows new)
+          → cond (b || d) (key row ∷ map key rows) (key row ∷ (map key rows ++ key new ∷ [])) ≡ map key (cond c (merge row new ∷ rows) (row ∷ put_in same merge rows new))
+      by_same true true is d rest = ap (λ (k : K). k ∷ map key rows) (sym (merged row new))
+      by_same true false is d rest = absurd cc
+      by_same false true is d rest = absurd cc
+      by_same false false is true rest = ap (λ (ks : List K). key row ∷ ks) rest
+      by_same false false is false rest = ap (λ (ks : List K). key row ∷ ks) rest
 
 -- ---- what is so of the rows
 
@@ -125,14 +167,6 @@ module _ {R K : Type 0} (key : R → K) (same : R → R → Bool) (same_is : (a 
         apart.1,
       )
       by_same false on later = (put_holds (λ k. key row ≡ k → ⊥) rows new apart.0 (apart_by row new on), later)
-
-  -- merged at a place, where no two rows are the same
-  pub put_apart_at : (rows : List R) (place : ℕ) (new d : R) → AreApart key rows → place < length rows → same (get_or rows place d) new ≡ true → set rows place (merge (get_or rows place d) new) ≡ put rows new
-  put_apart_at [] place new d apart within on = absurd (omega arith)
-  put_apart_at (row ∷ rows) zero new d apart within on = ap (λ (b : Bool). cond b (merge row new ∷ rows) (row ∷ put rows new)) (sym on)
-  put_apart_at (row ∷ rows) (suc place) new d apart within on =
-      let off : same row new ≡ false = not_so (same row new) (λ e. apart.0 place d (omega arith) (same_is row new e ∙ sym (same_is (get_or rows place d) new on))) in
-      ap (λ (ys : List R). row ∷ ys) (put_apart_at rows place new d apart.1 (omega arith) on) ∙ ap (λ (b : Bool). cond b (merge row new ∷ rows) (row ∷ put rows new)) (sym off)
 
   -- of elements that have keys, as more are seen that have the key of the new row
   module _ {A : Type 0} (key_of : A → K) (Good : List A → R → Type 0) (seen more : List A) (new : R) (others : (row : R) → (key row ≡ key new → ⊥) → Good seen row → Good (seen ++ more) row)

@@ -1,9 +1,11 @@
 -- Steps. The groups so far, each with its names.
 use Rattle.std.specs.Prelude.{◌≡◌, ℕ, ◌<◌, ◌+◌, ◌&&◌, Bool, false, All, List, [], ◌∷◌, slice_get, take, Some}
 use Rattle.std.specs.List.{Any, count_by}
-use Rattle.met_boxes.specs.Groups.{have_names, same_name}
+use Rattle.met_boxes.specs.Groups.{have_names, kind_number, same_name}
 use Rattle.met_boxes.specs.PairNumbers.{capped}
 use Rattle.met_boxes.specs.Puts.{AreApart, put_in}
+use Rattle.met_boxes.specs.declared.groups.Key.{Key}
+use Rattle.met_boxes.specs.declared.groups.NameKey.{NameKey}
 use Rattle.met_boxes.specs.declared.groups.Named.{Named}
 use Rattle.sync_types.specs.declared.verdicts.PlaceName.{PlaceName}
 use Rattle.told_places.specs.declared.place.Meeting.{Meeting}
@@ -11,6 +13,13 @@ use Rattle.told_places.specs.declared.place.Meeting.{Meeting}
 -- of the same names
 abbrev pub have_same : Named → Named → Bool
 have_same one other = same_name one.left other.left && same_name one.right other.right
+
+-- what is compared of the names
+abbrev pub name_key : PlaceName → NameKey
+name_key name = record { line = name.line; zone = name.zone; channel = name.channel; kind = kind_number name.kind }
+
+abbrev pub key_of : Named → Key
+key_of row = record { left = name_key row.left; right = name_key row.right }
 
 -- the two counts added
 abbrev pub counted : Named → Named → Named

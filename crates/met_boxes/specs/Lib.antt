@@ -4,11 +4,11 @@ pub mod Ascents
 pub mod Rows
 pub mod Meetings
 pub mod MeetingSteps
+pub mod KeptBoxes
 pub mod Puts
 pub mod Nearest
 pub mod NearSteps
 pub mod PairNumbers
 pub mod NumberSteps
-pub mod Clashes
 pub mod Groups
 pub mod GroupSteps

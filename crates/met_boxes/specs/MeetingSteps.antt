@@ -1,5 +1,5 @@
 -- Steps. The boxes that meet, stretch by stretch.
-use Rattle.std.specs.Prelude.{◌&&◌, if◌then◌else◌, List, [], ◌∷◌}
+use Rattle.std.specs.Prelude.{◌&&◌, Bool, if◌then◌else◌, List, [], ◌∷◌}
 use Rattle.std.specs.List.{flat_map}
 use Rattle.job_types.specs.Job.{JobView}
 use Rattle.job_types.specs.declared.job.ZoneLine.{ZoneLine}
@@ -9,6 +9,7 @@ use Rattle.protection_zones.specs.Overlaps.{Order, BoxPlace, are_compared, may_o
 use Rattle.protection_zones.specs.Pieces.{pair_meets}
 use Rattle.protection_zones.specs.Stretches.{StretchView}
 use Rattle.protection_zones.specs.declared.stretches.ZoneBox.{ZoneBox}
+use Rattle.swept_boxes.specs.Boxes.{boxes_meet}
 use Rattle.sync_types.specs.Views.{RunView}
 use Rattle.told_places.specs.declared.place.Meeting.{Meeting}
 
@@ -21,10 +22,14 @@ pub record Case : Type 0 where
 abbrev pub place_of : ZoneLine → StretchView → ZoneBox → BoxPlace
 place_of zone stretch box = record { zone = zone; stretch = stretch; box = box }
 
--- two boxes, where they are compared and meet
+-- two boxes are compared, and their covers meet
+abbrev pub may_meet : StretchView → ZoneBox → StretchView → ZoneBox → Bool
+may_meet left own right later = are_compared left right own later && boxes_meet own.cover later.cover
+
+-- two boxes, where they may meet and do
 unfoldable pub met_one : Case → BoxPlace → ZoneLine → StretchView → ZoneBox → List Meeting
 met_one case left other right later =
-    if are_compared left.stretch right left.box later && pair_meets case.job case.run (left, place_of other right later)
+    if may_meet left.stretch left.box right later && pair_meets case.job case.run (left, place_of other right later)
     then told_pair (left, place_of other right later) ∷ [] else []
 
 -- a box with those of a stretch

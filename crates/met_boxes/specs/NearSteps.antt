@@ -1,14 +1,19 @@
 -- Steps. The compared pairs of two stretches, and the nearest so far.
-use Rattle.std.specs.Prelude.{◌==◌, ◌&&◌, Bool, if◌then◌else◌, List, [], ◌∷◌}
-use Rattle.std.specs.Int.RustNames.{int_lt}
-use Rattle.std.specs.List.{flat_map}
+use Rattle.std.specs.Prelude.{ℕ, ℤ, ◌==◌, ◌&&◌, not, Bool, if◌then◌else◌, List, [], ◌∷◌}
+use Rattle.std.specs.Int.RustNames.{int_le, int_lt}
+use Rattle.std.specs.List.{flat_map, list_any}
+use Rattle.box_reach.specs.Reaches.{reach_of}
+use Rattle.job_types.specs.Job.{JobView}
 use Rattle.job_types.specs.declared.job.ZoneLine.{ZoneLine}
 use Rattle.met_boxes.specs.MeetingSteps.{place_of}
+use Rattle.met_boxes.specs.Nearest.{AreNearest, groups_of}
 use Rattle.met_boxes.specs.Puts.{put_in}
 use Rattle.met_boxes.specs.declared.nearest.Near.{Near}
+use Rattle.protection_zones.specs.InCovers.{ArePairsInCover}
 use Rattle.protection_zones.specs.Overlaps.{BoxPlace, Pair, are_compared}
 use Rattle.protection_zones.specs.Stretches.{StretchView}
 use Rattle.protection_zones.specs.declared.stretches.ZoneBox.{ZoneBox}
+use Rattle.sync_types.specs.Views.{RunView}
 
 -- a pair, where it is compared
 unfoldable pub pair_where : BoxPlace → ZoneLine → StretchView → ZoneBox → List Pair
@@ -33,3 +38,21 @@ nearer row near = if int_lt row.reach near.reach then near else row
 -- two boxes take the place of those of their groups, if they reach further, or are added
 abbrev pub put_near : List Near → Near → List Near
 put_near rows near = put_in same_groups nearer rows near
+
+-- ---- covers
+
+-- the nearest of some pairs, as long as the boxes by which they are compared lie in their covers
+abbrev pub AreNearestSoFar : JobView → RunView → List Pair → List Near → Type 0
+AreNearestSoFar job run pairs rows = ArePairsInCover job run pairs → AreNearest job run pairs rows
+
+-- a row of these groups that reaches as far as this
+abbrev pub is_as_near : ℕ × ℕ → ℤ → Near → Bool
+is_as_near groups reach row = row.groups.0 == groups.0 && row.groups.1 == groups.1 && int_le reach row.reach
+
+-- the covers of two boxes reach further into each other than any row of their groups
+abbrev pub may_be_nearer : List Near → Pair → Bool
+may_be_nearer rows pair = not (list_any (is_as_near (groups_of pair) (reach_of pair.0.box.cover pair.1.box.cover)) rows)
+
+-- and they are compared
+abbrev pub may_count : List Near → BoxPlace → ZoneLine → StretchView → ZoneBox → Bool
+may_count rows left other right later = are_compared left.stretch right left.box later && may_be_nearer rows (left, place_of other right later)

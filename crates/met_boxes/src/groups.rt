@@ -2,9 +2,9 @@
 ghost use Rattle.std.specs.Prelude.{◌≡◌, ◌++◌, ◌∷◌, [], IfOk, OnOk, map};
 ghost use Rattle.met_boxes.specs.Groups as model;
 ghost use Rattle.met_boxes.specs.GroupSteps as steps;
-ghost use Rattle.met_boxes.specs.Puts.{AreApart};
 
 use axis_sets::{ChannelId, ZoneId};
+use indexmap::IndexSet;
 use nc_faults::NoMemory;
 use std::alloc::{AllocError, Global};
 use sync_types::{PlaceName, StretchKind};
@@ -27,8 +27,21 @@ pub(crate) struct Named {
     group: Group,
 }
 
-/// How many slots the table has.
-const SLOTS: usize = 65_536;
+/// What is compared of the name of a box.
+#[derive(Clone, Copy, PartialEq, Eq, Hash, Drop)]
+struct NameKey {
+    line: u32,
+    zone: u8,
+    channel: Option<u8>,
+    kind: u8,
+}
+
+/// What is compared of the names of a group. No two groups have the same.
+#[derive(Clone, Copy, PartialEq, Eq, Hash, Drop)]
+struct Key {
+    left: NameKey,
+    right: NameKey,
+}
 
 /// The number of a kind.
 fn kind_number(kind: StretchKind) -> u8
@@ -43,34 +56,26 @@ fn kind_number(kind: StretchKind) -> u8
     }
 }
 
-/// Whether both are the same channel, or none.
-fn same_channel(one: Option<ChannelId>, other: Option<ChannelId>) -> bool
-    ensures { result ≡ model.same_channel one other }
+/// The key of a name.
+fn name_key(name: &PlaceName) -> NameKey
+    ensures { result ≡ steps.name_key name.now }
 {
-    match one {
-        None => other.is_none(),
-        Some(channel) => match other {
-            None => false,
-            Some(second) => channel.number == second.number,
-        },
+    NameKey {
+        line: name.line,
+        zone: name.zone.number,
+        channel: name.channel.map(|channel| channel.number),
+        kind: kind_number(name.kind),
     }
 }
 
-/// Whether two names are the same.
-fn same_name(one: &PlaceName, other: &PlaceName) -> bool
-    ensures { result ≡ model.same_name one.now other.now }
+/// The key of a group.
+fn key_of(row: &Named) -> Key
+    ensures { result ≡ steps.key_of row.now }
 {
-    one.line == other.line
-        && one.zone.number == other.zone.number
-        && same_channel(one.channel, other.channel)
-        && kind_number(one.kind) == kind_number(other.kind)
-}
-
-/// Whether two groups have the same names.
-fn are_same(one: &Named, other: &Named) -> bool
-    ensures { result ≡ steps.have_same one.now other.now }
-{
-    same_name(&one.left, &other.left) && same_name(&one.right, &other.right)
+    Key {
+        left: name_key(&row.left),
+        right: name_key(&row.right),
+    }
 }
 
 /// A group with the count of another added.
@@ -101,18 +106,19 @@ fn add(rows: &mut Vec<Named>, more: &Named) -> Result<(), AllocError>
     Ok(())
 }
 
-/// Adds a group to the one of its names, or as a new one.
-fn put(rows: &mut Vec<Named>, more: &Named) -> Result<(), AllocError>
-    ensures { OnOk result (rows.new.items ≡ steps.put_named rows.old.items more.now) }
+/// Adds a group to the one of its names, or as a new one. The keys are those of the rows, in their order.
+fn put(rows: &mut Vec<Named>, keys: &mut IndexSet<Key>, more: &Named) -> Result<(), AllocError>
+    requires { keys.old.keys ≡ map steps.key_of rows.old.items }
+    ensures rows { OnOk result (rows.new.items ≡ steps.put_named rows.old.items more.now) }
+    ensures keys { OnOk result (keys.new.keys ≡ map steps.key_of rows.new.items) }
 {
-    for place in 0..rows.len() {
+    let (place, is_new) = keys.insert_full(key_of(more))?;
+    if is_new {
+        add(rows, more)?;
+    } else {
         let row = rows[place];
-        if are_same(&row, more) {
-            rows[place] = counted(&row, more);
-            return Ok(());
-        }
+        rows[place] = counted(&row, more);
     }
-    add(rows, more)?;
     Ok(())
 }
 
@@ -133,74 +139,14 @@ fn named_at(place: usize, met: &Meeting) -> Named
     }
 }
 
-/// The same, where the row of a place is looked at first.
-fn put_near(rows: &mut Vec<Named>, more: &Named, hint: usize) -> Result<(), AllocError>
-    requires { AreApart steps.names_in rows.old.items }
-    ensures { OnOk result (rows.new.items ≡ steps.put_named rows.old.items more.now) }
-{
-    if hint < rows.len() {
-        let row = rows[hint];
-        if are_same(&row, more) {
-            rows[hint] = counted(&row, more);
-            return Ok(());
-        }
-    }
-    put(rows, more)?;
-    Ok(())
-}
-
-/// Where the place of the group with these lines is kept.
-fn slot_of(more: &Named) -> usize {
-    let left = more.left;
-    let right = more.right;
-    let lines = u64::from(left.line)
-        .wrapping_mul(31)
-        .wrapping_add(u64::from(right.line));
-    (lines % SLOTS as u64) as usize
-}
-
-/// The place that is kept in a slot.
-fn kept_in(slots: &[usize], slot: usize) -> usize {
-    match slots.get(slot) {
-        Some(place) => *place,
-        None => 0,
-    }
-}
-
-/// Keeps a place in a slot.
-fn keep_in(slots: &mut [usize], slot: usize, place: usize) {
-    if let Some(kept) = slots.get_mut(slot) {
-        *kept = place;
-    }
-}
-
-/// Adds the pair of a place. A new group is kept in the slot of its lines.
-fn add_met(
-    rows: &mut Vec<Named>,
-    slots: &mut [usize],
-    place: usize,
-    met: &Meeting,
-) -> Result<(), AllocError>
-    requires { AreApart steps.names_in rows.old.items }
-    ensures { OnOk result (rows.new.items ≡ steps.put_named rows.old.items (steps.named_at place met.now)) }
-{
-    let more = named_at(place, met);
-    let slot = slot_of(&more);
-    let count = rows.len();
-    put_near(rows, &more, kept_in(slots, slot))?;
-    if count < rows.len() {
-        keep_in(slots, slot, count);
-    }
-    Ok(())
-}
-
 /// The groups of some pairs, with their names.
-fn named_of(alloc: Global, slots: &mut [usize], met: &[Meeting]) -> Result<Vec<Named>, AllocError>
+fn named_of(alloc: Global, met: &[Meeting]) -> Result<Vec<Named>, AllocError>
     ensures { IfOk result (λ rows. steps.AreNamed met.now rows.items) }
 {
     let mut rows = Vec::new(alloc);
+    let mut keys = IndexSet::new(alloc);
     for place in 0..met.len() {
-        add_met(&mut rows, slots, place, &met[place])?;
+        put(&mut rows, &mut keys, &named_at(place, &met[place]))?;
     }
     Ok(rows)
 }
@@ -216,13 +162,12 @@ fn groups_in(alloc: Global, rows: &[Named]) -> Result<Vec<Group>, AllocError>
     Ok(groups)
 }
 
-/// Pairs of boxes by their names, in the order of the first of each. It takes memory for each group and for a table by which most
-/// groups are found at once.
+/// Pairs of boxes by their names, in the order of the first of each. Each pair is looked up by its names, so the time grows with the
+/// pairs alone, and the memory with the groups.
 pub fn groups_of(alloc: Global, met: &[Meeting]) -> Result<Vec<Group>, NoMemory>
     ensures { IfOk result (λ groups. model.AreGroups met.now groups.items) }
 {
-    let mut slots = vec![in alloc; 0; SLOTS]?;
-    let rows = named_of(alloc, &mut slots, met)?;
+    let rows = named_of(alloc, met)?;
     let parts = rows.as_slice();
     let groups = groups_in(alloc, parts)?;
     Ok(groups)

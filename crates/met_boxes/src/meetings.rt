@@ -1,15 +1,19 @@
 //! All boxes that meet, of zones that may not.
-ghost use Rattle.std.specs.Prelude.{◌≡◌, ◌≤◌, ◌++◌, ◌∷◌, [], All, OnOk, IfOk};
-ghost use Rattle.std.specs.List.{flat_map};
+ghost use Rattle.std.specs.Prelude.{◌≡◌, ◌≤◌, ◌++◌, ◌∷◌, [], if◌then◌else◌, All, OnOk, IfOk};
+ghost use Rattle.std.specs.List.{flat_map, list_any};
+ghost use Rattle.box_reach.specs.Lots.{lots_meet};
 ghost use Rattle.job_lines.specs.declared.limits.TheConstants.{DEPTH_LIMIT};
 ghost use Rattle.job_types.specs.SoundJob.{IsSoundJob};
 ghost use Rattle.met_boxes.specs.Judged.{IsTold};
+ghost use Rattle.met_boxes.specs.KeptBoxes.{AreKept, IsAt};
 ghost use Rattle.met_boxes.specs.Meetings.{meetings_of, told_box, told_pair};
 ghost use Rattle.met_boxes.specs.MeetingSteps as model;
 ghost use Rattle.order_clocks.specs.Tells.{is_before_in};
 ghost use Rattle.protection_zones.specs.Pieces.{piece_boxes};
 ghost use Rattle.protection_zones.specs.ZoneBoxes.{IsFit};
+ghost use Rattle.swept_boxes.specs.Boxes.{boxes_meet};
 
+use crate::kept::{are_kept, keep_at, kept_at};
 use crate::overlaps::{are_compared, may_overlap, share_channel};
 use crate::rows::{Row, rows_of, times_of};
 use axis_sets::{ChannelId, ZoneId};
@@ -26,6 +30,8 @@ use told_places::{Meeting, Place};
 /// A job with a run of it and the order of its events.
 #[derive(Clone, Copy)]
 pub(crate) struct Scene<'a> {
+    /// Where memory is taken.
+    pub(crate) alloc: Global,
     /// The job.
     pub(crate) job: &'a Job,
     /// The run.
@@ -89,36 +95,87 @@ fn add(list: &mut Vec<Meeting>, met: &Meeting) -> Result<(), AllocError>
     Ok(())
 }
 
-/// Adds two boxes, where they are compared and meet; these are the boxes by which the first is compared.
-#[tactic(auto, unfolding(crate::specs::MeetingSteps::met_one, protection_zones::specs::Pieces::pair_meets))]
-fn add_one(
+/// Whether the covers of two boxes share a point.
+fn do_covers_meet(own: &ZoneBox, later: &ZoneBox) -> bool
+    ensures { result ≡ boxes_meet own.now.cover later.now.cover }
+{
+    own.cover.meets(&later.cover)
+}
+
+/// Whether two boxes are compared and their covers share a point. No others meet, since the boxes by which a box is compared lie in
+/// its cover.
+fn may_meet(left: &Held, own: &ZoneBox, right: &Held, later: &ZoneBox) -> bool
+    ensures { result ≡ model.may_meet left.now.stretch.now own.now right.now.stretch.now later.now }
+{
+    are_compared(share_channel(left.stretch, right.stretch), own, later)
+        && do_covers_meet(own, later)
+}
+
+/// Whether a box may meet one of these of a stretch.
+fn may_meet_any(left: &Held, own: &ZoneBox, right: &Held, laters: &[ZoneBox]) -> bool
+    ensures { result ≡ list_any (model.may_meet left.now.stretch.now own.now right.now.stretch.now) laters.now }
+{
+    laters.iter().any(|later| may_meet(left, own, right, later))
+}
+
+/// Adds two boxes, where they meet; these are the boxes by which they are compared.
+fn add_by_pieces(
     list: &mut Vec<Meeting>,
-    scene: &Scene,
     left: &Held,
     own: &ZoneBox,
     pieces: &[Box3],
     right: &Held,
     later: &ZoneBox,
+    others: &[Box3],
+) -> Result<(), AllocError>
+    ensures { OnOk result (list.new.items ≡ list.old.items ++ (if lots_meet pieces.now others.now then told_pair (model.place_of left.now.zone.now left.now.stretch.now own.now, model.place_of right.now.zone.now right.now.stretch.now later.now) ∷ [] else [])) }
+{
+    if do_lots_meet(pieces, others) {
+        add(list, &told_pair(left, own, right, later))?;
+    }
+    Ok(())
+}
+
+/// Adds two boxes, where they meet; these are the boxes by which the first is compared. Those of the second are made only where the
+/// two may meet, and kept where they are to be.
+fn add_one(
+    list: &mut Vec<Meeting>,
+    kept: &mut Vec<Vec<Box3>>,
+    scene: &Scene,
+    left: &Held,
+    own: &ZoneBox,
+    pieces: &[Box3],
+    right: &Held,
+    place: usize,
+    later: &ZoneBox,
 ) -> Result<(), AllocError>
     requires fit { All (All IsFit) scene.now.run.now.items }
     requires deep { scene.now.job.now.depth ≤ DEPTH_LIMIT }
     requires pieces { pieces.now ≡ piece_boxes scene.now.job.now scene.now.run.now (model.place_of left.now.zone.now left.now.stretch.now own.now) }
-    ensures { OnOk result (list.new.items ≡ list.old.items ++ model.met_one (record { job = scene.now.job.now; run = scene.now.run.now; before = is_before_in scene.now.clocks.now.rows })
+    requires later { IsAt right.now.stretch.now.boxes place later.now }
+    requires kept { AreKept scene.now.job.now scene.now.run.now right.now.zone.now right.now.stretch.now kept.old.items }
+    ensures kept { OnOk result (AreKept scene.now.job.now scene.now.run.now right.now.zone.now right.now.stretch.now kept.new.items) }
+    ensures met { OnOk result (list.new.items ≡ list.old.items ++ model.met_one (record { job = scene.now.job.now; run = scene.now.run.now; before = is_before_in scene.now.clocks.now.rows })
         (model.place_of left.now.zone.now left.now.stretch.now own.now) right.now.zone.now right.now.stretch.now later.now) }
 {
-    if !are_compared(share_channel(left.stretch, right.stretch), own, later) {
+    if !may_meet(left, own, right, later) {
         return Ok(());
     }
-    let others = boxes_by_pieces(scene.job, scene.run, right.zone, right.stretch, later);
-    if do_lots_meet(pieces, others.as_slice()) {
-        add(list, &told_pair(left, own, right, later))?;
+    if are_kept(left, place) {
+        keep_at(kept, scene, right, place, later)?;
+        let others = kept_at(kept.as_slice(), place);
+        add_by_pieces(list, left, own, pieces, right, later, others)?;
+        return Ok(());
     }
+    let made = boxes_by_pieces(scene.job, scene.run, right.zone, right.stretch, later);
+    add_by_pieces(list, left, own, pieces, right, later, made.as_slice())?;
     Ok(())
 }
 
 /// Adds a box with some of a stretch that it meets; these are the boxes by which the first is compared.
 fn add_each(
     list: &mut Vec<Meeting>,
+    kept: &mut Vec<Vec<Box3>>,
     scene: &Scene,
     left: &Held,
     own: &ZoneBox,
@@ -129,18 +186,23 @@ fn add_each(
     requires fit { All (All IsFit) scene.now.run.now.items }
     requires deep { scene.now.job.now.depth ≤ DEPTH_LIMIT }
     requires pieces { pieces.now ≡ piece_boxes scene.now.job.now scene.now.run.now (model.place_of left.now.zone.now left.now.stretch.now own.now) }
-    ensures { OnOk result (list.new.items ≡ list.old.items ++ flat_map (model.met_one (record { job = scene.now.job.now; run = scene.now.run.now; before = is_before_in scene.now.clocks.now.rows })
+    requires laters { laters.now ≡ right.now.stretch.now.boxes }
+    requires kept { AreKept scene.now.job.now scene.now.run.now right.now.zone.now right.now.stretch.now kept.old.items }
+    ensures kept { OnOk result (AreKept scene.now.job.now scene.now.run.now right.now.zone.now right.now.stretch.now kept.new.items) }
+    ensures met { OnOk result (list.new.items ≡ list.old.items ++ flat_map (model.met_one (record { job = scene.now.job.now; run = scene.now.run.now; before = is_before_in scene.now.clocks.now.rows })
         (model.place_of left.now.zone.now left.now.stretch.now own.now) right.now.zone.now right.now.stretch.now) laters.now) }
 {
-    for later in laters {
-        add_one(list, scene, left, own, pieces, right, later)?;
+    for place in 0..laters.len() {
+        let later = &laters[place];
+        add_one(list, kept, scene, left, own, pieces, right, place, later)?;
     }
     Ok(())
 }
 
-/// Adds a box with those of a stretch that it meets. The boxes by which it is compared are made once.
+/// Adds a box with those of a stretch that it meets. The boxes by which it is compared are made once, where it may meet any.
 fn add_by(
     list: &mut Vec<Meeting>,
+    kept: &mut Vec<Vec<Box3>>,
     scene: &Scene,
     left: &Held,
     own: &ZoneBox,
@@ -148,19 +210,34 @@ fn add_by(
 ) -> Result<(), AllocError>
     requires fit { All (All IsFit) scene.now.run.now.items }
     requires deep { scene.now.job.now.depth ≤ DEPTH_LIMIT }
-    ensures { OnOk result (list.new.items ≡ list.old.items ++ model.met_by (record { job = scene.now.job.now; run = scene.now.run.now; before = is_before_in scene.now.clocks.now.rows })
+    requires kept { AreKept scene.now.job.now scene.now.run.now right.now.zone.now right.now.stretch.now kept.old.items }
+    ensures kept { OnOk result (AreKept scene.now.job.now scene.now.run.now right.now.zone.now right.now.stretch.now kept.new.items) }
+    ensures met { OnOk result (list.new.items ≡ list.old.items ++ model.met_by (record { job = scene.now.job.now; run = scene.now.run.now; before = is_before_in scene.now.clocks.now.rows })
         right.now.zone.now right.now.stretch.now (model.place_of left.now.zone.now left.now.stretch.now own.now)) }
 {
-    let pieces = boxes_by_pieces(scene.job, scene.run, left.zone, left.stretch, own);
     let other = right.stretch;
     let laters = other.boxes.as_slice();
-    add_each(list, scene, left, own, pieces.as_slice(), right, laters)?;
+    if !may_meet_any(left, own, right, laters) {
+        return Ok(());
+    }
+    let pieces = boxes_by_pieces(scene.job, scene.run, left.zone, left.stretch, own);
+    add_each(
+        list,
+        kept,
+        scene,
+        left,
+        own,
+        pieces.as_slice(),
+        right,
+        laters,
+    )?;
     Ok(())
 }
 
 /// Adds some boxes of a stretch and those of another that meet.
 fn add_owns(
     list: &mut Vec<Meeting>,
+    kept: &mut Vec<Vec<Box3>>,
     scene: &Scene,
     left: &Held,
     owns: &[ZoneBox],
@@ -168,16 +245,18 @@ fn add_owns(
 ) -> Result<(), AllocError>
     requires fit { All (All IsFit) scene.now.run.now.items }
     requires deep { scene.now.job.now.depth ≤ DEPTH_LIMIT }
-    ensures { OnOk result (list.new.items ≡ list.old.items ++ flat_map (λ own. model.met_by (record { job = scene.now.job.now; run = scene.now.run.now; before = is_before_in scene.now.clocks.now.rows })
+    requires kept { AreKept scene.now.job.now scene.now.run.now right.now.zone.now right.now.stretch.now kept.old.items }
+    ensures kept { OnOk result (AreKept scene.now.job.now scene.now.run.now right.now.zone.now right.now.stretch.now kept.new.items) }
+    ensures met { OnOk result (list.new.items ≡ list.old.items ++ flat_map (λ own. model.met_by (record { job = scene.now.job.now; run = scene.now.run.now; before = is_before_in scene.now.clocks.now.rows })
         right.now.zone.now right.now.stretch.now (model.place_of left.now.zone.now left.now.stretch.now own)) owns.now) }
 {
     for own in owns {
-        add_by(list, scene, left, own, right)?;
+        add_by(list, kept, scene, left, own, right)?;
     }
     Ok(())
 }
 
-/// Adds the boxes of two stretches that meet.
+/// Adds the boxes of two stretches that meet. Those by which a box of the second is compared are made once, where they are asked for.
 fn add_in_boxes(
     list: &mut Vec<Meeting>,
     scene: &Scene,
@@ -191,7 +270,8 @@ fn add_in_boxes(
 {
     let stretch = left.stretch;
     let owns = stretch.boxes.as_slice();
-    add_owns(list, scene, left, owns, right)?;
+    let mut kept = Vec::new(scene.alloc);
+    add_owns(list, &mut kept, scene, left, owns, right)?;
     Ok(())
 }
 
@@ -265,7 +345,8 @@ fn met_in(alloc: Global, scene: &Scene, rows: &[Row]) -> Result<Vec<Meeting>, Al
 }
 
 /// All compared boxes that meet in a run of a job, in the order in which the verdict NO names the first. It takes memory for each
-/// such pair, and for each stretch of a zone with each later zone of another group.
+/// such pair, for each stretch of a zone with each later zone of another group, and while two stretches are looked at for the boxes
+/// by which those of the second are compared.
 pub fn meetings_of(
     alloc: Global,
     job: &Job,
@@ -282,7 +363,12 @@ pub fn meetings_of(
     let all = times.as_slice();
     let rows = rows_of(alloc, job, stretches, clocks, all)?;
     let parts = rows.as_slice();
-    let scene = Scene { job, run, clocks };
+    let scene = Scene {
+        alloc,
+        job,
+        run,
+        clocks,
+    };
     let list = met_in(alloc, &scene, parts)?;
     Ok(list)
 }

@@ -1,9 +1,11 @@
 //! How near the compared boxes of two groups come to each other.
 ghost use Rattle.std.specs.Prelude.{◌≡◌, ◌≤◌, ◌++◌, ◌∷◌, [], min, max, All, List, OnOk, IfOk};
-ghost use Rattle.std.specs.List.{flat_map};
+ghost use Rattle.std.specs.List.{flat_map, list_any};
 ghost use Rattle.job_lines.specs.declared.limits.TheConstants.{DEPTH_LIMIT};
+ghost use Rattle.job_types.specs.Job.{JobView};
 ghost use Rattle.job_types.specs.SoundJob.{IsSoundJob};
 ghost use Rattle.met_boxes.specs.Judged.{IsTold};
+ghost use Rattle.met_boxes.specs.KeptBoxes.{AreKept, IsAt};
 ghost use Rattle.met_boxes.specs.Meetings.{told_place};
 ghost use Rattle.met_boxes.specs.MeetingSteps.{place_of};
 ghost use Rattle.met_boxes.specs.Nearest as model;
@@ -13,12 +15,14 @@ ghost use Rattle.order_clocks.specs.Tells.{is_before_in};
 ghost use Rattle.protection_zones.specs.Overlaps.{Pair, compared_pairs, stretch_pairs};
 ghost use Rattle.protection_zones.specs.Pieces.{piece_boxes};
 ghost use Rattle.protection_zones.specs.ZoneBoxes.{IsFit};
+ghost use Rattle.sync_types.specs.Views.{RunView};
 
+use crate::kept::{are_kept, keep_at, kept_at};
 use crate::meetings::{Held, Scene, told_box};
 use crate::overlaps::{are_compared, may_overlap, share_channel};
 use crate::rows::{Row, rows_of, times_of};
 use axis_sets::{ChannelId, ZoneId};
-use box_reach::most_near;
+use box_reach::{least_way, most_near};
 use job_types::{Job, ZoneLine};
 use nc_faults::NoMemory;
 use order_clocks::Clocks;
@@ -108,26 +112,131 @@ fn near_of(reach: i64, left: &Held, own: &ZoneBox, right: &Held, later: &ZoneBox
     }
 }
 
-/// Looks at two boxes that are compared; these are the boxes by which the first is compared.
-fn look(
+/// Whether a row is of these groups and reaches as far as this.
+fn is_as_near(row: &Near, groups: (u8, u8), reach: i64) -> bool
+    ensures { result ≡ steps.is_as_near groups reach row.now }
+{
+    row.groups.0 == groups.0 && row.groups.1 == groups.1 && reach <= row.reach
+}
+
+/// Whether one of these rows is.
+fn is_any_as_near(rows: &[Near], groups: (u8, u8), reach: i64) -> bool
+    ensures { result ≡ list_any (steps.is_as_near groups reach) rows.now }
+{
+    rows.iter().any(|row| is_as_near(row, groups, reach))
+}
+
+/// Whether the covers of two boxes reach further into each other than any row of their groups.
+fn may_be_nearer(rows: &[Near], left: &Held, own: &ZoneBox, right: &Held, later: &ZoneBox) -> bool
+    ensures { result ≡ steps.may_be_nearer rows.now (place_of left.now.zone.now left.now.stretch.now own.now, place_of right.now.zone.now right.now.stretch.now later.now) }
+{
+    let way = least_way(&own.cover, &later.cover);
+    !is_any_as_near(rows, groups_of(left.zone, right.zone), way.shift)
+}
+
+/// The same of two boxes that are compared.
+fn may_count(rows: &[Near], left: &Held, own: &ZoneBox, right: &Held, later: &ZoneBox) -> bool
+    ensures { result ≡ steps.may_count rows.now (place_of left.now.zone.now left.now.stretch.now own.now) right.now.zone.now right.now.stretch.now later.now }
+{
+    are_compared(share_channel(left.stretch, right.stretch), own, later)
+        && may_be_nearer(rows, left, own, right, later)
+}
+
+/// The same of a box and one of these of a stretch.
+fn may_any_count(
+    rows: &[Near],
+    left: &Held,
+    own: &ZoneBox,
+    right: &Held,
+    laters: &[ZoneBox],
+) -> bool
+    ensures { result ≡ list_any (steps.may_count rows.now (place_of left.now.zone.now left.now.stretch.now own.now) right.now.zone.now right.now.stretch.now) laters.now }
+{
+    laters
+        .iter()
+        .any(|later| may_count(rows, left, own, right, later))
+}
+
+/// Looks at two boxes that are compared; these are the boxes by which they are.
+fn look_by_pieces(
     rows: &mut Vec<Near>,
-    scene: &Scene,
     left: &Held,
     own: &ZoneBox,
     pieces: &[Box3],
     right: &Held,
     later: &ZoneBox,
+    others: &[Box3],
+) -> Result<(), AllocError>
+    ensures { OnOk result ((job : JobView) → (run : RunView) → (seen : List Pair)
+        → pieces.now ≡ piece_boxes job run (place_of left.now.zone.now left.now.stretch.now own.now)
+        → others.now ≡ piece_boxes job run (place_of right.now.zone.now right.now.stretch.now later.now)
+        → model.AreNearest job run seen rows.old.items
+        → model.AreNearest job run (seen ++ (place_of left.now.zone.now left.now.stretch.now own.now, place_of right.now.zone.now right.now.stretch.now later.now) ∷ []) rows.new.items) }
+{
+    if let Some(reach) = most_near(pieces, others) {
+        let near = near_of(reach, left, own, right, later);
+        put(rows, &near)?;
+    }
+    Ok(())
+}
+
+/// Looks at two boxes that are compared; these are the boxes by which the first is compared. Those of the second are kept, where they
+/// are to be.
+fn look(
+    rows: &mut Vec<Near>,
+    kept: &mut Vec<Vec<Box3>>,
+    scene: &Scene,
+    left: &Held,
+    own: &ZoneBox,
+    pieces: &[Box3],
+    right: &Held,
+    place: usize,
+    later: &ZoneBox,
 ) -> Result<(), AllocError>
     requires fit { All (All IsFit) scene.now.run.now.items }
     requires deep { scene.now.job.now.depth ≤ DEPTH_LIMIT }
     requires pieces { pieces.now ≡ piece_boxes scene.now.job.now scene.now.run.now (place_of left.now.zone.now left.now.stretch.now own.now) }
-    ensures { OnOk result ((seen : List Pair) → model.AreNearest scene.now.job.now scene.now.run.now seen rows.old.items
+    requires later { IsAt right.now.stretch.now.boxes place later.now }
+    requires kept { AreKept scene.now.job.now scene.now.run.now right.now.zone.now right.now.stretch.now kept.old.items }
+    ensures kept { OnOk result (AreKept scene.now.job.now scene.now.run.now right.now.zone.now right.now.stretch.now kept.new.items) }
+    ensures near { OnOk result ((seen : List Pair) → model.AreNearest scene.now.job.now scene.now.run.now seen rows.old.items
         → model.AreNearest scene.now.job.now scene.now.run.now (seen ++ (place_of left.now.zone.now left.now.stretch.now own.now, place_of right.now.zone.now right.now.stretch.now later.now) ∷ []) rows.new.items) }
 {
-    let others = boxes_by_pieces(scene.job, scene.run, right.zone, right.stretch, later);
-    if let Some(reach) = most_near(pieces, others.as_slice()) {
-        let near = near_of(reach, left, own, right, later);
-        put(rows, &near)?;
+    if are_kept(left, place) {
+        keep_at(kept, scene, right, place, later)?;
+        let others = kept_at(kept.as_slice(), place);
+        look_by_pieces(rows, left, own, pieces, right, later, others)?;
+        return Ok(());
+    }
+    let made = boxes_by_pieces(scene.job, scene.run, right.zone, right.stretch, later);
+    look_by_pieces(rows, left, own, pieces, right, later, made.as_slice())?;
+    Ok(())
+}
+
+/// Looks at two boxes that are compared, where their covers reach further than the row of their groups. The boxes by which they are
+/// compared lie in their covers, so they reach no further than these.
+fn look_near(
+    rows: &mut Vec<Near>,
+    kept: &mut Vec<Vec<Box3>>,
+    scene: &Scene,
+    left: &Held,
+    own: &ZoneBox,
+    pieces: &[Box3],
+    right: &Held,
+    place: usize,
+    later: &ZoneBox,
+) -> Result<(), AllocError>
+    requires fit { All (All IsFit) scene.now.run.now.items }
+    requires deep { scene.now.job.now.depth ≤ DEPTH_LIMIT }
+    requires pieces { pieces.now ≡ piece_boxes scene.now.job.now scene.now.run.now (place_of left.now.zone.now left.now.stretch.now own.now) }
+    requires later { IsAt right.now.stretch.now.boxes place later.now }
+    requires kept { AreKept scene.now.job.now scene.now.run.now right.now.zone.now right.now.stretch.now kept.old.items }
+    ensures kept { OnOk result (AreKept scene.now.job.now scene.now.run.now right.now.zone.now right.now.stretch.now kept.new.items) }
+    ensures near { OnOk result ((seen : List Pair) → steps.AreNearestSoFar scene.now.job.now scene.now.run.now seen rows.old.items
+        → steps.AreNearestSoFar scene.now.job.now scene.now.run.now (seen ++ (place_of left.now.zone.now left.now.stretch.now own.now, place_of right.now.zone.now right.now.stretch.now later.now) ∷ []) rows.new.items) }
+{
+    if may_be_nearer(rows.as_slice(), left, own, right, later) {
+        look(rows, kept, scene, left, own, pieces, right, place, later)?;
     }
     Ok(())
 }
@@ -135,21 +244,26 @@ fn look(
 /// Looks at two boxes, where they are compared.
 fn look_at(
     rows: &mut Vec<Near>,
+    kept: &mut Vec<Vec<Box3>>,
     scene: &Scene,
     left: &Held,
     own: &ZoneBox,
     pieces: &[Box3],
     right: &Held,
+    place: usize,
     later: &ZoneBox,
 ) -> Result<(), AllocError>
     requires fit { All (All IsFit) scene.now.run.now.items }
     requires deep { scene.now.job.now.depth ≤ DEPTH_LIMIT }
     requires pieces { pieces.now ≡ piece_boxes scene.now.job.now scene.now.run.now (place_of left.now.zone.now left.now.stretch.now own.now) }
-    ensures { OnOk result ((seen : List Pair) → model.AreNearest scene.now.job.now scene.now.run.now seen rows.old.items
-        → model.AreNearest scene.now.job.now scene.now.run.now (seen ++ steps.pair_where (place_of left.now.zone.now left.now.stretch.now own.now) right.now.zone.now right.now.stretch.now later.now) rows.new.items) }
+    requires later { IsAt right.now.stretch.now.boxes place later.now }
+    requires kept { AreKept scene.now.job.now scene.now.run.now right.now.zone.now right.now.stretch.now kept.old.items }
+    ensures kept { OnOk result (AreKept scene.now.job.now scene.now.run.now right.now.zone.now right.now.stretch.now kept.new.items) }
+    ensures near { OnOk result ((seen : List Pair) → steps.AreNearestSoFar scene.now.job.now scene.now.run.now seen rows.old.items
+        → steps.AreNearestSoFar scene.now.job.now scene.now.run.now (seen ++ steps.pair_where (place_of left.now.zone.now left.now.stretch.now own.now) right.now.zone.now right.now.stretch.now later.now) rows.new.items) }
 {
     if are_compared(share_channel(left.stretch, right.stretch), own, later) {
-        look(rows, scene, left, own, pieces, right, later)?;
+        look_near(rows, kept, scene, left, own, pieces, right, place, later)?;
     }
     Ok(())
 }
@@ -157,6 +271,7 @@ fn look_at(
 /// Looks at a box with some of a stretch; these are the boxes by which the first is compared.
 fn look_each(
     rows: &mut Vec<Near>,
+    kept: &mut Vec<Vec<Box3>>,
     scene: &Scene,
     left: &Held,
     own: &ZoneBox,
@@ -167,18 +282,23 @@ fn look_each(
     requires fit { All (All IsFit) scene.now.run.now.items }
     requires deep { scene.now.job.now.depth ≤ DEPTH_LIMIT }
     requires pieces { pieces.now ≡ piece_boxes scene.now.job.now scene.now.run.now (place_of left.now.zone.now left.now.stretch.now own.now) }
-    ensures { OnOk result ((seen : List Pair) → model.AreNearest scene.now.job.now scene.now.run.now seen rows.old.items
-        → model.AreNearest scene.now.job.now scene.now.run.now (seen ++ flat_map (steps.pair_where (place_of left.now.zone.now left.now.stretch.now own.now) right.now.zone.now right.now.stretch.now) laters.now) rows.new.items) }
+    requires laters { laters.now ≡ right.now.stretch.now.boxes }
+    requires kept { AreKept scene.now.job.now scene.now.run.now right.now.zone.now right.now.stretch.now kept.old.items }
+    ensures kept { OnOk result (AreKept scene.now.job.now scene.now.run.now right.now.zone.now right.now.stretch.now kept.new.items) }
+    ensures near { OnOk result ((seen : List Pair) → steps.AreNearestSoFar scene.now.job.now scene.now.run.now seen rows.old.items
+        → steps.AreNearestSoFar scene.now.job.now scene.now.run.now (seen ++ flat_map (steps.pair_where (place_of left.now.zone.now left.now.stretch.now own.now) right.now.zone.now right.now.stretch.now) laters.now) rows.new.items) }
 {
-    for later in laters {
-        look_at(rows, scene, left, own, pieces, right, later)?;
+    for place in 0..laters.len() {
+        let later = &laters[place];
+        look_at(rows, kept, scene, left, own, pieces, right, place, later)?;
     }
     Ok(())
 }
 
-/// Looks at a box with those of a stretch. The boxes by which it is compared are made once.
+/// Looks at a box with those of a stretch. The boxes by which it is compared are made once, where any may be nearer.
 fn look_by(
     rows: &mut Vec<Near>,
+    kept: &mut Vec<Vec<Box3>>,
     scene: &Scene,
     left: &Held,
     own: &ZoneBox,
@@ -186,19 +306,34 @@ fn look_by(
 ) -> Result<(), AllocError>
     requires fit { All (All IsFit) scene.now.run.now.items }
     requires deep { scene.now.job.now.depth ≤ DEPTH_LIMIT }
-    ensures { OnOk result ((seen : List Pair) → model.AreNearest scene.now.job.now scene.now.run.now seen rows.old.items
-        → model.AreNearest scene.now.job.now scene.now.run.now (seen ++ steps.pairs_by right.now.zone.now right.now.stretch.now (place_of left.now.zone.now left.now.stretch.now own.now)) rows.new.items) }
+    requires kept { AreKept scene.now.job.now scene.now.run.now right.now.zone.now right.now.stretch.now kept.old.items }
+    ensures kept { OnOk result (AreKept scene.now.job.now scene.now.run.now right.now.zone.now right.now.stretch.now kept.new.items) }
+    ensures near { OnOk result ((seen : List Pair) → steps.AreNearestSoFar scene.now.job.now scene.now.run.now seen rows.old.items
+        → steps.AreNearestSoFar scene.now.job.now scene.now.run.now (seen ++ steps.pairs_by right.now.zone.now right.now.stretch.now (place_of left.now.zone.now left.now.stretch.now own.now)) rows.new.items) }
 {
-    let pieces = boxes_by_pieces(scene.job, scene.run, left.zone, left.stretch, own);
     let other = right.stretch;
     let laters = other.boxes.as_slice();
-    look_each(rows, scene, left, own, pieces.as_slice(), right, laters)?;
+    if !may_any_count(rows.as_slice(), left, own, right, laters) {
+        return Ok(());
+    }
+    let pieces = boxes_by_pieces(scene.job, scene.run, left.zone, left.stretch, own);
+    look_each(
+        rows,
+        kept,
+        scene,
+        left,
+        own,
+        pieces.as_slice(),
+        right,
+        laters,
+    )?;
     Ok(())
 }
 
 /// Looks at some boxes of a stretch and those of another.
 fn look_owns(
     rows: &mut Vec<Near>,
+    kept: &mut Vec<Vec<Box3>>,
     scene: &Scene,
     left: &Held,
     owns: &[ZoneBox],
@@ -206,16 +341,18 @@ fn look_owns(
 ) -> Result<(), AllocError>
     requires fit { All (All IsFit) scene.now.run.now.items }
     requires deep { scene.now.job.now.depth ≤ DEPTH_LIMIT }
-    ensures { OnOk result ((seen : List Pair) → model.AreNearest scene.now.job.now scene.now.run.now seen rows.old.items
-        → model.AreNearest scene.now.job.now scene.now.run.now (seen ++ flat_map (λ own. steps.pairs_by right.now.zone.now right.now.stretch.now (place_of left.now.zone.now left.now.stretch.now own)) owns.now) rows.new.items) }
+    requires kept { AreKept scene.now.job.now scene.now.run.now right.now.zone.now right.now.stretch.now kept.old.items }
+    ensures kept { OnOk result (AreKept scene.now.job.now scene.now.run.now right.now.zone.now right.now.stretch.now kept.new.items) }
+    ensures near { OnOk result ((seen : List Pair) → steps.AreNearestSoFar scene.now.job.now scene.now.run.now seen rows.old.items
+        → steps.AreNearestSoFar scene.now.job.now scene.now.run.now (seen ++ flat_map (λ own. steps.pairs_by right.now.zone.now right.now.stretch.now (place_of left.now.zone.now left.now.stretch.now own)) owns.now) rows.new.items) }
 {
     for own in owns {
-        look_by(rows, scene, left, own, right)?;
+        look_by(rows, kept, scene, left, own, right)?;
     }
     Ok(())
 }
 
-/// Looks at the boxes of two stretches.
+/// Looks at the boxes of two stretches. Those by which a box of the second is compared are made once, where they are asked for.
 fn look_in_boxes(
     rows: &mut Vec<Near>,
     scene: &Scene,
@@ -224,12 +361,13 @@ fn look_in_boxes(
 ) -> Result<(), AllocError>
     requires fit { All (All IsFit) scene.now.run.now.items }
     requires deep { scene.now.job.now.depth ≤ DEPTH_LIMIT }
-    ensures { OnOk result ((seen : List Pair) → model.AreNearest scene.now.job.now scene.now.run.now seen rows.old.items
-        → model.AreNearest scene.now.job.now scene.now.run.now (seen ++ steps.pairs_in_boxes left.now.zone.now left.now.stretch.now right.now.zone.now right.now.stretch.now) rows.new.items) }
+    ensures { OnOk result ((seen : List Pair) → steps.AreNearestSoFar scene.now.job.now scene.now.run.now seen rows.old.items
+        → steps.AreNearestSoFar scene.now.job.now scene.now.run.now (seen ++ steps.pairs_in_boxes left.now.zone.now left.now.stretch.now right.now.zone.now right.now.stretch.now) rows.new.items) }
 {
     let stretch = left.stretch;
     let owns = stretch.boxes.as_slice();
-    look_owns(rows, scene, left, owns, right)?;
+    let mut kept = Vec::new(scene.alloc);
+    look_owns(rows, &mut kept, scene, left, owns, right)?;
     Ok(())
 }
 
@@ -242,8 +380,8 @@ fn look_in_stretches(
 ) -> Result<(), AllocError>
     requires fit { All (All IsFit) scene.now.run.now.items }
     requires deep { scene.now.job.now.depth ≤ DEPTH_LIMIT }
-    ensures { OnOk result ((seen : List Pair) → model.AreNearest scene.now.job.now scene.now.run.now seen rows.old.items
-        → model.AreNearest scene.now.job.now scene.now.run.now (seen ++ stretch_pairs (is_before_in scene.now.clocks.now.rows) left.now.zone.now left.now.stretch.now right.now.zone.now right.now.stretch.now) rows.new.items) }
+    ensures { OnOk result ((seen : List Pair) → steps.AreNearestSoFar scene.now.job.now scene.now.run.now seen rows.old.items
+        → steps.AreNearestSoFar scene.now.job.now scene.now.run.now (seen ++ stretch_pairs (is_before_in scene.now.clocks.now.rows) left.now.zone.now left.now.stretch.now right.now.zone.now right.now.stretch.now) rows.new.items) }
 {
     if may_overlap(scene.clocks, left.stretch, right.stretch) {
         look_in_boxes(rows, scene, left, right)?;
@@ -261,8 +399,8 @@ fn look_against(
 ) -> Result<(), AllocError>
     requires fit { All (All IsFit) scene.now.run.now.items }
     requires deep { scene.now.job.now.depth ≤ DEPTH_LIMIT }
-    ensures { OnOk result ((seen : List Pair) → model.AreNearest scene.now.job.now scene.now.run.now seen rows.old.items
-        → model.AreNearest scene.now.job.now scene.now.run.now (seen ++ flat_map (stretch_pairs (is_before_in scene.now.clocks.now.rows) left.now.zone.now left.now.stretch.now other.now) others.now) rows.new.items) }
+    ensures { OnOk result ((seen : List Pair) → steps.AreNearestSoFar scene.now.job.now scene.now.run.now seen rows.old.items
+        → steps.AreNearestSoFar scene.now.job.now scene.now.run.now (seen ++ flat_map (stretch_pairs (is_before_in scene.now.clocks.now.rows) left.now.zone.now left.now.stretch.now other.now) others.now) rows.new.items) }
 {
     for stretch in others {
         let right = Held {
@@ -278,8 +416,8 @@ fn look_against(
 fn look_in_row(near: &mut Vec<Near>, scene: &Scene, row: &Row) -> Result<(), AllocError>
     requires fit { All (All IsFit) scene.now.run.now.items }
     requires deep { scene.now.job.now.depth ≤ DEPTH_LIMIT }
-    ensures { OnOk result ((seen : List Pair) → model.AreNearest scene.now.job.now scene.now.run.now seen near.old.items
-        → model.AreNearest scene.now.job.now scene.now.run.now (seen ++ row_pairs (is_before_in scene.now.clocks.now.rows) row.now) near.new.items) }
+    ensures { OnOk result ((seen : List Pair) → steps.AreNearestSoFar scene.now.job.now scene.now.run.now seen near.old.items
+        → steps.AreNearestSoFar scene.now.job.now scene.now.run.now (seen ++ row_pairs (is_before_in scene.now.clocks.now.rows) row.now) near.new.items) }
 {
     let left = Held {
         zone: row.zone,
@@ -293,7 +431,7 @@ fn look_in_row(near: &mut Vec<Near>, scene: &Scene, row: &Row) -> Result<(), All
 fn nearest_in(alloc: Global, scene: &Scene, rows: &[Row]) -> Result<Vec<Near>, AllocError>
     requires fit { All (All IsFit) scene.now.run.now.items }
     requires deep { scene.now.job.now.depth ≤ DEPTH_LIMIT }
-    ensures { IfOk result (λ near. model.AreNearest scene.now.job.now scene.now.run.now (pairs_in (is_before_in scene.now.clocks.now.rows) rows.now) near.items) }
+    ensures { IfOk result (λ near. steps.AreNearestSoFar scene.now.job.now scene.now.run.now (pairs_in (is_before_in scene.now.clocks.now.rows) rows.now) near.items) }
 {
     let mut near = Vec::new(alloc);
     for row in rows {
@@ -303,8 +441,9 @@ fn nearest_in(alloc: Global, scene: &Scene, rows: &[Row]) -> Result<Vec<Near>, A
 }
 
 /// For each two groups of which boxes are compared in a run of a job two compared boxes that come nearest to each other: of no other
-/// two does a box by which it is compared reach further into one of the other. It takes memory for each two groups, and for each
-/// stretch of a zone with each later zone of another group.
+/// two does a box by which it is compared reach further into one of the other. It takes memory for each two groups, for each stretch
+/// of a zone with each later zone of another group, and while two stretches are looked at for the boxes by which those of the second
+/// are compared.
 pub fn nearest_of(
     alloc: Global,
     job: &Job,
@@ -321,7 +460,12 @@ pub fn nearest_of(
     let all = times.as_slice();
     let rows = rows_of(alloc, job, stretches, clocks, all)?;
     let parts = rows.as_slice();
-    let scene = Scene { job, run, clocks };
+    let scene = Scene {
+        alloc,
+        job,
+        run,
+        clocks,
+    };
     let near = nearest_in(alloc, &scene, parts)?;
     Ok(near)
 }

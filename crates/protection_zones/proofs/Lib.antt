@@ -11,6 +11,8 @@ pub mod LogLaws
 pub mod TimeLaws
 pub mod StretchLaws
 pub mod CoverLaws
+pub mod PieceLaws
+pub mod PiecesInCovers
 pub mod NameLaws
 pub mod CostLaws
 pub mod BoxCounts

@@ -13,3 +13,4 @@ pub mod Terms
 pub mod Exchanges
 pub mod Logs
 pub mod SoundStretches
+pub mod InCovers

@@ -1,12 +1,20 @@
-use Rattle.std.proofs.Common.{◌≡◌, ◌∙◌, true, get_or, sym, ap, arith}
-use Rattle.met_boxes.proofs.PutLaws.{put_at}
-use Rattle.met_boxes.specs.GroupSteps.{counted, have_same}
+use Rattle.std.proofs.Common.{◌∙◌, List, map, sym, ap}
+use Rattle.met_boxes.proofs.GroupLaws.{named_keys, named_known, named_new}
+use Rattle.met_boxes.specs.GroupSteps.{counted, key_of}
 use Rattle.met_boxes.specs.declared.groups.Named.{Named}
 use Rattle.met_boxes.proofs.groups.put.Goals as goal
 
-pub returns-then-are_same : goal.returns-then-are_same
-returns-then-are_same c =
-    let on : have_same (get_or c.loop-place.rows.items c.loop-place.place c.index.result.now) c.args.more.now ≡ true =
-    ap (λ (r : Named). have_same r c.args.more.now) (sym c.index.ensures) ∙ sym c.are_same.ensures ∙ c.if-are_same.true in
-    put_at have_same counted c.args.rows.now.items c.loop-place.rows.items c.loop-place.place c.args.more.now c.index.result.now c.counted.result (omega arith) c.loop-place.invariant.0 on
-    (c.counted.ensures ∙ ap (λ (r : Named). counted r c.args.more.now) c.index.ensures) c.loop-place.invariant.1
+pub returns-in_ok-add-clause-rows : goal.returns-in_ok-add-clause-rows
+returns-in_ok-add-clause-rows c =
+    c.in_ok-add.ensures
+    ∙ named_new c.args.rows.now.items c.args.keys.now.keys c.args.more.now c.key_of.result c.requires c.key_of.ensures c.in_ok-place.is_new c.in_ok-place.ensures.added c.if-is_new.true
+
+pub returns-else-is_new-clause-rows : goal.returns-else-is_new-clause-rows
+returns-else-is_new-clause-rows c =
+    named_known c.args.rows.now.items c.args.keys.now.keys c.args.more.now c.key_of.result c.requires c.key_of.ensures c.in_ok-place.place c.index.result.now c.counted.result c.in_ok-place.is_new
+    c.in_ok-place.ensures.added c.if-is_new.false c.in_ok-place.ensures.index (c.counted.ensures ∙ ap (λ (r : Named). counted r c.args.more.now) c.index.ensures)
+
+pub returns-else-is_new-clause-keys : goal.returns-else-is_new-clause-keys
+returns-else-is_new-clause-keys c =
+    named_keys c.args.rows.now.items c.args.keys.now.keys c.args.more.now c.key_of.result c.requires c.key_of.ensures c.insert_full.new.self.keys c.in_ok-place.ensures.keys
+    ∙ ap (λ (rows : List Named). map key_of rows) (sym (returns-else-is_new-clause-rows c))

@@ -1,35 +1,18 @@
-use Rattle.std.proofs.Common.{rules, ◌≡◌, ◌∙◌, ◌++◌, ◌∷◌, [], ℤ, List, Some, sym, ap, subst, w64}
-use Rattle.std.proofs.lemmas.Int.{to_z-of_z}
-use mir.Val.{to_z, SFits}
-use Rattle.box_reach.specs.Lots.{IsGreatest, reaches}
-use Rattle.protection_zones.specs.Overlaps.{Pair}
+use Rattle.std.proofs.Common.{◌≡◌, ◌∙◌, List, Vec, subst}
+use Rattle.std.specs.Global.{Global}
+use Rattle.met_boxes.specs.KeptBoxes.{IsKeptAt}
+use Rattle.met_boxes.specs.MeetingSteps.{place_of}
 use Rattle.protection_zones.specs.Pieces.{piece_boxes}
 use Rattle.swept_boxes.specs.declared.Box3.{Box3}
-use Rattle.met_boxes.proofs.NearestLaws.{IsOne, nearest_more}
-use Rattle.met_boxes.proofs.SomeLaws.{pair_has}
-use Rattle.met_boxes.specs.MeetingSteps.{place_of}
-use Rattle.met_boxes.specs.Nearest.{AreNearest, pair_reaches}
-use Rattle.met_boxes.specs.declared.nearest.Near.{Near}
 use Rattle.met_boxes.proofs.nearest.look.Goals as goal
 
-pub returns-in_ok-put : goal.returns-in_ok-put
-returns-in_ok-put c seen are =
-    let pair : Pair = (place_of c.args.left.now.zone.now c.args.left.now.stretch.now c.args.own.now, place_of c.args.right.now.zone.now c.args.right.now.stretch.now c.args.later.now) in
-    let far : SFits w64 c.in-Some.reach = search rules in
-    let reach : c.near_of-near.result.reach ≡ c.in-Some.reach = c.near_of-near.ensures.reach ∙ to_z-of_z w64 c.in-Some.reach far in
-    let own : IsGreatest (Some c.near_of-near.result.reach) (pair_reaches c.args.scene.now.job.now c.args.scene.now.run.now pair) =
-    subst (λ (n : ℤ). IsGreatest (Some n) (pair_reaches c.args.scene.now.job.now c.args.scene.now.run.now pair)) (sym reach)
-    (subst (λ (xs : List Box3). IsGreatest (Some c.in-Some.reach) (reaches xs (piece_boxes c.args.scene.now.job.now c.args.scene.now.run.now pair.1))) c.requires.pieces
-    (subst (λ (ys : List Box3). IsGreatest (Some c.in-Some.reach) (reaches c.args.pieces.now ys)) (c.as_slice.ensures.value ∙ c.boxes_by_pieces-others.ensures) c.in-Some.ensures)) in
-    let one : IsOne c.args.scene.now.job.now c.args.scene.now.run.now pair c.near_of-near.result =
-    record { groups = c.near_of-near.ensures.groups; left = c.near_of-near.ensures.left; right = c.near_of-near.ensures.right; own = own } in
-    subst (λ (rows : List Near). AreNearest c.args.scene.now.job.now c.args.scene.now.run.now (seen ++ pair ∷ []) rows) (sym c.in_ok-put.ensures)
-    (nearest_more c.args.scene.now.job.now c.args.scene.now.run.now seen pair c.near_of-near.result one c.args.rows.now.items are)
+pub returns-then-are_kept-clause-near : goal.returns-then-are_kept-clause-near
+returns-then-are_kept-clause-near c seen are =
+    let others : c.kept_at-others.result.now ≡ piece_boxes c.args.scene.now.job.now c.args.scene.now.run.now (place_of c.args.right.now.zone.now c.args.right.now.stretch.now c.args.later.now) =
+    c.kept_at-others.ensures (piece_boxes c.args.scene.now.job.now c.args.scene.now.run.now (place_of c.args.right.now.zone.now c.args.right.now.stretch.now c.args.later.now))
+    (λ made at. c.in_ok-keep_at.ensures.made made (subst (λ (kept : List (Vec Box3 Global)). IsKeptAt kept c.args.place made) c.as_slice.ensures.value at)) in
+    c.in_ok-look_by_pieces.ensures c.args.scene.now.job.now c.args.scene.now.run.now seen c.requires.pieces others are
 
-pub returns-in_default : goal.returns-in_default
-returns-in_default c seen are =
-    let pair : Pair = (place_of c.args.left.now.zone.now c.args.left.now.stretch.now c.args.own.now, place_of c.args.right.now.zone.now c.args.right.now.stretch.now c.args.later.now) in
-    let none : pair_reaches c.args.scene.now.job.now c.args.scene.now.run.now pair ≡ [] =
-    ap (λ (xs : List Box3). reaches xs (piece_boxes c.args.scene.now.job.now c.args.scene.now.run.now pair.1)) (sym c.requires.pieces)
-    ∙ ap (λ (ys : List Box3). reaches c.args.pieces.now ys) (sym (c.as_slice.ensures.value ∙ c.boxes_by_pieces-others.ensures)) ∙ c.in_default.ensures in
-    absurd (pair_has c.args.scene.now.job.now c.args.scene.now.run.now pair none)
+pub returns-clause-near : goal.returns-clause-near
+returns-clause-near c seen are =
+    c.in_ok-look_by_pieces-2.ensures c.args.scene.now.job.now c.args.scene.now.run.now seen c.requires.pieces (c.as_slice-2.ensures.value ∙ c.boxes_by_pieces-made.ensures) are

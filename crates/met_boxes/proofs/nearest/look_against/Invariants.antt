@@ -1,11 +1,11 @@
 use Rattle.std.proofs.Common.{List, ◌++◌, take}
 use Rattle.std.specs.List.{flat_map}
 use Rattle.order_clocks.specs.Tells.{is_before_in}
-use Rattle.met_boxes.specs.Nearest.{AreNearest}
 use Rattle.protection_zones.specs.Overlaps.{Pair, stretch_pairs}
+use Rattle.met_boxes.specs.NearSteps.{AreNearestSoFar}
 use Rattle.met_boxes.proofs.nearest.look_against.Given as goal
 
 abbrev pub invariant-loop-stretch : goal.invariant-loop-stretch
 invariant-loop-stretch l =
-    (seen : List Pair) → AreNearest l.scene.job.now l.scene.run.now seen l.initial.rows.items
-    → AreNearest l.scene.job.now l.scene.run.now (seen ++ flat_map (stretch_pairs (is_before_in l.scene.clocks.now.rows) l.left.zone.now l.left.stretch.now l.other) (take l.stretch-index l.others)) l.rows.items
+    (seen : List Pair) → AreNearestSoFar l.scene.job.now l.scene.run.now seen l.initial.rows.items
+    → AreNearestSoFar l.scene.job.now l.scene.run.now (seen ++ flat_map (stretch_pairs (is_before_in l.scene.clocks.now.rows) l.left.zone.now l.left.stretch.now l.other) (take l.stretch-index l.others)) l.rows.items

@@ -2,23 +2,22 @@ use Rattle.std.proofs.Common.{◌≡◌, ◌∙◌, ◌||◌, not, Bool, true, f
 use Rattle.std.proofs.lemmas.List.{append-nil}
 use Rattle.protection_zones.specs.Overlaps.{Pair, are_compared, share_place}
 use Rattle.met_boxes.specs.MeetingSteps.{place_of}
-use Rattle.met_boxes.specs.Nearest.{AreNearest}
-use Rattle.met_boxes.specs.NearSteps.{pair_where}
+use Rattle.met_boxes.specs.NearSteps.{AreNearestSoFar, pair_where}
 use Rattle.met_boxes.proofs.nearest.look_at.Goals as goal
 
-pub returns-in_ok-look : goal.returns-in_ok-look
+pub returns-in_ok-look_near-clause-near : goal.returns-in_ok-look_near-clause-near
 unfolding pair_where
-returns-in_ok-look c seen are =
+returns-in_ok-look_near-clause-near c seen are =
     let pair : Pair = (place_of c.args.left.now.zone.now c.args.left.now.stretch.now c.args.own.now, place_of c.args.right.now.zone.now c.args.right.now.stretch.now c.args.later.now) in
     let on : are_compared c.args.left.now.stretch.now c.args.right.now.stretch.now c.args.own.now c.args.later.now ≡ true =
     ap (λ (b : Bool). not b || share_place c.args.own.now c.args.later.now) (sym c.share_channel.ensures) ∙ sym c.are_compared.ensures ∙ c.if-are_compared.true in
-    subst (λ (b : Bool). AreNearest c.args.scene.now.job.now c.args.scene.now.run.now (seen ++ cond b (pair ∷ []) []) c.look.new.rows.items) (sym on) (c.in_ok-look.ensures seen are)
+    subst (λ (b : Bool). AreNearestSoFar c.args.scene.now.job.now c.args.scene.now.run.now (seen ++ cond b (pair ∷ []) []) c.look_near.new.rows.items) (sym on) (c.in_ok-look_near.ensures.near seen are)
 
-pub returns-else-are_compared : goal.returns-else-are_compared
+pub returns-else-are_compared-clause-near : goal.returns-else-are_compared-clause-near
 unfolding pair_where
-returns-else-are_compared c seen are =
+returns-else-are_compared-clause-near c seen are =
     let pair : Pair = (place_of c.args.left.now.zone.now c.args.left.now.stretch.now c.args.own.now, place_of c.args.right.now.zone.now c.args.right.now.stretch.now c.args.later.now) in
     let off : are_compared c.args.left.now.stretch.now c.args.right.now.stretch.now c.args.own.now c.args.later.now ≡ false =
     ap (λ (b : Bool). not b || share_place c.args.own.now c.args.later.now) (sym c.share_channel.ensures) ∙ sym c.are_compared.ensures ∙ c.if-are_compared.false in
-    subst (λ (b : Bool). AreNearest c.args.scene.now.job.now c.args.scene.now.run.now (seen ++ cond b (pair ∷ []) []) c.args.rows.now.items) (sym off)
-    (subst (λ (ps : List Pair). AreNearest c.args.scene.now.job.now c.args.scene.now.run.now ps c.args.rows.now.items) (sym (append-nil seen)) are)
+    subst (λ (b : Bool). AreNearestSoFar c.args.scene.now.job.now c.args.scene.now.run.now (seen ++ cond b (pair ∷ []) []) c.args.rows.now.items) (sym off)
+    (subst (λ (ps : List Pair). AreNearestSoFar c.args.scene.now.job.now c.args.scene.now.run.now ps c.args.rows.now.items) (sym (append-nil seen)) are)

@@ -3,13 +3,12 @@ use Rattle.std.specs.List.{flat_map}
 use Rattle.protection_zones.specs.Stretches.{StretchView}
 use Rattle.protection_zones.specs.declared.stretches.ZoneBox.{ZoneBox}
 use Rattle.met_boxes.specs.MeetingSteps.{place_of}
-use Rattle.met_boxes.specs.Nearest.{AreNearest}
-use Rattle.met_boxes.specs.NearSteps.{pairs_by}
+use Rattle.met_boxes.specs.NearSteps.{AreNearestSoFar, pairs_by}
 use Rattle.met_boxes.proofs.nearest.look_in_boxes.Goals as goal
 
 pub returns : goal.returns
 returns c seen are =
     let boxes : c.as_slice-owns.result.now ≡ c.args.left.now.stretch.now.boxes = c.as_slice-owns.ensures.value ∙ ap (λ (s : StretchView). s.boxes) c.stretch.view_is in
-    subst (λ (owns : List ZoneBox). AreNearest c.args.scene.now.job.now c.args.scene.now.run.now
+    subst (λ (owns : List ZoneBox). AreNearestSoFar c.args.scene.now.job.now c.args.scene.now.run.now
     (seen ++ flat_map (λ (own : ZoneBox). pairs_by c.args.right.now.zone.now c.args.right.now.stretch.now (place_of c.args.left.now.zone.now c.args.left.now.stretch.now own)) owns) c.look_owns.new.rows.items) boxes
-    (c.in_ok-look_owns.ensures seen are)
+    (c.in_ok-look_owns.ensures.near seen are)

@@ -1,19 +1,19 @@
 use Rattle.std.proofs.Common.{List, [], take, sym, subst, arith}
 use Rattle.met_boxes.proofs.NearestLaws.{nearest_none}
 use Rattle.met_boxes.proofs.SeenLaws.{seen_more, seen_all}
-use Rattle.met_boxes.specs.Nearest.{AreNearest}
 use Rattle.met_boxes.specs.declared.nearest.Near.{Near}
 use Rattle.met_boxes.specs.Rows.{pairs_in, row_pairs}
 use Rattle.order_clocks.specs.Tells.{is_before_in}
+use Rattle.met_boxes.specs.NearSteps.{AreNearestSoFar}
 use Rattle.met_boxes.proofs.nearest.nearest_in.Goals as goal
 
 pub loop-row-init : goal.loop-row-init
-loop-row-init c = subst (λ (rows : List Near). AreNearest c.args.scene.now.job.now c.args.scene.now.run.now [] rows) (sym c.new-near.ensures.items) (nearest_none c.args.scene.now.job.now c.args.scene.now.run.now)
+loop-row-init c = subst (λ (rows : List Near). AreNearestSoFar c.args.scene.now.job.now c.args.scene.now.run.now [] rows) (sym c.new-near.ensures.items) (λ covers. nearest_none c.args.scene.now.job.now c.args.scene.now.run.now)
 
 pub loop-row-preserved : goal.loop-row-preserved
 loop-row-preserved c =
-    seen_more (row_pairs (is_before_in c.args.scene.now.clocks.now.rows)) (λ ps. AreNearest c.args.scene.now.job.now c.args.scene.now.run.now ps c.look_in_row.new.near.items) c.args.rows.now c.loop-row.row-index c.row-item.result [] c.loop-row-test.true c.row-item.is
+    seen_more (row_pairs (is_before_in c.args.scene.now.clocks.now.rows)) (λ ps. AreNearestSoFar c.args.scene.now.job.now c.args.scene.now.run.now ps c.look_in_row.new.near.items) c.args.rows.now c.loop-row.row-index c.row-item.result [] c.loop-row-test.true c.row-item.is
     (c.in_ok-look_in_row.ensures (pairs_in (is_before_in c.args.scene.now.clocks.now.rows) (take c.loop-row.row-index c.args.rows.now)) c.loop-row.invariant)
 
 pub returns : goal.returns
-returns c = seen_all (row_pairs (is_before_in c.args.scene.now.clocks.now.rows)) (λ ps. AreNearest c.args.scene.now.job.now c.args.scene.now.run.now ps c.loop-row.near.items) c.args.rows.now c.loop-row.row-index [] (omega arith) c.loop-row.invariant
+returns c = seen_all (row_pairs (is_before_in c.args.scene.now.clocks.now.rows)) (λ ps. AreNearestSoFar c.args.scene.now.job.now c.args.scene.now.run.now ps c.loop-row.near.items) c.args.rows.now c.loop-row.row-index [] (omega arith) c.loop-row.invariant

@@ -1,11 +1,16 @@
-use Rattle.std.proofs.Common.{◌∙◌, List, ap, subst}
+use Rattle.std.proofs.Common.{◌≡◌, ◌∙◌, List, sym, ap, subst}
+use Rattle.met_boxes.proofs.CoverLaws.{told_in_cover}
 use Rattle.met_boxes.specs.Nearest.{AreNearest}
 use Rattle.met_boxes.specs.Rows.{RowView, pairs_in}
 use Rattle.order_clocks.specs.Tells.{is_before_in}
-use Rattle.protection_zones.specs.Overlaps.{Pair}
+use Rattle.protection_zones.specs.InCovers.{ArePairsInCover}
+use Rattle.protection_zones.specs.Overlaps.{Pair, compared_pairs}
 use Rattle.met_boxes.proofs.nearest.nearest_of.Goals as goal
 
 pub returns : goal.returns
 returns c =
+    let all : pairs_in (is_before_in c.args.clocks.now.rows) c.as_slice-parts.result.now ≡ compared_pairs (is_before_in c.args.clocks.now.rows) c.args.job.now c.args.stretches.now =
+    ap (λ (rows : List RowView). pairs_in (is_before_in c.args.clocks.now.rows) rows) c.as_slice-parts.ensures.value ∙ c.in_ok-rows.ensures in
     subst (λ (ps : List Pair). AreNearest c.args.job.now c.args.run.now ps c.in_ok-near.near.items)
-    (ap (λ (rows : List RowView). pairs_in (is_before_in c.args.clocks.now.rows) rows) c.as_slice-parts.ensures.value ∙ c.in_ok-rows.ensures) c.in_ok-near.ensures
+    all (c.in_ok-near.ensures (subst (λ (ps : List Pair). ArePairsInCover c.args.job.now c.args.run.now ps) (sym all)
+    (told_in_cover c.args.job.now c.args.run.now c.args.stretches.now c.args.clocks.now (is_before_in c.args.clocks.now.rows) c.requires.whole c.requires.fit)))

@@ -1,0 +1,4 @@
+pub mod PieceLaws
+pub mod Directions
+pub mod MarginLaws
+pub mod Moves

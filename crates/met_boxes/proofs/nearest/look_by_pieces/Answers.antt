@@ -1,0 +1,35 @@
+use Rattle.std.proofs.Common.{rules, ◌≡◌, ◌∙◌, ◌++◌, ◌∷◌, [], ℤ, List, Some, sym, ap, subst, w64}
+use Rattle.std.proofs.lemmas.Int.{to_z-of_z}
+use mir.Val.{SFits}
+use Rattle.box_reach.specs.Lots.{IsGreatest, reaches}
+use Rattle.protection_zones.specs.Overlaps.{Pair}
+use Rattle.protection_zones.specs.Pieces.{piece_boxes}
+use Rattle.swept_boxes.specs.declared.Box3.{Box3}
+use Rattle.met_boxes.proofs.NearestLaws.{IsOne, nearest_more}
+use Rattle.met_boxes.proofs.SomeLaws.{pair_has}
+use Rattle.met_boxes.specs.MeetingSteps.{place_of}
+use Rattle.met_boxes.specs.Nearest.{AreNearest, pair_reaches}
+use Rattle.met_boxes.specs.declared.nearest.Near.{Near}
+use Rattle.met_boxes.proofs.nearest.look_by_pieces.Goals as goal
+
+pub returns-in_ok-put : goal.returns-in_ok-put
+returns-in_ok-put c job run seen by_pieces others are =
+    let pair : Pair = (place_of c.args.left.now.zone.now c.args.left.now.stretch.now c.args.own.now, place_of c.args.right.now.zone.now c.args.right.now.stretch.now c.args.later.now) in
+    let far : SFits w64 c.in-Some.reach = search rules in
+    let reach : c.near_of-near.result.reach ≡ c.in-Some.reach = c.near_of-near.ensures.reach ∙ to_z-of_z w64 c.in-Some.reach far in
+    let own : IsGreatest (Some c.near_of-near.result.reach) (pair_reaches job run pair) =
+    subst (λ (n : ℤ). IsGreatest (Some n) (pair_reaches job run pair)) (sym reach)
+    (subst (λ (xs : List Box3). IsGreatest (Some c.in-Some.reach) (reaches xs (piece_boxes job run pair.1))) by_pieces
+    (subst (λ (ys : List Box3). IsGreatest (Some c.in-Some.reach) (reaches c.args.pieces.now ys)) others c.in-Some.ensures)) in
+    let one : IsOne job run pair c.near_of-near.result =
+    record { groups = c.near_of-near.ensures.groups; left = c.near_of-near.ensures.left; right = c.near_of-near.ensures.right; own = own } in
+    subst (λ (rows : List Near). AreNearest job run (seen ++ pair ∷ []) rows) (sym c.in_ok-put.ensures)
+    (nearest_more job run seen pair c.near_of-near.result one c.args.rows.now.items are)
+
+pub returns-in_default : goal.returns-in_default
+returns-in_default c job run seen by_pieces others are =
+    let pair : Pair = (place_of c.args.left.now.zone.now c.args.left.now.stretch.now c.args.own.now, place_of c.args.right.now.zone.now c.args.right.now.stretch.now c.args.later.now) in
+    let none : pair_reaches job run pair ≡ [] =
+    ap (λ (xs : List Box3). reaches xs (piece_boxes job run pair.1)) (sym by_pieces)
+    ∙ ap (λ (ys : List Box3). reaches c.args.pieces.now ys) (sym others) ∙ c.in_default.ensures in
+    absurd (pair_has job run pair none)

@@ -1,0 +1,25 @@
+-- Steps. The boxes by which the boxes of a stretch are compared, kept once they are made.
+use Rattle.std.specs.Prelude.{◌≡◌, ℕ, ◌<◌, List, length, slice_index_or, Vec}
+use Rattle.std.specs.Global.{Global}
+use Rattle.job_types.specs.Job.{JobView}
+use Rattle.job_types.specs.declared.job.ZoneLine.{ZoneLine}
+use Rattle.met_boxes.specs.MeetingSteps.{place_of}
+use Rattle.protection_zones.specs.Pieces.{piece_boxes}
+use Rattle.protection_zones.specs.Stretches.{StretchView}
+use Rattle.protection_zones.specs.declared.stretches.ZoneBox.{ZoneBox}
+use Rattle.swept_boxes.specs.declared.Box3.{Box3}
+use Rattle.sync_types.specs.Views.{RunView}
+
+-- a box of a stretch, with its place
+pub record IsAt (boxes : List ZoneBox) (place : ℕ) (box : ZoneBox) : Type 0 where
+  pub within : place < length boxes
+  pub is : box ≡ slice_index_or boxes place box
+
+-- what is kept at a place
+pub record IsKeptAt (kept : List (Vec Box3 Global)) (place : ℕ) (made : Vec Box3 Global) : Type 0 where
+  pub within : place < length kept
+  pub is : made ≡ slice_index_or kept place made
+
+-- at each place none are kept, or those of the box of that place
+pub record AreKept (job : JobView) (run : RunView) (zone : ZoneLine) (stretch : StretchView) (kept : List (Vec Box3 Global)) : Type 0 where
+  pub each : (place : ℕ) → (made : Vec Box3 Global) → (box : ZoneBox) → IsKeptAt kept place made → IsAt stretch.boxes place box → 0 < length made.items → made.items ≡ piece_boxes job run (place_of zone stretch box)
