@@ -1,0 +1,5 @@
+pub mod BeginLaws
+pub mod DrawLaws
+pub mod FirstMet
+pub mod JudgeLemmas
+pub mod TextLaws

@@ -1,0 +1,198 @@
+//! What an input is answered with: the text, and the number of the status.
+ghost use Rattle.std.specs.Prelude.{◌≡◌, ◌≤◌, All, IfOk, ◌<◌, ◌^◌, length, slice_get};
+ghost use Rattle.channel_machine.specs.StartStates.{start_of};
+ghost use Rattle.explain.specs.Answers.{IsAnswer, IsJobAnswer, IsRefusalAnswer, status_of};
+ghost use Rattle.explain.specs.Drawn.{IsDrawn};
+ghost use Rattle.explain.specs.Explained.{IsExplained};
+ghost use Rattle.explain.specs.Judgements.{IsExplainedBy};
+ghost use Rattle.input_lines.specs.Refusals.{refusal_text};
+ghost use Rattle.job_lines.specs.declared.limits.TheConstants.{DEPTH_LIMIT, INPUT_LIMIT};
+ghost use Rattle.job_types.specs.SoundJob.{BlocksFit, IsSoundJob};
+ghost use Rattle.met_boxes.specs.Judged.{IsTold};
+ghost use Rattle.protection_zones.specs.ZoneBoxes.{IsFit};
+ghost use Rattle.sync_types.specs.Boards.{first_board};
+ghost use Rattle.sync_types.specs.Runs.{ComesFrom};
+ghost use Rattle.sync_types.specs.Turns.{AreEntries};
+
+use crate::data::{data_of, refusal_data};
+use crate::explaining::explain;
+use crate::judged::Judged;
+use crate::judging::{Judgement, judge_job, met_in};
+use crate::progress::{Stage, Watch};
+use crate::words::Form;
+use channel_machine::start_state;
+use input_lines::{Lines, explain_refusal};
+use job_types::Job;
+use nc_faults::{NoMemory, Refusal};
+use run_drawing::draw;
+use run_pictures::picture_of;
+use std::alloc::Global;
+use sync_types::Verdict;
+use tape_job::{JobFault, read_job};
+use told_places::Meeting;
+
+/// The status of a refused input.
+pub(crate) const REFUSED: u8 = 6;
+
+/// A text, and the number of the status that it comes with.
+#[derive(Drop)]
+pub(crate) struct Answer {
+    /// The text.
+    pub(crate) text: Vec<u8>,
+    /// The number of the status: that of `turnmill check` on the same input.
+    pub(crate) status: u8,
+}
+
+/// The number of the status of a verdict.
+fn status_of(verdict: &Verdict) -> u8
+    ensures { result ≡ status_of verdict.now }
+{
+    match verdict {
+        Verdict::Yes => 0,
+        Verdict::No(_, _) => 1,
+        Verdict::Race(_) => 2,
+        Verdict::Stuck(_, _) => 3,
+        Verdict::Alarm(_, _) => 4,
+        Verdict::Undecided { .. } => 5,
+    }
+}
+
+/// The drawing of a judged job.
+fn drawing_of(alloc: Global, judged: &Judged) -> Result<Vec<u8>, NoMemory>
+    requires fit { All (All IsFit) judged.now.run.now.items }
+    requires deep { judged.now.job.now.depth ≤ DEPTH_LIMIT }
+    ensures { IfOk result (λ text. IsDrawn judged.now.job.now judged.now.run.now judged.now.stretches.now (slice_get judged.now.met.now 0) text.items) }
+{
+    let picture = picture_of(
+        alloc,
+        judged.job,
+        judged.run,
+        judged.stretches,
+        judged.met.first(),
+    )?;
+    draw(alloc, &picture)
+}
+
+/// The text on a judged job.
+fn text_of(alloc: Global, judged: &Judged, form: Form) -> Result<Vec<u8>, NoMemory>
+    requires sound { IsSoundJob judged.now.job.now }
+    requires blocks { BlocksFit judged.now.job.now }
+    requires whole { IsTold judged.now.job.now judged.now.run.now judged.now.stretches.now judged.now.clocks.now }
+    requires fit { All (All IsFit) judged.now.run.now.items }
+    requires deep { judged.now.job.now.depth ≤ DEPTH_LIMIT }
+    requires few { length judged.now.run.now.entries < 2 ^ 32 }
+    requires comes { ComesFrom judged.now.start.now judged.now.run.now }
+    requires made { AreEntries (first_board (start_of judged.now.job.now)) judged.now.run.now.entries }
+    ensures told { IfOk result (λ text. form ≡ Form.Text → IsExplained judged.now.lines.now judged.now.job.now judged.now.start.now judged.now.run.now
+        judged.now.clocks.now judged.now.stretches.now judged.now.met.now judged.now.verdict.now text.items) }
+    ensures drawn { IfOk result (λ text. form ≡ Form.Drawing
+        → IsDrawn judged.now.job.now judged.now.run.now judged.now.stretches.now (slice_get judged.now.met.now 0) text.items) }
+{
+    match form {
+        Form::Text | Form::Join => explain(alloc, judged),
+        Form::Data => data_of(alloc, judged),
+        Form::Drawing => drawing_of(alloc, judged),
+    }
+}
+
+/// The text on a job that was judged, of which these boxes meet.
+fn text_on(
+    alloc: Global,
+    lines: &Lines,
+    job: &Job,
+    judgement: &Judgement,
+    met: &[Meeting],
+    form: Form,
+) -> Result<Vec<u8>, NoMemory>
+    requires accepted { IsSoundJob job.now }
+    requires indices { BlocksFit job.now }
+    requires judged { IsExplainedBy job.now judgement.now.run judgement.now.clocks judgement.now.stretches judgement.now.verdict }
+    ensures told { IfOk result (λ text. form ≡ Form.Text → IsExplained lines.now job.now (start_of job.now) judgement.now.run judgement.now.clocks
+        judgement.now.stretches met.now judgement.now.verdict text.items) }
+    ensures drawn { IfOk result (λ text. form ≡ Form.Drawing → IsDrawn job.now judgement.now.run judgement.now.stretches (slice_get met.now 0) text.items) }
+{
+    let start = start_state(job);
+    let judged = Judged {
+        lines,
+        job,
+        start: &start,
+        run: &judgement.run,
+        stretches: &judgement.stretches,
+        clocks: &judgement.clocks,
+        verdict: &judgement.verdict,
+        met,
+    };
+    text_of(alloc, &judged, form)
+}
+
+/// Explains an accepted job.
+fn answer_job<W: Watch>(
+    alloc: Global,
+    lines: &Lines,
+    job: &Job,
+    form: Form,
+    watch: &mut W,
+) -> Result<Answer, NoMemory>
+    requires accepted { IsSoundJob job.now }
+    requires indices { BlocksFit job.now }
+    ensures { IfOk result (λ answer. IsJobAnswer form lines.now job.now answer.text.items answer.status) }
+{
+    let judgement = judge_job(alloc, job, watch)?;
+    watch.begins(Stage::Listing);
+    let met = met_in(alloc, job, &judgement)?;
+    let text = text_on(alloc, lines, job, &judgement, met.as_slice(), form)?;
+    Ok(Answer {
+        text,
+        status: status_of(&judgement.verdict),
+    })
+}
+
+/// The text on a refused input. There is nothing to draw of it: the text says so.
+fn refused_text(
+    alloc: Global,
+    lines: &Lines,
+    refusal: &Refusal,
+    form: Form,
+) -> Result<Vec<u8>, NoMemory>
+    ensures { IfOk result (λ text. form ≡ Form.Text → text.items ≡ refusal_text lines.now refusal.now.line refusal.now.code) }
+{
+    match form {
+        Form::Data => refusal_data(alloc, lines, refusal),
+        Form::Text | Form::Drawing | Form::Join => explain_refusal(alloc, lines, refusal),
+    }
+}
+
+/// Explains a refused input.
+fn answer_refusal(
+    alloc: Global,
+    lines: &Lines,
+    refusal: &Refusal,
+    form: Form,
+) -> Result<Answer, NoMemory>
+    ensures { IfOk result (λ answer. IsRefusalAnswer form lines.now refusal.now answer.text.items answer.status) }
+{
+    let text = refused_text(alloc, lines, refusal, form)?;
+    Ok(Answer {
+        text,
+        status: REFUSED,
+    })
+}
+
+/// Explains an input. `NoMemory` where too little memory is found.
+pub(crate) fn answer_input<W: Watch>(
+    alloc: Global,
+    input: &[u8],
+    form: Form,
+    watch: &mut W,
+) -> Result<Answer, NoMemory>
+    requires { length input.now ≤ INPUT_LIMIT }
+    ensures { IfOk result (λ answer. IsAnswer form input.now answer.text.items answer.status) }
+{
+    watch.begins(Stage::Reading);
+    let lines = Lines::of(alloc, input)?;
+    match read_job(alloc, input) {
+        Ok(job) => answer_job(alloc, &lines, &job, form, watch),
+        Err(JobFault::Refused(refusal)) => answer_refusal(alloc, &lines, &refusal, form),
+        Err(JobFault::NoMemory) => Err(NoMemory),
+    }
+}

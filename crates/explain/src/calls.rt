@@ -1,0 +1,199 @@
+//! Calls: words, files, and where answers go.
+use crate::answers::{Answer, REFUSED, answer_input};
+use crate::files::{InputFault, read_file};
+use crate::progress::Progress;
+use crate::words::{Form, Request, request_of};
+use job_lines::INPUT_LIMIT;
+use joined_files::{ControlFile, joined_input};
+use std::alloc::{AllocError, Global};
+use std::env::Args;
+use std::io::Write;
+use std::rt::Files;
+use std::time::Clock;
+use std::{io, str};
+
+/// The status of a call whose words or files are at fault.
+const FAULT: u8 = 2;
+
+/// Says on standard error what is wrong with a file.
+fn say_fault<R: Eprint>(rt: &R, name: &str, fault: &InputFault) -> u8 {
+    let _ = match fault {
+        InputFault::Failed(error) => eprintln!(rt; "explain: {name}: {error}"),
+        InputFault::TooLong => eprintln!(rt; "explain: {name}: more than 8388608 bytes"),
+        InputFault::NoMemory => eprintln!(rt; "explain: {name}: out of memory"),
+    };
+    FAULT
+}
+
+/// Says on standard error why a refused input is not drawn.
+fn say_undrawn<R: Eprint>(rt: &R, answer: &Answer) -> u8 {
+    if let Ok(text) = str::from_utf8(answer.text.as_slice()) {
+        let _ = rt.eprint(text);
+    }
+    answer.status
+}
+
+/// Writes a text to standard output, and gives this status. Where nobody takes it, the call ends without a word.
+fn write_text<R: Print>(rt: &R, text: &[u8], status: u8) -> u8 {
+    match io::writer(rt).write_all(text) {
+        Ok(()) => status,
+        Err(_) => FAULT,
+    }
+}
+
+/// Writes an answer in this form.
+fn write_answer<R: Print + Eprint>(rt: &R, answer: &Answer, form: Form) -> u8 {
+    if form == Form::Drawing && answer.status == REFUSED {
+        say_undrawn(rt, answer)
+    } else {
+        write_text(rt, answer.text.as_slice(), answer.status)
+    }
+}
+
+/// Explains the file of this name. Progress is told where that is wanted.
+fn answer_file<R: Files + Input + Print + Eprint + Clock>(
+    rt: &R,
+    alloc: Global,
+    name: &str,
+    form: Form,
+    is_told: bool,
+) -> u8 {
+    let input = match read_file(rt, alloc, name) {
+        Ok(input) => input,
+        Err(fault) => return say_fault(rt, name, &fault),
+    };
+    if input.len() > INPUT_LIMIT {
+        return say_fault(rt, name, &InputFault::TooLong);
+    }
+    let mut watch = Progress::start(rt, is_told);
+    match answer_input(alloc, input.as_slice(), form, &mut watch) {
+        Ok(answer) => write_answer(rt, &answer, form),
+        Err(_) => say_fault(rt, name, &InputFault::NoMemory),
+    }
+}
+
+/// Reads files of these names. Where one is at fault, that is said, and its place is that of the fault.
+fn read_files<R: Files + Input + Eprint>(
+    rt: &R,
+    alloc: Global,
+    names: &[&str],
+) -> Result<Vec<Vec<u8>>, u8> {
+    let mut inputs = Vec::new(alloc);
+    for name in names {
+        match read_file(rt, alloc, name) {
+            Ok(input) => {
+                if inputs.push(input).is_err() {
+                    return Err(say_fault(rt, name, &InputFault::NoMemory));
+                }
+            }
+            Err(fault) => return Err(say_fault(rt, name, &fault)),
+        }
+    }
+    Ok(inputs)
+}
+
+/// The files of a control by their names and what they hold; the first, which is the job list, is none of them.
+fn control_files<'a>(
+    alloc: Global,
+    names: &[&'a str],
+    inputs: &'a [Vec<u8>],
+) -> Result<Vec<ControlFile<'a>>, AllocError> {
+    let mut files = Vec::new(alloc);
+    for place in 1..names.len().min(inputs.len()) {
+        files.push(ControlFile {
+            path: names[place],
+            bytes: inputs[place].as_slice(),
+        })?;
+    }
+    Ok(files)
+}
+
+/// Joins a job list and files of a control.
+fn join_inputs(alloc: Global, names: &[&str], inputs: &[Vec<u8>]) -> Result<Vec<u8>, InputFault> {
+    let Ok(files) = control_files(alloc, names, inputs) else {
+        return Err(InputFault::NoMemory);
+    };
+    let list = match inputs.first() {
+        Some(list) => list.as_slice(),
+        None => &[],
+    };
+    match joined_input(alloc, list, files.as_slice()) {
+        Ok(text) => Ok(text),
+        Err(_) => Err(InputFault::NoMemory),
+    }
+}
+
+/// Joins a job list and files of a control, and writes the input.
+fn join_files<R: Files + Input + Print + Eprint>(rt: &R, alloc: Global, names: &[&str]) -> u8 {
+    let inputs = match read_files(rt, alloc, names) {
+        Ok(inputs) => inputs,
+        Err(status) => return status,
+    };
+    match join_inputs(alloc, names, inputs.as_slice()) {
+        Ok(text) => write_text(rt, text.as_slice(), 0),
+        Err(fault) => say_fault(rt, "-", &fault),
+    }
+}
+
+/// Answers a request.
+fn answer_request<R: Files + Input + Print + Eprint + Clock>(
+    rt: &R,
+    alloc: Global,
+    request: &Request,
+    is_told: bool,
+) -> u8 {
+    if request.form == Form::Join {
+        return join_files(rt, alloc, request.files.as_slice());
+    }
+    match request.files.as_slice() {
+        [name] => answer_file(rt, alloc, name, request.form, is_told),
+        _ => {
+            let _ = eprintln!(rt; "explain: one file is explained at a time");
+            FAULT
+        }
+    }
+}
+
+/// Answers words.
+fn answer_words<R: Files + Input + Print + Eprint + Clock>(
+    rt: &R,
+    alloc: Global,
+    words: &[&str],
+    is_told: bool,
+) -> u8 {
+    match request_of(alloc, words) {
+        Ok(request) => answer_request(rt, alloc, &request, is_told),
+        Err(error) => {
+            let _ = error.print(rt);
+            if error.use_stderr() { FAULT } else { 0 }
+        }
+    }
+}
+
+/// The words as texts.
+fn texts_of<'a>(alloc: Global, words: &'a [String]) -> Result<Vec<&'a str>, AllocError> {
+    words.iter().map(|word| word.as_str()).collect(alloc)
+}
+
+/// Answers the arguments of the command line. Progress is told where that is wanted.
+pub(crate) fn answer_arguments<R: Files + Input + Print + Eprint + Clock>(
+    rt: &R,
+    alloc: Global,
+    arguments: io::Result<Args>,
+    is_told: bool,
+) -> u8 {
+    let words: Result<Vec<String>, AllocError> = match arguments {
+        Ok(arguments) => arguments.collect(alloc),
+        Err(error) => {
+            let _ = eprintln!(rt; "explain: {error}");
+            return FAULT;
+        }
+    };
+    let Ok(words) = words else {
+        return FAULT;
+    };
+    match texts_of(alloc, &words) {
+        Ok(texts) => answer_words(rt, alloc, texts.as_slice(), is_told),
+        Err(_) => FAULT,
+    }
+}

@@ -1,0 +1,195 @@
+//! A judged job, explained.
+ghost use Rattle.std.specs.Prelude.{◌≡◌, ◌++◌, ◌^◌, ◌<◌, All, IfOk, length};
+ghost use Rattle.channel_machine.specs.StartStates.{start_of};
+ghost use Rattle.explain.specs.Clashes.{IsMetText};
+ghost use Rattle.explain.specs.Explained as model;
+ghost use Rattle.explain.specs.Headlines.{headline};
+ghost use Rattle.explain.specs.Numbers.{IsUndecidedText};
+ghost use Rattle.explain.specs.Room.{IsYesText};
+ghost use Rattle.job_types.specs.SoundJob.{BlocksFit, IsSoundJob};
+ghost use Rattle.met_boxes.specs.Judged.{IsTold};
+ghost use Rattle.order_clocks.specs.Tells.{is_before_in};
+ghost use Rattle.protection_zones.specs.Overlaps.{compared_pairs};
+ghost use Rattle.protection_zones.specs.ZoneBoxes.{IsFit};
+ghost use Rattle.stop_reasons.specs.Alarms.{alarm_text};
+ghost use Rattle.stop_reasons.specs.RaceTexts.{race_text};
+ghost use Rattle.stop_reasons.specs.Stuck.{last_board, stuck_text};
+ghost use Rattle.sync_types.specs.Boards.{first_board};
+ghost use Rattle.sync_types.specs.Runs.{ComesFrom};
+ghost use Rattle.sync_types.specs.Turns.{AreEntries};
+
+use crate::clash_text::no_told;
+use crate::headlines::say_headline;
+use crate::judged::Judged;
+use crate::other_texts::{undecided_told, yes_told};
+use alarm_states::{AlarmState, alarm_state, say_state};
+use axis_sets::ChannelId;
+use growing_text::Text;
+use nc_faults::NoMemory;
+use std::alloc::Global;
+use stop_reasons::{say_alarm, say_race, say_stuck};
+use sync_types::{Race, Verdict};
+use told_places::Told;
+
+/// The explanation of RACE.
+fn race_explained(alloc: Global, judged: &Judged, race: &Race) -> Result<Vec<u8>, NoMemory>
+    ensures { IfOk result (λ text. text.items ≡ race_text judged.now.lines.now judged.now.job.now race.now) }
+{
+    let mut text = Text::new(alloc);
+    say_race(&mut text, &judged.told(), race);
+    text.finish()
+}
+
+/// The explanation of STUCK of this channel.
+fn stuck_explained(alloc: Global, judged: &Judged, channel: ChannelId) -> Result<Vec<u8>, NoMemory>
+    requires few { length judged.now.run.now.entries < 2 ^ 32 }
+    requires comes { ComesFrom judged.now.start.now judged.now.run.now }
+    ensures { IfOk result (λ text. text.items
+        ≡ stuck_text judged.now.lines.now judged.now.job.now judged.now.run.now (last_board judged.now.start.now judged.now.run.now) channel) }
+{
+    let mut text = Text::new(alloc);
+    say_stuck(&mut text, &judged.told(), judged.start, channel);
+    text.finish()
+}
+
+/// Says what an alarmed block found; nothing where that is not known.
+fn say_some(text: &mut Text, told: &Told, state: &Option<AlarmState>)
+    ensures { text.new ≡ text.old ++ model.some_text told.now.lines.now told.now.job.now state.now }
+{
+    if let Some(state) = state {
+        say_state(text, told, state);
+    }
+}
+
+/// What an alarmed block found, as a text; nothing where that is not known.
+fn state_told(
+    alloc: Global,
+    judged: &Judged,
+    state: &Option<AlarmState>,
+) -> Result<Vec<u8>, NoMemory>
+    ensures { IfOk result (λ text. text.items ≡ model.some_text judged.now.lines.now judged.now.job.now state.now) }
+{
+    let mut text = Text::new(alloc);
+    say_some(&mut text, &judged.told(), state);
+    text.finish()
+}
+
+/// Says which channel's block found something, and what.
+#[tactic(auto, unfolding(crate::specs::Explained::one_found_text))]
+fn say_one_found(text: &mut Text, channel: ChannelId, found: &[u8])
+    ensures { text.new ≡ text.old ++ model.one_found_text channel found.now }
+{
+    text.say("What the block of channel ");
+    text.number(u64::from(channel.number));
+    text.say(" found\n");
+    text.bytes(found);
+}
+
+/// Says what the alarmed block of a channel found; nothing where that is nothing.
+#[tactic(auto, unfolding(crate::specs::Explained::found_text))]
+fn say_found(text: &mut Text, channel: ChannelId, found: &[u8])
+    ensures { text.new ≡ text.old ++ model.found_text channel found.now }
+{
+    if !found.is_empty() {
+        say_one_found(text, channel, found);
+    }
+}
+
+/// The explanation of ALARM of this channel, whose block found this.
+fn alarm_told(
+    alloc: Global,
+    judged: &Judged,
+    channel: ChannelId,
+    found: &[u8],
+) -> Result<Vec<u8>, NoMemory>
+    requires few { length judged.now.run.now.entries < 2 ^ 32 }
+    requires comes { ComesFrom judged.now.start.now judged.now.run.now }
+    ensures { IfOk result (λ text. text.items
+        ≡ alarm_text judged.now.lines.now judged.now.job.now judged.now.run.now (last_board judged.now.start.now judged.now.run.now) channel
+        ++ model.found_text channel found.now) }
+{
+    let mut text = Text::new(alloc);
+    say_alarm(&mut text, &judged.told(), judged.start, channel);
+    say_found(&mut text, channel, found);
+    text.finish()
+}
+
+/// The explanation of ALARM of this channel: why alarms stop channels, and what the block of this one found.
+fn alarm_explained(alloc: Global, judged: &Judged, channel: ChannelId) -> Result<Vec<u8>, NoMemory>
+    requires sound { IsSoundJob judged.now.job.now }
+    requires blocks { BlocksFit judged.now.job.now }
+    requires few { length judged.now.run.now.entries < 2 ^ 32 }
+    requires comes { ComesFrom judged.now.start.now judged.now.run.now }
+    requires made { AreEntries (first_board (start_of judged.now.job.now)) judged.now.run.now.entries }
+    ensures { IfOk result (λ text. model.IsAlarmText judged.now.lines.now judged.now.job.now judged.now.start.now judged.now.run.now channel text.items) }
+{
+    let state = alarm_state(alloc, judged.job, judged.run, channel)?;
+    let found = state_told(alloc, judged, &state)?;
+    alarm_told(alloc, judged, channel, found.as_slice())
+}
+
+/// A verdict in one line, and what stands after it.
+fn headed(alloc: Global, verdict: &Verdict, body: &[u8]) -> Result<Vec<u8>, NoMemory>
+    ensures { IfOk result (λ text. text.items ≡ headline verdict.now ++ body.now) }
+{
+    let mut text = Text::new(alloc);
+    say_headline(&mut text, verdict);
+    text.bytes(body);
+    text.finish()
+}
+
+/// The explanation of NO.
+fn no_explained(alloc: Global, judged: &Judged) -> Result<Vec<u8>, NoMemory>
+    requires sound { IsSoundJob judged.now.job.now }
+    requires fit { All (All IsFit) judged.now.run.now.items }
+    ensures { IfOk result (λ text. model.IsHeaded (headline judged.now.verdict.now)
+        (IsMetText judged.now.lines.now judged.now.job.now judged.now.run.now judged.now.met.now) text.items) }
+{
+    let body = no_told(alloc, judged)?;
+    headed(alloc, judged.verdict, body.as_slice())
+}
+
+/// The explanation of UNDECIDED.
+fn undecided_explained(alloc: Global, judged: &Judged) -> Result<Vec<u8>, NoMemory>
+    requires whole { IsTold judged.now.job.now judged.now.run.now judged.now.stretches.now judged.now.clocks.now }
+    ensures { IfOk result (λ text. model.IsHeaded (headline judged.now.verdict.now)
+        (IsUndecidedText (compared_pairs (is_before_in judged.now.clocks.now.rows) judged.now.job.now judged.now.stretches.now)) text.items) }
+{
+    let body = undecided_told(alloc, judged)?;
+    headed(alloc, judged.verdict, body.as_slice())
+}
+
+/// The explanation of YES.
+fn yes_explained(alloc: Global, judged: &Judged) -> Result<Vec<u8>, NoMemory>
+    requires sound { IsSoundJob judged.now.job.now }
+    requires whole { IsTold judged.now.job.now judged.now.run.now judged.now.stretches.now judged.now.clocks.now }
+    requires fit { All (All IsFit) judged.now.run.now.items }
+    ensures { IfOk result (λ text. model.IsHeaded (headline judged.now.verdict.now)
+        (IsYesText judged.now.lines.now judged.now.job.now judged.now.run.now
+        (compared_pairs (is_before_in judged.now.clocks.now.rows) judged.now.job.now judged.now.stretches.now)) text.items) }
+{
+    let body = yes_told(alloc, judged)?;
+    headed(alloc, judged.verdict, body.as_slice())
+}
+
+/// The explanation of the verdict on a judged job, in plain text: the verdict in one line, and why.
+pub(crate) fn explain(alloc: Global, judged: &Judged) -> Result<Vec<u8>, NoMemory>
+    requires sound { IsSoundJob judged.now.job.now }
+    requires blocks { BlocksFit judged.now.job.now }
+    requires whole { IsTold judged.now.job.now judged.now.run.now judged.now.stretches.now judged.now.clocks.now }
+    requires fit { All (All IsFit) judged.now.run.now.items }
+    requires few { length judged.now.run.now.entries < 2 ^ 32 }
+    requires comes { ComesFrom judged.now.start.now judged.now.run.now }
+    requires made { AreEntries (first_board (start_of judged.now.job.now)) judged.now.run.now.entries }
+    ensures { IfOk result (λ text. model.IsExplained judged.now.lines.now judged.now.job.now judged.now.start.now judged.now.run.now judged.now.clocks.now
+        judged.now.stretches.now judged.now.met.now judged.now.verdict.now text.items) }
+{
+    match judged.verdict {
+        Verdict::Race(race) => race_explained(alloc, judged, race),
+        Verdict::Alarm(channel, _) => alarm_explained(alloc, judged, *channel),
+        Verdict::Stuck(channel, _) => stuck_explained(alloc, judged, *channel),
+        Verdict::Undecided { .. } => undecided_explained(alloc, judged),
+        Verdict::No(_, _) => no_explained(alloc, judged),
+        Verdict::Yes => yes_explained(alloc, judged),
+    }
+}

@@ -1,0 +1,163 @@
+//! The verdicts YES and UNDECIDED, said.
+ghost use Rattle.std.specs.Prelude.{◌≡◌, ◌++◌, All, IfOk};
+ghost use Rattle.std.specs.List.{flat_map};
+ghost use Rattle.explain.specs.Numbers as numbers;
+ghost use Rattle.explain.specs.Room as room;
+ghost use Rattle.job_types.specs.SoundJob.{IsSoundJob};
+ghost use Rattle.met_boxes.specs.Judged.{IsTold};
+ghost use Rattle.order_clocks.specs.Tells.{is_before_in};
+ghost use Rattle.protection_zones.specs.Overlaps.{compared_pairs};
+ghost use Rattle.protection_zones.specs.ZoneBoxes.{IsFit};
+
+use crate::judged::Judged;
+use growing_text::Text;
+use met_boxes::{Near, PairNumber, nearest_of, pair_numbers};
+use nc_faults::NoMemory;
+use std::alloc::Global;
+use told_places::{Told, say_place};
+
+/// By how much two boxes are apart that reach so far into each other.
+pub(crate) fn apart_of(reach: i64) -> i64
+    ensures { result ≡ room.apart_of reach }
+{
+    (0i64).saturating_sub(reach)
+}
+
+/// By how much the margin could be greater where boxes are so far apart: both grow at the ends that face each other.
+#[tactic(auto, unfolding(crate::specs::Room::margin_left))]
+pub(crate) fn margin_left(apart: i64) -> i64
+    ensures { result ≡ room.margin_left apart }
+{
+    if apart <= 0 { 0 } else { (apart - 1) / 2 }
+}
+
+/// Says two groups.
+#[tactic(auto, unfolding(crate::specs::Room::groups_text))]
+fn say_two_groups(text: &mut Text, groups: (u8, u8))
+    ensures { text.new ≡ text.old ++ room.groups_text groups }
+{
+    text.say("Groups ");
+    text.number(u64::from(groups.0));
+    text.say(" and ");
+    text.number(u64::from(groups.1));
+}
+
+/// Says how near they come, and by how much the margin could be greater.
+#[tactic(auto, unfolding(crate::specs::Room::room_text))]
+fn say_room(text: &mut Text, apart: i64, left: i64)
+    ensures { text.new ≡ text.old ++ room.room_text apart left }
+{
+    text.say(" come as near as ");
+    text.millimetres(apart);
+    text.say(" mm: MARGIN could be ");
+    text.millimetres(left);
+    text.say(" greater.\n");
+}
+
+/// Says how near two groups come to each other, and where.
+#[tactic(auto, unfolding(crate::specs::Room::near_text))]
+fn say_near(text: &mut Text, told: &Told, near: &Near)
+    ensures { text.new ≡ text.old ++ room.near_text told.now.lines.now told.now.job.now told.now.run.now near.now }
+{
+    say_two_groups(text, near.groups);
+    let apart = apart_of(near.reach);
+    say_room(text, apart, margin_left(apart));
+    say_place(text, told, &near.left);
+    say_place(text, told, &near.right);
+}
+
+/// Says how near each two groups come to each other.
+fn say_all_near(text: &mut Text, told: &Told, rows: &[Near])
+    ensures { text.new ≡ text.old ++ flat_map (room.near_text told.now.lines.now told.now.job.now told.now.run.now) rows.now }
+{
+    for near in rows {
+        say_near(text, told, near);
+    }
+}
+
+/// Says that no boxes are compared, where that is so.
+fn say_none(text: &mut Text, rows: &[Near])
+    ensures { text.new ≡ text.old ++ room.none_text rows.now }
+{
+    if rows.is_empty() {
+        text.say(
+            "No boxes are compared: the programs keep all of them apart in time, or the job has one group.\n",
+        );
+    }
+}
+
+/// Says how near each two groups come to each other, or that no boxes are compared.
+#[tactic(auto, unfolding(crate::specs::Room::nears_text))]
+fn say_nears(text: &mut Text, told: &Told, rows: &[Near])
+    ensures { text.new ≡ text.old ++ room.nears_text told.now.lines.now told.now.job.now told.now.run.now rows.now }
+{
+    say_none(text, rows);
+    say_all_near(text, told, rows);
+}
+
+/// What is said of the verdict YES: how near the compared boxes of each two groups come.
+pub(crate) fn yes_told(alloc: Global, judged: &Judged) -> Result<Vec<u8>, NoMemory>
+    requires sound { IsSoundJob judged.now.job.now }
+    requires whole { IsTold judged.now.job.now judged.now.run.now judged.now.stretches.now judged.now.clocks.now }
+    requires fit { All (All IsFit) judged.now.run.now.items }
+    ensures { IfOk result (λ text. room.IsYesText judged.now.lines.now judged.now.job.now judged.now.run.now
+        (compared_pairs (is_before_in judged.now.clocks.now.rows) judged.now.job.now judged.now.stretches.now) text.items) }
+{
+    let rows = nearest_of(
+        alloc,
+        judged.job,
+        judged.run,
+        judged.stretches,
+        judged.clocks,
+    )?;
+    let mut text = Text::new(alloc);
+    say_nears(&mut text, &judged.told(), rows.as_slice());
+    text.finish()
+}
+
+/// Says how many pairs of two zones are to be compared.
+#[tactic(auto, unfolding(crate::specs::Numbers::number_text))]
+fn say_number(text: &mut Text, row: &PairNumber)
+    ensures { text.new ≡ text.old ++ numbers.number_text row.now }
+{
+    text.say("  zone ");
+    text.number(u64::from(row.zones.0.number));
+    text.say(" and zone ");
+    text.number(u64::from(row.zones.1.number));
+    text.say(": ");
+    text.number(row.count);
+    text.say("\n");
+}
+
+/// Says how many pairs of each two zones are to be compared.
+fn say_each_number(text: &mut Text, rows: &[PairNumber])
+    ensures { text.new ≡ text.old ++ flat_map numbers.number_text rows.now }
+{
+    for row in rows {
+        say_number(text, row);
+    }
+}
+
+/// Says how many pairs of each two zones are to be compared, and what to do.
+#[tactic(auto, unfolding(crate::specs::Numbers::numbers_text))]
+fn say_numbers(text: &mut Text, rows: &[PairNumber])
+    ensures { text.new ≡ text.old ++ numbers.numbers_text rows.now }
+{
+    text.say("Of each two zones, the most first:\n");
+    say_each_number(text, rows);
+    text.say(
+        "What to do: a line BUDGET with this count, up to 100000000; or marks that put the programs in an order, so that fewer blocks can come at one time.\n",
+    );
+}
+
+/// What is said of the verdict UNDECIDED: how many pairs of each two zones are to be compared, and what to do.
+pub(crate) fn undecided_told(alloc: Global, judged: &Judged) -> Result<Vec<u8>, NoMemory>
+    requires whole { IsTold judged.now.job.now judged.now.run.now judged.now.stretches.now judged.now.clocks.now }
+    ensures { IfOk result (λ text. numbers.IsUndecidedText
+        (compared_pairs (is_before_in judged.now.clocks.now.rows) judged.now.job.now judged.now.stretches.now) text.items) }
+{
+    let rows = pair_numbers(alloc, judged.job, judged.stretches, judged.clocks)?;
+    let mut text = Text::new(alloc);
+    say_numbers(&mut text, rows.as_slice());
+    text.finish()
+}
