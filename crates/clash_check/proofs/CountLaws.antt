@@ -127,7 +127,7 @@ count_with_all before one two left =
     nothing : (rights : List StretchView) → sum_by (λ (right : StretchView). 0) rights ≡ 0
     nothing rights = let all = sum_by-constant 0 rights in omega arith
 
-count_zones : (before : Order) (one two : ZoneTime) → length (pairs_of_zones before one two) ≡ sum_by (count_against before two.stretches) one.stretches
+pub count_zones : (before : Order) (one two : ZoneTime) → length (pairs_of_zones before one two) ≡ sum_by (count_against before two.stretches) one.stretches
 unfolding pairs_of_zones
 count_zones before one two =
     length-flat_map (λ (left : StretchView). flat_map (λ right. stretch_pairs before one.zone left two.zone right) two.stretches) one.stretches

@@ -5,6 +5,7 @@ pub mod FirstLaws
 pub mod KeptLaws
 pub mod MeetLaws
 pub mod NearLaws
+pub mod NumberLaws
 pub mod PairLaws
 pub mod PassedLaws
 pub mod PlaceLaws

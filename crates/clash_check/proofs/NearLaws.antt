@@ -10,7 +10,7 @@ use Rattle.std.proofs.lemmas.List.Sums.{sum_by-cons}
 use Rattle.clash_check.proofs.AscentLaws.{part_is}
 use Rattle.clash_check.specs.Ascents.{leading, PassFirst, passes, near, IsTimed}
 use Rattle.clash_check.specs.FirstAnswer.{first_some}
-use Rattle.clash_check.specs.Judged.{IsTold}
+use Rattle.protection_zones.specs.Told.{IsTold}
 use Rattle.clash_check.specs.Meetings.{Case, Names, first_against, first_in_stretches}
 use Rattle.clash_check.specs.PairCounts.{count_against, count_in_stretches}
 use Rattle.job_types.specs.Job.{JobView}

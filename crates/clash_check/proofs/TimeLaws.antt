@@ -16,18 +16,18 @@ use Rattle.job_types.specs.declared.job.ZoneLine.{ZoneLine}
 use Rattle.protection_zones.specs.Overlaps.{Order, ZoneTime}
 use Rattle.protection_zones.specs.Stretches.{StretchView}
 
-abbrev time_of : List (List StretchView) → ℕ → ZoneLine → ZoneTime
+abbrev pub time_of : List (List StretchView) → ℕ → ZoneLine → ZoneTime
 time_of lists place zone = record { zone = zone; stretches = get_or lists place [] }
 
 -- the zones from a place on: that of the place, if there is one, and those from the next
-times_at : (zones : List ZoneLine) (lists : List (List StretchView)) (place : ℕ) (zone : ZoneLine) → place < length lists → slice_get zones place ≡ Some zone
+pub times_at : (zones : List ZoneLine) (lists : List (List StretchView)) (place : ℕ) (zone : ZoneLine) → place < length lists → slice_get zones place ≡ Some zone
     → times_in (drop place zones) (drop place lists) ≡ time_of lists place zone ∷ times_in (drop (suc place) zones) (drop (suc place) lists)
 times_at [] lists place zone within found = absurd cc
 times_at (z ∷ zones) [] place zone within found = absurd (omega arith)
 times_at (z ∷ zones) (l ∷ lists) zero zone within found = let same : z ≡ zone = cc in rw same refl
 times_at (z ∷ zones) (l ∷ lists) (suc place) zone within found = times_at zones lists place zone (omega arith) found
 
-no_times : (zones : List ZoneLine) (lists : List (List StretchView)) (place : ℕ) → slice_get zones place ≡ None → times_in (drop place zones) lists ≡ []
+pub no_times : (zones : List ZoneLine) (lists : List (List StretchView)) (place : ℕ) → slice_get zones place ≡ None → times_in (drop place zones) lists ≡ []
 no_times [] lists place none = by_lists lists place
   where
     by_lists : (lists : List (List StretchView)) (place : ℕ) → times_in (drop place []) lists ≡ []
@@ -36,7 +36,7 @@ no_times [] lists place none = by_lists lists place
 no_times (z ∷ zones) lists zero none = absurd cc
 no_times (z ∷ zones) lists (suc place) none = no_times zones lists place none
 
-none_later : (zones : List ZoneLine) (place : ℕ) → slice_get zones place ≡ None → slice_get zones (suc place) ≡ None
+pub none_later : (zones : List ZoneLine) (place : ℕ) → slice_get zones place ≡ None → slice_get zones (suc place) ≡ None
 none_later [] place none = refl
 none_later (z ∷ zones) zero none = absurd cc
 none_later (z ∷ zones) (suc place) none = none_later zones place none

@@ -6,7 +6,7 @@ use Rattle.std.specs.List.{All}
 use Rattle.clash_check.proofs.MeetLaws.{names_of, meetings_are}
 use Rattle.clash_check.specs.Counts.{count_of}
 use Rattle.clash_check.specs.FirstAnswer.{first_some}
-use Rattle.clash_check.specs.Judged.{IsTold}
+use Rattle.protection_zones.specs.Told.{IsTold}
 use Rattle.clash_check.specs.Meetings.{first_in_times, verdict_by_names}
 use Rattle.clash_check.specs.Verdicts.{alarm_by, budget_verdict, meeting_verdict, no_by, or_else, race_verdict, stops_of, stuck_by, verdict_by}
 use Rattle.job_types.specs.Job.{JobView}

@@ -2,10 +2,11 @@ pub mod Ascents
 pub mod Chunks
 pub mod Counts
 pub mod FirstAnswer
-pub mod Judged
 pub mod Keeping
 pub mod Meetings
+pub mod NumberSteps
 pub mod PairCounts
+pub mod PairNumbers
 pub mod Passing
 pub mod PlaceRanges
 pub mod PlainBoxes

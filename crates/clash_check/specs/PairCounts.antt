@@ -1,17 +1,14 @@
 -- Steps. How many pairs of boxes are compared, zone by zone.
-use Rattle.std.specs.Prelude.{ℕ, ◌+◌, ◌*◌, ◌-◌, ◌^◌, ◌==◌, min, if◌then◌else◌, List, [], ◌∷◌, length, slice_get, slice_index_or, sum_by}
+use Rattle.std.specs.Prelude.{ℕ, ◌+◌, ◌*◌, ◌==◌, if◌then◌else◌, List, [], ◌∷◌, length, slice_get, slice_index_or, sum_by}
 use Rattle.std.specs.List.{count_by}
 use Rattle.std.specs.Option.{option_map_or}
+pub use Rattle.clash_check.specs.Counts.{capped}
 use Rattle.clash_check.specs.Times.{times_from}
 use Rattle.job_types.specs.Job.{JobView}
 use Rattle.job_types.specs.Zones.{zones_in_order}
 use Rattle.protection_zones.specs.Overlaps.{Order, ZoneTime, may_overlap, share_channel, share_place}
 use Rattle.protection_zones.specs.Stretches.{StretchView}
 use Rattle.protection_zones.specs.declared.stretches.ZoneBox.{ZoneBox}
-
--- a number, or the greatest that is counted
-abbrev pub capped : ℕ → ℕ
-capped n = min n (2 ^ 64 - 1)
 
 -- the pairs of boxes with a place in common
 unfoldable pub count_sharing : List ZoneBox → List ZoneBox → ℕ

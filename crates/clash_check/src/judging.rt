@@ -2,7 +2,7 @@
 ghost use Rattle.std.specs.Prelude.{◌≡◌, ◌<◌, ◌≤◌, ◌^◌, All, IfOk, length, sum_by};
 ghost use Rattle.axis_sets.specs.declared.limits.TheConstants.{CHANNEL_LIMIT};
 ghost use Rattle.clash_check.specs.FirstAnswer.{first_some};
-ghost use Rattle.clash_check.specs.Judged.{IsTold};
+ghost use Rattle.protection_zones.specs.Told.{IsTold};
 ghost use Rattle.clash_check.specs.Meetings.{verdict_by_names};
 ghost use Rattle.clash_check.specs.Verdicts as model;
 ghost use Rattle.job_types.specs.SoundJob.{IsSoundJob};

@@ -5,6 +5,7 @@ mod ascents;
 mod judging;
 mod meetings;
 mod nearby;
+mod numbers;
 mod overlaps;
 mod pair_counts;
 mod place_ranges;
@@ -15,4 +16,5 @@ mod zone_pairs;
 
 pub use box_tree::plain_first;
 pub use judging::{judge, judge_shared};
+pub use numbers::{PairNumber, pair_numbers};
 pub use pair_counts::count;

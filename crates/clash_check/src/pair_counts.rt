@@ -4,7 +4,7 @@ ghost use Rattle.std.specs.List.{count_by};
 ghost use Rattle.clash_check.specs.Ascents as orders;
 ghost use Rattle.clash_check.specs.Ascents.{IsTimed};
 ghost use Rattle.clash_check.specs.Counts.{count_of};
-ghost use Rattle.clash_check.specs.Judged.{IsTold};
+ghost use Rattle.protection_zones.specs.Told.{IsTold};
 ghost use Rattle.clash_check.specs.PairCounts as model;
 ghost use Rattle.clash_check.specs.PlaceRanges as places;
 ghost use Rattle.clash_check.specs.Times.{lists_in, times_from};
@@ -154,7 +154,7 @@ fn count_ascending(clocks: &Clocks, own: &[Stretch], others: &[Stretch], own_asc
 
 /// The pairs of two zones with these stretches.
 #[tactic(auto, unfolding(crate::specs::PairCounts::count_of_zones))]
-fn count_of_zones(
+pub(crate) fn count_of_zones(
     clocks: &Clocks,
     zone: &ZoneLine,
     own: &[Stretch],

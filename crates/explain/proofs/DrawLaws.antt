@@ -1,6 +1,6 @@
 -- What is drawn is the picture of the run.
-use Rattle.std.proofs.Common.{◌≡◌, ◌∙◌, ℕ, List, length, ◌++◌, ap, take}
-use Rattle.std.specs.Prelude.{◌||◌, nat_lt, option_copied, IfOk, Result, Ok, Err, Option, Vec}
+use Rattle.std.proofs.Common.{◌≡◌, ◌∙◌, ℕ, length, ◌++◌, ap, take}
+use Rattle.std.specs.Prelude.{◌||◌, nat_lt, IfOk, Result, Ok, Err, Option, Vec}
 use Rattle.std.specs.Global.{Global}
 use Rattle.explain.specs.Drawn.{IsDrawn}
 use Rattle.job_types.specs.Job.{JobView}

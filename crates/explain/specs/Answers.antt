@@ -42,10 +42,11 @@ pub record IsJobAnswer (form : Form) (input : List ℕ) (job : JobView) (text : 
   pub told : form ≡ Text → IsExplained input job (start_of job) run clocks stretches met verdict text
   pub drawn : form ≡ Drawing → IsDrawn job run stretches (slice_get met 0) text
 
--- the answer on a refused input: the text tells the refusal
+-- the answer on a refused input: the text tells the refusal; it does so too where a drawing was asked for, since there is nothing to draw
 pub record IsRefusalAnswer (form : Form) (input : List ℕ) (refusal : Refusal) (text : List ℕ) (status : ℕ) : Type 0 where
   pub status_is : status ≡ 6
   pub told : form ≡ Text → text ≡ refusal_text input refusal.line refusal.code
+  pub undrawn : form ≡ Drawing → text ≡ refusal_text input refusal.line refusal.code
 
 abbrev pub IsAnswerTo : Result JobView Refusal → Form → List ℕ → List ℕ → ℕ → Type 0
 IsAnswerTo (Ok job) form input text status = IsJobAnswer form input job text status

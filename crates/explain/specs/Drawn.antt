@@ -1,5 +1,5 @@
 -- Meaning. What is drawn of a judged job.
-use Rattle.std.specs.Prelude.{◌≡◌, ◌++◌, ◌||◌, ℕ, List, length, nat_lt, slice_get, take, Option}
+use Rattle.std.specs.Prelude.{◌≡◌, ◌++◌, ◌||◌, ℕ, List, length, nat_lt, take, Option}
 use Rattle.job_types.specs.Job.{JobView}
 use Rattle.picture_views.specs.declared.shapes.Picture.{Picture}
 use Rattle.protection_zones.specs.Stretches.{StretchesView}

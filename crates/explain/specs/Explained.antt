@@ -5,6 +5,7 @@ use Rattle.alarm_states.specs.Alarms.{alarm_line}
 use Rattle.alarm_states.specs.States.{IsToldOf}
 use Rattle.alarm_states.specs.Texts.{state_text}
 use Rattle.alarm_states.specs.declared.state.AlarmState.{AlarmState}
+use Rattle.clash_check.specs.PairNumbers.{numbers_of}
 use Rattle.explain.specs.Clashes.{IsMetText}
 use Rattle.explain.specs.Headlines.{headline}
 use Rattle.explain.specs.Numbers.{IsUndecidedText}
@@ -54,6 +55,6 @@ IsExplained input job start run clocks stretches met (Race race) text = text ≡
 IsExplained input job start run clocks stretches met (Stuck channel line) text = text ≡ stuck_text input job run (last_board start run) channel
 IsExplained input job start run clocks stretches met (Alarm channel alarm) text = IsAlarmText input job start run channel text
 IsExplained input job start run clocks stretches met (Undecided count budget) text =
-    IsHeaded (headline (Undecided count budget)) (IsUndecidedText (compared_pairs (is_before_in clocks.rows) job stretches)) text
+    IsHeaded (headline (Undecided count budget)) (IsUndecidedText (numbers_of (is_before_in clocks.rows) job stretches)) text
 IsExplained input job start run clocks stretches met (No left right) text = IsHeaded (headline (No left right)) (IsMetText input job run met) text
 IsExplained input job start run clocks stretches met Yes text = IsHeaded (headline Yes) (IsYesText input job run (compared_pairs (is_before_in clocks.rows) job stretches)) text

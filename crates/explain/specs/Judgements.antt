@@ -2,7 +2,6 @@
 use Rattle.std.specs.Prelude.{◌≡◌, ◌<◌, ◌^◌, All, List, [], ◌∷◌, length}
 use Rattle.channel_machine.specs.Scripts.{IsRunInOrder}
 use Rattle.channel_machine.specs.StartStates.{start_of}
-use Rattle.clash_check.specs.Judged.{IsTold}
 use Rattle.clash_check.specs.Verdicts.{verdict_by}
 use Rattle.job_types.specs.Job.{JobView}
 use Rattle.met_boxes.specs.Meetings.{meetings_of}
@@ -10,6 +9,7 @@ use Rattle.order_clocks.specs.Clocked.{ClocksView}
 use Rattle.order_clocks.specs.Tells.{is_before_in}
 use Rattle.protection_zones.specs.Overlaps.{Order}
 use Rattle.protection_zones.specs.Stretches.{StretchesView}
+use Rattle.protection_zones.specs.Told.{IsTold}
 use Rattle.protection_zones.specs.ZoneBoxes.{IsFit}
 use Rattle.sync_types.specs.Views.{RunView}
 use Rattle.sync_types.specs.declared.verdicts.PlaceName.{PlaceName}

@@ -2,9 +2,8 @@
 use Rattle.std.specs.Prelude.{◌≡◌, ℕ, List, ◌++◌, codes}
 use Rattle.std.specs.Fmt.{decimal}
 use Rattle.std.specs.List.{flat_map}
-use Rattle.met_boxes.specs.PairNumbers.{AreNumbersByCount}
-use Rattle.met_boxes.specs.declared.numbers.PairNumber.{PairNumber}
-use Rattle.protection_zones.specs.Overlaps.{Pair}
+use Rattle.clash_check.specs.PairNumbers.{AreByCount}
+use Rattle.clash_check.specs.declared.numbers.PairNumber.{PairNumber}
 
 -- how many of two zones
 unfoldable pub number_text : PairNumber → List ℕ
@@ -15,8 +14,8 @@ unfoldable pub numbers_text : List PairNumber → List ℕ
 numbers_text rows = codes "Of each two zones, the most first:\n" ++ (flat_map number_text rows
     ++ codes "What to do: a line BUDGET with this count, up to 100000000; or marks that put the programs in an order, so that fewer blocks can come at one time.\n")
 
--- the numbers of these pairs by their zones
-pub record IsUndecidedText (pairs : List Pair) (text : List ℕ) : Type 0 where
+-- these numbers, the most first
+pub record IsUndecidedText (numbers : List PairNumber) (text : List ℕ) : Type 0 where
   pub rows : List PairNumber
-  pub numbers : AreNumbersByCount pairs rows
+  pub by_count : AreByCount numbers rows
   pub told : text ≡ numbers_text rows

@@ -8,7 +8,7 @@ ghost use Rattle.explain.specs.Judgements.{IsExplainedBy};
 ghost use Rattle.input_lines.specs.Refusals.{refusal_text};
 ghost use Rattle.job_lines.specs.declared.limits.TheConstants.{DEPTH_LIMIT, INPUT_LIMIT};
 ghost use Rattle.job_types.specs.SoundJob.{BlocksFit, IsSoundJob};
-ghost use Rattle.met_boxes.specs.Judged.{IsTold};
+ghost use Rattle.protection_zones.specs.Told.{IsTold};
 ghost use Rattle.protection_zones.specs.ZoneBoxes.{IsFit};
 ghost use Rattle.sync_types.specs.Boards.{first_board};
 ghost use Rattle.sync_types.specs.Runs.{ComesFrom};
@@ -89,7 +89,7 @@ fn text_of(alloc: Global, judged: &Judged, form: Form) -> Result<Vec<u8>, NoMemo
         → IsDrawn judged.now.job.now judged.now.run.now judged.now.stretches.now (slice_get judged.now.met.now 0) text.items) }
 {
     match form {
-        Form::Text | Form::Join => explain(alloc, judged),
+        Form::Text => explain(alloc, judged),
         Form::Data => data_of(alloc, judged),
         Form::Drawing => drawing_of(alloc, judged),
     }
@@ -154,11 +154,12 @@ fn refused_text(
     refusal: &Refusal,
     form: Form,
 ) -> Result<Vec<u8>, NoMemory>
-    ensures { IfOk result (λ text. form ≡ Form.Text → text.items ≡ refusal_text lines.now refusal.now.line refusal.now.code) }
+    ensures told { IfOk result (λ text. form ≡ Form.Text → text.items ≡ refusal_text lines.now refusal.now.line refusal.now.code) }
+    ensures undrawn { IfOk result (λ text. form ≡ Form.Drawing → text.items ≡ refusal_text lines.now refusal.now.line refusal.now.code) }
 {
     match form {
         Form::Data => refusal_data(alloc, lines, refusal),
-        Form::Text | Form::Drawing | Form::Join => explain_refusal(alloc, lines, refusal),
+        Form::Text | Form::Drawing => explain_refusal(alloc, lines, refusal),
     }
 }
 

@@ -135,6 +135,23 @@ fn join_files<R: Files + Input + Print + Eprint>(rt: &R, alloc: Global, names: &
     }
 }
 
+/// Explains the only file of these names. Progress is told where that is wanted.
+fn answer_files<R: Files + Input + Print + Eprint + Clock>(
+    rt: &R,
+    alloc: Global,
+    names: &[&str],
+    form: Form,
+    is_told: bool,
+) -> u8 {
+    match names {
+        [name] => answer_file(rt, alloc, name, form, is_told),
+        _ => {
+            let _ = eprintln!(rt; "explain: one file is explained at a time");
+            FAULT
+        }
+    }
+}
+
 /// Answers a request.
 fn answer_request<R: Files + Input + Print + Eprint + Clock>(
     rt: &R,
@@ -142,15 +159,9 @@ fn answer_request<R: Files + Input + Print + Eprint + Clock>(
     request: &Request,
     is_told: bool,
 ) -> u8 {
-    if request.form == Form::Join {
-        return join_files(rt, alloc, request.files.as_slice());
-    }
-    match request.files.as_slice() {
-        [name] => answer_file(rt, alloc, name, request.form, is_told),
-        _ => {
-            let _ = eprintln!(rt; "explain: one file is explained at a time");
-            FAULT
-        }
+    match request {
+        Request::Explain(form, names) => answer_files(rt, alloc, names.as_slice(), *form, is_told),
+        Request::Join(names) => join_files(rt, alloc, names.as_slice()),
     }
 }
 

@@ -1,7 +1,7 @@
 //! The same facts as the text has, as JSON. Lengths are whole micrometres.
 ghost use Rattle.std.specs.Prelude.{◌^◌, ◌<◌, All, length};
 ghost use Rattle.job_types.specs.SoundJob.{BlocksFit, IsSoundJob};
-ghost use Rattle.met_boxes.specs.Judged.{IsTold};
+ghost use Rattle.protection_zones.specs.Told.{IsTold};
 ghost use Rattle.protection_zones.specs.ZoneBoxes.{IsFit};
 ghost use Rattle.sync_types.specs.Runs.{ComesFrom};
 
@@ -12,11 +12,12 @@ use alarm_states::{AlarmState, Call, alarm_state};
 use axis_sets::{CHANNEL_PLACES, ChannelId};
 use block_readings::Reading;
 use box_clashes::{Clash, clash_of};
+use clash_check::{PairNumber, pair_numbers};
 use input_lines::{
     Lines, alarm_advice, alarm_cause, alarm_name, fault_place, refusal_advice, refusal_cause,
     refusal_name,
 };
-use met_boxes::{Group, Near, PairNumber, groups_of, nearest_of, pair_numbers};
+use met_boxes::{Group, Near, groups_of, nearest_of};
 use nc_faults::{NoMemory, Refusal};
 use serde_json::{Value, json};
 use std::alloc::{AllocError, Global};

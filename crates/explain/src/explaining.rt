@@ -1,15 +1,16 @@
 //! A judged job, explained.
 ghost use Rattle.std.specs.Prelude.{◌≡◌, ◌++◌, ◌^◌, ◌<◌, All, IfOk, length};
 ghost use Rattle.channel_machine.specs.StartStates.{start_of};
+ghost use Rattle.clash_check.specs.PairNumbers.{numbers_of};
 ghost use Rattle.explain.specs.Clashes.{IsMetText};
 ghost use Rattle.explain.specs.Explained as model;
 ghost use Rattle.explain.specs.Headlines.{headline};
 ghost use Rattle.explain.specs.Numbers.{IsUndecidedText};
 ghost use Rattle.explain.specs.Room.{IsYesText};
 ghost use Rattle.job_types.specs.SoundJob.{BlocksFit, IsSoundJob};
-ghost use Rattle.met_boxes.specs.Judged.{IsTold};
 ghost use Rattle.order_clocks.specs.Tells.{is_before_in};
 ghost use Rattle.protection_zones.specs.Overlaps.{compared_pairs};
+ghost use Rattle.protection_zones.specs.Told.{IsTold};
 ghost use Rattle.protection_zones.specs.ZoneBoxes.{IsFit};
 ghost use Rattle.stop_reasons.specs.Alarms.{alarm_text};
 ghost use Rattle.stop_reasons.specs.RaceTexts.{race_text};
@@ -153,7 +154,7 @@ fn no_explained(alloc: Global, judged: &Judged) -> Result<Vec<u8>, NoMemory>
 fn undecided_explained(alloc: Global, judged: &Judged) -> Result<Vec<u8>, NoMemory>
     requires whole { IsTold judged.now.job.now judged.now.run.now judged.now.stretches.now judged.now.clocks.now }
     ensures { IfOk result (λ text. model.IsHeaded (headline judged.now.verdict.now)
-        (IsUndecidedText (compared_pairs (is_before_in judged.now.clocks.now.rows) judged.now.job.now judged.now.stretches.now)) text.items) }
+        (IsUndecidedText (numbers_of (is_before_in judged.now.clocks.now.rows) judged.now.job.now judged.now.stretches.now)) text.items) }
 {
     let body = undecided_told(alloc, judged)?;
     headed(alloc, judged.verdict, body.as_slice())

@@ -1,17 +1,19 @@
 //! The verdicts YES and UNDECIDED, said.
 ghost use Rattle.std.specs.Prelude.{◌≡◌, ◌++◌, All, IfOk};
 ghost use Rattle.std.specs.List.{flat_map};
+ghost use Rattle.clash_check.specs.PairNumbers.{numbers_of};
 ghost use Rattle.explain.specs.Numbers as numbers;
 ghost use Rattle.explain.specs.Room as room;
 ghost use Rattle.job_types.specs.SoundJob.{IsSoundJob};
-ghost use Rattle.met_boxes.specs.Judged.{IsTold};
 ghost use Rattle.order_clocks.specs.Tells.{is_before_in};
 ghost use Rattle.protection_zones.specs.Overlaps.{compared_pairs};
+ghost use Rattle.protection_zones.specs.Told.{IsTold};
 ghost use Rattle.protection_zones.specs.ZoneBoxes.{IsFit};
 
 use crate::judged::Judged;
+use clash_check::{PairNumber, pair_numbers};
 use growing_text::Text;
-use met_boxes::{Near, PairNumber, nearest_of, pair_numbers};
+use met_boxes::{Near, nearest_of};
 use nc_faults::NoMemory;
 use std::alloc::Global;
 use told_places::{Told, say_place};
@@ -154,7 +156,7 @@ fn say_numbers(text: &mut Text, rows: &[PairNumber])
 pub(crate) fn undecided_told(alloc: Global, judged: &Judged) -> Result<Vec<u8>, NoMemory>
     requires whole { IsTold judged.now.job.now judged.now.run.now judged.now.stretches.now judged.now.clocks.now }
     ensures { IfOk result (λ text. numbers.IsUndecidedText
-        (compared_pairs (is_before_in judged.now.clocks.now.rows) judged.now.job.now judged.now.stretches.now) text.items) }
+        (numbers_of (is_before_in judged.now.clocks.now.rows) judged.now.job.now judged.now.stretches.now) text.items) }
 {
     let rows = pair_numbers(alloc, judged.job, judged.stretches, judged.clocks)?;
     let mut text = Text::new(alloc);

@@ -2,7 +2,7 @@
 use clap::{Arg, ArgAction, ArgMatches, Command, Error};
 use std::alloc::Global;
 
-/// What a call is asked for.
+/// In which form a job is explained.
 #[derive(Clone, Copy, Debug, PartialEq, Eq)]
 pub(crate) enum Form {
     /// The explanation in plain text.
@@ -11,17 +11,15 @@ pub(crate) enum Form {
     Drawing,
     /// The facts as JSON.
     Data,
-    /// One input of a job list and programs.
-    Join,
 }
 
-/// What a call is asked for, and of which files.
+/// What a call is asked for, of files as they are named.
 #[derive(Debug, Drop)]
-pub(crate) struct Request<'a> {
-    /// What is asked for.
-    pub(crate) form: Form,
-    /// The files, as they are named.
-    pub(crate) files: Vec<&'a str>,
+pub(crate) enum Request<'a> {
+    /// To explain a job in this form.
+    Explain(Form, Vec<&'a str>),
+    /// To join a job list and programs to one input.
+    Join(Vec<&'a str>),
 }
 
 /// The words that the program takes.
@@ -56,14 +54,12 @@ fn command<'a>(alloc: Global) -> Result<Command<'a>, Error> {
     Ok(command)
 }
 
-/// What matches ask for.
+/// The form that matches ask for.
 fn form_of(matches: &ArgMatches) -> Form {
     if matches.get_flag("svg") {
         Form::Drawing
     } else if matches.get_flag("json") {
         Form::Data
-    } else if matches.get_flag("join") {
-        Form::Join
     } else {
         Form::Text
     }
@@ -83,8 +79,9 @@ pub(crate) fn request_of<'a>(alloc: Global, words: &'a [&'a str]) -> Result<Requ
     let command = command(alloc)?;
     let matches = command.try_get_matches_from(words)?;
     let files = files_of(alloc, &matches)?;
-    Ok(Request {
-        form: form_of(&matches),
-        files,
-    })
+    if matches.get_flag("join") {
+        Ok(Request::Join(files))
+    } else {
+        Ok(Request::Explain(form_of(&matches), files))
+    }
 }

@@ -9,7 +9,6 @@ use Rattle.box_reach.proofs.ShapeLaws.{along-from_least, least-from_along}
 use Rattle.box_reach.specs.Lots.{reaches}
 use Rattle.box_reach.specs.Reaches.{reach_of}
 use Rattle.job_types.specs.Job.{JobView}
-use Rattle.met_boxes.specs.Judged.{IsTold}
 use Rattle.met_boxes.specs.Nearest.{pair_reaches}
 use Rattle.order_clocks.specs.Clocked.{ClocksView}
 use Rattle.protection_zones.proofs.PiecesInCovers.{pairs_in_cover, times_in_cover}
@@ -17,6 +16,7 @@ use Rattle.protection_zones.specs.InCovers.{IsWithin, IsInCover, IsTimeInCover, 
 use Rattle.protection_zones.specs.Overlaps.{Order, Pair, compared_pairs, zone_times}
 use Rattle.protection_zones.specs.Pieces.{piece_boxes, pair_meets}
 use Rattle.protection_zones.specs.Stretches.{StretchesView}
+use Rattle.protection_zones.specs.Told.{IsTold}
 use Rattle.protection_zones.specs.ZoneBoxes.{IsFit}
 use Rattle.swept_boxes.proofs.Meeting.{meet-from_touch, touch-from_meet}
 use Rattle.swept_boxes.proofs.MeetTests.{meet_passes}

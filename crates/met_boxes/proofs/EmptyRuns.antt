@@ -1,10 +1,11 @@
 -- A run of no channel, for tests: what is told of it.
 use Rattle.std.proofs.Common.{◌≡◌, ℕ, ◌<◌, false, All, [], length, None, Some, refl, arith}
 use Rattle.job_types.specs.Job.{JobView}
-use Rattle.met_boxes.specs.Judged.{IsTold}
 use Rattle.order_clocks.specs.Clocked.{ClocksView, IsOrderOf, moves_in}
 use Rattle.order_clocks.specs.Tells.{is_before_in}
+use Rattle.protection_zones.proofs.ToldRuns.{told_of}
 use Rattle.protection_zones.specs.Stretches.{StretchesView, all_stretches}
+use Rattle.protection_zones.specs.Told.{IsTold}
 use Rattle.protection_zones.specs.ZoneBoxes.{IsFit}
 use Rattle.sync_types.proofs.BoardTests.{no_truth}
 use Rattle.sync_types.specs.Boards.{first_board, first_state}
@@ -56,9 +57,4 @@ module _ (run : RunView) (empty : run ≡ no_run) where
       → ((start : StartView) → ComesFrom start run → stretches ≡ all_stretches job (first_board start) run)
       → ((start : StartView) → ComesFrom start run → IsOrderOf (first_board start) (moves_in run.entries) (is_before_in clocks.rows))
       → IsTold job run stretches clocks
-  told job stretches clocks time order = record {
-    start = no_start;
-    whole = whole;
-    told = time no_start whole;
-    order = order no_start whole;
-  }
+  told job stretches clocks time order = told_of job run no_start whole stretches clocks time order

@@ -8,9 +8,8 @@ use Rattle.std.proofs.lemmas.List.{take_all, take_more}
 use Rattle.std.proofs.lemmas.List.Sums.{length-filter}
 use Rattle.std.proofs.lemmas.List.Elements.{All-nil, All-cons, All-head, All-tail, All-map}
 use Rattle.met_boxes.proofs.PutLaws.{from_cases, in_front, in_rest, put_all, put_apart, put_each, put_keys, put_known, put_new}
-use Rattle.met_boxes.specs.Groups.{AreGroups, DoAscend, IsGroup, IsIn, have_names, kind_number, same_channel, same_name}
+use Rattle.met_boxes.specs.Groups.{capped, AreGroups, DoAscend, IsGroup, IsIn, have_names, kind_number, same_channel, same_name}
 use Rattle.met_boxes.specs.GroupSteps.{AreNamed, DoRowsAscend, IsNamed, counted, have_same, key_of, name_key, named_at, names_in, names_of, put_named}
-use Rattle.met_boxes.specs.PairNumbers.{capped}
 use Rattle.met_boxes.specs.declared.groups.Group.{Group}
 use Rattle.met_boxes.specs.declared.groups.Key.{Key}
 use Rattle.met_boxes.specs.declared.groups.NameKey.{NameKey}

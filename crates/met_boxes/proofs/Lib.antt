@@ -9,6 +9,5 @@ pub mod SeenLaws
 pub mod PutLaws
 pub mod SomeLaws
 pub mod NearestLaws
-pub mod NumberLaws
 pub mod GroupLaws
 pub mod EmptyRuns

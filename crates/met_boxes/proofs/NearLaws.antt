@@ -7,13 +7,13 @@ use Rattle.job_types.specs.Job.{JobView}
 use Rattle.job_types.specs.declared.job.ZoneLine.{ZoneLine}
 use Rattle.met_boxes.proofs.AscentLaws.{part_is, pass_first}
 use Rattle.met_boxes.specs.Ascents.{leading, PassFirst, do_ascend, passes, IsTimed}
-use Rattle.met_boxes.specs.Judged.{IsTold}
 use Rattle.order_clocks.specs.Clocked.{ClocksView, moves_in}
 use Rattle.order_clocks.specs.Tells.{is_before_in}
 use Rattle.protection_zones.proofs.NameLaws.{ends_are_lowest_names}
 use Rattle.protection_zones.specs.Overlaps.{Order, Pair, ZoneTime, may_overlap, is_open_at, box_pairs, stretch_pairs, zone_times}
 use Rattle.protection_zones.specs.SoundStretches.{HasLowNames}
 use Rattle.protection_zones.specs.Stretches.{StretchView, StretchesView}
+use Rattle.protection_zones.specs.Told.{IsTold}
 use Rattle.sync_types.specs.Boards.{first_board}
 use Rattle.sync_types.specs.Views.{RunView}
 

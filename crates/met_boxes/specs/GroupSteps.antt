@@ -1,8 +1,7 @@
 -- Steps. The groups so far, each with its names.
 use Rattle.std.specs.Prelude.{◌≡◌, ℕ, ◌<◌, ◌+◌, ◌&&◌, Bool, false, All, List, [], ◌∷◌, slice_get, take, Some}
 use Rattle.std.specs.List.{Any, count_by}
-use Rattle.met_boxes.specs.Groups.{have_names, kind_number, same_name}
-use Rattle.met_boxes.specs.PairNumbers.{capped}
+use Rattle.met_boxes.specs.Groups.{capped, have_names, kind_number, same_name}
 use Rattle.met_boxes.specs.Puts.{AreApart, put_in}
 use Rattle.met_boxes.specs.declared.groups.Key.{Key}
 use Rattle.met_boxes.specs.declared.groups.NameKey.{NameKey}

@@ -1,7 +1,6 @@
 -- Meaning. Pairs of boxes by their names.
-use Rattle.std.specs.Prelude.{◌≡◌, ℕ, ◌<◌, ◌==◌, ◌&&◌, Bool, true, false, All, List, [], ◌∷◌, take, slice_get, Option, None, Some}
+use Rattle.std.specs.Prelude.{◌≡◌, ℕ, ◌<◌, ◌-◌, ◌^◌, ◌==◌, ◌&&◌, Bool, true, false, All, List, [], ◌∷◌, take, slice_get, min, Option, None, Some}
 use Rattle.std.specs.List.{Any, count_by}
-use Rattle.met_boxes.specs.PairNumbers.{capped}
 use Rattle.met_boxes.specs.declared.groups.Group.{Group}
 use Rattle.sync_types.specs.declared.verdicts.PlaceName.{PlaceName}
 use Rattle.sync_types.specs.declared.verdicts.StretchKind.{StretchKind}
@@ -31,6 +30,10 @@ abbrev pub have_names : PlaceName → PlaceName → Meeting → Bool
 have_names left right met = same_name met.left.name left && same_name met.right.name right
 
 -- ---- groups
+
+-- a number, or the greatest that is counted
+abbrev pub capped : ℕ → ℕ
+capped n = min n (2 ^ 64 - 1)
 
 -- the pairs with the names of the one at the place of the group: none of them is earlier, and so many there are
 pub record IsGroup (met : List Meeting) (group : Group) : Type 0 where

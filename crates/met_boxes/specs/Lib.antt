@@ -1,4 +1,3 @@
-pub mod Judged
 pub mod Times
 pub mod Ascents
 pub mod Rows
@@ -8,7 +7,5 @@ pub mod KeptBoxes
 pub mod Puts
 pub mod Nearest
 pub mod NearSteps
-pub mod PairNumbers
-pub mod NumberSteps
 pub mod Groups
 pub mod GroupSteps

@@ -1,5 +1,4 @@
-//! Boxes of zones in a run: all compared pairs that meet, and how often each two lines do; how near the boxes of two groups come,
-//! and how many boxes are compared.
+//! Boxes of zones in a run: all compared pairs that meet, and how often each two lines do; and how near the boxes of two groups come.
 #![tactic(auto)]
 
 mod ascents;
@@ -7,7 +6,6 @@ mod groups;
 mod kept;
 mod meetings;
 mod nearest;
-mod numbers;
 mod overlaps;
 mod rows;
 #[cfg(test)]
@@ -16,4 +14,3 @@ mod tests;
 pub use groups::{Group, groups_of};
 pub use meetings::{meetings_of, told_box};
 pub use nearest::{Near, nearest_of};
-pub use numbers::{PairNumber, pair_numbers};

@@ -4,12 +4,12 @@ ghost use Rattle.std.specs.List.{flat_map, list_any};
 ghost use Rattle.box_reach.specs.Lots.{lots_meet};
 ghost use Rattle.job_lines.specs.declared.limits.TheConstants.{DEPTH_LIMIT};
 ghost use Rattle.job_types.specs.SoundJob.{IsSoundJob};
-ghost use Rattle.met_boxes.specs.Judged.{IsTold};
 ghost use Rattle.met_boxes.specs.KeptBoxes.{AreKept, IsAt};
 ghost use Rattle.met_boxes.specs.Meetings.{meetings_of, told_box, told_pair};
 ghost use Rattle.met_boxes.specs.MeetingSteps as model;
 ghost use Rattle.order_clocks.specs.Tells.{is_before_in};
 ghost use Rattle.protection_zones.specs.Pieces.{piece_boxes};
+ghost use Rattle.protection_zones.specs.Told.{IsTold};
 ghost use Rattle.protection_zones.specs.ZoneBoxes.{IsFit};
 ghost use Rattle.swept_boxes.specs.Boxes.{boxes_meet};
 

@@ -4,7 +4,6 @@ ghost use Rattle.std.specs.List.{flat_map, list_any};
 ghost use Rattle.job_lines.specs.declared.limits.TheConstants.{DEPTH_LIMIT};
 ghost use Rattle.job_types.specs.Job.{JobView};
 ghost use Rattle.job_types.specs.SoundJob.{IsSoundJob};
-ghost use Rattle.met_boxes.specs.Judged.{IsTold};
 ghost use Rattle.met_boxes.specs.KeptBoxes.{AreKept, IsAt};
 ghost use Rattle.met_boxes.specs.Meetings.{told_place};
 ghost use Rattle.met_boxes.specs.MeetingSteps.{place_of};
@@ -14,6 +13,7 @@ ghost use Rattle.met_boxes.specs.Rows.{pairs_in, row_pairs};
 ghost use Rattle.order_clocks.specs.Tells.{is_before_in};
 ghost use Rattle.protection_zones.specs.Overlaps.{Pair, compared_pairs, stretch_pairs};
 ghost use Rattle.protection_zones.specs.Pieces.{piece_boxes};
+ghost use Rattle.protection_zones.specs.Told.{IsTold};
 ghost use Rattle.protection_zones.specs.ZoneBoxes.{IsFit};
 ghost use Rattle.sync_types.specs.Views.{RunView};
 

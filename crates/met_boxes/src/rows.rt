@@ -3,11 +3,11 @@ ghost use Rattle.std.specs.Prelude.{◌≡◌, ◌≤◌, Bool, true, [], ◌∷
 ghost use Rattle.std.specs.List.{flat_map};
 ghost use Rattle.met_boxes.specs.Ascents as orders;
 ghost use Rattle.met_boxes.specs.Ascents.{IsTimed};
-ghost use Rattle.met_boxes.specs.Judged.{IsTold};
 ghost use Rattle.met_boxes.specs.Rows as model;
 ghost use Rattle.met_boxes.specs.Times.{lists_in, times_from};
 ghost use Rattle.order_clocks.specs.Tells.{is_before_in};
 ghost use Rattle.protection_zones.specs.Overlaps.{compared_pairs, stretch_pairs, zone_times};
+ghost use Rattle.protection_zones.specs.Told.{IsTold};
 ghost use Rattle.sync_types.specs.Views.{RunView};
 
 use crate::ascents::{do_ascend, near_part};

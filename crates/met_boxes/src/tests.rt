@@ -2,7 +2,7 @@
 ghost use Rattle.std.specs.Prelude.{◌≡◌, [], IfSome};
 ghost use Rattle.job_types.specs.SoundJob.{IsSoundJob};
 
-use crate::{Group, Near, PairNumber, groups_of, meetings_of, nearest_of, pair_numbers, told_box};
+use crate::{Group, Near, groups_of, meetings_of, nearest_of, told_box};
 use arrayvec::ArrayVec;
 use axis_sets::ZoneId;
 use job_types::Job;
@@ -23,8 +23,6 @@ struct Lists {
     met: Vec<Meeting>,
     /// The nearest.
     near: Vec<Near>,
-    /// How many are compared.
-    numbers: Vec<PairNumber>,
 }
 
 /// The job of this text, or none where it is refused or memory runs out.
@@ -61,8 +59,7 @@ fn lists_of(alloc: Global, job: &Job) -> Result<Lists, NoMemory>
     let stretches = stretches_of(alloc, job, &run, &clocks)?;
     let met = meetings_of(alloc, job, &run, &stretches, &clocks)?;
     let near = nearest_of(alloc, job, &run, &stretches, &clocks)?;
-    let numbers = pair_numbers(alloc, job, &stretches, &clocks)?;
-    Ok(Lists { met, near, numbers })
+    Ok(Lists { met, near })
 }
 
 /// What is listed of three zones that stand, of which two are of one group.
@@ -140,27 +137,11 @@ fn nearest(alloc: Global) -> Near {
     }
 }
 
-/// Whether there is a row of one pair of the first zone and this one.
-fn has_one_of(numbers: &[PairNumber], second: ZoneId) -> bool {
-    numbers.contains(&PairNumber {
-        zones: (ZoneId { number: 1 }, second),
-        count: 1,
-    })
-}
-
-/// Whether two rows are there, of the first zone with each of the others.
-fn are_two_rows(numbers: &[PairNumber]) -> bool {
-    numbers.len() == 2
-        && has_one_of(numbers, ZoneId { number: 2 })
-        && has_one_of(numbers, ZoneId { number: 3 })
-}
-
-/// Whether these pairs meet, these come nearest and so many are compared.
-fn are_worked(lists: &Lists, met: Meeting, near: Near) -> [bool; 3] {
+/// Whether these pairs meet, and these come nearest.
+fn are_worked(lists: &Lists, met: Meeting, near: Near) -> [bool; 2] {
     [
         lists.met.as_slice() == [met].as_slice(),
         lists.near.as_slice() == [near].as_slice(),
-        are_two_rows(lists.numbers.as_slice()),
     ]
 }
 
@@ -169,7 +150,7 @@ fn of_three_zones_that_stand_two_meet(rt: HostRuntime) -> Result<(), Fail> {
     let alloc = rt.alloc();
     let lists = three_zones(alloc)?;
     let worked = are_worked(&lists, meeting(alloc), nearest(alloc));
-    assert!(rt; worked == [true, true, true]);
+    assert!(rt; worked == [true, true]);
     Ok(())
 }
 

@@ -8,6 +8,7 @@ pub mod StepPlaces
 pub mod GoodBoards
 pub mod FewItems
 pub mod GoodRuns
+pub mod JudgedRuns
 pub mod AskedSegments
 pub mod KeptMachines
 pub mod Owning

@@ -20,3 +20,4 @@ pub mod OneOrder
 pub mod EventLaws
 pub mod HandLaws
 pub mod AscentLaws
+pub mod ToldRuns

@@ -3,6 +3,7 @@ pub mod Spans
 pub mod Tenures
 pub mod ZoneBoxes
 pub mod Stretches
+pub mod Told
 pub mod Overlaps
 pub mod Rows
 pub mod Sweeps

@@ -8,6 +8,8 @@ mod channel_states;
 #[cfg(test)]
 mod coordinated_search;
 #[cfg(test)]
+mod pair_rows;
+#[cfg(test)]
 mod state_search;
 #[cfg(test)]
 mod verdicts;

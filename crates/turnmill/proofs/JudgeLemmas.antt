@@ -1,11 +1,8 @@
 -- What the parts of a verdict need of a run of an accepted job after which no channel runs.
 use Rattle.std.proofs.Common.{◌≡◌, ◌<◌, ◌≤◌, All, List, length, Result, Ok, Err, IfOk, refl, ap, ◌∙◌, arith}
 use Rattle.std.proofs.lemmas.List.Elements.{All-weaker}
-use Rattle.std.specs.Prelude.{sum_by}
 use Rattle.axis_sets.specs.declared.limits.TheConstants.{CHANNEL_LIMIT}
-use Rattle.channel_machine.proofs.StartLaws.{start_sound}
 use Rattle.channel_machine.specs.StartStates.{start_of}
-use Rattle.clash_check.specs.Judged.{IsTold}
 use Rattle.clash_check.specs.Verdicts.{verdict_by}
 use Rattle.job_report.specs.Channels.{IsListedEnd}
 use Rattle.job_types.specs.Job.{JobView}
@@ -13,12 +10,11 @@ use Rattle.job_types.specs.SoundJob.{IsSoundJob}
 use Rattle.order_clocks.specs.Clocked.{ClocksView, IsOrderOf, moves_in}
 use Rattle.order_clocks.specs.Races.{IsFirst}
 use Rattle.order_clocks.specs.Tells.{is_before_in}
-use Rattle.product_run.proofs.GoodRuns.{runs_are_sound}
-use Rattle.product_run.proofs.Motions.{runs_are_whole}
-use Rattle.product_run.proofs.Short.{few_entries}
-use Rattle.product_run.specs.RunLaws.{IsSoundRun, MovesSoundly, step_limit}
+use Rattle.product_run.proofs.JudgedRuns.{comes, few, few_in_all, good}
+use Rattle.product_run.specs.RunLaws.{MovesSoundly}
 use Rattle.product_run.specs.RunLaws as law
 use Rattle.channel_machine.specs.Scripts.{IsMaximalRunOf, IsRunInOrder}
+use Rattle.protection_zones.proofs.ToldRuns.{told_of}
 use Rattle.protection_zones.specs.SoundStretches.{IsOfSize}
 use Rattle.protection_zones.specs.Stretches.{StretchesView, all_stretches}
 use Rattle.protection_zones.specs.ZoneBoxes.{IsFit}
@@ -41,45 +37,16 @@ listed (Holding line) is = tt
 listed (Alarmed alarm) is = is
 
 module _ (job : JobView) (run : RunView) (sound : IsSoundJob job) (maximal : IsMaximalRunOf job (start_of job) run) where
-  -- it comes from the start of the job
-  pub comes : ComesFrom (start_of job) run
-  comes = (runs_are_whole job (start_of job) run (start_sound job sound) maximal).comes
-
-  pub comes_from_one : (start : StartView) × ComesFrom start run
-  comes_from_one = (start_of job, comes)
-
-  good : IsSoundRun run
-  good = runs_are_sound job run sound maximal
-
   fits : (item : Item) → MovesSoundly item → IsFit item
   fits item moves = record { sound = moves.sound; within = moves.within }
 
-  -- its items fit, and they are few
+  -- its items fit
   pub all_fit : All (All IsFit) run.items
-  all_fit = All-weaker (All MovesSoundly) (All IsFit) (All-weaker MovesSoundly IsFit fits) run.items good.items
-
-  pub few_in_each : All (λ items. length items < 4294967296) run.items
-  few_in_each =
-      All-weaker (λ (items : List Item). length items ≤ 100000) (λ items. length items < 4294967296) (λ items few. omega arith) run.items good.few
-
-  pub few_in_all : sum_by (λ (items : List Item). length items) run.items < 1048576
-  few_in_all = let few = good.total in omega (arith, few)
-
-  -- what its clocks and stretches tell
-  pub told : (stretches : StretchesView) (clocks : ClocksView)
-      → ((start : StartView) → ComesFrom start run → stretches ≡ all_stretches job (first_board start) run)
-      → ((start : StartView) → ComesFrom start run → IsOrderOf (first_board start) (moves_in run.entries) (is_before_in clocks.rows))
-      → IsTold job run stretches clocks
-  told stretches clocks time order = record {
-    start = start_of job;
-    whole = comes;
-    told = time (start_of job) comes;
-    order = order (start_of job) comes;
-  }
+  all_fit = All-weaker (All MovesSoundly) (All IsFit) (All-weaker MovesSoundly IsFit fits) run.items (good job run sound maximal).items
 
   -- its alarms are in the table
   pub listed_ends : All IsListedEnd run.ends
-  listed_ends = All-weaker law.IsListedEnd IsListedEnd listed run.ends good.ends
+  listed_ends = All-weaker law.IsListedEnd IsListedEnd listed run.ends (good job run sound maximal).ends
 
   -- and so the verdict that rests on them is that on the run
   pub judged : (stretches : StretchesView) (clocks : ClocksView) (verdict : Verdict)
@@ -92,10 +59,10 @@ module _ (job : JobView) (run : RunView) (sound : IsSoundJob job) (maximal : IsM
     maximal = maximal;
     on = record {
       before = is_before_in clocks.rows;
-      ordered = order (start_of job) comes;
+      ordered = order (start_of job) (comes job run sound maximal);
       race = clocks.race;
-      first = race (start_of job) comes;
-      verdict_is = is ∙ ap (λ (s : StretchesView). verdict_by (is_before_in clocks.rows) clocks.race job run s) (time (start_of job) comes);
+      first = race (start_of job) (comes job run sound maximal);
+      verdict_is = is ∙ ap (λ (s : StretchesView). verdict_by (is_before_in clocks.rows) clocks.race job run s) (time (start_of job) (comes job run sound maximal));
     };
   }
 
@@ -110,16 +77,12 @@ module _ (job : JobView) (run : RunView) (sound : IsSoundJob job) (maximal : IsM
     judged = judged stretches clocks verdict time order race is;
     before_is = refl;
     race_is = refl;
-    time_is = time (start_of job) comes;
-    told = told stretches clocks time order;
+    time_is = time (start_of job) (comes job run sound maximal);
+    told = told_of job run (start_of job) (comes job run sound maximal) stretches clocks time order;
   }
 
-  -- it is short
-  pub few : length run.entries ≤ step_limit
-  few = few_entries job run maximal
-
   pub of_size : All (λ e. length e.goes ≤ CHANNEL_LIMIT) run.entries → IsOfSize run
-  of_size goes = let short = few in record { entries = omega (arith, short); items = few_in_all; goes = goes }
+  of_size goes = let short = few job run sound maximal in record { entries = omega (arith, short); items = few_in_all job run sound maximal; goes = goes }
 
 -- ---- a run that is reported
 

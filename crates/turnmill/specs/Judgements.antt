@@ -1,10 +1,10 @@
 -- Steps. A judged job, with what the verdict rests on.
 use Rattle.std.specs.Prelude.{◌≡◌}
-use Rattle.clash_check.specs.Judged.{IsTold}
 use Rattle.job_types.specs.Job.{JobView}
 use Rattle.order_clocks.specs.Clocked.{ClocksView}
 use Rattle.order_clocks.specs.Tells.{is_before_in}
 use Rattle.protection_zones.specs.Stretches.{StretchesView}
+use Rattle.protection_zones.specs.Told.{IsTold}
 use Rattle.sync_types.specs.Views.{RunView}
 use Rattle.sync_types.specs.declared.verdicts.Verdict.{Verdict}
 use Rattle.turnmill.specs.Judged.{IsJudgedOf, zone_time_in}

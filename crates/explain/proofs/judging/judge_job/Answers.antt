@@ -1,35 +1,38 @@
 -- The parts of a verdict get what they need of the run in order.
 use Rattle.std.proofs.Common.{arith}
-use Rattle.explain.proofs.JudgeLemmas.{all_fit, comes_from_one, few, few_in_all, few_in_each, few_steps, told}
+use Rattle.explain.proofs.JudgeLemmas.{all_fit}
+use Rattle.product_run.proofs.JudgedRuns.{comes, comes_from_one, few, few_in_all, few_in_each, few_steps}
+use Rattle.product_run.proofs.Motions.{runs_in_order_are_maximal}
+use Rattle.protection_zones.proofs.ToldRuns.{told_of}
 use Rattle.explain.proofs.judging.judge_job.Goals as goal
 
 pub clocks_of-requires-clause-few : goal.clocks_of-requires-clause-few
-clocks_of-requires-clause-few g c = let short = few c.args.job.now c.in_ok-run.run' c.requires.accepted c.in_ok-run.ensures.run in omega (arith, short)
+clocks_of-requires-clause-few g c = let short = few c.args.job.now c.in_ok-run.run' c.requires.accepted (runs_in_order_are_maximal _ _ _ c.in_ok-run.ensures.run) in omega (arith, short)
 
 pub clocks_of-requires-clause-whole : goal.clocks_of-requires-clause-whole
-clocks_of-requires-clause-whole g c = comes_from_one c.args.job.now c.in_ok-run.run' c.requires.accepted c.in_ok-run.ensures.run
+clocks_of-requires-clause-whole g c = comes_from_one c.args.job.now c.in_ok-run.run' c.requires.accepted (runs_in_order_are_maximal _ _ _ c.in_ok-run.ensures.run)
 
 pub stretches_of-requires-clause-whole : goal.stretches_of-requires-clause-whole
-stretches_of-requires-clause-whole g c = comes_from_one c.args.job.now c.in_ok-run.run' c.requires.accepted c.in_ok-run.ensures.run
+stretches_of-requires-clause-whole g c = comes_from_one c.args.job.now c.in_ok-run.run' c.requires.accepted (runs_in_order_are_maximal _ _ _ c.in_ok-run.ensures.run)
 
 pub stretches_of-requires-clause-few_entries : goal.stretches_of-requires-clause-few_entries
-stretches_of-requires-clause-few_entries g c = let short = few c.args.job.now c.in_ok-run.run' c.requires.accepted c.in_ok-run.ensures.run in omega (arith, short)
+stretches_of-requires-clause-few_entries g c = let short = few c.args.job.now c.in_ok-run.run' c.requires.accepted (runs_in_order_are_maximal _ _ _ c.in_ok-run.ensures.run) in omega (arith, short)
 
 pub stretches_of-requires-clause-few_items : goal.stretches_of-requires-clause-few_items
-stretches_of-requires-clause-few_items g c = few_in_each c.args.job.now c.in_ok-run.run' c.requires.accepted c.in_ok-run.ensures.run
+stretches_of-requires-clause-few_items g c = few_in_each c.args.job.now c.in_ok-run.run' c.requires.accepted (runs_in_order_are_maximal _ _ _ c.in_ok-run.ensures.run)
 
 pub stretches_of-requires-clause-fit : goal.stretches_of-requires-clause-fit
 stretches_of-requires-clause-fit g c = all_fit c.args.job.now c.in_ok-run.run' c.requires.accepted c.in_ok-run.ensures.run
 
 pub judge-requires-clause-whole : goal.judge-requires-clause-whole
 judge-requires-clause-whole g c =
-    told c.args.job.now c.in_ok-run.run' c.requires.accepted c.in_ok-run.ensures.run c.in_ok-stretches.stretches c.in_ok-clocks.clocks c.in_ok-stretches.ensures c.in_ok-clocks.ensures.order
+    told_of c.args.job.now c.in_ok-run.run' _ (comes c.args.job.now c.in_ok-run.run' c.requires.accepted (runs_in_order_are_maximal _ _ _ c.in_ok-run.ensures.run)) c.in_ok-stretches.stretches c.in_ok-clocks.clocks c.in_ok-stretches.ensures c.in_ok-clocks.ensures.order
 
 pub judge-requires-clause-few_entries : goal.judge-requires-clause-few_entries
-judge-requires-clause-few_entries g c = let short = few c.args.job.now c.in_ok-run.run' c.requires.accepted c.in_ok-run.ensures.run in omega (arith, short)
+judge-requires-clause-few_entries g c = let short = few c.args.job.now c.in_ok-run.run' c.requires.accepted (runs_in_order_are_maximal _ _ _ c.in_ok-run.ensures.run) in omega (arith, short)
 
 pub judge-requires-clause-few_items : goal.judge-requires-clause-few_items
-judge-requires-clause-few_items g c = few_in_all c.args.job.now c.in_ok-run.run' c.requires.accepted c.in_ok-run.ensures.run
+judge-requires-clause-few_items g c = few_in_all c.args.job.now c.in_ok-run.run' c.requires.accepted (runs_in_order_are_maximal _ _ _ c.in_ok-run.ensures.run)
 
 pub judge-requires-clause-fit : goal.judge-requires-clause-fit
 judge-requires-clause-fit g c = all_fit c.args.job.now c.in_ok-run.run' c.requires.accepted c.in_ok-run.ensures.run
@@ -38,8 +41,8 @@ pub returns : goal.returns
 returns g c =
     record {
       in_order = c.in_ok-run.ensures.run;
-      few = few_steps c.args.job.now c.in_ok-run.run' c.requires.accepted c.in_ok-run.ensures.run;
+      few = few_steps c.args.job.now c.in_ok-run.run' c.requires.accepted (runs_in_order_are_maximal _ _ _ c.in_ok-run.ensures.run);
       fit = all_fit c.args.job.now c.in_ok-run.run' c.requires.accepted c.in_ok-run.ensures.run;
-      told = told c.args.job.now c.in_ok-run.run' c.requires.accepted c.in_ok-run.ensures.run c.in_ok-stretches.stretches c.in_ok-clocks.clocks c.in_ok-stretches.ensures c.in_ok-clocks.ensures.order;
+      told = told_of c.args.job.now c.in_ok-run.run' _ (comes c.args.job.now c.in_ok-run.run' c.requires.accepted (runs_in_order_are_maximal _ _ _ c.in_ok-run.ensures.run)) c.in_ok-stretches.stretches c.in_ok-clocks.clocks c.in_ok-stretches.ensures c.in_ok-clocks.ensures.order;
       verdict_is = c.in_ok-verdict.ensures;
     }

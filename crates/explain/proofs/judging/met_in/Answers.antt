@@ -1,4 +1,3 @@
-use Rattle.std.proofs.Common.{◌≡◌, ◌∙◌, sym}
 use Rattle.explain.proofs.FirstMet.{all_met_named}
 use Rattle.explain.proofs.judging.met_in.Goals as goal
 

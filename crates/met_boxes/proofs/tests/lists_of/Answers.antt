@@ -26,7 +26,3 @@ nearest_of-requires-clause-whole c =
 
 pub nearest_of-requires-clause-fit : goal.nearest_of-requires-clause-fit
 nearest_of-requires-clause-fit c = all_fit c.empty_run-run.result c.empty_run-run.ensures
-
-pub pair_numbers-requires : goal.pair_numbers-requires
-pair_numbers-requires c =
-    (c.empty_run-run.result, told c.empty_run-run.result c.empty_run-run.ensures c.args.job.now c.in_ok-stretches.stretches c.in_ok-clocks.clocks c.in_ok-stretches.ensures c.in_ok-clocks.ensures.order)

@@ -1,6 +1,9 @@
 -- The parts of a verdict get what they need of the run.
 use Rattle.std.proofs.Common.{arith}
-use Rattle.turnmill.proofs.JudgeLemmas.{all_fit, comes_from_one, few, few_in_all, few_in_each, judged_by, told}
+use Rattle.channel_machine.specs.StartStates.{start_of}
+use Rattle.product_run.proofs.JudgedRuns.{comes, comes_from_one, few, few_in_all, few_in_each}
+use Rattle.protection_zones.proofs.ToldRuns.{told_of}
+use Rattle.turnmill.proofs.JudgeLemmas.{all_fit, judged_by}
 use Rattle.turnmill.proofs.judging.judge_by_threads.Goals as goal
 
 pub clocks_of-requires-clause-few : goal.clocks_of-requires-clause-few
@@ -23,7 +26,7 @@ stretches_of-requires-clause-fit g c = all_fit c.args.job.now c.args.run c.requi
 
 pub judge_shared-requires-clause-whole : goal.judge_shared-requires-clause-whole
 judge_shared-requires-clause-whole g c = λ _ _.
-    told c.args.job.now c.args.run c.requires.accepted c.requires.maximal c.in_ok-stretches.stretches c.in_ok-clocks.clocks c.in_ok-stretches.ensures c.in_ok-clocks.ensures.order
+    told_of c.args.job.now c.args.run (start_of c.args.job.now) (comes c.args.job.now c.args.run c.requires.accepted c.requires.maximal) c.in_ok-stretches.stretches c.in_ok-clocks.clocks c.in_ok-stretches.ensures c.in_ok-clocks.ensures.order
 
 pub judge_shared-requires-clause-few_entries : goal.judge_shared-requires-clause-few_entries
 judge_shared-requires-clause-few_entries g c = let short = few c.args.job.now c.args.run c.requires.accepted c.requires.maximal in omega (arith, short)

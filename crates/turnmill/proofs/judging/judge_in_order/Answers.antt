@@ -2,9 +2,10 @@
 use Rattle.std.proofs.Common.{◌≤◌, All, length}
 use Rattle.channel_machine.specs.StartStates.{start_of}
 use Rattle.job_report.specs.Channels.{IsListedEnd}
+use Rattle.product_run.proofs.JudgedRuns.{few}
 use Rattle.product_run.specs.RunLaws.{step_limit}
 use Rattle.channel_machine.specs.Scripts.{IsRunInOrder}
-use Rattle.turnmill.proofs.JudgeLemmas.{both_ok, few, listed_ends, reported_in_order}
+use Rattle.turnmill.proofs.JudgeLemmas.{both_ok, listed_ends, reported_in_order}
 use Rattle.turnmill.proofs.judging.judge_in_order.Goals as goal
 use Rattle.turnmill.specs.Judgements.{IsJudgedBy}
 use Rattle.turnmill.specs.Output.{IsReportedBy}

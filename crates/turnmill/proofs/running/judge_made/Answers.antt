@@ -1,7 +1,8 @@
 -- A run without a race is reported.
 use Rattle.std.proofs.Common.{◌≡◌, None}
+use Rattle.product_run.proofs.JudgedRuns.{few}
 use Rattle.turnmill.proofs.AlikeInOrder.{reported_quiet}
-use Rattle.turnmill.proofs.JudgeLemmas.{few, listed_ends}
+use Rattle.turnmill.proofs.JudgeLemmas.{listed_ends}
 use Rattle.turnmill.proofs.running.judge_made.Goals as goal
 
 pub returns-in-None-clause-reported : goal.returns-in-None-clause-reported

@@ -1,5 +1,6 @@
 -- The figures are those of the run and the verdict.
-use Rattle.turnmill.proofs.JudgeLemmas.{few_in_all, listed_ends}
+use Rattle.product_run.proofs.JudgedRuns.{few_in_all}
+use Rattle.turnmill.proofs.JudgeLemmas.{listed_ends}
 use Rattle.turnmill.proofs.sample.figures_of.Goals as goal
 
 pub report_length-requires : goal.report_length-requires
