@@ -105,7 +105,7 @@ fn drawn(alloc: Global) -> Result<Vec<u8>, NoMemory> {
 }
 
 #[test]
-fn a_drawing_shows_boxes_and_ways_where_they_are(rt: HostRuntime) -> Result<(), Fail> {
+fn a_drawing_shows_boxes_where_they_are(rt: HostRuntime) -> Result<(), Fail> {
     let drawn = drawn(rt.alloc())?;
     let text = drawn.as_slice();
     assert!(rt;
@@ -125,6 +125,13 @@ fn a_drawing_shows_boxes_and_ways_where_they_are(rt: HostRuntime) -> Result<(), 
             b"<rect class=\"red\" x=\"12000\" y=\"2000\" width=\"10000\" height=\"10000\"/>\n"
         )
     );
+    Ok(())
+}
+
+#[test]
+fn the_boxes_that_meet_have_their_lines(rt: HostRuntime) -> Result<(), Fail> {
+    let drawn = drawn(rt.alloc())?;
+    let text = drawn.as_slice();
     assert!(rt;
         has(
             text,
@@ -137,6 +144,13 @@ fn a_drawing_shows_boxes_and_ways_where_they_are(rt: HostRuntime) -> Result<(), 
             b"<text class=\"named\" x=\"22333\" y=\"31667\">line 9</text>\n"
         )
     );
+    Ok(())
+}
+
+#[test]
+fn ways_and_their_starts_are_drawn(rt: HostRuntime) -> Result<(), Fail> {
+    let drawn = drawn(rt.alloc())?;
+    let text = drawn.as_slice();
     assert!(rt;
         has(
             text,
