@@ -7,44 +7,66 @@ use job_lines::INPUT_LIMIT;
 use joined_files::{ControlFile, joined_input};
 use std::alloc::{AllocError, Global};
 use std::env::Args;
-use std::io::Write;
+use std::io::{self, ErrorKind, Write};
 use std::rt::Files;
 use std::time::Clock;
-use std::{io, str};
 
 /// The status of a call whose words or files are at fault.
 const FAULT: u8 = 2;
+
+/// The number that Linux gives a write to an output that is closed, EBADF.
+const BAD_DESCRIPTOR: i32 = 9;
 
 /// Says on standard error what is wrong with a file.
 fn say_fault<R: Eprint>(rt: &R, name: &str, fault: &InputFault) -> u8 {
     let _ = match fault {
         InputFault::Failed(error) => eprintln!(rt; "explain: {name}: {error}"),
-        InputFault::TooLong => eprintln!(rt; "explain: {name}: more than 8388608 bytes"),
+        InputFault::TooLong => eprintln!(rt; "explain: {name}: more than {INPUT_LIMIT} bytes"),
         InputFault::NoMemory => eprintln!(rt; "explain: {name}: out of memory"),
     };
     FAULT
 }
 
-/// Says on standard error why a refused input is not drawn.
-fn say_undrawn<R: Eprint>(rt: &R, answer: &Answer) -> u8 {
-    if let Ok(text) = str::from_utf8(answer.text.as_slice()) {
-        let _ = rt.eprint(text);
-    }
-    answer.status
+/// Says on standard error that memory was too short.
+fn say_no_memory<R: Eprint>(rt: &R) -> u8 {
+    let _ = eprintln!(rt; "explain: out of memory");
+    FAULT
 }
 
-/// Writes a text to standard output, and gives this status. Where nobody takes it, the call ends without a word.
-fn write_text<R: Print>(rt: &R, text: &[u8], status: u8) -> u8 {
+/// Says on standard error why a refused input is not drawn. Bytes of its line that are no text are shown as U+FFFD.
+fn say_undrawn<R: Eprint>(rt: &R, alloc: Global, answer: &Answer) -> u8 {
+    match String::from_utf8_lossy(alloc, answer.text.as_slice()) {
+        Ok(text) => {
+            let _ = rt.eprint(text);
+            answer.status
+        }
+        Err(_) => say_no_memory(rt),
+    }
+}
+
+/// Whether a write failed since nobody takes the output: its reader has gone, or it is closed.
+fn is_untaken(error: &io::Error) -> bool {
+    error.kind() == ErrorKind::BrokenPipe || error.raw_os_error() == Some(BAD_DESCRIPTOR)
+}
+
+/// Writes a text to standard output, and gives this status. Where nobody takes it, the call ends without a word; any other
+/// fault is said.
+fn write_text<R: Print + Eprint>(rt: &R, text: &[u8], status: u8) -> u8 {
     match io::writer(rt).write_all(text) {
         Ok(()) => status,
-        Err(_) => FAULT,
+        Err(error) => {
+            if !is_untaken(&error) {
+                let _ = eprintln!(rt; "explain: {error}");
+            }
+            FAULT
+        }
     }
 }
 
 /// Writes an answer in this form.
-fn write_answer<R: Print + Eprint>(rt: &R, answer: &Answer, form: Form) -> u8 {
+fn write_answer<R: Print + Eprint>(rt: &R, alloc: Global, answer: &Answer, form: Form) -> u8 {
     if form == Form::Drawing && answer.status == REFUSED {
-        say_undrawn(rt, answer)
+        say_undrawn(rt, alloc, answer)
     } else {
         write_text(rt, answer.text.as_slice(), answer.status)
     }
@@ -67,7 +89,7 @@ fn answer_file<R: Files + Input + Print + Eprint + Clock>(
     }
     let mut watch = Progress::start(rt, is_told);
     match answer_input(alloc, input.as_slice(), form, &mut watch) {
-        Ok(answer) => write_answer(rt, &answer, form),
+        Ok(answer) => write_answer(rt, alloc, &answer, form),
         Err(_) => say_fault(rt, name, &InputFault::NoMemory),
     }
 }
@@ -201,10 +223,10 @@ pub(crate) fn answer_arguments<R: Files + Input + Print + Eprint + Clock>(
         }
     };
     let Ok(words) = words else {
-        return FAULT;
+        return say_no_memory(rt);
     };
     match texts_of(alloc, &words) {
         Ok(texts) => answer_words(rt, alloc, texts.as_slice(), is_told),
-        Err(_) => FAULT,
+        Err(_) => say_no_memory(rt),
     }
 }

@@ -4,7 +4,6 @@ use axis_sets::ChannelId;
 use input_lines::{Origin, block_number, origin_of};
 use serde_json::{Value, json};
 use std::alloc::{AllocError, Global};
-use std::str;
 use swept_boxes::Box3;
 use sync_types::StretchKind;
 use told_places::{Execution, Place, execution_at, line_text, program_name};
@@ -17,12 +16,9 @@ pub(crate) fn channel_number(channel: Option<ChannelId>) -> u8 {
     }
 }
 
-/// Bytes of the input as a text; what is no text is left out whole.
-fn text_of(bytes: &[u8]) -> &str {
-    match str::from_utf8(bytes) {
-        Ok(text) => text,
-        Err(_) => "",
-    }
+/// Bytes of the input as a text. What is no text in UTF-8 becomes U+FFFD.
+fn text_of(alloc: Global, bytes: &[u8]) -> Result<String, AllocError> {
+    String::from_utf8_lossy(alloc, bytes)
 }
 
 /// A box.
@@ -36,7 +32,10 @@ pub(crate) fn box_data(alloc: Global, space: &Box3) -> Result<Value, AllocError>
 /// A line of a file.
 fn origin_data(alloc: Global, origin: Option<Origin>) -> Result<Value, AllocError> {
     match origin {
-        Some(origin) => json!(in alloc; {"file": text_of(origin.file), "line": origin.line}),
+        Some(origin) => {
+            let file = text_of(alloc, origin.file)?;
+            json!(in alloc; {"file": file, "line": origin.line})
+        }
         None => Ok(Value::Null),
     }
 }
@@ -48,14 +47,17 @@ pub(crate) fn block_data(
     channel: Option<ChannelId>,
     line: u32,
 ) -> Result<Value, AllocError> {
-    let text = line_text(&judged.told(), line);
+    let bytes = line_text(&judged.told(), line);
+    let number = text_of(alloc, block_number(bytes))?;
+    let program = text_of(alloc, program_name(judged.job, line))?;
+    let text = text_of(alloc, bytes)?;
     let origin = origin_data(alloc, origin_of(judged.lines, line))?;
     json!(in alloc; {
         "channel": channel_number(channel),
         "line": line,
-        "number": text_of(block_number(text)),
-        "program": text_of(program_name(judged.job, line)),
-        "text": text_of(text),
+        "number": number,
+        "program": program,
+        "text": text,
         "origin": origin
     })
 }

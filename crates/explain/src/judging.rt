@@ -17,8 +17,7 @@ use std::alloc::Global;
 use sync_types::{Run, Verdict};
 use told_places::Meeting;
 
-/// The run of a job in order and the verdict on it, with the clocks and the stretches of zones that the verdict rests on, and
-/// all boxes that meet.
+/// The run of a job in order and the verdict on it, with the clocks and the stretches of zones that the verdict rests on.
 #[derive(Drop)]
 pub(crate) struct Judgement {
     pub(crate) run: Run,
