@@ -5,7 +5,8 @@ ghost use Rattle.protection_zones.specs.Told.{IsTold};
 ghost use Rattle.protection_zones.specs.ZoneBoxes.{IsFit};
 ghost use Rattle.sync_types.specs.Runs.{ComesFrom};
 
-use crate::data_places::{block_data, box_data, channel_number, place_data, side_data};
+use crate::data_meetings::{MeetingData, met_data};
+use crate::data_places::{SideData, block_data, box_data, channel_number, place_data};
 use crate::judged::Judged;
 use crate::other_texts::{apart_of, margin_left};
 use alarm_states::{AlarmState, Call, alarm_state};
@@ -17,9 +18,10 @@ use input_lines::{
     Lines, alarm_advice, alarm_cause, alarm_name, fault_place, refusal_advice, refusal_cause,
     refusal_name,
 };
-use met_boxes::{Group, Near, groups_of, nearest_of};
+use met_boxes::{Near, groups_of, nearest_of};
 use nc_faults::{NoMemory, Refusal};
-use serde_json::{Value, json};
+use serde::Serialize;
+use serde_json::{Value, json, to_vec};
 use std::alloc::{AllocError, Global};
 use stop_reasons::{end_of, race_prize, race_remedy};
 use sync_types::{ChannelEnd, Race, Verdict};
@@ -56,49 +58,34 @@ fn first_data(alloc: Global, judged: &Judged, met: &Meeting) -> Result<Value, Al
     json!(in alloc; {"left": left, "right": right, "clash": clash})
 }
 
-/// A pair of lines that meets.
-fn group_data(
-    alloc: Global,
-    judged: &Judged,
-    met: &[Meeting],
-    group: &Group,
-) -> Result<Value, AllocError> {
-    match met.get(group.first) {
-        Some(pair) => {
-            let left = side_data(alloc, judged, &pair.left)?;
-            let right = side_data(alloc, judged, &pair.right)?;
-            json!(in alloc; {"left": left, "right": right, "count": group.count})
-        }
-        None => Ok(Value::Null),
-    }
-}
-
-/// All pairs of lines that meet.
-fn groups_data(
-    alloc: Global,
-    judged: &Judged,
-    met: &[Meeting],
-    groups: &[Group],
-) -> Result<Vec<Value>, AllocError> {
-    let mut rows = Vec::new(alloc);
-    for group in groups {
-        rows.push(group_data(alloc, judged, met, group)?)?;
-    }
-    Ok(rows)
+/// The verdict NO. The members stand in the order of the alphabet, as all data have them.
+#[derive(Drop, Serialize)]
+struct NoData<'a> {
+    first: Value,
+    meetings: Vec<MeetingData>,
+    sides: Vec<SideData<'a>>,
+    status: u8,
+    verdict: &'static str,
 }
 
 /// The verdict NO.
-fn no_data(alloc: Global, judged: &Judged) -> Result<Value, NoMemory>
+fn no_data<'a>(alloc: Global, judged: &Judged<'a>) -> Result<NoData<'a>, NoMemory>
     requires sound { IsSoundJob judged.now.job.now }
     requires fit { All (All IsFit) judged.now.run.now.items }
 {
     let groups = groups_of(alloc, judged.met)?;
-    let rows = groups_data(alloc, judged, judged.met, groups.as_slice())?;
+    let met = met_data(alloc, judged, groups.as_slice())?;
     let first = match judged.met.first() {
         Some(first) => first_data(alloc, judged, first)?,
         None => Value::Null,
     };
-    Ok(json!(in alloc; {"verdict": "NO", "status": 1, "first": first, "meetings": rows})?)
+    Ok(NoData {
+        first,
+        meetings: met.meetings,
+        sides: met.sides,
+        status: 1,
+        verdict: "NO",
+    })
 }
 
 /// How near two groups come to each other.
@@ -302,32 +289,15 @@ fn stuck_data(alloc: Global, judged: &Judged, channel: ChannelId) -> Result<Valu
     })
 }
 
-/// The facts of a judged job with this verdict.
-fn verdict_data(alloc: Global, judged: &Judged) -> Result<Value, NoMemory>
-    requires sound { IsSoundJob judged.now.job.now }
-    requires blocks { BlocksFit judged.now.job.now }
-    requires whole { IsTold judged.now.job.now judged.now.run.now judged.now.stretches.now judged.now.clocks.now }
-    requires fit { All (All IsFit) judged.now.run.now.items }
-    requires few { length judged.now.run.now.entries < 2 ^ 32 }
-    requires comes { ComesFrom judged.now.start.now judged.now.run.now }
-{
-    match judged.verdict {
-        Verdict::Race(race) => Ok(race_data(alloc, judged, race)?),
-        Verdict::Alarm(channel, _) => alarm_data(alloc, judged, *channel),
-        Verdict::Stuck(channel, _) => Ok(stuck_data(alloc, judged, *channel)?),
-        Verdict::Undecided { count, budget } => undecided_data(alloc, judged, *count, *budget),
-        Verdict::No(_, _) => no_data(alloc, judged),
-        Verdict::Yes => yes_data(alloc, judged),
-    }
-}
-
 /// A value as a line of bytes.
-fn line_of(alloc: Global, value: &Value) -> Result<Vec<u8>, NoMemory> {
-    let text = value.to_string(alloc)?;
-    let mut bytes = Vec::new(alloc);
-    bytes.extend_from_slice(text.as_str().as_bytes())?;
-    bytes.push(b'\n')?;
-    Ok(bytes)
+fn line_of<T: Serialize>(alloc: Global, value: &T) -> Result<Vec<u8>, NoMemory> {
+    match to_vec(alloc, value) {
+        Ok(mut bytes) => {
+            bytes.push(b'\n')?;
+            Ok(bytes)
+        }
+        Err(_) => Err(NoMemory),
+    }
 }
 
 /// The facts of a judged job with this verdict, as a line of JSON.
@@ -339,7 +309,16 @@ pub(crate) fn data_of(alloc: Global, judged: &Judged) -> Result<Vec<u8>, NoMemor
     requires few { length judged.now.run.now.entries < 2 ^ 32 }
     requires comes { ComesFrom judged.now.start.now judged.now.run.now }
 {
-    line_of(alloc, &verdict_data(alloc, judged)?)
+    match judged.verdict {
+        Verdict::Race(race) => line_of(alloc, &race_data(alloc, judged, race)?),
+        Verdict::Alarm(channel, _) => line_of(alloc, &alarm_data(alloc, judged, *channel)?),
+        Verdict::Stuck(channel, _) => line_of(alloc, &stuck_data(alloc, judged, *channel)?),
+        Verdict::Undecided { count, budget } => {
+            line_of(alloc, &undecided_data(alloc, judged, *count, *budget)?)
+        }
+        Verdict::No(_, _) => line_of(alloc, &no_data(alloc, judged)?),
+        Verdict::Yes => line_of(alloc, &yes_data(alloc, judged)?),
+    }
 }
 
 /// The facts of a refused input, as a line of JSON.

@@ -5,6 +5,7 @@ mod answers;
 mod calls;
 mod clash_text;
 mod data;
+mod data_meetings;
 mod data_places;
 mod explaining;
 mod files;
