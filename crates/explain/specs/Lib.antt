@@ -4,5 +4,6 @@ pub mod Drawn
 pub mod Explained
 pub mod Headlines
 pub mod Judgements
+pub mod LineTexts
 pub mod Numbers
 pub mod Room

@@ -2,10 +2,12 @@
 ghost use Rattle.std.specs.Prelude.{◌≡◌, ◌++◌, ◌∷◌, All, IfOk};
 ghost use Rattle.std.specs.List.{flat_map};
 ghost use Rattle.explain.specs.Clashes as model;
+ghost use Rattle.explain.specs.LineTexts.{AreSaid};
 ghost use Rattle.job_types.specs.SoundJob.{IsSoundJob};
 ghost use Rattle.protection_zones.specs.ZoneBoxes.{IsFit};
 
 use crate::judged::Judged;
+use crate::line_texts::{LineTexts, say_known, texts_of};
 use box_clashes::{Clash, clash_of};
 use growing_text::Text;
 use job_types::Job;
@@ -14,9 +16,7 @@ use micro_units::Um;
 use nc_faults::NoMemory;
 use std::alloc::Global;
 use swept_boxes::Box3;
-use told_places::{
-    Meeting, Place, Told, say_box, say_direction, say_line, say_place, say_span, say_zone,
-};
+use told_places::{Meeting, Place, Told, say_box, say_direction, say_place, say_span, say_zone};
 
 /// Says in which blocks two zones can meet, and where: in three to five lines.
 #[tactic(auto, unfolding(crate::specs::Clashes::head_text))]
@@ -145,35 +145,26 @@ fn say_first(text: &mut Text, told: &Told, first: &Meeting, clash: &Clash)
     say_ways(text, told.job, clash);
 }
 
-/// Says the line of a block; nothing of a zone that no block moves.
-#[tactic(auto, unfolding(crate::specs::Clashes::at_text))]
-fn say_at(text: &mut Text, told: &Told, line: u32)
-    ensures { text.new ≡ text.old ++ model.at_text told.now.lines.now told.now.job.now line }
-{
-    if line != 0 {
-        text.say(" ");
-        say_line(text, told, line);
-    }
-}
-
 /// Says a box in short.
 #[tactic(auto, unfolding(crate::specs::Clashes::short_text))]
-fn say_short(text: &mut Text, told: &Told, place: &Place)
+fn say_short(text: &mut Text, told: &Told, known: &LineTexts, place: &Place)
+    requires { AreSaid told.now.lines.now told.now.job.now known.now }
     ensures { text.new ≡ text.old ++ model.short_text told.now.lines.now told.now.job.now place.now }
 {
     say_zone(text, place);
-    say_at(text, told, place.name.line);
+    say_known(text, told, known, place.name.line);
 }
 
 /// Says a pair of lines that meets, and how often.
 #[tactic(auto, unfolding(crate::specs::Clashes::pair_text))]
-fn say_pair(text: &mut Text, told: &Told, met: &Meeting, count: u64)
+fn say_pair(text: &mut Text, told: &Told, known: &LineTexts, met: &Meeting, count: u64)
+    requires { AreSaid told.now.lines.now told.now.job.now known.now }
     ensures { text.new ≡ text.old ++ model.pair_text told.now.lines.now told.now.job.now met.now count }
 {
     text.say("  ");
-    say_short(text, told, &met.left);
+    say_short(text, told, known, &met.left);
     text.say(" and ");
-    say_short(text, told, &met.right);
+    say_short(text, told, known, &met.right);
     text.say(": ");
     text.number(count);
     text.say("\n");
@@ -181,41 +172,52 @@ fn say_pair(text: &mut Text, told: &Told, met: &Meeting, count: u64)
 
 /// Says the pair of lines of a group.
 #[tactic(auto, unfolding(crate::specs::Clashes::group_text))]
-fn say_group(text: &mut Text, told: &Told, met: &[Meeting], group: &Group)
+fn say_group(text: &mut Text, told: &Told, known: &LineTexts, met: &[Meeting], group: &Group)
+    requires { AreSaid told.now.lines.now told.now.job.now known.now }
     ensures { text.new ≡ text.old ++ model.group_text told.now.lines.now told.now.job.now met.now group.now }
 {
     match met.get(group.first) {
-        Some(pair) => say_pair(text, told, pair, group.count),
+        Some(pair) => say_pair(text, told, known, pair, group.count),
         None => {}
     }
 }
 
 /// Says the pairs of lines of groups.
-fn say_each(text: &mut Text, told: &Told, met: &[Meeting], groups: &[Group])
+fn say_each(text: &mut Text, told: &Told, known: &LineTexts, met: &[Meeting], groups: &[Group])
+    requires { AreSaid told.now.lines.now told.now.job.now known.now }
     ensures { text.new ≡ text.old ++ flat_map (model.group_text told.now.lines.now told.now.job.now met.now) groups.now }
 {
     for group in groups {
-        say_group(text, told, met, group);
+        say_group(text, told, known, met, group);
     }
 }
 
 /// Says all pairs of lines that meet.
 #[tactic(auto, unfolding(crate::specs::Clashes::groups_text))]
-fn say_groups(text: &mut Text, told: &Told, met: &[Meeting], groups: &[Group])
+fn say_groups(text: &mut Text, told: &Told, known: &LineTexts, met: &[Meeting], groups: &[Group])
+    requires { AreSaid told.now.lines.now told.now.job.now known.now }
     ensures { text.new ≡ text.old ++ model.groups_text told.now.lines.now told.now.job.now met.now groups.now }
 {
     text.say("All pairs of lines that meet, each with how often:\n");
-    say_each(text, told, met, groups);
+    say_each(text, told, known, met, groups);
 }
 
 /// Says of the verdict NO these first two boxes that meet, by what they would be apart, and all pairs of lines that meet.
-fn say_met(text: &mut Text, judged: &Judged, first: &Meeting, clash: &Clash, groups: &[Group])
+fn say_met(
+    text: &mut Text,
+    judged: &Judged,
+    known: &LineTexts,
+    first: &Meeting,
+    clash: &Clash,
+    groups: &[Group],
+)
+    requires { AreSaid judged.now.lines.now judged.now.job.now known.now }
     ensures { text.new ≡ text.old ++ (model.first_text judged.now.lines.now judged.now.job.now judged.now.run.now first.now clash.now
         ++ model.groups_text judged.now.lines.now judged.now.job.now judged.now.met.now groups.now) }
 {
     let told = judged.told();
     say_first(text, &told, first, clash);
-    say_groups(text, &told, judged.met, groups);
+    say_groups(text, &told, known, judged.met, groups);
 }
 
 /// What is said of the verdict NO, whose first two boxes that meet are these, with these others.
@@ -232,8 +234,9 @@ fn first_told(
 {
     let clash = clash_of(judged.job, judged.run, first);
     let groups = groups_of(alloc, judged.met)?;
+    let known = texts_of(alloc, &judged.told(), judged.met, groups.as_slice())?;
     let mut text = Text::new(alloc);
-    say_met(&mut text, judged, first, &clash, groups.as_slice());
+    say_met(&mut text, judged, &known, first, &clash, groups.as_slice());
     text.finish()
 }
 

@@ -12,6 +12,7 @@ mod files;
 mod headlines;
 mod judged;
 mod judging;
+mod line_texts;
 mod other_texts;
 mod progress;
 mod words;
