@@ -1,4 +1,5 @@
 pub mod ShapeLaws
 pub mod WayLaws
 pub mod LotLaws
+pub mod PartLaws
 pub mod SomeLaws

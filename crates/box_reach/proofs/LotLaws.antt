@@ -59,7 +59,7 @@ all_three true true false e = absurd cc
 all_three true false c e = absurd cc
 all_three false b c e = absurd cc
 
-meet_of : (left right : Box3) → boxes_meet left right ≡ true → DoMeet left right
+pub meet_of : (left right : Box3) → boxes_meet left right ≡ true → DoMeet left right
 unfolding boxes_meet
 meet_of left right e =
     let each = all_three (do_touch left right 0) (do_touch left right 1) (do_touch left right 2) e in
@@ -93,10 +93,10 @@ max_right a b = omega (arith, ints, clamps)
 one_of : (a b : ℤ) → (a ≡ int_max a b) ⊎ (b ≡ int_max a b)
 one_of a b = grind (arith, ints)
 
-le_trans : (a b c : ℤ) → a ≤ℤ b → b ≤ℤ c → a ≤ℤ c
+pub le_trans : (a b c : ℤ) → a ≤ℤ b → b ≤ℤ c → a ≤ℤ c
 le_trans a b c p q = omega (arith, ints)
 
-le_itself : (a : ℤ) → a ≤ℤ a
+pub le_itself : (a : ℤ) → a ≤ℤ a
 le_itself a = omega (arith, ints)
 
 -- one number more

@@ -1,4 +1,5 @@
 pub mod Shapes
 pub mod Reaches
 pub mod Lots
+pub mod Parts
 pub mod Depths

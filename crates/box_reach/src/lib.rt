@@ -5,6 +5,7 @@
 mod commons;
 mod depths;
 mod lots;
+mod parts;
 mod rooms;
 #[cfg(test)]
 mod tests;

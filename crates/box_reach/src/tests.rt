@@ -60,6 +60,27 @@ fn two_lots(rt: HostRuntime) -> Result<(), Fail> {
 }
 
 #[test]
+fn a_lot_in_parts(rt: HostRuntime) -> Result<(), Fail> {
+    let far = [
+        other(40),
+        other(30),
+        other(20),
+        other(16),
+        other(12),
+        other(14),
+        other(18),
+        other(11),
+        other(13),
+        other(50),
+    ];
+    assert!(rt; most_near(&[cube()], &far) == Some(-1));
+    assert!(rt; !do_lots_meet(&[cube()], &far));
+    assert!(rt; most_near(&far, &[cube(), other(70)]) == Some(-1));
+    assert!(rt; do_lots_meet(&[other(60), other(20)], &far));
+    Ok(())
+}
+
+#[test]
 fn the_depth_that_parts(rt: HostRuntime) -> Result<(), Fail> {
     let left = [lot(cube()), lot(cube()), lot(cube())];
     let right = [lot(other(7)), lot(other(9)), lot(other(14))];
