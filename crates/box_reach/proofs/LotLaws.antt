@@ -19,7 +19,7 @@ use Rattle.box_reach.proofs.ShapeLaws.{grown_reach, least-from_meet, meet-from_l
 
 -- ---- elements of lists
 
-in_front : {X : Type 0} (x : X) (xs : List X) → Contains (x ∷ xs) x
+pub in_front : {X : Type 0} (x : X) (xs : List X) → Contains (x ∷ xs) x
 in_front x xs = (0, omega arith, refl)
 
 in_rest : {X : Type 0} (x : X) (xs : List X) (y : X) → Contains xs y → Contains (x ∷ xs) y
@@ -35,7 +35,7 @@ from_map f [] y (k, below, is) = absurd (omega arith)
 from_map f (x ∷ xs) y (zero, below, is) = (x, in_front x xs, is)
 from_map f (x ∷ xs) y (suc k, below, is) = let r = from_map f xs y (k, omega arith, is) in (r.0, in_rest x xs r.0 r.1, r.2)
 
-in_reaches : (lefts rights : List Box3) (l r : Box3) → Contains lefts l → Contains rights r → Contains (reaches lefts rights) (reach_of l r)
+pub in_reaches : (lefts rights : List Box3) (l r : Box3) → Contains lefts l → Contains rights r → Contains (reaches lefts rights) (reach_of l r)
 in_reaches [] rights l r (k, below, is) there = absurd (omega arith)
 in_reaches (x ∷ xs) rights l r (zero, below, is) there =
     Contains-append_left (map (reach_of x) rights) (reaches xs rights) (reach_of l r)
@@ -43,7 +43,7 @@ in_reaches (x ∷ xs) rights l r (zero, below, is) there =
 in_reaches (x ∷ xs) rights l r (suc k, below, is) there =
     Contains-append_right (map (reach_of x) rights) (reaches xs rights) (reach_of l r) (in_reaches xs rights l r (k, omega arith, is) there)
 
-from_reaches : (lefts rights : List Box3) (n : ℤ) → Contains (reaches lefts rights) n → (l : Box3) × (r : Box3) × Contains lefts l × Contains rights r × (reach_of l r ≡ n)
+pub from_reaches : (lefts rights : List Box3) (n : ℤ) → Contains (reaches lefts rights) n → (l : Box3) × (r : Box3) × Contains lefts l × Contains rights r × (reach_of l r ≡ n)
 from_reaches [] rights n (k, below, is) = absurd (omega arith)
 from_reaches (x ∷ xs) rights n inside =
     elim (Contains-append_cases (map (reach_of x) rights) (reaches xs rights) n inside) [
@@ -162,9 +162,14 @@ one_more f numbers rights i d below =
     append_assoc numbers (map f (take i rights)) (f (get_or rights i d) ∷ []) ∙ ap (λ (ns : List ℤ). numbers ++ ns) (sym (map_more f rights i d below))
 
 -- of one more of the boxes with all others
-pub reaches_more : (lefts rights : List Box3) (i : ℕ) (d : Box3) → i < length lefts
+reaches_more : (lefts rights : List Box3) (i : ℕ) (d : Box3) → i < length lefts
     → reaches (take i lefts) rights ++ map (reach_of (get_or lefts i d)) rights ≡ reaches (take (i + 1) lefts) rights
 reaches_more lefts rights i d below =
     sym (ap (λ (boxes : List Box3). reaches boxes rights) (take_more lefts i d below)
     ∙ flat_map-append (λ left. map (reach_of left) rights) (take i lefts) (get_or lefts i d ∷ [])
     ∙ ap (λ (ns : List ℤ). reaches (take i lefts) rights ++ ns) (append-nil (map (reach_of (get_or lefts i d)) rights)))
+
+pub one_more_of_all : (numbers : List ℤ) (lefts rights : List Box3) (i : ℕ) (d : Box3) → i < length lefts
+    → (numbers ++ reaches (take i lefts) rights) ++ map (reach_of (get_or lefts i d)) rights ≡ numbers ++ reaches (take (i + 1) lefts) rights
+one_more_of_all numbers lefts rights i d below =
+    append_assoc numbers (reaches (take i lefts) rights) (map (reach_of (get_or lefts i d)) rights) ∙ ap (λ (ns : List ℤ). numbers ++ ns) (reaches_more lefts rights i d below)

@@ -1,6 +1,7 @@
 -- Meaning. How far the boxes of two lots reach into each other.
-use Rattle.std.specs.Prelude.{◌≡◌, ℤ, ◌≤ℤ◌, Bool, All, Contains, List, [], map, Option, None, Some}
+use Rattle.std.specs.Prelude.{◌≡◌, ℤ, ◌≤ℤ◌, Bool, true, false, All, Contains, List, [], map, Option, None, Some}
 use Rattle.std.specs.Int.{int_max}
+use Rattle.std.specs.Int.RustNames.{int_lt}
 use Rattle.std.specs.List.{flat_map, list_any}
 use Rattle.box_reach.specs.Reaches.{reach_of}
 use Rattle.swept_boxes.specs.Boxes.{DoMeet, boxes_meet}
@@ -27,3 +28,13 @@ greater (Some before) number = int_max before number
 abbrev pub IsGreatest : Option ℤ → List ℤ → Type 0
 IsGreatest None numbers = numbers ≡ []
 IsGreatest (Some greatest) numbers = Contains numbers greatest × All (λ number. number ≤ℤ greatest) numbers
+
+-- a number is greater than one that may be there
+abbrev pub is_over : Option ℤ → ℤ → Bool
+is_over None number = true
+is_over (Some before) number = int_lt before number
+
+-- the greatest of some numbers, where it is greater than one that may be there; none where none of them is
+abbrev pub IsGreatestOver : Option ℤ → Option ℤ → List ℤ → Type 0
+IsGreatestOver floor None numbers = All (λ number. is_over floor number ≡ false) numbers
+IsGreatestOver floor (Some greatest) numbers = IsGreatest (Some greatest) numbers × (is_over floor greatest ≡ true)

@@ -1,6 +1,5 @@
 -- Steps. Lots of boxes in parts, each with a box in which its boxes lie.
-use Rattle.std.specs.Prelude.{◌≡◌, ℕ, ℤ, ◌<◌, ◌≤ℤ◌, Bool, true, All, List, Option, None, Some}
-use Rattle.std.specs.Int.RustNames.{int_lt}
+use Rattle.std.specs.Prelude.{◌≡◌, ℕ, ◌<◌, ◌≤ℤ◌, All, List}
 use Rattle.std.specs.List.{flat_map}
 use Rattle.box_reach.specs.declared.parts.Part.{Part}
 use Rattle.swept_boxes.specs.Boxes.{low_of, high_of}
@@ -13,7 +12,7 @@ pub record LiesIn (outer inner : Box3) : Type 0 where
 
 -- the boxes of a part
 abbrev pub boxes_in : Part → List Box3
-boxes_in part = part.boxes.now
+boxes_in part = part.boxes.items
 
 -- the boxes of a part lie in its cover
 abbrev pub IsCovered : Part → Type 0
@@ -22,8 +21,3 @@ IsCovered part = All (LiesIn part.cover) (boxes_in part)
 -- the parts have the boxes of a lot, in their order
 abbrev pub AreParts : List Box3 → List Part → Type 0
 AreParts boxes parts = (flat_map boxes_in parts ≡ boxes) × All IsCovered parts
-
--- a number is greater than one that may be there
-abbrev pub is_over : Option ℤ → ℤ → Bool
-is_over None number = true
-is_over (Some before) number = int_lt before number

@@ -5,6 +5,7 @@
 mod commons;
 mod depths;
 mod lots;
+mod parted;
 mod parts;
 mod rooms;
 #[cfg(test)]
@@ -13,6 +14,7 @@ mod ways;
 
 pub use commons::common_box;
 pub use depths::parting_depth;
-pub use lots::{do_lots_meet, most_near};
+pub use lots::most_near;
+pub use parted::PartedLot;
 pub use rooms::margin_room;
 pub use ways::{Way, least_way};

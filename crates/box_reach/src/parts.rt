@@ -1,18 +1,19 @@
 //! Lots of boxes in parts, each with a box in which its boxes lie: what that box does not come near, none of the part does.
-ghost use Rattle.std.specs.Prelude.{◌≡◌, ◌+◌, ◌<◌, ◌≤◌, All};
-ghost use Rattle.box_reach.specs.Parts.{AreParts, LiesIn};
+ghost use Rattle.std.specs.Prelude.{◌≡◌, ◌≤◌, All, IfOk, length};
+ghost use Rattle.box_reach.specs.Parts.{AreParts, IsCovered, LiesIn, boxes_in};
 
 use arrayvec::ArrayVec;
+use std::alloc::{AllocError, Global};
 use swept_boxes::Box3;
 
-/// Into how many parts a lot is divided at most.
-pub(crate) const PART_LIMIT: usize = 8;
+/// How many boxes a part has at most: where each of two motions has 16 or 64 pieces, so many take the fewest comparisons.
+pub(crate) const PART_SIZE: usize = 4;
 
 /// Boxes of a lot that stand one after another.
-#[derive(Clone, Copy, Default)]
-pub(crate) struct Part<'a> {
+#[derive(Drop)]
+pub(crate) struct Part {
     /// The boxes.
-    pub(crate) boxes: &'a [Box3],
+    pub(crate) boxes: ArrayVec<Box3, PART_SIZE>,
     /// A box in which they lie.
     pub(crate) cover: Box3,
 }
@@ -50,37 +51,33 @@ fn cover_of(boxes: &[Box3]) -> Box3
     cover
 }
 
-/// How many boxes the part of this number has, where so many are left, and parts have so many each. The last one has all that are left.
-fn count_of(number: usize, width: usize, left: usize) -> usize
-    requires { number < PART_LIMIT }
-    ensures within { result ≤ left }
-    ensures last { number + 1 ≡ PART_LIMIT → result ≡ left }
+/// These boxes as a part.
+fn part_of(front: &[Box3]) -> Part
+    requires { length front.now ≤ PART_SIZE }
+    ensures boxes { boxes_in result ≡ front.now }
+    ensures cover { IsCovered result }
 {
-    if number + 1 < PART_LIMIT {
-        width.min(left)
-    } else {
-        left
+    let mut boxes = ArrayVec::new();
+    for piece in front {
+        boxes.push(*piece);
+    }
+    Part {
+        boxes,
+        cover: cover_of(front),
     }
 }
 
 /// A lot in parts.
-pub(crate) fn parts_of(boxes: &[Box3]) -> ArrayVec<Part<'_>, PART_LIMIT>
-    ensures { AreParts boxes.now result.items }
+pub(crate) fn parts_of(alloc: Global, boxes: &[Box3]) -> Result<Vec<Part>, AllocError>
+    ensures { IfOk result (λ parts. AreParts boxes.now parts.items) }
 {
-    let width = boxes.len() / PART_LIMIT + 1;
-    let mut parts = ArrayVec::new();
+    let mut parts = Vec::with_capacity(alloc, boxes.len() / PART_SIZE + 1)?;
     let mut rest = boxes;
-    for number in 0..PART_LIMIT {
-        if rest.is_empty() {
-            return parts;
-        }
-        let count = count_of(number, width, rest.len());
-        let front = &rest[..count];
-        parts.push(Part {
-            boxes: front,
-            cover: cover_of(front),
-        });
-        rest = &rest[count..];
+    while !rest.is_empty() {
+        let count = rest.len().min(PART_SIZE);
+        let (front, later) = rest.split_at(count);
+        parts.push(part_of(front))?;
+        rest = later;
     }
-    parts
+    Ok(parts)
 }

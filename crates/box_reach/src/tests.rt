@@ -1,5 +1,6 @@
 //! Boxes whose numbers are worked by hand.
-use crate::{Way, common_box, do_lots_meet, least_way, margin_room, most_near, parting_depth};
+use crate::lots::do_lots_meet;
+use crate::{PartedLot, Way, common_box, least_way, margin_room, most_near, parting_depth};
 use arrayvec::ArrayVec;
 use std::test::Fail;
 use swept_boxes::Box3;
@@ -17,6 +18,16 @@ fn other(from: i32) -> Box3 {
     Box3 {
         lo: [from, -5, 9],
         hi: [20, 5, 30],
+    }
+}
+
+/// A box with sides of 20 that begins here.
+fn cube_at(across: u8, along: u8) -> Box3 {
+    let x = i32::from(across);
+    let y = i32::from(along);
+    Box3 {
+        lo: [x, y, 0],
+        hi: [x + 20, y + 20, 20],
     }
 }
 
@@ -73,10 +84,34 @@ fn a_lot_in_parts(rt: HostRuntime) -> Result<(), Fail> {
         other(13),
         other(50),
     ];
-    assert!(rt; most_near(&[cube()], &far) == Some(-1));
-    assert!(rt; !do_lots_meet(&[cube()], &far));
-    assert!(rt; most_near(&far, &[cube(), other(70)]) == Some(-1));
-    assert!(rt; do_lots_meet(&[other(60), other(20)], &far));
+    let none = PartedLot::new(rt.alloc());
+    let alone = PartedLot::over(rt.alloc(), &[cube()])?;
+    let many = PartedLot::over(rt.alloc(), &far)?;
+    assert!(rt; alone.most_over(None, &many) == Some(-1));
+    assert!(rt; many.most_over(Some(-2), &alone) == Some(-1));
+    assert!(rt; alone.most_over(Some(-1), &many).is_none());
+    assert!(rt; none.most_over(None, &many).is_none());
+    assert!(rt; !alone.meets(&many));
+    assert!(rt; PartedLot::over(rt.alloc(), &[other(60), other(20)])?.meets(&many));
+    assert!(rt; none.is_empty() && !many.is_empty());
+    Ok(())
+}
+
+#[test]
+fn parts_as_the_double_loop(rt: HostRuntime) -> Result<(), Fail> {
+    let mut left = Vec::new(rt.alloc());
+    let mut right = Vec::new(rt.alloc());
+    for at in 0..23u8 {
+        left.push(cube_at(at.wrapping_mul(31), at.wrapping_mul(57)))?;
+        right.push(cube_at(at.wrapping_mul(43) | 128, at.wrapping_mul(71)))?;
+        let own = PartedLot::over(rt.alloc(), left.as_slice())?;
+        let later = PartedLot::over(rt.alloc(), right.as_slice())?;
+        let most = most_near(left.as_slice(), right.as_slice());
+        assert!(rt; own.most_over(None, &later) == most);
+        assert!(rt; own.most_over(Some(-200), &later) == most);
+        assert!(rt; own.most_over(most, &later).is_none());
+        assert!(rt; own.meets(&later) == do_lots_meet(left.as_slice(), right.as_slice()));
+    }
     Ok(())
 }
 

@@ -37,6 +37,27 @@ fn way_along(left: &Box3, right: &Box3, direction: usize) -> Way
     }
 }
 
+/// Whether two boxes reach further into each other along a direction than a number.
+fn is_over_along(number: i64, left: &Box3, right: &Box3, direction: usize) -> bool
+    requires { direction < 3 }
+    ensures { result ≡ int_lt number (reach_along left.now right.now direction) }
+{
+    number < way_along(left, right, direction).shift
+}
+
+/// Whether two boxes reach further into each other than a number: they do along each direction.
+pub(crate) fn do_reach_over(number: i64, left: &Box3, right: &Box3) -> bool
+    ensures { result ≡ int_lt number (reach_of left.now right.now) }
+{
+    if !is_over_along(number, left, right, 0) {
+        return false;
+    }
+    if !is_over_along(number, left, right, 1) {
+        return false;
+    }
+    is_over_along(number, left, right, 2)
+}
+
 /// The lesser of two ways, or the first where they are equal.
 fn lesser(one: Way, other: Way) -> Way
     ensures { result ≡ (if int_lt other.shift one.shift then other else one) }

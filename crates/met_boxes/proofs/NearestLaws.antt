@@ -1,6 +1,6 @@
 -- The nearest of some pairs, with one pair more.
-use Rattle.std.proofs.Common.{◌≡◌, ◌∙◌, ℕ, ℤ, ◌==◌, ◌&&◌, ◌||◌, not, Bool, true, false, cond, List, [], ◌∷◌, ◌++◌, get_or, All, Some, refl, sym, ap, subst, append_assoc, arith}
-use Rattle.std.specs.Prelude.{◌≤ℤ◌}
+use Rattle.std.proofs.Common.{◌≡◌, ◌∙◌, ℕ, ℤ, ◌==◌, ◌&&◌, ◌||◌, not, Bool, true, false, cond, List, [], ◌∷◌, ◌++◌, get_or, All, Option, None, Some, refl, sym, ap, subst, append_assoc, arith}
+use Rattle.std.specs.Prelude.{◌≤ℤ◌, IfSome}
 use Rattle.std.specs.Int.RustNames.{int_le, int_lt}
 use Rattle.std.specs.List.{Any, flat_map, list_any}
 use Rattle.std.proofs.lemmas.Bool.{and_parts, eqb-true}
@@ -8,12 +8,13 @@ use Rattle.std.proofs.lemmas.Int.{ints}
 use Rattle.std.proofs.lemmas.List.{append-nil}
 use Rattle.std.proofs.lemmas.List.Elements.{All-nil, All-cons, All-head, All-push, All-weaker, Contains-append_left, Contains-push}
 use Rattle.std.proofs.lemmas.List.Folds.{Any-from_list_any}
-use Rattle.box_reach.specs.Lots.{IsGreatest}
+use Rattle.box_reach.specs.Lots.{IsGreatest, is_over}
 use Rattle.box_reach.specs.Reaches.{reach_of}
 use Rattle.job_types.specs.Job.{JobView}
 use Rattle.job_types.specs.declared.job.ZoneLine.{ZoneLine}
 use Rattle.met_boxes.proofs.CoverLaws.{pair_within, part_left, part_right}
 use Rattle.met_boxes.proofs.PutLaws.{from_cases, never, put_all, put_apart, put_each}
+use Rattle.met_boxes.proofs.SomeLaws.{pair_has}
 use Rattle.met_boxes.specs.Meetings.{told_place}
 use Rattle.met_boxes.specs.MeetingSteps.{place_of}
 use Rattle.met_boxes.specs.Nearest.{AreNearest, IsNearest, groups_of, pair_reaches}
@@ -46,6 +47,9 @@ same_pair one other on = both_are one other on
 
 pub pair_same : (one other : ℕ × ℕ) → one ≡ other → (one.0 == other.0 && one.1 == other.1) ≡ true
 pair_same one other is = both_on one other is
+
+pub parts_are : (one : ℕ × ℕ) (a b : ℕ) → one.0 ≡ a → one.1 ≡ b → one ≡ (a, b)
+parts_are (x, y) a b p q = ap (λ (n : ℕ). let r : ℕ × ℕ = (n, y) in r) p ∙ ap (λ (n : ℕ). let r : ℕ × ℕ = (a, n) in r) q
 
 -- ---- the nearest
 
@@ -182,6 +186,17 @@ module _ (job : JobView) (run : RunView) where
     where
       of_groups : Any (λ row. is_as_near (groups_of pair) n row ≡ true) rows → Any (λ row. row.groups ≡ groups_of pair) rows
       of_groups (k, row, below, is, on) = (k, row, below, is, (as_near (groups_of pair) n row on).0)
+
+  -- one pair more whose boxes reach no further than the row of their groups
+  pub kept_by_row : (pairs : List Pair) (pair : Pair) (rows : List Near) (so_far : Option ℤ) → IfSome so_far (λ n. Any (λ row. is_as_near (groups_of pair) n row ≡ true) rows)
+      → All (λ reach. is_over so_far reach ≡ false) (pair_reaches job run pair) → AreNearest job run pairs rows → AreNearest job run (pairs ++ pair ∷ []) rows
+  kept_by_row pairs pair rows None row none are = absurd (pair_has job run pair (empty (pair_reaches job run pair) none))
+    where
+      empty : (ns : List ℤ) → All (λ (n : ℤ). true ≡ false) ns → ns ≡ []
+      empty [] all = refl
+      empty (n ∷ ns) all = absurd (let e : true ≡ false = All-head (λ (m : ℤ). true ≡ false) n ns all in cc)
+  kept_by_row pairs pair rows (Some n) row none are =
+      nearest_kept pairs pair n rows (All-weaker (λ reach. int_lt n reach ≡ false) (λ reach. reach ≤ℤ n) (λ reach off. not_less n reach off) (pair_reaches job run pair) none) row are
 
   -- one pair more whose covers reach no further
   pub passed_one : (pairs : List Pair) (pair : Pair) (rows : List Near) → may_be_nearer rows pair ≡ false → AreNearestSoFar job run pairs rows → AreNearestSoFar job run (pairs ++ pair ∷ []) rows

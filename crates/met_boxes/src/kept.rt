@@ -1,6 +1,5 @@
 //! The boxes by which the boxes of a stretch are compared, kept once they are made.
-ghost use Rattle.std.specs.Prelude.{◌≡◌, ◌<◌, ◌≤◌, ◌&&◌, ℕ, nat_lt, length, All, List, OnOk, Vec};
-ghost use Rattle.std.specs.Global.{Global};
+ghost use Rattle.std.specs.Prelude.{◌≡◌, ◌<◌, ◌≤◌, ◌&&◌, ℕ, nat_lt, length, All, List, IfOk, OnOk};
 ghost use Rattle.job_lines.specs.declared.limits.TheConstants.{DEPTH_LIMIT};
 ghost use Rattle.job_types.specs.Job.{JobView};
 ghost use Rattle.job_types.specs.declared.job.ZoneLine.{ZoneLine};
@@ -13,11 +12,11 @@ ghost use Rattle.swept_boxes.specs.declared.Box3.{Box3};
 ghost use Rattle.sync_types.specs.Views.{RunView};
 
 use crate::meetings::{Held, Scene};
+use box_reach::PartedLot;
 use protection_zones::{ZoneBox, boxes_by_pieces};
 use std::alloc::{AllocError, Global};
-use swept_boxes::Box3;
 
-/// Of how many boxes of a stretch at most those by which they are compared are kept. They take 2,000 bytes for each box at the most.
+/// Of how many boxes of a stretch at most those by which they are compared are kept. They take 2,700 bytes for each box at the most.
 const KEPT_LIMIT: usize = 8_192;
 
 /// Whether the boxes of a place are to be kept while the boxes of a stretch are held against them: where there are more of these than
@@ -30,19 +29,29 @@ pub(crate) fn are_kept(left: &Held, place: usize) -> bool
 }
 
 /// Adds places of which nothing is kept, until there are as many as this.
-fn have_places(alloc: Global, kept: &mut Vec<Vec<Box3>>, count: usize) -> Result<(), AllocError>
+fn have_places(alloc: Global, kept: &mut Vec<PartedLot>, count: usize) -> Result<(), AllocError>
     ensures places { OnOk result (count ≤ length kept.new.items) }
     ensures kept { OnOk result ((job : JobView) → (run : RunView) → (zone : ZoneLine) → (stretch : StretchView) → AreKept job run zone stretch kept.old.items → AreKept job run zone stretch kept.new.items) }
 {
     for place in kept.len()..count {
-        kept.push(Vec::new(alloc))?;
+        kept.push(PartedLot::new(alloc))?;
     }
     Ok(())
 }
 
+/// The boxes by which a box of a stretch is compared.
+pub(crate) fn lot_of(scene: &Scene, held: &Held, own: &ZoneBox) -> Result<PartedLot, AllocError>
+    requires fit { All (All IsFit) scene.now.run.now.items }
+    requires deep { scene.now.job.now.depth ≤ DEPTH_LIMIT }
+    ensures { IfOk result (λ made. made ≡ piece_boxes scene.now.job.now scene.now.run.now (place_of held.now.zone.now held.now.stretch.now own.now)) }
+{
+    let boxes = boxes_by_pieces(scene.job, scene.run, held.zone, held.stretch, own);
+    PartedLot::over(scene.alloc, boxes.as_slice())
+}
+
 /// Makes the boxes of a place.
 fn make_at(
-    kept: &mut Vec<Vec<Box3>>,
+    kept: &mut Vec<PartedLot>,
     scene: &Scene,
     right: &Held,
     place: usize,
@@ -52,18 +61,17 @@ fn make_at(
     requires deep { scene.now.job.now.depth ≤ DEPTH_LIMIT }
     requires place { place < length kept.old.items }
     ensures len { OnOk result (length kept.new.items ≡ length kept.old.items) }
-    ensures kept { OnOk result ((made : Vec Box3 Global) → IsKeptAt kept.new.items place made → made.items ≡ piece_boxes scene.now.job.now scene.now.run.now (place_of right.now.zone.now right.now.stretch.now later.now)) }
-    ensures others { OnOk result ((other : ℕ) → (made : Vec Box3 Global) → (other ≡ place → ⊥) → IsKeptAt kept.new.items other made → IsKeptAt kept.old.items other made) }
+    ensures kept { OnOk result ((made : List Box3) → IsKeptAt kept.new.items place made → made ≡ piece_boxes scene.now.job.now scene.now.run.now (place_of right.now.zone.now right.now.stretch.now later.now)) }
+    ensures others { OnOk result ((other : ℕ) → (made : List Box3) → (other ≡ place → ⊥) → IsKeptAt kept.new.items other made → IsKeptAt kept.old.items other made) }
 {
-    let boxes = boxes_by_pieces(scene.job, scene.run, right.zone, right.stretch, later);
-    let made = Vec::from_slice(scene.alloc, boxes.as_slice())?;
+    let made = lot_of(scene, right, later)?;
     kept[place] = made;
     Ok(())
 }
 
 /// Makes the boxes of a place, where none are kept.
 fn make_once(
-    kept: &mut Vec<Vec<Box3>>,
+    kept: &mut Vec<PartedLot>,
     scene: &Scene,
     right: &Held,
     place: usize,
@@ -76,7 +84,7 @@ fn make_once(
     requires place { place < length kept.old.items }
     ensures place { OnOk result (place < length kept.new.items) }
     ensures kept { OnOk result (AreKept scene.now.job.now scene.now.run.now right.now.zone.now right.now.stretch.now kept.new.items) }
-    ensures made { OnOk result ((made : Vec Box3 Global) → IsKeptAt kept.new.items place made → made.items ≡ piece_boxes scene.now.job.now scene.now.run.now (place_of right.now.zone.now right.now.stretch.now later.now)) }
+    ensures made { OnOk result ((made : List Box3) → IsKeptAt kept.new.items place made → made ≡ piece_boxes scene.now.job.now scene.now.run.now (place_of right.now.zone.now right.now.stretch.now later.now)) }
 {
     if kept[place].is_empty() {
         make_at(kept, scene, right, place, later)?;
@@ -86,7 +94,7 @@ fn make_once(
 
 /// Keeps the boxes of a place: they are made, where none are kept.
 pub(crate) fn keep_at(
-    kept: &mut Vec<Vec<Box3>>,
+    kept: &mut Vec<PartedLot>,
     scene: &Scene,
     right: &Held,
     place: usize,
@@ -99,7 +107,7 @@ pub(crate) fn keep_at(
     requires kept { AreKept scene.now.job.now scene.now.run.now right.now.zone.now right.now.stretch.now kept.old.items }
     ensures place { OnOk result (place < length kept.new.items) }
     ensures kept { OnOk result (AreKept scene.now.job.now scene.now.run.now right.now.zone.now right.now.stretch.now kept.new.items) }
-    ensures made { OnOk result ((made : Vec Box3 Global) → IsKeptAt kept.new.items place made → made.items ≡ piece_boxes scene.now.job.now scene.now.run.now (place_of right.now.zone.now right.now.stretch.now later.now)) }
+    ensures made { OnOk result ((made : List Box3) → IsKeptAt kept.new.items place made → made ≡ piece_boxes scene.now.job.now scene.now.run.now (place_of right.now.zone.now right.now.stretch.now later.now)) }
 {
     have_places(scene.alloc, kept, place + 1)?;
     make_once(kept, scene, right, place, later)?;
@@ -107,9 +115,9 @@ pub(crate) fn keep_at(
 }
 
 /// The boxes kept at a place.
-pub(crate) fn kept_at(kept: &[Vec<Box3>], place: usize) -> &[Box3]
+pub(crate) fn kept_at(kept: &[PartedLot], place: usize) -> &PartedLot
     requires { place < length kept.now }
-    ensures { (P : List Box3) → ((made : Vec Box3 Global) → IsKeptAt kept.now place made → made.items ≡ P) → result.now ≡ P }
+    ensures { (P : List Box3) → ((made : List Box3) → IsKeptAt kept.now place made → made ≡ P) → result.now ≡ P }
 {
-    kept[place].as_slice()
+    &kept[place]
 }

@@ -13,15 +13,15 @@ ghost use Rattle.protection_zones.specs.Told.{IsTold};
 ghost use Rattle.protection_zones.specs.ZoneBoxes.{IsFit};
 ghost use Rattle.swept_boxes.specs.Boxes.{boxes_meet};
 
-use crate::kept::{are_kept, keep_at, kept_at};
+use crate::kept::{are_kept, keep_at, kept_at, lot_of};
 use crate::overlaps::{are_compared, may_overlap, share_channel};
 use crate::rows::{Row, rows_of, times_of};
 use axis_sets::{ChannelId, ZoneId};
-use box_reach::do_lots_meet;
+use box_reach::PartedLot;
 use job_types::{Job, ZoneLine};
 use nc_faults::NoMemory;
 use order_clocks::Clocks;
-use protection_zones::{Stretch, Stretches, ZoneBox, boxes_by_pieces};
+use protection_zones::{Stretch, Stretches, ZoneBox};
 use std::alloc::{AllocError, Global};
 use swept_boxes::Box3;
 use sync_types::{EventId, PlaceName, Run, StretchKind};
@@ -123,14 +123,14 @@ fn add_by_pieces(
     list: &mut Vec<Meeting>,
     left: &Held,
     own: &ZoneBox,
-    pieces: &[Box3],
+    pieces: &PartedLot,
     right: &Held,
     later: &ZoneBox,
-    others: &[Box3],
+    others: &PartedLot,
 ) -> Result<(), AllocError>
     ensures { OnOk result (list.new.items ≡ list.old.items ++ (if lots_meet pieces.now others.now then told_pair (model.place_of left.now.zone.now left.now.stretch.now own.now, model.place_of right.now.zone.now right.now.stretch.now later.now) ∷ [] else [])) }
 {
-    if do_lots_meet(pieces, others) {
+    if pieces.meets(others) {
         add(list, &told_pair(left, own, right, later))?;
     }
     Ok(())
@@ -140,11 +140,11 @@ fn add_by_pieces(
 /// two may meet, and kept where they are to be.
 fn add_one(
     list: &mut Vec<Meeting>,
-    kept: &mut Vec<Vec<Box3>>,
+    kept: &mut Vec<PartedLot>,
     scene: &Scene,
     left: &Held,
     own: &ZoneBox,
-    pieces: &[Box3],
+    pieces: &PartedLot,
     right: &Held,
     place: usize,
     later: &ZoneBox,
@@ -167,19 +167,19 @@ fn add_one(
         add_by_pieces(list, left, own, pieces, right, later, others)?;
         return Ok(());
     }
-    let made = boxes_by_pieces(scene.job, scene.run, right.zone, right.stretch, later);
-    add_by_pieces(list, left, own, pieces, right, later, made.as_slice())?;
+    let made = lot_of(scene, right, later)?;
+    add_by_pieces(list, left, own, pieces, right, later, &made)?;
     Ok(())
 }
 
 /// Adds a box with some of a stretch that it meets; these are the boxes by which the first is compared.
 fn add_each(
     list: &mut Vec<Meeting>,
-    kept: &mut Vec<Vec<Box3>>,
+    kept: &mut Vec<PartedLot>,
     scene: &Scene,
     left: &Held,
     own: &ZoneBox,
-    pieces: &[Box3],
+    pieces: &PartedLot,
     right: &Held,
     laters: &[ZoneBox],
 ) -> Result<(), AllocError>
@@ -202,7 +202,7 @@ fn add_each(
 /// Adds a box with those of a stretch that it meets. The boxes by which it is compared are made once, where it may meet any.
 fn add_by(
     list: &mut Vec<Meeting>,
-    kept: &mut Vec<Vec<Box3>>,
+    kept: &mut Vec<PartedLot>,
     scene: &Scene,
     left: &Held,
     own: &ZoneBox,
@@ -220,24 +220,15 @@ fn add_by(
     if !may_meet_any(left, own, right, laters) {
         return Ok(());
     }
-    let pieces = boxes_by_pieces(scene.job, scene.run, left.zone, left.stretch, own);
-    add_each(
-        list,
-        kept,
-        scene,
-        left,
-        own,
-        pieces.as_slice(),
-        right,
-        laters,
-    )?;
+    let pieces = lot_of(scene, left, own)?;
+    add_each(list, kept, scene, left, own, &pieces, right, laters)?;
     Ok(())
 }
 
 /// Adds some boxes of a stretch and those of another that meet.
 fn add_owns(
     list: &mut Vec<Meeting>,
-    kept: &mut Vec<Vec<Box3>>,
+    kept: &mut Vec<PartedLot>,
     scene: &Scene,
     left: &Held,
     owns: &[ZoneBox],

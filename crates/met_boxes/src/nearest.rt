@@ -1,6 +1,6 @@
 //! How near the compared boxes of two groups come to each other.
-ghost use Rattle.std.specs.Prelude.{◌≡◌, ◌≤◌, ◌++◌, ◌∷◌, [], min, max, All, List, OnOk, IfOk};
-ghost use Rattle.std.specs.List.{flat_map, list_any};
+ghost use Rattle.std.specs.Prelude.{◌≡◌, ◌≤◌, ◌++◌, ◌∷◌, [], min, max, true, All, List, OnOk, IfOk, IfSome};
+ghost use Rattle.std.specs.List.{Any, flat_map, list_any};
 ghost use Rattle.job_lines.specs.declared.limits.TheConstants.{DEPTH_LIMIT};
 ghost use Rattle.job_types.specs.Job.{JobView};
 ghost use Rattle.job_types.specs.SoundJob.{IsSoundJob};
@@ -17,16 +17,16 @@ ghost use Rattle.protection_zones.specs.Told.{IsTold};
 ghost use Rattle.protection_zones.specs.ZoneBoxes.{IsFit};
 ghost use Rattle.sync_types.specs.Views.{RunView};
 
-use crate::kept::{are_kept, keep_at, kept_at};
+use crate::kept::{are_kept, keep_at, kept_at, lot_of};
 use crate::meetings::{Held, Scene, told_box};
 use crate::overlaps::{are_compared, may_overlap, share_channel};
 use crate::rows::{Row, rows_of, times_of};
 use axis_sets::{ChannelId, ZoneId};
-use box_reach::{least_way, most_near};
+use box_reach::{PartedLot, least_way};
 use job_types::{Job, ZoneLine};
 use nc_faults::NoMemory;
 use order_clocks::Clocks;
-use protection_zones::{Stretch, Stretches, ZoneBox, boxes_by_pieces};
+use protection_zones::{Stretch, Stretches, ZoneBox};
 use std::alloc::{AllocError, Global};
 use swept_boxes::Box3;
 use sync_types::{EventId, Run, StretchKind};
@@ -126,6 +126,18 @@ fn is_any_as_near(rows: &[Near], groups: (u8, u8), reach: i64) -> bool
     rows.iter().any(|row| is_as_near(row, groups, reach))
 }
 
+/// How far the boxes of the row of these groups reach into each other, where there is one.
+fn reach_in(rows: &[Near], groups: (u8, u8)) -> Option<i64>
+    ensures { IfSome result (λ reach. Any (λ row. steps.is_as_near groups reach row ≡ true) rows.now) }
+{
+    for row in rows {
+        if row.groups.0 == groups.0 && row.groups.1 == groups.1 {
+            return Some(row.reach);
+        }
+    }
+    None
+}
+
 /// Whether the covers of two boxes reach further into each other than any row of their groups.
 fn may_be_nearer(rows: &[Near], left: &Held, own: &ZoneBox, right: &Held, later: &ZoneBox) -> bool
     ensures { result ≡ steps.may_be_nearer rows.now (place_of left.now.zone.now left.now.stretch.now own.now, place_of right.now.zone.now right.now.stretch.now later.now) }
@@ -157,15 +169,16 @@ fn may_any_count(
         .any(|later| may_count(rows, left, own, right, later))
 }
 
-/// Looks at two boxes that are compared; these are the boxes by which they are.
+/// Looks at two boxes that are compared; these are the boxes by which they are. Where none of them reach further than the row of
+/// their groups, the rows stay as they are.
 fn look_by_pieces(
     rows: &mut Vec<Near>,
     left: &Held,
     own: &ZoneBox,
-    pieces: &[Box3],
+    pieces: &PartedLot,
     right: &Held,
     later: &ZoneBox,
-    others: &[Box3],
+    others: &PartedLot,
 ) -> Result<(), AllocError>
     ensures { OnOk result ((job : JobView) → (run : RunView) → (seen : List Pair)
         → pieces.now ≡ piece_boxes job run (place_of left.now.zone.now left.now.stretch.now own.now)
@@ -173,7 +186,8 @@ fn look_by_pieces(
         → model.AreNearest job run seen rows.old.items
         → model.AreNearest job run (seen ++ (place_of left.now.zone.now left.now.stretch.now own.now, place_of right.now.zone.now right.now.stretch.now later.now) ∷ []) rows.new.items) }
 {
-    if let Some(reach) = most_near(pieces, others) {
+    let so_far = reach_in(rows.as_slice(), groups_of(left.zone, right.zone));
+    if let Some(reach) = pieces.most_over(so_far, others) {
         let near = near_of(reach, left, own, right, later);
         put(rows, &near)?;
     }
@@ -184,11 +198,11 @@ fn look_by_pieces(
 /// are to be.
 fn look(
     rows: &mut Vec<Near>,
-    kept: &mut Vec<Vec<Box3>>,
+    kept: &mut Vec<PartedLot>,
     scene: &Scene,
     left: &Held,
     own: &ZoneBox,
-    pieces: &[Box3],
+    pieces: &PartedLot,
     right: &Held,
     place: usize,
     later: &ZoneBox,
@@ -208,8 +222,8 @@ fn look(
         look_by_pieces(rows, left, own, pieces, right, later, others)?;
         return Ok(());
     }
-    let made = boxes_by_pieces(scene.job, scene.run, right.zone, right.stretch, later);
-    look_by_pieces(rows, left, own, pieces, right, later, made.as_slice())?;
+    let made = lot_of(scene, right, later)?;
+    look_by_pieces(rows, left, own, pieces, right, later, &made)?;
     Ok(())
 }
 
@@ -217,11 +231,11 @@ fn look(
 /// compared lie in their covers, so they reach no further than these.
 fn look_near(
     rows: &mut Vec<Near>,
-    kept: &mut Vec<Vec<Box3>>,
+    kept: &mut Vec<PartedLot>,
     scene: &Scene,
     left: &Held,
     own: &ZoneBox,
-    pieces: &[Box3],
+    pieces: &PartedLot,
     right: &Held,
     place: usize,
     later: &ZoneBox,
@@ -244,11 +258,11 @@ fn look_near(
 /// Looks at two boxes, where they are compared.
 fn look_at(
     rows: &mut Vec<Near>,
-    kept: &mut Vec<Vec<Box3>>,
+    kept: &mut Vec<PartedLot>,
     scene: &Scene,
     left: &Held,
     own: &ZoneBox,
-    pieces: &[Box3],
+    pieces: &PartedLot,
     right: &Held,
     place: usize,
     later: &ZoneBox,
@@ -271,11 +285,11 @@ fn look_at(
 /// Looks at a box with some of a stretch; these are the boxes by which the first is compared.
 fn look_each(
     rows: &mut Vec<Near>,
-    kept: &mut Vec<Vec<Box3>>,
+    kept: &mut Vec<PartedLot>,
     scene: &Scene,
     left: &Held,
     own: &ZoneBox,
-    pieces: &[Box3],
+    pieces: &PartedLot,
     right: &Held,
     laters: &[ZoneBox],
 ) -> Result<(), AllocError>
@@ -298,7 +312,7 @@ fn look_each(
 /// Looks at a box with those of a stretch. The boxes by which it is compared are made once, where any may be nearer.
 fn look_by(
     rows: &mut Vec<Near>,
-    kept: &mut Vec<Vec<Box3>>,
+    kept: &mut Vec<PartedLot>,
     scene: &Scene,
     left: &Held,
     own: &ZoneBox,
@@ -316,24 +330,15 @@ fn look_by(
     if !may_any_count(rows.as_slice(), left, own, right, laters) {
         return Ok(());
     }
-    let pieces = boxes_by_pieces(scene.job, scene.run, left.zone, left.stretch, own);
-    look_each(
-        rows,
-        kept,
-        scene,
-        left,
-        own,
-        pieces.as_slice(),
-        right,
-        laters,
-    )?;
+    let pieces = lot_of(scene, left, own)?;
+    look_each(rows, kept, scene, left, own, &pieces, right, laters)?;
     Ok(())
 }
 
 /// Looks at some boxes of a stretch and those of another.
 fn look_owns(
     rows: &mut Vec<Near>,
-    kept: &mut Vec<Vec<Box3>>,
+    kept: &mut Vec<PartedLot>,
     scene: &Scene,
     left: &Held,
     owns: &[ZoneBox],

@@ -14,4 +14,4 @@ returns c =
     get_or-map (λ (l : ArrayVec Box3). l.items) c.args.rights.now c.args.depth c.index-rights-depth.result [] c.requires.right
     ∙ ap (λ (l : ArrayVec Box3). l.items) (sym c.index-rights-depth.is) ∙ sym c.as_slice-2.ensures.value in
     subst (λ (boxes : List Box3). IsTrue c.do_lots_meet.result ↔ DoLotsMeet boxes (get_or (map (λ (l : ArrayVec Box3). l.items) c.args.rights.now) c.args.depth [])) (sym own)
-    (subst (λ (others : List Box3). IsTrue c.do_lots_meet.result ↔ DoLotsMeet c.as_slice.result.now others) (sym other) c.do_lots_meet.ensures.share)
+    (subst (λ (others : List Box3). IsTrue c.do_lots_meet.result ↔ DoLotsMeet c.as_slice.result.now others) (sym other) c.do_lots_meet.ensures)

@@ -1,9 +1,11 @@
 -- The parts so far have the boxes before the rest.
-use Rattle.std.proofs.Common.{◌≡◌, [], ◌++◌, All, length}
+use Rattle.std.proofs.Common.{◌≡◌, ◌++◌, All, length}
 use Rattle.std.specs.List.{flat_map}
 use Rattle.box_reach.specs.Parts.{IsCovered, boxes_in}
 use Rattle.box_reach.proofs.parts.parts_of.Given as goal
 
-abbrev pub invariant-loop-number : goal.invariant-loop-number
-invariant-loop-number l =
-    (flat_map boxes_in l.parts.items ++ l.rest ≡ l.boxes) × All IsCovered l.parts.items × (length l.parts.items ≡ l.number) × (l.number ≡ 8 → l.rest ≡ [])
+abbrev pub invariant-loop-rest : goal.invariant-loop-rest
+invariant-loop-rest l = (flat_map boxes_in l.parts.items ++ l.rest ≡ l.boxes) × All IsCovered l.parts.items
+
+abbrev pub decreases-loop-rest : goal.decreases-loop-rest
+decreases-loop-rest l = length l.rest

@@ -1,5 +1,4 @@
-use Rattle.std.proofs.Common.{◌≡◌, ◌∙◌, ◌++◌, [], List, Vec, sym, ap, subst}
-use Rattle.std.specs.Global.{Global}
+use Rattle.std.proofs.Common.{◌≡◌, ◌∙◌, ◌++◌, [], List, sym, ap, subst}
 use Rattle.std.proofs.lemmas.List.{append-nil}
 use Rattle.order_clocks.specs.Tells.{is_before_in}
 use Rattle.protection_zones.specs.Overlaps.{BoxPlace}
@@ -24,7 +23,7 @@ returns-then-are_kept-clause-met c =
     let right : BoxPlace = place_of c.args.right.now.zone.now c.args.right.now.stretch.now c.args.later.now in
     let others : c.kept_at-others.result.now ≡ piece_boxes case.job case.run right =
     c.kept_at-others.ensures (piece_boxes case.job case.run right)
-    (λ made at. c.in_ok-keep_at.ensures.made made (subst (λ (kept : List (Vec Box3 Global)). IsKeptAt kept c.args.place made) c.as_slice.ensures.value at)) in
+    (λ made at. c.in_ok-keep_at.ensures.made made (subst (λ (kept : List (List Box3)). IsKeptAt kept c.args.place made) c.as_slice.ensures.value at)) in
     c.in_ok-add_by_pieces.ensures ∙ ap (λ (met : List Meeting). c.args.list.now.items ++ met)
     (met_on case (place_of c.args.left.now.zone.now c.args.left.now.stretch.now c.args.own.now) c.args.right.now.zone.now c.args.right.now.stretch.now c.args.later.now c.args.pieces.now c.kept_at-others.result.now
     (sym c.may_meet.ensures ∙ c.if-not-may_meet.false) c.requires.pieces others)
@@ -33,5 +32,5 @@ pub returns-clause-met : goal.returns-clause-met
 returns-clause-met c =
     let case : Case = record { job = c.args.scene.now.job.now; run = c.args.scene.now.run.now; before = is_before_in c.args.scene.now.clocks.now.rows } in
     c.in_ok-add_by_pieces-2.ensures ∙ ap (λ (met : List Meeting). c.args.list.now.items ++ met)
-    (met_on case (place_of c.args.left.now.zone.now c.args.left.now.stretch.now c.args.own.now) c.args.right.now.zone.now c.args.right.now.stretch.now c.args.later.now c.args.pieces.now c.as_slice-2.result.now
-    (sym c.may_meet.ensures ∙ c.if-not-may_meet.false) c.requires.pieces (c.as_slice-2.ensures.value ∙ c.boxes_by_pieces-made.ensures))
+    (met_on case (place_of c.args.left.now.zone.now c.args.left.now.stretch.now c.args.own.now) c.args.right.now.zone.now c.args.right.now.stretch.now c.args.later.now c.args.pieces.now c.in_ok-made.made
+    (sym c.may_meet.ensures ∙ c.if-not-may_meet.false) c.requires.pieces c.in_ok-made.ensures)

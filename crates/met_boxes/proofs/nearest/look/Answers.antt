@@ -1,5 +1,4 @@
-use Rattle.std.proofs.Common.{◌≡◌, ◌∙◌, List, Vec, subst}
-use Rattle.std.specs.Global.{Global}
+use Rattle.std.proofs.Common.{◌≡◌, List, subst}
 use Rattle.met_boxes.specs.KeptBoxes.{IsKeptAt}
 use Rattle.met_boxes.specs.MeetingSteps.{place_of}
 use Rattle.protection_zones.specs.Pieces.{piece_boxes}
@@ -10,9 +9,8 @@ pub returns-then-are_kept-clause-near : goal.returns-then-are_kept-clause-near
 returns-then-are_kept-clause-near c seen are =
     let others : c.kept_at-others.result.now ≡ piece_boxes c.args.scene.now.job.now c.args.scene.now.run.now (place_of c.args.right.now.zone.now c.args.right.now.stretch.now c.args.later.now) =
     c.kept_at-others.ensures (piece_boxes c.args.scene.now.job.now c.args.scene.now.run.now (place_of c.args.right.now.zone.now c.args.right.now.stretch.now c.args.later.now))
-    (λ made at. c.in_ok-keep_at.ensures.made made (subst (λ (kept : List (Vec Box3 Global)). IsKeptAt kept c.args.place made) c.as_slice.ensures.value at)) in
+    (λ made at. c.in_ok-keep_at.ensures.made made (subst (λ (kept : List (List Box3)). IsKeptAt kept c.args.place made) c.as_slice.ensures.value at)) in
     c.in_ok-look_by_pieces.ensures c.args.scene.now.job.now c.args.scene.now.run.now seen c.requires.pieces others are
 
 pub returns-clause-near : goal.returns-clause-near
-returns-clause-near c seen are =
-    c.in_ok-look_by_pieces-2.ensures c.args.scene.now.job.now c.args.scene.now.run.now seen c.requires.pieces (c.as_slice-2.ensures.value ∙ c.boxes_by_pieces-made.ensures) are
+returns-clause-near c seen are = c.in_ok-look_by_pieces-2.ensures c.args.scene.now.job.now c.args.scene.now.run.now seen c.requires.pieces c.in_ok-made.ensures are

@@ -1,14 +1,16 @@
-use Rattle.std.proofs.Common.{rules, ◌≡◌, ◌∙◌, ◌++◌, ◌∷◌, [], ℤ, List, Some, sym, ap, subst, w64}
+use Rattle.std.proofs.Common.{rules, ◌≡◌, ◌∙◌, ◌++◌, ◌∷◌, [], ℕ, ℤ, true, false, List, All, Some, sym, subst, w64}
+use Rattle.std.specs.List.{Any}
+use Rattle.std.specs.Prelude.{IfSome}
 use Rattle.std.proofs.lemmas.Int.{to_z-of_z}
 use mir.Val.{SFits}
-use Rattle.box_reach.specs.Lots.{IsGreatest, reaches}
+use Rattle.box_reach.specs.Lots.{IsGreatest, is_over, reaches}
 use Rattle.protection_zones.specs.Overlaps.{Pair}
 use Rattle.protection_zones.specs.Pieces.{piece_boxes}
 use Rattle.swept_boxes.specs.declared.Box3.{Box3}
-use Rattle.met_boxes.proofs.NearestLaws.{IsOne, nearest_more}
-use Rattle.met_boxes.proofs.SomeLaws.{pair_has}
+use Rattle.met_boxes.proofs.NearestLaws.{IsOne, kept_by_row, nearest_more, parts_are}
 use Rattle.met_boxes.specs.MeetingSteps.{place_of}
-use Rattle.met_boxes.specs.Nearest.{AreNearest, pair_reaches}
+use Rattle.met_boxes.specs.Nearest.{AreNearest, groups_of, pair_reaches}
+use Rattle.met_boxes.specs.NearSteps.{is_as_near}
 use Rattle.met_boxes.specs.declared.nearest.Near.{Near}
 use Rattle.met_boxes.proofs.nearest.look_by_pieces.Goals as goal
 
@@ -20,7 +22,7 @@ returns-in_ok-put c job run seen by_pieces others are =
     let own : IsGreatest (Some c.near_of-near.result.reach) (pair_reaches job run pair) =
     subst (λ (n : ℤ). IsGreatest (Some n) (pair_reaches job run pair)) (sym reach)
     (subst (λ (xs : List Box3). IsGreatest (Some c.in-Some.reach) (reaches xs (piece_boxes job run pair.1))) by_pieces
-    (subst (λ (ys : List Box3). IsGreatest (Some c.in-Some.reach) (reaches c.args.pieces.now ys)) others c.in-Some.ensures)) in
+    (subst (λ (ys : List Box3). IsGreatest (Some c.in-Some.reach) (reaches c.args.pieces.now ys)) others c.in-Some.ensures.0)) in
     let one : IsOne job run pair c.near_of-near.result =
     record { groups = c.near_of-near.ensures.groups; left = c.near_of-near.ensures.left; right = c.near_of-near.ensures.right; own = own } in
     subst (λ (rows : List Near). AreNearest job run (seen ++ pair ∷ []) rows) (sym c.in_ok-put.ensures)
@@ -29,7 +31,11 @@ returns-in_ok-put c job run seen by_pieces others are =
 pub returns-in_default : goal.returns-in_default
 returns-in_default c job run seen by_pieces others are =
     let pair : Pair = (place_of c.args.left.now.zone.now c.args.left.now.stretch.now c.args.own.now, place_of c.args.right.now.zone.now c.args.right.now.stretch.now c.args.later.now) in
-    let none : pair_reaches job run pair ≡ [] =
-    ap (λ (xs : List Box3). reaches xs (piece_boxes job run pair.1)) (sym by_pieces)
-    ∙ ap (λ (ys : List Box3). reaches c.args.pieces.now ys) (sym others) ∙ c.in_default.ensures in
-    absurd (pair_has job run pair none)
+    let none : All (λ reach. is_over c.reach_in-so_far.result reach ≡ false) (pair_reaches job run pair) =
+    subst (λ (xs : List Box3). All (λ reach. is_over c.reach_in-so_far.result reach ≡ false) (reaches xs (piece_boxes job run pair.1))) by_pieces
+    (subst (λ (ys : List Box3). All (λ reach. is_over c.reach_in-so_far.result reach ≡ false) (reaches c.args.pieces.now ys)) others c.in_default.ensures) in
+    let groups : c.groups_of.result ≡ groups_of pair = parts_are c.groups_of.result (groups_of pair).0 (groups_of pair).1 c.groups_of.ensures.low c.groups_of.ensures.high in
+    let row : IfSome c.reach_in-so_far.result (λ n. Any (λ row. is_as_near (groups_of pair) n row ≡ true) c.args.rows.now.items) =
+    subst (λ (g : ℕ × ℕ). IfSome c.reach_in-so_far.result (λ n. Any (λ row. is_as_near g n row ≡ true) c.args.rows.now.items)) groups
+    (subst (λ (rows : List Near). IfSome c.reach_in-so_far.result (λ n. Any (λ row. is_as_near c.groups_of.result n row ≡ true) rows)) c.as_slice.ensures.value c.reach_in-so_far.ensures) in
+    kept_by_row job run seen pair c.args.rows.now.items c.reach_in-so_far.result row none are

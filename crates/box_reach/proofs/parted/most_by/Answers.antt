@@ -1,0 +1,17 @@
+use Rattle.std.proofs.Common.{ℤ, List, ◌++◌, take, get_or, sym, subst, arith}
+use Rattle.std.specs.List.{flat_map}
+use Rattle.box_reach.proofs.PartLaws.{greatest_by_more, no_reaches}
+use Rattle.box_reach.specs.Lots.{IsGreatest, reaches}
+use Rattle.box_reach.specs.Parts.{boxes_in}
+use Rattle.box_reach.specs.declared.parts.Part.{Part}
+use Rattle.box_reach.proofs.parted.most_by.Goals as goal
+
+pub loop-other-init : goal.loop-other-init
+loop-other-init c numbers h = subst (λ (ns : List ℤ). IsGreatest c.args.before ns) (sym (no_reaches numbers (boxes_in c.args.own.now))) h
+
+pub loop-other-preserved : goal.loop-other-preserved
+loop-other-preserved c numbers h =
+    greatest_by_more c.most_between-most.result numbers (boxes_in c.args.own.now) c.args.others.now c.loop-other.other-index c.other-item.result (omega arith)
+    (subst (λ (o : Part). IsGreatest c.most_between-most.result ((numbers ++ reaches (boxes_in c.args.own.now) (flat_map boxes_in (take c.loop-other.other-index c.args.others.now))) ++ reaches (boxes_in c.args.own.now) (boxes_in o)))
+    c.other-item.is
+    (c.most_between-most.ensures (numbers ++ reaches (boxes_in c.args.own.now) (flat_map boxes_in (take c.loop-other.other-index c.args.others.now))) (c.loop-other.invariant numbers h)))
