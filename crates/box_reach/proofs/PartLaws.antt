@@ -1,12 +1,12 @@
 -- Lots of boxes in parts: what a cover does not come near, none of its boxes does; and one part more.
-use Rattle.std.proofs.Common.{◌≡◌, ◌∙◌, ◌<◌, ◌+◌, ◌==◌, ◌⊎◌, inl, inr, ℕ, ℤ, zero, suc, ◌≤ℤ◌, Bool, true, false, not, List, take, [], ◌∷◌, ◌++◌, Option, None, Some, map, length, get_or, All, Contains, ap, subst, sym, refl, arith, length-append}
+use Rattle.std.proofs.Common.{◌≡◌, ◌∙◌, ◌<◌, ◌+◌, ◌==◌, inl, inr, ℕ, ℤ, zero, suc, ◌≤ℤ◌, Bool, true, false, not, List, take, [], ◌∷◌, ◌++◌, Option, None, Some, map, length, get_or, All, Contains, ap, subst, sym, refl, arith, length-append}
 use Rattle.std.specs.Prelude.{◌-ℤ◌, ◌||◌, nat_lt, option_to_list}
 use Rattle.std.specs.Int.{int_max, int_min}
 use Rattle.std.specs.Int.RustNames.{int_lt}
 use Rattle.std.specs.List.{flat_map, list_any}
 use Rattle.std.proofs.lemmas.Grind.{flat_map-append}
 use Rattle.std.proofs.lemmas.Int.{ints, clamps}
-use Rattle.std.proofs.lemmas.List.{append-nil, append_assoc, map-append, take_more}
+use Rattle.std.proofs.lemmas.List.{append-nil, append_assoc, take_more}
 use Rattle.std.proofs.lemmas.List.Elements.{All-nil, All-cons, All-head, All-tail, All-append, All-contains, All-map, All-weaker, Contains-append_left, Contains-append_right, Contains-append_cases}
 use Rattle.std.proofs.lemmas.List.Folds.{list_any-append, list_any_none}
 use Rattle.swept_boxes.proofs.Meeting.{meet-from_touch, touch-from_meet}

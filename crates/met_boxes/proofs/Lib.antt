@@ -11,3 +11,4 @@ pub mod SomeLaws
 pub mod NearestLaws
 pub mod GroupLaws
 pub mod EmptyRuns
+pub mod PassedLaws

@@ -60,7 +60,7 @@ pub record IsOne (job : JobView) (run : RunView) (pair : Pair) (near : Near) : T
   pub right : near.right ≡ told_place pair.1
   pub own : IsGreatest (Some near.reach) (pair_reaches job run pair)
 
-less_trans : (a b c : ℤ) → a ≤ℤ b → b ≤ℤ c → a ≤ℤ c
+pub less_trans : (a b c : ℤ) → a ≤ℤ b → b ≤ℤ c → a ≤ℤ c
 less_trans a b c p q = omega (arith, ints)
 
 not_less : (a b : ℤ) → int_lt a b ≡ false → b ≤ℤ a
@@ -87,7 +87,7 @@ abbrev Least : JobView → RunView → Near → Pair → Type 0
 Least job run row p = groups_of p ≡ row.groups → All (λ reach. reach ≤ℤ row.reach) (pair_reaches job run p)
 
 -- a new pair is of other groups, or reaches no further
-kept_near : (job : JobView) (run : RunView) (pairs : List Pair) (pair : Pair) (row : Near) → Least job run row pair → IsNearest job run pairs row → IsNearest job run (pairs ++ pair ∷ []) row
+pub kept_near : (job : JobView) (run : RunView) (pairs : List Pair) (pair : Pair) (row : Near) → Least job run row pair → IsNearest job run pairs row → IsNearest job run (pairs ++ pair ∷ []) row
 kept_near job run pairs pair row less is = record {
   pair = is.pair;
   among = Contains-append_left pairs (pair ∷ []) is.pair is.among;
@@ -148,13 +148,13 @@ nearest_none job run = record {
 at_most : (a b : ℤ) → int_le a b ≡ true → a ≤ℤ b
 at_most a b on = grind (arith, ints)
 
-as_near : (groups : ℕ × ℕ) (reach : ℤ) (row : Near) → is_as_near groups reach row ≡ true → (row.groups ≡ groups) × (reach ≤ℤ row.reach)
+pub as_near : (groups : ℕ × ℕ) (reach : ℤ) (row : Near) → is_as_near groups reach row ≡ true → (row.groups ≡ groups) × (reach ≤ℤ row.reach)
 as_near groups reach row on =
     let parts = and_parts (row.groups.0 == groups.0 && row.groups.1 == groups.1) (int_le reach row.reach) on in
     (both_are row.groups groups parts.0, at_most reach row.reach parts.1)
 
 -- there is one row of these groups at most
-only_row : (groups : ℕ × ℕ) (n : ℤ) (rows : List Near) → AreApart (λ near. near.groups) rows → Any (λ row. is_as_near groups n row ≡ true) rows → All (λ row. groups ≡ row.groups → n ≤ℤ row.reach) rows
+pub only_row : (groups : ℕ × ℕ) (n : ℤ) (rows : List Near) → AreApart (λ near. near.groups) rows → Any (λ row. is_as_near groups n row ≡ true) rows → All (λ row. groups ≡ row.groups → n ≤ℤ row.reach) rows
 only_row groups n [] apart some = All-nil (λ row. groups ≡ row.groups → n ≤ℤ row.reach)
 only_row groups n (row ∷ rows) apart some = from_cases (λ r. is_as_near groups n r ≡ true) (All (λ r. groups ≡ r.groups → n ≤ℤ r.reach) (row ∷ rows)) row rows here (λ later. there later (only_row groups n rows apart.1 later)) some
   where

@@ -9,3 +9,4 @@ pub mod Nearest
 pub mod NearSteps
 pub mod Groups
 pub mod GroupSteps
+pub mod PassedOwns

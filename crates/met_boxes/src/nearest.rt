@@ -9,6 +9,7 @@ ghost use Rattle.met_boxes.specs.Meetings.{told_place};
 ghost use Rattle.met_boxes.specs.MeetingSteps.{place_of};
 ghost use Rattle.met_boxes.specs.Nearest as model;
 ghost use Rattle.met_boxes.specs.NearSteps as steps;
+ghost use Rattle.met_boxes.specs.PassedOwns.{AreLookedAt};
 ghost use Rattle.met_boxes.specs.Rows.{pairs_in, row_pairs};
 ghost use Rattle.order_clocks.specs.Tells.{is_before_in};
 ghost use Rattle.protection_zones.specs.Overlaps.{Pair, compared_pairs, stretch_pairs};
@@ -26,7 +27,8 @@ use box_reach::{PartedLot, least_way};
 use job_types::{Job, ZoneLine};
 use nc_faults::NoMemory;
 use order_clocks::Clocks;
-use protection_zones::{Stretch, Stretches, ZoneBox};
+use passed_boxes::PassedBoxes;
+use protection_zones::{Stretch, Stretches, ZoneBox, motion_at};
 use std::alloc::{AllocError, Global};
 use swept_boxes::Box3;
 use sync_types::{EventId, Run, StretchKind};
@@ -310,7 +312,7 @@ fn look_each(
 }
 
 /// Looks at a box with those of a stretch. The boxes by which it is compared are made once, where any may be nearer.
-fn look_by(
+fn look_anew(
     rows: &mut Vec<Near>,
     kept: &mut Vec<PartedLot>,
     scene: &Scene,
@@ -335,10 +337,41 @@ fn look_by(
     Ok(())
 }
 
+/// Looks at a box with those of a stretch. An equal box of an equal motion that was looked at with all of them is passed over.
+fn look_by(
+    rows: &mut Vec<Near>,
+    kept: &mut Vec<PartedLot>,
+    passed: &mut PassedBoxes,
+    scene: &Scene,
+    left: &Held,
+    own: &ZoneBox,
+    right: &Held,
+) -> Result<(), AllocError>
+    requires fit { All (All IsFit) scene.now.run.now.items }
+    requires deep { scene.now.job.now.depth ≤ DEPTH_LIMIT }
+    requires kept { AreKept scene.now.job.now scene.now.run.now right.now.zone.now right.now.stretch.now kept.old.items }
+    ensures kept { OnOk result (AreKept scene.now.job.now scene.now.run.now right.now.zone.now right.now.stretch.now kept.new.items) }
+    ensures near { OnOk result ((seen : List Pair) → AreLookedAt scene.now.job.now scene.now.run.now left.now.zone.now right.now.zone.now right.now.stretch.now seen rows.old.items passed.old
+        → AreLookedAt scene.now.job.now scene.now.run.now left.now.zone.now right.now.zone.now right.now.stretch.now
+        (seen ++ steps.pairs_by right.now.zone.now right.now.stretch.now (place_of left.now.zone.now left.now.stretch.now own.now)) rows.new.items passed.new) }
+{
+    let stretch = left.stretch;
+    let motion = motion_at(scene.run, stretch.entry, own.motion);
+    if passed.has(&own.cover, motion) {
+        return Ok(());
+    }
+    look_anew(rows, kept, scene, left, own, right)?;
+    if !share_channel(left.stretch, right.stretch) {
+        passed.keep(&own.cover, motion);
+    }
+    Ok(())
+}
+
 /// Looks at some boxes of a stretch and those of another.
 fn look_owns(
     rows: &mut Vec<Near>,
     kept: &mut Vec<PartedLot>,
+    passed: &mut PassedBoxes,
     scene: &Scene,
     left: &Held,
     owns: &[ZoneBox],
@@ -348,11 +381,12 @@ fn look_owns(
     requires deep { scene.now.job.now.depth ≤ DEPTH_LIMIT }
     requires kept { AreKept scene.now.job.now scene.now.run.now right.now.zone.now right.now.stretch.now kept.old.items }
     ensures kept { OnOk result (AreKept scene.now.job.now scene.now.run.now right.now.zone.now right.now.stretch.now kept.new.items) }
-    ensures near { OnOk result ((seen : List Pair) → steps.AreNearestSoFar scene.now.job.now scene.now.run.now seen rows.old.items
-        → steps.AreNearestSoFar scene.now.job.now scene.now.run.now (seen ++ flat_map (λ own. steps.pairs_by right.now.zone.now right.now.stretch.now (place_of left.now.zone.now left.now.stretch.now own)) owns.now) rows.new.items) }
+    ensures near { OnOk result ((seen : List Pair) → AreLookedAt scene.now.job.now scene.now.run.now left.now.zone.now right.now.zone.now right.now.stretch.now seen rows.old.items passed.old
+        → AreLookedAt scene.now.job.now scene.now.run.now left.now.zone.now right.now.zone.now right.now.stretch.now
+        (seen ++ flat_map (λ own. steps.pairs_by right.now.zone.now right.now.stretch.now (place_of left.now.zone.now left.now.stretch.now own)) owns.now) rows.new.items passed.new) }
 {
     for own in owns {
-        look_by(rows, kept, scene, left, own, right)?;
+        look_by(rows, kept, passed, scene, left, own, right)?;
     }
     Ok(())
 }
@@ -372,7 +406,8 @@ fn look_in_boxes(
     let stretch = left.stretch;
     let owns = stretch.boxes.as_slice();
     let mut kept = Vec::new(scene.alloc);
-    look_owns(rows, &mut kept, scene, left, owns, right)?;
+    let mut passed = PassedBoxes::new(scene.alloc);
+    look_owns(rows, &mut kept, &mut passed, scene, left, owns, right)?;
     Ok(())
 }
 

@@ -1,4 +1,4 @@
-use Rattle.std.proofs.Common.{ℤ, List, ◌++◌, take, get_or, sym, subst, arith}
+use Rattle.std.proofs.Common.{ℤ, List, ◌++◌, take, sym, subst, arith}
 use Rattle.std.specs.List.{flat_map}
 use Rattle.box_reach.proofs.PartLaws.{greatest_by_more, no_reaches}
 use Rattle.box_reach.specs.Lots.{IsGreatest, reaches}

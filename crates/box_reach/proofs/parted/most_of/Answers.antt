@@ -1,4 +1,4 @@
-use Rattle.std.proofs.Common.{ℤ, List, ◌++◌, take, get_or, subst, arith}
+use Rattle.std.proofs.Common.{ℤ, List, ◌++◌, take, subst, arith}
 use Rattle.std.specs.List.{flat_map}
 use Rattle.box_reach.proofs.PartLaws.{reaches_by_more}
 use Rattle.box_reach.specs.Lots.{IsGreatest, reaches}

@@ -2,13 +2,15 @@ use Rattle.std.proofs.Common.{List, ◌++◌, take}
 use Rattle.std.specs.List.{flat_map}
 use Rattle.met_boxes.specs.KeptBoxes.{AreKept}
 use Rattle.met_boxes.specs.MeetingSteps.{place_of}
-use Rattle.met_boxes.specs.NearSteps.{AreNearestSoFar, pairs_by}
+use Rattle.met_boxes.specs.NearSteps.{pairs_by}
+use Rattle.met_boxes.specs.PassedOwns.{AreLookedAt}
 use Rattle.protection_zones.specs.Overlaps.{Pair}
 use Rattle.met_boxes.proofs.nearest.look_owns.Given as goal
 
 abbrev pub invariant-loop-own : goal.invariant-loop-own
 invariant-loop-own l = record {
-  near : (seen : List Pair) → AreNearestSoFar l.scene.job.now l.scene.run.now seen l.initial.rows.items
-      → AreNearestSoFar l.scene.job.now l.scene.run.now (seen ++ flat_map (λ own. pairs_by l.right.zone.now l.right.stretch.now (place_of l.left.zone.now l.left.stretch.now own)) (take l.own-index l.owns)) l.rows.items;
+  near : (seen : List Pair) → AreLookedAt l.scene.job.now l.scene.run.now l.left.zone.now l.right.zone.now l.right.stretch.now seen l.initial.rows.items l.initial.passed
+      → AreLookedAt l.scene.job.now l.scene.run.now l.left.zone.now l.right.zone.now l.right.stretch.now
+      (seen ++ flat_map (λ own. pairs_by l.right.zone.now l.right.stretch.now (place_of l.left.zone.now l.left.stretch.now own)) (take l.own-index l.owns)) l.rows.items l.passed;
   kept : AreKept l.scene.job.now l.scene.run.now l.right.zone.now l.right.stretch.now l.kept.items;
 }
