@@ -8,8 +8,6 @@ mod calls;
 mod kept;
 mod said;
 mod state;
-#[cfg(test)]
-mod tests;
 
 pub use calls::Call;
 pub use said::say_state;

@@ -4,8 +4,6 @@
 mod numbers;
 mod readings;
 mod reads;
-#[cfg(test)]
-mod tests;
 
 pub use numbers::{say_readings, say_value};
 pub use readings::{Reading, readings_in};

@@ -5,7 +5,5 @@
 mod bounds;
 mod clashes;
 mod pieces;
-#[cfg(test)]
-mod tests;
 
 pub use clashes::{Clash, clash_of};

@@ -6,7 +6,7 @@ use Rattle.std.specs.Int.RustNames.{int_lt}
 use Rattle.std.specs.List.{flat_map, list_any}
 use Rattle.std.proofs.lemmas.Grind.{flat_map-append}
 use Rattle.std.proofs.lemmas.Int.{ints, clamps}
-use Rattle.std.proofs.lemmas.List.{append-nil, append_assoc, take_more}
+use Rattle.std.proofs.lemmas.List.{append-nil, append_assoc, get_or-map, length-map, take_more}
 use Rattle.std.proofs.lemmas.List.Elements.{All-nil, All-cons, All-head, All-tail, All-append, All-contains, All-map, All-weaker, Contains-append_left, Contains-append_right, Contains-append_cases}
 use Rattle.std.proofs.lemmas.List.Folds.{list_any-append, list_any_none}
 use Rattle.swept_boxes.proofs.Meeting.{meet-from_touch, touch-from_meet}
@@ -16,7 +16,7 @@ use Rattle.swept_boxes.specs.declared.Box3.{Box3}
 use Rattle.box_reach.proofs.LotLaws.{from_reaches, in_front, in_reaches, le_itself, le_trans, meet_of}
 use Rattle.box_reach.proofs.ShapeLaws.{along-from_least, least-from_along}
 use Rattle.box_reach.specs.Lots.{IsGreatest, IsGreatestOver, greater, is_over, lots_meet, reaches}
-use Rattle.box_reach.specs.Parts.{LiesIn, boxes_in}
+use Rattle.box_reach.specs.Parts.{AreCovers, IsCovered, LiesIn, boxes_in}
 use Rattle.box_reach.specs.Reaches.{reach_along, reach_of}
 use Rattle.box_reach.specs.declared.parts.Part.{Part}
 
@@ -182,6 +182,17 @@ flat_more parts i d below =
     sym (ap (λ (ps : List Part). flat_map boxes_in ps) (take_more parts i d below)
     ∙ flat_map-append boxes_in (take i parts) (get_or parts i d ∷ [])
     ∙ ap (λ (bs : List Box3). flat_map boxes_in (take i parts) ++ bs) (append-nil (boxes_in (get_or parts i d))))
+
+-- the cover of a part, among those of all
+pub covers_long : (covers : List Box3) (parts : List Part) (i : ℕ) → AreCovers covers parts → i < length parts → i < length covers
+covers_long covers parts i are below = rw (are, length-map parts (λ (part : Part). part.cover)) below
+
+pub lie_at : (covers : List Box3) (parts : List Part) (i : ℕ) (cover : Box3) (part : Part) → AreCovers covers parts → All IsCovered parts → i < length parts
+    → cover ≡ get_or covers i cover → part ≡ get_or parts i part → All (LiesIn cover) (boxes_in part)
+lie_at covers parts i cover part are all below cover_is part_is =
+    let is : cover ≡ part.cover =
+    cover_is ∙ ap (λ (cs : List Box3). get_or cs i cover) are ∙ get_or-map (λ (p : Part). p.cover) parts i part cover below ∙ ap (λ (p : Part). p.cover) (sym part_is) in
+    subst (λ (c : Box3). All (LiesIn c) (boxes_in part)) (sym is) (subst IsCovered (sym part_is) (all i part below))
 
 -- the same numbers, in whatever order
 same_greatest : (most : Option ℤ) (xs ys : List ℤ) → ((n : ℤ) → Contains xs n → Contains ys n) → ((n : ℤ) → Contains ys n → Contains xs n) → IsGreatest most xs → IsGreatest most ys

@@ -1,5 +1,5 @@
 -- Steps. Lots of boxes in parts, each with a box in which its boxes lie.
-use Rattle.std.specs.Prelude.{◌≡◌, ℕ, ◌<◌, ◌≤ℤ◌, All, List}
+use Rattle.std.specs.Prelude.{◌≡◌, ℕ, ◌<◌, ◌≤ℤ◌, All, List, map}
 use Rattle.std.specs.List.{flat_map}
 use Rattle.box_reach.specs.declared.parts.Part.{Part}
 use Rattle.swept_boxes.specs.Boxes.{low_of, high_of}
@@ -21,3 +21,7 @@ IsCovered part = All (LiesIn part.cover) (boxes_in part)
 -- the parts have the boxes of a lot, in their order
 abbrev pub AreParts : List Box3 → List Part → Type 0
 AreParts boxes parts = (flat_map boxes_in parts ≡ boxes) × All IsCovered parts
+
+-- the covers of some parts, in their order
+abbrev pub AreCovers : List Box3 → List Part → Type 0
+AreCovers covers parts = covers ≡ map (λ part. part.cover) parts

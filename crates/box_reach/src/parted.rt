@@ -3,31 +3,32 @@
 ghost use Rattle.std.specs.Prelude.{◌≡◌, ◌==◌, ◌++◌, ◌↔◌, [], ℤ, All, IsTrue, IfOk, List, length, nat_lt, option_to_list};
 ghost use Rattle.std.specs.List.{flat_map, list_any};
 ghost use Rattle.box_reach.specs.Lots.{DoLotsMeet, IsGreatest, IsGreatestOver, lots_meet, reaches};
-ghost use Rattle.box_reach.specs.Parts.{IsCovered, boxes_in};
+ghost use Rattle.box_reach.specs.Parts.{AreCovers, IsCovered, LiesIn, boxes_in};
 
 use crate::lots::{any_meets, do_meet, is_over, most_among};
-use crate::parts::{Part, parts_of};
+use crate::parts::{Part, covers_of, parts_of};
 use std::alloc::{AllocError, Global};
 use std::marker::Model;
 use swept_boxes::Box3;
 
-/// Whether a box of a part meets one of another.
-fn do_parts_meet(own: &Part, other: &Part) -> bool
+/// Whether a box of a part meets one of another, which has this cover.
+fn do_parts_meet(own: &Part, cover: &Box3, other: &Part) -> bool
     requires own { IsCovered own.now }
-    requires other { IsCovered other.now }
+    requires other { All (LiesIn cover.now) (boxes_in other.now) }
     ensures { result ≡ lots_meet (boxes_in own.now) (boxes_in other.now) }
 {
-    do_meet(&own.cover, &other.cover) && any_meets(own.boxes.as_slice(), other.boxes.as_slice())
+    do_meet(&own.cover, cover) && any_meets(own.boxes.as_slice(), other.boxes.as_slice())
 }
 
-/// Whether a box of a part meets one of these parts.
-fn meets_parts(own: &Part, others: &[Part]) -> bool
+/// Whether a box of a part meets one of these parts, which have these covers.
+fn meets_parts(own: &Part, covers: &[Box3], others: &[Part]) -> bool
     requires own { IsCovered own.now }
+    requires covers { AreCovers covers.now others.now }
     requires others { All IsCovered others.now }
     ensures { result ≡ lots_meet (boxes_in own.now) (flat_map boxes_in others.now) }
 {
-    for other in others {
-        if do_parts_meet(own, other) {
+    for place in 0..others.len() {
+        if do_parts_meet(own, &covers[place], &others[place]) {
             return true;
         }
     }
@@ -35,13 +36,14 @@ fn meets_parts(own: &Part, others: &[Part]) -> bool
 }
 
 /// Whether a box of these parts meets one of those.
-fn parts_meet(owns: &[Part], others: &[Part]) -> bool
+fn parts_meet(owns: &[Part], covers: &[Box3], others: &[Part]) -> bool
     requires owns { All IsCovered owns.now }
+    requires covers { AreCovers covers.now others.now }
     requires others { All IsCovered others.now }
     ensures { result ≡ lots_meet (flat_map boxes_in owns.now) (flat_map boxes_in others.now) }
 {
     for own in owns {
-        if meets_parts(own, others) {
+        if meets_parts(own, covers, others) {
             return true;
         }
     }
@@ -50,40 +52,42 @@ fn parts_meet(owns: &[Part], others: &[Part]) -> bool
 
 /// The greatest of some numbers and of how far the boxes of two parts reach into each other. Where their covers reach no further than
 /// the greatest so far, none of them does.
-fn most_between(before: Option<i64>, own: &Part, other: &Part) -> Option<i64>
+fn most_between(before: Option<i64>, own: &Part, cover: &Box3, other: &Part) -> Option<i64>
     requires own { IsCovered own.now }
-    requires other { IsCovered other.now }
+    requires other { All (LiesIn cover.now) (boxes_in other.now) }
     ensures { (numbers : List ℤ) → IsGreatest before numbers → IsGreatest result (numbers ++ reaches (boxes_in own.now) (boxes_in other.now)) }
 {
-    if is_over(before, &own.cover, &other.cover) {
+    if is_over(before, &own.cover, cover) {
         most_among(before, own.boxes.as_slice(), other.boxes.as_slice())
     } else {
         before
     }
 }
 
-/// The same of a part and of these.
-fn most_by(before: Option<i64>, own: &Part, others: &[Part]) -> Option<i64>
+/// The same of a part and of these, which have these covers.
+fn most_by(before: Option<i64>, own: &Part, covers: &[Box3], others: &[Part]) -> Option<i64>
     requires own { IsCovered own.now }
+    requires covers { AreCovers covers.now others.now }
     requires others { All IsCovered others.now }
     ensures { (numbers : List ℤ) → IsGreatest before numbers → IsGreatest result (numbers ++ reaches (boxes_in own.now) (flat_map boxes_in others.now)) }
 {
     let mut most = before;
-    for other in others {
-        most = most_between(most, own, other);
+    for place in 0..others.len() {
+        most = most_between(most, own, &covers[place], &others[place]);
     }
     most
 }
 
 /// The same of these parts and of those.
-fn most_of(before: Option<i64>, owns: &[Part], others: &[Part]) -> Option<i64>
+fn most_of(before: Option<i64>, owns: &[Part], covers: &[Box3], others: &[Part]) -> Option<i64>
     requires owns { All IsCovered owns.now }
+    requires covers { AreCovers covers.now others.now }
     requires others { All IsCovered others.now }
     ensures { (numbers : List ℤ) → IsGreatest before numbers → IsGreatest result (numbers ++ reaches (flat_map boxes_in owns.now) (flat_map boxes_in others.now)) }
 {
     let mut most = before;
     for own in owns {
-        most = most_by(most, own, others);
+        most = most_by(most, own, covers, others);
     }
     most
 }
@@ -113,23 +117,24 @@ fn have_boxes(parts: &[Part]) -> bool
     parts.iter().any(|part| has_boxes(part))
 }
 
-/// A lot of boxes in their order, divided into parts once.
+/// A lot of boxes in their order, divided into parts once. The covers stand side by side: most parts are passed over by these alone.
 #[derive(Drop)]
 pub struct PartedLot {
     parts: Vec<Part>,
+    covers: Vec<Box3>,
 }
 
 impl Model for PartedLot {
     ghost use Rattle.std.specs.Prelude.{All, List};
     ghost use Rattle.std.specs.List.{flat_map};
-    ghost use Rattle.box_reach.specs.Parts.{IsCovered, boxes_in};
+    ghost use Rattle.box_reach.specs.Parts.{AreCovers, IsCovered, boxes_in};
     ghost use Rattle.swept_boxes.specs.declared.Box3.{Box3};
 
     ghost Value = { List Box3 };
 
     ghost view = { λ lot. flat_map boxes_in lot.parts.items };
 
-    ghost invariant = { λ lot. All IsCovered lot.parts.items };
+    ghost invariant = { λ lot. All IsCovered lot.parts.items × AreCovers lot.covers.items lot.parts.items };
 }
 
 impl PartedLot {
@@ -139,15 +144,17 @@ impl PartedLot {
     {
         PartedLot {
             parts: Vec::new(alloc),
+            covers: Vec::new(alloc),
         }
     }
 
-    /// These boxes. It takes up to 32 bytes for each, and a hundred more.
+    /// These boxes. It takes up to 40 bytes for each, and two hundred more.
     pub fn over(alloc: Global, boxes: &[Box3]) -> Result<PartedLot, AllocError>
         ensures { IfOk result (λ lot. lot ≡ boxes.now) }
     {
         let parts = parts_of(alloc, boxes)?;
-        Ok(PartedLot { parts })
+        let covers = covers_of(alloc, parts.as_slice())?;
+        Ok(PartedLot { parts, covers })
     }
 
     /// Whether there are none.
@@ -162,7 +169,11 @@ impl PartedLot {
         ensures test { result ≡ lots_meet self.now other.now }
         ensures share { IsTrue result ↔ DoLotsMeet self.now other.now }
     {
-        parts_meet(self.parts.as_slice(), other.parts.as_slice())
+        parts_meet(
+            self.parts.as_slice(),
+            other.covers.as_slice(),
+            other.parts.as_slice(),
+        )
     }
 
     /// By how much two boxes, one of each lot, reach into each other at most, where that is more than a number that may be there;
@@ -172,7 +183,12 @@ impl PartedLot {
     {
         over(
             floor,
-            most_of(floor, self.parts.as_slice(), other.parts.as_slice()),
+            most_of(
+                floor,
+                self.parts.as_slice(),
+                other.covers.as_slice(),
+                other.parts.as_slice(),
+            ),
         )
     }
 }

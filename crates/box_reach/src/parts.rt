@@ -1,6 +1,6 @@
 //! Lots of boxes in parts, each with a box in which its boxes lie: what that box does not come near, none of the part does.
 ghost use Rattle.std.specs.Prelude.{◌≡◌, ◌≤◌, All, IfOk, length};
-ghost use Rattle.box_reach.specs.Parts.{AreParts, IsCovered, LiesIn, boxes_in};
+ghost use Rattle.box_reach.specs.Parts.{AreCovers, AreParts, IsCovered, LiesIn, boxes_in};
 
 use arrayvec::ArrayVec;
 use std::alloc::{AllocError, Global};
@@ -65,6 +65,17 @@ fn part_of(front: &[Box3]) -> Part
         boxes,
         cover: cover_of(front),
     }
+}
+
+/// The covers of these parts, side by side.
+pub(crate) fn covers_of(alloc: Global, parts: &[Part]) -> Result<Vec<Box3>, AllocError>
+    ensures { IfOk result (λ covers. AreCovers covers.items parts.now) }
+{
+    let mut covers = Vec::with_capacity(alloc, parts.len())?;
+    for part in parts {
+        covers.push(part.cover)?;
+    }
+    Ok(covers)
 }
 
 /// A lot in parts.

@@ -9,8 +9,6 @@ mod numbers;
 mod origins;
 mod refusal_text;
 mod tables;
-#[cfg(test)]
-mod tests;
 
 pub use advice::{
     alarm_advice, alarm_cause, alarm_name, refusal_advice, refusal_cause, refusal_name,

@@ -8,8 +8,6 @@ mod meetings;
 mod nearest;
 mod overlaps;
 mod rows;
-#[cfg(test)]
-mod tests;
 
 pub use groups::{Group, groups_of};
 pub use meetings::{meetings_of, told_box};

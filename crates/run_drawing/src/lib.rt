@@ -3,8 +3,6 @@
 
 mod drawing;
 mod styles;
-#[cfg(test)]
-mod tests;
 mod times;
 
 pub use drawing::draw;

@@ -8,8 +8,6 @@ mod numbers;
 mod race_text;
 mod races;
 mod stuck_text;
-#[cfg(test)]
-mod tests;
 mod waits;
 
 pub use alarm_text::say_alarm;

@@ -7,8 +7,6 @@ mod executions;
 mod place;
 mod places;
 mod spans;
-#[cfg(test)]
-mod tests;
 mod told;
 mod ways;
 

@@ -5,5 +5,5 @@ use Rattle.box_reach.specs.Lots.{lots_meet}
 use Rattle.box_reach.specs.Parts.{boxes_in}
 use Rattle.box_reach.proofs.parted.meets_parts.Given as goal
 
-abbrev pub invariant-loop-other : goal.invariant-loop-other
-invariant-loop-other l = list_any (λ other. lots_meet (boxes_in l.own) (boxes_in other)) (take l.other-index l.others) ≡ false
+abbrev pub invariant-loop-place : goal.invariant-loop-place
+invariant-loop-place l = list_any (λ other. lots_meet (boxes_in l.own) (boxes_in other)) (take l.place l.others) ≡ false

@@ -5,5 +5,5 @@ use Rattle.box_reach.specs.Lots.{IsGreatest, reaches}
 use Rattle.box_reach.specs.Parts.{boxes_in}
 use Rattle.box_reach.proofs.parted.most_by.Given as goal
 
-abbrev pub invariant-loop-other : goal.invariant-loop-other
-invariant-loop-other l = (numbers : List ℤ) → IsGreatest l.fn.before numbers → IsGreatest l.most (numbers ++ reaches (boxes_in l.own) (flat_map boxes_in (take l.other-index l.others)))
+abbrev pub invariant-loop-place : goal.invariant-loop-place
+invariant-loop-place l = (numbers : List ℤ) → IsGreatest l.fn.before numbers → IsGreatest l.most (numbers ++ reaches (boxes_in l.own) (flat_map boxes_in (take l.place l.others)))

@@ -1,7 +1,7 @@
 //! A small picture whose places are worked out by hand. A letter is 1,000 micrometres there.
-use crate::draw;
 use nc_faults::NoMemory;
 use picture_views::{Deed, Look, Moment, Picture, Tile, Track, Turn};
+use run_drawing::draw;
 use std::alloc::Global;
 use std::test::Fail;
 use swept_boxes::Box3;

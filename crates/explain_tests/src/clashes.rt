@@ -1,11 +1,11 @@
 //! Two zones that are grown by a margin, and two of which one moves, as their numbers are worked by hand.
 ghost use Rattle.std.specs.Prelude.{◌≡◌, pos, [], All, IfOk, IfSome};
-ghost use Rattle.job_types.specs.SoundJob.{IsSoundJob};
 ghost use Rattle.protection_zones.specs.ZoneBoxes.{IsFit};
 
-use crate::{Clash, clash_of};
+use crate::jobs::job_of;
 use arrayvec::ArrayVec;
 use axis_sets::{AxisId, ZoneId};
+use box_clashes::{Clash, clash_of};
 use box_reach::Way;
 use job_types::Job;
 use micro_units::Um;
@@ -15,22 +15,7 @@ use std::alloc::Global;
 use std::test::Fail;
 use swept_boxes::Box3;
 use sync_types::{Item, Part, PlaceName, Run, StretchKind};
-use tape_job::read_job;
 use told_places::{Meeting, Place};
-
-/// The job of this text, or none where it is refused or memory runs out.
-fn job_of(alloc: Global, text: &str) -> Option<Job>
-    ensures { IfSome result IsSoundJob }
-{
-    let bytes = text.as_bytes();
-    if bytes.len() > 8_388_609 {
-        return None;
-    }
-    match read_job(alloc, bytes) {
-        Ok(job) => Some(job),
-        Err(_) => None,
-    }
-}
 
 /// A run in which nothing is done.
 fn empty_run(alloc: Global) -> Run

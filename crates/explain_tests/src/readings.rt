@@ -1,5 +1,5 @@
 //! Blocks whose readings are found by hand.
-use crate::{Reading, block_reads, readings_in, say_readings, say_value};
+use block_readings::{Reading, block_reads, readings_in, say_readings, say_value};
 use growing_text::Text;
 use micro_units::Num;
 use nc_blocks::{Stmt, Word};

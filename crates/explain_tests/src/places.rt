@@ -1,9 +1,4 @@
 //! Texts of a small job that are written by hand.
-use crate::{
-    Execution, Place, Told, execution_at, execution_of, last_entry, line_text, motion_of,
-    program_name, say_axis, say_block, say_box, say_channel, say_channel_first, say_direction,
-    say_line, say_motion, say_place, say_span, say_zone,
-};
 use arrayvec::ArrayVec;
 use axis_sets::{AxisId, ChannelId, Positions, ZoneId, ZoneSet};
 use growing_text::Text;
@@ -18,6 +13,11 @@ use std::alloc::Global;
 use std::test::Fail;
 use swept_boxes::Box3;
 use sync_types::{Action, Entry, EventId, Item, Part, PlaceName, Run, Step, StretchKind};
+use told_places::{
+    Execution, Place, Told, execution_at, execution_of, last_entry, line_text, motion_of,
+    program_name, say_axis, say_block, say_box, say_channel, say_channel_first, say_direction,
+    say_line, say_motion, say_place, say_span, say_zone,
+};
 
 /// The input of the job, of which only the lines are read.
 const INPUT: &[u8] = b"CHANNEL 2 LOWER ON\n%_N_UPPER_MPF\nM30\n%_N_LOWER_MPF\nN10 G1 X5\nN20 M30\n";

@@ -1,5 +1,5 @@
 //! Inputs whose lines, places and texts are written by hand.
-use crate::{
+use input_lines::{
     Lines, alarm_advice, alarm_cause, alarm_name, block_number, explain_refusal, fault_place,
     origin_of, refusal_advice, refusal_cause, refusal_name,
 };

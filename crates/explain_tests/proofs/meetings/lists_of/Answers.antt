@@ -1,5 +1,5 @@
 use Rattle.met_boxes.proofs.EmptyRuns.{all_fit, comes_from_one, few_in_each, told}
-use Rattle.met_boxes.proofs.tests.lists_of.Goals as goal
+use Rattle.explain_tests.proofs.meetings.lists_of.Goals as goal
 
 pub clocks_of-requires-clause-whole : goal.clocks_of-requires-clause-whole
 clocks_of-requires-clause-whole c = comes_from_one c.empty_run-run.result c.empty_run-run.ensures

@@ -1,8 +1,7 @@
 //! Runs that an alarm stops, with entries by hand.
-ghost use Rattle.std.specs.Prelude.{IfSome};
-ghost use Rattle.job_types.specs.SoundJob.{BlocksFit, IsSoundJob};
 
-use crate::{alarm_state, say_state};
+use crate::jobs::job_of;
+use alarm_states::{alarm_state, say_state};
 use arrayvec::ArrayVec;
 use axis_sets::{ChannelId, MarkSet, Positions, ZoneSet};
 use growing_text::Text;
@@ -12,23 +11,7 @@ use nc_faults::alarms::{DIVISION_BY_ZERO, NO_PROGRAM_END};
 use std::alloc::Global;
 use std::test::Fail;
 use sync_types::{Action, Entry, Run, Step};
-use tape_job::read_job;
 use told_places::Told;
-
-/// The job of this text, or none where it is refused or memory runs out.
-fn job_of(alloc: Global, text: &str) -> Option<Job>
-    ensures sound { IfSome result IsSoundJob }
-    ensures fit { IfSome result BlocksFit }
-{
-    let bytes = text.as_bytes();
-    if bytes.len() > 8_388_609 {
-        return None;
-    }
-    match read_job(alloc, bytes) {
-        Ok(job) => Some(job),
-        Err(_) => None,
-    }
-}
 
 /// The entry of a step of channel 1, which has no axes and no zones.
 fn entry(line: u32, action: Action) -> Entry {

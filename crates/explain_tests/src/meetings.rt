@@ -1,11 +1,12 @@
 //! Zones that stand, and pairs of their boxes, as their numbers are worked by hand.
-ghost use Rattle.std.specs.Prelude.{◌≡◌, [], IfSome};
+ghost use Rattle.std.specs.Prelude.{◌≡◌, []};
 ghost use Rattle.job_types.specs.SoundJob.{IsSoundJob};
 
-use crate::{Group, Near, groups_of, meetings_of, nearest_of, told_box};
+use crate::jobs::job_of;
 use arrayvec::ArrayVec;
 use axis_sets::ZoneId;
 use job_types::Job;
+use met_boxes::{Group, Near, groups_of, meetings_of, nearest_of, told_box};
 use nc_faults::NoMemory;
 use order_clocks::clocks_of;
 use protection_zones::{Stretch, ZoneBox, stretches_of};
@@ -13,7 +14,6 @@ use std::alloc::Global;
 use std::test::Fail;
 use swept_boxes::Box3;
 use sync_types::{PlaceName, Run, StretchKind};
-use tape_job::read_job;
 use told_places::{Meeting, Place};
 
 /// What is listed of a run.
@@ -23,20 +23,6 @@ struct Lists {
     met: Vec<Meeting>,
     /// The nearest.
     near: Vec<Near>,
-}
-
-/// The job of this text, or none where it is refused or memory runs out.
-fn job_of(alloc: Global, text: &str) -> Option<Job>
-    ensures { IfSome result IsSoundJob }
-{
-    let bytes = text.as_bytes();
-    if bytes.len() > 8_388_609 {
-        return None;
-    }
-    match read_job(alloc, bytes) {
-        Ok(job) => Some(job),
-        Err(_) => None,
-    }
 }
 
 /// A run of no channel.

@@ -1,7 +1,7 @@
 use Rattle.std.proofs.Common.{◌∙◌, ◌==◌, ◌||◌, Bool, ap}
 use Rattle.run_ends.proofs.RowLaws.{only_second}
 use Rattle.run_ends.specs.Rows.{second_alone}
-use Rattle.stop_reasons.proofs.tests.second_channel.Goals as goal
+use Rattle.explain_tests.proofs.stops.second_channel.Goals as goal
 
 pub returns : goal.returns
 returns c =

@@ -4,7 +4,6 @@ ghost use Rattle.run_ends.specs.Rows.{one_runs, second_alone, waiting_entry};
 ghost use Rattle.stop_reasons.specs.Rows.{alarmed_entry};
 ghost use Rattle.sync_types.specs.Runs.{ComesFrom};
 
-use crate::{end_of, race_prize, race_remedy, say_alarm, say_race, say_stuck};
 use arrayvec::ArrayVec;
 use axis_sets::{AxisId, ChannelId, ChannelSet, Positions, ZoneSet};
 use growing_text::Text;
@@ -15,6 +14,7 @@ use micro_units::Um;
 use nc_faults::{Alarm, NoMemory};
 use std::alloc::Global;
 use std::test::Fail;
+use stop_reasons::{end_of, race_prize, race_remedy, say_alarm, say_race, say_stuck};
 use sync_types::{Action, ChannelEnd, Entry, Race, Run, StartState, Step};
 use told_places::Told;
 
