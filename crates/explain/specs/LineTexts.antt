@@ -1,4 +1,4 @@
--- Meaning. Lines of blocks with how they are said.
+-- Steps. Lines of blocks with how they are said.
 use Rattle.std.specs.Prelude.{◌≡◌, ℕ, All, List}
 use Rattle.explain.specs.Clashes.{at_text}
 use Rattle.explain.specs.declared.line_texts.LineTexts.{LineTexts}
