@@ -16,7 +16,7 @@ use box_reach::PartedLot;
 use protection_zones::{ZoneBox, boxes_by_pieces};
 use std::alloc::{AllocError, Global};
 
-/// Of how many boxes of a stretch at most those by which they are compared are kept. They take 2,700 bytes for each box at the most.
+/// Of how many boxes of a stretch at most those by which they are compared are kept. They take 3,200 bytes for each box at the most.
 const KEPT_LIMIT: usize = 8_192;
 
 /// Whether the boxes of a place are to be kept while the boxes of a stretch are held against them: where there are more of these than
