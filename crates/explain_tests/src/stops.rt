@@ -1,7 +1,7 @@
 //! Texts of a small job that are worked by hand.
 ghost use Rattle.std.specs.Prelude.{◌≡◌, ◌<◌, ◌^◌, IfOk, [], ◌∷◌, length};
 ghost use Rattle.run_ends.specs.Rows.{one_runs, second_alone, waiting_entry};
-ghost use Rattle.stop_reasons.specs.Rows.{alarmed_entry};
+ghost use Rattle.explain_tests.specs.Rows.{alarmed_entry};
 ghost use Rattle.sync_types.specs.Runs.{ComesFrom};
 
 use arrayvec::ArrayVec;

@@ -1,3 +1,2 @@
-pub mod RowLaws
 pub mod TableLaws
 pub mod TextLaws

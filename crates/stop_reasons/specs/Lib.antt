@@ -2,6 +2,5 @@ pub mod Alarms
 pub mod Ends
 pub mod RaceTexts
 pub mod Races
-pub mod Rows
 pub mod Stuck
 pub mod Waits

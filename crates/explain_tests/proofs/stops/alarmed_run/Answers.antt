@@ -1,5 +1,5 @@
 use Rattle.std.proofs.Common.{arith}
-use Rattle.stop_reasons.proofs.RowLaws.{is_alarmed_alone}
+use Rattle.explain_tests.proofs.RowLaws.{is_alarmed_alone}
 use Rattle.explain_tests.proofs.stops.alarmed_run.Goals as goal
 
 pub returns-clause-comes : goal.returns-clause-comes

@@ -2,7 +2,7 @@
 use Rattle.std.proofs.Common.{ℤ, Bool, List, [], ◌∷◌, Option, refl}
 use Rattle.run_ends.proofs.RowLaws.{starts_soundly}
 use Rattle.run_ends.specs.Rows.{one_runs}
-use Rattle.stop_reasons.specs.Rows.{alarmed_entry}
+use Rattle.explain_tests.specs.Rows.{alarmed_entry}
 use Rattle.sync_types.specs.BoardActions.{holder_after, is_on_after, marks_of_all, ownership_after, state_after_action, state_after_alarm}
 use Rattle.sync_types.specs.BoardAlarms.{alarm_of}
 use Rattle.sync_types.specs.Boards.{first_state, grant_with, start_grant}
