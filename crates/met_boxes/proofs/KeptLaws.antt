@@ -78,12 +78,20 @@ module _ (case : Case) where
       by_overlap true = boxes_are zone left other right
       by_overlap false = refl
 
-  -- a stretch with some of another zone
+  -- a stretch with those of another zone
+  stretch_is : (row : RowView) (left : StretchView)
+      → kept (flat_map (stretch_pairs case.before row.zone left row.other) row.others) ≡ flat_map (met_in_stretches case row.zone left row.other) row.others
+  stretch_is row left =
+      kept_flat (stretch_pairs case.before row.zone left row.other) row.others
+      ∙ flat_map_same (λ (right : StretchView). kept (stretch_pairs case.before row.zone left row.other right)) (met_in_stretches case row.zone left row.other)
+      (λ right. stretches_are row.zone left row.other right) row.others
+
+  -- the stretches of two zones
   row_is : (row : RowView) → kept (row_pairs case.before row) ≡ met_in_row case row
   row_is row =
-      kept_flat (stretch_pairs case.before row.zone row.stretch row.other) row.others
-      ∙ flat_map_same (λ (right : StretchView). kept (stretch_pairs case.before row.zone row.stretch row.other right)) (met_in_stretches case row.zone row.stretch row.other)
-      (λ right. stretches_are row.zone row.stretch row.other right) row.others
+      kept_flat (λ (left : StretchView). flat_map (stretch_pairs case.before row.zone left row.other) row.others) row.owns
+      ∙ flat_map_same (λ (left : StretchView). kept (flat_map (stretch_pairs case.before row.zone left row.other) row.others))
+      (λ (left : StretchView). flat_map (met_in_stretches case row.zone left row.other) row.others) (stretch_is row) row.owns
 
   rows_kept : (rows : List RowView) → kept (pairs_in case.before rows) ≡ flat_map (met_in_row case) rows
   rows_kept rows = kept_flat (row_pairs case.before) rows ∙ flat_map_same (λ (row : RowView). kept (row_pairs case.before row)) (met_in_row case) row_is rows

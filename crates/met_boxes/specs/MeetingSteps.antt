@@ -43,6 +43,6 @@ met_in_boxes case zone left other right = flat_map (λ own. met_by case other ri
 unfoldable pub met_in_stretches : Case → ZoneLine → StretchView → ZoneLine → StretchView → List Meeting
 met_in_stretches case zone left other right = if may_overlap case.before left right then met_in_boxes case zone left other right else []
 
--- a stretch with some of another zone
+-- the stretches of two zones
 abbrev pub met_in_row : Case → RowView → List Meeting
-met_in_row case row = flat_map (met_in_stretches case row.zone row.stretch row.other) row.others
+met_in_row case row = flat_map (λ left. flat_map (met_in_stretches case row.zone left row.other) row.others) row.owns

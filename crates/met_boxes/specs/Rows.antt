@@ -1,30 +1,37 @@
--- Steps. Stretches of a zone with stretches of another, and the compared pairs of several such.
+-- Steps. Each two zones of different groups with their stretches, and the compared pairs of several such.
 use Rattle.std.specs.Prelude.{◌==◌, if◌then◌else◌, List, [], ◌∷◌, ◌++◌}
 use Rattle.std.specs.List.{flat_map}
 use Rattle.job_types.specs.declared.job.ZoneLine.{ZoneLine}
-use Rattle.protection_zones.specs.Overlaps.{Order, Pair, ZoneTime, pairs_of_zones, stretch_pairs}
+use Rattle.met_boxes.specs.Ascents.{IsTimed}
+use Rattle.protection_zones.specs.Overlaps.{Order, Pair, ZoneTime, stretch_pairs}
 use Rattle.protection_zones.specs.Stretches.{StretchView}
 
--- a stretch of a zone, and stretches of another zone
+-- two zones, each with its stretches
 pub record RowView : Type 0 where
   pub zone : ZoneLine
-  pub stretch : StretchView
+  pub owns : List StretchView
   pub other : ZoneLine
   pub others : List StretchView
 
--- the compared pairs of the stretch with each of the others
+-- two zones, where they are of different groups
+unfoldable pub rows_for : ZoneTime → ZoneTime → List RowView
+rows_for one two =
+    if one.zone.group == two.zone.group then []
+    else record { zone = one.zone; owns = one.stretches; other = two.zone; others = two.stretches } ∷ []
+
+-- each zone with each later one of another group
+abbrev pub rows_by_group : List ZoneTime → List RowView
+rows_by_group [] = []
+rows_by_group (one ∷ others) = flat_map (rows_for one) others ++ rows_by_group others
+
+-- the compared pairs of each stretch of the first with each of the second
 abbrev pub row_pairs : Order → RowView → List Pair
-row_pairs before row = flat_map (stretch_pairs before row.zone row.stretch row.other) row.others
+row_pairs before row = flat_map (λ left. flat_map (stretch_pairs before row.zone left row.other) row.others) row.owns
 
 -- those of several
 abbrev pub pairs_in : Order → List RowView → List Pair
 pairs_in before rows = flat_map (row_pairs before) rows
 
--- the compared pairs of two zones, where they are of different groups
-unfoldable pub pairs_of : Order → ZoneTime → ZoneTime → List Pair
-pairs_of before one two = if one.zone.group == two.zone.group then [] else pairs_of_zones before one two
-
--- those of each zone with each later one
-abbrev pub pairs_in_times : Order → List ZoneTime → List Pair
-pairs_in_times before [] = []
-pairs_in_times before (one ∷ others) = flat_map (pairs_of before one) others ++ pairs_in_times before others
+-- their stretches begin and end with events whose order the test tells
+abbrev pub IsRowTimed : Order → RowView → Type 0
+IsRowTimed before row = IsTimed before (row.owns ∷ (row.others ∷ []))

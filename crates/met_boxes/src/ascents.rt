@@ -1,11 +1,9 @@
 //! Which stretches of a zone may overlap one of another: the stretches of a zone come one after another, so these stand side by
 //! side.
-ghost use Rattle.std.specs.Prelude.{◌≡◌, ◌≤◌, Bool, true, false, drop, take, length};
-ghost use Rattle.std.specs.List.{flat_map};
-ghost use Rattle.job_types.specs.declared.job.ZoneLine.{ZoneLine};
+ghost use Rattle.std.specs.Prelude.{◌≡◌, ◌≤◌, Bool, true, false, drop, filter, take, length};
 ghost use Rattle.met_boxes.specs.Ascents as model;
 ghost use Rattle.order_clocks.specs.Tells.{is_before_in};
-ghost use Rattle.protection_zones.specs.Overlaps.{stretch_pairs};
+ghost use Rattle.protection_zones.specs.Overlaps.{may_overlap};
 
 use crate::overlaps::{is_open_at, is_upto};
 use order_clocks::Clocks;
@@ -128,7 +126,8 @@ fn part(others: &[Stretch], range: Range) -> &[Stretch]
     }
 }
 
-/// The stretches of another zone that may overlap this one, where each of them is over as the next begins; else all.
+/// Stretches of another zone among which all are that may overlap this one: no others, where each of them is over as the next begins;
+/// else all.
 pub(crate) fn near_part<'a>(
     clocks: &Clocks,
     own: &Stretch,
@@ -136,8 +135,7 @@ pub(crate) fn near_part<'a>(
     ascend: bool,
 ) -> &'a [Stretch]
     requires { ascend ≡ true → (ended : Bool) → model.PassFirst (model.passes (is_before_in clocks.now.rows) ended own.now) others.now }
-    ensures { (zone other : ZoneLine) → flat_map (stretch_pairs (is_before_in clocks.now.rows) zone own.now other) result.now
-        ≡ flat_map (stretch_pairs (is_before_in clocks.now.rows) zone own.now other) others.now }
+    ensures { filter (may_overlap (is_before_in clocks.now.rows) own.now) result.now ≡ filter (may_overlap (is_before_in clocks.now.rows) own.now) others.now }
 {
     if ascend {
         part(others, range_by_halves(clocks, own, others))

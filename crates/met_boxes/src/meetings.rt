@@ -1,18 +1,21 @@
 //! All boxes that meet, of zones that may not.
-ghost use Rattle.std.specs.Prelude.{◌≡◌, ◌≤◌, ◌++◌, ◌∷◌, [], if◌then◌else◌, All, OnOk, IfOk};
+ghost use Rattle.std.specs.Prelude.{◌≡◌, ◌≤◌, ◌++◌, ◌∷◌, [], if◌then◌else◌, Bool, true, All, OnOk, IfOk};
 ghost use Rattle.std.specs.List.{flat_map, list_any};
 ghost use Rattle.box_reach.specs.Lots.{lots_meet};
 ghost use Rattle.job_lines.specs.declared.limits.TheConstants.{DEPTH_LIMIT};
 ghost use Rattle.job_types.specs.SoundJob.{IsSoundJob};
+ghost use Rattle.met_boxes.specs.Ascents.{IsTimed, PassFirst, passes};
 ghost use Rattle.met_boxes.specs.KeptBoxes.{AreKept, IsAt};
 ghost use Rattle.met_boxes.specs.Meetings.{meetings_of, told_box, told_pair};
 ghost use Rattle.met_boxes.specs.MeetingSteps as model;
+ghost use Rattle.met_boxes.specs.Rows.{IsRowTimed};
 ghost use Rattle.order_clocks.specs.Tells.{is_before_in};
 ghost use Rattle.protection_zones.specs.Pieces.{piece_boxes};
 ghost use Rattle.protection_zones.specs.Told.{IsTold};
 ghost use Rattle.protection_zones.specs.ZoneBoxes.{IsFit};
 ghost use Rattle.swept_boxes.specs.Boxes.{boxes_meet};
 
+use crate::ascents::{do_ascend, near_part};
 use crate::kept::{are_kept, keep_at, kept_at, lot_of};
 use crate::overlaps::{are_compared, may_overlap, share_channel};
 use crate::rows::{Row, rows_of, times_of};
@@ -308,17 +311,57 @@ fn add_against(
     Ok(())
 }
 
-/// The same for the stretches of a row.
+/// The same of all stretches of another zone. Where these ascend, those alone are looked at that may overlap the stretch.
+fn add_beside(
+    list: &mut Vec<Meeting>,
+    scene: &Scene,
+    left: &Held,
+    other: &ZoneLine,
+    others: &[Stretch],
+    ascend: bool,
+) -> Result<(), AllocError>
+    requires fit { All (All IsFit) scene.now.run.now.items }
+    requires deep { scene.now.job.now.depth ≤ DEPTH_LIMIT }
+    requires passing { ascend ≡ true → (ended : Bool) → PassFirst (passes (is_before_in scene.now.clocks.now.rows) ended left.now.stretch.now) others.now }
+    ensures { OnOk result (list.new.items ≡ list.old.items ++ flat_map (model.met_in_stretches (record { job = scene.now.job.now; run = scene.now.run.now; before = is_before_in scene.now.clocks.now.rows })
+        left.now.zone.now left.now.stretch.now other.now) others.now) }
+{
+    let near = near_part(scene.clocks, left.stretch, others, ascend);
+    add_against(list, scene, left, other, near)?;
+    Ok(())
+}
+
+/// Adds the boxes of the stretches of two zones that meet.
+fn add_in_zones(
+    list: &mut Vec<Meeting>,
+    scene: &Scene,
+    zone: &ZoneLine,
+    owns: &[Stretch],
+    other: &ZoneLine,
+    others: &[Stretch],
+) -> Result<(), AllocError>
+    requires fit { All (All IsFit) scene.now.run.now.items }
+    requires deep { scene.now.job.now.depth ≤ DEPTH_LIMIT }
+    requires timed { IsTimed (is_before_in scene.now.clocks.now.rows) (owns.now ∷ (others.now ∷ [])) }
+    ensures { OnOk result (list.new.items ≡ list.old.items ++ flat_map (λ left. flat_map (model.met_in_stretches (record { job = scene.now.job.now; run = scene.now.run.now; before = is_before_in scene.now.clocks.now.rows })
+        zone.now left other.now) others.now) owns.now) }
+{
+    let ascend = do_ascend(scene.clocks, others);
+    for stretch in owns {
+        let left = Held { zone, stretch };
+        add_beside(list, scene, &left, other, others, ascend)?;
+    }
+    Ok(())
+}
+
+/// The same of a row.
 fn add_in_row(list: &mut Vec<Meeting>, scene: &Scene, row: &Row) -> Result<(), AllocError>
     requires fit { All (All IsFit) scene.now.run.now.items }
     requires deep { scene.now.job.now.depth ≤ DEPTH_LIMIT }
+    requires timed { IsRowTimed (is_before_in scene.now.clocks.now.rows) row.now }
     ensures { OnOk result (list.new.items ≡ list.old.items ++ model.met_in_row (record { job = scene.now.job.now; run = scene.now.run.now; before = is_before_in scene.now.clocks.now.rows }) row.now) }
 {
-    let left = Held {
-        zone: row.zone,
-        stretch: row.stretch,
-    };
-    add_against(list, scene, &left, row.other, row.others)?;
+    add_in_zones(list, scene, row.zone, row.owns, row.other, row.others)?;
     Ok(())
 }
 
@@ -326,6 +369,7 @@ fn add_in_row(list: &mut Vec<Meeting>, scene: &Scene, row: &Row) -> Result<(), A
 fn met_in(alloc: Global, scene: &Scene, rows: &[Row]) -> Result<Vec<Meeting>, AllocError>
     requires fit { All (All IsFit) scene.now.run.now.items }
     requires deep { scene.now.job.now.depth ≤ DEPTH_LIMIT }
+    requires timed { All (IsRowTimed (is_before_in scene.now.clocks.now.rows)) rows.now }
     ensures { IfOk result (λ met. met.items ≡ flat_map (model.met_in_row (record { job = scene.now.job.now; run = scene.now.run.now; before = is_before_in scene.now.clocks.now.rows })) rows.now) }
 {
     let mut list = Vec::new(alloc);
@@ -336,8 +380,7 @@ fn met_in(alloc: Global, scene: &Scene, rows: &[Row]) -> Result<Vec<Meeting>, Al
 }
 
 /// All compared boxes that meet in a run of a job, in the order in which the verdict NO names the first. It takes memory for each
-/// such pair, for each stretch of a zone with each later zone of another group, and while two stretches are looked at for the boxes
-/// by which those of the second are compared.
+/// such pair, and while two stretches are looked at for the boxes by which those of the second are compared.
 pub fn meetings_of(
     alloc: Global,
     job: &Job,
@@ -352,7 +395,7 @@ pub fn meetings_of(
 {
     let times = times_of(alloc, job, stretches)?;
     let all = times.as_slice();
-    let rows = rows_of(alloc, job, stretches, clocks, all)?;
+    let rows = rows_of(alloc, all)?;
     let parts = rows.as_slice();
     let scene = Scene {
         alloc,

@@ -1,16 +1,17 @@
 //! How near the compared boxes of two groups come to each other.
-ghost use Rattle.std.specs.Prelude.{◌≡◌, ◌≤◌, ◌++◌, ◌∷◌, [], min, max, true, All, List, OnOk, IfOk, IfSome};
+ghost use Rattle.std.specs.Prelude.{◌≡◌, ◌≤◌, ◌++◌, ◌∷◌, [], min, max, Bool, true, All, List, OnOk, IfOk, IfSome};
 ghost use Rattle.std.specs.List.{Any, flat_map, list_any};
 ghost use Rattle.job_lines.specs.declared.limits.TheConstants.{DEPTH_LIMIT};
 ghost use Rattle.job_types.specs.Job.{JobView};
 ghost use Rattle.job_types.specs.SoundJob.{IsSoundJob};
+ghost use Rattle.met_boxes.specs.Ascents.{IsTimed, PassFirst, passes};
 ghost use Rattle.met_boxes.specs.KeptBoxes.{AreKept, IsAt};
 ghost use Rattle.met_boxes.specs.Meetings.{told_place};
 ghost use Rattle.met_boxes.specs.MeetingSteps.{place_of};
 ghost use Rattle.met_boxes.specs.Nearest as model;
 ghost use Rattle.met_boxes.specs.NearSteps as steps;
 ghost use Rattle.met_boxes.specs.PassedOwns.{AreLookedAt};
-ghost use Rattle.met_boxes.specs.Rows.{pairs_in, row_pairs};
+ghost use Rattle.met_boxes.specs.Rows.{IsRowTimed, pairs_in, row_pairs};
 ghost use Rattle.order_clocks.specs.Tells.{is_before_in};
 ghost use Rattle.protection_zones.specs.Overlaps.{Pair, compared_pairs, stretch_pairs};
 ghost use Rattle.protection_zones.specs.Pieces.{piece_boxes};
@@ -18,6 +19,7 @@ ghost use Rattle.protection_zones.specs.Told.{IsTold};
 ghost use Rattle.protection_zones.specs.ZoneBoxes.{IsFit};
 ghost use Rattle.sync_types.specs.Views.{RunView};
 
+use crate::ascents::{do_ascend, near_part};
 use crate::kept::{are_kept, keep_at, kept_at, lot_of};
 use crate::meetings::{Held, Scene, told_box};
 use crate::overlaps::{are_compared, may_overlap, share_channel};
@@ -452,18 +454,59 @@ fn look_against(
     Ok(())
 }
 
-/// The same for the stretches of a row.
+/// The same of all stretches of another zone. Where these ascend, those alone are looked at that may overlap the stretch.
+fn look_beside(
+    rows: &mut Vec<Near>,
+    scene: &Scene,
+    left: &Held,
+    other: &ZoneLine,
+    others: &[Stretch],
+    ascend: bool,
+) -> Result<(), AllocError>
+    requires fit { All (All IsFit) scene.now.run.now.items }
+    requires deep { scene.now.job.now.depth ≤ DEPTH_LIMIT }
+    requires passing { ascend ≡ true → (ended : Bool) → PassFirst (passes (is_before_in scene.now.clocks.now.rows) ended left.now.stretch.now) others.now }
+    ensures { OnOk result ((seen : List Pair) → steps.AreNearestSoFar scene.now.job.now scene.now.run.now seen rows.old.items
+        → steps.AreNearestSoFar scene.now.job.now scene.now.run.now (seen ++ flat_map (stretch_pairs (is_before_in scene.now.clocks.now.rows) left.now.zone.now left.now.stretch.now other.now) others.now) rows.new.items) }
+{
+    let near = near_part(scene.clocks, left.stretch, others, ascend);
+    look_against(rows, scene, left, other, near)?;
+    Ok(())
+}
+
+/// Looks at the boxes of the stretches of two zones.
+fn look_in_zones(
+    rows: &mut Vec<Near>,
+    scene: &Scene,
+    zone: &ZoneLine,
+    owns: &[Stretch],
+    other: &ZoneLine,
+    others: &[Stretch],
+) -> Result<(), AllocError>
+    requires fit { All (All IsFit) scene.now.run.now.items }
+    requires deep { scene.now.job.now.depth ≤ DEPTH_LIMIT }
+    requires timed { IsTimed (is_before_in scene.now.clocks.now.rows) (owns.now ∷ (others.now ∷ [])) }
+    ensures { OnOk result ((seen : List Pair) → steps.AreNearestSoFar scene.now.job.now scene.now.run.now seen rows.old.items
+        → steps.AreNearestSoFar scene.now.job.now scene.now.run.now
+        (seen ++ flat_map (λ left. flat_map (stretch_pairs (is_before_in scene.now.clocks.now.rows) zone.now left other.now) others.now) owns.now) rows.new.items) }
+{
+    let ascend = do_ascend(scene.clocks, others);
+    for stretch in owns {
+        let left = Held { zone, stretch };
+        look_beside(rows, scene, &left, other, others, ascend)?;
+    }
+    Ok(())
+}
+
+/// The same of a row.
 fn look_in_row(near: &mut Vec<Near>, scene: &Scene, row: &Row) -> Result<(), AllocError>
     requires fit { All (All IsFit) scene.now.run.now.items }
     requires deep { scene.now.job.now.depth ≤ DEPTH_LIMIT }
+    requires timed { IsRowTimed (is_before_in scene.now.clocks.now.rows) row.now }
     ensures { OnOk result ((seen : List Pair) → steps.AreNearestSoFar scene.now.job.now scene.now.run.now seen near.old.items
         → steps.AreNearestSoFar scene.now.job.now scene.now.run.now (seen ++ row_pairs (is_before_in scene.now.clocks.now.rows) row.now) near.new.items) }
 {
-    let left = Held {
-        zone: row.zone,
-        stretch: row.stretch,
-    };
-    look_against(near, scene, &left, row.other, row.others)?;
+    look_in_zones(near, scene, row.zone, row.owns, row.other, row.others)?;
     Ok(())
 }
 
@@ -471,6 +514,7 @@ fn look_in_row(near: &mut Vec<Near>, scene: &Scene, row: &Row) -> Result<(), All
 fn nearest_in(alloc: Global, scene: &Scene, rows: &[Row]) -> Result<Vec<Near>, AllocError>
     requires fit { All (All IsFit) scene.now.run.now.items }
     requires deep { scene.now.job.now.depth ≤ DEPTH_LIMIT }
+    requires timed { All (IsRowTimed (is_before_in scene.now.clocks.now.rows)) rows.now }
     ensures { IfOk result (λ near. steps.AreNearestSoFar scene.now.job.now scene.now.run.now (pairs_in (is_before_in scene.now.clocks.now.rows) rows.now) near.items) }
 {
     let mut near = Vec::new(alloc);
@@ -481,9 +525,8 @@ fn nearest_in(alloc: Global, scene: &Scene, rows: &[Row]) -> Result<Vec<Near>, A
 }
 
 /// For each two groups of which boxes are compared in a run of a job two compared boxes that come nearest to each other: of no other
-/// two does a box by which it is compared reach further into one of the other. It takes memory for each two groups, for each stretch
-/// of a zone with each later zone of another group, and while two stretches are looked at for the boxes by which those of the second
-/// are compared.
+/// two does a box by which it is compared reach further into one of the other. It takes memory for each two groups, and while two
+/// stretches are looked at for the boxes by which those of the second are compared.
 pub fn nearest_of(
     alloc: Global,
     job: &Job,
@@ -498,7 +541,7 @@ pub fn nearest_of(
 {
     let times = times_of(alloc, job, stretches)?;
     let all = times.as_slice();
-    let rows = rows_of(alloc, job, stretches, clocks, all)?;
+    let rows = rows_of(alloc, all)?;
     let parts = rows.as_slice();
     let scene = Scene {
         alloc,

@@ -1,21 +1,14 @@
-//! The stretches of each two zones of different groups that may overlap.
-ghost use Rattle.std.specs.Prelude.{◌≡◌, ◌≤◌, Bool, true, [], ◌∷◌, ◌++◌, IfOk, OnOk, drop, length, map};
+//! Each two zones of different groups, with their stretches.
+ghost use Rattle.std.specs.Prelude.{◌≡◌, ◌≤◌, ◌++◌, IfOk, OnOk, drop, length};
 ghost use Rattle.std.specs.List.{flat_map};
-ghost use Rattle.met_boxes.specs.Ascents as orders;
-ghost use Rattle.met_boxes.specs.Ascents.{IsTimed};
 ghost use Rattle.met_boxes.specs.Rows as model;
 ghost use Rattle.met_boxes.specs.Times.{lists_in, times_from};
-ghost use Rattle.order_clocks.specs.Tells.{is_before_in};
-ghost use Rattle.protection_zones.specs.Overlaps.{compared_pairs, stretch_pairs, zone_times};
-ghost use Rattle.protection_zones.specs.Told.{IsTold};
-ghost use Rattle.sync_types.specs.Views.{RunView};
+ghost use Rattle.protection_zones.specs.Overlaps.{zone_times};
 
-use crate::ascents::{do_ascend, near_part};
 use job_types::{Job, ZoneLine};
 use nc_faults::NoMemory;
-use order_clocks::Clocks;
 use protection_zones::{Stretch, Stretches, zone_at};
-use std::alloc::Global;
+use std::alloc::{AllocError, Global};
 use std::marker::Model;
 
 /// A zone with its stretches.
@@ -33,16 +26,16 @@ impl<'a> Model for Time<'a> {
     ghost view = { λ t. record { zone = t.zone; stretches = t.stretches.now } };
 }
 
-/// A stretch of a zone, and stretches of another zone: all with which its boxes are compared are among them.
+/// Two zones of different groups, each with its stretches.
 #[derive(Drop)]
 pub(crate) struct Row<'a> {
-    /// The zone.
+    /// The one with the lower number.
     pub(crate) zone: &'a ZoneLine,
-    /// Its stretch.
-    pub(crate) stretch: &'a Stretch,
-    /// The other zone.
+    /// Its stretches.
+    pub(crate) owns: &'a [Stretch],
+    /// The other.
     pub(crate) other: &'a ZoneLine,
-    /// Stretches of it.
+    /// Its stretches.
     pub(crate) others: &'a [Stretch],
 }
 
@@ -51,7 +44,7 @@ impl<'a> Model for Row<'a> {
 
     ghost Value = { RowView };
 
-    ghost view = { λ r. record { zone = r.zone.now; stretch = r.stretch.now; other = r.other.now; others = r.others.now } };
+    ghost view = { λ r. record { zone = r.zone.now; owns = r.owns.now; other = r.other.now; others = r.others.now } };
 }
 
 /// The stretches of all zones.
@@ -94,91 +87,36 @@ pub(crate) fn times_of<'a>(
     Ok(times)
 }
 
-/// Adds a stretch with those of another zone, where these ascend with those alone that may overlap it.
-fn add_row<'a>(
-    rows: &mut Vec<Row<'a>>,
-    clocks: &Clocks,
-    zone: &'a ZoneLine,
-    stretch: &'a Stretch,
-    other: &'a ZoneLine,
-    others: &'a [Stretch],
-    ascend: bool,
-) -> Result<(), NoMemory>
-    requires { ascend ≡ true → (ended : Bool) → orders.PassFirst (orders.passes (is_before_in clocks.now.rows) ended stretch.now) others.now }
-    ensures { OnOk result (model.pairs_in (is_before_in clocks.now.rows) rows.new.items ≡ model.pairs_in (is_before_in clocks.now.rows) rows.old.items
-        ++ flat_map (stretch_pairs (is_before_in clocks.now.rows) zone.now stretch.now other.now) others.now) }
-{
-    let near = near_part(clocks, stretch, others, ascend);
-    rows.push(Row {
-        zone,
-        stretch,
-        other,
-        others: near,
-    })?;
-    Ok(())
-}
-
-/// Adds the stretches of a zone, each with those of another.
-fn add_stretches<'a>(
-    rows: &mut Vec<Row<'a>>,
-    clocks: &Clocks,
-    zone: &'a ZoneLine,
-    own: &'a [Stretch],
-    other: &'a ZoneLine,
-    others: &'a [Stretch],
-) -> Result<(), NoMemory>
-    requires { IsTimed (is_before_in clocks.now.rows) (own.now ∷ (others.now ∷ [])) }
-    ensures { OnOk result (model.pairs_in (is_before_in clocks.now.rows) rows.new.items ≡ model.pairs_in (is_before_in clocks.now.rows) rows.old.items
-        ++ flat_map (λ left. flat_map (stretch_pairs (is_before_in clocks.now.rows) zone.now left other.now) others.now) own.now) }
-{
-    let ascend = do_ascend(clocks, others);
-    for stretch in own {
-        add_row(rows, clocks, zone, stretch, other, others, ascend)?;
-    }
-    Ok(())
-}
-
-/// The same, where the zones are of different groups.
-#[tactic(auto, unfolding(crate::specs::Rows::pairs_of, protection_zones::specs::Overlaps::pairs_of_zones))]
+/// Adds two zones, where they are of different groups.
+#[tactic(auto, unfolding(crate::specs::Rows::rows_for))]
 fn add_zones<'a>(
     rows: &mut Vec<Row<'a>>,
-    clocks: &Clocks,
-    zone: &'a ZoneLine,
-    own: &'a [Stretch],
-    other: &'a ZoneLine,
-    others: &'a [Stretch],
-) -> Result<(), NoMemory>
-    requires { IsTimed (is_before_in clocks.now.rows) (own.now ∷ (others.now ∷ [])) }
-    ensures { OnOk result (model.pairs_in (is_before_in clocks.now.rows) rows.new.items ≡ model.pairs_in (is_before_in clocks.now.rows) rows.old.items
-        ++ model.pairs_of (is_before_in clocks.now.rows) (record { zone = zone.now; stretches = own.now }) (record { zone = other.now; stretches = others.now })) }
+    one: &'a Time<'a>,
+    two: &'a Time<'a>,
+) -> Result<(), AllocError>
+    ensures { OnOk result (rows.new.items ≡ rows.old.items ++ model.rows_for one.now two.now) }
 {
-    if zone.group == other.group {
-        return Ok(());
+    if one.zone.group != two.zone.group {
+        rows.push(Row {
+            zone: &one.zone,
+            owns: one.stretches,
+            other: &two.zone,
+            others: two.stretches,
+        })?;
     }
-    add_stretches(rows, clocks, zone, own, other, others)?;
     Ok(())
 }
 
-/// Adds the stretches of a zone and of each of some others.
+/// Adds a zone with each of some others that is of another group.
 fn add_with<'a>(
     rows: &mut Vec<Row<'a>>,
-    clocks: &Clocks,
     one: &'a Time<'a>,
     others: &'a [Time<'a>],
-) -> Result<(), NoMemory>
-    requires { IsTimed (is_before_in clocks.now.rows) (one.now.stretches ∷ map (λ t. t.stretches) others.now) }
-    ensures { OnOk result (model.pairs_in (is_before_in clocks.now.rows) rows.new.items ≡ model.pairs_in (is_before_in clocks.now.rows) rows.old.items
-        ++ flat_map (model.pairs_of (is_before_in clocks.now.rows) one.now) others.now) }
+) -> Result<(), AllocError>
+    ensures { OnOk result (rows.new.items ≡ rows.old.items ++ flat_map (model.rows_for one.now) others.now) }
 {
     for two in others {
-        add_zones(
-            rows,
-            clocks,
-            &one.zone,
-            one.stretches,
-            &two.zone,
-            two.stretches,
-        )?;
+        add_zones(rows, one, two)?;
     }
     Ok(())
 }
@@ -191,36 +129,13 @@ fn rest<'a>(times: &'a [Time<'a>], from: usize) -> &'a [Time<'a>]
     &times[from..]
 }
 
-/// The stretches of each zone with those of each later one of another group.
-fn rows_in<'a>(
-    alloc: Global,
-    clocks: &Clocks,
-    times: &'a [Time<'a>],
-) -> Result<Vec<Row<'a>>, NoMemory>
-    requires { IsTimed (is_before_in clocks.now.rows) (map (λ t. t.stretches) times.now) }
-    ensures { IfOk result (λ rows. model.pairs_in (is_before_in clocks.now.rows) rows.items ≡ model.pairs_in_times (is_before_in clocks.now.rows) times.now) }
+/// Each zone with each later one of another group.
+pub(crate) fn rows_of<'a>(alloc: Global, times: &'a [Time<'a>]) -> Result<Vec<Row<'a>>, AllocError>
+    ensures { IfOk result (λ rows. rows.items ≡ model.rows_by_group times.now) }
 {
     let mut rows = Vec::new(alloc);
     for place in 0..times.len() {
-        add_with(&mut rows, clocks, &times[place], rest(times, place + 1))?;
+        add_with(&mut rows, &times[place], rest(times, place + 1))?;
     }
-    Ok(rows)
-}
-
-/// Rows whose pairs are all that are compared, in their order.
-pub(crate) fn rows_of<'a>(
-    alloc: Global,
-    job: &Job,
-    stretches: &Stretches,
-    clocks: &Clocks,
-    times: &'a [Time<'a>],
-) -> Result<Vec<Row<'a>>, NoMemory>
-    requires told { (run : RunView) × IsTold job.now run stretches.now clocks.now }
-    requires times { times.now ≡ zone_times job.now stretches.now }
-    ensures { IfOk result (λ rows. model.pairs_in (is_before_in clocks.now.rows) rows.items ≡ compared_pairs (is_before_in clocks.now.rows) job.now stretches.now) }
-{
-    let _job = job;
-    let _stretches = stretches;
-    let rows = rows_in(alloc, clocks, times)?;
     Ok(rows)
 }

@@ -1,9 +1,16 @@
-use Rattle.std.proofs.Common.{arith}
+use Rattle.std.proofs.Common.{sym, subst, arith}
+use Rattle.std.proofs.lemmas.List.Elements.{All-get_or}
 use Rattle.order_clocks.specs.Tells.{is_before_in}
 use Rattle.met_boxes.proofs.AddLaws.{added_more, added_all}
 use Rattle.met_boxes.specs.MeetingSteps as model
 use Rattle.met_boxes.specs.MeetingSteps.{Case}
+use Rattle.met_boxes.specs.Rows.{IsRowTimed}
 use Rattle.met_boxes.proofs.meetings.met_in.Goals as goal
+
+pub add_in_row-requires-clause-timed : goal.add_in_row-requires-clause-timed
+add_in_row-requires-clause-timed c =
+    subst (IsRowTimed (is_before_in c.args.scene.now.clocks.now.rows)) (sym c.row-item.is)
+    (All-get_or (IsRowTimed (is_before_in c.args.scene.now.clocks.now.rows)) c.args.rows.now c.loop-row.row-index c.row-item.result c.loop-row-test.true c.requires.timed)
 
 pub loop-row-preserved : goal.loop-row-preserved
 loop-row-preserved c =

@@ -6,4 +6,4 @@ use Rattle.met_boxes.proofs.nearest.look_in_row.Goals as goal
 
 pub returns : goal.returns
 returns c seen are =
-    subst (λ (row : RowView). AreNearestSoFar c.args.scene.now.job.now c.args.scene.now.run.now (seen ++ row_pairs (is_before_in c.args.scene.now.clocks.now.rows) row) c.look_against.new.rows.items) c.row.view_is (c.in_ok-look_against.ensures seen are)
+    subst (λ (row : RowView). AreNearestSoFar c.args.scene.now.job.now c.args.scene.now.run.now (seen ++ row_pairs (is_before_in c.args.scene.now.clocks.now.rows) row) c.look_in_zones.new.rows.items) c.row.view_is (c.in_ok-look_in_zones.ensures seen are)

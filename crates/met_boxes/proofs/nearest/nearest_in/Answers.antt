@@ -1,11 +1,17 @@
 use Rattle.std.proofs.Common.{List, [], take, sym, subst, arith}
+use Rattle.std.proofs.lemmas.List.Elements.{All-get_or}
 use Rattle.met_boxes.proofs.NearestLaws.{nearest_none}
 use Rattle.met_boxes.proofs.SeenLaws.{seen_more, seen_all}
 use Rattle.met_boxes.specs.declared.nearest.Near.{Near}
-use Rattle.met_boxes.specs.Rows.{pairs_in, row_pairs}
+use Rattle.met_boxes.specs.Rows.{IsRowTimed, pairs_in, row_pairs}
 use Rattle.order_clocks.specs.Tells.{is_before_in}
 use Rattle.met_boxes.specs.NearSteps.{AreNearestSoFar}
 use Rattle.met_boxes.proofs.nearest.nearest_in.Goals as goal
+
+pub look_in_row-requires-clause-timed : goal.look_in_row-requires-clause-timed
+look_in_row-requires-clause-timed c =
+    subst (IsRowTimed (is_before_in c.args.scene.now.clocks.now.rows)) (sym c.row-item.is)
+    (All-get_or (IsRowTimed (is_before_in c.args.scene.now.clocks.now.rows)) c.args.rows.now c.loop-row.row-index c.row-item.result c.loop-row-test.true c.requires.timed)
 
 pub loop-row-init : goal.loop-row-init
 loop-row-init c = subst (λ (rows : List Near). AreNearestSoFar c.args.scene.now.job.now c.args.scene.now.run.now [] rows) (sym c.new-near.ensures.items) (λ covers. nearest_none c.args.scene.now.job.now c.args.scene.now.run.now)
