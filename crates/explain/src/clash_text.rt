@@ -2,6 +2,7 @@
 ghost use Rattle.std.specs.Prelude.{◌≡◌, ◌++◌, ◌∷◌, All, IfOk};
 ghost use Rattle.std.specs.List.{flat_map};
 ghost use Rattle.explain.specs.Clashes as model;
+ghost use Rattle.explain.specs.Explained.{IsHeaded};
 ghost use Rattle.explain.specs.LineTexts.{AreSaid};
 ghost use Rattle.job_types.specs.SoundJob.{IsSoundJob};
 ghost use Rattle.protection_zones.specs.ZoneBoxes.{IsFit};
@@ -220,34 +221,35 @@ fn say_met(
     say_groups(text, &told, known, judged.met, groups);
 }
 
-/// What is said of the verdict NO, whose first two boxes that meet are these, with these others.
+/// A text, and after it what is said of the verdict NO, whose first two boxes that meet are these, with these others.
 fn first_told(
     alloc: Global,
     judged: &Judged,
+    mut text: Text,
     first: &Meeting,
     others: &[Meeting],
 ) -> Result<Vec<u8>, NoMemory>
     requires sound { IsSoundJob judged.now.job.now }
     requires fit { All (All IsFit) judged.now.run.now.items }
     requires all { judged.now.met.now ≡ first.now ∷ others.now }
-    ensures { IfOk result (λ text. model.IsNoText judged.now.lines.now judged.now.job.now judged.now.run.now first.now others.now text.items) }
+    ensures { IfOk result (λ all. IsHeaded text (model.IsNoText judged.now.lines.now judged.now.job.now judged.now.run.now first.now others.now) all.items) }
 {
     let clash = clash_of(judged.job, judged.run, first);
     let groups = groups_of(alloc, judged.met)?;
     let known = texts_of(alloc, &judged.told(), judged.met, groups.as_slice())?;
-    let mut text = Text::new(alloc);
     say_met(&mut text, judged, &known, first, &clash, groups.as_slice());
     text.finish()
 }
 
-/// What is said of the verdict NO: the first two boxes that meet, by what they would be apart, and all pairs of lines that meet.
-pub(crate) fn no_told(alloc: Global, judged: &Judged) -> Result<Vec<u8>, NoMemory>
+/// A text, and after it what is said of the verdict NO: the first two boxes that meet, by what they would be apart, and all pairs of
+/// lines that meet.
+pub(crate) fn no_told(alloc: Global, judged: &Judged, text: Text) -> Result<Vec<u8>, NoMemory>
     requires sound { IsSoundJob judged.now.job.now }
     requires fit { All (All IsFit) judged.now.run.now.items }
-    ensures { IfOk result (λ text. model.IsMetText judged.now.lines.now judged.now.job.now judged.now.run.now judged.now.met.now text.items) }
+    ensures { IfOk result (λ all. IsHeaded text (model.IsMetText judged.now.lines.now judged.now.job.now judged.now.run.now judged.now.met.now) all.items) }
 {
     match judged.met {
-        [first, others @ ..] => first_told(alloc, judged, first, others),
-        [] => Ok(Vec::new(alloc)),
+        [first, others @ ..] => first_told(alloc, judged, text, first, others),
+        [] => text.finish(),
     }
 }

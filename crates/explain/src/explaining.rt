@@ -129,14 +129,13 @@ fn alarm_explained(alloc: Global, judged: &Judged, channel: ChannelId) -> Result
     alarm_told(alloc, judged, channel, found.as_slice())
 }
 
-/// A verdict in one line, and what stands after it.
-fn headed(alloc: Global, verdict: &Verdict, body: &[u8]) -> Result<Vec<u8>, NoMemory>
-    ensures { IfOk result (λ text. text.items ≡ headline verdict.now ++ body.now) }
+/// A verdict in one line, which more is to be said of.
+fn headed(alloc: Global, verdict: &Verdict) -> Text
+    ensures { result ≡ headline verdict.now }
 {
     let mut text = Text::new(alloc);
     say_headline(&mut text, verdict);
-    text.bytes(body);
-    text.finish()
+    text
 }
 
 /// The explanation of NO.
@@ -146,8 +145,7 @@ fn no_explained(alloc: Global, judged: &Judged) -> Result<Vec<u8>, NoMemory>
     ensures { IfOk result (λ text. model.IsHeaded (headline judged.now.verdict.now)
         (IsMetText judged.now.lines.now judged.now.job.now judged.now.run.now judged.now.met.now) text.items) }
 {
-    let body = no_told(alloc, judged)?;
-    headed(alloc, judged.verdict, body.as_slice())
+    no_told(alloc, judged, headed(alloc, judged.verdict))
 }
 
 /// The explanation of UNDECIDED.
@@ -156,8 +154,7 @@ fn undecided_explained(alloc: Global, judged: &Judged) -> Result<Vec<u8>, NoMemo
     ensures { IfOk result (λ text. model.IsHeaded (headline judged.now.verdict.now)
         (IsUndecidedText (numbers_of (is_before_in judged.now.clocks.now.rows) judged.now.job.now judged.now.stretches.now)) text.items) }
 {
-    let body = undecided_told(alloc, judged)?;
-    headed(alloc, judged.verdict, body.as_slice())
+    undecided_told(alloc, judged, headed(alloc, judged.verdict))
 }
 
 /// The explanation of YES.
@@ -169,8 +166,7 @@ fn yes_explained(alloc: Global, judged: &Judged) -> Result<Vec<u8>, NoMemory>
         (IsYesText judged.now.lines.now judged.now.job.now judged.now.run.now
         (compared_pairs (is_before_in judged.now.clocks.now.rows) judged.now.job.now judged.now.stretches.now)) text.items) }
 {
-    let body = yes_told(alloc, judged)?;
-    headed(alloc, judged.verdict, body.as_slice())
+    yes_told(alloc, judged, headed(alloc, judged.verdict))
 }
 
 /// The explanation of the verdict on a judged job, in plain text: the verdict in one line, and why.

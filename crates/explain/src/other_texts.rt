@@ -2,6 +2,7 @@
 ghost use Rattle.std.specs.Prelude.{◌≡◌, ◌++◌, All, IfOk};
 ghost use Rattle.std.specs.List.{flat_map};
 ghost use Rattle.clash_check.specs.PairNumbers.{numbers_of};
+ghost use Rattle.explain.specs.Explained.{IsHeaded};
 ghost use Rattle.explain.specs.Numbers as numbers;
 ghost use Rattle.explain.specs.Room as room;
 ghost use Rattle.job_types.specs.SoundJob.{IsSoundJob};
@@ -97,13 +98,13 @@ fn say_nears(text: &mut Text, told: &Told, rows: &[Near])
     say_all_near(text, told, rows);
 }
 
-/// What is said of the verdict YES: how near the compared boxes of each two groups come.
-pub(crate) fn yes_told(alloc: Global, judged: &Judged) -> Result<Vec<u8>, NoMemory>
+/// A text, and after it what is said of the verdict YES: how near the compared boxes of each two groups come.
+pub(crate) fn yes_told(alloc: Global, judged: &Judged, mut text: Text) -> Result<Vec<u8>, NoMemory>
     requires sound { IsSoundJob judged.now.job.now }
     requires whole { IsTold judged.now.job.now judged.now.run.now judged.now.stretches.now judged.now.clocks.now }
     requires fit { All (All IsFit) judged.now.run.now.items }
-    ensures { IfOk result (λ text. room.IsYesText judged.now.lines.now judged.now.job.now judged.now.run.now
-        (compared_pairs (is_before_in judged.now.clocks.now.rows) judged.now.job.now judged.now.stretches.now) text.items) }
+    ensures { IfOk result (λ all. IsHeaded text (room.IsYesText judged.now.lines.now judged.now.job.now judged.now.run.now
+        (compared_pairs (is_before_in judged.now.clocks.now.rows) judged.now.job.now judged.now.stretches.now)) all.items) }
 {
     let rows = nearest_of(
         alloc,
@@ -112,7 +113,6 @@ pub(crate) fn yes_told(alloc: Global, judged: &Judged) -> Result<Vec<u8>, NoMemo
         judged.stretches,
         judged.clocks,
     )?;
-    let mut text = Text::new(alloc);
     say_nears(&mut text, &judged.told(), rows.as_slice());
     text.finish()
 }
@@ -152,14 +152,17 @@ fn say_numbers(text: &mut Text, rows: &[PairNumber])
     );
 }
 
-/// What is said of the verdict UNDECIDED: how many pairs of each two zones are to be compared, and what to do.
-pub(crate) fn undecided_told(alloc: Global, judged: &Judged) -> Result<Vec<u8>, NoMemory>
+/// A text, and after it what is said of the verdict UNDECIDED: how many pairs of each two zones are to be compared, and what to do.
+pub(crate) fn undecided_told(
+    alloc: Global,
+    judged: &Judged,
+    mut text: Text,
+) -> Result<Vec<u8>, NoMemory>
     requires whole { IsTold judged.now.job.now judged.now.run.now judged.now.stretches.now judged.now.clocks.now }
-    ensures { IfOk result (λ text. numbers.IsUndecidedText
-        (numbers_of (is_before_in judged.now.clocks.now.rows) judged.now.job.now judged.now.stretches.now) text.items) }
+    ensures { IfOk result (λ all. IsHeaded text (numbers.IsUndecidedText
+        (numbers_of (is_before_in judged.now.clocks.now.rows) judged.now.job.now judged.now.stretches.now)) all.items) }
 {
     let rows = pair_numbers(alloc, judged.job, judged.stretches, judged.clocks)?;
-    let mut text = Text::new(alloc);
     say_numbers(&mut text, rows.as_slice());
     text.finish()
 }
