@@ -1,7 +1,7 @@
 -- Stretches of a zone that ascend: those that may overlap a stretch of another zone stand side by side.
-use Rattle.std.proofs.Common.{◌≡◌, ◌∙◌, ℕ, zero, suc, ◌+◌, ◌<◌, ◌≤◌, ◌||◌, not, Bool, true, false, cond, List, [], ◌∷◌, ◌++◌, drop, take, length, get_or, Option, None, Some, All, refl, sym, ap, subst, arith}
+use Rattle.std.proofs.Common.{◌≡◌, ◌∙◌, ℕ, zero, suc, ◌+◌, ◌<◌, ◌≤◌, ◌||◌, not, nat_le, Bool, true, false, cond, List, [], ◌∷◌, ◌++◌, drop, take, length, get_or, Option, None, Some, All, refl, sym, ap, subst, arith}
 use Rattle.std.specs.Prelude.{IfSome, ◌==◌, if◌then◌else◌}
-use Rattle.std.proofs.lemmas.Bool.{and_parts, eqb-true}
+use Rattle.std.proofs.lemmas.Bool.{and_parts, eqb-true, le-leb, lt-leb}
 use Rattle.std.proofs.lemmas.List.Elements.{All-nil, All-cons, All-head, All-tail, All-weaker, All-get_or}
 use Rattle.met_boxes.specs.Ascents.{leading, PassFirst, is_over, is_in_order, is_forward, is_over_at_first, do_ascend, passes}
 use Rattle.order_clocks.specs.Before.{Follows}
@@ -69,6 +69,17 @@ leading_by test (x ∷ xs) (suc k) d within off = by_test (test x) (leading_by t
     by_test : (b : Bool) → leading test xs ≤ k → cond b (suc (leading test xs)) 0 ≤ suc k
     by_test true rest = omega (arith, rest)
     by_test false rest = omega arith
+
+-- so many pass where the last of them does, and no more than there are
+pub leading_at : {X : Type 0} (test : X → Bool) (xs : List X) (k count : ℕ) (d : X) → PassFirst test xs → k < length xs → count ≡ suc k → test (get_or xs k d) ≡ nat_le count (leading test xs)
+leading_at test xs k count d first within is = by_test (test (get_or xs k d)) refl
+  where
+    by_test : (b : Bool) → test (get_or xs k d) ≡ b → b ≡ nat_le count (leading test xs)
+    by_test true on = sym (ap (λ (n : ℕ). nat_le n (leading test xs)) is ∙ le-leb (suc k) (leading test xs) (leading_past test xs k d first within on))
+    by_test false off = sym (ap (λ (n : ℕ). nat_le n (leading test xs)) is ∙ lt-leb (suc k) (leading test xs) (let few = leading_by test xs k d within off in omega (arith, few)))
+
+pub leading_over : {X : Type 0} (test : X → Bool) (xs : List X) (count : ℕ) → length xs < count → nat_le count (leading test xs) ≡ false
+leading_over test xs count over = lt-leb count (leading test xs) (let within = leading_within test xs in omega (arith, over, within))
 
 -- what a list gives, where an element that passes the one test gives nothing, nor one that does not pass the other
 module _ {X M : Type 0} (F : List X → M) (early late : X → Bool) (same : (x : X) (xs ys : List X) → F xs ≡ F ys → F (x ∷ xs) ≡ F (x ∷ ys))

@@ -1,6 +1,6 @@
 //! Which stretches of a zone may overlap one of another: the stretches of a zone come one after another, so these stand side by
 //! side.
-ghost use Rattle.std.specs.Prelude.{◌≡◌, ◌≤◌, Bool, true, false, drop, filter, take, length};
+ghost use Rattle.std.specs.Prelude.{◌≡◌, ◌≤◌, Bool, true, false, nat_le, drop, filter, take, length};
 ghost use Rattle.met_boxes.specs.Ascents as model;
 ghost use Rattle.order_clocks.specs.Tells.{is_before_in};
 ghost use Rattle.protection_zones.specs.Overlaps.{may_overlap};
@@ -13,11 +13,11 @@ use sync_types::EventId;
 /// Two places among the stretches of a zone: of the first that may overlap a stretch of another zone, and of the first after
 /// these.
 #[derive(Clone, Copy)]
-struct Range {
+pub(crate) struct Range {
     /// The place of the first.
-    from: usize,
+    pub(crate) from: usize,
     /// The place after the last.
-    upto: usize,
+    pub(crate) upto: usize,
 }
 
 /// Whether a stretch is over as another begins.
@@ -101,16 +101,60 @@ fn count_by_halves(clocks: &Clocks, ended: bool, own: &Stretch, others: &[Stretc
     low
 }
 
-/// The places of the stretches that may overlap this one, found by halves.
-fn range_by_halves(clocks: &Clocks, own: &Stretch, others: &[Stretch]) -> Range
+/// Whether so many stretches pass before the first that does not.
+fn do_pass(clocks: &Clocks, ended: bool, own: &Stretch, others: &[Stretch], count: usize) -> bool
+    requires { model.PassFirst (model.passes (is_before_in clocks.now.rows) ended own.now) others.now }
+    ensures { result ≡ nat_le count (model.leading (model.passes (is_before_in clocks.now.rows) ended own.now) others.now) }
+{
+    if count == 0 {
+        return true;
+    }
+    if others.len() < count {
+        return false;
+    }
+    passes(clocks, ended, own, &others[count - 1])
+}
+
+/// Whether so many pass and no more.
+fn is_count(clocks: &Clocks, ended: bool, own: &Stretch, others: &[Stretch], count: usize) -> bool
+    requires { model.PassFirst (model.passes (is_before_in clocks.now.rows) ended own.now) others.now }
+    ensures { result ≡ true → count ≡ model.leading (model.passes (is_before_in clocks.now.rows) ended own.now) others.now }
+{
+    do_pass(clocks, ended, own, others, count)
+        && !do_pass(clocks, ended, own, others, count.saturating_add(1))
+}
+
+/// How many stretches pass before the first that does not: as many as is guessed or one more, or as many as are found by halves.
+fn count_near(
+    clocks: &Clocks,
+    ended: bool,
+    own: &Stretch,
+    others: &[Stretch],
+    guess: usize,
+) -> usize
+    requires { model.PassFirst (model.passes (is_before_in clocks.now.rows) ended own.now) others.now }
+    ensures { result ≡ model.leading (model.passes (is_before_in clocks.now.rows) ended own.now) others.now }
+{
+    if is_count(clocks, ended, own, others, guess) {
+        return guess;
+    }
+    let next = guess.saturating_add(1);
+    if is_count(clocks, ended, own, others, next) {
+        return next;
+    }
+    count_by_halves(clocks, ended, own, others)
+}
+
+/// The places of the stretches that may overlap this one, looked for first where they are guessed.
+fn range_near(clocks: &Clocks, own: &Stretch, others: &[Stretch], guess: Range) -> Range
     requires { (ended : Bool) → model.PassFirst (model.passes (is_before_in clocks.now.rows) ended own.now) others.now }
     ensures from { result.from ≡ model.leading (model.passes (is_before_in clocks.now.rows) true own.now) others.now }
     ensures upto { result.upto ≡ model.leading (model.passes (is_before_in clocks.now.rows) false own.now) others.now }
     ensures within { result.upto ≤ length others.now }
 {
     Range {
-        from: count_by_halves(clocks, true, own, others),
-        upto: count_by_halves(clocks, false, own, others),
+        from: count_near(clocks, true, own, others, guess.from),
+        upto: count_near(clocks, false, own, others, guess.upto),
     }
 }
 
@@ -127,18 +171,21 @@ fn part(others: &[Stretch], range: Range) -> &[Stretch]
 }
 
 /// Stretches of another zone among which all are that may overlap this one: no others, where each of them is over as the next begins;
-/// else all.
+/// else all. They are looked for first where those of the stretch before stood, since they come one after another.
 pub(crate) fn near_part<'a>(
     clocks: &Clocks,
     own: &Stretch,
     others: &'a [Stretch],
     ascend: bool,
+    range: &mut Range,
 ) -> &'a [Stretch]
     requires { ascend ≡ true → (ended : Bool) → model.PassFirst (model.passes (is_before_in clocks.now.rows) ended own.now) others.now }
     ensures { filter (may_overlap (is_before_in clocks.now.rows) own.now) result.now ≡ filter (may_overlap (is_before_in clocks.now.rows) own.now) others.now }
 {
     if ascend {
-        part(others, range_by_halves(clocks, own, others))
+        let found = range_near(clocks, own, others, *range);
+        *range = found;
+        part(others, found)
     } else {
         others
     }

@@ -15,7 +15,7 @@ ghost use Rattle.protection_zones.specs.Told.{IsTold};
 ghost use Rattle.protection_zones.specs.ZoneBoxes.{IsFit};
 ghost use Rattle.swept_boxes.specs.Boxes.{boxes_meet};
 
-use crate::ascents::{do_ascend, near_part};
+use crate::ascents::{Range, do_ascend, near_part};
 use crate::kept::{are_kept, keep_at, kept_at, lot_of};
 use crate::overlaps::{are_compared, may_overlap, share_channel};
 use crate::rows::{Row, rows_of, times_of};
@@ -319,6 +319,7 @@ fn add_beside(
     other: &ZoneLine,
     others: &[Stretch],
     ascend: bool,
+    range: &mut Range,
 ) -> Result<(), AllocError>
     requires fit { All (All IsFit) scene.now.run.now.items }
     requires deep { scene.now.job.now.depth ≤ DEPTH_LIMIT }
@@ -326,7 +327,7 @@ fn add_beside(
     ensures { OnOk result (list.new.items ≡ list.old.items ++ flat_map (model.met_in_stretches (record { job = scene.now.job.now; run = scene.now.run.now; before = is_before_in scene.now.clocks.now.rows })
         left.now.zone.now left.now.stretch.now other.now) others.now) }
 {
-    let near = near_part(scene.clocks, left.stretch, others, ascend);
+    let near = near_part(scene.clocks, left.stretch, others, ascend, range);
     add_against(list, scene, left, other, near)?;
     Ok(())
 }
@@ -347,9 +348,10 @@ fn add_in_zones(
         zone.now left other.now) others.now) owns.now) }
 {
     let ascend = do_ascend(scene.clocks, others);
+    let mut range = Range { from: 0, upto: 0 };
     for stretch in owns {
         let left = Held { zone, stretch };
-        add_beside(list, scene, &left, other, others, ascend)?;
+        add_beside(list, scene, &left, other, others, ascend, &mut range)?;
     }
     Ok(())
 }

@@ -19,7 +19,7 @@ ghost use Rattle.protection_zones.specs.Told.{IsTold};
 ghost use Rattle.protection_zones.specs.ZoneBoxes.{IsFit};
 ghost use Rattle.sync_types.specs.Views.{RunView};
 
-use crate::ascents::{do_ascend, near_part};
+use crate::ascents::{Range, do_ascend, near_part};
 use crate::kept::{are_kept, keep_at, kept_at, lot_of};
 use crate::meetings::{Held, Scene, told_box};
 use crate::overlaps::{are_compared, may_overlap, share_channel};
@@ -462,6 +462,7 @@ fn look_beside(
     other: &ZoneLine,
     others: &[Stretch],
     ascend: bool,
+    range: &mut Range,
 ) -> Result<(), AllocError>
     requires fit { All (All IsFit) scene.now.run.now.items }
     requires deep { scene.now.job.now.depth ≤ DEPTH_LIMIT }
@@ -469,7 +470,7 @@ fn look_beside(
     ensures { OnOk result ((seen : List Pair) → steps.AreNearestSoFar scene.now.job.now scene.now.run.now seen rows.old.items
         → steps.AreNearestSoFar scene.now.job.now scene.now.run.now (seen ++ flat_map (stretch_pairs (is_before_in scene.now.clocks.now.rows) left.now.zone.now left.now.stretch.now other.now) others.now) rows.new.items) }
 {
-    let near = near_part(scene.clocks, left.stretch, others, ascend);
+    let near = near_part(scene.clocks, left.stretch, others, ascend, range);
     look_against(rows, scene, left, other, near)?;
     Ok(())
 }
@@ -491,9 +492,10 @@ fn look_in_zones(
         (seen ++ flat_map (λ left. flat_map (stretch_pairs (is_before_in scene.now.clocks.now.rows) zone.now left other.now) others.now) owns.now) rows.new.items) }
 {
     let ascend = do_ascend(scene.clocks, others);
+    let mut range = Range { from: 0, upto: 0 };
     for stretch in owns {
         let left = Held { zone, stretch };
-        look_beside(rows, scene, &left, other, others, ascend)?;
+        look_beside(rows, scene, &left, other, others, ascend, &mut range)?;
     }
     Ok(())
 }

@@ -5,5 +5,5 @@ use Rattle.met_boxes.proofs.ascents.near_part.Goals as goal
 
 pub returns-then-ascend : goal.returns-then-ascend
 returns-then-ascend c =
-    near_are (is_before_in c.args.clocks.now.rows) c.args.own.now c.args.others.now c.part.result.now c.range_by_halves.result.from c.range_by_halves.result.upto
-    (c.requires c.if-ascend.true false) c.range_by_halves.ensures.from c.range_by_halves.ensures.upto c.part.ensures
+    near_are (is_before_in c.args.clocks.now.rows) c.args.own.now c.args.others.now c.part.result.now c.range_near-found.result.from c.range_near-found.result.upto
+    (c.requires c.if-ascend.true false) c.range_near-found.ensures.from c.range_near-found.ensures.upto c.part.ensures

@@ -2,10 +2,10 @@ use Rattle.std.proofs.Common.{false, arith}
 use Rattle.order_clocks.specs.Tells.{is_before_in}
 use Rattle.met_boxes.proofs.AscentLaws.{leading_within}
 use Rattle.met_boxes.specs.Ascents.{passes}
-use Rattle.met_boxes.proofs.ascents.range_by_halves.Goals as goal
+use Rattle.met_boxes.proofs.ascents.range_near.Goals as goal
 
 pub returns-clause-within : goal.returns-clause-within
 returns-clause-within c =
-    let is = c.count_by_halves-2.ensures in
+    let is = c.count_near-2.ensures in
     let within = leading_within (passes (is_before_in c.args.clocks.now.rows) false c.args.own.now) c.args.others.now in
     omega (arith, is, within)
