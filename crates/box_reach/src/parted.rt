@@ -6,7 +6,7 @@ ghost use Rattle.box_reach.specs.Lots.{DoLotsMeet, IsGreatest, IsGreatestOver, l
 ghost use Rattle.box_reach.specs.Parts.{AreCovers, IsCovered, LiesIn, boxes_in};
 
 use crate::lots::{any_meets, do_meet, is_over, most_among};
-use crate::parts::{Part, covers_of, parts_of};
+use crate::parts::{Part, cover_of, covers_of, parts_of};
 use std::alloc::{AllocError, Global};
 use std::marker::Model;
 use swept_boxes::Box3;
@@ -35,15 +35,27 @@ fn meets_parts(own: &Part, covers: &[Box3], others: &[Part]) -> bool
     false
 }
 
-/// Whether a box of these parts meets one of those.
-fn parts_meet(owns: &[Part], covers: &[Box3], others: &[Part]) -> bool
+/// The same, where all boxes of these parts lie in one box.
+fn meets_within(own: &Part, cover: &Box3, covers: &[Box3], others: &[Part]) -> bool
+    requires own { IsCovered own.now }
+    requires cover { All (LiesIn cover.now) (flat_map boxes_in others.now) }
+    requires covers { AreCovers covers.now others.now }
+    requires others { All IsCovered others.now }
+    ensures { result ≡ lots_meet (boxes_in own.now) (flat_map boxes_in others.now) }
+{
+    do_meet(&own.cover, cover) && meets_parts(own, covers, others)
+}
+
+/// Whether a box of these parts meets one of those, which lie in one box.
+fn parts_meet(owns: &[Part], cover: &Box3, covers: &[Box3], others: &[Part]) -> bool
     requires owns { All IsCovered owns.now }
+    requires cover { All (LiesIn cover.now) (flat_map boxes_in others.now) }
     requires covers { AreCovers covers.now others.now }
     requires others { All IsCovered others.now }
     ensures { result ≡ lots_meet (flat_map boxes_in owns.now) (flat_map boxes_in others.now) }
 {
     for own in owns {
-        if meets_parts(own, covers, others) {
+        if meets_within(own, cover, covers, others) {
             return true;
         }
     }
@@ -78,16 +90,44 @@ fn most_by(before: Option<i64>, own: &Part, covers: &[Box3], others: &[Part]) ->
     most
 }
 
-/// The same of these parts and of those.
-fn most_of(before: Option<i64>, owns: &[Part], covers: &[Box3], others: &[Part]) -> Option<i64>
+/// The same where all boxes of these parts lie in one box.
+fn most_within(
+    before: Option<i64>,
+    own: &Part,
+    cover: &Box3,
+    covers: &[Box3],
+    others: &[Part],
+) -> Option<i64>
+    requires own { IsCovered own.now }
+    requires cover { All (LiesIn cover.now) (flat_map boxes_in others.now) }
+    requires covers { AreCovers covers.now others.now }
+    requires others { All IsCovered others.now }
+    ensures { (numbers : List ℤ) → IsGreatest before numbers → IsGreatest result (numbers ++ reaches (boxes_in own.now) (flat_map boxes_in others.now)) }
+{
+    if is_over(before, &own.cover, cover) {
+        most_by(before, own, covers, others)
+    } else {
+        before
+    }
+}
+
+/// The same of these parts and of those, which lie in one box.
+fn most_of(
+    before: Option<i64>,
+    owns: &[Part],
+    cover: &Box3,
+    covers: &[Box3],
+    others: &[Part],
+) -> Option<i64>
     requires owns { All IsCovered owns.now }
+    requires cover { All (LiesIn cover.now) (flat_map boxes_in others.now) }
     requires covers { AreCovers covers.now others.now }
     requires others { All IsCovered others.now }
     ensures { (numbers : List ℤ) → IsGreatest before numbers → IsGreatest result (numbers ++ reaches (flat_map boxes_in owns.now) (flat_map boxes_in others.now)) }
 {
     let mut most = before;
     for own in owns {
-        most = most_by(most, own, covers, others);
+        most = most_within(most, own, cover, covers, others);
     }
     most
 }
@@ -117,24 +157,26 @@ fn have_boxes(parts: &[Part]) -> bool
     parts.iter().any(|part| has_boxes(part))
 }
 
-/// A lot of boxes in their order, divided into parts once. The covers stand side by side: most parts are passed over by these alone.
+/// A lot of boxes in their order, divided into parts once, with a box in which all of them lie. The covers of the parts stand side by
+/// side: most parts are passed over by these alone.
 #[derive(Drop)]
 pub struct PartedLot {
     parts: Vec<Part>,
     covers: Vec<Box3>,
+    cover: Box3,
 }
 
 impl Model for PartedLot {
     ghost use Rattle.std.specs.Prelude.{All, List};
     ghost use Rattle.std.specs.List.{flat_map};
-    ghost use Rattle.box_reach.specs.Parts.{AreCovers, IsCovered, boxes_in};
+    ghost use Rattle.box_reach.specs.Parts.{AreCovers, IsCovered, LiesIn, boxes_in};
     ghost use Rattle.swept_boxes.specs.declared.Box3.{Box3};
 
     ghost Value = { List Box3 };
 
     ghost view = { λ lot. flat_map boxes_in lot.parts.items };
 
-    ghost invariant = { λ lot. All IsCovered lot.parts.items × AreCovers lot.covers.items lot.parts.items };
+    ghost invariant = { λ lot. All IsCovered lot.parts.items × AreCovers lot.covers.items lot.parts.items × All (LiesIn lot.cover) (flat_map boxes_in lot.parts.items) };
 }
 
 impl PartedLot {
@@ -145,6 +187,7 @@ impl PartedLot {
         PartedLot {
             parts: Vec::new(alloc),
             covers: Vec::new(alloc),
+            cover: Box3::default(),
         }
     }
 
@@ -154,7 +197,11 @@ impl PartedLot {
     {
         let parts = parts_of(alloc, boxes)?;
         let covers = covers_of(alloc, parts.as_slice())?;
-        Ok(PartedLot { parts, covers })
+        Ok(PartedLot {
+            parts,
+            covers,
+            cover: cover_of(boxes),
+        })
     }
 
     /// Whether there are none.
@@ -171,6 +218,7 @@ impl PartedLot {
     {
         parts_meet(
             self.parts.as_slice(),
+            &other.cover,
             other.covers.as_slice(),
             other.parts.as_slice(),
         )
@@ -186,6 +234,7 @@ impl PartedLot {
             most_of(
                 floor,
                 self.parts.as_slice(),
+                &other.cover,
                 other.covers.as_slice(),
                 other.parts.as_slice(),
             ),

@@ -38,7 +38,7 @@ fn joined(left: &Box3, right: &Box3) -> Box3
 }
 
 /// A box in which these lie.
-fn cover_of(boxes: &[Box3]) -> Box3
+pub(crate) fn cover_of(boxes: &[Box3]) -> Box3
     ensures { All (LiesIn result) boxes.now }
 {
     let mut cover = match boxes.first() {

@@ -8,8 +8,8 @@ use Rattle.box_reach.proofs.parted.most_of.Goals as goal
 
 pub loop-own-preserved : goal.loop-own-preserved
 loop-own-preserved c numbers h =
-    subst (λ (ns : List ℤ). IsGreatest c.most_by-most.result ns)
+    subst (λ (ns : List ℤ). IsGreatest c.most_within-most.result ns)
     (reaches_by_more numbers c.args.owns.now (flat_map boxes_in c.args.others.now) c.loop-own.own-index c.own-item.result (omega arith))
-    (subst (λ (o : Part). IsGreatest c.most_by-most.result ((numbers ++ reaches (flat_map boxes_in (take c.loop-own.own-index c.args.owns.now)) (flat_map boxes_in c.args.others.now)) ++ reaches (boxes_in o) (flat_map boxes_in c.args.others.now)))
+    (subst (λ (o : Part). IsGreatest c.most_within-most.result ((numbers ++ reaches (flat_map boxes_in (take c.loop-own.own-index c.args.owns.now)) (flat_map boxes_in c.args.others.now)) ++ reaches (boxes_in o) (flat_map boxes_in c.args.others.now)))
     c.own-item.is
-    (c.most_by-most.ensures (numbers ++ reaches (flat_map boxes_in (take c.loop-own.own-index c.args.owns.now)) (flat_map boxes_in c.args.others.now)) (c.loop-own.invariant numbers h)))
+    (c.most_within-most.ensures (numbers ++ reaches (flat_map boxes_in (take c.loop-own.own-index c.args.owns.now)) (flat_map boxes_in c.args.others.now)) (c.loop-own.invariant numbers h)))

@@ -9,10 +9,10 @@ use Rattle.box_reach.specs.declared.parts.Part.{Part}
 use Rattle.swept_boxes.specs.Boxes.{boxes_meet}
 use Rattle.box_reach.proofs.parted.parts_meet.Goals as goal
 
-pub returns-then-meets_parts : goal.returns-then-meets_parts
-returns-then-meets_parts c =
+pub returns-then-meets_within : goal.returns-then-meets_within
+returns-then-meets_within c =
     sym (list_any_at (λ own. lots_meet (boxes_in own) (flat_map boxes_in c.args.others.now)) c.args.owns.now c.loop-own.own-index c.own-item.result (omega arith)
-    (ap (λ (o : Part). lots_meet (boxes_in o) (flat_map boxes_in c.args.others.now)) (sym c.own-item.is) ∙ sym c.meets_parts.ensures ∙ c.if-meets_parts.true))
+    (ap (λ (o : Part). lots_meet (boxes_in o) (flat_map boxes_in c.args.others.now)) (sym c.own-item.is) ∙ sym c.meets_within.ensures ∙ c.if-meets_within.true))
     ∙ any_part (λ left. list_any (boxes_meet left) (flat_map boxes_in c.args.others.now)) c.args.owns.now
 
 pub returns : goal.returns
