@@ -28,7 +28,7 @@ use std::alloc::Global;
 use sync_types::Run;
 
 /// What an alarm finds in a channel that it stops.
-#[derive(Debug, Drop)]
+#[derive(Drop)]
 pub struct AlarmState {
     /// The parameters that the alarmed block reads, with the values that they have when it comes, in the order of their numbers.
     pub readings: Vec<Reading>,

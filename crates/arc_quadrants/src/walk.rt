@@ -14,7 +14,7 @@ use arrayvec::ArrayVec;
 use path_geometry::Arc;
 
 /// A part of an arc that lies in one quadrant of its plane, seen from the centre.
-#[derive(Clone, Copy, Debug, Default, PartialEq, Eq)]
+#[derive(Clone, Copy, Default, PartialEq, Eq)]
 pub struct Quarter {
     /// The quadrant, 0 to 3: so many quarter turns back bring it to quadrant 0.
     pub turn: u8,

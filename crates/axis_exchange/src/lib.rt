@@ -9,7 +9,7 @@ use micro_units::Um;
 pub use owners::Owners;
 
 /// Who has an axis: it has one owner, or is free at one position. There is nothing else.
-#[derive(Clone, Copy, Debug, PartialEq, Eq)]
+#[derive(Clone, Copy, PartialEq, Eq)]
 pub enum AxisState {
     /// This channel owns it.
     Owned(ChannelId),

@@ -12,7 +12,7 @@ use std::marker::Model;
 
 /// Who has each axis of a job. A contract sees for each axis by its number its state, or none where the job
 /// has no such axis; no channel gets that.
-#[derive(Clone, Copy, Debug, PartialEq, Eq)]
+#[derive(Clone, Copy, PartialEq, Eq)]
 pub struct Owners {
     states: [Option<AxisState>; AXIS_LIMIT],
 }

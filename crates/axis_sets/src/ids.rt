@@ -2,7 +2,7 @@
 use std::marker::Model;
 
 /// An axis of a job: its place among the AXIS lines, counted from 0, below 16. A contract sees it as this number.
-#[derive(Clone, Copy, Debug, PartialEq, Eq)]
+#[derive(Clone, Copy, PartialEq, Eq)]
 pub struct AxisId {
     /// The place, counted from 0.
     pub index: u8,
@@ -32,7 +32,7 @@ impl Default for AxisId {
 }
 
 /// A channel of the machine, by its number from 1 to 8. A contract sees it as this number.
-#[derive(Clone, Copy, Debug, PartialEq, Eq)]
+#[derive(Clone, Copy, PartialEq, Eq)]
 pub struct ChannelId {
     /// The number of the channel.
     pub number: u8,
@@ -62,7 +62,7 @@ impl Default for ChannelId {
 }
 
 /// A protection zone, by its number from 1 to 32. A contract sees it as this number.
-#[derive(Clone, Copy, Debug, PartialEq, Eq)]
+#[derive(Clone, Copy, PartialEq, Eq)]
 pub struct ZoneId {
     /// The number of the zone.
     pub number: u8,

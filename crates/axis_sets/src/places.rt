@@ -6,7 +6,7 @@ ghost use Rattle.axis_sets.specs.declared.limits.TheConstants.{WORD_BITS};
 use std::marker::Model;
 
 /// A set of numbers below `N`, a bit for each. A contract sees for each of them whether it is a member.
-#[derive(Clone, Copy, Debug)]
+#[derive(Clone, Copy)]
 pub(crate) struct Places<const N: usize> {
     word: u64,
 }

@@ -8,7 +8,7 @@ use micro_units::Um;
 use std::marker::Model;
 
 /// Positions of some axes in micrometres. A contract sees for each axis by its number its position, or none.
-#[derive(Clone, Copy, Debug)]
+#[derive(Clone, Copy)]
 pub struct Positions {
     known: Places<AXIS_LIMIT>,
     at: [Um; AXIS_LIMIT],

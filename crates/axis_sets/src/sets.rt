@@ -8,7 +8,7 @@ use crate::{AXIS_LIMIT, AxisId, CHANNEL_PLACES, ChannelId, MARK_LIMIT, ZONE_PLAC
 use std::marker::{Model, PhantomData};
 
 /// A set of what has a number below `N`. A contract sees for each of these numbers whether it is a member.
-#[derive(Clone, Copy, Debug, PartialEq, Eq)]
+#[derive(Clone, Copy, PartialEq, Eq)]
 pub struct Set<I: Member<N>, const N: usize> {
     places: Places<N>,
     members: PhantomData<I>,

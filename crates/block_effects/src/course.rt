@@ -9,7 +9,7 @@ use sync_types::Item;
 use thiserror::Error;
 
 /// What becomes of control after a block.
-#[derive(Clone, Copy, Debug)]
+#[derive(Clone, Copy)]
 pub enum Course<'a> {
     /// It goes on in its program, by what came of the block.
     Goes(Outcome<'a>),
@@ -20,7 +20,7 @@ pub enum Course<'a> {
 }
 
 /// What a block has done, besides what it left in its situation.
-#[derive(Debug, Drop)]
+#[derive(Drop)]
 pub struct Done<'a> {
     /// Its motion, if it has one: a straight line, a rapid or an arc.
     pub item: Option<Item>,

@@ -6,7 +6,7 @@ use frames::Frame;
 use g_groups::Modal;
 
 /// The axes of a channel.
-#[derive(Clone, Copy, Debug)]
+#[derive(Clone, Copy)]
 pub struct ChannelAxes {
     /// Those in its slots X, Y and Z.
     pub slots: [Option<AxisId>; 3],
@@ -15,7 +15,7 @@ pub struct ChannelAxes {
 }
 
 /// What a block finds and leaves.
-#[derive(Debug, Drop)]
+#[derive(Drop)]
 pub struct Situation {
     /// The parameters.
     pub parameters: Parameters,

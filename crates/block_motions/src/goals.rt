@@ -18,7 +18,7 @@ use micro_units::{Num, Um, is_position};
 use nc_blocks::Measure;
 
 /// A value that is programmed for an axis, in millimetres.
-#[derive(Clone, Copy, Debug, PartialEq, Eq)]
+#[derive(Clone, Copy, PartialEq, Eq)]
 pub struct Programmed {
     /// How it is meant.
     pub measure: Measure,
@@ -27,7 +27,7 @@ pub struct Programmed {
 }
 
 /// What a block programs.
-#[derive(Clone, Copy, Debug)]
+#[derive(Clone, Copy)]
 pub struct Targets {
     /// The values of X, Y and Z.
     pub slots: [Option<Programmed>; 3],
@@ -36,7 +36,7 @@ pub struct Targets {
 }
 
 /// What holds in a block.
-#[derive(Clone, Copy, Debug)]
+#[derive(Clone, Copy)]
 pub struct Conditions {
     /// The words of groups, its own among them.
     pub modal: Modal,
@@ -47,7 +47,7 @@ pub struct Conditions {
 }
 
 /// Where an axis is to go.
-#[derive(Clone, Copy, Debug, PartialEq, Eq)]
+#[derive(Clone, Copy, PartialEq, Eq)]
 pub(crate) enum Goal {
     /// To this position, in micrometres.
     To(Um),

@@ -8,7 +8,7 @@ use frames::Plane;
 use std::marker::Model;
 
 /// An axis of a plane.
-#[derive(Clone, Copy, Debug)]
+#[derive(Clone, Copy)]
 pub struct Side {
     /// X, Y and Z are 0, 1 and 2.
     pub axis: u8,

@@ -10,7 +10,7 @@ use g_groups::PLANE_GROUP;
 use micro_units::Num;
 
 /// What a block with an arc programs besides its ends.
-#[derive(Clone, Copy, Debug)]
+#[derive(Clone, Copy)]
 pub struct ArcWords {
     /// The words I, J and K of the centre, in millimetres.
     pub centre: [Option<Programmed>; 3],

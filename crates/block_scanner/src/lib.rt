@@ -23,7 +23,7 @@ use std::marker::Model;
 use thiserror::Error;
 
 /// A sign of the language.
-#[derive(Clone, Copy, Debug, Default, PartialEq, Eq)]
+#[derive(Clone, Copy, Default, PartialEq, Eq)]
 pub enum Sign {
     /// `+`
     #[default]
@@ -65,7 +65,7 @@ pub enum Sign {
 }
 
 /// What a token is.
-#[derive(Clone, Copy, Debug, Default, PartialEq, Eq)]
+#[derive(Clone, Copy, Default, PartialEq, Eq)]
 pub enum Kind {
     /// One letter, kept in upper case.
     Letter(u8),
@@ -81,7 +81,7 @@ pub enum Kind {
 }
 
 /// A token: what it is, and where it stands in its line.
-#[derive(Clone, Copy, Debug, Default, PartialEq, Eq)]
+#[derive(Clone, Copy, Default, PartialEq, Eq)]
 pub struct Token {
     /// What it is.
     pub kind: Kind,
@@ -92,7 +92,7 @@ pub struct Token {
 }
 
 /// A line and its tokens, in order.
-#[derive(Debug, Drop)]
+#[derive(Drop)]
 pub struct Words<'a> {
     /// The line.
     pub line: &'a [u8],

@@ -8,7 +8,7 @@ ghost use Rattle.swept_boxes.specs.Boxes.{DoMeet};
 use swept_boxes::Box3;
 
 /// A direction of space, and how far two boxes reach into each other along it.
-#[derive(Clone, Copy, Debug, PartialEq, Eq)]
+#[derive(Clone, Copy, PartialEq, Eq)]
 pub struct Way {
     /// The direction: 0, 1, 2 for X, Y, Z.
     pub direction: usize,

@@ -21,7 +21,7 @@ use protection_zones::{Stretch, Stretches, zone_at};
 use std::alloc::{AllocError, Global};
 
 /// How many boxes of two zones are compared.
-#[derive(Clone, Copy, Debug, PartialEq, Eq)]
+#[derive(Clone, Copy, PartialEq, Eq)]
 pub struct PairNumber {
     /// The zones, that of the lower number first.
     pub zones: (ZoneId, ZoneId),

@@ -11,7 +11,7 @@ use nc_faults::Alarm;
 use sync_types::Grant;
 
 /// What a channel does, with what it goes on with or for what it waits, and its line.
-#[derive(Clone, Copy, Debug, PartialEq, Eq)]
+#[derive(Clone, Copy, PartialEq, Eq)]
 pub(crate) enum Activity {
     /// It has not started.
     Idle,

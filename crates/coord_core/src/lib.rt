@@ -29,7 +29,7 @@ pub use outcome::Outcome;
 pub use turns::{act_turn, close_turn, look_turn};
 
 /// What a channel does.
-#[derive(Clone, Copy, Debug, PartialEq, Eq)]
+#[derive(Clone, Copy, PartialEq, Eq)]
 pub enum ChannelState {
     /// It has not started.
     Idle,

@@ -3,7 +3,7 @@
 use sync_types::Grant;
 
 /// What a channel is told at a board that several share.
-#[derive(Clone, Copy, Debug, PartialEq, Eq)]
+#[derive(Clone, Copy, PartialEq, Eq)]
 pub enum Outcome {
     /// It runs, with this grant.
     Granted(Grant),

@@ -10,7 +10,7 @@ use arrayvec::ArrayVec;
 use axis_sets::{AxisSet, ChannelId, ZONE_LIMIT, ZONE_PLACES, ZoneId, ZoneSet};
 
 /// A zone, the axes that carry it, its holder, and whether it is on.
-#[derive(Clone, Copy, Debug, PartialEq, Eq)]
+#[derive(Clone, Copy, PartialEq, Eq)]
 pub(crate) struct ZoneState {
     pub(crate) zone: ZoneId,
     pub(crate) axes: AxisSet,

@@ -4,7 +4,7 @@ use axis_sets::ZoneId;
 use sync_types::Action;
 
 /// What a coordination block asks for.
-#[derive(Clone, Copy, Debug, PartialEq, Eq)]
+#[derive(Clone, Copy, PartialEq, Eq)]
 pub enum Request {
     /// This of the other channels: the segment ends here.
     Act(Action),

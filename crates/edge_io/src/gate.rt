@@ -11,7 +11,7 @@ pub trait Gate {
 }
 
 /// The gate that holds nobody up.
-#[derive(Clone, Copy, Debug, Default, PartialEq, Eq)]
+#[derive(Clone, Copy, Default, PartialEq, Eq)]
 pub struct OpenGate;
 
 impl Gate for OpenGate {

@@ -18,7 +18,7 @@ pub use memory::{CountSink, MemSink, MemSource};
 pub use standard::{StdSink, StdSource};
 
 /// A read or a write failed.
-#[derive(Clone, Copy, Debug, PartialEq, Eq)]
+#[derive(Clone, Copy, PartialEq, Eq)]
 pub struct Failed;
 
 /// Something that bytes are read from.

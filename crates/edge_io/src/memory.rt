@@ -8,7 +8,7 @@ use std::alloc::Global;
 use std::marker::Model;
 
 /// A source over bytes in memory, which gives them in pieces and fails the reads that it is told to.
-#[derive(Debug, Drop)]
+#[derive(Drop)]
 pub struct MemSource {
     bytes: Vec<u8>,
     at: usize,
@@ -79,7 +79,7 @@ impl Source for MemSource {
 
 /// A sink that keeps what is written in memory. It takes it in pieces, and fails the writes that it
 /// is told to.
-#[derive(Debug, Drop)]
+#[derive(Drop)]
 pub struct MemSink {
     written: Vec<u8>,
     piece: usize,
@@ -153,7 +153,7 @@ impl Sink for MemSink {
 }
 
 /// A sink that keeps nothing of what is written but the number of its bytes. It never fails.
-#[derive(Debug, Drop)]
+#[derive(Drop)]
 pub struct CountSink {
     count: Option<u64>,
 }

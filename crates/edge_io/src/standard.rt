@@ -10,7 +10,7 @@ use std::io::{Read, Write};
 /// A source over a reader. Each error of the reader is a fault, and nothing is read again after one,
 /// also where a signal interrupted the read: a program that handles no signals does not see such
 /// reads.
-#[derive(Debug, Drop)]
+#[derive(Drop)]
 pub struct StdSource<R> {
     reader: R,
     faults: u64,
@@ -59,7 +59,7 @@ impl<R: Read> Source for StdSource<R> {
 ///
 /// The sink flushes nothing. The writers that `std::io::writer` and the standard streams give hold
 /// nothing back. Of one that does, as a `BufWriter`, pass a `&mut`, and flush it afterwards.
-#[derive(Debug, Drop)]
+#[derive(Drop)]
 pub struct StdSink<W> {
     writer: W,
     faults: u64,

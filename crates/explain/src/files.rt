@@ -12,7 +12,7 @@ const TOO_MANY: usize = INPUT_LIMIT + 1;
 const PIECE: usize = 4096;
 
 /// Why an input was not read.
-#[derive(Debug, Drop)]
+#[derive(Drop)]
 pub(crate) enum InputFault {
     /// A file could not be opened, or a read failed.
     Failed(io::Error),

@@ -8,7 +8,7 @@ const PATIENCE: u64 = 1_000;
 const LAST_PATIENCE: u64 = 100;
 
 /// A part of the work.
-#[derive(Clone, Copy, Debug, PartialEq, Eq)]
+#[derive(Clone, Copy, PartialEq, Eq)]
 pub(crate) enum Stage {
     /// The input is read.
     Reading,

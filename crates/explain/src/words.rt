@@ -3,7 +3,7 @@ use clap::{Arg, ArgAction, ArgMatches, Command, Error};
 use std::alloc::Global;
 
 /// In which form a job is explained.
-#[derive(Clone, Copy, Debug, PartialEq, Eq)]
+#[derive(Clone, Copy, PartialEq, Eq)]
 pub(crate) enum Form {
     /// The explanation in plain text.
     Text,
@@ -14,7 +14,7 @@ pub(crate) enum Form {
 }
 
 /// What a call is asked for, of files as they are named.
-#[derive(Debug, Drop)]
+#[derive(Drop)]
 pub(crate) enum Request<'a> {
     /// To explain a job in this form.
     Explain(Form, Vec<&'a str>),

@@ -8,7 +8,7 @@ use micro_units::{CHANGE_LIMIT, Num, POSITION_LIMIT, Um};
 use nc_faults::alarms::{OUT_OF_RANGE, SCALE_NOT_ALLOWED};
 
 /// Where an axis goes: to the slot, as shift + sign · factor · value.
-#[derive(Clone, Copy, Debug)]
+#[derive(Clone, Copy)]
 pub struct AxisMap {
     /// The slot: 0, 1 and 2 for X, Y and Z.
     pub slot: u8,

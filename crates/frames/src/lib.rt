@@ -23,7 +23,7 @@ use micro_units::{Num, Um};
 use nc_faults::alarms::NO_QUARTER_TURN;
 
 /// A plane, with the two axes in which it turns from the first towards the second.
-#[derive(Clone, Copy, Debug, PartialEq, Eq)]
+#[derive(Clone, Copy, PartialEq, Eq)]
 pub enum Plane {
     /// X and Y.
     G17,
@@ -35,7 +35,7 @@ pub enum Plane {
 
 /// Where the programmed axes go: the composition of a chain of maps. A point goes through the last
 /// map of the chain first.
-#[derive(Clone, Copy, Debug)]
+#[derive(Clone, Copy)]
 pub struct Frame {
     /// Where X goes.
     pub x: AxisMap,

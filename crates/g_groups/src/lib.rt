@@ -27,7 +27,7 @@ const START: [u16; GROUPS] = [
 ];
 
 /// A word of a group. A word that is not in the table of groups counts like one that is.
-#[derive(Clone, Copy, Debug, PartialEq, Eq)]
+#[derive(Clone, Copy, PartialEq, Eq)]
 pub struct GWord {
     /// The number of the group.
     pub group: u8,
@@ -38,7 +38,7 @@ pub struct GWord {
 /// The words that hold, one for each group.
 ///
 /// A contract sees their codes as a list, by the numbers of the groups.
-#[derive(Clone, Copy, Debug)]
+#[derive(Clone, Copy)]
 pub struct Modal {
     words: [u16; GROUPS],
 }

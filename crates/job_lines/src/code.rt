@@ -4,7 +4,7 @@ ghost use Rattle.job_lines.specs.Code.{refusal_code};
 ghost use Rattle.nc_faults.specs.Texts.{IsRefusalCode};
 
 /// A rule that a line can break. The rules that a block breaks by itself have no name here.
-#[derive(Clone, Copy, Debug, PartialEq, Eq)]
+#[derive(Clone, Copy, PartialEq, Eq)]
 pub enum Code {
     /// The first line with a token is not `JOB 1`, or no line has a token.
     NoJobLine,

@@ -11,7 +11,7 @@ use micro_units::Um;
 use nc_blocks::NameText;
 
 /// The name of an axis.
-#[derive(Clone, Copy, Debug, PartialEq, Eq)]
+#[derive(Clone, Copy, PartialEq, Eq)]
 pub struct AxisName {
     /// Its letter, in upper case.
     pub letter: u8,
@@ -20,7 +20,7 @@ pub struct AxisName {
 }
 
 /// A direction of a zone whose axis is a name.
-#[derive(Clone, Copy, Debug, PartialEq, Eq)]
+#[derive(Clone, Copy, PartialEq, Eq)]
 pub struct NamedSide {
     /// The axis that carries it, with true where it goes against the axis.
     pub carrier: Option<(AxisName, bool)>,
@@ -31,7 +31,7 @@ pub struct NamedSide {
 }
 
 /// A zone whose axes are names.
-#[derive(Clone, Copy, Debug, PartialEq, Eq)]
+#[derive(Clone, Copy, PartialEq, Eq)]
 pub struct NamedZone {
     /// The zone.
     pub zone: ZoneId,
@@ -50,7 +50,7 @@ pub struct NamedZone {
 }
 
 /// What a job line says by itself.
-#[derive(Debug, Drop)]
+#[derive(Drop)]
 pub enum Declaration {
     /// A channel, the program that is selected in it, and whether it starts running.
     Channel {

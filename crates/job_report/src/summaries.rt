@@ -7,7 +7,7 @@ use crate::verdicts::push_verdict_line;
 use sync_types::Verdict;
 
 /// The figures of a sample.
-#[derive(Clone, Copy, Debug, PartialEq, Eq)]
+#[derive(Clone, Copy, PartialEq, Eq)]
 pub struct Figures {
     /// The number of the sample.
     pub number: u32,

@@ -58,7 +58,7 @@ impl Model for Job {
 }
 
 /// A CHANNEL line.
-#[derive(Debug, Drop)]
+#[derive(Drop)]
 pub struct ChannelLine {
     /// The line of the input, counted from 1.
     pub line: u32,
@@ -71,7 +71,7 @@ pub struct ChannelLine {
 }
 
 /// An AXIS line.
-#[derive(Clone, Copy, Debug, PartialEq, Eq)]
+#[derive(Clone, Copy, PartialEq, Eq)]
 pub struct AxisLine {
     /// The line of the input, counted from 1.
     pub line: u32,
@@ -86,7 +86,7 @@ pub struct AxisLine {
 }
 
 /// A GEO line: an axis stands in a slot of a channel.
-#[derive(Clone, Copy, Debug, PartialEq, Eq)]
+#[derive(Clone, Copy, PartialEq, Eq)]
 pub struct GeoLine {
     /// The line of the input, counted from 1.
     pub line: u32,
@@ -99,7 +99,7 @@ pub struct GeoLine {
 }
 
 /// An OFFSET line: a settable offset of a slot of a channel.
-#[derive(Clone, Copy, Debug, PartialEq, Eq)]
+#[derive(Clone, Copy, PartialEq, Eq)]
 pub struct OffsetLine {
     /// The line of the input, counted from 1.
     pub line: u32,
@@ -114,7 +114,7 @@ pub struct OffsetLine {
 }
 
 /// A ZONE line.
-#[derive(Clone, Copy, Debug, PartialEq, Eq)]
+#[derive(Clone, Copy, PartialEq, Eq)]
 pub struct ZoneLine {
     /// The line of the input, counted from 1.
     pub line: u32,
@@ -131,7 +131,7 @@ pub struct ZoneLine {
 }
 
 /// A direction of a zone: a range that an axis carries, or that stands still.
-#[derive(Clone, Copy, Debug, PartialEq, Eq)]
+#[derive(Clone, Copy, PartialEq, Eq)]
 pub struct Side {
     /// The axis that carries it, with true where it goes against the axis.
     pub carrier: Option<(AxisId, bool)>,

@@ -35,7 +35,7 @@ impl Names for Few {
 }
 
 /// What becomes of a line.
-#[derive(Clone, Copy, Debug, PartialEq, Eq)]
+#[derive(Clone, Copy, PartialEq, Eq)]
 enum Outcome {
     /// Its value in millionths.
     Value(i64),

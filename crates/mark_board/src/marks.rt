@@ -8,7 +8,7 @@ use axis_sets::{CHANNEL_PLACES, ChannelId, ChannelSet, MARK_LIMIT, MarkSet};
 use std::marker::Model;
 
 /// The marks of all channels. A contract sees for each channel by its number the set of its marks that stand.
-#[derive(Clone, Copy, Debug, PartialEq, Eq)]
+#[derive(Clone, Copy, PartialEq, Eq)]
 pub struct Marks {
     own: [MarkSet; CHANNEL_PLACES],
 }

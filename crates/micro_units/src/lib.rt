@@ -22,7 +22,7 @@ use thiserror::Error;
 /// A number of a part program, a whole count of millionths, at most 99,999,999.999999 in size.
 ///
 /// A contract sees it as this count.
-#[derive(Clone, Copy, Debug, PartialEq, Eq)]
+#[derive(Clone, Copy, PartialEq, Eq)]
 pub struct Num {
     /// The count of millionths.
     pub millionths: i64,
@@ -45,7 +45,7 @@ impl Model for Num {
 /// A position, a length or a bound in whole micrometres, at most `BOUND_LIMIT` in size.
 ///
 /// A contract sees it as this count.
-#[derive(Clone, Copy, Debug, PartialEq, Eq)]
+#[derive(Clone, Copy, PartialEq, Eq)]
 pub struct Um {
     /// The count of micrometres.
     pub micrometres: i32,

@@ -15,7 +15,7 @@ use std::alloc::Global;
 use std::marker::Model;
 
 /// What came of a block.
-#[derive(Clone, Copy, Debug)]
+#[derive(Clone, Copy)]
 pub enum Outcome<'a> {
     /// It has no condition, or one by which it does not jump.
     Plain,
@@ -31,7 +31,7 @@ pub enum Outcome<'a> {
 }
 
 /// What follows a block.
-#[derive(Clone, Copy, Debug, PartialEq, Eq)]
+#[derive(Clone, Copy, PartialEq, Eq)]
 pub enum Next {
     /// The block at this place.
     At(u32),

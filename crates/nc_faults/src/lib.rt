@@ -43,7 +43,7 @@ pub struct Refusal {
 }
 
 /// An alarm of a channel: its code and the line of its block.
-#[derive(Clone, Copy, Debug, PartialEq, Eq)]
+#[derive(Clone, Copy, PartialEq, Eq)]
 pub struct Alarm {
     /// The code of the alarm.
     pub code: u16,

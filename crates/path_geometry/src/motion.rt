@@ -6,7 +6,7 @@ use micro_units::Um;
 use std::marker::Model;
 
 /// The axes of a motion, each with the positions in micrometres at which it starts and ends.
-#[derive(Clone, Debug, Default, PartialEq, Eq, Drop)]
+#[derive(Clone, Default, PartialEq, Eq, Drop)]
 pub struct Ends {
     /// The axis, its start and its end.
     pub axes: ArrayVec<(AxisId, Um, Um), AXIS_LIMIT>,
@@ -25,7 +25,7 @@ impl Model for Ends {
 /// An arc in the plane of two axes, on which any further axes move along.
 ///
 /// It turns about its centre from the first axis towards the second, and keeps between two radii.
-#[derive(Clone, Debug, PartialEq, Eq, Drop)]
+#[derive(Clone, PartialEq, Eq, Drop)]
 pub struct Arc {
     /// Where the axes start and end, both axes of the plane among them.
     pub ends: Ends,
@@ -44,7 +44,7 @@ pub struct Arc {
 }
 
 /// How the axes of a channel move from their starts to their ends.
-#[derive(Clone, Debug, PartialEq, Eq, Drop)]
+#[derive(Clone, PartialEq, Eq, Drop)]
 pub enum Motion {
     /// All axes along one straight line.
     Line(Ends),

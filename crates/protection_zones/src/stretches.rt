@@ -4,7 +4,7 @@ use swept_boxes::Box3;
 use sync_types::{EventId, PlaceName};
 
 /// A box of a stretch: what its zone sweeps at some places of it.
-#[derive(Clone, Copy, Debug, PartialEq, Eq)]
+#[derive(Clone, Copy, PartialEq, Eq)]
 pub struct ZoneBox {
     /// The line of its motion, or where it stands that with which its part began.
     pub line: u32,
@@ -19,7 +19,7 @@ pub struct ZoneBox {
 }
 
 /// A stretch of a zone: what the channel does in it that holds the zone, or that none holds it.
-#[derive(Debug, Drop)]
+#[derive(Drop)]
 pub struct Stretch {
     /// How a box is named that stands from the stretch's beginning.
     pub name: PlaceName,
@@ -42,7 +42,7 @@ impl Model for Stretch {
 }
 
 /// The time of all zones of a job.
-#[derive(Debug, Drop)]
+#[derive(Drop)]
 pub struct Stretches {
     /// For each zone, in ascending order of the zones, its stretches in order.
     pub zones: Vec<Vec<Stretch>>,

@@ -22,7 +22,7 @@ pub struct SharedBoard {
 }
 
 /// Names a channel at a [`SharedBoard`].
-#[derive(Debug, PartialEq, Eq, Drop)]
+#[derive(PartialEq, Eq, Drop)]
 pub struct Pass {
     /// The channel.
     pub channel: ChannelId,

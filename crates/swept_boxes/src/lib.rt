@@ -12,7 +12,7 @@ use std::marker::Model;
 pub use sweeps::{Pieces, cover, pieces_of};
 
 /// A range in micrometres for each of some axes, low and high bound included.
-#[derive(Clone, Debug, Default, PartialEq, Eq, Drop)]
+#[derive(Clone, Default, PartialEq, Eq, Drop)]
 pub struct Ranges {
     /// The axis, its low and its high bound.
     pub axes: ArrayVec<(AxisId, Um, Um), AXIS_LIMIT>,
@@ -29,7 +29,7 @@ impl Model for Ranges {
 }
 
 /// A box in space, its bounds in micrometres in three directions. Where a low bound is above its high bound, the box has no point.
-#[derive(Clone, Copy, Debug, Default, PartialEq, Eq)]
+#[derive(Clone, Copy, Default, PartialEq, Eq)]
 pub struct Box3 {
     /// The low bounds, which the box includes.
     pub lo: [i32; 3],

@@ -17,7 +17,7 @@ use path_geometry::{Arc, Ends, Motion};
 use std::marker::Model;
 
 /// The pieces of a motion that are left, in order. A contract sees the list of them.
-#[derive(Clone, Debug, Drop)]
+#[derive(Clone, Drop)]
 pub struct Pieces<'a> {
     motion: &'a Motion,
     quarters: ArrayVec<Quarter, 5>,

@@ -19,7 +19,7 @@ pub use start::StartState;
 pub use verdicts::{PlaceName, StretchKind, Verdict};
 
 /// One thing that a block does.
-#[derive(Clone, Debug, PartialEq, Eq, Drop)]
+#[derive(Clone, PartialEq, Eq, Drop)]
 pub enum Part {
     /// The axes of the motion move.
     Move(Motion),
@@ -28,7 +28,7 @@ pub enum Part {
 }
 
 /// What a block of a channel does, with its line.
-#[derive(Clone, Debug, PartialEq, Eq, Drop)]
+#[derive(Clone, PartialEq, Eq, Drop)]
 pub struct Item {
     /// The line of the block, counted from 1.
     pub line: u32,
@@ -52,7 +52,7 @@ impl Item {
 }
 
 /// With what a segment of a channel ends: what the channel asks of the others.
-#[derive(Clone, Copy, Debug, PartialEq, Eq)]
+#[derive(Clone, Copy, PartialEq, Eq)]
 pub enum Action {
     /// Raise the own mark of this number, and wait until those of these other channels stand.
     WaitM(u8, ChannelSet),
@@ -77,7 +77,7 @@ pub enum Action {
 }
 
 /// The step of a channel after a segment.
-#[derive(Clone, Copy, Debug, PartialEq, Eq)]
+#[derive(Clone, Copy, PartialEq, Eq)]
 pub struct Step {
     /// The line of the block that ends the segment, counted from 1.
     pub line: u32,
@@ -90,7 +90,7 @@ pub struct Step {
 }
 
 /// What a channel goes on with.
-#[derive(Clone, Copy, Debug, Default, PartialEq, Eq)]
+#[derive(Clone, Copy, Default, PartialEq, Eq)]
 pub struct Grant {
     /// All axes that it owns.
     pub axes: AxisSet,
@@ -103,7 +103,7 @@ pub struct Grant {
 }
 
 /// How a channel has stopped.
-#[derive(Clone, Copy, Debug, PartialEq, Eq)]
+#[derive(Clone, Copy, PartialEq, Eq)]
 pub enum ChannelEnd {
     /// It has not started.
     Idle,

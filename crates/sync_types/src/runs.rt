@@ -5,7 +5,7 @@ use axis_sets::ChannelId;
 use std::marker::Model;
 
 /// A channel goes on, with this grant.
-#[derive(Clone, Copy, Debug, Default, PartialEq, Eq)]
+#[derive(Clone, Copy, Default, PartialEq, Eq)]
 pub struct Go {
     /// The channel.
     pub channel: ChannelId,
@@ -14,7 +14,7 @@ pub struct Go {
 }
 
 /// A step of a run: who acted, what it did, and who goes on in the same step.
-#[derive(Clone, Debug, PartialEq, Eq, Drop)]
+#[derive(Clone, PartialEq, Eq, Drop)]
 pub struct Entry {
     /// The channel that acted.
     pub channel: ChannelId,
@@ -35,7 +35,7 @@ impl Model for Entry {
 }
 
 /// A whole run of a job.
-#[derive(Debug, Drop)]
+#[derive(Drop)]
 pub struct Run {
     /// Its steps, in order.
     pub entries: Vec<Entry>,
@@ -55,7 +55,7 @@ impl Model for Run {
 }
 
 /// An event of a run: what a channel does in a step, or that it goes on in that step.
-#[derive(Clone, Copy, Debug, PartialEq, Eq)]
+#[derive(Clone, Copy, PartialEq, Eq)]
 pub struct EventId {
     /// The step, counted from 0.
     pub step: u32,
@@ -66,7 +66,7 @@ pub struct EventId {
 }
 
 /// Two places of a run whose order the programs do not settle.
-#[derive(Clone, Copy, Debug, PartialEq, Eq)]
+#[derive(Clone, Copy, PartialEq, Eq)]
 pub struct Race {
     /// The letter of the rule, `a` to `g`.
     pub case: u8,

@@ -5,7 +5,7 @@ use micro_units::Um;
 use std::marker::Model;
 
 /// The channels, axes and zones of a job, as they are before the first step.
-#[derive(Clone, Debug, Default, PartialEq, Eq, Drop)]
+#[derive(Clone, Default, PartialEq, Eq, Drop)]
 pub struct StartState {
     /// Each channel, the place of its selected program among the programs of the job, and whether it runs.
     pub channels: ArrayVec<(ChannelId, Option<u16>, bool), 8>,

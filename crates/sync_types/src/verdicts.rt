@@ -4,7 +4,7 @@ use axis_sets::{ChannelId, ZoneId};
 use nc_faults::Alarm;
 
 /// What happens in a stretch of a zone: what the channel does that holds it, or that none does.
-#[derive(Clone, Copy, Debug, PartialEq, Eq)]
+#[derive(Clone, Copy, PartialEq, Eq)]
 pub enum StretchKind {
     /// It has not started.
     Idle,
@@ -19,7 +19,7 @@ pub enum StretchKind {
 }
 
 /// How a box of a stretch is named.
-#[derive(Clone, Copy, Debug, PartialEq, Eq)]
+#[derive(Clone, Copy, PartialEq, Eq)]
 pub struct PlaceName {
     /// The zone.
     pub zone: ZoneId,
@@ -32,7 +32,7 @@ pub struct PlaceName {
 }
 
 /// The verdict on a job.
-#[derive(Clone, Copy, Debug, PartialEq, Eq)]
+#[derive(Clone, Copy, PartialEq, Eq)]
 pub enum Verdict {
     /// The order of these two places is not settled, the first such race.
     Race(Race),

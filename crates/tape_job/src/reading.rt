@@ -16,7 +16,7 @@ use nc_syntax::statement;
 use std::alloc::{AllocError, Global};
 
 /// What a line says by itself.
-#[derive(Debug, Drop)]
+#[derive(Drop)]
 pub(crate) enum Reading {
     /// Nothing.
     Blank,
@@ -31,7 +31,7 @@ pub(crate) enum Reading {
 }
 
 /// Why a line gives nothing.
-#[derive(Clone, Copy, Debug, PartialEq, Eq)]
+#[derive(Clone, Copy, PartialEq, Eq)]
 pub(crate) enum LineFault {
     /// It is refused with this code.
     Broken(u16),

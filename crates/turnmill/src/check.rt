@@ -31,7 +31,7 @@ use sync_types::Verdict;
 use tape_job::{Job, JobFault, JobReader};
 
 /// How a call ends.
-#[derive(Clone, Copy, Debug, PartialEq, Eq)]
+#[derive(Clone, Copy, PartialEq, Eq)]
 pub enum Status {
     /// No two zones of different groups can meet.
     Yes,
@@ -78,7 +78,7 @@ const TOO_MANY: usize = INPUT_LIMIT + 1;
 const PIECE: usize = 4096;
 
 /// Why an input was not read to its end.
-#[derive(Clone, Copy, Debug, PartialEq, Eq)]
+#[derive(Clone, Copy, PartialEq, Eq)]
 pub enum InputFault {
     /// A read failed.
     Failed,

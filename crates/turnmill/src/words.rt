@@ -15,7 +15,7 @@ use nc_faults::NoMemory;
 use std::alloc::Global;
 
 /// What a call is asked for.
-#[derive(Clone, Copy, Debug, PartialEq, Eq)]
+#[derive(Clone, Copy, PartialEq, Eq)]
 pub enum Request {
     /// To check the input of the source.
     Check,
