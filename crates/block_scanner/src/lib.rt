@@ -23,7 +23,7 @@ use std::marker::Model;
 use thiserror::Error;
 
 /// A sign of the language.
-#[derive(Clone, Copy, Default, PartialEq, Eq)]
+#[derive(Clone, Copy, Debug, Default, PartialEq, Eq)]
 pub enum Sign {
     /// `+`
     #[default]

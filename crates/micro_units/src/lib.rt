@@ -22,7 +22,7 @@ use thiserror::Error;
 /// A number of a part program, a whole count of millionths, at most 99,999,999.999999 in size.
 ///
 /// A contract sees it as this count.
-#[derive(Clone, Copy, PartialEq, Eq)]
+#[derive(Clone, Copy, Debug, PartialEq, Eq)]
 pub struct Num {
     /// The count of millionths.
     pub millionths: i64,

@@ -5,7 +5,7 @@ use micro_units::Num;
 use nc_expressions::Expr;
 
 /// A block of a part program: one line.
-#[derive(Drop)]
+#[derive(Debug, Drop)]
 pub struct Block {
     /// Whether it begins with `/`.
     pub skip: bool,
@@ -18,7 +18,7 @@ pub struct Block {
 }
 
 /// Where a jump searches for its target.
-#[derive(Clone, Copy, PartialEq, Eq)]
+#[derive(Clone, Copy, Debug, PartialEq, Eq)]
 pub enum Way {
     /// GOTOF: after the jump.
     Forward,
@@ -31,7 +31,7 @@ pub enum Way {
 }
 
 /// The target of a jump.
-#[derive(Drop, PartialEq, Eq)]
+#[derive(Debug, Drop, PartialEq, Eq)]
 pub enum Target {
     /// The block with this label.
     Label(NameText),
@@ -40,7 +40,7 @@ pub enum Target {
 }
 
 /// A jump.
-#[derive(Drop, PartialEq, Eq)]
+#[derive(Debug, Drop, PartialEq, Eq)]
 pub struct JumpTo {
     /// Where it searches.
     pub way: Way,
@@ -49,7 +49,7 @@ pub struct JumpTo {
 }
 
 /// What a block says. Lists are in the order as written.
-#[derive(Drop)]
+#[derive(Debug, Drop)]
 pub enum Stmt {
     /// Nothing.
     Empty,
@@ -104,7 +104,7 @@ pub enum Stmt {
 }
 
 /// A word of a word block.
-#[derive(Drop)]
+#[derive(Debug, Drop)]
 pub enum Word {
     /// The parameter of this number gets a value.
     Assign(u16, Expr),
@@ -124,7 +124,7 @@ pub enum Word {
 }
 
 /// An argument.
-#[derive(Drop)]
+#[derive(Debug, Drop)]
 pub enum Operand {
     /// A value.
     Value(Expr),
@@ -135,7 +135,7 @@ pub enum Operand {
 }
 
 /// How the value of an axis word is meant.
-#[derive(Clone, Copy, PartialEq, Eq)]
+#[derive(Clone, Copy, Debug, PartialEq, Eq)]
 pub enum Measure {
     /// As G90 and G91 say.
     Modal,
@@ -146,7 +146,7 @@ pub enum Measure {
 }
 
 /// A word that makes or adds to a frame.
-#[derive(Clone, Copy, PartialEq, Eq)]
+#[derive(Clone, Copy, Debug, PartialEq, Eq)]
 pub enum FrameWord {
     /// TRANS
     Trans,
@@ -163,7 +163,7 @@ pub enum FrameWord {
 }
 
 /// A word by which channels are coordinated.
-#[derive(Clone, Copy, PartialEq, Eq)]
+#[derive(Clone, Copy, Debug, PartialEq, Eq)]
 pub enum CoordWord {
     /// WAITM
     WaitM,

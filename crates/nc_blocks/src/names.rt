@@ -2,6 +2,7 @@
 
 use crate::limits::NAME_LIMIT;
 use arrayvec::ArrayVec;
+use std::fmt;
 use std::marker::Model;
 
 /// A name of at most `NAME_LIMIT` bytes, in upper case; a contract sees it as the list of its bytes.
@@ -55,5 +56,14 @@ impl NameText {
         ensures short { length result.now ≤ NAME_LIMIT }
     {
         self.bytes.as_slice()
+    }
+}
+
+impl fmt::Debug for NameText {
+    fn fmt<W: fmt::Write>(&self, f: &mut fmt::Formatter<W>) -> fmt::Result {
+        for byte in self.as_bytes() {
+            write!(f, "{}", *byte as char)?;
+        }
+        Ok(())
     }
 }

@@ -3,7 +3,7 @@
 use micro_units::Num;
 
 /// An operator or a function of one value.
-#[derive(Clone, Copy, PartialEq, Eq)]
+#[derive(Clone, Copy, Debug, PartialEq, Eq)]
 pub enum UnaryOp {
     /// A minus sign.
     Minus,
@@ -22,7 +22,7 @@ pub enum UnaryOp {
 }
 
 /// An operator between two values.
-#[derive(Clone, Copy, PartialEq, Eq)]
+#[derive(Clone, Copy, Debug, PartialEq, Eq)]
 pub enum BinaryOp {
     /// `+`
     Add,
@@ -57,7 +57,7 @@ pub enum BinaryOp {
 }
 
 /// An expression as its value is found: parentheses and unary plus signs leave nothing in it.
-#[derive(Drop)]
+#[derive(Debug, Drop)]
 pub enum Expr {
     /// A constant. TRUE is 1 and FALSE is 0.
     Number(Num),
