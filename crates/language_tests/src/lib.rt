@@ -5,20 +5,12 @@
 #![tactic(auto)]
 
 #[cfg(test)]
-mod blocks;
-#[cfg(test)]
 mod calls;
 #[cfg(test)]
 mod control;
 #[cfg(test)]
 mod coordination;
 #[cfg(test)]
-mod cutting;
-#[cfg(test)]
-mod expressions;
-#[cfg(test)]
 mod groups;
 #[cfg(test)]
 mod tables;
-#[cfg(test)]
-mod tokens;
