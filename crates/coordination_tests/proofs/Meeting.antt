@@ -9,8 +9,8 @@ use Rattle.order_clocks.specs.Happenings.{board_at, happening_at}
 use Rattle.order_clocks.specs.Races.{Apart, StillWaits, Differ, StillAsks}
 use Rattle.schedule_laws.specs.Schedules.{HasNoRace, IsMaximalOf, moves_by}
 use Rattle.schedule_laws.specs.Swaps.{HasNoRaceAt}
-use Rattle.schedule_tests.proofs.QuietSteps.{LeavesNothing, MindsNothing, NothingBefore, clash, first_apart, idle_at_first, lowers_none, nothing_so_far, nothing_minded, stays}
-use Rattle.schedule_tests.specs.Meetings.{meeting, first_waits, second_waits}
+use Rattle.coordination_tests.proofs.QuietSteps.{LeavesNothing, MindsNothing, NothingBefore, clash, first_apart, idle_at_first, lowers_none, nothing_so_far, nothing_minded, stays}
+use Rattle.coordination_tests.specs.Meetings.{meeting, first_waits, second_waits}
 use Rattle.sync_types.specs.BoardActions.{after_effects, after_own_part, is_on_after, state_after_alarm, marks_of_all, ownership_after, holder_after, state_after_action}
 use Rattle.sync_types.specs.BoardAlarms.{alarm_of}
 use Rattle.sync_types.specs.Boards.{State, IsIdle, IsHolding, AtMarks, Board, among, channel_numbers, first_board, first_state, grant_with, start_grant}
