@@ -127,7 +127,9 @@ fn work_at_plain_board<R: Threads + Wait + Sync>(
     requires blocks { BlocksFit job.now }
 {
     let start = start_state(job);
-    let (board, passes) = SharedBoard::new(alloc, &start)?;
+    let Ok((board, passes)) = SharedBoard::new(alloc, &start) else {
+        return Err(Fail::from("no memory"));
+    };
     let made = work_all(rt, alloc, job, &board, passes)?;
     Ok((made, board.finish()))
 }
