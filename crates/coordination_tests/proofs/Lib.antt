@@ -1,3 +1,3 @@
-pub mod Running
-pub mod Sound
-pub mod Soundness
+mod Meeting
+mod QuietSteps
+mod Soundness

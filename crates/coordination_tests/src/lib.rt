@@ -1,23 +1,15 @@
 //! Worked runs of channels that wait for one another: what comes of them by the rules of the board.
 //!
-//! Each clause is computed from the definitions alone, and no code runs for it. Beside them stand tests of the board of
-//! marks, of the owners of axes, and of the board on which both come together, through their public calls.
+//! Each clause is computed from the definitions alone, and no code runs for it.
 #![tactic(auto)]
 
 ghost use Rattle.coordination_tests.specs.MarkRows.{ThreeMeetFiveTimes, LoweredTooSoon, LoweredLater, TwoOfThreeMeet, OwnMarkStands, OwnMarkAlone, SomeMarksLowered, EveryMarkLowered, MarkOutOfRange, ChannelUnknown, OneOfTwoGoes};
-ghost use Rattle.coordination_tests.specs.AxisRows.{TurretAndSlide, AxisIsHandedOn, AxisIsTakenBack, AxisStaysFree, TwoAxesInTwoSteps, LowerTakesFirst, OwnAxesAreTaken, NotOwned, ZoneIsSplit};
+ghost use Rattle.coordination_tests.specs.AxisRows.{TurretAndSlide, AxisIsHandedOn, AxisIsTakenBack, AxisStaysFree, TwoAxesInTwoSteps, LowerTakesFirst, OwnAxesAreTaken, NotOwned, ZoneIsSplit, one_slide};
 ghost use Rattle.coordination_tests.specs.StartRows.{StartedAndAwaited, StartedTwice, AwaitedInVain, NoneStarts, AwakeBeforeProgram, BothStart, AwaitsItself};
 ghost use Rattle.coordination_tests.specs.GrantRows.{WhoLetsGo, WhoTakes, WhoIsStarted, ZoneGoesOff};
 ghost use Rattle.coordination_tests.specs.EventRows.{OneByTheThird, TwoInOneStep};
 ghost use Rattle.sync_types.specs.Starts.{IsSound};
-ghost use Rattle.coordination_tests.specs.AxisRows.{one_slide};
-
-#[cfg(test)]
-mod axes;
-#[cfg(test)]
-mod boards;
-#[cfg(test)]
-mod marks;
+ghost use Rattle.coordination_tests.specs.Meetings.{OneQuietRunOfTwo};
 
 /// Channels meet at marks.
 pub fn channels_meet_at_marks()
@@ -75,4 +67,9 @@ pub fn events_are_one_or_apart()
 /// A start state that is sound.
 pub fn a_start_is_sound()
     ensures { IsSound one_slide }
+{}
+
+/// A script has a maximal run without a race, and another maximal run, which has the same result.
+pub fn a_quiet_run_is_one_of_two()
+    ensures { OneQuietRunOfTwo }
 {}

@@ -1,14 +1,12 @@
-//! Jobs of several channels, run in order: the steps that their channels make and how they stop, by the rules; the
-//! order of their events, and their first races.
+//! Threads: workers that make the run of a job at a board of tickets and at a board under a lock, and a board that is closed. What
+//! a whole job shows stands in `rows/`, which are run by threads too.
 #![tactic(auto)]
 
 #[cfg(test)]
-mod orders;
+mod closing;
 #[cfg(test)]
-mod races;
+mod gates;
 #[cfg(test)]
-mod runs;
-#[cfg(test)]
-mod times;
+mod jobs;
 #[cfg(test)]
 mod workers;

@@ -1,210 +1,67 @@
-//! Runs that a worker for each channel makes, each in a thread of its own.
+//! Workers at a board under a lock, of which no clause says what is made there, and at a desk that one has for itself.
 ghost use Rattle.std.specs.Prelude.{◌≡◌, ◌≤◌, length};
 ghost use Rattle.job_lines.specs.declared.limits.TheConstants.{PROGRAM_LIMIT};
 ghost use Rattle.job_types.specs.SoundJob.{BlocksFit, IsSoundJob};
 
-use crate::runs::{RUNS, job_of, write_step};
-use axis_sets::{CHANNEL_LIMIT, ChannelId};
+use crate::jobs::{ONE, THREE, job_of};
+use axis_sets::ChannelId;
 use channel_machine::start_state;
-use coord_core::Board;
-use edge_io::{Gate, OpenGate};
+use coord_core::{Board, Desk, Locked, Outcome};
+use edge_io::OpenGate;
 use job_types::Job;
 use nc_faults::NoMemory;
-use parallel_run::{Worked, run_threads, work};
+use parallel_run::{Worked, work};
 use product_run::run_in_order;
-use shared_board::{Pass, SharedBoard};
+use shared_board::{MemoryDesk, MemoryPass, Pass, SharedBoard};
 use std::alloc::{AllocError, Global};
 use std::sync::Wait;
-use std::sync::atomic::{AtomicU64, Ordering};
 use std::test::Fail;
 use std::thread;
 use std::thread::Threads;
-use sync_types::{Entry, Run};
+use sync_types::{Entry, Run, Step};
 
-/// For so many turns, each of which yields its thread, a gate holds a worker up.
-const GATE_TURNS: u32 = 10_000_000;
-
-/// Waits until the word has this number, and notes where the turns run out.
-fn wait_for(word: &AtomicU64, number: u64, ran_out: &AtomicU64) {
-    for _ in 0..GATE_TURNS {
-        if word.load(Ordering::SeqCst) == number {
-            return;
-        }
-        thread::yield_now();
-    }
-    ran_out.store(1, Ordering::SeqCst);
-}
-
-/// Channels 1 and 2 each wait at their step 0 until both have come there.
-#[derive(Drop)]
-struct BothCome {
-    come: AtomicU64,
-    ran_out: AtomicU64,
-}
-
-impl Gate for BothCome {
-    fn pass(&self, channel: u8, step: u32) {
-        if channel <= 2 && step == 0 {
-            self.come.fetch_add(1, Ordering::SeqCst);
-            wait_for(&self.come, 2, &self.ran_out);
-        }
-    }
-
-    fn judged(&self, _channel: u8, _step: u32) {}
-}
-
-/// A channel waits at its step 0 until another has passed its step 2.
-#[derive(Drop)]
-struct OtherFirst {
-    held: u8,
-    other: u8,
-    passed: AtomicU64,
-    ran_out: AtomicU64,
-}
-
-impl Gate for OtherFirst {
-    fn pass(&self, channel: u8, step: u32) {
-        if channel == self.other && step == 2 {
-            self.passed.store(1, Ordering::SeqCst);
-        }
-        if channel == self.held && step == 0 {
-            wait_for(&self.passed, 1, &self.ran_out);
-        }
-    }
-
-    fn judged(&self, _channel: u8, _step: u32) {}
-}
-
-/// The run of a job, by threads.
-fn run_of<R: Threads + Wait + Sync, G: Gate + Sync>(
-    rt: &R,
+/// The steps of a channel in these entries.
+fn own_steps(
     alloc: Global,
-    job: &Job,
-    gate: &G,
-) -> Result<Run, Fail>
-    requires sound { IsSoundJob job.now }
-    requires blocks { BlocksFit job.now }
-{
-    match run_threads(rt, alloc, job, gate) {
-        Ok(run) => Ok(run),
-        Err(NoMemory) => Err(Fail::from("no memory")),
-    }
-}
-
-/// How many of the first two entries of the run of this text are of a channel.
-fn among_first_two<R: Threads + Wait + Sync, G: Gate + Sync>(
-    rt: &R,
-    alloc: Global,
-    text: &str,
-    gate: &G,
-    channel: u8,
-) -> Result<usize, Fail> {
-    let Some(job) = job_of(alloc, text) else {
-        return Err(Fail::from("no job"));
-    };
-    let run = run_of(rt, alloc, &job, gate)?;
-    Ok(
-        run.entries
-            .iter()
-            .take(2)
-            .filter(|entry| entry.channel.number == channel)
-            .count(),
-    )
-}
-
-#[test]
-fn two_workers_are_under_way_at_once(rt: HostRuntime) -> Result<(), Fail> {
-    let gate = BothCome {
-        come: AtomicU64::new(0),
-        ran_out: AtomicU64::new(0),
-    };
-    let Some(job) = job_of(rt.alloc(), RUNS[0].0) else {
-        return Err(Fail::from("no job"));
-    };
-    let run = run_of(&rt, rt.alloc(), &job, &gate)?;
-    assert!(rt; gate.ran_out.load(Ordering::SeqCst) == 0);
-    assert!(rt; run.entries.len() == 18);
-    Ok(())
-}
-
-#[test]
-fn the_run_is_the_one_that_workers_make(rt: HostRuntime) -> Result<(), Fail> {
-    for (text, held, other) in [(RUNS[2].0, 1u8, 2u8), (RUNS[1].0, 2, 1)] {
-        let gate = OtherFirst {
-            held,
-            other,
-            passed: AtomicU64::new(0),
-            ran_out: AtomicU64::new(0),
-        };
-        let first = among_first_two(&rt, rt.alloc(), text, &gate, other)?;
-        assert!(rt; gate.ran_out.load(Ordering::SeqCst) == 0);
-        assert!(rt; first == 2);
-    }
-    Ok(())
-}
-
-/// What a channel does in a run, and its steps, as a text.
-fn channel_text(alloc: Global, run: &Run, channel: ChannelId) -> Result<String, Fail> {
-    let mut told = String::new(alloc);
-    for (entry, items) in run.entries.iter().zip(run.items.iter()) {
-        if entry.channel == channel {
-            write_step(&mut told, channel, items, &entry.step)?;
-        }
-    }
-    Ok(told)
-}
-
-/// The runs of a job by threads and in order.
-fn both_runs<R: Threads + Wait + Sync>(
-    rt: &R,
-    alloc: Global,
-    text: &str,
-) -> Result<(Run, Run), Fail> {
-    let Some(job) = job_of(alloc, text) else {
-        return Err(Fail::from("no job"));
-    };
-    let run = run_of(rt, alloc, &job, &OpenGate)?;
-    match run_in_order(alloc, &job) {
-        Ok(other) => Ok((run, other)),
-        Err(NoMemory) => Err(Fail::from("no memory")),
-    }
-}
-
-/// Where a job has no race, each of its channels does the same by threads as in order, and stops in the same way.
-#[test]
-fn threads_at_a_board_of_tickets_do_what_the_order_does(rt: HostRuntime) -> Result<(), Fail> {
-    let alloc = rt.alloc();
-    for (text, _, race) in &RUNS {
-        let (run, other) = both_runs(&rt, alloc, text)?;
-        if *race == "none" {
-            assert!(rt; run.ends == other.ends, "{text}");
-            for number in 1..=CHANNEL_LIMIT as u8 {
-                let channel = ChannelId { number };
-                let told = channel_text(alloc, &run, channel)?;
-                assert!(rt;
-                    told == channel_text(alloc, &other, channel)?,
-                    "{text}{told}"
-                );
-            }
-        }
-    }
-    Ok(())
-}
-
-/// What a worker has made, and the steps of its channel in these entries, as a text; and whether both are as many.
-fn worker_text(alloc: Global, worked: &Worked, entries: &[Entry]) -> Result<(String, bool), Fail> {
-    let mut told = String::new(alloc);
-    let mut place = 0usize;
+    entries: &[Entry],
+    channel: ChannelId,
+) -> Result<Vec<Step>, AllocError> {
+    let mut steps = Vec::new(alloc);
     for entry in entries {
+        if entry.channel == channel {
+            steps.push(entry.step)?;
+        }
+    }
+    Ok(steps)
+}
+
+/// Whether a worker has kept what its channel does in this run before each of its steps, no more and no less.
+fn has_kept(worked: &Worked, run: &Run) -> bool {
+    let mut place = 0usize;
+    for (entry, items) in run.entries.iter().zip(run.items.iter()) {
         if entry.channel == worked.channel {
-            let Some(items) = worked.items.get(place) else {
-                return Ok((told, false));
+            let Some(kept) = worked.items.get(place) else {
+                return false;
             };
-            write_step(&mut told, worked.channel, items, &entry.step)?;
+            if kept.as_slice() != items.as_slice() {
+                return false;
+            }
             place = place.saturating_add(1);
         }
     }
-    Ok((told, place == worked.items.len()))
+    place == worked.items.len()
+}
+
+/// Whether a worker has made at a board with these entries what its channel does in this run: no step was dropped or repeated.
+fn has_made(
+    alloc: Global,
+    worked: &Worked,
+    entries: &[Entry],
+    run: &Run,
+) -> Result<bool, AllocError> {
+    let made = own_steps(alloc, entries, worked.channel)?;
+    let wanted = own_steps(alloc, run.entries.as_slice(), worked.channel)?;
+    Ok(made.as_slice() == wanted.as_slice() && has_kept(worked, run))
 }
 
 /// Something that lends the job that all workers read. The threads share it by this bound.
@@ -227,7 +84,7 @@ impl Lends for Job {
     }
 }
 
-/// What the workers of these passes have made at a plain board, each in a thread of its own.
+/// What the workers of these passes have made at a board under a lock, each in a thread of its own.
 fn work_all<R: Threads + Wait + Sync, J: Lends + Sync>(
     rt: &R,
     alloc: Global,
@@ -260,7 +117,7 @@ fn work_all<R: Threads + Wait + Sync, J: Lends + Sync>(
     )
 }
 
-/// What the workers of a job have made at a plain board, and that board.
+/// What the workers of a job have made at a board under a lock, and that board.
 fn work_at_plain_board<R: Threads + Wait + Sync>(
     rt: &R,
     alloc: Global,
@@ -277,33 +134,41 @@ fn work_at_plain_board<R: Threads + Wait + Sync>(
     Ok((made, board.finish()))
 }
 
-/// At a plain board each worker has made what its channel does there; and where the job has no race, that is what it does in
-/// order.
 #[test]
 fn workers_at_a_plain_board_do_what_the_order_does(rt: HostRuntime) -> Result<(), Fail> {
     let alloc = rt.alloc();
-    for (text, _, race) in &RUNS {
-        let Some(job) = job_of(alloc, text) else {
-            return Err(Fail::from("no job"));
-        };
-        let (made, board) = work_at_plain_board(&rt, alloc, &job)?;
-        let Ok(other) = run_in_order(alloc, &job) else {
+    let job = job_of(alloc, THREE)?;
+    let run = run_in_order(alloc, &job)?;
+    let (made, board) = work_at_plain_board(&rt, alloc, &job)?;
+    assert!(rt; made.len() == 3 && board.is_over() && board.entries().len() == 25);
+    for one in &made {
+        let Ok(worked) = one else {
             return Err(Fail::from("no memory"));
         };
-        for one in &made {
-            let Ok(worked) = one else {
-                return Err(Fail::from("no memory"));
-            };
-            let (told, same) = worker_text(alloc, worked, board.entries())?;
-            assert!(rt; same, "{text}{told}");
-            if *race == "none" {
-                assert!(rt;
-                    told == channel_text(alloc, &other, worked.channel)?,
-                    "{text}{told}"
-                );
-            }
-        }
-        assert!(rt; board.is_over(), "{text}");
+        assert!(rt; has_made(alloc, worked, board.entries(), &run)?);
     }
+    Ok(())
+}
+
+#[test]
+fn a_worker_has_a_desk_for_itself(rt: HostRuntime) -> Result<(), Fail> {
+    let alloc = rt.alloc();
+    let job = job_of(alloc, ONE)?;
+    let run = run_in_order(alloc, &job)?;
+    let channel = ChannelId { number: 1 };
+    let desk = MemoryDesk { number: 5 };
+    let locked = Locked {
+        board: Board::new(alloc, &start_state(&job))?,
+        closed: false,
+    };
+    let mut pass = MemoryPass {
+        number: 5,
+        channel,
+        locked,
+    };
+    let worked = work(&rt, alloc, &job, &desk, &OpenGate, channel, &mut pass)?;
+    assert!(rt; has_made(alloc, &worked, pass.locked.board.entries(), &run)?);
+    desk.close(&rt, &mut pass);
+    assert!(rt; desk.wait_start(&rt, &mut pass) == Outcome::Closed);
     Ok(())
 }

@@ -1,2 +1,0 @@
-mod Grants
-mod Returned

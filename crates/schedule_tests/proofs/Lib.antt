@@ -1,2 +1,0 @@
-mod Meeting
-mod QuietSteps
