@@ -1,9 +1,9 @@
-//! Reads and writes that fail, an input that is cut off, and a byte that no text has. The job is that of the program's stored run.
+//! Reads and writes that fail, and an input that comes in pieces. The job is that of the program's stored run.
 
+use crate::check::Status;
 use crate::running::run_words;
 use edge_io::{MemSink, MemSource, OpenGate};
-use std::alloc::Global;
-use std::process::Abort;
+use std::alloc::{AllocError, Global};
 use std::sync::Wait;
 use std::test::Fail;
 use std::thread::Threads;
@@ -61,98 +61,85 @@ STATE ENDED 31
 VERDICT YES
 ";
 
-// How a call with one word ends and, below, what it writes, where reads give 64 bytes and writes take 16, and the listed ones fail.
-fn answer<R: Threads + Wait + Sync>(
+// The number of a read or a write that never comes.
+const NEVER: u32 = 1000;
+
+// Whether a call with this word ends so and writes this, where reads give pieces of a size and writes take 16 bytes, and the read
+// and the write of these numbers fail.
+fn gives<R: Threads + Wait + Sync>(
     rt: &R,
     alloc: Global,
     word: &str,
-    input: &str,
-    reads: &[u32],
-    writes: &[u32],
-) -> Result<String, Fail> {
-    let mut source = MemSource::new(input.as_bytes().to_vec(alloc)?, 64, reads.to_vec(alloc)?);
-    let mut sink = MemSink::new(alloc, 16, writes.to_vec(alloc)?);
-    let status = run_words(rt, alloc, &[word], &mut source, &mut sink, &OpenGate);
-    let output = str::from_utf8(sink.bytes())?;
-    Ok(format!(in alloc; "{status:?}\n{output}")?)
+    size: usize,
+    read: u32,
+    write: u32,
+    status: Status,
+    output: &[u8],
+) -> Result<bool, AllocError>
+    requires { 0 < size }
+{
+    let input = TURRETS.as_bytes().to_vec(alloc)?;
+    let mut source = MemSource::new(input, size, [read].to_vec(alloc)?);
+    let mut sink = MemSink::new(alloc, 16, [write].to_vec(alloc)?);
+    let ended = run_words(rt, alloc, &[word], &mut source, &mut sink, &OpenGate);
+    Ok(ended == status && sink.bytes() == output)
 }
 
-// The first ten reads, under each word. The input has 526 bytes, so the ninth read gives the last of them, and the tenth none.
+// The first ten reads, under each word. The input has 526 bytes, so the ninth read of 64 gives the last of them, and the tenth none.
 #[test]
 fn stops_at_each_read_that_fails(rt: HostRuntime) -> Result<(), Fail> {
     let alloc = rt.alloc();
     for failing in 0..20 {
         let word = if failing < 10 { "check" } else { "run" };
-        let got = answer(&rt, alloc, word, TURRETS, &[failing % 10], &[])?;
-        assert!(rt; got.as_str() == "ReadFault\n", "{word}, read {failing}");
+        let read = failing % 10;
+        assert!(rt;
+            gives(&rt, alloc, word, 64, read, NEVER, Status::ReadFault, &[])?,
+            "{failing}"
+        );
     }
     Ok(())
 }
 
-// All seventeen writes, under each word: the output has 272 bytes. Where another one is to fail, the output is whole.
+// All seventeen writes, under each word: the output has 272 bytes. Where the eighteenth is to fail, or the read after the one that
+// gave none, the output is whole.
 #[test]
 fn stops_at_each_write_that_fails(rt: HostRuntime) -> Result<(), Fail> {
     let alloc = rt.alloc();
-    let whole = format!(in alloc; "Yes\n{}", TURRETS_OUTPUT)?;
-    for failing in 0..34 {
-        let word = if failing < 17 { "check" } else { "run" };
-        let front = TURRETS_OUTPUT
-            .get(..16 * (failing as usize % 17))
-            .ok_or("a short output")?;
-        let want = format!(in alloc; "WriteFault\n{front}")?;
-        let got = answer(&rt, alloc, word, TURRETS, &[], &[failing % 17])?;
-        assert!(rt; got.as_str() == want.as_str(), "{word}, write {failing}");
-    }
-    for word in ["check", "run"] {
-        let got = answer(&rt, alloc, word, TURRETS, &[10], &[17])?;
-        assert!(rt; got.as_str() == whole.as_str(), "{word}");
-    }
-    Ok(())
-}
-
-// How a call ends that reads the whole of its input.
-const READ_WHOLE: [&str; 7] = [
-    "Yes",
-    "No",
-    "Race",
-    "Stuck",
-    "Alarm",
-    "Undecided",
-    "Refused",
-];
-
-// The input ends at each of its bytes.
-#[test]
-fn answers_each_front_of_an_input(rt: HostRuntime) -> Result<(), Fail> {
-    let alloc = rt.alloc();
-    for end in 0..=TURRETS.len() {
-        let front = TURRETS.get(..end).ok_or("no front")?;
-        let got = answer(&rt, alloc, "check", front, &[], &[])?;
-        let (status, output) = got.split_once('\n').ok_or("no status")?;
-        assert!(rt; READ_WHOLE.contains(&status), "{end}");
-        assert!(rt; output.ends_with('\n'), "{end}");
-    }
-    Ok(())
-}
-
-const BYTE_0: &str = "JOB 1
-CHANNEL 1 A START
-AXIS X1 1 0
-AXIS Z1 1 0
-GEO 1 X X1
-GEO 1 Z Z1
-ZONE 1 1 1 ON +X1 -10 10 - -10 10 +Z1 -10 10
-%_N_A_MPF
-X1 \0
-";
-
-#[test]
-fn refuses_a_byte_0(rt: HostRuntime) -> Result<(), Fail> {
-    for word in ["check", "run"] {
-        let got = answer(&rt, rt.alloc(), word, BYTE_0, &[], &[])?;
+    let output = TURRETS_OUTPUT.as_bytes();
+    for failing in 0..36 {
+        let word = if failing < 18 { "check" } else { "run" };
+        let write = failing % 18;
+        let status = if write < 17 {
+            Status::WriteFault
+        } else {
+            Status::Yes
+        };
+        let front = output.get(..16 * write as usize).ok_or("a short output")?;
         assert!(rt;
-            got.as_str() == "Refused\nREFUSED 3 9 byte not allowed\n",
-            "{word}"
+            gives(&rt, alloc, word, 64, 10, write, status, front)?,
+            "{failing}"
+        );
+    }
+    Ok(())
+}
+
+// However an input comes, in pieces of a byte, of a part of a line or of all its lines, it is answered as a whole.
+#[test]
+fn answers_an_input_in_pieces(rt: HostRuntime) -> Result<(), Fail> {
+    let output = TURRETS_OUTPUT.as_bytes();
+    for size in [1, 7, 4096] {
+        assert!(rt;
+            gives(
+                &rt,
+                rt.alloc(),
+                "check",
+                size,
+                NEVER,
+                NEVER,
+                Status::Yes,
+                output
+            )?,
+            "{size}"
         );
     }
     Ok(())

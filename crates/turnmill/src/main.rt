@@ -11,8 +11,6 @@ mod running;
 #[cfg(test)]
 mod running_tests;
 mod sample;
-#[cfg(test)]
-mod tests;
 mod words;
 
 use arguments::run_arguments;

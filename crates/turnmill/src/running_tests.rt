@@ -1,8 +1,9 @@
 //! `run` judges the run that its threads make, and tells the gate each entry of it.
 
+use crate::check::Status;
 use crate::running::run_words;
-use edge_io::{Gate, MemSink, MemSource, OpenGate};
-use std::alloc::Global;
+use edge_io::{Gate, MemSink, MemSource};
+use std::alloc::{AllocError, Global};
 use std::sync::Wait;
 use std::sync::atomic::{AtomicU64, Ordering};
 use std::test::Fail;
@@ -31,12 +32,23 @@ M30
 M30
 ";
 
-const MARKS_OUTPUT: &str = "TURNMILL 1
+const SECOND_OUTPUT: &str = "TURNMILL 1
 CHANNEL 1
 5 END
 STATE ENDED 5
 CHANNEL 2
 7 SETM 3
+8 END
+STATE ENDED 8
+VERDICT YES
+";
+
+const FIRST_OUTPUT: &str = "TURNMILL 1
+CHANNEL 1
+5 SETM 3
+6 END
+STATE ENDED 6
+CHANNEL 2
 8 END
 STATE ENDED 8
 VERDICT YES
@@ -53,6 +65,19 @@ M30
 SETM(3)
 CLEARM(3)
 M30
+";
+
+const OPEN_OUTPUT: &str = "TURNMILL 1
+CHANNEL 1
+5 WAITM 3 2
+6 END
+STATE ENDED 6
+CHANNEL 2
+8 SETM 3
+9 CLEARM 3
+10 END
+STATE ENDED 10
+VERDICT RACE CHANNEL 2 LINE 9 CHANNEL 1 LINE 5
 ";
 
 // A gate waits for so many turns at most.
@@ -119,46 +144,57 @@ impl Gate for HoldingGate {
     }
 }
 
-// How a call on a job ends, and below what it writes.
-fn answer<R: Threads + Wait + Sync, G: Gate + Sync>(
+// Whether a call of `run` on a job ends so and writes this.
+fn gives<R: Threads + Wait + Sync>(
     rt: &R,
     alloc: Global,
-    word: &str,
     job: &str,
-    gate: &G,
-) -> Result<String, Fail> {
+    gate: &HoldingGate,
+    status: Status,
+    output: &str,
+) -> Result<bool, AllocError> {
     let bytes = job.as_bytes().to_vec(alloc)?;
     let mut source = MemSource::new(bytes, 1000, Vec::new(alloc));
     let mut sink = MemSink::new(alloc, 1000, Vec::new(alloc));
-    let status = run_words(rt, alloc, &[word], &mut source, &mut sink, gate);
-    let output = str::from_utf8(sink.bytes())?;
-    Ok(format!(in alloc; "{status:?}\n{output}")?)
+    let ended = run_words(rt, alloc, &["run"], &mut source, &mut sink, gate);
+    Ok(ended == status && sink.bytes() == output.as_bytes())
 }
 
 #[test]
 fn the_run_of_the_threads_is_judged(rt: HostRuntime) -> Result<(), Fail> {
     let alloc = rt.alloc();
     let second = HoldingGate::new(1, 2, 1);
-    let got = answer(&rt, alloc, "run", SECOND_MARKS, &second)?;
-    let want = format!(in alloc; "Yes\n{}", MARKS_OUTPUT)?;
-    assert!(rt; got.as_str() == want.as_str());
+    assert!(rt;
+        gives(
+            &rt,
+            alloc,
+            SECOND_MARKS,
+            &second,
+            Status::Yes,
+            SECOND_OUTPUT
+        )?
+    );
     assert!(rt; second.was_told(3, 2));
     let first = HoldingGate::new(2, 1, 1);
-    let got = answer(&rt, alloc, "run", FIRST_MARKS, &first)?;
-    assert!(rt; got.starts_with("Yes\n"));
+    assert!(rt; gives(&rt, alloc, FIRST_MARKS, &first, Status::Yes, FIRST_OUTPUT)?);
     assert!(rt; first.was_told(3, 1));
     Ok(())
 }
 
-// Where the order is open, `run` writes what `check` writes, also where its threads made another run: that has a race.
+// Where the order is open, `run` reports the run in order, also where its threads made another run: that has a race.
 #[test]
 fn a_race_is_reported_in_order(rt: HostRuntime) -> Result<(), Fail> {
-    let alloc = rt.alloc();
-    let want = answer(&rt, alloc, "check", OPEN_ORDER, &OpenGate)?;
-    assert!(rt; want.ends_with("VERDICT RACE CHANNEL 2 LINE 9 CHANNEL 1 LINE 5\n"));
     let gate = HoldingGate::new(1, 2, 2);
-    let got = answer(&rt, alloc, "run", OPEN_ORDER, &gate)?;
-    assert!(rt; got.as_str() == want.as_str());
+    assert!(rt;
+        gives(
+            &rt,
+            rt.alloc(),
+            OPEN_ORDER,
+            &gate,
+            Status::Race,
+            OPEN_OUTPUT
+        )?
+    );
     assert!(rt; gate.was_told(5, 1));
     Ok(())
 }

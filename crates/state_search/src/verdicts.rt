@@ -8,7 +8,6 @@ use order_clocks::clocks_of;
 use product_run::run_in_order;
 use protection_zones::stretches_of;
 use std::alloc::Global;
-use std::test::Fail;
 use sync_types::Verdict;
 use tape_job::{Job, read_job};
 
@@ -39,16 +38,14 @@ fn verdict_on(alloc: Global, job: &Job) -> Result<Verdict, NoMemory>
 }
 
 // Its word.
-pub(crate) fn verdict_word(alloc: Global, job: &Job) -> Result<&'static str, Fail>
+pub(crate) fn verdict_word(alloc: Global, job: &Job) -> &'static str
     requires accepted { IsSoundJob job.now }
     requires indices { BlocksFit job.now }
 {
-    let Ok(verdict) = verdict_on(alloc, job) else {
-        return Err(Fail::from("no memory"));
-    };
-    Ok(match verdict {
-        Verdict::Yes => "Yes",
-        Verdict::No(_, _) => "No",
-        _ => "another",
-    })
+    match verdict_on(alloc, job) {
+        Ok(Verdict::Yes) => "YES",
+        Ok(Verdict::No(_, _)) => "NO",
+        Ok(_) => "another verdict",
+        Err(_) => "no memory",
+    }
 }

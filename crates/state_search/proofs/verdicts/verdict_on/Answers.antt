@@ -2,8 +2,8 @@
 use Rattle.product_run.proofs.JudgedRuns.{comes, comes_from_one, few_in_all, few_in_each}
 use Rattle.product_run.proofs.Motions.{runs_in_order_are_maximal}
 use Rattle.protection_zones.proofs.ToldRuns.{told_of}
-use Rattle.search_tests.proofs.JudgeLemmas.{all_fit}
-use Rattle.search_tests.proofs.verdicts.verdict_on.Goals as goal
+use Rattle.state_search.proofs.JudgeLemmas.{all_fit}
+use Rattle.state_search.proofs.verdicts.verdict_on.Goals as goal
 
 pub clocks_of-requires-clause-whole : goal.clocks_of-requires-clause-whole
 clocks_of-requires-clause-whole c = comes_from_one c.args.job.now c.in_ok-run.run' c.requires.accepted (runs_in_order_are_maximal _ _ _ c.in_ok-run.ensures.run)
