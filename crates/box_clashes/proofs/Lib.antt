@@ -1,4 +1,3 @@
 pub mod PieceLaws
 pub mod Directions
 pub mod MarginLaws
-pub mod Moves

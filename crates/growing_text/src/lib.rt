@@ -2,8 +2,6 @@
 #![tactic(auto)]
 
 mod said;
-#[cfg(test)]
-mod tests;
 mod text;
 
 pub use text::Text;

@@ -3,7 +3,5 @@
 
 mod joining;
 mod names;
-#[cfg(test)]
-mod tests;
 
 pub use joining::{ControlFile, joined_input};

@@ -10,5 +10,4 @@ pub mod PutLaws
 pub mod SomeLaws
 pub mod NearestLaws
 pub mod GroupLaws
-pub mod EmptyRuns
 pub mod PassedLaws

@@ -2,4 +2,3 @@ pub mod TakeLaws
 pub mod StepLaws
 pub mod RunLaws
 pub mod MissingLaws
-pub mod RowLaws

@@ -1,3 +1,2 @@
 pub mod LastBoards
 pub mod Missing
-pub mod Rows

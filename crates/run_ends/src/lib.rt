@@ -4,8 +4,6 @@
 mod boards;
 mod laws;
 mod owners;
-#[cfg(test)]
-mod tests;
 
 pub use boards::{LastBoard, last_board};
 pub use laws::who_waits_lacks_something;

@@ -6,8 +6,6 @@ mod kept;
 mod moments;
 mod named;
 mod picture;
-#[cfg(test)]
-mod tests;
 mod tracks;
 mod turns;
 

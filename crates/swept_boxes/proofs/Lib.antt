@@ -4,4 +4,3 @@ pub mod MeetTests
 pub mod Meeting
 pub mod PieceLaws
 pub mod PlaneLaws
-pub mod SoundLaws

@@ -1,5 +1,0 @@
-use Rattle.tape_job.proofs.SoundJobs.{accepted_sound}
-use Rattle.explain_tests.proofs.jobs.job_of.Goals as goal
-
-pub returns-in-Ok-clause-sound : goal.returns-in-Ok-clause-sound
-returns-in-Ok-clause-sound c = accepted_sound _ c.in-Ok.job c.in-Ok.ensures.exact
