@@ -1,5 +1,5 @@
-//! What two boxes have in common, how they would be apart by a shift of one of them or by motions that are halved more often, and
-//! how far the boxes of two lots reach into each other.
+//! What two boxes have in common and how they would be apart: by a shift of one of them, by a smaller margin, or by motions that
+//! are halved more often.
 #![tactic(auto)]
 
 mod commons;
@@ -7,10 +7,12 @@ mod depths;
 mod lots;
 mod parted;
 mod parts;
+mod rooms;
 mod ways;
 
 pub use commons::common_box;
 pub use depths::parting_depth;
 pub use lots::most_near;
 pub use parted::PartedLot;
+pub use rooms::margin_room;
 pub use ways::{Way, least_way};
