@@ -7,4 +7,4 @@ use Rattle.frames.proofs.arithmetic.product.Goals as goal
 pub overflow_mul-result : goal.overflow_mul-result
 overflow_mul-result c =
     fits_signed_mul w128 (to_z w128 (of_z w128 c.from.result)) (to_z w128 (of_z w128 c.from-2.result)) 1000000000 9223372036854775808
-        (omega (arith, ints)) (omega (arith, ints)) (omega arith)
+    (omega (arith, ints)) (omega (arith, ints)) (omega arith)

@@ -7,4 +7,4 @@ use Rattle.micro_units.proofs.Num.mul.Goals as goal
 pub overflow_mul-from : goal.overflow_mul-from
 overflow_mul-from c =
     fits_signed_mul w128 (to_z w128 (of_z w128 c.from.result)) (to_z w128 (of_z w128 c.from-2.result)) 9223372036854775808 9223372036854775808
-        (omega (arith, ints)) (omega (arith, ints)) (omega arith)
+    (omega (arith, ints)) (omega (arith, ints)) (omega arith)

@@ -8,4 +8,4 @@ use Rattle.path_geometry.proofs.vector.product.Goals as goal
 pub overflow_mul-result : goal.overflow_mul-result
 overflow_mul-result c =
     fits_signed_mul w64 (to_z w64 (of_z w64 c.from.result)) (to_z w64 (of_z w64 c.from-2.result)) 20000000 20000000
-        (omega (arith, ints)) (omega (arith, ints)) (omega arith)
+    (omega (arith, ints)) (omega (arith, ints)) (omega arith)
