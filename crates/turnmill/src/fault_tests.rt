@@ -64,22 +64,21 @@ VERDICT YES
 // The number of a read or a write that never comes.
 const NEVER: u32 = 1000;
 
-// Whether a call with this word ends so and writes this, where reads give pieces of a size and writes take 16 bytes, and the read
-// and the write of these numbers fail.
+// Whether a call with this word ends so and writes this, where reads give pieces of a size and the read of a number fails, and
+// writes take 16 bytes and the write of a number fails.
 fn gives<R: Threads + Wait + Sync>(
     rt: &R,
     alloc: Global,
     word: &str,
-    size: usize,
-    read: u32,
+    reads: (usize, u32),
     write: u32,
     status: Status,
     output: &[u8],
 ) -> Result<bool, AllocError>
-    requires { 0 < size }
+    requires { 0 < reads.0 }
 {
     let input = TURRETS.as_bytes().to_vec(alloc)?;
-    let mut source = MemSource::new(input, size, [read].to_vec(alloc)?);
+    let mut source = MemSource::new(input, reads.0, [reads.1].to_vec(alloc)?);
     let mut sink = MemSink::new(alloc, 16, [write].to_vec(alloc)?);
     let ended = run_words(rt, alloc, &[word], &mut source, &mut sink, &OpenGate);
     Ok(ended == status && sink.bytes() == output)
@@ -93,7 +92,7 @@ fn stops_at_each_read_that_fails(rt: HostRuntime) -> Result<(), Fail> {
         let word = if failing < 10 { "check" } else { "run" };
         let read = failing % 10;
         assert!(rt;
-            gives(&rt, alloc, word, 64, read, NEVER, Status::ReadFault, &[])?,
+            gives(&rt, alloc, word, (64, read), NEVER, Status::ReadFault, &[])?,
             "{failing}"
         );
     }
@@ -116,7 +115,7 @@ fn stops_at_each_write_that_fails(rt: HostRuntime) -> Result<(), Fail> {
         };
         let front = output.get(..16 * write as usize).ok_or("a short output")?;
         assert!(rt;
-            gives(&rt, alloc, word, 64, 10, write, status, front)?,
+            gives(&rt, alloc, word, (64, 10), write, status, front)?,
             "{failing}"
         );
     }
@@ -133,8 +132,7 @@ fn answers_an_input_in_pieces(rt: HostRuntime) -> Result<(), Fail> {
                 &rt,
                 rt.alloc(),
                 "check",
-                size,
-                NEVER,
+                (size, NEVER),
                 NEVER,
                 Status::Yes,
                 output
