@@ -12,7 +12,7 @@ use nc_subprograms::Place;
 use std::alloc::Global;
 
 /// A call that is open: the block of a program that called the next program.
-#[derive(Clone, Copy, PartialEq, Eq)]
+#[derive(Clone, Copy)]
 pub struct Call {
     /// The place of the program among those of the job.
     pub program: u16,

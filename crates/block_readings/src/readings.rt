@@ -13,7 +13,7 @@ use nc_faults::NoMemory;
 use std::alloc::Global;
 
 /// A parameter that a block reads.
-#[derive(Clone, Copy, PartialEq, Eq)]
+#[derive(Clone, Copy)]
 pub struct Reading {
     /// Its number, 0 to 999.
     pub number: u16,

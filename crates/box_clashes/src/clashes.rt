@@ -15,7 +15,7 @@ use sync_types::Run;
 use told_places::{Meeting, Place};
 
 /// What two boxes that meet have in common, and by what they would be apart. All lengths are in micrometres.
-#[derive(Clone, Copy, PartialEq, Eq)]
+#[derive(Clone, Copy)]
 pub struct Clash {
     /// What both whole boxes have in common.
     pub common: Box3,

@@ -16,7 +16,7 @@ const FILE_MARK: &[u8] = b"; FILE ";
 const LINE_MARK: &[u8] = b" LINE ";
 
 /// A line of a file.
-#[derive(Clone, Copy, PartialEq, Eq)]
+#[derive(Clone, Copy)]
 pub struct Origin<'a> {
     /// The name of the file.
     pub file: &'a [u8],

@@ -11,7 +11,7 @@ use sync_types::{PlaceName, StretchKind};
 use told_places::Meeting;
 
 /// Pairs of boxes with the same names.
-#[derive(Clone, Copy, PartialEq, Eq)]
+#[derive(Clone, Copy)]
 pub struct Group {
     /// The place of the first among all pairs.
     pub first: usize,

@@ -37,7 +37,7 @@ use sync_types::{EventId, Run, StretchKind};
 use told_places::Place;
 
 /// The two compared boxes of two groups that come nearest to each other.
-#[derive(Clone, Copy, PartialEq, Eq)]
+#[derive(Clone, Copy)]
 pub struct Near {
     /// The lower and the higher of the groups.
     pub groups: (u8, u8),

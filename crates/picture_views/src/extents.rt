@@ -7,7 +7,7 @@ ghost use Rattle.picture_views.specs.Marks.{along};
 use crate::shapes::{Picture, Tile, Track};
 
 /// The lowest and the highest place of a picture along a direction.
-#[derive(Clone, Copy, PartialEq, Eq)]
+#[derive(Clone, Copy)]
 pub struct Extent {
     /// The lowest.
     pub low: i64,

@@ -2,7 +2,7 @@
 use swept_boxes::Box3;
 
 /// How a box is drawn.
-#[derive(Clone, Copy, PartialEq, Eq)]
+#[derive(Clone, Copy)]
 pub enum Look {
     /// As one of a channel, by its number.
     Held(u8),
@@ -15,7 +15,7 @@ pub enum Look {
 }
 
 /// A box that is drawn.
-#[derive(Clone, Copy, PartialEq, Eq)]
+#[derive(Clone, Copy)]
 pub struct Tile {
     /// The box.
     pub space: Box3,
@@ -26,7 +26,7 @@ pub struct Tile {
 }
 
 /// How a track turns.
-#[derive(Clone, Copy, PartialEq, Eq)]
+#[derive(Clone, Copy)]
 pub struct Turn {
     /// The centre.
     pub centre: [i64; 3],
@@ -41,7 +41,7 @@ pub struct Turn {
 }
 
 /// A way of the point that a zone travels with.
-#[derive(Clone, Copy, PartialEq, Eq)]
+#[derive(Clone, Copy)]
 pub struct Track {
     /// The number of its channel.
     pub channel: u8,
@@ -54,7 +54,7 @@ pub struct Track {
 }
 
 /// What a channel does in a step.
-#[derive(Clone, Copy, PartialEq, Eq)]
+#[derive(Clone, Copy)]
 pub enum Deed {
     /// It acts, and goes on by itself.
     Acts,
@@ -67,7 +67,7 @@ pub enum Deed {
 }
 
 /// What a channel does in a step of the run.
-#[derive(Clone, Copy, PartialEq, Eq)]
+#[derive(Clone, Copy)]
 pub struct Moment {
     /// The step, counted from 0.
     pub step: u32,

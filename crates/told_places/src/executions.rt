@@ -9,7 +9,7 @@ use axis_sets::ChannelId;
 use sync_types::{Entry, Item, Part, Run};
 
 /// Which execution of a block is meant, counted from 1, and how many there are.
-#[derive(Clone, Copy, PartialEq, Eq)]
+#[derive(Clone, Copy)]
 pub struct Execution {
     /// Its number, from 1.
     pub which: u64,

@@ -7,7 +7,7 @@ use swept_boxes::Box3;
 use sync_types::{EventId, Item, PlaceName, Run};
 
 /// A box of a zone, with what is told of its stretch.
-#[derive(Clone, Copy, PartialEq, Eq)]
+#[derive(Clone, Copy)]
 pub struct Place {
     /// How the box is named.
     pub name: PlaceName,
@@ -28,7 +28,7 @@ pub struct Place {
 }
 
 /// Two boxes that meet, that of the zone with the lower number first.
-#[derive(Clone, Copy, PartialEq, Eq)]
+#[derive(Clone, Copy)]
 pub struct Meeting {
     /// The box of the zone with the lower number.
     pub left: Place,
