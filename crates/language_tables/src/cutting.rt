@@ -46,13 +46,11 @@ fn lines_of(alloc: Global, input: &[u8], size: usize) -> Result<String, AllocErr
 
 /// Tells the lines of an input, which are the same in pieces of every size.
 pub fn tell_lines(rt: &impl Print, alloc: Global, input: &[u8]) -> io::Result<()> {
-    let bytes = lines_of(alloc, input, 1)?;
-    let pairs = lines_of(alloc, input, 2)?;
-    let hundreds = lines_of(alloc, input, 100)?;
     let whole = lines_of(alloc, input, 4096)?;
-    if bytes == whole && pairs == whole && hundreds == whole {
-        println!(rt; "{whole:?}")
-    } else {
-        println!(rt; "not the same: {bytes:?} {pairs:?} {hundreds:?} {whole:?}")
+    for size in 1..=100 {
+        if lines_of(alloc, input, size)? != whole {
+            return println!(rt; "not the same in pieces of {size}");
+        }
     }
+    println!(rt; "{whole:?}")
 }

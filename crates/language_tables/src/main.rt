@@ -19,7 +19,7 @@ use nc_syntax::statement;
 use spelling::spelled_out;
 use std::alloc::Global;
 use std::io;
-use tokens::{tell_texts, tell_tokens};
+use tokens::tell_tokens;
 
 /// Tells the block of a line, or why it has none.
 fn tell_block(
@@ -42,7 +42,6 @@ fn tell_words(rt: &impl Print, alloc: Global, asked: &str, words: &Words<'_>) ->
 {
     match asked {
         "tokens" => tell_tokens(rt, words),
-        "texts" => tell_texts(rt, words),
         "value" => tell_value(rt, alloc, words),
         "constant" => tell_constant(rt, words),
         "block" => tell_block(rt, alloc, words, false),

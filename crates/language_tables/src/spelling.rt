@@ -2,8 +2,10 @@
 
 use std::alloc::{AllocError, Global};
 
-/// Puts after a text what stands in braces: a byte by its name, or a piece with the number of times that it stands.
-fn put_braced(text: &mut String, braced: &str) -> Result<(), AllocError> {
+/// Puts a part of a case after a text: what stands before `}`, a byte by its name or a piece with the number of times that
+/// it stands, and then the rest as it is.
+fn put_part(text: &mut String, part: &str) -> Result<(), AllocError> {
+    let (braced, rest) = part.split_once('}').unwrap_or(("", part));
     let (times, piece) = match braced {
         "n" => ("1", "\n"),
         "r" => ("1", "\r"),
@@ -14,7 +16,7 @@ fn put_braced(text: &mut String, braced: &str) -> Result<(), AllocError> {
     for _ in 0..times.parse::<u16>().unwrap_or(0) {
         text.push_str(piece)?;
     }
-    Ok(())
+    text.push_str(rest)
 }
 
 /// The text of a case: `{n}`, `{r}`, `{t}` and `{0}` are a line feed, a carriage return, a tab and a byte 0, and
@@ -22,13 +24,7 @@ fn put_braced(text: &mut String, braced: &str) -> Result<(), AllocError> {
 pub fn spelled_out(alloc: Global, case: &str) -> Result<String, AllocError> {
     let mut text = String::new(alloc);
     for part in case.split('{') {
-        match part.split_once('}') {
-            Some((braced, rest)) => {
-                put_braced(&mut text, braced)?;
-                text.push_str(rest)?;
-            }
-            None => text.push_str(part)?,
-        }
+        put_part(&mut text, part)?;
     }
     Ok(text)
 }

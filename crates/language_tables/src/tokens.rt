@@ -1,7 +1,5 @@
 //! The tokens of a line.
 
-ghost use Rattle.block_scanner.specs.Scanned.{IsScanned};
-
 use block_scanner::{Kind, Words};
 use std::io;
 
@@ -23,16 +21,4 @@ pub fn tell_tokens(rt: &impl Print, words: &Words<'_>) -> io::Result<()> {
         print!(rt; " {} {}, ", token.start, token.end)?;
     }
     println!(rt; "end")
-}
-
-/// Tells the text of each token of a line, with `|` after it.
-pub fn tell_texts(rt: &impl Print, words: &Words<'_>) -> io::Result<()>
-    requires { IsScanned words.now }
-{
-    for index in 0..words.tokens.len() {
-        let token = words.token(index);
-        let text = str::from_utf8(words.text(&token)).unwrap_or("no text");
-        print!(rt; "{text}|")?;
-    }
-    println!(rt; "")
 }
