@@ -1,4 +1,5 @@
 //! Reads and writes that fail, and an input that comes in pieces. The job is that of the program's stored run.
+ghost use Rattle.std.specs.Prelude.{◌<◌};
 
 use crate::check::Status;
 use crate::running::run_words;
