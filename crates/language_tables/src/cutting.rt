@@ -45,7 +45,7 @@ fn lines_of(alloc: Global, input: &[u8], size: usize) -> Result<String, AllocErr
 }
 
 /// Tells the lines of an input, which are the same in pieces of every size.
-pub fn tell_lines(rt: &impl Print, alloc: Global, input: &[u8]) -> io::Result<()> {
+pub(crate) fn tell_lines(rt: &impl Print, alloc: Global, input: &[u8]) -> io::Result<()> {
     let whole = lines_of(alloc, input, 4096)?;
     for size in 1..=100 {
         if lines_of(alloc, input, size)? != whole {

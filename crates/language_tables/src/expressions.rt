@@ -43,7 +43,7 @@ fn tell_number(rt: &impl Print, tree: &Expr) -> io::Result<()>
 }
 
 /// Tells the value of a line that should be one expression.
-pub fn tell_value(rt: &impl Print, alloc: Global, words: &Words<'_>) -> io::Result<()>
+pub(crate) fn tell_value(rt: &impl Print, alloc: Global, words: &Words<'_>) -> io::Result<()>
     requires { IsScanned words.now }
 {
     match parse_expr(alloc, words, 0) {
@@ -59,7 +59,7 @@ pub fn tell_value(rt: &impl Print, alloc: Global, words: &Words<'_>) -> io::Resu
 }
 
 /// Tells the value of the constant at the second token of a line, and the place after it.
-pub fn tell_constant(rt: &impl Print, words: &Words<'_>) -> io::Result<()>
+pub(crate) fn tell_constant(rt: &impl Print, words: &Words<'_>) -> io::Result<()>
     requires { IsScanned words.now }
 {
     if words.tokens.is_empty() {

@@ -21,7 +21,7 @@ fn put_part(text: &mut String, part: &str) -> Result<(), AllocError> {
 
 /// The text of a case: `{n}`, `{r}`, `{t}` and `{0}` are a line feed, a carriage return, a tab and a byte 0, and
 /// `{512 +}` is 512 times `+`.
-pub fn spelled_out(alloc: Global, case: &str) -> Result<String, AllocError> {
+pub(crate) fn spelled_out(alloc: Global, case: &str) -> Result<String, AllocError> {
     let mut text = String::new(alloc);
     for part in case.split('{') {
         put_part(&mut text, part)?;

@@ -15,7 +15,7 @@ fn print_kind(rt: &impl Print, kind: Kind) -> io::Result<()> {
 }
 
 /// Tells each token of a line, with the places of its first byte and after its last.
-pub fn tell_tokens(rt: &impl Print, words: &Words<'_>) -> io::Result<()> {
+pub(crate) fn tell_tokens(rt: &impl Print, words: &Words<'_>) -> io::Result<()> {
     for token in words.tokens.iter() {
         print_kind(rt, token.kind)?;
         print!(rt; " {} {}, ", token.start, token.end)?;
