@@ -43,7 +43,8 @@ pub record Acts (before : Told) (step : Step) (answer : Option Outcome) (after :
   pub seen : SeesOn before.channel before.seen found
   pub brought : Brings before.start before.channel step found answer after.seen
 
--- a step is brought; where that has no answer looks follow, until one has
+-- The step is brought to a history that begins with all that the pass has seen, and the answer is that of what the pass has seen
+-- when the call returns: at once, or where there is none yet, of a look that follows.
 pub data ActsAndWaits (before : Told) (step : Step) (outcome : Outcome) (after : Told) : Type 0 where
   AtOnce : Acts before step (Some outcome) after → ActsAndWaits before step outcome after
   Later : (between : Told) → Acts before step None between → Looks between (Some outcome) after → ActsAndWaits before step outcome after
@@ -55,7 +56,8 @@ pub record Closes (before after : Told) : Type 0 where
   pub seen : SeesOn before.channel before.seen found
   pub closed : after.seen ≡ closed_after found
 
--- a pass that tells nothing tells nothing later, and of one that tells this holds
+-- A pass may tell of the board what it has seen of it, and then a call leads from the one to the other. A pass that tells nothing tells
+-- nothing later.
 abbrev pub TellsOn : (Told → Told → Type 0) → Option Told → Option Told → Type 0
 TellsOn R None None = Unit {0}
 TellsOn R None (Some after) = ⊥

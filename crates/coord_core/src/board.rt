@@ -60,10 +60,13 @@ impl Board {
         })
     }
 
-    /// Makes room for so many more entries.
+    /// Makes room for so many more entries, and leaves what room there is. Where no memory is found the board is as
+    /// before.
     pub fn reserve(&mut self, count: usize) -> Result<(), NoMemory>
         ensures same { HaveSameEntries self.new self.old }
         ensures ok { OnOk result (count ≤ self.new.spare) }
+        ensures room { self.old.spare ≤ self.new.spare }
+        ensures err { OnErr result (self.new ≡ self.old) }
     {
         if self.spare < count {
             self.entries.reserve(count)?;
@@ -76,7 +79,7 @@ impl Board {
     pub fn act(&mut self, channel: ChannelId, step: Step) -> Result<(), NoMemory>
         requires runs { is_running ((replayed self.old).state channel) ≡ true }
         ensures ok { OnOk result (HaveSameEntries self.new (with_step self.old channel step)) }
-        ensures err { OnErr result (HaveSameEntries self.new self.old) }
+        ensures err { OnErr result (self.new ≡ self.old) }
         ensures together { OnOk result (AreTogether (replayed self.new)) }
     {
         self.reserve(1)?;

@@ -22,6 +22,12 @@ pub(crate) struct ZoneState {
 pub(crate) type Zones = ArrayVec<ZoneState, ZONE_LIMIT>;
 
 impl Default for ZoneState {
+    ghost use Rattle.std.specs.Prelude.{◌≡◌, None, false};
+    ghost use Rattle.axis_sets.specs.Sets.{IsEmpty};
+
+    // Nobody holds it, no axis carries it, and it is off.
+    ghost is_default = { λ zone. (zone.zone ≡ 1) × IsEmpty zone.axes × (zone.holder ≡ None) × (zone.on ≡ false) };
+
     fn default() -> ZoneState {
         ZoneState {
             zone: ZoneId::default(),

@@ -10,8 +10,8 @@ use Rattle.sync_types.specs.declared.runs.EventId.{EventId}
 use Rattle.order_clocks.specs.Counters.{row}
 use Rattle.order_clocks.specs.CourseOf.{course_of}
 use Rattle.order_clocks.specs.Courses.{IsEventIn}
-use Rattle.order_clocks.specs.Happenings.{Happening, Trace, Lowered, Needed, Took, Touched, board_at, happening_of, happening_at, going_of, of_going, act_leaves, going_leaves, act_minds, going_minds}
-use Rattle.order_clocks.specs.Races.{Apart, StillWaits, Differ, StillAsks, AreApart, leaves_at, minds_at}
+use Rattle.order_clocks.specs.Happenings.{Happening, board_at, happening_of, happening_at, going_of, of_going}
+use Rattle.order_clocks.specs.TracedRaces.{Trace, Lowered, Needed, Took, Touched, act_leaves, going_leaves, act_minds, going_minds, Apart, StillWaits, Differ, StillAsks, AreApart, leaves_at, minds_at}
 use Rattle.order_clocks.proofs.OrderLaws.{event_in}
 use Rattle.board_laws.specs.Machine.{Mark, Axis, Seat, In, Called, Own, State, asks, is_at, doing_of, board_of, effect, go_clock}
 use Rattle.board_laws.specs.Clean.{IsClean, Inv}

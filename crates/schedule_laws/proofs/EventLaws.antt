@@ -1,9 +1,9 @@
 -- The events of a channel by their places, and their clocks.
 use Rattle.std.proofs.Math.Path.{fun_ext}
 use Rattle.std.proofs.Common.{◌≡◌, ℕ, zero, suc, ◌+◌, ◌≤◌, ◌<◌, ◌⊎◌, ◌==◌, Bool, true, false, List, [], ◌∷◌, ◌++◌, length, length-append, Option, Some, inl, inr, refl, sym, ap, ap₂, subst, ◌∙◌, arith, if◌then◌else◌}
-use Rattle.std.proofs.lemmas.Bool.{cases_Bool, eqb-true, eq-eqb, ne_eqb}
+use Rattle.std.proofs.lemmas.Bool.{cases_Bool, eqb-true, eq-eqb, ne_eqb, true≢false}
 use Rattle.sync_types.specs.Boards.{Board, among, is_this}
-use Rattle.sync_types.specs.Events.{actor_at, goings_at, channels_in}
+use Rattle.sync_types.specs.Events.{AreOne, actor_at, goings_at, channels_in}
 use Rattle.sync_types.specs.GoingOn.{Going}
 use Rattle.sync_types.specs.Turns.{Move, after_step}
 use Rattle.sync_types.specs.declared.runs.EventId.{EventId}
@@ -11,12 +11,12 @@ use Rattle.order_clocks.specs.Before.{Before, moment}
 use Rattle.order_clocks.specs.Chains.{IsPath}
 use Rattle.order_clocks.specs.Counters.{row, members, own_row}
 use Rattle.order_clocks.specs.CourseOf.{course_of}
-use Rattle.order_clocks.specs.Courses.{IsEventIn, FollowsIn, IsBeforeIn}
+use Rattle.order_clocks.specs.Courses.{Course, IsEventIn, AreJoinedIn, AreOneIn, FollowsIn, IsBeforeIn}
 use Rattle.order_clocks.proofs.CounterLaws.{opened_actor, opened_other, closed_goer, closed_other, member, contains_from, top_above, one_back, one_row, before_from, before_to, follows_later}
-use Rattle.order_clocks.proofs.OrderLaws.{goings_are, order_in, order_from}
+use Rattle.order_clocks.proofs.OrderLaws.{goings_are, one_in, one_from, order_in, order_from}
 use Rattle.board_laws.specs.Machine.{Clock, with_value_at}
 use Rattle.board_laws.proofs.Basics.{no}
-use Rattle.schedule_laws.specs.EventPlaces.{act_in, going_in, event_in, events_upto, IsEventAt, HaveSameOrder}
+use Rattle.schedule_laws.specs.EventPlaces.{act_in, going_in, event_in, events_upto, IsEventAt, IsSameEvent, HaveSameOrder}
 use Rattle.schedule_laws.specs.Tracked.{rows_at, rows_in, actor, goes_in, clocks_in, clocks_at}
 use Rattle.schedule_laws.proofs.Within.{rows_within, opened_within, own_within, own_past, go_self, act_self, top_under}
 use Rattle.schedule_laws.proofs.Places.{event}
@@ -26,10 +26,10 @@ actor_is b [] i inside = absurd (omega arith)
 actor_is b (m ∷ ms) zero inside = refl
 actor_is b (m ∷ ms) (suc i) inside = actor_is (after_step b m.channel m.step) ms i (omega arith)
 
-acts : (b : Board) (moves : List Move) (i c : ℕ) → i < length moves → is_this (actor_at moves i) c ≡ (actor b moves i == c)
+pub acts : (b : Board) (moves : List Move) (i c : ℕ) → i < length moves → is_this (actor_at moves i) c ≡ (actor b moves i == c)
 acts b moves i c inside = ap (λ (o : Option ℕ). is_this o c) (actor_is b moves i inside)
 
-goes : (b : Board) (moves : List Move) (i c : ℕ) → among (channels_in (goings_at b moves i)) c ≡ goes_in b moves i c
+pub goes : (b : Board) (moves : List Move) (i c : ℕ) → among (channels_in (goings_at b moves i)) c ≡ goes_in b moves i c
 goes b moves i c = ap (λ (gs : List Going). among (channels_in gs) c) (sym (goings_are b moves i))
 
 -- the own counter rises by one at each event
@@ -52,7 +52,7 @@ count_go b moves i c on =
     let past = own_past run i (rows_in b moves i) c c in
     omega (arith, e, l, up, low, past)
 
-nth_append : (xs ys : List EventId) (n : ℕ) (e : EventId) → event_in (xs ++ ys) n ≡ Some e → (event_in xs n ≡ Some e) ⊎ ((k : ℕ) × ((n ≡ length xs + k) × (event_in ys k ≡ Some e)))
+pub nth_append : (xs ys : List EventId) (n : ℕ) (e : EventId) → event_in (xs ++ ys) n ≡ Some e → (event_in xs n ≡ Some e) ⊎ ((k : ℕ) × ((n ≡ length xs + k) × (event_in ys k ≡ Some e)))
 nth_append [] ys n e on = inr (n, (omega arith, on))
 nth_append (x ∷ xs) ys zero e on = inl on
 nth_append (x ∷ xs) ys (suc n) e on = elim (nth_append xs ys n e on) [
@@ -60,12 +60,12 @@ nth_append (x ∷ xs) ys (suc n) e on = elim (nth_append xs ys n e on) [
   | inr r ↦ let s = r.1.0 in inr (r.0, (omega (arith, s), r.1.1))
 ]
 
-nth_within : (xs : List EventId) (n : ℕ) (e : EventId) → event_in xs n ≡ Some e → n < length xs
+pub nth_within : (xs : List EventId) (n : ℕ) (e : EventId) → event_in xs n ≡ Some e → n < length xs
 nth_within [] n e on = let bad : ⊥ = cc in absurd bad
 nth_within (x ∷ xs) zero e on = omega arith
 nth_within (x ∷ xs) (suc n) e on = let l = nth_within xs n e on in omega (arith, l)
 
-append_none : (xs : List EventId) → xs ++ [] ≡ xs
+pub append_none : (xs : List EventId) → xs ++ [] ≡ xs
 append_none [] = refl
 append_none (x ∷ xs) = ap (λ (ws : List EventId). x ∷ ws) (append_none xs)
 
@@ -77,7 +77,7 @@ pub record Phase (b : Board) (moves : List Move) (c : ℕ) (xs : List EventId) (
   pub place : (n : ℕ) (e : EventId) → event_in xs n ≡ Some e → row (course_of b moves) e c ≡ suc n
   pub clock : (n : ℕ) (e : EventId) (x : ℕ) → event_in xs n ≡ Some e → log (suc n) x ≡ row (course_of b moves) e x
 
-only_one : (e f : EventId) (k : ℕ) → event_in (e ∷ []) k ≡ Some f → (k ≡ 0) × (f ≡ e)
+pub only_one : (e f : EventId) (k : ℕ) → event_in (e ∷ []) k ≡ Some f → (k ≡ 0) × (f ≡ e)
 only_one e f zero on = (refl, let s : f ≡ e = cc in s)
 only_one e f (suc k) on = let bad : ⊥ = cc in absurd bad
 
@@ -119,7 +119,7 @@ if_true t x y on = rw on refl
 pub if_false : {A : Type 0} (t : Bool) (x y : A) → t ≡ false → (if t then x else y) ≡ y
 if_false t x y off = rw off refl
 
-eqb_back : (x y : ℕ) → (x == y) ≡ (y == x)
+pub eqb_back : (x y : ℕ) → (x == y) ≡ (y == x)
 eqb_back x y = elim (cases_Bool (x == y)) [
   | inl on ↦ on ∙ sym (eq-eqb y x (sym (eqb-true x y on)))
   | inr off ↦ off ∙ sym (ne_eqb y x (λ e. no (eq-eqb x y (sym e)) off))
@@ -130,7 +130,7 @@ pub record ActTold (b : Board) (moves : List Move) (c i : ℕ) (xs : List EventI
   pub count : length xs ≡ (rows_in b moves i).past c c
   pub phase : Phase b moves c xs (clocks_in b moves i (clocks_at b moves i c) c) (suc i)
 
-act_told : (b : Board) (moves : List Move) (c i : ℕ) → i < length moves → EventsTold b moves c i → ActTold b moves c i (events_upto b moves c i ++ act_in moves c i)
+pub act_told : (b : Board) (moves : List Move) (c i : ℕ) → i < length moves → EventsTold b moves c i → ActTold b moves c i (events_upto b moves c i ++ act_in moves c i)
 act_told b moves c i inside w = elim (cases_Bool (actor b moves i == c)) [
   | inl y ↦
       let s : actor b moves i ≡ c = eqb-true (actor b moves i) c y in
@@ -187,7 +187,7 @@ go_told b moves c i xs w = elim (cases_Bool (goes_in b moves i c)) [
       )
 ]
 
-append_on : (xs ys zs : List EventId) → (xs ++ ys) ++ zs ≡ xs ++ (ys ++ zs)
+pub append_on : (xs ys zs : List EventId) → (xs ++ ys) ++ zs ≡ xs ++ (ys ++ zs)
 append_on [] ys zs = refl
 append_on (x ∷ xs) ys zs = ap (λ (ws : List EventId). x ∷ ws) (append_on xs ys zs)
 
@@ -222,10 +222,11 @@ path_later b moves (d ∷ es) e f on = let l = follows_later (course_of b moves)
 not_both : (b : Board) (moves : List Move) (e f : EventId) → IsBeforeIn (course_of b moves) e f → IsBeforeIn (course_of b moves) f e → ⊥
 not_both b moves e f one two = let l = path_later b moves one.0 e f one.1 in let r = path_later b moves two.0 f e two.1 in absurd (omega (arith, l, r))
 
--- two runs whose clocks by places are the same have the same order
+-- two runs whose clocks and kinds of events by places are the same have the same order
 pub record SameClocks (b : Board) (ms ns : List Move) : Type 0 where
   pub count : (c : ℕ) → (rows_at b ms (length ms)).past c c ≡ (rows_at b ns (length ns)).past c c
   pub log : (c n x : ℕ) → clocks_at b ms (length ms) c n x ≡ clocks_at b ns (length ns) c n x
+  pub kind : (c n : ℕ) (e same_e : EventId) → IsEventAt b ms c n e → IsEventAt b ns c n same_e → e.go ≡ same_e.go
 
 before_too : (b : Board) (ms ns : List Move) → SameClocks b ms ns → (c n d k : ℕ) (e f same_e same_f : EventId) → IsEventAt b ms c n e → IsEventAt b ms d k f → IsEventAt b ns c n same_e → IsEventAt b ns d k same_f → Before b ms e f → Before b ns same_e same_f
 before_too b ms ns same c n d k e f se sf at_e at_f at_se at_sf path =
@@ -245,13 +246,68 @@ before_too b ms ns same c n d k e f se sf at_e at_f at_se at_sf path =
     not_both b ms e f path' (before_from (course_of b ms) f e (md.there k f at_f) (mc.there n e at_e) back (λ o. apart (one_back (course_of b ms) f e o)))))
 
 pub clocks_back : (b : Board) (ms ns : List Move) → SameClocks b ms ns → SameClocks b ns ms
-clocks_back b ms ns same = record { count = λ c. sym (same.count c); log = λ c n x. sym (same.log c n x) }
+clocks_back b ms ns same = record { count = λ c. sym (same.count c); log = λ c n x. sym (same.log c n x); kind = λ c n e same_e at_e at_same. sym (same.kind c n same_e e at_same at_e) }
+
+event_back : (b : Board) (ms ns : List Move) (e same_e : EventId) → IsSameEvent b ms ns e same_e → IsSameEvent b ns ms same_e e
+event_back b ms ns e same_e one = record { channel = one.channel; place = one.place; in_one = one.in_other; in_other = one.in_one }
+
+-- whether two names are of one event can be told
+numbers_cases : (x y : ℕ) → (x ≡ y) ⊎ (x ≡ y → ⊥)
+numbers_cases x y = elim (cases_Bool (x == y)) [ inl on ↦ inl (eqb-true x y on) | inr off ↦ inr (λ e. no (eq-eqb x y e) off) ]
+
+kinds_cases : (s t : Bool) → (s ≡ t) ⊎ (s ≡ t → ⊥)
+kinds_cases true true = inl refl
+kinds_cases true false = inr (λ e. true≢false e)
+kinds_cases false true = inr (λ e. true≢false (sym e))
+kinds_cases false false = inl refl
+
+joined_cases : (run : Course) (a d : EventId) (go : Bool) → AreJoinedIn run a d go ⊎ (AreJoinedIn run a d go → ⊥)
+joined_cases run a d true = numbers_cases (run.group a.step a.channel) (run.group d.step d.channel)
+joined_cases run a d false = numbers_cases a.channel d.channel
+
+one_cases : (run : Course) (a d : EventId) → IsEventIn run a → IsEventIn run d → AreOneIn run a d ⊎ (AreOneIn run a d → ⊥)
+one_cases run a d at_a at_d = elim (numbers_cases a.step d.step) [
+  | inr off ↦ inr (λ one. off one.step)
+  | inl step ↦ elim (kinds_cases a.go d.go) [
+    | inr off ↦ inr (λ one. off one.go)
+    | inl go ↦ elim (joined_cases run a d a.go) [
+      | inr off ↦ inr (λ one. off one.joined)
+      | inl joined ↦ inl (record { first = at_a; second = at_d; step = step; go = go; joined = joined })
+    ]
+  ]
+]
+
+-- two names are of one event where each clock counts the other
+one_too : (b : Board) (ms ns : List Move) → SameClocks b ms ns → (e f same_e same_f : EventId) → IsSameEvent b ms ns e same_e → IsSameEvent b ms ns f same_f → AreOne b ms e f → AreOne b ns same_e same_f
+one_too b ms ns same e f se sf at_e at_f one =
+    let run = course_of b ns in
+    let mc = (events_told b ms at_e.channel (length ms) (omega arith)).phase in
+    let md = (events_told b ms at_f.channel (length ms) (omega arith)).phase in
+    let nc = (events_told b ns at_e.channel (length ns) (omega arith)).phase in
+    let nd = (events_told b ns at_f.channel (length ns) (omega arith)).phase in
+    let counts : (x : ℕ) → row run se x ≡ row run sf x =
+    λ x. sym (nc.clock at_e.place se x at_e.in_other) ∙ sym (same.log at_e.channel (suc at_e.place) x) ∙ mc.clock at_e.place e x at_e.in_one
+    ∙ one_row (course_of b ms) e f (one_in b ms e f one) x
+    ∙ sym (md.clock at_f.place f x at_f.in_one) ∙ same.log at_f.channel (suc at_f.place) x ∙ nd.clock at_f.place sf x at_f.in_other in
+    let there_e = nc.there at_e.place se at_e.in_other in
+    let there_f = nd.there at_f.place sf at_f.in_other in
+    let up : row run se se.channel ≤ row run sf se.channel = let s = counts se.channel in omega (arith, s) in
+    let back : row run sf sf.channel ≤ row run se sf.channel = let s = counts sf.channel in omega (arith, s) in
+    elim (one_cases run se sf there_e there_f) [
+      | inl are ↦ one_from b ns se sf (nc.early at_e.place se at_e.in_other) are
+      | inr apart ↦ absurd (not_both b ns se sf (before_from run se sf there_e there_f up apart) (before_from run sf se there_f there_e back (λ o. apart (one_back run sf se o))))
+    ]
 
 pub same_order : (b : Board) (ms ns : List Move) → SameClocks b ms ns → HaveSameOrder b ms ns
 same_order b ms ns same = record {
   events = λ c. (events_told b ms c (length ms) (omega arith)).count ∙ same.count c ∙ sym (events_told b ns c (length ns) (omega arith)).count;
-  before = λ c n d k e f se sf at_e at_f at_se at_sf. (
-    before_too b ms ns same c n d k e f se sf at_e at_f at_se at_sf,
-    before_too b ns ms (clocks_back b ms ns same) c n d k se sf e f at_se at_sf at_e at_f,
+  kind = λ e se at_e. same.kind at_e.channel at_e.place e se at_e.in_one at_e.in_other;
+  one = λ e f se sf at_e at_f. (
+    one_too b ms ns same e f se sf at_e at_f,
+    one_too b ns ms (clocks_back b ms ns same) se sf e f (event_back b ms ns e se at_e) (event_back b ms ns f sf at_f),
+  );
+  before = λ e f se sf at_e at_f. (
+    before_too b ms ns same at_e.channel at_e.place at_f.channel at_f.place e f se sf at_e.in_one at_f.in_one at_e.in_other at_f.in_other,
+    before_too b ns ms (clocks_back b ms ns same) at_e.channel at_e.place at_f.channel at_f.place se sf e f at_e.in_other at_f.in_other at_e.in_one at_f.in_one,
   );
 }

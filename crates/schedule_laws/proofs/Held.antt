@@ -8,7 +8,8 @@ use Rattle.sync_types.specs.GoingOn.{Going, goings_on, after_goings}
 use Rattle.sync_types.specs.BoardActions.{after_own_part}
 use Rattle.sync_types.specs.declared.Step.{Step}
 use Rattle.sync_types.specs.Turns.{Move, AreOfRunning}
-use Rattle.order_clocks.specs.Happenings.{Happening, Raised, Freed, Ended, Trace, Lowered, Needed, Took, Touched, board_at, happening_at, gives, going_of, of_going, act_leaves, going_leaves}
+use Rattle.order_clocks.specs.Happenings.{Happening, Raised, Freed, Ended, board_at, happening_at, gives, going_of, of_going}
+use Rattle.order_clocks.specs.TracedRaces.{Trace, Lowered, Needed, Took, Touched, act_leaves, going_leaves}
 use Rattle.order_clocks.specs.CourseOf.{course_of}
 use Rattle.order_clocks.proofs.CounterLaws.{opened_actor, opened_other, opened_given, opened_kept, closed_other, closed_last}
 use Rattle.order_clocks.proofs.WholeLaws.{board_zero}

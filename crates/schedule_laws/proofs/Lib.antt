@@ -13,6 +13,7 @@ pub mod NextState
 pub mod CleanRaces
 pub mod Prefix
 pub mod EventLaws
+pub mod EventKinds
 pub mod Stepwise
 pub mod SwapBoards
 pub mod RunLaws

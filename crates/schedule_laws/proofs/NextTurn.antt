@@ -11,7 +11,8 @@ use Rattle.sync_types.specs.Turns.{Move}
 use Rattle.sync_types.specs.declared.Grant.{Grant}
 use Rattle.sync_types.specs.declared.Step.{Step}
 use Rattle.order_clocks.specs.CourseOf.{course_of}
-use Rattle.order_clocks.specs.Happenings.{Happening, Trace, Lowered, Needed, Took, Touched, board_at, happening_of, happening_at, act_leaves}
+use Rattle.order_clocks.specs.Happenings.{Happening, board_at, happening_of, happening_at}
+use Rattle.order_clocks.specs.TracedRaces.{Trace, Lowered, Needed, Took, Touched, act_leaves}
 use Rattle.order_clocks.proofs.CounterLaws.{closed_goer, closed_other}
 use Rattle.board_laws.specs.Machine.{Need, Mark, Axis, Call, Seat, In, Called, Own, Cell, State, Effect, Clock, Span, Tenure, Place, asks, is_at, is_free, mine, ready, axes_taken, takes, taker, grant_at_go, own_after_go, with_value_at, span_of, tenures_handed_on, span_now, next_event, cell_after_taking, settle_own, settle_axis, settle, own_after_call, cell_after_release, with_effect, put_own, put_axis, put_on, doing_of, board_of, touches, act_clock, own_after_act, effect, turn_by, go_clock}
 use Rattle.board_laws.specs.Machine as machine

@@ -10,8 +10,9 @@ use Rattle.order_clocks.specs.Before.{Before, moment}
 use Rattle.order_clocks.specs.Counters.{row}
 use Rattle.order_clocks.specs.CourseOf.{course_of}
 use Rattle.order_clocks.specs.Courses.{IsEventIn}
-use Rattle.order_clocks.specs.Happenings.{Trace, happening_at, going_of, of_going, act_leaves, going_leaves}
-use Rattle.order_clocks.specs.Races.{IsRace, Apart, AreApart, leaves_at, minds_at, place_of, shown}
+use Rattle.order_clocks.specs.Happenings.{happening_at, going_of, of_going}
+use Rattle.order_clocks.specs.Races.{place_of}
+use Rattle.order_clocks.specs.TracedRaces.{IsTracedRace, Trace, act_leaves, going_leaves, Apart, AreApart, leaves_at, minds_at, shown}
 use Rattle.order_clocks.proofs.CounterLaws.{known_at, opened_actor, closed_goer, before_from, before_to}
 use Rattle.order_clocks.proofs.OrderLaws.{event_in, event_from, order_in, order_from}
 use Rattle.board_laws.proofs.Basics.{no}
@@ -146,9 +147,9 @@ before_if b moves early late inside there here less counts =
 pub before_only : (b : Board) (moves : List Move) (early late : EventId) (x : ℕ) → Before b moves early late → row (course_of b moves) early x ≤ row (course_of b moves) late x
 before_only b moves early late x path = (before_to (course_of b moves) early late x (order_in b moves early late path)).0
 
--- the step of this place has no race
+-- the step of this place has no race, by its traces
 abbrev pub NoRace : Board → List Move → ℕ → Type 0
-NoRace b moves i = (race : Race) → IsRace b moves i race → ⊥
+NoRace b moves i = (race : Race) → IsTracedRace b moves i race → ⊥
 
 -- so what an event of it minds was left before it
 pub no_race_counts : (b : Board) (moves : List Move) (i c d : ℕ) (go : Bool) (t : Trace) → NoRace b moves i → i < length moves → IsEventIn (course_of b moves) (event i c go) → (d == c) ≡ false

@@ -11,7 +11,8 @@ use Rattle.order_clocks.specs.Counters.{LastRows, rows_after_act, rows_after_goi
 use Rattle.order_clocks.specs.CourseOf.{course_of}
 use Rattle.order_clocks.specs.Courses.{Course}
 use Rattle.order_clocks.specs.Groups.{labels}
-use Rattle.order_clocks.specs.Happenings.{Happening, Trace, Lowered, Needed, Took, Touched, Raised, Freed, board_at, happening_at, gives, going_of, of_going, rests_on, act_leaves, going_leaves}
+use Rattle.order_clocks.specs.Happenings.{Happening, Raised, Freed, board_at, happening_at, gives, going_of, of_going, rests_on}
+use Rattle.order_clocks.specs.TracedRaces.{Trace, Lowered, Needed, Took, Touched, act_leaves, going_leaves}
 use Rattle.board_laws.specs.Machine.{In, Own, Cell, State, Clock, Span, Tenure, with_value_at, span_of, tenures_handed_on}
 use Rattle.schedule_laws.specs.Tracked.{rows_at, rows_in, part_at, last_place, grants_at, clocks_at, spans_at, takes_in, tenures_in, taken_by, tenures_at, own_at, cell_at, tracked}
 

@@ -7,9 +7,10 @@ use Rattle.sync_types.specs.Boards as boards
 use Rattle.sync_types.specs.GoingOn.{Going}
 use Rattle.sync_types.specs.Turns.{Move}
 use Rattle.sync_types.specs.declared.Step.{Step}
-use Rattle.order_clocks.specs.Happenings.{Happening, Trace, Lowered, Needed, Took, Touched, board_at, happening_of, happening_at, act_leaves, act_minds, line_in}
+use Rattle.order_clocks.specs.Happenings.{Happening, board_at, happening_of, happening_at, line_in}
 use Rattle.order_clocks.specs.RaceOrder.{letter_c, letter_d, letter_f}
-use Rattle.order_clocks.specs.Races.{StillWaits, Differ, StillAsks, place_of}
+use Rattle.order_clocks.specs.Races.{place_of}
+use Rattle.order_clocks.specs.TracedRaces.{Trace, Lowered, Needed, Took, Touched, act_leaves, act_minds, StillWaits, Differ, StillAsks}
 use Rattle.order_clocks.proofs.OrderLaws.{event_from}
 use Rattle.board_laws.specs.Machine.{Mark, Axis, Seat, In, Own, State, Effect, asks, is_at, mine, ready, doing_of, board_of, touches, effect, own_after_act}
 use Rattle.board_laws.specs.Clean.{SameSet, ActClean, IsClean, Inv}

@@ -1,5 +1,5 @@
 -- A step of a run is clean where it has no race, and leads where the machine's turn leads.
-use Rattle.std.proofs.Common.{◌≡◌, ℕ, suc, ◌+◌, ◌<◌, ◌==◌, ◌||◌, true, false, List, [], ◌∷◌, ◌++◌, length, length-append, Some, refl, sym, ap, ap₂, subst, ◌∙◌, arith}
+use Rattle.std.proofs.Common.{◌≡◌, ℕ, suc, ◌+◌, ◌<◌, ◌==◌, ◌||◌, not, true, false, List, [], ◌∷◌, ◌++◌, length, length-append, Some, refl, sym, ap, ap₂, subst, ◌∙◌, arith}
 use Rattle.std.proofs.lemmas.Bool.{true≢false}
 use Rattle.sync_types.specs.Boards.{State as Doing, IsRunning, Board, is_running, is_idle, first_board, first_state}
 use Rattle.sync_types.specs.Starts.{IsSound, runs_at_first}
@@ -8,6 +8,7 @@ use Rattle.sync_types.specs.Views.{StartView}
 use Rattle.sync_types.specs.declared.Step.{Step}
 use Rattle.sync_types.proofs.BoardTests.{by_test}
 use Rattle.order_clocks.specs.Happenings.{board_at}
+use Rattle.order_clocks.proofs.RaceCases.{races_agree}
 use Rattle.order_clocks.proofs.WholeLaws.{board_zero}
 use Rattle.board_laws.specs.Machine.{Seat, In, Own, State, ready, doing_of, with_effect, effect, touches, turn_by, runs_at}
 use Rattle.board_laws.specs.Machine as machine
@@ -28,6 +29,8 @@ use Rattle.schedule_laws.proofs.NextOwn.{running_kept}
 use Rattle.schedule_laws.proofs.NextState.{tracked_next}
 use Rattle.schedule_laws.proofs.CleanRaces.{clean_quiet}
 use Rattle.schedule_laws.proofs.EventLaws.{SameClocks, same_order}
+use Rattle.schedule_laws.proofs.EventKinds.{kinds_told}
+use Rattle.schedule_laws.proofs.NextTurn.{spans_own}
 use Rattle.schedule_laws.proofs.Prefix.{tracked_kept}
 
 -- where runs start
@@ -71,7 +74,7 @@ quiet_step b moves i p s fresh run inside at none =
     let h = held_at b moves i fresh run (omega (arith, inside)) in
     let held = held_in b moves i w h in
     let inv = put_inv (tracked b moves i) w.p (touches w.step.action) (effect (tracked b moves i) w.p w.step) (inv_at b moves i h) (act_is (tracked b moves i) w.p w.step) in
-    let clean = quiet_clean b moves i (record { here = w; held = held; inv = inv; inside = inside; none = none }) in
+    let clean = quiet_clean b moves i (record { here = w; held = held; inv = inv; inside = inside; none = λ race is. none race ((races_agree b moves i race).1 is) }) in
     in_here b moves i p s w (here_is b moves i p s w at) clean none (tracked_next b moves i (record { here = w; held = held; inv = inv; clean = clean.going }))
 
 pub clean_step : (b : Board) (moves : List Move) (i p : ℕ) (s : Step) → Fresh b → AreOfRunning b moves → i < length moves → move_at moves i ≡ Some (move_made p s) → IsClean (tracked b moves i) p s → Stepped b moves i p s
@@ -82,7 +85,7 @@ clean_step b moves i p s fresh run inside at clean =
     let held = held_in b moves i w h in
     let inv = put_inv (tracked b moves i) w.p (touches w.step.action) (effect (tracked b moves i) w.p w.step) (inv_at b moves i h) (act_is (tracked b moves i) w.p w.step) in
     let clean' : IsClean (tracked b moves i) w.p w.step = subst (λ (x : Step). IsClean (tracked b moves i) w.p x) (sym e.1) (subst (λ (x : ℕ). IsClean (tracked b moves i) x s) (sym e.0) clean) in
-    let none = clean_quiet b moves i (record { here = w; held = held; inv = inv; inside = inside; clean = clean' }) in
+    let none : HasNoRaceAt b moves i = λ race is. clean_quiet b moves i (record { here = w; held = held; inv = inv; inside = inside; clean = clean' }) race ((races_agree b moves i race).0 is) in
     in_here b moves i p s w e clean' none (tracked_next b moves i (record { here = w; held = held; inv = inv; clean = clean'.going }))
 
 -- steps and more steps
@@ -150,6 +153,10 @@ same_end b ms ns fresh run run' e = (
   record {
     count = λ c. sym (count_own b ms (length ms) c) ∙ ap (λ (t : State). (t.own c).count) e ∙ count_own b ns (length ns) c;
     log = λ c n x. sym (ap (λ (f : ℕ → machine.Clock). f n x) (log_own b ms (length ms) c)) ∙ ap (λ (t : State). (t.own c).log n x) e ∙ ap (λ (f : ℕ → machine.Clock). f n x) (log_own b ns (length ns) c);
+    kind = λ c n d same_d at_d at_same.
+        (kinds_told b ms c (length ms) fresh run (omega arith)).kind n d at_d
+        ∙ ap (λ (f : ℕ → machine.Span). not (is_running (f n).state)) (sym (spans_own b ms (length ms) c) ∙ ap (λ (t : State). (t.own c).spans) e ∙ spans_own b ns (length ns) c)
+        ∙ sym ((kinds_told b ns c (length ns) fresh run' (omega arith)).kind n same_d at_same);
   },
 )
 

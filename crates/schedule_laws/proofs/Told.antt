@@ -10,7 +10,8 @@ use Rattle.sync_types.specs.declared.Action.TheVariants.{Init, Start}
 use Rattle.order_clocks.specs.Counters.{row}
 use Rattle.order_clocks.specs.CourseOf.{course_of}
 use Rattle.order_clocks.specs.Courses.{IsEventIn}
-use Rattle.order_clocks.specs.Happenings.{Lowered, Needed, happening_at, channels_touched, hold_in, waits_for, asks_for, going_of, of_going, going_leaves, going_minds}
+use Rattle.order_clocks.specs.Happenings.{happening_at, channels_touched, hold_in, waits_for, asks_for, going_of, of_going}
+use Rattle.order_clocks.specs.TracedRaces.{Lowered, Needed, going_leaves, going_minds}
 use Rattle.board_laws.specs.Machine.{Need, Mark, End, Axis, Call, Seat, In, Called, Own, Cell, State, Effect, Clock, same, asks, is_at, mine, ready, doing_of, board_of, with_effect, put_own, touches, act_clock, own_after_act, effect, go_clock}
 use Rattle.board_laws.specs.Machine as machine
 use Rattle.board_laws.specs.Clean.{Inv}

@@ -1,5 +1,5 @@
 -- Meaning. What a contract sees of two boards that have made two steps in either order.
-use Rattle.std.specs.Prelude.{◌≡◌, ℕ, suc}
+use Rattle.std.specs.Prelude.{◌≡◌, ℕ, suc, ◌≤◌}
 use Rattle.coord_core.specs.Boards.{BoardView, replayed, HaveSameEntries}
 use Rattle.order_clocks.specs.Clocked.{moves_in}
 use Rattle.schedule_laws.specs.EventPlaces.{HaveSameOrder}
@@ -21,7 +21,8 @@ pub record TellTheSame (one other : BoardView) (place : ℕ) : Type 0 where
 abbrev pub TellTheSameWithoutRaces : BoardView → BoardView → ℕ → Type 0
 TellTheSameWithoutRaces one other place = ShowsNoRace one place → TellTheSame one other place
 
--- both are as they were
+-- both have the entries that they had; the one has no less room, and the other is as it was
 pub record BothStay (one one_old other other_old : BoardView) : Type 0 where
   pub first : HaveSameEntries one one_old
-  pub second : HaveSameEntries other other_old
+  pub room : one_old.spare ≤ one.spare
+  pub second : other ≡ other_old

@@ -2,7 +2,7 @@
 use Rattle.std.specs.Prelude.{◌≡◌, ◌↔◌, ℕ, zero, suc, List, [], ◌∷◌, ◌++◌, length, Option, Some, None, true, false, if◌then◌else◌}
 use Rattle.order_clocks.specs.Before.{Before}
 use Rattle.sync_types.specs.Boards.{Board, among, is_this}
-use Rattle.sync_types.specs.Events.{actor_at, goings_at, channels_in}
+use Rattle.sync_types.specs.Events.{AreOne, actor_at, goings_at, channels_in}
 use Rattle.sync_types.specs.Turns.{Move}
 use Rattle.sync_types.specs.declared.runs.EventId.{EventId}
 
@@ -30,8 +30,19 @@ event_in (e ∷ es) (suc n) = event_in es n
 abbrev pub IsEventAt : Board → List Move → ℕ → ℕ → EventId → Type 0
 IsEventAt b moves c n e = event_in (events_of b moves c) n ≡ Some e
 
--- In two runs an event is the same where its channel and its place among that channel's events are the same. Each channel has as
--- many events in the one as in the other, and the same events are before the same.
+-- in two runs an event is the same where its channel and its place among that channel's events are the same
+pub record IsSameEvent (b : Board) (ms ns : List Move) (e same_e : EventId) : Type 0 where
+  pub channel : ℕ
+  pub place : ℕ
+  pub in_one : IsEventAt b ms channel place e
+  pub in_other : IsEventAt b ns channel place same_e
+
+-- Each channel has as many events in the one run as in the other. The same events are both acts or both goings on, two of them are one in
+-- the one run where they are one in the other, and the same are before the same.
 pub record HaveSameOrder (b : Board) (ms ns : List Move) : Type 0 where
   pub events : (c : ℕ) → length (events_of b ms c) ≡ length (events_of b ns c)
-  pub before : (c n d k : ℕ) (e f same_e same_f : EventId) → IsEventAt b ms c n e → IsEventAt b ms d k f → IsEventAt b ns c n same_e → IsEventAt b ns d k same_f → Before b ms e f ↔ Before b ns same_e same_f
+  pub kind : (e same_e : EventId) → IsSameEvent b ms ns e same_e → e.go ≡ same_e.go
+  pub one : (e f same_e same_f : EventId) → IsSameEvent b ms ns e same_e → IsSameEvent b ms ns f same_f
+      → AreOne b ms e f ↔ AreOne b ns same_e same_f
+  pub before : (e f same_e same_f : EventId) → IsSameEvent b ms ns e same_e → IsSameEvent b ms ns f same_f
+      → Before b ms e f ↔ Before b ns same_e same_f

@@ -3,7 +3,8 @@ use Rattle.std.specs.Prelude.{ℕ, zero, suc, ◌==◌, ◌&&◌, Bool, List, []
 use Rattle.board_laws.specs.Machine.{In, Own, Cell, State, Clock, Span, Tenure, with_value_at, span_of, tenures_handed_on}
 use Rattle.order_clocks.specs.Counters.{LastRows, last_rows, rows_after_act}
 use Rattle.order_clocks.specs.CourseOf.{course_of}
-use Rattle.order_clocks.specs.Happenings.{Trace, Lowered, Needed, Took, Touched, Raised, Freed, board_at, happening_at, going_of, of_going, act_leaves, going_leaves}
+use Rattle.order_clocks.specs.Happenings.{Raised, Freed, board_at, happening_at, going_of, of_going}
+use Rattle.order_clocks.specs.TracedRaces.{Trace, Lowered, Needed, Took, Touched, act_leaves, going_leaves}
 use Rattle.sync_types.specs.BoardActions.{after_own_part}
 use Rattle.sync_types.specs.Boards.{Board, among, channel_numbers, grant_in, owner_of}
 use Rattle.sync_types.specs.Events.{channels_in}

@@ -36,7 +36,8 @@ fn act_twice(
 
 /// Makes the steps of two channels that run on two boards that are the same: on the left first that of `p`, on the
 /// right first that of `q`. Where the left shows no race in them, both boards are the same again, with the same
-/// events in the same order, and the right shows none either. Where no memory is found both are as before.
+/// events in the same order, and the right shows none either. Where no memory is found both have the entries that
+/// they had, the left has no less room, and the right is as before.
 pub fn swap_steps(
     left: &mut Board,
     right: &mut Board,

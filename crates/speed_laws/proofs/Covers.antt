@@ -13,6 +13,7 @@ use Rattle.path_geometry.specs.Path.{Point, IsOnPath}
 use Rattle.path_geometry.specs.declared.motion.Motion.{Motion}
 use Rattle.path_geometry.specs.declared.motion.Motion.TheVariants.{Line, Rapid}
 use Rattle.path_geometry.specs.declared.motion.Motion.TheVariants as Kind
+use Rattle.protection_zones.proofs.ShareLaws.{from_of, is_motion, is_open, next_from, next_is_open}
 use Rattle.protection_zones.specs.ZoneBoxes.{stand_after, moves_zone, sight_of, seen, PlaceBox, Opened, Shut, Waiting, Moving, closed, closed_before, next_open, walk, boxes_of}
 use Rattle.protection_zones.specs.declared.sights.Sight.{Sight}
 use Rattle.protection_zones.specs.declared.sights.Sight.TheVariants.{Nothing, Turns, Moves}
@@ -59,10 +60,6 @@ along_at_end at item under joins some = record {
         (λ e joined. ap (λ x. x *ℤ pos under) (sym joined.1)) (axes_of (movement_of item)) joins.1
 
 -- ---- what an item is to a zone
-
-is_motion : Sight → Bool
-is_motion Moves = true
-is_motion other = false
 
 -- a motion with an axis of the zone is seen as one, and nothing else is
 seen_moves : (zone : ZoneLine) (item : Item) → moves_zone zone item ≡ is_motion (seen zone item)
@@ -147,11 +144,6 @@ pub record Covers (zone : ZoneLine) (all : List Item) (place : ℕ) (point : Poi
 
 module _ (zone : ZoneLine) (all : List Item) where
   -- the same of what is open
-  abbrev from_of : Opened → ℕ
-  from_of Shut = 0
-  from_of (Waiting from line began) = from
-  from_of (Moving from place item began) = from
-
   abbrev OpenCovers : Opened → Point → Type 0
   OpenCovers Shut point = ⊥
   OpenCovers (Waiting from line began) point = IsCovered zone began None point
@@ -162,11 +154,6 @@ module _ (zone : ZoneLine) (all : List Item) where
   Fits Shut at = ⊤
   Fits (Waiting from line began) at = (axis : ℕ) → has_axis zone axis ≡ true → at axis ≡ began axis
   Fits (Moving from place item began) at = IsNamed all (Some (place, item)) × Joins began item × ((axis : ℕ) → has_axis zone axis ≡ true → at axis ≡ stand_after item began axis)
-
-  -- a box is open where the zone is on
-  abbrev is_open : Opened → Bool
-  is_open Shut = false
-  is_open other = true
 
   closes : (k : ℕ) (point : Point) (place : ℕ) (o : Opened) (at : ℕ → ℤ) → from_of o ≤ k → k ≤ place → Fits o at → OpenCovers o point
       → SomeOf (Covers zone all k point) (closed place o)
@@ -224,34 +211,6 @@ module _ (zone : ZoneLine) (all : List Item) where
   next_fits place at item (Moving from of before began) (Turns true) is there joins fits = fits_on (Moving from of before began) at item (still_of zone item (Turns true) is refl) fits
   next_fits place at item (Moving from of before began) (Turns false) is there joins fits = tt
   next_fits place at item (Moving from of before began) Moves is there joins fits = (is_named place item there is, joins, λ axis has. refl)
-
-  next_from : (place : ℕ) (at : ℕ → ℤ) (item : Item) (o : Opened) (s : Sight) → from_of o ≤ place → from_of (next_open (suc place) at item o s) ≤ suc place
-  next_from place at item Shut Nothing low = omega arith
-  next_from place at item Shut (Turns true) low = omega arith
-  next_from place at item Shut (Turns false) low = omega arith
-  next_from place at item Shut Moves low = omega arith
-  next_from place at item (Waiting from line began) Nothing low = omega arith
-  next_from place at item (Waiting from line began) (Turns true) low = omega arith
-  next_from place at item (Waiting from line began) (Turns false) low = omega arith
-  next_from place at item (Waiting from line began) Moves low = omega arith
-  next_from place at item (Moving from of before began) Nothing low = omega arith
-  next_from place at item (Moving from of before began) (Turns true) low = omega arith
-  next_from place at item (Moving from of before began) (Turns false) low = omega arith
-  next_from place at item (Moving from of before began) Moves low = omega arith
-
-  next_is_open : (place : ℕ) (at : ℕ → ℤ) (item : Item) (o : Opened) (s : Sight) → is_open (next_open (suc place) at item o s) ≡ turned (is_open o) s
-  next_is_open place at item Shut Nothing = refl
-  next_is_open place at item Shut (Turns true) = refl
-  next_is_open place at item Shut (Turns false) = refl
-  next_is_open place at item Shut Moves = refl
-  next_is_open place at item (Waiting from line began) Nothing = refl
-  next_is_open place at item (Waiting from line began) (Turns true) = refl
-  next_is_open place at item (Waiting from line began) (Turns false) = refl
-  next_is_open place at item (Waiting from line began) Moves = refl
-  next_is_open place at item (Moving from of before began) Nothing = refl
-  next_is_open place at item (Moving from of before began) (Turns true) = refl
-  next_is_open place at item (Moving from of before began) (Turns false) = refl
-  next_is_open place at item (Moving from of before began) Moves = refl
 
   -- ---- the walk
 

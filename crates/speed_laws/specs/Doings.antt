@@ -1,13 +1,10 @@
 -- Meaning. What the channels of a job do, as laws see it: for each channel, after the grants that it has got, the items that it
 -- makes, one after another, and the step that ends them.
-use Rattle.std.specs.Prelude.{ℕ, ℤ, Bool, List, [], ◌∷◌, ◌++◌, unwrap_or}
+use Rattle.std.specs.Prelude.{ℕ, ℤ, List, [], ◌∷◌, ◌++◌, unwrap_or}
 use Rattle.axis_sets.specs.Positions.{position_of}
 use Rattle.job_types.specs.Axes.{start_position}
 use Rattle.job_types.specs.Job.{JobView}
-use Rattle.job_types.specs.declared.job.ZoneLine.{ZoneLine}
-use Rattle.protection_zones.specs.ZoneBoxes.{seen}
-use Rattle.protection_zones.specs.declared.sights.Sight.{Sight}
-use Rattle.protection_zones.specs.declared.sights.Sight.TheVariants.{Turns}
+pub use Rattle.protection_zones.specs.ZoneBoxes.{on_after, turned}
 use Rattle.sync_types.specs.Items.{left_at}
 use Rattle.sync_types.specs.Runs.{Script}
 use Rattle.sync_types.specs.declared.Grant.{Grant}
@@ -33,15 +30,3 @@ stands_before job doings channel grants = stands_with (doings.items channel) [] 
 -- and after them
 unfoldable pub stands_after : JobView → Doings → ℕ → List Grant → ℕ → ℤ
 stands_after job doings channel grants = left_at (doings.items channel grants) (stands_before job doings channel grants)
-
--- ---- whether zones are on
-
--- an item switches the zone, or leaves it as it is
-abbrev pub turned : Bool → Sight → Bool
-turned on (Turns new) = new
-turned on other = on
-
--- so it is after these items
-abbrev pub on_after : ZoneLine → Bool → List Item → Bool
-on_after zone on [] = on
-on_after zone on (item ∷ items) = on_after zone (turned on (seen zone item)) items

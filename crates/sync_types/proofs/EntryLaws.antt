@@ -1,5 +1,5 @@
 -- What entries keep, and one entry more.
-use Rattle.std.proofs.Common.{inl, inr, ◌≡◌, ℕ, Bool, true, false, List, [], ◌∷◌, ◌++◌, refl, sym, ap, ◌∙◌}
+use Rattle.std.proofs.Common.{inl, inr, ◌≡◌, ℕ, true, List, [], ◌∷◌, ◌++◌, refl, ap}
 use Rattle.std.proofs.lemmas.Bool.{cases_Bool}
 use Rattle.sync_types.proofs.BoardTests.{no_truth}
 use Rattle.sync_types.proofs.Together.{Keeps, keeps_first, keeps_step}

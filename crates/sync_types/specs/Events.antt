@@ -21,12 +21,11 @@ abbrev pub channels_in : List Going → List ℕ
 channels_in goings = map (λ g. g.channel) goings
 
 -- each step has one act; each going on is an event
-abbrev pub IsThere : Board → List Move → EventId → Bool → Type 0
-IsThere b moves e true = among (channels_in (goings_at b moves e.step)) e.channel ≡ true
-IsThere b moves e false = actor_at moves e.step ≡ Some e.channel
-
 abbrev pub IsEvent : Board → List Move → EventId → Type 0
-IsEvent b moves e = IsThere b moves e e.go
+IsEvent b moves e = elim e.go [
+  | true ↦ among (channels_in (goings_at b moves e.step)) e.channel ≡ true
+  | false ↦ actor_at moves e.step ≡ Some e.channel
+]
 
 -- the number of the marks for which a channel waited, and whether it waited for that of a channel
 abbrev pub number_of : State → Option ℕ
@@ -74,9 +73,12 @@ IsChain ps c (e ∷ es) d = ArePaired ps c e × IsChain ps e es d
 abbrev pub AreLinked : List Pair → ℕ → ℕ → Type 0
 AreLinked ps c d = (c ≡ d) ⊎ ((between : List ℕ) × IsChain ps c between d)
 
-abbrev pub AreJoined : Board → List Move → EventId → EventId → Bool → Type 0
-AreJoined b moves e f true = AreLinked (pairs_of (goings_at b moves e.step)) e.channel f.channel
-AreJoined b moves e f false = e.channel ≡ f.channel
+-- acts of one channel, or goings on of two that are linked
+abbrev pub AreAsOne : Board → List Move → EventId → EventId → Type 0
+AreAsOne b moves e f = elim e.go [
+  | true ↦ AreLinked (pairs_of (goings_at b moves e.step)) e.channel f.channel
+  | false ↦ e.channel ≡ f.channel
+]
 
 -- two names of one event
 pub record AreOne (b : Board) (moves : List Move) (e f : EventId) : Type 0 where
@@ -84,9 +86,18 @@ pub record AreOne (b : Board) (moves : List Move) (e f : EventId) : Type 0 where
   pub second : IsEvent b moves f
   pub step : e.step ≡ f.step
   pub go : e.go ≡ f.go
-  pub joined : AreJoined b moves e f e.go
+  pub joined : AreAsOne b moves e f
 
 -- an event by its lowest channel
 pub record IsLowestName (b : Board) (moves : List Move) (e : EventId) : Type 0 where
   pub event : IsEvent b moves e
   pub lowest : (f : EventId) → AreOne b moves e f → e.channel ≤ f.channel
+
+-- The two cases by the kind of the event: only to prove.
+abbrev pub IsThere : Board → List Move → EventId → Bool → Type 0
+IsThere b moves e true = among (channels_in (goings_at b moves e.step)) e.channel ≡ true
+IsThere b moves e false = actor_at moves e.step ≡ Some e.channel
+
+abbrev pub AreJoined : Board → List Move → EventId → EventId → Bool → Type 0
+AreJoined b moves e f true = AreLinked (pairs_of (goings_at b moves e.step)) e.channel f.channel
+AreJoined b moves e f false = e.channel ≡ f.channel

@@ -93,19 +93,15 @@ pub record Takings : Type 0 where
   pub goings : List Going
   pub board : Board
 
-abbrev pub takings_from : (Board → Takings) → Board → Option ℕ → Takings
-takings_from rest b None = record { goings = []; board = b }
-takings_from rest b (Some c) = record {
-  goings = going_of_taker b c ∷ (rest (after_taking b c)).goings;
-  board = (rest (after_taking b c)).board;
-}
-
--- again until none can, at most so often
+-- The lowest that can takes its axes, and then again, until none can, at most so often.
 abbrev pub takings : ℕ → Board → Takings
 takings zero b = record { goings = []; board = b }
-takings (suc n) b = takings_from (takings n) b (next_taker b)
+takings (suc n) b = elim (next_taker b) [
+  | None ↦ record { goings = []; board = b }
+  | Some c ↦ let rest = takings n (after_taking b c) in record { goings = going_of_taker b c ∷ rest.goings; board = rest.board }
+]
 
--- each taking ends a wait of a channel, so eight are enough
+-- Each taking ends a wait of a channel, so eight are enough: the law after_a_step_nobody_can_go shows that none can after them.
 abbrev pub all_takings : Board → Takings
 all_takings b = takings 8 b
 
@@ -123,3 +119,11 @@ goings_on b starts = map (going_of_start b) starts ++ (map (going_at_once b) (go
 -- the board after all of them
 abbrev pub after_goings : Board → Board
 after_goings b = (all_takings (after_goes b)).board
+
+-- Takings by who takes next, where the rest is a function: only to prove.
+abbrev pub takings_from : (Board → Takings) → Board → Option ℕ → Takings
+takings_from rest b None = record { goings = []; board = b }
+takings_from rest b (Some c) = record {
+  goings = going_of_taker b c ∷ (rest (after_taking b c)).goings;
+  board = (rest (after_taking b c)).board;
+}

@@ -2,6 +2,7 @@ use Rattle.std.proofs.Common.{true, not, List, is_some, sym, ap, ◌∙◌, refl
 use Rattle.coord_core.proofs.Outcomes.{at_closed, has_grant}
 use Rattle.coord_core.proofs.RunTurns.{is_turn_of_run}
 use Rattle.coord_core.proofs.turns.act_turn.Goals.{then-locked-via-then-locked, then-locked-via-else-locked+then-is_none}
+use Rattle.coord_core.specs.Boards.{BoardView}
 use Rattle.coord_core.specs.BoardTurns.{ToClosed, ToLook, ToAct, ToNoMemory}
 use Rattle.coord_core.specs.Histories.{History, history_of, board_of, answer_of}
 use Rattle.sync_types.specs.Views.{StartView, EntryView}
@@ -28,5 +29,5 @@ returns-in-Ok-clause-run c = is_turn_of_run c.args.locked.now.board.start c.args
 pub returns-in-Err-clause-turn : goal.returns-in-Err-clause-turn
 returns-in-Err-clause-turn c = ToNoMemory c.if-locked.false
     (has_grant ((board_of c.args.locked.now.board.start (history_of c.args.locked.now)).state c.args.channel) ∙ ap is_some (sym c.grant_of.ensures) ∙ c.is_none.ensures ∙ ap not c.if-is_none.false)
-    (c.close_turn.ensures.turn ∙ ap (λ (es : List EntryView). let h : History = record { entries = es; closed = true } in h) c.in-Err.ensures.err.entries)
+    (c.close_turn.ensures.turn ∙ ap (λ (v : BoardView). let h : History = record { entries = v.entries; closed = true } in h) c.in-Err.ensures.err)
     refl
