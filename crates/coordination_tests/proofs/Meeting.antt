@@ -6,7 +6,8 @@ use Rattle.coordination_tests.specs.MarkRows.{two_channels}
 use Rattle.coordination_tests.specs.Play.{at_line, channels, marks}
 use Rattle.order_clocks.specs.Chains.{IsIn}
 use Rattle.order_clocks.specs.Happenings.{board_at, happening_at}
-use Rattle.order_clocks.specs.Races.{Apart, StillWaits, Differ, StillAsks}
+use Rattle.order_clocks.specs.TracedRaces.{IsTracedRace, Apart, StillWaits, Differ, StillAsks}
+use Rattle.order_clocks.proofs.RaceCases.{races_agree}
 use Rattle.schedule_laws.specs.Schedules.{HasNoRace, IsMaximalOf, moves_by}
 use Rattle.schedule_laws.specs.Swaps.{HasNoRaceAt}
 use Rattle.coordination_tests.proofs.QuietSteps.{LeavesNothing, MindsNothing, NothingBefore, clash, first_apart, idle_at_first, lowers_none, nothing_so_far, nothing_minded, stays}
@@ -241,10 +242,13 @@ took_none g x (inl a) took = clash (among g.took x) took (ap (λ (xs : List ℕ)
 took_none g x (inr a) took = clash (among g.took x) took (ap (λ (xs : List ℕ). among xs x) a.took)
 
 quiet_3 : HasNoRaceAt board steps 3
-quiet_3 race (Apart early late trace s apart shown_as) = first_apart board steps 3 before_3 early late trace s apart
-quiet_3 race (StillWaits lowering d m line named s event leaves other after names shown_as) = clash true refl (ap is_waiting (sym after) ∙ nobody_waits d)
-quiet_3 race (Differ g h m line other_line x named other_named g_in h_in from_g from_h names differ shown_as) = no_differ g h m line other_line x named other_named (mates g g_in) (mates h h_in) from_g from_h names differ
-quiet_3 race (StillAsks g d x line axes g_in took other after names shown_as) = took_none g x (mates g g_in) took
+quiet_3 race is = by_trace ((races_agree board steps 3 race).0 is)
+  where
+    by_trace : IsTracedRace board steps 3 race → ⊥
+    by_trace (Apart early late trace s apart shown_as) = first_apart board steps 3 before_3 early late trace s apart
+    by_trace (StillWaits lowering d m line named s event leaves other after names shown_as) = clash true refl (ap is_waiting (sym after) ∙ nobody_waits d)
+    by_trace (Differ g h m line other_line x named other_named g_in h_in from_g from_h names differ shown_as) = no_differ g h m line other_line x named other_named (mates g g_in) (mates h h_in) from_g from_h names differ
+    by_trace (StillAsks g d x line axes g_in took other after names shown_as) = took_none g x (mates g g_in) took
 
 quiet_steps : (i : ℕ) → i < 6 → HasNoRaceAt board steps i
 quiet_steps zero below = nothing_so_far board steps 0 before_0 leaves_0

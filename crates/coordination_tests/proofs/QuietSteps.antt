@@ -2,8 +2,9 @@
 use Rattle.std.proofs.Common.{◌≡◌, ℕ, ◌<◌, ◌==◌, ◌&&◌, ◌||◌, not, Bool, true, false, if◌then◌else◌, List, [], Option, Some, None, refl, sym, ap, subst, ◌∙◌, arith}
 use Rattle.std.proofs.lemmas.Bool.{true≢false}
 use Rattle.order_clocks.specs.Chains.{IsIn}
-use Rattle.order_clocks.specs.Happenings.{Happening, Trace, Lowered, Needed, Took, Touched, happening_at, going_of, of_going, act_leaves, going_leaves, act_minds, going_minds, waits_for, asks_for}
-use Rattle.order_clocks.specs.Races.{Apart, StillWaits, Differ, StillAsks, AreApart}
+use Rattle.order_clocks.specs.Happenings.{Happening, happening_at, going_of, of_going, waits_for, asks_for}
+use Rattle.order_clocks.specs.TracedRaces.{IsTracedRace, Trace, Lowered, Needed, Took, Touched, act_leaves, going_leaves, act_minds, going_minds, Apart, StillWaits, Differ, StillAsks, AreApart}
+use Rattle.order_clocks.proofs.RaceCases.{races_agree}
 use Rattle.schedule_laws.specs.Swaps.{HasNoRaceAt}
 use Rattle.sync_types.specs.BoardActions.{after_effects, after_own_part, after_part, channels_to_start, marks_after, marks_of_all, state_after_action}
 use Rattle.sync_types.specs.BoardAlarms.{alarm_of}
@@ -16,6 +17,7 @@ use Rattle.sync_types.specs.declared.Action.{Action}
 use Rattle.sync_types.specs.declared.Action.TheVariants.{WaitM, SetM, ClearM, Init, Start, WaitE, Release, Get, End, Alarm}
 use Rattle.sync_types.specs.declared.Step.{Step}
 use Rattle.sync_types.specs.declared.runs.EventId.{EventId}
+use Rattle.sync_types.specs.declared.runs.Race.{Race}
 
 pub clash : {A : Type 0} (b : Bool) → b ≡ true → b ≡ false → A
 clash b on off = absurd (true≢false (sym on ∙ off))
@@ -104,7 +106,7 @@ nobody_in : {A : Type 0} (h : Happening) → LeavesNothing h → (g : Going) →
 nobody_in h q g there = let none : IsIn g [] = subst (λ (gs : List Going). IsIn g gs) q.goings there in absurd none
 
 -- where two events of the step are not apart from earlier ones
-still : (b : Board) (moves : List Move) (i : ℕ) → LeavesNothing (happening_at b moves i) → ((early late : EventId) (t : Trace) → late.step ≡ i → AreApart b moves early late t → ⊥) → HasNoRaceAt b moves i
+still : (b : Board) (moves : List Move) (i : ℕ) → LeavesNothing (happening_at b moves i) → ((early late : EventId) (t : Trace) → late.step ≡ i → AreApart b moves early late t → ⊥) → (race : Race) → IsTracedRace b moves i race → ⊥
 still b moves i q apart race (Apart early late trace at there shown_as) = apart early late trace at there
 still b moves i q apart race (StillWaits lowering d m line named at event leaves other after names shown_as) =
     clash _ leaves (leaves_none (happening_at b moves lowering.step) (subst (λ (j : ℕ). LeavesNothing (happening_at b moves j)) (sym at) q) lowering.channel lowering.go (Lowered lowering.channel m))
@@ -112,10 +114,10 @@ still b moves i q apart race (Differ g h m line other_line x named other_named g
 still b moves i q apart race (StillAsks g d x line axes g_in took other after names shown_as) = nobody_in (happening_at b moves i) q g g_in
 
 pub nothing_so_far : (b : Board) (moves : List Move) (i : ℕ) → NothingBefore b moves i → LeavesNothing (happening_at b moves i) → HasNoRaceAt b moves i
-nothing_so_far b moves i before here = still b moves i here (first_apart b moves i before)
+nothing_so_far b moves i before here race is = still b moves i here (first_apart b moves i before) race ((races_agree b moves i race).0 is)
 
 pub nothing_minded : (b : Board) (moves : List Move) (i : ℕ) → MindsNothing (happening_at b moves i) → HasNoRaceAt b moves i
-nothing_minded b moves i here = still b moves i here.leaves (later_apart b moves i here)
+nothing_minded b moves i here race is = still b moves i here.leaves (later_apart b moves i here) race ((races_agree b moves i race).0 is)
 
 -- a channel that neither acts nor goes on does what it did
 goes_stay : (b : Board) (d : ℕ) → among (goers_at_once b) d ≡ false → state_after_goes b d ≡ b.state d

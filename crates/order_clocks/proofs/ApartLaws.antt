@@ -5,7 +5,7 @@ use Rattle.counter_rows.specs.Rows.{count_of}
 use Rattle.order_clocks.specs.Counters.{row}
 use Rattle.order_clocks.specs.Courses.{Course}
 use Rattle.order_clocks.specs.Pairs.{IsApartPair, IsEventOf}
-use Rattle.order_clocks.specs.Races.{shown}
+use Rattle.order_clocks.specs.TracedRaces.{shown}
 use Rattle.order_clocks.specs.Tracks.{Tracks, IsApartRace, spot}
 use Rattle.order_clocks.specs.declared.events.Event.{Event}
 use Rattle.order_clocks.proofs.CounterLaws.{before_from, before_to}

@@ -2,7 +2,7 @@
 use Rattle.std.proofs.Common.{◌≡◌, ℕ, ◌<◌, ◌==◌, ◌↔◌, true, false, refl}
 use Rattle.order_clocks.specs.Counters.{row}
 use Rattle.order_clocks.specs.Courses.{Course, IsEventIn}
-use Rattle.order_clocks.specs.Happenings.{Trace}
+use Rattle.order_clocks.specs.TracedRaces.{Trace}
 use Rattle.order_clocks.specs.Tracks.{Tracks, AreApartIn, last_place}
 use Rattle.order_clocks.proofs.RaceLaws.{last_suffices}
 use Rattle.sync_types.specs.declared.runs.EventId.{EventId}

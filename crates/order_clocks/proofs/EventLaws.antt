@@ -3,7 +3,7 @@ use Rattle.std.proofs.Common.{◌≡◌, ℕ, ◌↔◌, ◌==◌, ◌&&◌, Boo
 use Rattle.std.proofs.lemmas.Bool.{eqb-true, eq-eqb, and_parts, and_from, false≢true}
 use Rattle.axis_sets.specs.Sets.{has, members_of, IsEmpty}
 use Rattle.order_clocks.specs.Chains.{IsIn}
-use Rattle.order_clocks.specs.Happenings.{Trace, Lowered, Needed, Took, Touched}
+use Rattle.order_clocks.specs.TracedRaces.{Trace, Lowered, Needed, Took, Touched}
 use Rattle.order_clocks.specs.LastPlaces.{hold_minds, deed_leaves, deed_minds, minds_in, minds_at_line}
 use Rattle.order_clocks.specs.Pairs.{minded_by, left_by, IsActEvent}
 use Rattle.step_deeds.specs.declared.deed.Deed.{Deed}

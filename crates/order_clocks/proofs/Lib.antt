@@ -18,6 +18,7 @@ pub mod OrderLaws
 pub mod PairLaws
 pub mod PartnerLaws
 pub mod PlaceLaws
+pub mod RaceCases
 pub mod RaceLaws
 pub mod RaceRows
 pub mod ReadLaws

@@ -2,11 +2,11 @@
 use Rattle.std.proofs.Common.{◌≡◌, ℕ, zero, suc, ◌+◌, ◌*◌, ◌<◌, ◌≤◌, Bool, true, false, List, [], ◌∷◌, length, Option, Some, None, refl, sym, ap, ◌∙◌, arith, if◌then◌else◌}
 use Rattle.std.proofs.lemmas.Bool.{false≢true}
 use Rattle.std.proofs.lemmas.Option.{none-some}
-use Rattle.order_clocks.specs.Before.{Rule, InChannel, Gives, Follows, Before}
+use Rattle.order_clocks.specs.Before.{Rule, InChannel, Gives, RaisedMark, FreedAxis, StartedChannel, EndedProgram, Follows, Before}
 use Rattle.order_clocks.specs.Chains.{IsPath}
 use Rattle.order_clocks.specs.CourseOf.{course_of}
 use Rattle.order_clocks.specs.Courses.{AreJoinedIn, IsThereIn, IsEventIn, AreOneIn, RuleIn, InOrder, GivesKey, FollowsIn, IsBeforeIn}
-use Rattle.order_clocks.specs.Happenings.{happening_at}
+use Rattle.order_clocks.specs.Happenings.{Key, Raised, Freed, Started, Ended, happening_at}
 use Rattle.order_clocks.proofs.CounterLaws.{rule_later}
 use Rattle.order_clocks.proofs.GroupLaws.{chained_from, chained_to}
 use Rattle.sync_types.specs.Boards.{Board, among}
@@ -88,13 +88,26 @@ one_from b moves e f inside one = record {
 }
 
 -- the rules
+given_in : (b : Board) (moves : List Move) (e f : EventId) (key : Key) → Gives b moves key e f → RuleIn (course_of b moves) e f
+given_in b moves e f key given = GivesKey key given.act given.going given.rests (record { gives = given.last.given; up = given.last.up; none_later = given.last.none_later })
+
 rule_in : (b : Board) (moves : List Move) (e f : EventId) → Rule b moves e f → RuleIn (course_of b moves) e f
 rule_in b moves e f (InChannel same early) = InOrder same early
-rule_in b moves e f (Gives key act go rests gift) = GivesKey key act go rests (record { gives = gift.given; up = gift.up; none_later = gift.none_later })
+rule_in b moves e f (RaisedMark c m given) = given_in b moves e f (Raised c m) given
+rule_in b moves e f (FreedAxis x given) = given_in b moves e f (Freed x) given
+rule_in b moves e f (StartedChannel c given) = given_in b moves e f (Started c) given
+rule_in b moves e f (EndedProgram c given) = given_in b moves e f (Ended c) given
+
+given_from : (b : Board) (moves : List Move) (e f : EventId) (key : Key) → Gives b moves key e f → Rule b moves e f
+given_from b moves e f (Raised c m) given = RaisedMark c m given
+given_from b moves e f (Freed x) given = FreedAxis x given
+given_from b moves e f (Started c) given = StartedChannel c given
+given_from b moves e f (Ended c) given = EndedProgram c given
 
 rule_from : (b : Board) (moves : List Move) (e f : EventId) → RuleIn (course_of b moves) e f → Rule b moves e f
 rule_from b moves e f (InOrder same early) = InChannel same early
-rule_from b moves e f (GivesKey key act go rests gift) = Gives key act go rests (record { given = gift.gives; up = gift.up; none_later = gift.none_later })
+rule_from b moves e f (GivesKey key act go rests gift) =
+    given_from b moves e f key (record { act = act; going = go; rests = rests; last = record { given = gift.gives; up = gift.up; none_later = gift.none_later } })
 
 half : (s t : ℕ) (g h : Bool) → 2 * s + (if g then 1 else 0) < 2 * t + (if h then 1 else 0) → s ≤ t
 half s t true true less = omega arith

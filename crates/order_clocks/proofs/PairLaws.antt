@@ -2,10 +2,9 @@
 use Rattle.std.proofs.Common.{◌≡◌, ℕ, ◌+◌, ◌⊎◌, ◌↔◌, ◌==◌, Bool, true, false, inl, inr, List, Option, Some, None, IsTrue, MatchOption, slice_index_or, refl, sym, ◌∙◌, arith}
 use Rattle.std.proofs.lemmas.Bool.{cases_lt, eq-eqb, true≢false}
 use Rattle.axis_sets.specs.Sets.{has}
-use Rattle.order_clocks.specs.Happenings.{Trace, Lowered, Needed, Took, Touched}
 use Rattle.order_clocks.specs.Pairs.{IsLeastOf, IsLeastWith, IsUnordered, IsMet, IsApartPair, AreUnlike, IsUnlikePair, IsWaitingPair, IsPairRace, IsRaceOver, IsRaceBetween}
 use Rattle.order_clocks.specs.RaceOrder.{IsUpTo, numbers_of, letter_a, letter_b, letter_c, letter_d, letter_e, letter_f, letter_g}
-use Rattle.order_clocks.specs.Races.{shown}
+use Rattle.order_clocks.specs.TracedRaces.{Trace, Lowered, Needed, Took, Touched, shown}
 use Rattle.order_clocks.specs.declared.events.Event.{Event}
 use Rattle.order_clocks.specs.declared.pairs.Meeting.{Meeting}
 use Rattle.order_clocks.proofs.LeastLaws.{up_to_itself, up_to_on}

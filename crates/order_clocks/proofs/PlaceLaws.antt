@@ -8,7 +8,7 @@ use Rattle.counter_rows.proofs.GatherLaws.{max_assoc}
 use Rattle.order_clocks.specs.Chains.{IsIn}
 use Rattle.order_clocks.specs.Counters.{row}
 use Rattle.order_clocks.specs.Courses.{Course, IsEventIn}
-use Rattle.order_clocks.specs.Happenings.{Trace, Lowered, Needed, Took, Touched}
+use Rattle.order_clocks.specs.TracedRaces.{Trace, Lowered, Needed, Took, Touched}
 use Rattle.order_clocks.specs.LastPlaces.{deed_leaves, leaves_of, hold_minds, deed_minds, departure_minds, IsTracked, spot_at, AreLast}
 use Rattle.order_clocks.specs.Steps.{act_name, go_name, IsStep, AreRows}
 use Rattle.order_clocks.specs.Tracks.{Tracks, IsRacyAt, after_act, last_place}

@@ -4,7 +4,7 @@ use Rattle.std.proofs.lemmas.Bool.{cases_Bool, eqb-true, eq-eqb, and_parts, and_
 use Rattle.order_clocks.specs.Before.{moment}
 use Rattle.order_clocks.specs.Counters.{row}
 use Rattle.order_clocks.specs.Courses.{Course, IsEventIn, IsBeforeIn}
-use Rattle.order_clocks.specs.Happenings.{Trace}
+use Rattle.order_clocks.specs.TracedRaces.{Trace}
 use Rattle.order_clocks.specs.Steps.{act_name, go_name}
 use Rattle.order_clocks.specs.Tracks.{Tracks, AreApartIn, after_act, after_goings, last_place}
 use Rattle.order_clocks.proofs.CounterLaws.{order_grows, before_from, before_to}

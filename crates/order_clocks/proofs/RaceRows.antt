@@ -4,8 +4,7 @@ use Rattle.order_clocks.specs.Before.{Before}
 use Rattle.order_clocks.specs.Counters.{row, act_row, rows_after_act, rows_after_goings, own_row, go_row}
 use Rattle.order_clocks.specs.CourseOf.{course_of}
 use Rattle.order_clocks.specs.Groups.{relabelled}
-use Rattle.order_clocks.specs.Happenings.{Lowered, Needed}
-use Rattle.order_clocks.specs.Races.{IsRace, Apart, StillWaits}
+use Rattle.order_clocks.specs.Races.{IsRace, LoweredThenAwaited, NeededThenLowered, LoweredWhileAwaited}
 use Rattle.order_clocks.proofs.CounterLaws.{before_to}
 use Rattle.order_clocks.proofs.OrderLaws.{order_in}
 use Rattle.sync_types.specs.BoardActions.{is_on_after, state_after_alarm, marks_of_all, ownership_after, holder_after, state_after_action}
@@ -65,15 +64,13 @@ soon_waiting = refl
 
 pub lowered_too_soon_races : IsRace (first_board two_channels) lowered_too_soon 3 (record { case = 97; first = (1, 6); second = (2, 9) })
 unfolding first_state grant_with start_grant is_on_after state_after_alarm marks_of_all ownership_after holder_after state_after_action alarm_of marks_after_goes state_after_goes ownership_after_taking holder_after_taking grant_of_taker state_after_taking
-lowered_too_soon_races = Apart (event 1 1 false) (event 3 2 false) (Lowered 1 3) refl (record {
+lowered_too_soon_races = LoweredThenAwaited (event 1 1 false) (event 3 2 false) 3 refl (record {
   first = refl;
   second = refl;
   step = omega arith;
   channels = refl;
-  left = refl;
-  minded = refl;
   unordered = not_before (first_board two_channels) lowered_too_soon (event 1 1 false) (event 3 2 false) 1 (let early = soon_lowering in let late = soon_waiting in omega arith);
-}) refl
+}) refl refl refl
 
 -- with the programs exchanged channel 1 goes on by the mark, which is lowered after that: b
 abbrev lowered_later : List Move
@@ -89,15 +86,13 @@ later_lowering = refl
 
 pub lowered_later_races : IsRace (first_board two_channels) lowered_later 3 (record { case = 98; first = (2, 9); second = (1, 5) })
 unfolding first_state grant_with start_grant is_on_after state_after_alarm marks_of_all ownership_after holder_after state_after_action alarm_of marks_after_goes state_after_goes ownership_after_taking holder_after_taking grant_of_taker state_after_taking
-lowered_later_races = Apart (event 1 1 true) (event 3 2 false) (Needed 2 3) refl (record {
+lowered_later_races = NeededThenLowered (event 1 1 true) (event 3 2 false) 3 refl (record {
   first = refl;
   second = refl;
   step = omega arith;
   channels = refl;
-  left = refl;
-  minded = refl;
   unordered = not_before (first_board two_channels) lowered_later (event 1 1 true) (event 3 2 false) 1 (let early = later_going in let late = later_lowering in omega arith);
-}) refl
+}) refl refl refl
 
 -- channel 2 goes on, and the mark that it lowers is one for which channel 1 still waits: c
 abbrev two_of_three_meet : List Move
@@ -105,4 +100,4 @@ two_of_three_meet = step_of 1 6 (WaitM 1 two_and_three) ∷ step_of 2 9 (WaitM 1
 
 pub two_of_three_race : IsRace (first_board three_channels) two_of_three_meet 1 (record { case = 99; first = (2, 9); second = (1, 6) })
 unfolding first_state grant_with start_grant is_on_after state_after_alarm marks_of_all ownership_after holder_after state_after_action alarm_of marks_after_goes state_after_goes ownership_after_taking holder_after_taking grant_of_taker state_after_taking
-two_of_three_race = StillWaits (event 1 2 true) 1 1 6 (2 ∷ 3 ∷ []) refl refl refl refl refl refl refl
+two_of_three_race = LoweredWhileAwaited (event 1 2 true) 1 1 6 (2 ∷ 3 ∷ []) refl refl refl refl refl refl refl

@@ -6,10 +6,11 @@ use Rattle.counter_rows.specs.Rows.{count_of}
 use Rattle.counter_rows.specs.declared.table.StepRows.{StepRows}
 use Rattle.order_clocks.specs.Chains.{IsIn}
 use Rattle.order_clocks.specs.Courses.{Course}
-use Rattle.order_clocks.specs.Happenings.{Trace, Lowered, Needed, Took, Touched, happening_at, going_of, act_leaves, act_minds}
+use Rattle.order_clocks.specs.Happenings.{happening_at, going_of}
 use Rattle.order_clocks.specs.LastPlaces.{AreLast, IsTracked, deed_leaves, leaves_of}
 use Rattle.order_clocks.specs.Pairs.{IsLeastWith}
-use Rattle.order_clocks.specs.Races.{IsRace, Apart, StillWaits, Differ, StillAsks, leaves_at, minds_at}
+use Rattle.order_clocks.specs.Races.{IsRace}
+use Rattle.order_clocks.specs.TracedRaces.{IsTracedRace, Trace, Lowered, Needed, Took, Touched, act_leaves, act_minds, Apart, StillWaits, Differ, StillAsks, leaves_at, minds_at}
 use Rattle.order_clocks.specs.Reading.{IsOnlyOne}
 use Rattle.order_clocks.specs.Steps.{AreRows, IsStep}
 use Rattle.order_clocks.specs.Tracks.{Tracks}
@@ -17,6 +18,7 @@ use Rattle.order_clocks.specs.Watching.{IsGoingOf, IsRead, begun_shown}
 use Rattle.order_clocks.specs.declared.places.Places.{Places}
 use Rattle.order_clocks.proofs.PairLaws.{least_none}
 use Rattle.order_clocks.proofs.PlaceLaws.{last_more}
+use Rattle.order_clocks.proofs.RaceCases.{races_agree}
 use Rattle.step_deeds.specs.Holds.{IsTraceless, departure_of, is_given}
 use Rattle.step_deeds.specs.declared.deed.Deed.{Deed}
 use Rattle.step_deeds.specs.declared.deed.Departure.{Departure}
@@ -56,7 +58,7 @@ none_going (Some gone) g is none = absurd (true≢false none)
 traceless_race : (b : Board) (ms : List Move) (i : ℕ) (deed : Deed) (race : Race) → IsRead deed (happening_at b ms i)
     → ((g : Going) → IsIn g (happening_at b ms i).goings → IsOnlyOne (happening_at b ms i).goings g)
     → IsTraceless deed → IsRace b ms i race → ⊥
-traceless_race b ms i deed race read alone quiet = by_case
+traceless_race b ms i deed race read alone quiet is = by_case ((races_agree b ms i race).0 is)
   where
     nobody : (c : ℕ) → going_of (happening_at b ms i).goings c ≡ None
     nobody c = none_going (departure_of deed c) (going_of (happening_at b ms i).goings c) (read.goings c) (quiet.goes c)
@@ -93,7 +95,7 @@ traceless_race b ms i deed race read alone quiet = by_case
     minded j c true t here = rw (here, nobody c) refl
     minded j c false t here = rw here (act_minded t)
 
-    by_case : IsRace b ms i race → ⊥
+    by_case : IsTracedRace b ms i race → ⊥
     by_case (Apart early late trace step apart is) = true≢false (sym apart.minded ∙ minded late.step late.channel late.go trace step)
     by_case (StillWaits lowering d m line named step event leaves other after names is) =
         true≢false (sym leaves ∙ left lowering.step lowering.channel lowering.go (Lowered lowering.channel m) step)

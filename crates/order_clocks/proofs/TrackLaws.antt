@@ -6,7 +6,8 @@ use Rattle.axis_sets.proofs.SetLaws.{list_any-members_of}
 use Rattle.counter_rows.specs.declared.table.StepRows.{StepRows}
 use Rattle.order_clocks.specs.Chains.{IsIn}
 use Rattle.order_clocks.specs.CourseOf.{course_of}
-use Rattle.order_clocks.specs.Happenings.{Happening, Trace, Lowered, Needed, Took, Touched, happening_at, going_of, act_leaves, act_minds, going_leaves, going_minds, of_going, waits_for, asks_for, line_in, line_of_going}
+use Rattle.order_clocks.specs.Happenings.{Happening, happening_at, going_of, of_going, waits_for, asks_for, line_in, line_of_going}
+use Rattle.order_clocks.specs.TracedRaces.{Trace, Lowered, Needed, Took, Touched, act_leaves, act_minds, going_leaves, going_minds}
 use Rattle.order_clocks.specs.LastPlaces.{deed_leaves, departure_leaves, leaves_of, minds_at_line, minds_in, IsTracked}
 use Rattle.order_clocks.specs.Pairs.{minded_by, IsKnownStep}
 use Rattle.order_clocks.specs.Steps.{AreRows}

@@ -8,11 +8,12 @@ use Rattle.axis_sets.proofs.SetLaws.{list_any-members_of}
 use Rattle.counter_rows.specs.declared.table.StepRows.{StepRows}
 use Rattle.order_clocks.specs.Chains.{IsIn}
 use Rattle.order_clocks.specs.CourseOf.{course_of}
-use Rattle.order_clocks.specs.Happenings.{Lowered, Took, happening_at, going_of, line_in}
+use Rattle.order_clocks.specs.Happenings.{happening_at, going_of, line_in}
 use Rattle.order_clocks.specs.LastPlaces.{leaves_of}
 use Rattle.order_clocks.specs.Pairs.{AreEvents, AreUnlike, AreWaits, IsActEvent, IsGoAt, IsGoEvent, IsKnownStep, IsLeastWith, IsMet, IsRaceBetween, IsWaitAt, IsWaitEvent}
 use Rattle.order_clocks.specs.RaceOrder.{letter_c, letter_d, letter_f}
-use Rattle.order_clocks.specs.Races.{IsRace, Apart, StillWaits, Differ, StillAsks, line_at}
+use Rattle.order_clocks.specs.Races.{IsRace, line_at}
+use Rattle.order_clocks.specs.TracedRaces.{IsTracedRace, Lowered, Took, Apart, StillWaits, Differ, StillAsks}
 use Rattle.order_clocks.specs.Reading.{AreHolds, IsOnlyOne}
 use Rattle.order_clocks.specs.Tracks.{IsEarlierRace, tracks_of}
 use Rattle.order_clocks.specs.Watching.{IsGoing, IsGoingOf, IsRead, hold_shown, wait_in, wait_shown}
@@ -26,6 +27,7 @@ use Rattle.step_deeds.specs.declared.named.NamedMarks.{NamedMarks}
 use Rattle.order_clocks.specs.declared.pairs.Meeting.TheVariants.{Together, Waiting}
 use Rattle.order_clocks.proofs.OrderLaws.{event_from, event_in, event_within, order_from, order_in}
 use Rattle.order_clocks.proofs.PairLaws.{least_both, least_same}
+use Rattle.order_clocks.proofs.RaceCases.{races_agree}
 use Rattle.step_deeds.proofs.HoldLaws.{past_gone}
 use Rattle.order_clocks.proofs.StepRaceLaws.{event_named, named_event}
 use Rattle.order_clocks.proofs.TellLaws.{going_within}
@@ -220,7 +222,7 @@ pub record IsTold (b : Board) (ms : List Move) (i : ℕ) (deed : Deed) (rows : S
 
 -- c and f
 waiting_is : (b : Board) (ms : List Move) (i : ℕ) (deed : Deed) (rows : StepRows) (events waits : List (Option Event)) (holds : List (Option HoldAtLine)) (race : Race) → IsTold b ms i deed rows events waits holds
-    → IsRaceBetween Waiting events waits 10 race → IsRace b ms i race
+    → IsRaceBetween Waiting events waits 10 race → IsTracedRace b ms i race
 waiting_is b ms i deed rows events waits holds race told r = elim (cases_eq r.place 0) [
   | inl first ↦
       absurd (none-some r.late (sym told.waited.first ∙ (ap (λ (n : ℕ). slice_index_or waits n None) (sym first) ∙ r.there)))
@@ -235,7 +237,7 @@ waiting_is b ms i deed rows events waits holds race told r = elim (cases_eq r.pl
   where
     lowered : (hold : code.Hold) (c m line : ℕ) → (happening_at b ms i).after r.place ≡ IsHolding (hold_shown hold) line → r.late.line ≡ line → r.late.channel ≡ r.place → r.late.waits ≡ marks_of_hold hold
         → IsMet r.race_of.early r.late (Lowered c m) → (r.race_of.early.channel == r.late.channel) ≡ false
-        → race ≡ record { case = letter_c; first = (r.race_of.early.channel, r.race_of.early.line); second = (r.late.channel, r.late.line) } → IsRace b ms i race
+        → race ≡ record { case = letter_c; first = (r.race_of.early.channel, r.race_of.early.line); second = (r.late.channel, r.late.line) } → IsTracedRace b ms i race
     lowered (Marks n named) c m line after at channel waits_are met other is =
         let a = event_named (course_of b ms) (tracks_of b ms) i r.race_of.place deed rows events r.race_of.early told.known told.are r.race_of.within r.race_of.there in
         let left = and_parts (has r.race_of.early.lowers m) (c == r.race_of.early.channel) met.left in
@@ -254,7 +256,7 @@ waiting_is b ms i deed rows events waits holds race told r = elim (cases_eq r.pl
 
     taken : (hold : code.Hold) (x line : ℕ) → (happening_at b ms i).after r.place ≡ IsHolding (hold_shown hold) line → r.late.line ≡ line → r.late.channel ≡ r.place → ((y : ℕ) → has r.late.asks y ≡ asks_of_hold hold y)
         → IsMet r.race_of.early r.late (Took x) → (r.race_of.early.channel == r.late.channel) ≡ false
-        → race ≡ record { case = letter_f; first = (r.race_of.early.channel, r.race_of.early.line); second = (r.late.channel, r.late.line) } → IsRace b ms i race
+        → race ≡ record { case = letter_f; first = (r.race_of.early.channel, r.race_of.early.line); second = (r.late.channel, r.late.line) } → IsTracedRace b ms i race
     taken (Axes axes) x line after at channel asks met other is = elim (goer_there b ms i r.race_of.place deed rows events r.race_of.early told.read told.are r.race_of.within r.race_of.there) [
       | inl act ↦ absurd (false≢true (sym (act.left (Took x)) ∙ met.left))
       | inr w ↦
@@ -267,7 +269,7 @@ waiting_is b ms i deed rows events waits holds race told r = elim (cases_eq r.pl
     taken (Marks n named) x line after at channel asks met other is = absurd (false≢true (sym (asks x) ∙ met.minded))
     taken (Ends named) x line after at channel asks met other is = absurd (false≢true (sym (asks x) ∙ met.minded))
 
-    by_hold : (o : Option HoldAtLine) → slice_index_or holds r.place None ≡ o → IsWaitAt o r.place (Some r.late) → IsRace b ms i race
+    by_hold : (o : Option HoldAtLine) → slice_index_or holds r.place None ≡ o → IsWaitAt o r.place (Some r.late) → IsTracedRace b ms i race
     by_hold None there at = absurd at
     by_hold (Some held) there at =
         let after : (happening_at b ms i).after r.place ≡ IsHolding (hold_shown held.hold) held.line =
@@ -280,7 +282,7 @@ waiting_is b ms i deed rows events waits holds race told r = elim (cases_eq r.pl
 
 -- d
 together_is : (b : Board) (ms : List Move) (i : ℕ) (deed : Deed) (rows : StepRows) (events waits : List (Option Event)) (holds : List (Option HoldAtLine)) (race : Race) → IsTold b ms i deed rows events waits holds
-    → IsRaceBetween Together events events 10 race → IsRace b ms i race
+    → IsRaceBetween Together events events 10 race → IsTracedRace b ms i race
 together_is b ms i deed rows events waits holds race told r = by_needs r.race_of.early.needs r.late.needs refl refl r.race_of.race_of.unlike
   where
     of_goer : (p : ℕ) (e : Event) (w : NamedMarks) → p < 10 → slice_index_or events p None ≡ Some e → e.needs ≡ Some w → (g : Going) × IsGoer (happening_at b ms i).goings g e
@@ -295,7 +297,7 @@ together_is b ms i deed rows events waits holds race told r = by_needs r.race_of
         let state = holding g.from (AtMarks n (members_of named)) w.0 (sym goer.is.from ∙ w.1) in
         (w.0, (state, goer.line ∙ ap line_in state))
 
-    by_needs : (one two : Option NamedMarks) → r.race_of.early.needs ≡ one → r.late.needs ≡ two → AreUnlike one two r.race_of.early.channel r.late.channel → IsRace b ms i race
+    by_needs : (one two : Option NamedMarks) → r.race_of.early.needs ≡ one → r.late.needs ≡ two → AreUnlike one two r.race_of.early.channel r.late.channel → IsTracedRace b ms i race
     by_needs None two first second unlike = absurd unlike
     by_needs (Some one) None first second unlike = absurd unlike
     by_needs (Some one) (Some two) first second unlike =
@@ -311,7 +313,7 @@ together_is b ms i deed rows events waits holds race told r = by_needs r.race_of
         (r.race_of.race_of.is ∙ same_race letter_d r.late.channel r.late.line r.race_of.early.channel r.race_of.early.line h.0.channel on.0 g.0.channel at.0 (sym h.1.channel) on.1.1 (sym g.1.channel) at.1.1)
 
 -- a, b, e and g
-earlier_is : (b : Board) (ms : List Move) (i : ℕ) (race : Race) → i < length ms → IsEarlierRace (course_of b ms) (tracks_of b ms) i i race → IsRace b ms i race
+earlier_is : (b : Board) (ms : List Move) (i : ℕ) (race : Race) → i < length ms → IsEarlierRace (course_of b ms) (tracks_of b ms) i i race → IsTracedRace b ms i race
 earlier_is b ms i race inside r =
     let s = r.race_of in
     let a = s.apart.apart in
@@ -329,7 +331,7 @@ earlier_is b ms i race inside r =
 
 -- each race of the step is one of them
 race_is : (b : Board) (ms : List Move) (i : ℕ) (deed : Deed) (rows : StepRows) (events waits : List (Option Event)) (holds : List (Option HoldAtLine)) (race : Race) → IsTold b ms i deed rows events waits holds
-    → IsRace b ms i race → (IsRaceBetween Waiting events waits 10 race ⊎ IsRaceBetween Together events events 10 race) ⊎ IsEarlierRace (course_of b ms) (tracks_of b ms) i i race
+    → IsTracedRace b ms i race → (IsRaceBetween Waiting events waits 10 race ⊎ IsRaceBetween Together events events 10 race) ⊎ IsEarlierRace (course_of b ms) (tracks_of b ms) i i race
 race_is b ms i deed rows events waits holds race told (Apart early late trace step apart is) =
     let before = apart.step in
     inr (record {
@@ -475,10 +477,13 @@ pub step_is : (b : Board) (ms : List Move) (i : ℕ) (deed : Deed) (rows : StepR
     → ((IsRaceBetween Waiting events waits 10 race ⊎ IsRaceBetween Together events events 10 race) ⊎ IsEarlierRace (course_of b ms) (tracks_of b ms) i i race) ↔ IsRace b ms i race
 step_is b ms i deed rows events waits holds told race = (
   (λ r. elim r [
-    | inl one ↦ elim one [ inl waiting ↦ waiting_is b ms i deed rows events waits holds race told waiting | inr together ↦ together_is b ms i deed rows events waits holds race told together ]
-    | inr earlier ↦ earlier_is b ms i race told.inside earlier
+    | inl one ↦ elim one [
+      | inl waiting ↦ (races_agree b ms i race).1 (waiting_is b ms i deed rows events waits holds race told waiting)
+      | inr together ↦ (races_agree b ms i race).1 (together_is b ms i deed rows events waits holds race told together)
+    ]
+    | inr earlier ↦ (races_agree b ms i race).1 (earlier_is b ms i race told.inside earlier)
   ]),
-  (λ r. race_is b ms i deed rows events waits holds race told r),
+  (λ r. race_is b ms i deed rows events waits holds race told ((races_agree b ms i race).0 r)),
 )
 
 pub step_least : (b : Board) (ms : List Move) (i : ℕ) (deed : Deed) (rows : StepRows) (events waits : List (Option Event)) (holds : List (Option HoldAtLine)) (mid new : Option Race) → IsTold b ms i deed rows events waits holds

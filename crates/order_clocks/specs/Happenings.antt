@@ -4,8 +4,7 @@ use Rattle.axis_sets.specs.Sets.{members_of}
 use Rattle.sync_types.specs.BoardActions.{after_own_part, axes_to_free, channels_started}
 use Rattle.sync_types.specs.BoardAlarms.{alarm_of}
 use Rattle.sync_types.specs.Boards.{Hold, AtMarks, AtEnds, AtAxes, State, IsIdle, IsHolding, Board, among, has_ended}
-use Rattle.sync_types.specs.Events.{names_at}
-use Rattle.sync_types.specs.GoingOn.{Going, lowers}
+use Rattle.sync_types.specs.GoingOn.{Going}
 use Rattle.sync_types.specs.Turns.{Move, goings_in_step, after_step}
 use Rattle.sync_types.specs.declared.Action.{Action}
 use Rattle.sync_types.specs.declared.Action.TheVariants.{Init, Start}
@@ -18,14 +17,6 @@ pub data Key : Type 0 where
   Freed : (axis : ℕ) → Key
   Started : (channel : ℕ) → Key
   Ended : (channel : ℕ) → Key
-
--- what an event leaves that a later one may mind: a mark was lowered, a mark was needed, an axis was
--- taken, INIT or START named a channel
-pub data Trace : Type 0 where
-  Lowered : (channel number : ℕ) → Trace
-  Needed : (channel number : ℕ) → Trace
-  Took : (axis : ℕ) → Trace
-  Touched : (channel : ℕ) → Trace
 
 -- A step: who acts at which line, the own marks that did not stand before the act and stand after it, those
 -- that stood and stand no more, the axes that it lets go, the channels that it starts, whether the program
@@ -128,20 +119,7 @@ abbrev pub rests_on : Option Going → List Key
 rests_on (Some g) = rests_in g g.from
 rests_on None = []
 
--- what an act and one that goes on leave
-abbrev pub act_leaves : Happening → Trace → Bool
-act_leaves h (Lowered c m) = (c == h.channel) && h.lowers m
-act_leaves h (Touched c) = among h.touches c
-act_leaves h other = false
-
-abbrev pub going_leaves : Going → Trace → Bool
-going_leaves g (Lowered c m) = (c == g.channel) && lowers g.from m
-going_leaves g (Needed c m) = names_at g.from m c
-going_leaves g (Took x) = among g.took x
-going_leaves g (Touched c) = false
-
--- what they mind: an act the marks and axes for which it begins to wait, the needs of a mark that it lowers,
--- and INIT or START on its channels; one that goes on the needs of the mark that it lowers
+-- whether the wait is one for this mark of a channel, and whether it is one for this axis
 abbrev pub waits_for : Option Hold → ℕ → ℕ → Bool
 waits_for (Some (AtMarks number named)) c m = (number == m) && among named c
 waits_for other c m = false
@@ -150,16 +128,7 @@ abbrev pub asks_for : Option Hold → ℕ → Bool
 asks_for (Some (AtAxes axes)) x = among axes x
 asks_for other x = false
 
-abbrev pub act_minds : Happening → Trace → Bool
-act_minds h (Lowered c m) = waits_for h.begins c m
-act_minds h (Needed c m) = (c == h.channel) && h.lowers m
-act_minds h (Took x) = asks_for h.begins x
-act_minds h (Touched c) = among h.touches c
-
-abbrev pub going_minds : Going → Trace → Bool
-going_minds g (Needed c m) = (c == g.channel) && lowers g.from m
-going_minds g other = false
-
+-- a test of how a channel goes on, false where it does not; and the line of the wait that ends
 abbrev pub of_going : Option Going → (Going → Bool) → Bool
 of_going (Some g) test = test g
 of_going None test = false

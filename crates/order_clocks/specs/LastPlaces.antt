@@ -4,7 +4,7 @@ use Rattle.axis_sets.specs.Sets.{has, members_of}
 use Rattle.counter_rows.specs.Rows.{count_of}
 use Rattle.order_clocks.specs.Chains.{IsIn}
 use Rattle.order_clocks.specs.Courses.{Course}
-use Rattle.order_clocks.specs.Happenings.{Trace, Lowered, Needed, Took, Touched}
+use Rattle.order_clocks.specs.TracedRaces.{Trace, Lowered, Needed, Took, Touched}
 use Rattle.order_clocks.specs.Steps.{act_name, go_name}
 use Rattle.order_clocks.specs.Tracks.{Tracks, last_place}
 use Rattle.step_deeds.specs.declared.deed.Deed.{Deed}

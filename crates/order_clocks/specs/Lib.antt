@@ -15,6 +15,7 @@ pub mod Reading
 pub mod Steps
 pub mod Stops
 pub mod Tells
+pub mod TracedRaces
 pub mod Tracks
 pub mod Watching
 pub mod StepReading

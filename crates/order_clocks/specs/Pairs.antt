@@ -5,10 +5,9 @@ use Rattle.counter_rows.specs.Rows.{count_of}
 use Rattle.order_clocks.specs.Chains.{IsIn}
 use Rattle.order_clocks.specs.Counters.{row}
 use Rattle.order_clocks.specs.Courses.{Course, IsEventIn}
-use Rattle.order_clocks.specs.Happenings.{Trace, Lowered, Needed, Took, Touched}
 use Rattle.order_clocks.specs.LastPlaces.{IsTracked, deed_leaves, deed_minds, leaves_of, departure_minds}
 use Rattle.order_clocks.specs.RaceOrder.{IsUpTo, numbers_of, letter_c, letter_d, letter_f}
-use Rattle.order_clocks.specs.Races.{shown}
+use Rattle.order_clocks.specs.TracedRaces.{Trace, Lowered, Needed, Took, Touched, shown}
 use Rattle.order_clocks.specs.Steps.{AreRows, IsStep}
 use Rattle.order_clocks.specs.Tracks.{Tracks}
 use Rattle.counter_rows.specs.declared.table.StepRows.{StepRows}

@@ -2,8 +2,8 @@
 use Rattle.std.specs.Prelude.{◌≡◌, ℕ, zero, suc, ◌<◌, ◌==◌, ◌&&◌, Bool, true, false, List, if◌then◌else◌}
 use Rattle.order_clocks.specs.Counters.{row}
 use Rattle.order_clocks.specs.Courses.{Course, IsEventIn, IsBeforeIn}
-use Rattle.order_clocks.specs.Happenings.{Trace}
-use Rattle.order_clocks.specs.Races.{leaves_at, minds_at, line_at, shown}
+use Rattle.order_clocks.specs.Races.{line_at}
+use Rattle.order_clocks.specs.TracedRaces.{Trace, leaves_at, minds_at, shown}
 use Rattle.order_clocks.specs.Steps.{act_name, go_name}
 use Rattle.sync_types.specs.Boards.{Board, among}
 use Rattle.sync_types.specs.Turns.{Move}

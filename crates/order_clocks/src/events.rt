@@ -2,7 +2,7 @@
 ghost use Rattle.axis_sets.specs.Sets.{has};
 ghost use Rattle.axis_sets.specs.declared.limits.TheConstants.{CHANNEL_PLACES};
 ghost use Rattle.order_clocks.specs.Chains.{IsIn};
-ghost use Rattle.order_clocks.specs.Happenings.{Trace};
+ghost use Rattle.order_clocks.specs.TracedRaces.{Trace};
 ghost use Rattle.order_clocks.specs.LastPlaces.{deed_leaves, deed_minds, departure_leaves, departure_minds};
 ghost use Rattle.order_clocks.specs.Pairs.{AreEvents, AreWaits, IsActEvent, IsGoAt, IsWaitAt, IsWaitEvent, left_by, minded_by};
 ghost use Rattle.std.specs.Prelude.{◌≡◌, ℕ, ◌↔◌, ◌<◌, true, length, Some, None, slice_index_or};

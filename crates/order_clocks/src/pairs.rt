@@ -2,7 +2,7 @@
 ghost use Rattle.axis_sets.specs.Sets.{has};
 ghost use Rattle.axis_sets.specs.declared.limits.TheConstants.{AXIS_LIMIT};
 ghost use Rattle.counter_rows.specs.Rows.{count_of};
-ghost use Rattle.order_clocks.specs.Happenings.{Lowered, Needed, Took, Touched};
+ghost use Rattle.order_clocks.specs.TracedRaces.{Lowered, Needed, Took, Touched};
 ghost use Rattle.order_clocks.specs.Pairs.{AreUnlike, IsApartPair, IsLeastOf, IsLeastWith, IsMet, IsPairRace, IsRaceBetween, IsRaceOver, IsUnlikePair, IsUnordered, IsWaitingPair};
 ghost use Rattle.order_clocks.specs.RaceOrder.{IsUpTo, numbers_of};
 ghost use Rattle.order_clocks.specs.declared.pairs.Meeting.TheVariants.{Later, Together, Waiting};

@@ -3,7 +3,7 @@ ghost use Rattle.axis_sets.specs.Sets.{has, members_of};
 ghost use Rattle.axis_sets.specs.declared.limits.TheConstants.{CHANNEL_PLACES};
 ghost use Rattle.counter_rows.specs.Rows.{count_of, top, IsMissed};
 ghost use Rattle.order_clocks.specs.Courses.{Course};
-ghost use Rattle.order_clocks.specs.Happenings.{Trace};
+ghost use Rattle.order_clocks.specs.TracedRaces.{Trace};
 ghost use Rattle.order_clocks.specs.LastPlaces.{AreLast, IsTracked, deed_leaves, deed_minds, departure_leaves, departure_minds, hold_minds, leaves_of, spot_at};
 ghost use Rattle.order_clocks.specs.Steps.{AreRows, IsStep};
 ghost use Rattle.order_clocks.specs.Tracks.{IsRacyAt, Tracks};

@@ -32,7 +32,7 @@ pub struct Times {
 }
 
 impl Times {
-    /// IsBeforeIn all events.
+    /// Before all events.
     pub fn new() -> Times
         ensures past { (c x : ℕ) → count_of (slice_index_or result.past c []) x ≡ 0 }
         ensures last { (k : Key) (x : ℕ) → count_of (row_at result k) x ≡ 0 }

@@ -1,7 +1,7 @@
 use Rattle.std.proofs.Common.{ℕ, map, refl, sym, ap, ◌∙◌}
 use Rattle.axis_sets.specs.Sets.{members_of}
 use Rattle.counter_rows.specs.Rows.{count_of}
-use Rattle.order_clocks.specs.Happenings.{Needed, Touched}
+use Rattle.order_clocks.specs.TracedRaces.{Needed, Touched}
 use Rattle.order_clocks.specs.LastPlaces.{spot_at, hold_minds}
 use Rattle.order_clocks.proofs.StepLaws.{most_is}
 use Rattle.order_clocks.proofs.PlaceLaws.{three_tops}

@@ -1,6 +1,6 @@
 use Rattle.std.proofs.Common.{ℕ, refl, sym, ap, ◌∙◌}
 use Rattle.counter_rows.specs.Rows.{count_of}
-use Rattle.order_clocks.specs.Happenings.{Lowered, Took}
+use Rattle.order_clocks.specs.TracedRaces.{Lowered, Took}
 use Rattle.order_clocks.specs.LastPlaces.{spot_at}
 use Rattle.step_deeds.specs.declared.deed.Hold.TheVariants.{Marks}
 use Rattle.order_clocks.proofs.StepLaws.{most_is}

@@ -1,6 +1,6 @@
 use Rattle.std.proofs.Common.{◌≡◌, ℕ, ◌<◌, ◌≤◌, [], None, slice_index_or, if◌then◌else◌}
 use Rattle.counter_rows.specs.Rows.{count_of}
-use Rattle.order_clocks.specs.Happenings.{Trace}
+use Rattle.order_clocks.specs.TracedRaces.{Trace}
 use Rattle.order_clocks.specs.LastPlaces.{spot_at, leaves_of}
 use Rattle.order_clocks.proofs.places.Places.note_goes.Given as goal
 
