@@ -81,7 +81,7 @@ module _ (key : StartView) where
         seats = total_cut part_count s.views id v left right at lengths ∙ k.seats;
         few = k.few;
         lone = λ c. subst (λ (y : ℕ). y ≤ 1) (sym (total_cut (parts_of_channel c) s.views id v left right at (cut_times c v.parts))) (k.lone c);
-        marked = λ on. subst (λ (y : ℕ). 1 ≤ y) (sym (total_cut marks_of s.views id v left right at (cut_marks v.parts))) (k.marked on);
+        marked = total_cut marks_of s.views id v left right at (cut_marks v.parts) ∙ k.marked;
       }
 
   -- kind 8
@@ -107,7 +107,7 @@ module _ (key : StartView) where
         seats = total_glue part_count s.views id other v w both spent_view at there_ (omega (arith, lengths)) ∙ k.seats;
         few = k.few;
         lone = λ c. subst (λ (y : ℕ). y ≤ 1) (sym (total_glue (parts_of_channel c) s.views id other v w both spent_view at there_ (let e = total_append (λ (p : Part). one_if (p.channel == c)) w.parts v.parts in omega (arith, e)))) (k.lone c);
-        marked = λ on. subst (λ (y : ℕ). 1 ≤ y) (sym (total_glue marks_of s.views id other v w both spent_view at there_ (let e = total_append (λ (p : Part). one_if p.seen.closed) w.parts v.parts in omega (arith, e)))) (k.marked on);
+        marked = total_glue marks_of s.views id other v w both spent_view at there_ (let e = total_append (λ (p : Part). one_if p.shut) w.parts v.parts in omega (arith, e)) ∙ k.marked;
       }
 
   -- a seat with no part
@@ -129,7 +129,7 @@ module _ (key : StartView) where
       seats = let c = k.seats in let a = sum part_count in omega (arith, c, a);
       few = k.few;
       lone = λ x. let c = k.lone x in let a = sum (parts_of_channel x) in omega (arith, c, a);
-      marked = λ on. let c = k.marked on in let a = sum marks_of in omega (arith, c, a);
+      marked = let c = k.marked in let a = sum marks_of in omega (arith, c, a);
     },
     refl,
   )

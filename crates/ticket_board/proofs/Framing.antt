@@ -14,7 +14,7 @@ use Rattle.ticket_board.specs.declared.rule.Part.{Part}
 use Rattle.ticket_board.specs.declared.rule.View.{View}
 use Rattle.ticket_board.specs.declared.rule.Stage.TheVariants.{Idle}
 use Rattle.ticket_board.specs.Rule.{Every, ticket_in, ticket_count, tickets_of, part_count, one_if, marks_for, marks_of, Fits, Knows, HomeIs, IsKept, fresh_part, first_view}
-use Rattle.ticket_board.proofs.Totals.{total_two, total_rest, total_map, length_map}
+use Rattle.ticket_board.proofs.Totals.{total_at, total_two, total_rest, total_map, length_map}
 use Rattle.ticket_board.proofs.Histories.{history, differ, fits_fresh}
 use Rattle.ticket_board.proofs.Keeps.{held, same_at}
 use Rattle.ticket_board.proofs.Channels.{few_channels, each_once}
@@ -23,6 +23,10 @@ use Rattle.ticket_board.specs.Passes.{no_history}
 fresh_fit : (start : StartView) (cs : List ℕ) → Every (Fits start no_history) (map fresh_part cs)
 fresh_fit start [] = tt
 fresh_fit start (c ∷ cs) = (fits_fresh start no_history c refl, fresh_fit start cs)
+
+fresh_marks : (cs : List ℕ) → marks_for (map fresh_part cs) ≡ 0
+fresh_marks [] = refl
+fresh_marks (c ∷ cs) = let r = fresh_marks cs in omega (arith, r)
 
 only : (v d : View) (j : ℕ) → get_elem? (v ∷ []) j ≡ some d → v ≡ d
 only v d j e = ⊎_elim (λ (t : get_elem? {A = View} [] j ≡ some d). absurd (some-ne-none d (sym t))) (λ (t : v ≡ d). t) (at_snoc [] v d j e)
@@ -44,7 +48,7 @@ opens key l start_is empty unshut = let v : View = first_view key in let long = 
   seats = omega (arith, long);
   few = few_channels key;
   lone = λ c. let same = total_map (λ (p : Part). one_if (p.channel == c)) (λ (x : ℕ). one_if (x == c)) fresh_part (channels_of key) (λ x. refl) in let most = each_once key c in omega (arith, same, most);
-  marked = λ on. absurd (differ on);
+  marked = let none = fresh_marks (channels_of key) in omega (arith, none);
 }
 
 -- once all parts are in one seat, no seat holds the slot
@@ -55,26 +59,26 @@ none_out key s k id v true at idle all h = let w : View = h.1 in let n : ℕ = h
     (λ here. absurd (differ (sym (ap held idle) ∙ (ap (λ (z : View). held z.stage) (same_at s.views id v w at (ap (get_elem? s.views) (sym here) ∙ h.3)) ∙ ap held h.4))))
     (λ other. let two = total_two part_count s.views id k.holder v w other at h.3 in let room = (k.each k.holder w h.3).room in let one : tickets_of w ≡ 1 = ap ticket_count h.4 in let seats = k.seats in absurd (omega (arith, two, room, one, seats, all)))
 
-at_most_one : (b : Bool) → one_if b ≤ 1
+pub at_most_one : (b : Bool) → one_if b ≤ 1
 at_most_one true = omega arith
 at_most_one false = omega arith
 
 marks_few : (ps : List Part) → marks_for ps ≤ length ps
 marks_few [] = omega arith
-marks_few (p ∷ ps) = let a = at_most_one p.seen.closed in let b = marks_few ps in omega (arith, a, b)
+marks_few (p ∷ ps) = let a = at_most_one p.shut in let b = marks_few ps in omega (arith, a, b)
 
--- and the closing mark was seen for one of them
-all_marked : (key : StartView) (s : State (Option Locked) View) (k : IsKept key s) (id : ℕ) (v : View) → get_elem? s.views id ≡ some v → length v.parts ≡ length (channels_of key) → k.log.closed ≡ true → 1 ≤ marks_for v.parts
-all_marked key s k id v at all on =
-    let a = total_rest marks_of part_count s.views id v (λ w. marks_few w.parts) at in let b = k.marked on in let c = k.seats in omega (arith, a, b, c, all)
+-- and the closing mark was put for one of them, or for none
+all_marked : (key : StartView) (s : State (Option Locked) View) (k : IsKept key s) (id : ℕ) (v : View) → get_elem? s.views id ≡ some v → length v.parts ≡ length (channels_of key) → marks_for v.parts ≡ one_if k.log.closed
+all_marked key s k id v at all =
+    let a = total_rest marks_of part_count s.views id v (λ w. marks_few w.parts) at in let b = k.marked in let c = k.seats in let d = total_at marks_of s.views id v at in omega (arith, a, b, c, d, all)
 
 pub final_home : (key : StartView) (id : ℕ) (v : View) (ws : List ℕ) (xs : List (Option Locked)) → v.stage ≡ Idle → length v.parts ≡ length (channels_of key) → Final (Seen (IsKept key) id v) ws xs
-    → (l : Locked) × (get_elem? xs 0 ≡ some (Some l)) × (l.board.start ≡ key) × Every (Fits key (history_of l)) v.parts × (l.closed ≡ true → 1 ≤ marks_for v.parts)
+    → (l : Locked) × (get_elem? xs 0 ≡ some (Some l)) × (l.board.start ≡ key) × Every (Fits key (history_of l)) v.parts × (marks_for v.parts ≡ one_if l.closed)
 final_home key id v ws xs idle all f = let s : State (Option Locked) View = f.0 in let k : IsKept key s = f.1.0 in let at = f.1.1 in
     let h = none_out key s k id v k.out at idle all k.home in let l : Locked = h.0 in (
       l,
       f.4 0 (Some l) (ap (λ (hs : List (OptionAt (Option Locked))). get_elem? hs 0) h.1),
       h.2,
       subst (λ (x : History). Every (Fits key x) v.parts) (sym h.3) (k.each id v at).fits,
-      λ on. all_marked key s k id v at all (sym (ap (λ (x : History). x.closed) h.3) ∙ on),
+      all_marked key s k id v at all ∙ ap (λ (x : History). one_if x.closed) (sym h.3),
     )

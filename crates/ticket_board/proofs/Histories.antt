@@ -2,12 +2,12 @@
 use Rattle.coord_core.proofs.Running.{sees_itself}
 use Rattle.coord_core.specs.Desks.{SeesOn, own_entries}
 use Rattle.coord_core.specs.Histories.{History}
-use Rattle.std.proofs.Common.{Bool, List, ap, append_assoc, arith, false, inl, inr, ne_eqb, refl, rules, subst, sym, true, ℕ, ◌≡◌, ◌≢◌, ◌+◌, ◌==◌, [], ◌∷◌, ◌++◌, ◌∙◌}
+use Rattle.std.proofs.Common.{◌&&◌, ◌||◌, Bool, List, not, ap, append_assoc, arith, false, inl, inr, ne_eqb, refl, rules, subst, sym, true, ℕ, ◌≡◌, ◌≢◌, ◌+◌, ◌==◌, [], ◌∷◌, ◌++◌, ◌∙◌}
 use Rattle.std.proofs.lemmas.List.{append-nil, length-append}
 use Rattle.std.proofs.lemmas.List.Elements.{filter-append}
 use Rattle.sync_types.specs.Views.{EntryView, StartView}
 use Rattle.ticket_board.specs.Passes.{no_history}
-use Rattle.ticket_board.specs.Rule.{AreLawful, Fits, fresh_part, length_with_mark, mark_length}
+use Rattle.ticket_board.specs.Rule.{AreLawful, Fits, fresh_part, length_with_mark, mark_length, one_if}
 use Rattle.ticket_board.specs.Steps.{Goes, with_count, with_seen}
 use Rattle.ticket_board.specs.declared.rule.Part.{Part}
 
@@ -24,17 +24,17 @@ own_seen c seen log s = ap (own_entries c) s.begins ∙ (own_append c seen.entri
 pub own_whole : (start : StartView) (log : History) (p : Part) → Fits start log p → own_entries p.channel log.entries ≡ p.mine
 own_whole start log p f = own_seen p.channel p.seen log f.sees ∙ f.mine
 
-pub fits_fresh : (start : StartView) (log : History) (c : ℕ) → log ≡ no_history → Fits start log (fresh_part c)
-fits_fresh start log c is = record { lawful = tt; sees = record { more = []; begins = ap (λ (h : History). h.entries) is; others = refl; closed = λ e. is }; mine = refl }
-
-pub fits_seen : (start : StartView) (log : History) (p : Part) → AreLawful start log.entries → Fits start log p → Fits start log (with_seen log p)
-fits_seen start log p lawful f = record { lawful = lawful; sees = sees_itself p.channel log; mine = own_whole start log p f }
-
-pub fits_counted : (start : StartView) (log : History) (p : Part) → AreLawful start log.entries → Fits start log (with_count log p)
-fits_counted start log p lawful = record { lawful = lawful; sees = sees_itself p.channel log; mine = refl }
-
 pub differ : false ≡ true → ⊥
 differ e = search rules
+
+pub fits_fresh : (start : StartView) (log : History) (c : ℕ) → log ≡ no_history → Fits start log (fresh_part c)
+fits_fresh start log c is = record { lawful = tt; sees = record { more = []; begins = ap (λ (h : History). h.entries) is; others = refl; closed = λ e. is }; mine = refl; shut = λ on. absurd (differ on) }
+
+pub fits_seen : (start : StartView) (log : History) (p : Part) → AreLawful start log.entries → Fits start log p → Fits start log (with_seen log p)
+fits_seen start log p lawful f = record { lawful = lawful; sees = sees_itself p.channel log; mine = own_whole start log p f; shut = λ on. ap (λ (h : History). h.closed) (f.sees.closed (f.shut on)) ∙ f.shut on }
+
+pub fits_counted : (start : StartView) (log : History) (p : Part) → AreLawful start log.entries → ((with_count log p).shut ≡ true → log.closed ≡ true) → Fits start log (with_count log p)
+fits_counted start log p lawful shut = record { lawful = lawful; sees = sees_itself p.channel log; mine = refl; shut = shut }
 
 none_in : (c : ℕ) (e : EntryView) (b : Bool) → (e.channel == c) ≡ b → b ≡ false → own_entries c (e ∷ []) ≡ []
 none_in c e true is f = absurd (differ (sym f))
@@ -51,6 +51,7 @@ fits_more start es e p other f = record {
     closed = λ is. absurd (differ (ap (λ (h : History). h.closed) (f.sees.closed is) ∙ is));
   };
   mine = f.mine;
+  shut = f.shut;
 }
 
 pub fits_shut : (start : StartView) (es : List EntryView) (p : Part) → Fits start (history es false) p → Fits start (history es true) p
@@ -63,6 +64,7 @@ fits_shut start es p f = record {
     closed = λ is. absurd (differ (ap (λ (h : History). h.closed) (f.sees.closed is) ∙ is));
   };
   mine = f.mine;
+  shut = f.shut;
 }
 
 -- what another channel has seen stays a beginning with all of its entries, where the history goes on from p
@@ -82,3 +84,34 @@ pub goes_length : (start : StartView) (p : Part) (after : History) (k : ℕ) →
 goes_length start p after k (inl same) = let a = ap length_with_mark same.0 in let z = same.1 in omega (arith, a, z)
 goes_length start p after k (inr (unshut, one, inl made)) = let e : EntryView = made.0 in let a = ap length_with_mark made.3 in let m : mark_length p.seen.closed ≡ 0 = ap mark_length unshut in let long = length-append p.seen.entries (e ∷ []) in omega (arith, a, m, one, long)
 goes_length start p after k (inr (unshut, one, inr is)) = let a = ap length_with_mark is in let m : mark_length p.seen.closed ≡ 0 = ap mark_length unshut in omega (arith, a, m, one)
+
+-- ---- the closing mark
+
+-- a closed history goes on as it is
+pub goes_closed : (start : StartView) (p : Part) (after : History) (k : ℕ) → Goes start p after k → p.seen.closed ≡ true → after.closed ≡ true
+goes_closed start p after k (inl same) on = ap (λ (h : History). h.closed) same.0 ∙ on
+goes_closed start p after k (inr (unshut, one, made)) on = absurd (differ (sym unshut ∙ on))
+
+-- where the mark was put, before or now, the history after it is closed
+pub mark_stays : (was before after : Bool) → (was ≡ true → after ≡ true) → (was || (not before && after)) ≡ true → after ≡ true
+mark_stays true before after earlier on = earlier refl
+mark_stays false true after earlier on = absurd (differ on)
+mark_stays false false after earlier on = on
+
+pub counted_mark : (start : StartView) (p : Part) (after : History) (k : ℕ) → Goes start p after k → (p.shut ≡ true → p.seen.closed ≡ true) → (with_count after p).shut ≡ true → after.closed ≡ true
+counted_mark start p after k goes seen = mark_stays p.shut p.seen.closed after.closed (λ on. goes_closed start p after k goes (seen on))
+
+-- one mark more was put exactly where the history has it and had it not
+marks_grow : (was before after : Bool) → (was ≡ true → before ≡ true) → (before ≡ true → after ≡ true) → one_if before + one_if (was || (not before && after)) ≡ one_if after + one_if was
+marks_grow true true true seen stays = refl
+marks_grow false true true seen stays = refl
+marks_grow true true false seen stays = absurd (differ (stays refl))
+marks_grow false true false seen stays = absurd (differ (stays refl))
+marks_grow true false true seen stays = absurd (differ (seen refl))
+marks_grow true false false seen stays = absurd (differ (seen refl))
+marks_grow false false true seen stays = refl
+marks_grow false false false seen stays = refl
+
+pub goes_marks : (start : StartView) (p : Part) (after : History) (k : ℕ) → Goes start p after k → (p.shut ≡ true → p.seen.closed ≡ true)
+    → one_if p.seen.closed + one_if (with_count after p).shut ≡ one_if after.closed + one_if p.shut
+goes_marks start p after k goes seen = marks_grow p.shut p.seen.closed after.closed seen (goes_closed start p after k goes)

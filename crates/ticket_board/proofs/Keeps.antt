@@ -17,8 +17,8 @@ use Rattle.ticket_board.specs.declared.rule.Stage.{Stage}
 use Rattle.ticket_board.specs.declared.rule.Stage.TheVariants.{Idle, Waiting, Holding}
 use Rattle.ticket_board.specs.Rule.{AreLawful, length_with_mark, Every, total, ticket_in, ticket_count, tickets_of, part_count, one_if, parts_for, parts_of_channel, marks_for, marks_of, Fits, Stands, Knows, HomeIs, AreApart, IsKept}
 use Rattle.ticket_board.specs.Steps.{Mine, at_stage, Draws, with_seen, Takes, awaited_ticket, Reads, with_count, Counts, Goes, Serves}
-use Rattle.ticket_board.proofs.Totals.{total_set, total_at, total_two, total_le, total_same, every_map, every_always, total_map, length_map}
-use Rattle.ticket_board.proofs.Histories.{differ, fits_seen, fits_counted, goes_fits, goes_lawful, goes_length}
+use Rattle.ticket_board.proofs.Totals.{total_set, total_two, total_le, total_same, every_map, every_always, total_map, length_map}
+use Rattle.ticket_board.proofs.Histories.{counted_mark, differ, fits_seen, fits_counted, goes_fits, goes_lawful, goes_length, goes_marks}
 
 abbrev pub held : Stage → Bool
 held (Holding n) = true
@@ -65,16 +65,9 @@ pub home_stays : (start : StartView) (log : History) (holder : ℕ) (vs : List V
 home_stays start log holder vs false homes me v w at unheld h = h
 home_stays start log holder vs true homes me v w at unheld h = (h.0, h.1, h.2, set_else vs me holder w (λ e. differ (sym unheld ∙ (ap (λ (z : View). held z.stage) (same_at vs me v h.1 at (ap (get_elem? vs) (sym e) ∙ h.3)) ∙ ap held h.4))) ∙ h.3, h.4)
 
-marks_all : (h : History) (ps : List Part) → h.closed ≡ true → total (λ (p : Part). one_if h.closed) ps ≡ length ps
-marks_all h [] on = refl
-marks_all h (p ∷ ps) on = let e : one_if h.closed ≡ 1 = ap one_if on in let r = marks_all h ps on in omega (arith, e, r)
-
--- a seat whose parts have all seen the closing mark
-marked_there : (vs : List View) (id : ℕ) (v w : View) (h : History) (f : Part → Part) (ps : List Part) → get_elem? vs id ≡ some v → w.parts ≡ map f ps → ((p : Part) → one_if (f p).seen.closed ≡ one_if h.closed)
-    → 0 < length ps → h.closed ≡ true → 1 ≤ total marks_of (set vs id w)
-marked_there vs id v w h f ps at is same some_part on =
-    let up = total_at marks_of (set vs id w) id w (set_there vs id v w at) in let a : marks_of w ≡ marks_for (map f ps) = ap marks_for is in
-    let b = total_map (λ (p : Part). one_if p.seen.closed) (λ (p : Part). one_if h.closed) f ps same in let c = marks_all h ps on in omega (arith, up, a, b, c, some_part)
+-- the marks of all seats, where those of one seat grow as the history does
+marks_after : (all all_after mine mine_after log log_after : ℕ) → all_after + mine ≡ all + mine_after → all ≡ log → log + mine_after ≡ log_after + mine → all_after ≡ log_after
+marks_after all all_after mine mine_after log log_after changed as_many grown = omega (arith, changed, as_many, grown)
 
 module _ (key : StartView) where
   abbrev St : Type 0
@@ -107,7 +100,7 @@ module _ (key : StartView) where
           seats = total_same part_count s.views id v w at refl ∙ k.seats;
           few = k.few;
           lone = λ c. subst (λ (x : ℕ). x ≤ 1) (sym (total_same (parts_of_channel c) s.views id v w at refl)) (k.lone c);
-          marked = λ on. subst (λ (x : ℕ). 1 ≤ x) (sym (total_same marks_of s.views id v w at refl)) (k.marked on);
+          marked = total_same marks_of s.views id v w at refl ∙ k.marked;
         },
         (k.drawn, ap (λ (ws : List ℕ). get_or ws 0 0) k.words, refl),
       )
@@ -174,7 +167,7 @@ module _ (key : StartView) where
           seats = total_same part_count s.views id v w at many ∙ k.seats;
           few = k.few;
           lone = λ c. subst (λ (x : ℕ). x ≤ 1) (sym (total_same (parts_of_channel c) s.views id v w at (total_map (λ (p : Part). one_if (p.channel == c)) (λ (p : Part). one_if (p.channel == c)) (with_seen (history_of l)) v.parts (λ p. refl)))) (k.lone c);
-          marked = λ on. marked_there s.views id v w (history_of l) (with_seen (history_of l)) v.parts at refl (λ p. refl) some_part (ap (λ (h : History). h.closed) log_is ∙ on);
+          marked = total_same marks_of s.views id v w at (total_map (λ (p : Part). one_if p.shut) (λ (p : Part). one_if p.shut) (with_seen (history_of l)) v.parts (λ p. refl)) ∙ k.marked;
         },
         h.2 ∙ sym start_same,
         subst (λ (z : StartView × History). AreLawful z.0 z.1.entries) (λ i. (sym start_same i, sym log_is i)) k.lawful,
@@ -228,6 +221,11 @@ module _ (key : StartView) where
       let one : parts_for p.channel v.parts ≡ 1 = ap (parts_for p.channel) parts_are ∙ let hit : one_if (p.channel == p.channel) ≡ 1 = ap one_if (eq-eqb p.channel p.channel refl) in omega (arith, hit) in
       let sum = total_set tickets_of s.views id v w at in let c = k.counted in let room = mine.room in
       let word : get_or s.words 2 0 ≡ length_with_mark k.log = ap (λ (ws : List ℕ). get_or ws 2 0) k.words in let grows = goes_length key p after more goes' in let same_extent = ap length_with_mark seen in
+      let own : Fits key k.log p = (subst (Every (Fits key k.log)) parts_are mine.fits).0 in
+      let MarkStays : Part → Type 0 = λ q. (with_count after q).shut ≡ true → after.closed ≡ true in
+      let one_mark = goes_marks key p after more goes' own.shut in
+      let grown : one_if p.seen.closed + marks_for (map (with_count after) v.parts) ≡ one_if after.closed + marks_for v.parts =
+      subst (λ (ps : List Part). one_if p.seen.closed + marks_for (map (with_count after) ps) ≡ one_if after.closed + marks_for ps) (sym parts_are) (omega (arith, one_mark)) in
       let new_word : (length_with_mark k.log + more) % 18446744073709551616 ≡ length_with_mark after = subst (λ (x : ℕ). (x + more) % 18446744073709551616 ≡ length_with_mark after) same_extent (mod-eq_of_lt fits_word ∙ grows) in (
         w,
         keeps,
@@ -244,7 +242,8 @@ module _ (key : StartView) where
           each = seats_stay (Knows key after k.drawn k.served id true) s.views id w
               record {
                 start_is = λ _. start_same;
-                fits = every_map (λ (q : Part). Unit {0}) (Fits key after) (with_count after) v.parts (λ q _. fits_counted key after q legal') (every_always (λ (q : Part). Unit {0}) v.parts (λ q. tt));
+                fits = every_map MarkStays (Fits key after) (with_count after) v.parts (λ q stays. fits_counted key after q legal' stays)
+                    (subst (Every MarkStays) (sym parts_are) (counted_mark key p after more goes' own.shut, tt));
                 room = omega arith;
                 stands = subst (Stands after k.drawn k.served id true id w.parts) (sym holds_) (
                   place.0,
@@ -266,7 +265,8 @@ module _ (key : StartView) where
           seats = total_same part_count s.views id v w at many ∙ k.seats;
           few = k.few;
           lone = λ x. subst (λ (y : ℕ). y ≤ 1) (sym (total_same (parts_of_channel x) s.views id v w at (total_map (λ (q : Part). one_if (q.channel == x)) (λ (q : Part). one_if (q.channel == x)) (with_count after) v.parts (λ q. refl)))) (k.lone x);
-          marked = λ on. marked_there s.views id v w after (with_count after) v.parts at refl (λ q. refl) some_part on;
+          marked = marks_after (total marks_of s.views) (total marks_of (set s.views id w)) (marks_of v) (marks_of w) (one_if p.seen.closed) (one_if after.closed)
+              (total_set marks_of s.views id v w at) (k.marked ∙ ap (λ (h : History). one_if h.closed) (sym seen)) grown;
         },
         refl,
       )
@@ -313,7 +313,7 @@ module _ (key : StartView) where
           seats = total_same part_count s.views id v w at refl ∙ k.seats;
           few = k.few;
           lone = λ x. subst (λ (y : ℕ). y ≤ 1) (sym (total_same (parts_of_channel x) s.views id v w at refl)) (k.lone x);
-          marked = λ on. subst (λ (x : ℕ). 1 ≤ x) (sym (total_same marks_of s.views id v w at refl)) (k.marked on);
+          marked = total_same marks_of s.views id v w at refl ∙ k.marked;
         },
         refl,
       )

@@ -6,4 +6,5 @@ mod Cuts
 mod Framing
 mod Turning
 mod Waits
+mod Sharing
 pub mod Passes

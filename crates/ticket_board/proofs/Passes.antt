@@ -8,7 +8,7 @@ use Rattle.std.proofs.Common.{◌||◌, All, Bool, List, Option, Some, ap, arith
 use Rattle.std.specs.List.{list_any, range_with_len}
 use Rattle.sync_types.specs.Starts.{has_channel}
 use Rattle.sync_types.specs.Views.{StartView}
-use Rattle.ticket_board.proofs.Framing.{final_home}
+use Rattle.ticket_board.proofs.Framing.{at_most_one, final_home}
 use Rattle.ticket_board.proofs.Histories.{differ, own_whole}
 use Rattle.ticket_board.proofs.Totals.{length_map}
 use Rattle.ticket_board.specs.Passes.{EndsFor, HasOneHistory, IsPassOf, TicketBoardView, TicketPassView, channels_of, fresh_pass, fresh_passes}
@@ -23,10 +23,10 @@ use mathlib.Core.Option.{some, some-injective}
 
 pub fresh_is_pass : (t : TableId) (v : View) (c : ℕ) (ps : List Part) → v.parts ≡ fresh_part c ∷ ps → IsPass (only_first v, []) c × (pass_view t (only_first v, []) c ≡ first_pass t v.start c)
 fresh_is_pass t v c ps is = subst (λ (qs : List Part). IsPass (record { start = v.start; parts = take 1 qs; stage = Idle }, []) c × (pass_view t (record { start = v.start; parts = take 1 qs; stage = Idle }, []) c ≡ first_pass t v.start c)) (sym is)
-    ((refl, refl, refl, refl, tt, refl), refl)
+    ((refl, refl, refl, refl, tt, refl, λ on. absurd (differ on)), refl)
 
 pub part_is : (t : TableId) (m : Mine) (c : ℕ) → IsPass m c → m.0.parts ≡ part_in (pass_view t m c) ∷ []
-part_is t m c pass = pass.2 ∙ ap (λ (x : ℕ). record { channel = x; seen = (part_of m.0).seen; mine = (part_of m.0).mine } ∷ []) pass.3
+part_is t m c pass = pass.2 ∙ ap (λ (x : ℕ). record { channel = x; seen = (part_of m.0).seen; mine = (part_of m.0).mine; shut = (part_of m.0).shut } ∷ []) pass.3
 
 -- ---- the channels from a number on
 
@@ -81,20 +81,71 @@ fresh_count board = length_map (fresh_pass board) (channels_of board.start)
 
 pub ends_for : (start : StartView) (l : Locked) (ps : List TicketPassView) → Every (Fits start (history_of l)) (map part_in ps) → Every (EndsFor (history_of l)) ps
 ends_for start l [] e = tt
-ends_for start l (p ∷ ps) e = (record { seen = e.0.sees; mine = own_whole start (history_of l) (part_in p) e.0 }, ends_for start l ps e.1)
+ends_for start l (p ∷ ps) e = (record { seen = e.0.sees; mine = own_whole start (history_of l) (part_in p) e.0; shut = e.0.shut }, ends_for start l ps e.1)
 
 -- ---- the closing mark
 
 abbrev has_seen_mark : TicketPassView → Bool
 has_seen_mark pass = pass.seen.closed
 
+abbrev has_put_mark : TicketPassView → Bool
+has_put_mark pass = pass.shut
+
+same_truth : (a b : Bool) → (a ≡ true → b ≡ true) → (b ≡ true → a ≡ true) → a ≡ b
+same_truth true b f g = sym (f refl)
+same_truth false true f g = absurd (differ (g refl))
+same_truth false false f g = refl
+
+-- ---- where it was put
+
 mark_counted : (b : Bool) (n : ℕ) (left_ : Bool) → 1 ≤ one_if b + n → (1 ≤ n → left_ ≡ true) → (b || left_) ≡ true
 mark_counted true n left_ one_there more = refl
 mark_counted false n left_ one_there more = more (omega (arith, one_there))
 
-mark_seen : (ps : List TicketPassView) → 1 ≤ marks_for (map part_in ps) → list_any has_seen_mark ps ≡ true
-mark_seen [] one_there = absurd (omega (arith, one_there))
-mark_seen (p ∷ ps) one_there = mark_counted p.seen.closed (marks_for (map part_in ps)) (list_any has_seen_mark ps) one_there (mark_seen ps)
+mark_put : (ps : List TicketPassView) → 1 ≤ marks_for (map part_in ps) → list_any has_put_mark ps ≡ true
+mark_put [] one_there = absurd (omega (arith, one_there))
+mark_put (p ∷ ps) one_there = mark_counted p.shut (marks_for (map part_in ps)) (list_any has_put_mark ps) one_there (mark_put ps)
+
+counts_mark : (b left_ : Bool) (n : ℕ) → (b || left_) ≡ true → (left_ ≡ true → 1 ≤ n) → 1 ≤ one_if b + n
+counts_mark true left_ n either more = omega arith
+counts_mark false left_ n either more = let m = more either in omega (arith, m)
+
+put_counted : (ps : List TicketPassView) → list_any has_put_mark ps ≡ true → 1 ≤ marks_for (map part_in ps)
+put_counted [] one_there = absurd (differ one_there)
+put_counted (p ∷ ps) one_there = counts_mark p.shut (list_any has_put_mark ps) (marks_for (map part_in ps)) one_there (put_counted ps)
+
+longer_by : (b : Bool) (p : TicketPassView) (n : ℕ) (ps : List TicketPassView) → n ≡ length ps → one_if b + n ≡ length (if b then p ∷ ps else ps)
+longer_by true p n ps is = omega (arith, is)
+longer_by false p n ps is = omega (arith, is)
+
+marks_as_put : (ps : List TicketPassView) → marks_for (map part_in ps) ≡ length (filter has_put_mark ps)
+marks_as_put [] = refl
+marks_as_put (p ∷ ps) = longer_by p.shut p (marks_for (map part_in ps)) (filter has_put_mark ps) (marks_as_put ps)
+
+one_there_is : (b : Bool) → 1 ≤ one_if b → b ≡ true
+one_there_is true there = refl
+one_there_is false there = absurd (omega (arith, there))
+
+-- the history is closed exactly where a pass has put the mark
+closed_as_put : (b : Bool) (ps : List TicketPassView) → marks_for (map part_in ps) ≡ one_if b → b ≡ list_any has_put_mark ps
+closed_as_put b ps is = same_truth b (list_any has_put_mark ps)
+    (λ on. let one : one_if b ≡ 1 = ap one_if on in mark_put ps (omega (arith, is, one)))
+    (λ on. let one = put_counted ps on in one_there_is b (omega (arith, is, one)))
+
+-- which one has
+put_once : (b : Bool) (ps : List TicketPassView) → marks_for (map part_in ps) ≡ one_if b → length (filter has_put_mark ps) ≤ 1
+put_once b ps is = let as_many = marks_as_put ps in let few = at_most_one b in omega (arith, as_many, few, is)
+
+-- ---- where it was seen
+
+either_more : (a b c d : Bool) → (a || b) ≡ true → (a ≡ true → c ≡ true) → (b ≡ true → d ≡ true) → (c || d) ≡ true
+either_more true b c d either here there = ap (λ (x : Bool). x || d) (here refl)
+either_more false b true d either here there = refl
+either_more false b false d either here there = there either
+
+put_seen : (h : History) (ps : List TicketPassView) → Every (EndsFor h) ps → list_any has_put_mark ps ≡ true → list_any has_seen_mark ps ≡ true
+put_seen h [] e one_there = one_there
+put_seen h (p ∷ ps) e one_there = either_more p.shut (list_any has_put_mark ps) p.seen.closed (list_any has_seen_mark ps) one_there e.0.shut (put_seen h ps e.1)
 
 mark_by : (a b x : Bool) → (a || b) ≡ true → (a ≡ true → x ≡ true) → (b ≡ true → x ≡ true) → x ≡ true
 mark_by true b x either here there = here refl
@@ -103,11 +154,6 @@ mark_by false b x either here there = there either
 mark_stands : (h : History) (ps : List TicketPassView) → Every (EndsFor h) ps → list_any has_seen_mark ps ≡ true → h.closed ≡ true
 mark_stands h [] e one_there = absurd (differ one_there)
 mark_stands h (p ∷ ps) e one_there = mark_by p.seen.closed (list_any has_seen_mark ps) h.closed one_there (λ on. ap (λ (x : History). x.closed) (e.0.seen.closed on) ∙ on) (mark_stands h ps e.1)
-
-same_truth : (a b : Bool) → (a ≡ true → b ≡ true) → (b ≡ true → a ≡ true) → a ≡ b
-same_truth true b f g = sym (f refl)
-same_truth false true f g = absurd (differ (g refl))
-same_truth false false f g = refl
 
 nil_of : {X : Type 0} (xs : List X) → length xs ≡ 0 → xs ≡ []
 nil_of [] h = refl
@@ -127,7 +173,8 @@ finished key id v ws xs ps left done slot idle parts are none_left all final at 
     let long = length_map part_in done in let a = ap (λ (zs : List TicketPassView). length zs) same in let b = ap (λ (zs : List Part). length zs) parts in
     let f = final_home key id v ws xs idle (omega (arith, long, a, b, all)) final in let l : Locked = f.0 in
     let ends : Every (EndsFor (history_of l)) ps = subst (Every (EndsFor (history_of l))) (sym same) (ends_for key l done (subst (Every (Fits key (history_of l))) parts f.3)) in
-    let marks : v.parts ≡ map part_in ps = parts ∙ ap (map part_in) (sym same) in record {
+    let marks : marks_for (map part_in ps) ≡ one_if l.closed = subst (λ (qs : List Part). marks_for qs ≡ one_if l.closed) (parts ∙ ap (map part_in) (sym same)) f.4 in
+    let put : l.closed ≡ list_any has_put_mark ps = closed_as_put l.closed ps marks in record {
       locked = l;
       slot_is = some-injective slot (Some l) (sym at ∙ f.1);
       start_is = f.2;
@@ -135,8 +182,8 @@ finished key id v ws xs ps left done slot idle parts are none_left all final at 
         history = history_of l;
         entries = refl;
         each = all_of_every (EndsFor (history_of l)) ps ends;
-        closed = same_truth l.closed (list_any has_seen_mark ps)
-            (λ on. mark_seen ps (subst (λ (qs : List Part). 1 ≤ marks_for qs) marks (f.4 on)))
-            (mark_stands (history_of l) ps ends);
+        closed = put;
+        seen = same_truth l.closed (list_any has_seen_mark ps) (λ on. put_seen (history_of l) ps ends (sym put ∙ on)) (mark_stands (history_of l) ps ends);
+        once = put_once l.closed ps marks;
       };
     }

@@ -1,23 +1,25 @@
 -- What is known on the way of a turn.
 use Rattle.atomic_table.specs.Seated.{TableId}
+use Rattle.coord_core.proofs.Outcomes.{tells_what_is}
 use Rattle.coord_core.proofs.Running.{seen_running}
 use Rattle.coord_core.specs.BoardTurns.{Brings, ToAct, ToClosed, ToLook, ToNoMemory, closed_after}
 use Rattle.coord_core.specs.Desks.{Acts, Closes, IsSamePass, Looks, SeesOn, own_entries}
 use Rattle.coord_core.specs.Histories.{History, answer_of, board_of, history_of, runs}
 use Rattle.coord_core.specs.declared.locked.Locked.{Locked}
 use Rattle.coord_core.specs.declared.outcome.Outcome.{Outcome}
-use Rattle.std.proofs.Common.{Bool, List, MatchBool, None, Option, Some, ap, eq-eqb, false, inl, inr, map, ne_eqb, refl, subst, sym, true, ℕ, ◌≡◌, ◌≢◌, ◌+◌, ◌%◌, ◌<◌, ◌==◌, [], ◌∷◌, ◌++◌, ◌∙◌}
+use Rattle.coord_core.specs.declared.outcome.Outcome.TheVariants.{Closed, Done, Granted, NoMemory, Over}
+use Rattle.std.proofs.Common.{◌&&◌, ◌||◌, Bool, List, MatchBool, not, None, Option, Some, ap, eq-eqb, false, inl, inr, map, ne_eqb, refl, subst, sym, true, ℕ, ◌≡◌, ◌≢◌, ◌+◌, ◌%◌, ◌<◌, ◌==◌, [], ◌∷◌, ◌++◌, ◌∙◌}
 use Rattle.sync_types.proofs.BoardTests.{no_truth}
 use Rattle.sync_types.proofs.EntryLaws.{lawful_with_one_more}
 use Rattle.sync_types.specs.Boards.{first_board}
 use Rattle.sync_types.specs.Turns.{entry_of}
 use Rattle.sync_types.specs.Views.{EntryView, StartView}
 use Rattle.sync_types.specs.declared.Step.{Step}
-use Rattle.ticket_board.proofs.Histories.{goes_lawful, history, own_append, own_seen}
-use Rattle.ticket_board.specs.Passes.{AnEntry, Makes, NoEntry, told_of}
+use Rattle.ticket_board.proofs.Histories.{counted_mark, goes_lawful, history, own_append, own_seen}
+use Rattle.ticket_board.specs.Passes.{AnEntry, Makes, NoEntry, PutsMark, is_no_memory, told_of}
 use Rattle.ticket_board.specs.Rule.{AreLawful, Every, Fits, length_with_mark}
-use Rattle.ticket_board.specs.Steps.{Goes, Mine, Reads, Takes, at_stage, awaited_ticket, with_count, with_seen}
-use Rattle.ticket_board.specs.Turns.{IsPass, count_at, part_of, pass_view}
+use Rattle.ticket_board.specs.Steps.{Goes, Mine, Reads, Takes, at_stage, awaited_ticket, puts_mark, with_count, with_seen}
+use Rattle.ticket_board.specs.Turns.{IsPass, count_at, part_of, pass_view, wants_memory}
 use Rattle.ticket_board.specs.declared.rule.Part.{Part}
 use Rattle.ticket_board.specs.declared.rule.Stage.{Stage}
 use Rattle.ticket_board.specs.declared.rule.Stage.TheVariants.{Holding, Idle, Waiting}
@@ -113,6 +115,7 @@ pub record HasTurned (m : Mine) (c : ℕ) (l l' : Locked) (m' : Mine) : Type 0 w
   pub found : SeesOn c (part_of m.0).seen (history_of l)
   pub seen : (part_of m'.0).seen ≡ history_of l'
   pub lawful : AreLawful m.0.start l'.board.entries
+  pub shut : (part_of m'.0).shut ≡ ((part_of m.0).shut || puts_mark (history_of l) (history_of l'))
 
 pub turn_done : (m m1 m2 : Mine) (n c : ℕ) (l l' : Locked) (more : ℕ) → IsPass m c → HasOut m (part_of m.0) n l m1 → IsTaken m (part_of m.0) l
     → m2 ≡ (record { start = m1.0.start; parts = with_count (history_of l') (part_of m1.0) ∷ []; stage = Idle }, [])
@@ -123,12 +126,14 @@ turn_done m m1 m2 n c l l' more pass is taken is' goes =
     let m3 : Mine = (record { start = m.0.start; parts = with_count h' (with_seen h p) ∷ []; stage = Idle }, []) in
     let e : m2 ≡ m3 = is' ∙ (λ i. (record { start = (is i).0.start; parts = with_count h' (part_of (is i).0) ∷ []; stage = Idle }, [])) in
     let own : own_entries c h'.entries ≡ own_entries p.channel h'.entries = ap (λ (x : ℕ). own_entries x h'.entries) (sym pass.3) in
+    let seen : p.shut ≡ true → h.closed ≡ true = λ on. ap (λ (x : History). x.closed) (taken.2.sees.closed (pass.6 on)) ∙ pass.6 on in
     subst (HasTurned m c l l') (sym e) record {
-      pass = (refl, refl, refl, pass.3, lawful, own);
+      pass = (refl, refl, refl, pass.3, lawful, own, counted_mark m.0.start (with_seen h p) h' more goes seen);
       start = refl;
       found = subst (λ (x : ℕ). SeesOn x p.seen h) pass.3 taken.2.sees;
       seen = refl;
       lawful = lawful;
+      shut = refl;
     }
 
 same_pass : (t t' : TableId) (m m' : Mine) (c : ℕ) (l l' : Locked) → HasTurned m c l l' m' → IsSamePass (told_of (pass_view t m c)) (told_of (pass_view t' m' c))
@@ -161,6 +166,59 @@ closed t t' m m' c l l' is d = record {
   found = history_of l;
   seen = d.found;
   closed = d.seen ∙ is;
+}
+
+-- ---- where the closing mark is put
+
+no_mark : (b : Bool) → (not b && b) ≡ false
+no_mark true = refl
+no_mark false = refl
+
+pub or_false : (b : Bool) → (b || false) ≡ b
+or_false true = refl
+or_false false = refl
+
+and_true : (b : Bool) → (b && true) ≡ b
+and_true true = refl
+and_true false = refl
+
+is_another : (a : Outcome) → (a ≡ NoMemory → ⊥) → is_no_memory a ≡ false
+is_another (Granted grant) other = refl
+is_another Done other = refl
+is_another Over other = refl
+is_another Closed other = refl
+is_another NoMemory other = absurd (other refl)
+
+wants_none : (a : Option Outcome) → (a ≡ Some NoMemory → ⊥) → wants_memory a ≡ false
+wants_none None other = refl
+wants_none (Some a) other = is_another a (λ is. other (ap (λ (o : Outcome). Some o) is))
+
+pub look_wants_none : (start : StartView) (h : History) (c : ℕ) (a : Option Outcome) → a ≡ answer_of start h c → wants_memory a ≡ false
+look_wants_none start h c a said = wants_none a (λ is. (tells_what_is start h c).memory (sym said ∙ is))
+
+brought_mark : (start : StartView) (c : ℕ) (step : Step) (h after : History) (a : Option Outcome) → runs start h c ≡ true → Brings start c step h a after → puts_mark h after ≡ wants_memory a
+brought_mark start c step h after a on (ToClosed closed same said) = ap (λ (b : Bool). not b && after.closed) closed ∙ sym (ap wants_memory said)
+brought_mark start c step h after a on (ToLook off same said) = no_truth (runs start h c) on off
+brought_mark start c step h after a on (ToAct closed ran made said) =
+    let open_ : after.closed ≡ false = ap (λ (x : History). x.closed) made ∙ closed in
+    (λ i. not (closed i) && open_ i) ∙ sym (look_wants_none start after c a said)
+brought_mark start c step h after a on (ToNoMemory closed ran made said) = (λ i. not (closed i) && (made i).closed) ∙ sym (ap wants_memory said)
+
+pub act_mark : (m m' : Mine) (c : ℕ) (step : Step) (l l' : Locked) (answer : Option Outcome) → HasTurned m c l l' m' → l.board.start ≡ m.0.start → runs m.0.start (part_of m.0).seen c ≡ true
+    → Brings l.board.start c step (history_of l) answer (history_of l') → (part_of m'.0).shut ≡ ((part_of m.0).shut || wants_memory answer)
+act_mark m m' c step l l' answer d start_is on brings = d.shut ∙ ap (λ (b : Bool). (part_of m.0).shut || b)
+    (brought_mark m.0.start c step (history_of l) (history_of l') answer (seen_running m.0.start c (part_of m.0).seen (history_of l) on d.found)
+    (subst (λ (s : StartView). Brings s c step (history_of l) answer (history_of l')) start_is brings))
+
+pub look_mark : (m m' : Mine) (c : ℕ) (l : Locked) → HasTurned m c l l m' → (part_of m'.0).shut ≡ (part_of m.0).shut
+look_mark m m' c l d = d.shut ∙ (ap (λ (b : Bool). (part_of m.0).shut || b) (no_mark l.closed) ∙ or_false (part_of m.0).shut)
+
+pub close_mark : (t t' : TableId) (m m' : Mine) (c : ℕ) (l l' : Locked) → history_of l' ≡ closed_after (history_of l) → HasTurned m c l l' m' → PutsMark (pass_view t m c) (pass_view t' m' c)
+close_mark t t' m m' c l l' is d = record {
+  found = history_of l;
+  seen = d.found;
+  closed = d.seen ∙ is;
+  shut = d.shut ∙ (ap (λ (h : History). (part_of m.0).shut || puts_mark (history_of l) h) is ∙ ap (λ (b : Bool). (part_of m.0).shut || b) (and_true (not l.closed)));
 }
 
 -- ---- the own entries after a turn

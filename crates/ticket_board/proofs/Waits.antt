@@ -2,17 +2,18 @@
 use Rattle.coord_core.proofs.Outcomes.{at_closed, tells_what_is}
 use Rattle.coord_core.proofs.Running.{sees_itself, sees_on}
 use Rattle.coord_core.specs.BoardTurns.{Brings, ToAct, ToClosed, ToLook, ToNoMemory}
-use Rattle.coord_core.specs.Desks.{Acts, ActsAndWaits, AtOnce, Later, Looks, SeesOn, Told}
+use Rattle.coord_core.specs.Desks.{Acts, Looks, SeesOn, Told}
 use Rattle.coord_core.specs.Histories.{History}
 use Rattle.coord_core.specs.declared.outcome.Outcome.{Outcome}
 use Rattle.coord_core.specs.declared.outcome.Outcome.TheVariants.{Closed, NoMemory}
-use Rattle.std.proofs.Common.{None, Option, Some, ap, inl, inr, refl, subst, sym, true, ℕ, ◌≡◌, ◌⊎◌, ◌∙◌}
+use Rattle.std.proofs.Common.{Bool, None, Option, Some, ap, false, inl, inr, refl, subst, sym, true, ℕ, ◌≡◌, ◌⊎◌, ◌||◌, ◌∙◌}
 use Rattle.std.proofs.lemmas.Option.{none-some}
 use Rattle.sync_types.proofs.BoardTests.{no_truth}
 use Rattle.sync_types.specs.Views.{StartView}
 use Rattle.sync_types.specs.declared.Step.{Step}
-use Rattle.ticket_board.proofs.Turning.{closed}
-use Rattle.ticket_board.specs.Passes.{AnEntry, Makes, NoEntry, TellsClosing, TicketPassView}
+use Rattle.ticket_board.proofs.Turning.{or_false}
+use Rattle.ticket_board.specs.Passes.{AnEntry, Makes, NoEntry, TellsClosing, TicketPassView, is_no_memory, told_of}
+use Rattle.ticket_board.specs.Turns.{wants_memory}
 
 -- looks that had no answer
 pub record LooksOn (before after : Told) : Type 0 where
@@ -45,12 +46,13 @@ some_one a (Some b) = b
 pub same_one : (a b : Outcome) → Some a ≡ Some b → a ≡ b
 same_one a b e = ap (some_one a) e
 
-pub look_closing : (p q : Told) (a : Outcome) → Looks p (Some a) q → TellsClosing p a q
-look_closing p q a looks = record {
-  stays = λ on. let same : q.seen ≡ p.seen = looks.seen.closed on in (same_one a Closed (looks.told ∙ at_closed q.start q.seen q.channel (ap (λ (h : History). h.closed) same ∙ on)), same);
-  only = λ is. (tells_what_is q.start q.seen q.channel).closed (sym looks.told ∙ ap (λ (o : Outcome). Some o) is);
-  told = λ on. inl (same_one a Closed (looks.told ∙ at_closed q.start q.seen q.channel on));
-}
+pub look_closing : (p q : TicketPassView) (a : Outcome) → Looks (told_of p) (Some a) (told_of q) → q.shut ≡ p.shut → TellsClosing p a q
+look_closing p q a looks shut =
+    let is_told : q.seen.closed ≡ true → a ≡ Closed = λ on. same_one a Closed (looks.told ∙ at_closed q.start q.seen q.channel on) in record {
+      stays = λ on. let same : q.seen ≡ p.seen = looks.seen.closed on in (is_told (ap (λ (h : History). h.closed) same ∙ on), same);
+      closed = (λ is. ((tells_what_is q.start q.seen q.channel).closed (sym looks.told ∙ ap (λ (o : Outcome). Some o) is), shut), λ at. is_told at.0);
+      told = λ on. inl (is_told on);
+    }
 
 -- what was brought to a closed board is dropped
 brought_closed : (start : StartView) (c : ℕ) (step : Step) (h after : History) (a : Option Outcome) → h.closed ≡ true → Brings start c step h a after → (a ≡ Some Closed) × (after ≡ h)
@@ -80,16 +82,37 @@ either_one : (a : Outcome) → (Some a ≡ Some Closed) ⊎ (Some a ≡ Some NoM
 either_one a (inl e) = inl (same_one a Closed e)
 either_one a (inr e) = inr (same_one a NoMemory e)
 
-pub act_closing : (p q : Told) (step : Step) (a : Outcome) → ActsAndWaits p step a q → TellsClosing p a q
-act_closing p q step a (AtOnce acts) = record {
-  stays = λ on. let b = act_stays p q step (Some a) acts on in (same_one a Closed b.0, b.1);
-  only = λ is. brought_only p.start p.channel step acts.found q.seen (Some a) (ap (λ (o : Outcome). Some o) is) acts.brought;
-  told = λ on. either_one a (brought_told p.start p.channel step acts.found q.seen (Some a) on acts.brought);
-}
-act_closing p q step a (Later between acts looks) = let rest = look_closing between q a looks in record {
-  stays = λ on. let b = act_stays p between step None acts on in absurd (none-some Closed b.0);
-  only = rest.only;
-  told = rest.told;
+or_true : (b : Bool) → (b || true) ≡ true
+or_true true = refl
+or_true false = refl
+
+-- where the mark was put for want of memory, the pass had not put it
+closed_by_another : (p q : TicketPassView) (step : Step) (a : Outcome) → Acts (told_of p) step (Some a) (told_of q) → (p.shut ≡ true → p.seen.closed ≡ true) → q.shut ≡ (p.shut || is_no_memory a)
+    → q.shut ≡ p.shut → (a ≡ Closed) ⊎ (a ≡ NoMemory) → a ≡ Closed
+closed_by_another p q step a acts seen shut same (inl is) = is
+closed_by_another p q step a acts seen shut same (inr is) =
+    let on : p.shut ≡ true = sym same ∙ (shut ∙ (ap (λ (o : Outcome). p.shut || is_no_memory o) is ∙ or_true p.shut)) in
+    same_one a Closed (act_stays (told_of p) (told_of q) step (Some a) acts (seen on)).0
+
+-- a step that is answered at once
+pub act_closing : (p q : TicketPassView) (step : Step) (a : Outcome) → Acts (told_of p) step (Some a) (told_of q) → (p.shut ≡ true → p.seen.closed ≡ true) → q.shut ≡ (p.shut || is_no_memory a) → TellsClosing p a q
+act_closing p q step a acts seen shut =
+    let is_told : q.seen.closed ≡ true → (a ≡ Closed) ⊎ (a ≡ NoMemory) = λ on. either_one a (brought_told p.start p.channel step acts.found q.seen (Some a) on acts.brought) in record {
+      stays = λ on. let b = act_stays (told_of p) (told_of q) step (Some a) acts on in (same_one a Closed b.0, b.1);
+      closed = (
+        λ is. (brought_only p.start p.channel step acts.found q.seen (Some a) (ap (λ (o : Outcome). Some o) is) acts.brought, shut ∙ (ap (λ (o : Outcome). p.shut || is_no_memory o) is ∙ or_false p.shut)),
+        λ at. closed_by_another p q step a acts seen shut at.1 (is_told at.0),
+      );
+      told = is_told;
+    }
+
+-- a step that had no answer, and a look that had one
+pub wait_closing : (p q r : TicketPassView) (step : Step) (a : Outcome) → Acts (told_of p) step None (told_of q) → q.shut ≡ (p.shut || wants_memory None) → Looks (told_of q) (Some a) (told_of r) → r.shut ≡ q.shut
+    → TellsClosing p a r
+wait_closing p q r step a acts put looks shut = let later = look_closing q r a looks shut in let same : q.shut ≡ p.shut = put ∙ or_false p.shut in record {
+  stays = λ on. let b = act_stays (told_of p) (told_of q) step None acts on in absurd (none-some Closed b.0);
+  closed = (λ is. ((later.closed.0 is).0, shut ∙ same), λ at. later.closed.1 (at.0, at.1 ∙ sym same));
+  told = later.told;
 }
 
 -- a turn that had no answer has made its entry

@@ -62,18 +62,20 @@ parts_for c ps = total (λ (p : Part). one_if (p.channel == c)) ps
 abbrev pub parts_of_channel : ℕ → View → ℕ
 parts_of_channel c v = parts_for c v.parts
 
--- how many parts have seen the closing mark
+-- for how many parts the closing mark was put
 abbrev pub marks_for : List Part → ℕ
-marks_for ps = total (λ (p : Part). one_if p.seen.closed) ps
+marks_for ps = total (λ (p : Part). one_if p.shut) ps
 
 abbrev pub marks_of : View → ℕ
 marks_of v = marks_for v.parts
 
--- the history begins with what was seen for a channel, which is lawful and has all of the channel's entries
+-- the history begins with what was seen for a channel, which is lawful and has all of the channel's entries; where the closing mark was put for
+-- it, that was seen
 pub record Fits (start : StartView) (log : History) (p : Part) : Type 0 where
   pub lawful : AreLawful start p.seen.entries
   pub sees : SeesOn p.channel p.seen log
   pub mine : own_entries p.channel p.seen.entries ≡ p.mine
+  pub shut : p.shut ≡ true → p.seen.closed ≡ true
 
 -- a ticket that waits is not served yet; the one that is served holds the slot, and has seen the whole history
 abbrev pub Stands : History → ℕ → ℕ → ℕ → Bool → ℕ → List Part → Stage → Type 0
@@ -97,7 +99,8 @@ abbrev pub AreApart : List View → Type 0
 AreApart views = (i j n : ℕ) (v w : View) → get_elem? views i ≡ some v → get_elem? views j ≡ some w → ticket_in v.stage ≡ some n → ticket_in w.stage ≡ some n → i ≡ j
 
 -- Word 0 counts the tickets drawn, word 1 those served, both modulo 2^64; word 2 is the length of the history. Fewer than 2^64 tickets are out,
--- since each is with a seat that has a part, and there is one part for each channel of the start. A closed history was seen so.
+-- since each is with a seat that has a part, and there is one part for each channel of the start. The closing mark was put for one part, and
+-- where the history has none for no part.
 pub record IsKept (key : StartView) (s : State (Option Locked) View) : Type 0 where
   pub drawn : ℕ
   pub served : ℕ
@@ -113,11 +116,11 @@ pub record IsKept (key : StartView) (s : State (Option Locked) View) : Type 0 wh
   pub seats : total part_count s.views ≡ length (channels_of key)
   pub few : length (channels_of key) < 18446744073709551616
   pub lone : (c : ℕ) → total (parts_of_channel c) s.views ≤ 1
-  pub marked : log.closed ≡ true → 1 ≤ total marks_of s.views
+  pub marked : total marks_of s.views ≡ one_if log.closed
 
 -- the part of a channel that has seen nothing, and the view of a seat that has all of them
 abbrev pub fresh_part : ℕ → Part
-fresh_part c = record { channel = c; seen = no_history; mine = [] }
+fresh_part c = record { channel = c; seen = no_history; mine = []; shut = false }
 
 abbrev pub first_view : StartView → View
 first_view key = record { start = key; parts = map fresh_part (channels_of key); stage = Idle }

@@ -1,5 +1,5 @@
 -- Steps. What each kind of step does to the seat that makes it.
-use Rattle.std.specs.Prelude.{◌≡◌, ◌⊎◌, ℕ, ◌%◌, ◌==◌, true, false, Option, Some, List, [], ◌∷◌, ◌++◌, map, take, drop, MatchBool}
+use Rattle.std.specs.Prelude.{◌≡◌, ◌⊎◌, ◌&&◌, ◌||◌, ℕ, ◌%◌, ◌==◌, Bool, true, false, not, Option, Some, List, [], ◌∷◌, ◌++◌, map, take, drop, MatchBool}
 use Rattle.atomic_table.specs.Table.{Me, rest}
 use Rattle.coord_core.specs.Desks.{own_entries}
 use Rattle.coord_core.specs.Histories.{History, history_of}
@@ -24,7 +24,7 @@ Draws m r m' = (n : ℕ) × (r ≡ n % 18446744073709551616) × (m' ≡ (at_stag
 
 -- with the whole history seen
 abbrev pub with_seen : History → Part → Part
-with_seen h p = record { channel = p.channel; seen = h; mine = p.mine }
+with_seen h p = record { channel = p.channel; seen = h; mine = p.mine; shut = p.shut }
 
 -- the slot is taken
 abbrev pub Takes : Mine → ℕ → Mine → Type 0
@@ -39,9 +39,13 @@ awaited_ticket other = 0
 abbrev pub Reads : Mine → ℕ → Mine → Type 0
 Reads m r m' = MatchBool (r == (awaited_ticket m.0.stage % 18446744073709551616)) (Takes m (awaited_ticket m.0.stage) m') (m' ≡ m)
 
--- what was done is counted: what was seen is the history h, with the own entries in it
+-- whether the closing mark is put between two histories
+abbrev pub puts_mark : History → History → Bool
+puts_mark before after = not before.closed && after.closed
+
+-- what was done is counted: what was seen is the history h, with the own entries in it, and the closing mark where it was put
 abbrev pub with_count : History → Part → Part
-with_count h p = record { channel = p.channel; seen = h; mine = own_entries p.channel h.entries }
+with_count h p = record { channel = p.channel; seen = h; mine = own_entries p.channel h.entries; shut = p.shut || puts_mark p.seen h }
 
 abbrev pub Counts : History → Mine → Mine → Type 0
 Counts h m m' = m' ≡ (record { start = m.0.start; parts = map (with_count h) m.0.parts; stage = m.0.stage }, m.1)

@@ -1,9 +1,9 @@
 //! The board that callers take in turn.
-ghost use Rattle.std.specs.Prelude.{◌≡◌, ◌≢◌, true, Some};
+ghost use Rattle.std.specs.Prelude.{◌≡◌, ◌≢◌, ◌||◌, true, false, Some};
 ghost use Rattle.coord_core.specs.Desks.{Looks, ActsAndWaits, Closes};
 ghost use Rattle.coord_core.specs.Histories.{runs};
 ghost use Rattle.coord_core.specs.declared.outcome.Outcome.TheVariants as outcomes;
-ghost use Rattle.ticket_board.specs.Passes.{IsPassOf, Makes, TellsClosing, told_of};
+ghost use Rattle.ticket_board.specs.Passes.{IsPassOf, Makes, PutsMark, TellsClosing, is_no_memory, told_of};
 
 use crate::held::HeldBoard;
 use crate::pass::TicketPass;
@@ -39,6 +39,8 @@ fn look_until<R: Wait>(rt: &R, board: &TicketBoard, pass: &mut TicketPass) -> Ou
     ensures fits { IsPassOf board.now pass.new }
     ensures mine { pass.new.mine ≡ pass.old.mine }
     ensures looked { Looks (told_of pass.old) (Some result) (told_of pass.new) }
+    ensures memory { is_no_memory result ≡ false }
+    ensures shut { pass.new.shut ≡ pass.old.shut }
 {
     let backoff = Backoff::new();
     for _ in rt.forever() {
@@ -63,7 +65,8 @@ impl Desk for TicketBoard {
         ensures memory { result ≢ outcomes.NoMemory }
         ensures mine { pass.new.mine ≡ pass.old.mine }
         ensures told { Looks (told_of pass.old) (Some result) (told_of pass.new) }
-        ensures closing { TellsClosing (told_of pass.old) result (told_of pass.new) }
+        ensures closing { TellsClosing pass.old result pass.new }
+        ensures shut { pass.new.shut ≡ pass.old.shut }
     {
         look_until(rt, self, pass)
     }
@@ -74,7 +77,8 @@ impl Desk for TicketBoard {
         ensures fits { IsPassOf self.now pass.new }
         ensures mine { Makes pass.old step (Some result) pass.new }
         ensures told { ActsAndWaits (told_of pass.old) step result (told_of pass.new) }
-        ensures closing { TellsClosing (told_of pass.old) result (told_of pass.new) }
+        ensures closing { TellsClosing pass.old result pass.new }
+        ensures shut { pass.new.shut ≡ (pass.old.shut || is_no_memory result) }
     {
         match pass.act_once(rt, &self.table.shared, step) {
             Some(outcome) => outcome,
@@ -88,6 +92,7 @@ impl Desk for TicketBoard {
         ensures mine { pass.new.mine ≡ pass.old.mine }
         ensures told { Closes (told_of pass.old) (told_of pass.new) }
         ensures closing { (pass.new.seen.closed ≡ true) × (pass.old.seen.closed ≡ true → pass.new.seen ≡ pass.old.seen) }
+        ensures shut { PutsMark pass.old pass.new }
     {
         pass.close_once(rt, &self.table.shared);
     }

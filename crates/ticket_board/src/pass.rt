@@ -1,13 +1,13 @@
 //! A pass: what the caller of a channel knows of a board, and its turns.
-ghost use Rattle.std.specs.Prelude.{◌≡◌, true, [], ◌∷◌, List, Some};
+ghost use Rattle.std.specs.Prelude.{◌≡◌, ◌||◌, true, [], ◌∷◌, List, Some};
 ghost use Rattle.coord_core.specs.Desks.{Looks, Acts, Closes, own_entries};
 ghost use Rattle.coord_core.specs.Histories.{runs};
 ghost use Rattle.sync_types.specs.Boards.{first_board};
 ghost use Rattle.sync_types.specs.Turns.{AreEntries};
-ghost use Rattle.ticket_board.specs.Passes.{Makes, told_of};
+ghost use Rattle.ticket_board.specs.Passes.{Makes, PutsMark, told_of};
 ghost use Rattle.ticket_board.specs.Rule.{fresh_part};
 ghost use Rattle.ticket_board.specs.Steps.{all_but_first};
-ghost use Rattle.ticket_board.specs.Turns.{part_in, first_pass};
+ghost use Rattle.ticket_board.specs.Turns.{part_in, first_pass, wants_memory};
 ghost use Rattle.ticket_board.specs.declared.rule.Part.{Part};
 ghost use Rattle.ticket_board.specs.declared.rule.Stage.TheVariants.{Idle};
 
@@ -21,7 +21,7 @@ use std::sync::Wait;
 use sync_types::Step;
 
 /// Names a channel at a [`TicketBoard`](crate::TicketBoard), with a seat at its table. A contract sees what the pass has
-/// seen of the history, and the entries that were made with it.
+/// seen of the history, the entries that were made with it, and whether the closing mark was put with it.
 #[derive(Drop)]
 pub struct TicketPass {
     seat: Place,
@@ -40,16 +40,18 @@ impl Model for TicketPass {
 }
 
 impl TicketPass {
-    /// The channel. What the pass has seen is lawful, and its own entries are all that its channel has there.
+    /// The channel. What the pass has seen is lawful, and its own entries are all that its channel has there. Where the closing
+    /// mark was put with the pass, it has seen that.
     pub fn channel(&self) -> ChannelId
         ensures channel { result ≡ self.now.channel }
         ensures lawful { AreEntries (first_board self.now.start) self.now.seen.entries }
         ensures mine { own_entries self.now.channel self.now.seen.entries ≡ self.now.mine }
+        ensures shut { self.now.shut ≡ true → self.now.seen.closed ≡ true }
     {
         self.channel
     }
 
-    /// One turn that brings a step.
+    /// One turn that brings a step. The closing mark is put in it exactly where no memory is found.
     pub(crate) fn act_once<R: Wait>(
         &mut self,
         rt: &R,
@@ -61,6 +63,8 @@ impl TicketPass {
         ensures table { self.new.table_id ≡ self.old.table_id }
         ensures mine { Makes self.old step result self.new }
         ensures acted { Acts (told_of self.old) step result (told_of self.new) }
+        ensures seen { self.old.shut ≡ true → self.old.seen.closed ≡ true }
+        ensures shut { self.new.shut ≡ (self.old.shut || wants_memory result) }
     {
         let mut held = enter(rt, table, &mut self.seat);
         let more = held.to_count();
@@ -75,6 +79,7 @@ impl TicketPass {
         ensures table { self.new.table_id ≡ self.old.table_id }
         ensures mine { self.new.mine ≡ self.old.mine }
         ensures looked { Looks (told_of self.old) result (told_of self.new) }
+        ensures shut { self.new.shut ≡ self.old.shut }
     {
         let held = enter(rt, table, &mut self.seat);
         let _more = held.to_count();
@@ -88,7 +93,8 @@ impl TicketPass {
         requires { (self.old.table_id ≡ table.now.table_id) × (table.now.table_id.words ≡ 3) }
         ensures table { self.new.table_id ≡ self.old.table_id }
         ensures mine { self.new.mine ≡ self.old.mine }
-        ensures shut { Closes (told_of self.old) (told_of self.new) }
+        ensures closes { Closes (told_of self.old) (told_of self.new) }
+        ensures shut { PutsMark self.old self.new }
     {
         let mut held = enter(rt, table, &mut self.seat);
         let more = held.to_count();

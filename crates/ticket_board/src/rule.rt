@@ -21,11 +21,13 @@ impl Model for SeenHistory {
     ghost view = { λ h. record { entries = h.entries; closed = h.closed } };
 }
 
-/// What is known for one channel: what was seen of the history, and the channel's own entries. No value of it is made.
+/// What is known for one channel: what was seen of the history, the channel's own entries, and whether the closing mark was
+/// put for it. No value of it is made.
 pub(crate) struct Part {
     pub channel: ChannelId,
     pub seen: SeenHistory,
     pub mine: LinkedList<Entry>,
+    pub shut: bool,
 }
 
 /// Whether a seat has a ticket, and whether that is served.

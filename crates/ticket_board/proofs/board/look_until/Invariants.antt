@@ -4,4 +4,4 @@ use Rattle.ticket_board.specs.Passes.{IsPassOf, told_of}
 use Rattle.ticket_board.proofs.board.look_until.Given as goal
 
 abbrev pub invariant-loop : goal.invariant-loop
-invariant-loop g l = IsPassOf l.fn.board l.pass × (l.pass.mine ≡ l.initial.pass.mine) × LooksOn (told_of l.initial.pass) (told_of l.pass)
+invariant-loop g l = IsPassOf l.fn.board l.pass × (l.pass.mine ≡ l.initial.pass.mine) × (l.pass.shut ≡ l.initial.pass.shut) × LooksOn (told_of l.initial.pass) (told_of l.pass)

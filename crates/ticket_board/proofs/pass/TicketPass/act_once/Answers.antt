@@ -1,10 +1,10 @@
 use Rattle.coord_core.specs.Desks.{Acts}
 use Rattle.coord_core.specs.Histories.{runs}
-use Rattle.std.proofs.Common.{ap, subst, sym, true, ◌≡◌, ◌∙◌}
-use Rattle.ticket_board.proofs.Turning.{act_goes, acted, leaving, makes, turn_done}
+use Rattle.std.proofs.Common.{ap, subst, sym, true, ◌||◌, ◌≡◌, ◌∙◌}
+use Rattle.ticket_board.proofs.Turning.{act_goes, act_mark, acted, leaving, makes, turn_done}
 use Rattle.ticket_board.specs.Passes.{Makes, TicketPassView, told_of}
 use Rattle.ticket_board.specs.Steps.{Mine}
-use Rattle.ticket_board.specs.Turns.{part_of, pass_view}
+use Rattle.ticket_board.specs.Turns.{part_of, pass_view, wants_memory}
 use Rattle.ticket_board.proofs.pass.TicketPass.act_once.Goals as goal
 
 pub leave-requires : goal.leave-requires
@@ -31,4 +31,7 @@ returns g c = let i = c.self.invariant in let m : Mine = c.self.inside.seat.me i
           (makes c.self.inside.seat.table_id c.leave.new.seat.table_id m c.leave.new.seat.me c.self.inside.channel c.args.step c.enter-held.result c.act-answer.new.self c.act-answer.result i d b.0 on c.act-answer.ensures.turn);
       acted = subst (λ (v : TicketPassView). Acts (told_of v) c.args.step c.act-answer.result (told_of (pass_view c.leave.new.seat.table_id c.leave.new.seat.me c.self.inside.channel))) c.self.view_is
           (acted c.self.inside.seat.table_id c.leave.new.seat.table_id m c.leave.new.seat.me c.self.inside.channel c.args.step c.enter-held.result c.act-answer.new.self c.act-answer.result b.0 c.act-answer.ensures.turn d);
+      seen = subst (λ (v : TicketPassView). v.shut ≡ true → v.seen.closed ≡ true) c.self.view_is i.6;
+      shut = act_mark m c.leave.new.seat.me c.self.inside.channel c.args.step c.enter-held.result c.act-answer.new.self c.act-answer.result d b.0 on c.act-answer.ensures.turn
+          ∙ ap (λ (v : TicketPassView). v.shut || wants_memory c.act-answer.result) c.self.view_is;
     }

@@ -1,8 +1,8 @@
 use Rattle.coord_core.specs.Boards.{BoardView}
 use Rattle.coord_core.specs.Desks.{Closes}
 use Rattle.std.proofs.Common.{ap, subst, ◌∙◌}
-use Rattle.ticket_board.proofs.Turning.{closed, leaving, mine_same, shut_goes, turn_done}
-use Rattle.ticket_board.specs.Passes.{TicketPassView, told_of}
+use Rattle.ticket_board.proofs.Turning.{close_mark, closed, leaving, mine_same, shut_goes, turn_done}
+use Rattle.ticket_board.specs.Passes.{PutsMark, TicketPassView, told_of}
 use Rattle.ticket_board.specs.Steps.{Mine}
 use Rattle.ticket_board.specs.Turns.{pass_view}
 use Rattle.ticket_board.proofs.pass.TicketPass.close_once.Goals as goal
@@ -25,6 +25,8 @@ returns g c = let i = c.self.invariant in let m : Mine = c.self.inside.seat.me i
     record {
       table = (c.leave.ensures.same.0 ∙ c.enter-held.ensures.same.0) ∙ ap (λ (v : TicketPassView). v.table_id) c.self.view_is;
       mine = mine_same m c.leave.new.seat.me c.self.inside.channel c.enter-held.result c.close.new.self i (ap (λ (v : BoardView). v.entries) c.close.ensures.board) d ∙ ap (λ (v : TicketPassView). v.mine) c.self.view_is;
-      shut = subst (λ (v : TicketPassView). Closes (told_of v) (told_of (pass_view c.leave.new.seat.table_id c.leave.new.seat.me c.self.inside.channel))) c.self.view_is
+      closes = subst (λ (v : TicketPassView). Closes (told_of v) (told_of (pass_view c.leave.new.seat.table_id c.leave.new.seat.me c.self.inside.channel))) c.self.view_is
           (closed c.self.inside.seat.table_id c.leave.new.seat.table_id m c.leave.new.seat.me c.self.inside.channel c.enter-held.result c.close.new.self c.close.ensures.turn d);
+      shut = subst (λ (v : TicketPassView). PutsMark v (pass_view c.leave.new.seat.table_id c.leave.new.seat.me c.self.inside.channel)) c.self.view_is
+          (close_mark c.self.inside.seat.table_id c.leave.new.seat.table_id m c.leave.new.seat.me c.self.inside.channel c.enter-held.result c.close.new.self c.close.ensures.turn d);
     }

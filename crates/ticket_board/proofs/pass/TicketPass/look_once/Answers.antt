@@ -1,7 +1,7 @@
 use Rattle.coord_core.specs.Desks.{Looks}
 use Rattle.coord_core.specs.Histories.{history_of}
 use Rattle.std.proofs.Common.{ap, arith, inl, refl, subst, ◌∙◌}
-use Rattle.ticket_board.proofs.Turning.{leaving, looked, mine_same, turn_done}
+use Rattle.ticket_board.proofs.Turning.{leaving, look_mark, looked, mine_same, turn_done}
 use Rattle.ticket_board.specs.Passes.{TicketPassView, told_of}
 use Rattle.ticket_board.specs.Steps.{Goes, Mine, with_seen}
 use Rattle.ticket_board.specs.Turns.{part_of, pass_view}
@@ -28,4 +28,5 @@ returns g c = let i = c.self.invariant in let m : Mine = c.self.inside.seat.me i
       mine = mine_same m c.leave.new.seat.me c.self.inside.channel c.enter-held.result c.enter-held.result i refl d ∙ ap (λ (v : TicketPassView). v.mine) c.self.view_is;
       looked = subst (λ (v : TicketPassView). Looks (told_of v) c.look-answer.result (told_of (pass_view c.leave.new.seat.table_id c.leave.new.seat.me c.self.inside.channel))) c.self.view_is
           (looked c.self.inside.seat.table_id c.leave.new.seat.table_id m c.leave.new.seat.me c.self.inside.channel c.enter-held.result c.look-answer.result b.0 c.look-answer.ensures.answer d);
+      shut = look_mark m c.leave.new.seat.me c.self.inside.channel c.enter-held.result d ∙ ap (λ (v : TicketPassView). v.shut) c.self.view_is;
     }
