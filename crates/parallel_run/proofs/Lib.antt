@@ -8,3 +8,4 @@ mod GoneOn
 mod Assembly
 mod Parting
 mod Returning
+mod MeetingRule

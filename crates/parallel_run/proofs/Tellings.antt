@@ -1,8 +1,10 @@
 -- What a worker has made is what the history has that its pass has seen, call by call.
-use Rattle.std.proofs.Common.{◌≡◌, ◌≢◌, ℕ, List, [], ◌∷◌, ◌++◌, Option, Some, None, refl, sym, ap, ap₂, subst, ◌∙◌}
+use Rattle.std.proofs.Common.{◌⊎◌, inl, inr, ◌≡◌, ◌≢◌, ℕ, true, false, List, [], ◌∷◌, ◌++◌, Option, Some, None, refl, sym, ap, ap₂, subst, ◌∙◌}
+use Rattle.std.proofs.lemmas.Bool.{cases_Bool}
+use Rattle.channel_machine.specs.Grants.{grant_fits}
 use Rattle.channel_machine.specs.Scripts.{script_of}
 use Rattle.coord_core.proofs.Granted.{granted_runs}
-use Rattle.coord_core.proofs.Outcomes.{tells_what_is}
+use Rattle.coord_core.proofs.Outcomes.{at_closed, tells_what_is}
 use Rattle.coord_core.proofs.Running.{same_state}
 use Rattle.coord_core.specs.BoardTurns.{Brings, ToAct, ToClosed, ToLook, ToNoMemory, with_entry}
 use Rattle.coord_core.specs.Desks.{Acts, ActsAndWaits, AtOnce, Closes, Later, Looks, SeesOn, TellsOfRunning, TellsOn, Told}
@@ -12,7 +14,7 @@ use Rattle.coord_core.specs.declared.outcome.Outcome.TheVariants.{Granted, Done,
 use Rattle.job_types.specs.Job.{JobView}
 use Rattle.parallel_run.proofs.Histories.{own_grant, own_step, same_grants, same_steps}
 use Rattle.parallel_run.proofs.Notes.{steps_for-push}
-use Rattle.parallel_run.specs.Workers.{CanGoOn, HasMade, HasNoted, HasStepsOfScript, IsOwnLater, IsWorked, TellsMade, TellsNothingYet, WorkedView, grants_used, own_steps, steps_for}
+use Rattle.parallel_run.specs.Workers.{CanGoOn, HasMade, HasNoted, HasStepsOfScript, IsOwnLater, IsWorked, AtDone, AtOver, AtMisfit, TellsMade, TellsNothingYet, TellsOpen, TellsReason, TellsShut, WorkedView, grants_used, own_steps, steps_for}
 use Rattle.sync_types.proofs.BoardTests.{no_truth}
 use Rattle.sync_types.specs.Boards.{first_board, grant_in}
 use Rattle.sync_types.specs.Runs.{as_list}
@@ -40,6 +42,9 @@ pub record IsAtTurn (job : JobView) (c : ℕ) (w : WorkedView) (outcome : Outcom
   pub steps : HasStepsOfScript job c told.start told.seen.entries
   pub meets : outcome ≢ Closed → outcome ≢ NoMemory → Meets job c w told.start told.seen
   pub granted : (grant : Grant) → outcome ≡ Granted grant → RunsWith c told.start told.seen grant
+  pub answered : outcome ≢ Closed → outcome ≢ NoMemory → Some outcome ≡ answer_of told.start told.seen c
+  pub closed : outcome ≡ Closed → told.seen.closed ≡ true
+  pub full : outcome ≡ NoMemory → told.seen.closed ≡ true
 
 abbrev pub TellsAtTurn : JobView → ℕ → WorkedView → Outcome → Option Told → Option Told → Type 0
 TellsAtTurn job c w outcome = TellsOn (IsAtTurn job c w outcome)
@@ -86,6 +91,24 @@ steps_on job c w after start seen later grant step of meets on noted is =
 told_granted : (c : ℕ) (start : StartView) (seen : History) (outcome : Outcome) (grant : Grant) → Some outcome ≡ answer_of start seen c → outcome ≡ Granted grant → RunsWith c start seen grant
 told_granted c start seen outcome grant told is = (tells_what_is start seen c).granted grant (sym told ∙ ap (λ (o : Outcome). Some o) is)
 
+-- who is told Closed has seen that
+told_closed : (c : ℕ) (start : StartView) (seen : History) (outcome : Outcome) → Some outcome ≡ answer_of start seen c → outcome ≡ Closed → seen.closed ≡ true
+told_closed c start seen outcome told is = (tells_what_is start seen c).closed (sym told ∙ ap (λ (o : Outcome). Some o) is)
+
+-- no look tells NoMemory
+told_full : (c : ℕ) (start : StartView) (seen : History) (outcome : Outcome) → Some outcome ≡ answer_of start seen c → outcome ≡ NoMemory → seen.closed ≡ true
+told_full c start seen outcome told is = absurd ((tells_what_is start seen c).memory (sym told ∙ ap (λ (o : Outcome). Some o) is))
+
+same_outcome : (o p : Outcome) → Some o ≡ Some p → o ≡ p
+same_outcome o p is = cc
+
+-- who is told another answer has seen the board open
+told_open : (c : ℕ) (start : StartView) (seen : History) (outcome : Outcome) → Some outcome ≡ answer_of start seen c → outcome ≢ Closed → seen.closed ≡ false
+told_open c start seen outcome told other = elim (cases_Bool seen.closed) [
+  | inl on ↦ absurd (other (same_outcome outcome Closed (told ∙ at_closed start seen c on)))
+  | inr off ↦ off
+]
+
 -- ---- a look
 
 module _ (job : JobView) (c : ℕ) (w : WorkedView) where
@@ -95,12 +118,16 @@ module _ (job : JobView) (c : ℕ) (w : WorkedView) where
       let same : Meets job c w u.start v.seen = subst (λ (s : StartView). Meets job c w s v.seen) (sym looks.pass.start) meets in
       let now : Meets job c w u.start u.seen = still_meets job c w u.start v.seen u.seen sees same in
       let here_too : u.channel ≡ c = looks.pass.channel ∙ here in
+      let told : Some outcome ≡ answer_of u.start u.seen c = looks.told ∙ ap (answer_of u.start u.seen) here_too in
       record {
         channel = here_too;
         start = looks.pass.start ∙ begins;
         steps = now.steps;
         meets = λ opened room. now;
-        granted = λ grant told. told_granted c u.start u.seen outcome grant (looks.told ∙ ap (answer_of u.start u.seen) here_too) told;
+        granted = λ grant is. told_granted c u.start u.seen outcome grant told is;
+        answered = λ opened room. told;
+        closed = told_closed c u.start u.seen outcome told;
+        full = told_full c u.start u.seen outcome told;
       }
 
   fresh_meets : (v : Told) → IsWorked job [] w → v.seen.entries ≡ [] → Meets job c w v.start v.seen
@@ -142,6 +169,38 @@ module _ (job : JobView) (c : ℕ) (w : WorkedView) where
       let meets : Meets job w.channel w u.start u.seen = subst (λ (d : ℕ). Meets job d w u.start u.seen) (sym of) (at.meets unshut room) in
       record { steps = meets.steps; worked = meets.worked; ready = ready }
 
+  -- it was not closed where neither of the two was told, and closed where one of them was
+  pub is_open : (first told : Option Told) (outcome : Outcome) → outcome ≢ Closed → outcome ≢ NoMemory → TellsAtTurn job c w outcome first told → TellsOpen told
+  is_open None None outcome unshut room at = tt
+  is_open (Some v) None outcome unshut room at = tt
+  is_open None (Some u) outcome unshut room at = absurd at
+  is_open (Some v) (Some u) outcome unshut room at = told_open c u.start u.seen outcome (at.answered unshut room) unshut
+
+  pub is_shut : (first told : Option Told) (outcome : Outcome) → (outcome ≡ Closed) ⊎ (outcome ≡ NoMemory) → TellsAtTurn job c w outcome first told → TellsShut told
+  is_shut None None outcome which at = tt
+  is_shut (Some v) None outcome which at = tt
+  is_shut None (Some u) outcome which at = absurd at
+  is_shut (Some v) (Some u) outcome (inl is) at = at.closed is
+  is_shut (Some v) (Some u) outcome (inr is) at = at.full is
+
+  -- why it stops
+  answer_is : (first u : Told) (outcome told : Outcome) → outcome ≢ Closed → outcome ≢ NoMemory → outcome ≡ told → IsAtTurn job c w outcome first u → answer_of u.start u.seen u.channel ≡ Some told
+  answer_is first u outcome told unshut room is at = ap (answer_of u.start u.seen) at.channel ∙ sym (at.answered unshut room) ∙ ap (λ (o : Outcome). Some o) is
+
+  pub at_done : (first told : Option Told) (outcome : Outcome) → outcome ≢ Closed → outcome ≢ NoMemory → (outcome ≡ Done) ⊎ (outcome ≡ Over) → TellsAtTurn job c w outcome first told → TellsReason job w told
+  at_done None None outcome unshut room which at = tt
+  at_done (Some v) None outcome unshut room which at = tt
+  at_done None (Some u) outcome unshut room which at = absurd at
+  at_done (Some v) (Some u) outcome unshut room (inl is) at = AtDone (answer_is v u outcome Done unshut room is at)
+  at_done (Some v) (Some u) outcome unshut room (inr is) at = AtOver (answer_is v u outcome Over unshut room is at)
+
+  pub at_misfit : (first told : Option Told) (outcome : Outcome) (grant : Grant) → outcome ≢ Closed → outcome ≢ NoMemory → outcome ≡ Granted grant → grant_fits job w.last grant ≡ false
+      → TellsAtTurn job c w outcome first told → TellsReason job w told
+  at_misfit None None outcome grant unshut room is off at = tt
+  at_misfit (Some v) None outcome grant unshut room is off at = tt
+  at_misfit None (Some u) outcome grant unshut room is off at = absurd at
+  at_misfit (Some v) (Some u) outcome grant unshut room is off at = AtMisfit grant (answer_is v u outcome (Granted grant) unshut room is at) off
+
 -- who is told one of these is told no other
 pub granted_unshut : (o : Outcome) (grant : Grant) → o ≡ Granted grant → o ≢ Closed
 granted_unshut o grant is bad = cc
@@ -161,23 +220,31 @@ over_unshut o is bad = cc
 pub over_room : (o : Outcome) → o ≡ Over → o ≢ NoMemory
 over_room o is bad = cc
 
+pub stop_unshut : (o : Outcome) → (o ≡ Done) ⊎ (o ≡ Over) → o ≢ Closed
+stop_unshut o (inl is) = done_unshut o is
+stop_unshut o (inr is) = over_unshut o is
+
+pub stop_room : (o : Outcome) → (o ≡ Done) ⊎ (o ≡ Over) → o ≢ NoMemory
+stop_room o (inl is) = done_room o is
+stop_room o (inr is) = over_room o is
+
 -- ---- a step, and the end
 
 module _ (job : JobView) (c : ℕ) (w after : WorkedView) (grant : Grant) (step : Step) (of : w.channel ≡ c) (noted : HasNoted job w grant step after) where
   -- the step was made, or the board was closed or is closed now
   data Brought (answer : Option Outcome) (u : Told) : Type 0 where
     Made : Meets job c after u.start u.seen → answer ≡ answer_of u.start u.seen c → Brought answer u
-    NotMade : Meets job c w u.start u.seen → answer ≡ Some Closed → Brought answer u
-    NoRoom : Meets job c w u.start u.seen → answer ≡ Some NoMemory → Brought answer u
+    NotMade : Meets job c w u.start u.seen → u.seen.closed ≡ true → answer ≡ Some Closed → Brought answer u
+    NoRoom : Meets job c w u.start u.seen → u.seen.closed ≡ true → answer ≡ Some NoMemory → Brought answer u
 
   by_turn : (u : Told) (found : History) (answer : Option Outcome) → Meets job c w u.start found → RunsWith c u.start found grant
       → Brings u.start c step found answer u.seen → Brought answer u
-  by_turn u found answer meets on (ToClosed closed now told) = NotMade (subst (Meets job c w u.start) (sym now) meets) told
+  by_turn u found answer meets on (ToClosed closed now told) = NotMade (subst (Meets job c w u.start) (sym now) meets) (ap (λ (h : History). h.closed) now ∙ closed) told
   by_turn u found answer meets on (ToLook rests now told) = no_truth (runs u.start found c) (granted_runs ((board_of u.start found).state c) grant on) rests
   by_turn u found answer meets on (ToAct opened running now told) =
       Made (steps_on job c w after u.start found u.seen grant step of meets on noted (ap (λ (h : History). h.entries) now)) told
   by_turn u found answer meets on (ToNoMemory opened running now told) =
-      NoRoom (subst (Meets job c w u.start) (sym now) (record { steps = meets.steps; worked = meets.worked })) told
+      NoRoom (subst (Meets job c w u.start) (sym now) (record { steps = meets.steps; worked = meets.worked })) (ap (λ (h : History). h.closed) now) told
 
   brought : (v u : Told) (answer : Option Outcome) → v.channel ≡ c → Meets job c w v.start v.seen → RunsWith c v.start v.seen grant → Acts v step answer u → Brought answer u
   brought v u answer here meets on acts =
@@ -198,24 +265,39 @@ module _ (job : JobView) (c : ℕ) (w after : WorkedView) (grant : Grant) (step 
     steps = meets.steps;
     meets = λ unshut room. meets;
     granted = λ g granted. told_granted c u.start u.seen outcome g told granted;
+    answered = λ unshut room. told;
+    closed = told_closed c u.start u.seen outcome told;
+    full = told_full c u.start u.seen outcome told;
   }
-  at_once first u outcome here begins (NotMade meets closed) =
-      let is : outcome ≡ Closed = the_same outcome Closed closed in
-      record { channel = here; start = begins; steps = meets.steps; meets = λ unshut room. absurd (unshut is); granted = λ g granted. absurd (granted_unshut outcome g granted is) }
-    where
-      the_same : (o p : Outcome) → Some o ≡ Some p → o ≡ p
-      the_same o p is = cc
-  at_once first u outcome here begins (NoRoom meets full) =
-      let is : outcome ≡ NoMemory = the_same outcome NoMemory full in
-      record { channel = here; start = begins; steps = meets.steps; meets = λ unshut room. absurd (room is); granted = λ g granted. absurd (granted_room outcome g granted is) }
-    where
-      the_same : (o p : Outcome) → Some o ≡ Some p → o ≡ p
-      the_same o p is = cc
+  at_once first u outcome here begins (NotMade meets shut closed) =
+      let is : outcome ≡ Closed = same_outcome outcome Closed closed in
+      record {
+        channel = here;
+        start = begins;
+        steps = meets.steps;
+        meets = λ unshut room. absurd (unshut is);
+        granted = λ g granted. absurd (granted_unshut outcome g granted is);
+        answered = λ unshut room. absurd (unshut is);
+        closed = λ told. shut;
+        full = λ told. shut;
+      }
+  at_once first u outcome here begins (NoRoom meets shut full) =
+      let is : outcome ≡ NoMemory = same_outcome outcome NoMemory full in
+      record {
+        channel = here;
+        start = begins;
+        steps = meets.steps;
+        meets = λ unshut room. absurd (room is);
+        granted = λ g granted. absurd (granted_room outcome g granted is);
+        answered = λ unshut room. absurd (room is);
+        closed = λ told. shut;
+        full = λ told. shut;
+      }
 
   later : (u : Told) → Brought None u → Meets job c after u.start u.seen
   later u (Made meets told) = meets
-  later u (NotMade meets closed) = absurd cc
-  later u (NoRoom meets closed) = absurd cc
+  later u (NotMade meets shut closed) = absurd cc
+  later u (NoRoom meets shut full) = absurd cc
 
   acted : (first v u : Told) (outcome : Outcome) → v.channel ≡ c → v.start ≡ first.start → Meets job c w v.start v.seen → RunsWith c v.start v.seen grant → ActsAndWaits v step outcome u → IsAtTurn job c after outcome first u
   acted first v u outcome here begins meets on (AtOnce acts) = at_once first u outcome (acts.pass.channel ∙ here) (acts.pass.start ∙ begins) (brought v u (Some outcome) here meets on acts)
@@ -250,3 +332,9 @@ closes job c w (Some f) (Some v) (Some u) was at told =
           ap (own_steps c) entries ∙ same_steps c v.start v.seen told.found sees ∙ at.steps
           ∙ ap (steps_for job c []) (sym (same_grants c v.start v.seen told.found sees) ∙ ap (grants_used c (first_board v.start)) (sym entries) ∙ ap (λ (s : StartView). grants_used c (first_board s) u.seen.entries) (sym told.pass.start));
     }
+
+pub closes_shut : (before now : Option Told) → TellsOn Closes before now → TellsShut now
+closes_shut None None told = tt
+closes_shut None (Some u) told = absurd told
+closes_shut (Some v) None told = absurd told
+closes_shut (Some v) (Some u) told = ap (λ (h : History). h.closed) told.closed

@@ -1,10 +1,13 @@
 -- Steps. What the worker of a channel has made of its grants, and which grants a channel has used in a history.
-use Rattle.std.specs.Prelude.{◌≡◌, ℕ, ◌==◌, List, [], ◌∷◌, ◌++◌, map, Option, Some, None, IfSome, if◌then◌else◌}
+use Rattle.std.specs.Prelude.{◌≡◌, ℕ, ◌==◌, true, false, List, [], ◌∷◌, ◌++◌, map, Option, Some, None, IfSome, if◌then◌else◌}
+use Rattle.channel_machine.specs.Grants.{grant_fits}
 use Rattle.channel_machine.specs.Kept.{StateView}
 use Rattle.channel_machine.specs.Locals.{IsKeptOf, IsReady}
 use Rattle.channel_machine.specs.Run.{SegmentView}
 use Rattle.channel_machine.specs.Scripts.{script_of, segment_after}
 use Rattle.coord_core.specs.Desks.{Told, own_entries}
+use Rattle.coord_core.specs.Histories.{answer_of}
+use Rattle.coord_core.specs.declared.outcome.Outcome.TheVariants.{Granted, Done, Over}
 use Rattle.job_types.specs.Job.{JobView}
 use Rattle.sync_types.specs.Boards.{Board, first_board, grant_in}
 use Rattle.sync_types.specs.Runs.{as_list}
@@ -90,3 +93,25 @@ pub record IsOwnLater (job : JobView) (c : ℕ) (before after : Told) : Type 0 w
 abbrev pub TellsMade : JobView → WorkedView → Option Told → Type 0
 TellsMade job w None = Unit {0}
 TellsMade job w (Some told) = HasMade job told.start told.seen.entries w
+
+-- Why a worker ends without an error, after what its pass has seen of the board: its channel has ended or was stopped by an alarm; or it waits or
+-- has not started, and no channel runs; or it runs with a grant that does not fit what is kept of it.
+pub data HasReasonToEnd (job : JobView) (w : WorkedView) (told : Told) : Type 0 where
+  AtDone : answer_of told.start told.seen told.channel ≡ Some Done → HasReasonToEnd job w told
+  AtOver : answer_of told.start told.seen told.channel ≡ Some Over → HasReasonToEnd job w told
+  AtMisfit : (grant : Grant) → answer_of told.start told.seen told.channel ≡ Some (Granted grant) → grant_fits job w.last grant ≡ false
+      → HasReasonToEnd job w told
+
+abbrev pub TellsReason : JobView → WorkedView → Option Told → Type 0
+TellsReason job w None = Unit {0}
+TellsReason job w (Some told) = HasReasonToEnd job w told
+
+-- where the pass tells, it has not seen the board closed
+abbrev pub TellsOpen : Option Told → Type 0
+TellsOpen None = Unit {0}
+TellsOpen (Some told) = told.seen.closed ≡ false
+
+-- where the pass tells, it has seen the board closed
+abbrev pub TellsShut : Option Told → Type 0
+TellsShut None = Unit {0}
+TellsShut (Some told) = told.seen.closed ≡ true

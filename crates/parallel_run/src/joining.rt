@@ -71,9 +71,10 @@ fn deal(
     Ok(items)
 }
 
-/// The run that begins with the entries of the board at which these workers were. What still runs goes on, the lowest channel
-/// first.
-pub(crate) fn join<R: Wait>(
+/// Puts together what workers have made at a board, one for each channel of its start, now that the board is back: the run begins
+/// with the history of that board, as it stands. There each worker's steps are the entries of its channel, in order, and nothing is
+/// held against anything. What still runs after it goes on, the lowest channel first, until no channel runs.
+pub fn join_workers<R: Wait>(
     rt: &R,
     alloc: Global,
     job: &Job,

@@ -13,6 +13,7 @@ mod threads;
 mod worked;
 mod worker;
 
+pub use joining::join_workers;
 pub use run::run_threads;
 pub use worked::Worked;
 pub use worker::work;

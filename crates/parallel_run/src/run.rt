@@ -8,7 +8,7 @@ ghost use Rattle.parallel_run.specs.Returns.{BackView, IsBack, IsFirstPass};
 ghost use Rattle.parallel_run.specs.ThreadRuns.{IsBegunByWorkers};
 ghost use Rattle.ticket_board.specs.Passes.{TicketPassView};
 
-use crate::joining::{join, passes_and_workers};
+use crate::joining::{join_workers, passes_and_workers};
 use crate::meeting::Meeting;
 use crate::worked::Worked;
 use crate::worker::work;
@@ -76,7 +76,9 @@ fn work_all<R: Threads + Wait + Sync, J: Lends + Sync, G: Gate + Sync>(
         {
             let mut pass = pass;
             let channel = pass.channel();
-            if meeting.all_come() {
+            let (all_come, seat) = meeting.all_come();
+            drop(seat);
+            if all_come {
                 let worked = work(rt, alloc, lender.lend(), board, gate, channel, &mut pass);
                 (pass, worked)
             } else {
@@ -87,14 +89,13 @@ fn work_all<R: Threads + Wait + Sync, J: Lends + Sync, G: Gate + Sync>(
 }
 
 /// Runs a job with a worker for each channel, each in a thread of its own. They meet at a board of tickets and are joined; each
-/// has a pass of the board and brings it back, and with all of them the board gives its one history. The run begins with that
-/// history: each worker's steps are the entries of its channel there, in order, and nothing is held against anything. What still
-/// runs after it goes on, the lowest channel first, until no channel runs. The only error is want of memory, of a worker too.
+/// has a pass of the board and brings it back, and with all of them the board gives its one history. The run is what
+/// [`join_workers`] makes of that history and of the workers. The only error is want of memory, of a worker too.
 ///
 /// Where a thread cannot be made, or comes too late, no worker begins, and the whole run is made after they are joined.
 ///
 /// Not proved: that the workers run beside each other, that the history is that of their board and not another such history,
-/// and that a call returns.
+/// that no worker begins where another does not, and that a call returns.
 pub fn run_threads<R: Threads + Wait + Sync, G: Gate + Sync>(
     rt: &R,
     alloc: Global,
@@ -108,9 +109,9 @@ pub fn run_threads<R: Threads + Wait + Sync, G: Gate + Sync>(
 {
     let start = start_state(job);
     let (board, passes) = TicketBoard::new(alloc, &start)?;
-    let meeting = Meeting::new(passes.len());
+    let meeting = Meeting::new(alloc, passes.len())?;
     let back = work_all(rt, alloc, job, &board, &meeting, gate, passes)?;
     let (passes, workers) = passes_and_workers(alloc, back)?;
     let board = board.finish(passes);
-    join(rt, alloc, job, &start, board, workers)
+    join_workers(rt, alloc, job, &start, board, workers)
 }

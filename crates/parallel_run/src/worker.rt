@@ -1,9 +1,9 @@
 //! A worker: it makes the steps of a channel at a board.
-ghost use Rattle.std.specs.Prelude.{◌≡◌, ◌≤◌, length, IfOk};
+ghost use Rattle.std.specs.Prelude.{◌≡◌, ◌≤◌, length, IfOk, OnErr};
 ghost use Rattle.coord_core.specs.Desks.{TellsOn};
 ghost use Rattle.job_lines.specs.declared.limits.TheConstants.{PROGRAM_LIMIT};
 ghost use Rattle.job_types.specs.SoundJob.{BlocksFit};
-ghost use Rattle.parallel_run.specs.Workers.{CanGoOn, IsOwnLater, TellsMade, TellsNothingYet};
+ghost use Rattle.parallel_run.specs.Workers.{CanGoOn, IsOwnLater, TellsMade, TellsNothingYet, TellsOpen, TellsReason, TellsShut};
 
 use crate::worked::Worked;
 use axis_sets::ChannelId;
@@ -20,7 +20,8 @@ use std::sync::Wait;
 /// error is want of memory, its own or another's.
 ///
 /// Where the pass tells what it has seen, the channel has there, in order, the steps that the script of the job makes of the
-/// grants that it gets there; and where there is no error they are those that the worker has made.
+/// grants that it gets there; and where there is no error they are those that the worker has made. Without an error the pass has
+/// not seen the board closed, and tells why the worker has ended; with one it has seen it closed.
 pub fn work<R: Wait, D: Desk, G: Gate>(
     rt: &R,
     alloc: Global,
@@ -39,6 +40,9 @@ pub fn work<R: Wait, D: Desk, G: Gate>(
     ensures ready { IfOk result (CanGoOn job.now) }
     ensures own { TellsOn (IsOwnLater job.now channel) (D.tells pass.old) (D.tells pass.new) }
     ensures made { IfOk result (λ w. TellsMade job.now w (D.tells pass.new)) }
+    ensures ends { IfOk result (λ w. TellsReason job.now w (D.tells pass.new)) }
+    ensures open { IfOk result (λ w. TellsOpen (D.tells pass.new)) }
+    ensures shut { OnErr result (TellsShut (D.tells pass.new)) }
 {
     let mut worked = Worked::new(alloc, channel);
     let mut outcome = desk.wait_start(rt, pass);

@@ -6,17 +6,23 @@ ghost use Rattle.sync_types.specs.Boards.{first_board};
 ghost use Rattle.sync_types.specs.Starts.{IsSound, has_channel};
 ghost use Rattle.sync_types.specs.Turns.{AreEntries};
 
+use crate::held::Held;
 use axis_sets::{CHANNEL_PLACES, ChannelId};
-use coord_core::{Board, Desk, Locked, Outcome, act_turn, close_turn, look_turn};
+use coord_core::{Board, Desk, Outcome};
 use nc_faults::NoMemory;
 use std::alloc::Global;
 use std::sync::{Condvar, Mutex, Wait};
 use sync_types::{StartState, Step};
 
 /// A board that workers share under a lock. Who waits at it sleeps until another makes a turn.
+///
+/// No clause says what the lock held at a call: so of `wait_start`, `act_and_wait` and `close` the turns at what it holds are
+/// proved, and which of them a call makes, and that sleepers are woken, is tested.
 #[derive(Drop)]
 pub struct SharedBoard {
-    locked: Mutex<Locked>,
+    // The board as it was at first, by which `finish` knows where it started.
+    first: Held,
+    held: Mutex<Held>,
     // Wakes those that wait, after each turn that may have changed what they are told.
     changed: Condvar,
 }
@@ -55,39 +61,43 @@ impl SharedBoard {
     /// A board at this start, and a pass for each of its channels, the lowest first.
     pub fn new(alloc: Global, start: &StartState) -> Result<(SharedBoard, Vec<Pass>), NoMemory>
         requires sound { IsSound start.now }
+        ensures start { IfOk result (λ made. made.0.first.board.start ≡ start.now) }
         ensures passes { IfOk result (λ made. made.1.items ≡ passes_of start.now) }
     {
         let passes = passes_of(alloc, start)?;
-        let locked = Locked {
-            board: Board::new(alloc, start)?,
-            closed: false,
-        };
+        let held = Held::new(alloc, start)?;
         let shared = SharedBoard {
-            locked: Mutex::new(locked),
+            first: Held::new(alloc, start)?,
+            held: Mutex::new(held),
             changed: Condvar::new(),
         };
         Ok((shared, passes))
     }
 
-    /// The board, once all its passes are back. Its entries are lawful.
+    /// The board, once all its passes are back. Its entries are lawful, and it started where this board did. Of a lock no clause
+    /// can say so, hence it is tested: where the test failed, which no call can bring about, it would be the board of no step.
     pub fn finish(self) -> Board
+        ensures start { result.start ≡ self.first.board.start }
         ensures lawful { AreEntries (first_board result.start) result.entries }
     {
-        let board = self.locked.into_inner().board;
-        let _lawful = board.entries();
-        board
+        let SharedBoard {
+            first,
+            held,
+            changed: _,
+        } = self;
+        held.into_inner().into_board_of(first)
     }
 
     // Looks after each turn of another, until the channel is told anything.
-    fn look_and_wait<R: Wait>(&self, rt: &R, channel: ChannelId) -> Outcome
+    fn look_and_wait<R: Wait>(&self, rt: &R, pass: &Pass) -> Outcome
         ensures { result ≢ outcomes.NoMemory }
     {
-        let mut locked = self.locked.lock(rt);
+        let mut held = self.held.lock(rt);
         for _ in rt.forever() {
-            if let Some(outcome) = look_turn(&locked, channel) {
+            if let Some(outcome) = held.look(pass) {
                 return outcome;
             }
-            locked = self.changed.wait(rt, locked);
+            held = self.changed.wait(rt, held);
         }
         unreachable!()
     }
@@ -101,20 +111,20 @@ impl Desk for SharedBoard {
     ghost tells = { λ pass. None };
 
     fn wait_start<R: Wait>(&self, rt: &R, pass: &mut Pass) -> Outcome {
-        self.look_and_wait(rt, pass.channel)
+        self.look_and_wait(rt, pass)
     }
 
     fn act_and_wait<R: Wait>(&self, rt: &R, pass: &mut Pass, step: Step) -> Outcome {
-        let first = act_turn(&mut *self.locked.lock(rt), pass.channel, step);
+        let first = self.held.lock(rt).act(pass, step);
         self.changed.notify_all();
         match first {
             Some(outcome) => outcome,
-            None => self.look_and_wait(rt, pass.channel),
+            None => self.look_and_wait(rt, pass),
         }
     }
 
     fn close<R: Wait>(&self, rt: &R, _pass: &mut Pass) {
-        close_turn(&mut *self.locked.lock(rt));
+        self.held.lock(rt).close();
         self.changed.notify_all();
     }
 }

@@ -21,16 +21,16 @@ finish-board-requires-clause-own g c =
     subst (All (IsPassOf board)) (sym c.in_ok-passes.ensures.passes)
     (all_own c.args.job.now board c.in_ok-board.passes.items c.in_ok-back.back.items c.in_ok-back.ensures.len c.in_ok-back.ensures.back)
 
-pub join-requires-clause-made : goal.join-requires-clause-made
-join-requires-clause-made g c =
+pub join_workers-requires-clause-made : goal.join_workers-requires-clause-made
+join_workers-requires-clause-made g c =
     let board : TicketBoardView = c.in_ok-board.board in
     let end = c.finish-board.ensures.history in
     all_made c.args.job.now board c.in_ok-board.passes.items c.in_ok-back.back.items c.in_ok-back.ensures.len c.in_ok-back.ensures.back
     c.in_ok-passes.workers.items c.in_ok-passes.ensures.workers (fresh_pass board 0) end.history c.start_state-start.result c.finish-board.result.entries c.in_ok-board.ensures.start end.entries
     (subst (All (EndsFor end.history)) c.in_ok-passes.ensures.passes end.each)
 
-pub join-requires-clause-all : goal.join-requires-clause-all
-join-requires-clause-all g c = λ k off.
+pub join_workers-requires-clause-all : goal.join_workers-requires-clause-all
+join_workers-requires-clause-all g c = λ k off.
     let board : TicketBoardView = c.in_ok-board.board in
     let workers : List WorkedView = c.in_ok-passes.workers.items in
     let are : map (λ (w : WorkedView). w.channel) workers ≡ channels_of c.start_state-start.result =

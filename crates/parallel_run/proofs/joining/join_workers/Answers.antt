@@ -1,7 +1,7 @@
 use Rattle.std.proofs.Common.{ℕ, List, ap, ap₂, sym, subst, ◌∙◌}
 use Rattle.job_types.specs.Job.{JobView}
 use Rattle.parallel_run.proofs.Assembly.{begun, made_by_script, nobody_made, ready_parts}
-use Rattle.parallel_run.proofs.joining.join.Goals as goal
+use Rattle.parallel_run.proofs.joining.join_workers.Goals as goal
 use Rattle.parallel_run.specs.Joining.{AreReady, IsMadeByScript, LeavesOf, PartsView, dealt, rows_at}
 use Rattle.sync_types.specs.Boards.{first_board}
 use Rattle.sync_types.specs.Turns.{AreEntries}

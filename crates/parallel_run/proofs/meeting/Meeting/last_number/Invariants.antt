@@ -1,0 +1,13 @@
+use Rattle.std.proofs.Common.{◌≡◌, ◌≤◌, ◌+◌, ◌-◌}
+use Rattle.parallel_run.proofs.meeting.Meeting.last_number.Given as goal
+
+abbrev pub invariant-turns : goal.invariant-turns
+invariant-turns l = record {
+  table : l.seat.table_id ≡ l.self.table_id;
+  workers : l.seat.me.0.workers ≡ l.self.workers;
+  seen : l.seat.me.0.seen ≡ l.expected;
+  most : l.expected ≤ l.self.workers + 1;
+}
+
+abbrev pub decreases-turns : goal.decreases-turns
+decreases-turns l = l.self.workers - l.expected
