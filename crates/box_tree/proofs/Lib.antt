@@ -1,3 +1,4 @@
 pub mod HullLaws
 pub mod SlantLaws
 pub mod TreeLaws
+pub mod RowLaws

@@ -1,7 +1,7 @@
 //! Trees that are kept for the places of a list.
-ghost use Rattle.std.specs.Prelude.{◌≡◌, ℕ, ◌<◌, ◌≤◌, [], IfOk, IfSome, List, length};
+ghost use Rattle.std.specs.Prelude.{◌≡◌, ℕ, ◌+◌, ◌<◌, ◌≤◌, [], IfOk, IfSome, List, None, length};
 ghost use Rattle.std.specs.List.{list_any};
-ghost use Rattle.box_tree.specs.Rows.{IsRowOf, row_of};
+ghost use Rattle.box_tree.specs.Rows.{IsRowOf, box_count, row_of};
 ghost use Rattle.swept_boxes.specs.Boxes.{boxes_meet};
 ghost use Rattle.swept_boxes.specs.declared.Box3.{Box3};
 
@@ -18,18 +18,29 @@ pub struct KeptTrees {
 }
 
 impl Model for KeptTrees {
-    ghost use Rattle.std.specs.Prelude.{List, Option};
-    ghost use Rattle.swept_boxes.specs.declared.Box3.{Box3};
+    ghost use Rattle.box_tree.specs.Rows.{KeptView};
 
-    ghost Value = { List (Option (List Box3)) };
+    ghost Value = { KeptView };
 
-    ghost view = { λ kept. kept.rows.items };
+    ghost view = { λ kept. record { rows = kept.rows.items; room = kept.room } };
+}
+
+/// Lets go of what is kept for a place.
+fn clear_row(rows: &mut Vec<Option<BoxTree>>, place: usize)
+    ensures place { row_of rows.new.items place ≡ None }
+    ensures others { (k : ℕ) → (k ≡ place → ⊥) → row_of rows.new.items k ≡ row_of rows.old.items k }
+    ensures count { box_count rows.new.items ≤ box_count rows.old.items }
+{
+    if place < rows.len() {
+        rows[place] = None;
+    }
 }
 
 /// Makes room for so many rows.
 fn make_rows(rows: &mut Vec<Option<BoxTree>>, count: usize) -> Result<(), NoMemory>
     ensures same { (k : ℕ) → row_of rows.new.items k ≡ row_of rows.old.items k }
     ensures room { IfOk result (λ done. count ≤ length rows.new.items) }
+    ensures count { box_count rows.new.items ≡ box_count rows.old.items }
 {
     for _at in rows.len()..count {
         rows.push(None)?;
@@ -40,7 +51,8 @@ fn make_rows(rows: &mut Vec<Option<BoxTree>>, count: usize) -> Result<(), NoMemo
 impl KeptTrees {
     /// Nothing is kept yet, and there is room for so many boxes, of 56 bytes each.
     pub fn new(alloc: Global, room: usize) -> KeptTrees
-        ensures { result ≡ [] }
+        ensures rows { result.rows ≡ [] }
+        ensures room { result.room ≡ room }
     {
         KeptTrees {
             rows: Vec::new(alloc),
@@ -48,12 +60,15 @@ impl KeptTrees {
         }
     }
 
-    /// Keeps a tree over these boxes for a place, of so many, where there is room and memory.
+    /// Keeps a tree over these boxes for a place, of so many, where there is room and memory. What was kept for the place is
+    /// let go, and its room is not had again.
     pub fn keep(&mut self, alloc: Global, count: usize, place: usize, pieces: &PieceTree)
         requires { place < count }
-        ensures place { IsRowOf pieces.now (row_of self.old place) → IsRowOf pieces.now (row_of self.new place) }
-        ensures others { (k : ℕ) → (k ≡ place → ⊥) → row_of self.new k ≡ row_of self.old k }
+        ensures place { IsRowOf pieces.now (row_of self.new.rows place) }
+        ensures others { (k : ℕ) → (k ≡ place → ⊥) → row_of self.new.rows k ≡ row_of self.old.rows k }
+        ensures room { box_count self.new.rows + self.new.room ≤ box_count self.old.rows + self.old.room }
     {
+        clear_row(&mut self.rows, place);
         let boxes = pieces.len();
         if self.room < boxes {
             return;
@@ -68,8 +83,9 @@ impl KeptTrees {
 
     /// Whether one of some boxes meets one of those that are kept for a place; `None` where there are none.
     pub fn meets(&self, pieces: &PieceTree, place: usize) -> Option<bool>
-        ensures { IfSome result (λ met. (boxes : List Box3) → IsRowOf boxes (row_of self.now place)
+        ensures met { IfSome result (λ met. (boxes : List Box3) → IsRowOf boxes (row_of self.now.rows place)
             → met ≡ list_any (λ piece. list_any (boxes_meet piece) boxes) pieces.now) }
+        ensures none { result ≡ None → row_of self.now.rows place ≡ None }
     {
         match self.rows.get(place) {
             Some(Some(tree)) => Some(pieces.meets_kept(tree)),

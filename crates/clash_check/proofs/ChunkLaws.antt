@@ -1,6 +1,7 @@
 -- The first of the answers in chunks is the first answer of the whole list.
-use Rattle.std.proofs.Common.{◌≡◌, ◌∙◌, ℕ, zero, suc, ◌+◌, ◌*◌, ◌/◌, ◌%◌, ◌<◌, ◌≤◌, min, List, [], ◌∷◌, length, get_or, take, drop, Option, None, refl, sym, ap, subst, add-zero, arith}
+use Rattle.std.proofs.Common.{◌≡◌, ◌∙◌, ℕ, zero, suc, ◌+◌, ◌*◌, ◌/◌, ◌%◌, ◌<◌, ◌≤◌, ◌⊎◌, inl, inr, min, List, [], ◌∷◌, length, get_or, take, drop, Option, None, refl, sym, ap, subst, add-zero, mul_comm, mul-le-mul_left, mul-le-mul_right, arith}
 use Rattle.std.specs.Option.{option_or}
+use Rattle.std.proofs.lemmas.Bool.{cases_lt}
 use Rattle.std.proofs.lemmas.List.{drop-drop, drop_all, take-append-drop}
 use Rattle.std.proofs.lemmas.Nat.{div-add-mod', mod_below}
 use Rattle.std.proofs.Math.Nat.{suc-mul, zero-mul}
@@ -20,6 +21,36 @@ reach count len size some is = by_rest (len % size) refl
     by_rest (suc rest) e =
         let same : count ≡ suc (len / size) = omega (arith, is, e) in
         rw (same, suc-mul (len / size) size) (omega (arith, whole, mod_below len size some))
+
+-- chunks of this size are no more than those that reach to the end
+pub few_chunks : (count len size : ℕ) → 0 < size → len ≤ count * size → len / size + min 1 (len % size) ≤ count
+few_chunks count len size some all = by_order (cases_lt (len / size) count) (cases_lt count (len / size))
+  where
+    whole : (len / size) * size + len % size ≡ len
+    whole = div-add-mod' len size
+
+    by_order : (len / size < count) ⊎ (count ≤ len / size) → (count < len / size) ⊎ (len / size ≤ count) → len / size + min 1 (len % size) ≤ count
+    by_order (inl less) o = omega (arith, less)
+    by_order (inr most) (inl more) =
+        let wide : suc count * size ≤ (len / size) * size = mul-le-mul_right size more in
+        let next : suc count * size ≡ count * size + size = suc-mul count size in
+        absurd (omega (arith, wide, next, whole, all, some))
+    by_order (inr most) (inr least) =
+        let same : len / size ≡ count = omega (arith, most, least) in
+        let wide : (len / size) * size ≡ count * size = ap (λ (n : ℕ). n * size) same in
+        omega (arith, same, wide, whole, all)
+
+-- a list that is cut into chunks, whose size is its length divided by their number and rounded up, has no more than that number
+pub few_by_size : (chunks len size : ℕ) → 0 < chunks → 0 < size → len / chunks + min 1 (len % chunks) ≤ size → len / size + min 1 (len % size) ≤ chunks
+few_by_size chunks len size some some' long =
+    let all : len ≤ (len / chunks + min 1 (len % chunks)) * chunks = reach (len / chunks + min 1 (len % chunks)) len chunks some refl in
+    let wide : (len / chunks + min 1 (len % chunks)) * chunks ≤ size * chunks = mul-le-mul_right chunks long in
+    let turned : size * chunks ≡ chunks * size = mul_comm size chunks in
+    few_chunks chunks len size some' (omega (arith, all, wide, turned))
+
+-- so many have no more room than so many others that are as many or more
+pub room_of_few : (room few chunks whole : ℕ) → few ≤ chunks → room * chunks ≤ whole → room * few ≤ whole
+room_of_few room few chunks whole less all = let wide : room * few ≤ room * chunks = mul-le-mul_left room less in omega (arith, wide, all)
 
 module _ {X Y : Type 0} (f : X → Option Y) (size : ℕ) (xs : List X) where
   -- a chunk, and what stands after it

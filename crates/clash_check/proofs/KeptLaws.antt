@@ -131,7 +131,7 @@ not_named case shared left other right boxes place d pieces touch pieces_are nea
 
 -- a row more of the boxes by which the box of its place is compared
 pub rows_more : (job : JobView) (run : RunView) (zone : ZoneLine) (stretch : StretchView) (boxes : List ZoneBox) (old new : List (Option (List Box3))) (place : ℕ) (e : ZoneBox) (row : List Box3)
-    → place < length boxes → row ≡ piece_boxes job run (place_of zone stretch (get_or boxes place e)) → AreRows job run zone stretch boxes old → (IsRowOf row (row_of old place) → IsRowOf row (row_of new place))
+    → place < length boxes → row ≡ piece_boxes job run (place_of zone stretch (get_or boxes place e)) → AreRows job run zone stretch boxes old → IsRowOf row (row_of new place)
     → ((k : ℕ) → (k ≡ place → ⊥) → row_of new k ≡ row_of old k) → AreRows job run zone stretch boxes new
 rows_more job run zone stretch boxes old new place e row within row_is rows here others k d below = by_order (below_or_not k place) (below_or_not place k)
   where
@@ -139,7 +139,7 @@ rows_more job run zone stretch boxes old new place e row within row_is rows here
     at_place d =
         let is : row ≡ piece_boxes job run (place_of zone stretch (get_or boxes place d)) =
         row_is ∙ ap (λ (b : ZoneBox). piece_boxes job run (place_of zone stretch b)) (get_or_default boxes place e d within) in
-        subst (λ (bs : List Box3). IsRowOf bs (row_of new place)) is (here (subst (λ (bs : List Box3). IsRowOf bs (row_of old place)) (sym is) (rows place d within)))
+        subst (λ (bs : List Box3). IsRowOf bs (row_of new place)) is here
 
     by_order : (k < place) ⊎ (place ≤ k) → (place < k) ⊎ (k ≤ place) → IsRowOf (piece_boxes job run (place_of zone stretch (get_or boxes k d))) (row_of new k)
     by_order (inl less) o =

@@ -29,12 +29,12 @@ none_passed job run own zone stretch boxes kept none =
     (All-nil (λ (box : PassedBox). meets_none job run own zone stretch boxes box.cover box.motion ≡ true))
 
 -- so a memory in which nothing is kept is of any stretch
-pub empty_memory : (job : JobView) (run : RunView) (own zone : ZoneLine) (stretch : StretchView) (memory : Memory) → memory.kept.covers ≡ None → memory.kept.pieces ≡ [] → memory.passed ≡ []
+pub empty_memory : (job : JobView) (run : RunView) (own zone : ZoneLine) (stretch : StretchView) (memory : Memory) → memory.kept.covers ≡ None → memory.kept.pieces.rows ≡ [] → memory.passed ≡ []
     → IsMemory job run own zone stretch memory
 empty_memory job run own zone stretch memory covers pieces passed = record {
   kept = record {
     covers = subst (λ (row : Option (List Box3)). IsRowOf (map (λ (b : ZoneBox). b.cover) stretch.boxes) row) (sym covers) tt;
-    pieces = no_rows job run zone stretch stretch.boxes memory.kept.pieces pieces;
+    pieces = no_rows job run zone stretch stretch.boxes memory.kept.pieces.rows pieces;
   };
   passed = none_passed job run own zone stretch stretch.boxes memory.passed passed;
 }

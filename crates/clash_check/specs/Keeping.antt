@@ -24,4 +24,4 @@ AreRows job run zone stretch boxes rows =
 -- what is kept of these boxes of a stretch is theirs
 pub record IsKeptOf (job : JobView) (run : RunView) (zone : ZoneLine) (stretch : StretchView) (boxes : List ZoneBox) (kept : Kept) : Type 0 where
   pub covers : IsRowOf (map (λ own. own.cover) boxes) kept.covers
-  pub pieces : AreRows job run zone stretch boxes kept.pieces
+  pub pieces : AreRows job run zone stretch boxes kept.pieces.rows

@@ -17,8 +17,10 @@ use swept_boxes::Box3;
 const TREE_OWN: usize = 8;
 /// From how many others on.
 pub(crate) const TREE_OTHERS: usize = 16;
-/// How many boxes of pieces are kept at most, of 56 bytes each.
+/// How many boxes of pieces are kept at most, of 56 bytes each, so 30 MB.
 pub(crate) const KEPT_LIMIT: usize = 524_288;
+
+const _: () = prove!(KEPT_LIMIT <= 30_000_000 / 56);
 
 /// What is kept of the boxes of a stretch.
 #[derive(Drop)]
@@ -45,7 +47,7 @@ pub(crate) struct Memory {
 /// Nothing is kept yet.
 pub(crate) fn new_memory(alloc: Global) -> Memory
     ensures covers { result.kept.covers ≡ None }
-    ensures pieces { result.kept.pieces ≡ [] }
+    ensures pieces { result.kept.pieces.rows ≡ [] }
     ensures passed { result.passed ≡ [] }
 {
     Memory {
@@ -91,7 +93,8 @@ fn cover_tree(alloc: Global, others: usize, boxes: &[ZoneBox]) -> Option<BoxTree
 /// is room for so many boxes of their pieces.
 pub(crate) fn kept_for(alloc: Global, room: usize, others: usize, boxes: &[ZoneBox]) -> Kept
     ensures covers { IsRowOf (map (λ own. own.cover) boxes.now) result.covers }
-    ensures pieces { result.pieces ≡ [] }
+    ensures pieces { result.pieces.rows ≡ [] }
+    ensures room { result.pieces.room ≤ room }
 {
     Kept {
         covers: cover_tree(alloc, others, boxes),
@@ -159,7 +162,7 @@ pub(crate) fn renew(
     memory: &mut Memory,
 )
     ensures place { memory.new.place ≡ place }
-    ensures kept { (IsRowOf (map (λ own. own.cover) boxes.now) memory.new.kept.covers × (memory.new.kept.pieces ≡ [])) ⊎ ((memory.old.place ≡ place) × (memory.new.kept ≡ memory.old.kept)) }
+    ensures kept { (IsRowOf (map (λ own. own.cover) boxes.now) memory.new.kept.covers × (memory.new.kept.pieces.rows ≡ [])) ⊎ ((memory.old.place ≡ place) × (memory.new.kept ≡ memory.old.kept)) }
     ensures passed { (memory.new.passed ≡ []) ⊎ ((memory.old.place ≡ place) × (memory.new.passed ≡ memory.old.passed)) }
 {
     let times = if memory.place == place {

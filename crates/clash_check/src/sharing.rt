@@ -1,5 +1,5 @@
 //! The pairs of zones are shared out to threads, in chunks.
-ghost use Rattle.std.specs.Prelude.{◌≡◌, ℕ, ◌<◌, [], All, IfOk};
+ghost use Rattle.std.specs.Prelude.{◌≡◌, ℕ, ◌*◌, ◌<◌, ◌≤◌, [], All, IfOk, length};
 ghost use Rattle.clash_check.specs.Ascents.{AreAscents, IsTimed};
 ghost use Rattle.clash_check.specs.Chunks as model;
 ghost use Rattle.clash_check.specs.FirstAnswer.{first_some};
@@ -9,6 +9,7 @@ ghost use Rattle.order_clocks.specs.Tells.{is_before_in};
 ghost use Rattle.protection_zones.specs.ZoneBoxes.{IsFit};
 
 use crate::meetings::Scene;
+use crate::nearby::KEPT_LIMIT;
 use crate::zone_pairs::first_of_pairs;
 use axis_sets::ZONE_LIMIT;
 use protection_zones::Stretch;
@@ -20,6 +21,8 @@ use sync_types::PlaceName;
 /// Into how many chunks the pairs are cut at most. There is a thread for each, where one can be made.
 const CHUNK_LIMIT: usize = 16;
 
+const _: () = prove!(CHUNK_LIMIT <= 16);
+
 /// Something that finds the first two boxes that meet, of the zones of some pairs.
 ///
 /// The threads share it by this bound: that it may be shared is then asked of the type alone.
@@ -29,6 +32,9 @@ trait Seeks {
 
     /// What it needs to seek.
     ghost ready: { Self → Type 0 };
+
+    /// Whether so many have room that seek by it at one time.
+    ghost has_room: { Self → ℕ → Type 0 };
 
     /// What it finds.
     ghost found: { Self → List (ℕ × ℕ) → Option Names };
@@ -48,15 +54,18 @@ struct Zones<'a, 'b> {
 }
 
 impl Seeks for Zones<'_, '_> {
-    ghost use Rattle.std.specs.Prelude.{[], All};
+    ghost use Rattle.std.specs.Prelude.{◌*◌, ◌≤◌, [], All};
     ghost use Rattle.clash_check.specs.Ascents.{AreAscents, IsTimed};
     ghost use Rattle.clash_check.specs.Times.{lists_in};
     ghost use Rattle.clash_check.specs.ZonePairs.{first_of_pairs};
+    ghost use Rattle.clash_check.specs.declared.nearby.TheConstants.{KEPT_LIMIT};
     ghost use Rattle.order_clocks.specs.Tells.{is_before_in};
     ghost use Rattle.protection_zones.specs.ZoneBoxes.{IsFit};
 
     ghost ready = { λ zones. All (All IsFit) zones.scene.run.now.items × IsTimed (is_before_in zones.scene.clocks.now.rows) [] (lists_in zones.lists.now)
         × AreAscents (is_before_in zones.scene.clocks.now.rows) (lists_in zones.lists.now) zones.ascents.now };
+
+    ghost has_room = { λ zones count. zones.scene.room * count ≤ KEPT_LIMIT };
 
     ghost found = { λ zones pairs. first_of_pairs (record { job = zones.scene.job.now; run = zones.scene.run.now; before = is_before_in zones.scene.clocks.now.rows }) (lists_in zones.lists.now) pairs };
 
@@ -74,8 +83,11 @@ fn seek_in_chunks<R: Threads + Sync, S: Seeks + Sync>(
     size: usize,
 ) -> Result<Vec<Option<(PlaceName, PlaceName)>>, AllocError>
     requires size { 0 < size }
+    requires few { model.chunk_count (length pairs.now) size ≤ CHUNK_LIMIT }
     requires ready { S.ready seeker.now }
-    ensures { IfOk result (λ answers. model.AreOfChunks (S.found seeker.now) size pairs.now answers.items) }
+    requires room { S.has_room seeker.now (model.chunk_count (length pairs.now) size) }
+    ensures few { IfOk result (λ answers. length answers.items ≤ CHUNK_LIMIT) }
+    ensures chunks { IfOk result (λ answers. model.AreOfChunks (S.found seeker.now) size pairs.now answers.items) }
 {
     thread::map_chunks(
         rt,
@@ -101,6 +113,31 @@ fn first_answer(answers: &[Option<(PlaceName, PlaceName)>]) -> Option<(PlaceName
     None
 }
 
+/// Into how many chunks so many pairs are cut.
+fn chunks_of(count: usize) -> usize
+    ensures some { 0 < result }
+    ensures few { result ≤ CHUNK_LIMIT }
+{
+    count.min(CHUNK_LIMIT).max(1)
+}
+
+/// How many pairs a chunk has, where so many are cut into so many chunks.
+fn chunk_size(count: usize, chunks: usize) -> usize
+    requires { 0 < chunks }
+    ensures some { 0 < result }
+    ensures few { model.chunk_count count result ≤ chunks }
+{
+    count.div_ceil(chunks).max(1)
+}
+
+/// How much room each of so many chunks has, so that they have no more than this together.
+fn room_for(room: usize, chunks: usize) -> usize
+    requires { 0 < chunks }
+    ensures { result * chunks ≤ room }
+{
+    room / chunks
+}
+
 /// The names of the first two boxes that meet of the zones of these pairs, sought by threads. The only error is want of memory for
 /// what is found in the chunks.
 fn seek_by_threads<R: Threads + Sync>(
@@ -113,15 +150,17 @@ fn seek_by_threads<R: Threads + Sync>(
     requires fit { All (All IsFit) scene.now.run.now.items }
     requires timed { IsTimed (is_before_in scene.now.clocks.now.rows) [] (lists_in lists.now) }
     requires ascents { AreAscents (is_before_in scene.now.clocks.now.rows) (lists_in lists.now) ascents.now }
+    requires room { scene.now.room ≤ KEPT_LIMIT }
     ensures { IfOk result (λ names. names ≡ first_of_pairs (record { job = scene.now.job.now; run = scene.now.run.now; before = is_before_in scene.now.clocks.now.rows })
         (lists_in lists.now) pairs.now) }
 {
-    let chunks = pairs.len().min(CHUNK_LIMIT).max(1);
-    let size = pairs.len().div_ceil(chunks).max(1);
+    let count = pairs.len();
+    let chunks = chunks_of(count);
+    let size = chunk_size(count, chunks);
     let zones = Zones {
         scene: Scene {
             alloc: scene.alloc,
-            room: scene.room / chunks,
+            room: room_for(scene.room, chunks),
             job: scene.job,
             run: scene.run,
             clocks: scene.clocks,
@@ -145,6 +184,7 @@ pub(crate) fn first_by_threads<R: Threads + Sync>(
     requires fit { All (All IsFit) scene.now.run.now.items }
     requires timed { IsTimed (is_before_in scene.now.clocks.now.rows) [] (lists_in lists.now) }
     requires ascents { AreAscents (is_before_in scene.now.clocks.now.rows) (lists_in lists.now) ascents.now }
+    requires room { scene.now.room ≤ KEPT_LIMIT }
     ensures { result ≡ first_of_pairs (record { job = scene.now.job.now; run = scene.now.run.now; before = is_before_in scene.now.clocks.now.rows })
         (lists_in lists.now) pairs.now }
 {

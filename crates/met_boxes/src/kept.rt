@@ -16,8 +16,11 @@ use box_reach::PartedLot;
 use protection_zones::{ZoneBox, boxes_by_pieces};
 use std::alloc::{AllocError, Global};
 
-/// Of how many boxes of a stretch at most those by which they are compared are kept. They take 3,200 bytes for each box at the most.
+/// Of how many boxes of a stretch at most those by which they are compared are kept. They take 3,200 bytes for each box at the most,
+/// so 27 MB.
 const KEPT_LIMIT: usize = 8_192;
+
+const _: () = prove!(KEPT_LIMIT <= 27_000_000 / 3_200);
 
 /// Whether the boxes of a place are to be kept while the boxes of a stretch are held against them: where there are more of these than
 /// one, and the place is not past the limit.

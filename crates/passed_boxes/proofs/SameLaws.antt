@@ -1,5 +1,5 @@
 -- What `==` tells of boxes and of the ends of motions.
-use Rattle.std.proofs.Common.{◌≡◌, ◌&&◌, ℕ, ℤ, Bool, true, List, refl, subst, int_eq, nat_eq}
+use Rattle.std.proofs.Common.{◌≡◌, ◌&&◌, ℕ, ℤ, Bool, true, List, refl, ap, subst, int_eq, nat_eq}
 use Rattle.std.proofs.lemmas.Bool.{and_parts}
 use Rattle.std.specs.Cmp.{signed_Decides, unsigned_Decides}
 use Rattle.std.specs.Cmp.Lexicographic.{pointwise, pointwise_decides}
@@ -12,6 +12,12 @@ same_box a b e =
     let low = (pointwise_decides signed_Decides a.lo b.lo).0 parts.0 in
     let high = (pointwise_decides signed_Decides a.hi b.hi).0 parts.1 in
     λ i. record { lo = low i; hi = high i }
+
+pub box_is_same : (a b : Box3) → a ≡ b → (pointwise int_eq a.lo b.lo && pointwise int_eq a.hi b.hi) ≡ true
+box_is_same a b e =
+    let low = (pointwise_decides signed_Decides a.lo b.lo).1 (ap (λ (box : Box3). box.lo) e) in
+    let high = (pointwise_decides signed_Decides a.hi b.hi).1 (ap (λ (box : Box3). box.hi) e) in
+    rw (low, high) refl
 
 abbrev end_eq : ℕ × ℤ × ℤ → ℕ × ℤ × ℤ → Bool
 end_eq x y = (nat_eq x.0 y.0 && int_eq x.1 y.1) && int_eq x.2 y.2

@@ -1,5 +1,6 @@
 //! Boxes that passed a test.
-ghost use Rattle.std.specs.Prelude.{◌≡◌, Bool, true, [], All, IfOk, Option, option_copied};
+ghost use Rattle.std.specs.Prelude.{◌≡◌, ◌⊎◌, ◌++◌, Bool, true, false, [], ◌∷◌, All, IfOk, Option, option_copied};
+ghost use Rattle.passed_boxes.specs.Latest.{latest};
 ghost use Rattle.path_geometry.specs.declared.motion.Motion.{Motion};
 ghost use Rattle.swept_boxes.specs.declared.Box3.{Box3};
 
@@ -22,8 +23,8 @@ pub struct PassedBox {
     pub motion: Option<Motion>,
 }
 
-/// The latest 64 boxes that passed a test, as far as there is memory for them. What all of them pass, an equal box of an equal
-/// motion passes too.
+/// The latest 64 boxes that passed a test, as far as there is memory for them, the earliest first. What all of them pass, an equal
+/// box of an equal motion passes too.
 #[derive(Drop)]
 pub struct PassedBoxes {
     boxes: Vec<PassedBox>,
@@ -31,17 +32,23 @@ pub struct PassedBoxes {
 }
 
 impl Model for PassedBoxes {
-    ghost use Rattle.std.specs.Prelude.{List};
+    ghost use Rattle.std.specs.Prelude.{◌≡◌, ◌<◌, ◌≤◌, List, length};
+    ghost use Rattle.passed_boxes.specs.Latest.{from_place};
     ghost use Rattle.passed_boxes.specs.declared.passed.PassedBox.{PassedBox};
+    ghost use Rattle.passed_boxes.specs.declared.passed.TheConstants.{PASSED_LIMIT};
 
     ghost Value = { List PassedBox };
 
-    ghost view = { λ passed. passed.boxes.items };
+    ghost view = { λ passed. from_place passed.next passed.boxes.items };
+
+    ghost invariant = { λ passed. (length passed.boxes.items ≤ PASSED_LIMIT) × (passed.next ≤ length passed.boxes.items)
+        × (length passed.boxes.items < PASSED_LIMIT → passed.next ≡ 0) };
 }
 
 /// Whether two boxes both stand, or have the same motion.
 fn move_alike(kept: &Option<Motion>, motion: Option<&Motion>) -> bool
-    ensures { result ≡ true → kept.now ≡ option_copied motion.entry }
+    ensures same { result ≡ true → kept.now ≡ option_copied motion.entry }
+    ensures all { kept.now ≡ option_copied motion.entry → result ≡ true }
 {
     match kept {
         None => motion.is_none(),
@@ -54,7 +61,8 @@ fn move_alike(kept: &Option<Motion>, motion: Option<&Motion>) -> bool
 
 /// Whether it is this box with this motion.
 fn is_same(kept: &PassedBox, cover: &Box3, motion: Option<&Motion>) -> bool
-    ensures { result ≡ true → (kept.now.cover ≡ cover.now) × (kept.now.motion ≡ option_copied motion.entry) }
+    ensures same { result ≡ true → (kept.now.cover ≡ cover.now) × (kept.now.motion ≡ option_copied motion.entry) }
+    ensures all { kept.now.cover ≡ cover.now → kept.now.motion ≡ option_copied motion.entry → result ≡ true }
 {
     kept.cover == *cover && move_alike(&kept.motion, motion)
 }
@@ -82,7 +90,10 @@ impl PassedBoxes {
 
     /// Whether an equal box of an equal motion is kept.
     pub fn has(&self, cover: &Box3, motion: Option<&Motion>) -> bool
-        ensures { result ≡ true → (test : Box3 → Option Motion → Bool) → All (λ kept. test kept.cover kept.motion ≡ true) self.now → test cover.now (option_copied motion.entry) ≡ true }
+        ensures passes { result ≡ true → (test : Box3 → Option Motion → Bool)
+            → All (λ kept. test kept.cover kept.motion ≡ true) self.now → test cover.now (option_copied motion.entry) ≡ true }
+        ensures none { result ≡ false
+            → All (λ kept. kept.cover ≡ cover.now → kept.motion ≡ option_copied motion.entry → ⊥) self.now }
     {
         for kept in &self.boxes {
             if is_same(kept, cover, motion) {
@@ -94,8 +105,10 @@ impl PassedBoxes {
 
     /// Keeps a box with its motion, in the place of the earliest where there are 64.
     pub fn keep(&mut self, cover: &Box3, motion: Option<&Motion>)
-        ensures { (test : Box3 → Option Motion → Bool) → All (λ kept. test kept.cover kept.motion ≡ true) self.old → test cover.now (option_copied motion.entry) ≡ true
-            → All (λ kept. test kept.cover kept.motion ≡ true) self.new }
+        ensures passes { (test : Box3 → Option Motion → Bool) → All (λ kept. test kept.cover kept.motion ≡ true) self.old
+            → test cover.now (option_copied motion.entry) ≡ true → All (λ kept. test kept.cover kept.motion ≡ true) self.new }
+        ensures latest { (self.new ≡ self.old)
+            ⊎ (self.new ≡ latest (self.old ++ record { cover = cover.now; motion = option_copied motion.entry } ∷ [])) }
     {
         let Ok(kept) = passed_box(cover, motion) else {
             return;

@@ -13,7 +13,7 @@ use Rattle.job_types.specs.Job.{JobView}
 use Rattle.job_types.specs.Zones.{has_axis}
 use Rattle.job_types.specs.declared.job.ZoneLine.{ZoneLine}
 use Rattle.order_clocks.proofs.WholeLaws.{running_moves}
-use Rattle.order_clocks.specs.Before.{Gives, InChannel, moment}
+use Rattle.order_clocks.specs.Before.{FreedAxis, InChannel, moment}
 use Rattle.order_clocks.specs.Clocked.{moves_in}
 use Rattle.order_clocks.specs.Happenings.{Freed, gives, happening_at}
 use Rattle.protection_zones.proofs.EventLaws.{AreRising, InSteps, IsTold, all_told, in_steps, own_name, rising}
@@ -302,10 +302,15 @@ module _ (job : JobView) (zone : ZoneLine) (items : List (List Item)) where
             to = own_name o;
             left = freed.one;
             right = (are_one_alike b moves o.name (own_name o) o.name).either_way told.own;
-            rule = Gives (Freed w.0) freed.act (told.goes w.0 w.2) (told.rests w.0 w.2) (record {
-              given = freed.given w.0 w.1;
-              up = omega (arith, freed.early, here);
-              none_later = λ k after upto. freed.none_later w.0 w.1 k after (omega (arith, here));
+            rule = FreedAxis w.0 (record {
+              act = freed.act;
+              going = told.goes w.0 w.2;
+              rests = told.rests w.0 w.2;
+              last = record {
+                given = freed.given w.0 w.1;
+                up = omega (arith, freed.early, here);
+                none_later = λ k after upto. freed.none_later w.0 w.1 k after (omega (arith, here));
+              };
             });
           },
         )

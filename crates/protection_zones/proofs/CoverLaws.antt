@@ -131,7 +131,7 @@ of_none margin zone items cover None covered = covered
 of_none margin zone items cover (Some place) covered = let bad : None ≡ Some covered.item = covered.there in absurd cc
 
 -- the items of a span are those of its entry, or none
-abbrev HasItems : List (List Item) → ℕ → List Item → Type 0
+abbrev pub HasItems : List (List Item) → ℕ → List Item → Type 0
 HasItems all entry items = (items ≡ []) ⊎ (items ≡ slice_index_or all entry [])
 
 stretch_covered : (job : JobView) (run : RunView) (zone : ZoneLine) (channel : Option ℕ) (begins : Beginning) (last : Option EventId) (entry : ℕ) (items : List Item) → HasItems run.items entry items
@@ -158,23 +158,23 @@ span_items all begins (o ∷ os) =
     by_go true = inl refl
     by_go false = inr refl
 
-all_alike : {X : Type 0} (P : X → Type 0) → ((x : X) → P x) → (xs : List X) → All P xs
+pub all_alike : {X : Type 0} (P : X → Type 0) → ((x : X) → P x) → (xs : List X) → All P xs
 all_alike P each [] = All-nil P
 all_alike P each (x ∷ xs) = All-cons P x xs (each x) (all_alike P each xs)
 
+pub spans_have_items : (job : JobView) (items : List (List Item)) (occurrences : List Occurrence) (c : ℕ) → All (λ span. HasItems items span.entry span.items) (spans_of job items occurrences c)
+unfolding spans_of
+spans_have_items job items occurrences c = span_items items (first_beginning job c) _
+
 zone_covered : (job : JobView) (run : RunView) (occurrences : List Occurrence) (zone : ZoneLine)
     → All (λ stretch. All (HasCover job run zone stretch) stretch.boxes) (stretches_of_zone job run.items occurrences zone)
-unfolding spans_of
 zone_covered job run occurrences zone =
     each_stretch job run.items occurrences zone (λ stretch. All (HasCover job run zone stretch) stretch.boxes)
     (λ c. All-weaker (λ span. HasItems run.items span.entry span.items) (λ span. All (HasCover job run zone (stretch_of_span job zone c span)) (stretch_of_span job zone c span).boxes)
     (λ span has. stretch_covered job run zone (Some c) span.begins span.last span.entry span.items has)
-    (spans_of job run.items occurrences c) (of_channel c))
+    (spans_of job run.items occurrences c) (spans_have_items job run.items occurrences c))
     (all_alike (λ t. All (HasCover job run zone (free_stretch job zone t)) (free_stretch job zone t).boxes)
     (λ t. stretch_covered job run zone None t.begins t.last (entry_of_beginning t.begins) [] (inl refl)) (tenures_of job occurrences zone))
-  where
-    of_channel : (c : ℕ) → All (λ span. HasItems run.items span.entry span.items) (spans_of job run.items occurrences c)
-    of_channel c = span_items run.items (first_beginning job c) _
 
 pub boxes_have_covers : (job : JobView) (b : Board) (run : RunView) → BoxesHaveCovers job b run
 boxes_have_covers job b run =

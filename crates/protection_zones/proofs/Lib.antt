@@ -21,3 +21,4 @@ pub mod EventLaws
 pub mod HandLaws
 pub mod AscentLaws
 pub mod ToldRuns
+pub mod ShareLaws

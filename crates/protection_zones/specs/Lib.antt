@@ -15,3 +15,4 @@ pub mod Exchanges
 pub mod Logs
 pub mod SoundStretches
 pub mod InCovers
+pub mod ActiveParts

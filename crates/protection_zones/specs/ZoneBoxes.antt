@@ -75,6 +75,16 @@ sight_of zone item (Move motion) = if moves_zone zone item then Moves else Nothi
 abbrev pub seen : ZoneLine → Item → Sight
 seen zone item = sight_of zone item item.part
 
+-- an item switches the zone, or leaves it as it is
+abbrev pub turned : Bool → Sight → Bool
+turned on (Turns new) = new
+turned on other = on
+
+-- so it is after these items
+abbrev pub on_after : ZoneLine → Bool → List Item → Bool
+on_after zone on [] = on
+on_after zone on (item ∷ items) = on_after zone (turned on (seen zone item)) items
+
 -- ---- the boxes of a span
 
 -- A box of a zone in a span: it holds the places from the first up to the last. It stands, and then has the line with which its part

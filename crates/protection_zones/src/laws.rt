@@ -1,5 +1,6 @@
 //! What is so of the time of zones in all runs.
 ghost use Rattle.job_types.specs.Job.{JobView};
+ghost use Rattle.protection_zones.specs.ActiveParts.{ShareOutPlaces, StretchesShareOutPlaces, ZoneSpan, boxes_in};
 ghost use Rattle.protection_zones.specs.SoundStretches.{BoxesAreFew, BoxesHaveCovers, EndsAreLowestNames, OrdersCompareTheSame, PairsAreFew, StretchesAscend};
 ghost use Rattle.protection_zones.specs.Overlaps.{Order};
 ghost use Rattle.sync_types.specs.Boards.{Board};
@@ -33,4 +34,13 @@ pub fn orders_compare_the_same()
 /// does not last; so the stretches of a zone never overlap.
 pub fn stretches_ascend()
     ensures { (job : JobView) (start : StartView) (run : RunView) → StretchesAscend job start run }
+{}
+
+/// A law: at each place of a span one box of a zone holds where the zone is on, and none elsewhere. An active part is a longest row of
+/// neighbouring places at which it is on. A part without a motion of the zone has one box, which stands; else each of its motions has a
+/// box, the first from the part's beginning on and each other one from its own motion's place, up to the place before the next box's
+/// motion or to the part's end. The boxes of each stretch of a run are those of such a span.
+pub fn boxes_share_out_places()
+    ensures spans { (span : ZoneSpan) → ShareOutPlaces span (boxes_in span) }
+    ensures stretches { (job : JobView) (b : Board) (run : RunView) → StretchesShareOutPlaces job b run }
 {}

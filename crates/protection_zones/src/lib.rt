@@ -12,14 +12,15 @@ mod spans;
 mod stretches;
 mod sweeps;
 mod tenures;
+mod threads;
 mod times;
 mod zone_boxes;
 mod zone_time;
 mod zones;
 
 pub use laws::{
-    boxes_are_few, boxes_have_covers, ends_are_lowest_names, orders_compare_the_same,
-    stretches_ascend,
+    boxes_are_few, boxes_have_covers, boxes_share_out_places, ends_are_lowest_names,
+    orders_compare_the_same, stretches_ascend,
 };
 pub use pieces::{boxes_by_pieces, motion_at};
 pub(crate) use rows::Row;

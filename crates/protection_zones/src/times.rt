@@ -92,8 +92,9 @@ fn told(zones: Vec<Vec<Stretch>>) -> Stretches
     Stretches { zones }
 }
 
-/// The time of each zone of a job in a run of it: its stretches in order, each with its boxes. It takes memory for the stretches
-/// and boxes and, while it works, for the events of the run. `NoMemory` where it finds too little.
+/// The time of each zone of a job in a run of it: its stretches in order, each with its boxes. They follow from the run alone, and
+/// the clocks are not read. It takes memory for the stretches and boxes and, while it works, for the events of the run.
+/// `NoMemory` where it finds too little.
 pub fn stretches_of(
     alloc: Global,
     job: &Job,

@@ -1,5 +1,6 @@
 -- Meaning. Which bytes a reader has taken that gets an input in pieces.
 use Rattle.std.specs.Prelude.{◌≡◌, ℕ, ◌≤◌, List, ◌++◌, length, Result, Ok, Err}
+use Rattle.nc_faults.specs.declared.Refusal.{Refusal}
 use Rattle.tape_job.specs.declared.fault.JobFault.{JobFault}
 use Rattle.tape_job.specs.declared.fault.JobFault.TheVariants.{Refused, NoMemory}
 use Rattle.tape_job.specs.declared.piece_reader.PieceReader.{PieceReader}
@@ -25,6 +26,10 @@ pub record HasTaken (reader : ReaderView) (bytes : List ℕ) : Type 0 where
 -- memory ran out
 abbrev pub IsSpent : ReaderView → Type 0
 IsSpent reader = reader.progress ≡ Err NoMemory
+
+-- the reader has met this refusal
+abbrev pub HasRefused : ReaderView → Refusal → Type 0
+HasRefused reader refusal = reader.progress ≡ Err (Refused refusal)
 
 -- the lines are no more than the bytes
 abbrev pub CanGoOn : Result PieceReader JobFault → ℕ → Type 0

@@ -1,5 +1,5 @@
 //! A reader of a job whose input comes in pieces.
-ghost use Rattle.std.specs.Prelude.{◌≡◌, ◌+◌, ◌<◌, ◌^◌, length, IsErr, IfOk, IfErr, OnErr};
+ghost use Rattle.std.specs.Prelude.{◌≡◌, ◌+◌, ◌<◌, ◌^◌, length, Err, IsErr, IfOk, IfErr, OnErr, OnOk};
 ghost use Rattle.tape_job.specs.Input.{GoesOn};
 ghost use Rattle.tape_job.specs.Pieces.{IsReady};
 ghost use Rattle.tape_job.specs.Read.{IsListed};
@@ -49,6 +49,7 @@ fn go_on(
     requires ready { IfOk progress.old (λ pieces. IsReady pieces × (pieces.lines.number + length piece.now < 2 ^ 32)) }
     requires listed { IfErr progress.old IsListed }
     ensures exact { GoesOn progress.old piece.now result progress.new }
+    ensures left { OnOk result (progress.new ≡ Err faults.NoMemory → ⊥) }
     ensures listed { IfErr result IsListed }
 {
     match progress {
@@ -61,6 +62,7 @@ fn go_on(
 fn memory_left(fault: JobFault) -> Result<(), NoMemory>
     ensures spent { OnErr result (fault ≡ faults.NoMemory) }
     ensures stays { fault ≡ faults.NoMemory → IsErr result }
+    ensures left { OnOk result (fault ≡ faults.NoMemory → ⊥) }
 {
     match fault {
         JobFault::Refused(_) => Ok(()),
@@ -69,9 +71,10 @@ fn memory_left(fault: JobFault) -> Result<(), NoMemory>
 }
 
 impl JobReader {
-    ghost use Rattle.std.specs.Prelude.{◌≡◌, ◌+◌, ◌≤◌, ◌++◌, List, ℕ, [], length, Err, IsErr, IfOk, IfErr, OnErr};
+    ghost use Rattle.std.specs.Prelude.{◌≡◌, ◌+◌, ◌≤◌, ◌++◌, List, ℕ, [], length, Err, IsErr, IfOk, IfErr, OnErr, OnOk};
     ghost use Rattle.job_types.specs.SoundJob.{BlocksFit};
-    ghost use Rattle.tape_job.specs.Input.{HasTaken, IsSpent};
+    ghost use Rattle.nc_faults.specs.declared.Refusal.{Refusal};
+    ghost use Rattle.tape_job.specs.Input.{HasRefused, HasTaken, IsSpent};
     ghost use Rattle.tape_job.specs.Read.{GivesRead, IsListed, read_of};
     ghost use Rattle.tape_job.specs.declared.fault.JobFault.TheVariants as faults;
 
@@ -96,6 +99,7 @@ impl JobReader {
         ensures taken { (bytes : List ℕ) → HasTaken self.old bytes → HasTaken self.new (bytes ++ piece.now) }
         ensures spent { OnErr result (IsSpent self.new) }
         ensures stays { IsSpent self.old → IsErr result }
+        ensures left { OnOk result (IsSpent self.new → ⊥) }
     {
         self.given += piece.len();
         match go_on(&mut self.progress, self.alloc, piece) {
@@ -107,10 +111,12 @@ impl JobReader {
         }
     }
 
-    /// The job of all the bytes, or the first refusal: those of `read_job` for these bytes.
+    /// The job of all the bytes, or the first refusal: those of `read_job` for these bytes. A refusal that was met is told without
+    /// taking memory.
     pub fn finish(self) -> Result<Job, JobFault>
         ensures exact { (bytes : List ℕ) → HasTaken self bytes → GivesRead result (read_of bytes) }
         ensures spent { IsSpent self → result ≡ Err faults.NoMemory }
+        ensures refused { (refusal : Refusal) → HasRefused self refusal → result ≡ Err (faults.Refused refusal) }
         ensures indices { IfOk result BlocksFit }
         ensures listed { IfErr result IsListed }
     {

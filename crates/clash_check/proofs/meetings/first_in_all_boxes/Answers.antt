@@ -16,7 +16,7 @@ loop-own-init c = record {
     | inl fresh ↦ record {
       covers = subst (λ (boxes : List ZoneBox). IsRowOf (Covers boxes) c.renew.new.memory.kept.covers) (c.deref.ensures.value ∙ ap (λ (s : StretchView). s.boxes) c.other.view_is) fresh.0;
       pieces =
-          no_rows c.args.scene.now.job.now c.args.scene.now.run.now c.args.right.now.zone.now c.args.right.now.stretch.now c.args.right.now.stretch.now.boxes c.renew.new.memory.kept.pieces fresh.1;
+          no_rows c.args.scene.now.job.now c.args.scene.now.run.now c.args.right.now.zone.now c.args.right.now.stretch.now c.args.right.now.stretch.now.boxes c.renew.new.memory.kept.pieces.rows fresh.1;
     }
     | inr same ↦ subst (λ (kept : Kept). IsKeptOf c.args.scene.now.job.now c.args.scene.now.run.now c.args.right.now.zone.now c.args.right.now.stretch.now c.args.right.now.stretch.now.boxes kept) (sym same.1) (c.requires.memory same.0).kept
   ];

@@ -42,7 +42,7 @@ pub first_touched-requires-clause-kept : goal.first_touched-requires-clause-kept
 first_touched-requires-clause-kept c = record {
   covers = c.kept_for-kept.ensures.covers;
   pieces =
-      no_rows c.args.scene.now.job.now c.args.scene.now.run.now c.args.right.now.zone.now c.args.right.now.stretch.now c.part-near.result.now c.kept_for-kept.result.pieces
+      no_rows c.args.scene.now.job.now c.args.scene.now.run.now c.args.right.now.zone.now c.args.right.now.stretch.now c.part-near.result.now c.kept_for-kept.result.pieces.rows
       c.kept_for-kept.ensures.pieces;
 }
 

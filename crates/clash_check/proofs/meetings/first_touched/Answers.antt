@@ -23,7 +23,7 @@ unfolding first_touched_among
 returns-then-has-clause-names c =
     let case : Case = record { job = c.args.scene.now.job.now; run = c.args.scene.now.run.now; before = is_before_in c.args.scene.now.clocks.now.rows } in
     let left : BoxPlace = place_of c.args.left.now.zone.now c.args.left.now.stretch.now c.args.own.now in
-    let none = c.has.ensures c.if-has.true (meets_none case.job case.run left.zone c.args.right.now.zone.now c.args.right.now.stretch.now c.args.boxes.now) c.requires.passed in
+    let none = c.has.ensures.passes c.if-has.true (meets_none case.job case.run left.zone c.args.right.now.zone.now c.args.right.now.stretch.now c.args.boxes.now) c.requires.passed in
     sym (no_names case c.args.shared left c.args.right.now.zone.now c.args.right.now.stretch.now c.args.boxes.now
     (subst (λ (motion : Option Motion). meets_none case.job case.run left.zone c.args.right.now.zone.now c.args.right.now.stretch.now c.args.boxes.now c.args.own.now.cover motion ≡ true)
     (c.motion_at-motion.ensures ∙ ap (λ (s : StretchView). motion_at c.args.scene.now.run.now s.entry c.args.own.now.motion) c.stretch.view_is) none))
@@ -51,7 +51,7 @@ returns-then-is_none-clause-passed c =
     past_far case c.args.shared left c.args.right.now.zone.now c.args.right.now.stretch.now c.args.boxes.now 0 c.next_near-first.result c.next_near-first.ensures.on c.next_near-first.ensures.far
     ∙ sym c.first_from-names.ensures.names ∙ none_of c.first_from-names.result c.if-is_none.ensures in
     let met = none_met case left c.args.right.now.zone.now c.args.right.now.stretch.now c.args.boxes.now (ap found (sym c.if-not-shared.true) ∙ none) in
-    c.keep.ensures (meets_none case.job case.run left.zone c.args.right.now.zone.now c.args.right.now.stretch.now c.args.boxes.now) c.requires.passed
+    c.keep.ensures.passes (meets_none case.job case.run left.zone c.args.right.now.zone.now c.args.right.now.stretch.now c.args.boxes.now) c.requires.passed
     (subst (λ (motion : Option Motion). meets_none case.job case.run left.zone c.args.right.now.zone.now c.args.right.now.stretch.now c.args.boxes.now c.args.own.now.cover motion ≡ true)
     (sym (c.motion_at-motion.ensures ∙ ap (λ (s : StretchView). motion_at c.args.scene.now.run.now s.entry c.args.own.now.motion) c.stretch.view_is)) met)
   where

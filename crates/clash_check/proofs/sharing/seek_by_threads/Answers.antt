@@ -1,9 +1,10 @@
 -- The first answer of the chunks is that of all pairs.
 use denote.Param.Send.{IsSync, sendable}
-use Rattle.std.proofs.Common.{◌∙◌, ◌<◌, List, ap, rules}
+use Rattle.std.proofs.Common.{◌∙◌, ◌<◌, List, length, ap, le_trans}
 use Rattle.std.proofs.Crossing.{crosses}
 use Rattle.std.specs.Prelude.{Option}
-use Rattle.clash_check.proofs.ChunkLaws.{first_of_chunks}
+use Rattle.clash_check.proofs.ChunkLaws.{first_of_chunks, room_of_few}
+use Rattle.clash_check.specs.Chunks.{chunk_count}
 use Rattle.clash_check.specs.FirstAnswer.{first_some}
 use Rattle.clash_check.specs.Meetings.{Case, Names}
 use Rattle.clash_check.specs.Times.{lists_in}
@@ -40,10 +41,19 @@ stretch_sync = search (sendable, crosses) depth 40 fits 20000
 pub seek_in_chunks-requires-sync-S : goal.seek_in_chunks-requires-sync-S
 seek_in_chunks-requires-sync-S g c κs within = search (sendable, crosses, job_sync, run_sync, clocks_sync, stretch_sync) depth 40 fits 20000
 
+pub seek_in_chunks-requires-clause-few : goal.seek_in_chunks-requires-clause-few
+seek_in_chunks-requires-clause-few g c κs within = le_trans c.chunk_size-size.ensures.few c.chunks_of-chunks.ensures.few
+
+pub seek_in_chunks-requires-clause-room : goal.seek_in_chunks-requires-clause-room
+seek_in_chunks-requires-clause-room g c κs within =
+    le_trans
+    (room_of_few c.room_for.result (chunk_count (length c.args.pairs.now) c.chunk_size-size.result) c.chunks_of-chunks.result c.args.scene.now.room c.chunk_size-size.ensures.few c.room_for.ensures)
+    c.requires.room
+
 pub returns : goal.returns
 returns g c =
     let case : Case = record { job = c.args.scene.now.job.now; run = c.args.scene.now.run.now; before = is_before_in c.args.scene.now.clocks.now.rows } in
     let lists : List (List StretchView) = lists_in c.args.lists.now in
-    let some : 0 < c.max-size.result = search rules in
+    let some : 0 < c.chunk_size-size.result = c.chunk_size-size.ensures.some in
     c.first_answer.ensures ∙ ap (λ (answers : List (Option Names)). first_some (λ answer. answer) answers) c.deref.ensures.value
-    ∙ first_of_chunks (first_of_pair case lists) c.max-size.result c.args.pairs.now c.in_ok-answers.answers.items some c.in_ok-answers.ensures
+    ∙ first_of_chunks (first_of_pair case lists) c.chunk_size-size.result c.args.pairs.now c.in_ok-answers.answers.items some c.in_ok-answers.ensures.chunks

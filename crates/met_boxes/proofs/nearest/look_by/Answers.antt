@@ -17,7 +17,7 @@ returns-then-has-clause-near c seen so_far covers =
     let left : BoxPlace = place_of c.args.left.now.zone.now c.args.left.now.stretch.now c.args.own.now in
     let new : List Pair = pairs_by c.args.right.now.zone.now c.args.right.now.stretch.now left in
     let before = so_far (part_left (λ (p : Pair). IsInCover c.args.scene.now.job.now c.args.scene.now.run.now p.0 × IsInCover c.args.scene.now.job.now c.args.scene.now.run.now p.1) seen new covers) in
-    let on = c.has.ensures c.if-has.true (reaches_no_further c.args.scene.now.job.now c.args.scene.now.run.now c.args.rows.now.items left.zone c.args.right.now.zone.now c.args.right.now.stretch.now) before.1 in (
+    let on = c.has.ensures.passes c.if-has.true (reaches_no_further c.args.scene.now.job.now c.args.scene.now.run.now c.args.rows.now.items left.zone c.args.right.now.zone.now c.args.right.now.stretch.now) before.1 in (
       passed_again c.args.scene.now.job.now c.args.scene.now.run.now left c.args.right.now.zone.now c.args.right.now.stretch.now seen c.args.rows.now.items
           (subst (λ (motion : Option Motion). reaches_no_further c.args.scene.now.job.now c.args.scene.now.run.now c.args.rows.now.items left.zone c.args.right.now.zone.now c.args.right.now.stretch.now c.args.own.now.cover motion ≡ true)
           (c.motion_at-motion.ensures ∙ ap (λ (s : StretchView). motion_at c.args.scene.now.run.now s.entry c.args.own.now.motion) c.stretch.view_is) on) before.0,
@@ -35,7 +35,7 @@ returns-then-not-share_channel-clause-near c seen so_far covers =
     let own = passed_now c.args.scene.now.job.now c.args.scene.now.run.now left c.args.right.now.zone.now c.args.right.now.stretch.now apart seen c.look_anew.new.rows.items now in
     let stay = passed_stay c.args.scene.now.job.now c.args.scene.now.run.now seen c.args.rows.now.items before.0 new c.look_anew.new.rows.items now left.zone c.args.right.now.zone.now c.args.right.now.stretch.now c.args.passed.now before.1 in (
       now,
-      c.keep.ensures (reaches_no_further c.args.scene.now.job.now c.args.scene.now.run.now c.look_anew.new.rows.items left.zone c.args.right.now.zone.now c.args.right.now.stretch.now) stay
+      c.keep.ensures.passes (reaches_no_further c.args.scene.now.job.now c.args.scene.now.run.now c.look_anew.new.rows.items left.zone c.args.right.now.zone.now c.args.right.now.stretch.now) stay
           (subst (λ (motion : Option Motion). reaches_no_further c.args.scene.now.job.now c.args.scene.now.run.now c.look_anew.new.rows.items left.zone c.args.right.now.zone.now c.args.right.now.stretch.now c.args.own.now.cover motion ≡ true)
           (sym (c.motion_at-motion.ensures ∙ ap (λ (s : StretchView). motion_at c.args.scene.now.run.now s.entry c.args.own.now.motion) c.stretch.view_is)) own),
     )

@@ -1,4 +1,4 @@
-use Rattle.std.proofs.Common.{◌∙◌, List, ℕ, ℤ, sym, ap}
+use Rattle.std.proofs.Common.{◌∙◌, sym, ap}
 use Rattle.passed_boxes.proofs.SameLaws.{all_ends, same_ends}
 use Rattle.path_geometry.specs.Ends.{EndsView}
 use Rattle.passed_boxes.proofs.motions.are_same_ends.Goals as goal

@@ -1,0 +1,13 @@
+//! The types whose values may go to another thread, and that threads may share.
+
+use crate::{Stretch, Stretches, ZoneBox};
+
+/// Asks this of a type, and does nothing: each call is proved.
+fn crosses_threads<T: Send + Sync>() {}
+
+/// Asks it of each of them.
+fn types_cross_threads() {
+    crosses_threads::<Stretch>();
+    crosses_threads::<Stretches>();
+    crosses_threads::<ZoneBox>();
+}
