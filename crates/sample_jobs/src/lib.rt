@@ -40,7 +40,7 @@ pub const SAMPLE_ROOM: usize = 1_000_000;
 
 /// The two programs of a sample.
 #[derive(Clone, Copy)]
-enum Program {
+pub enum Program {
     /// That of channel 1, at positive X.
     First,
     /// That of channel 2, at negative X.
