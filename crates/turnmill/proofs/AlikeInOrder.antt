@@ -17,9 +17,9 @@ use Rattle.turnmill.proofs.AnyRun.{AreAlikeInOrder, quiet_report}
 use Rattle.turnmill.proofs.JobItems.{made_by}
 use Rattle.turnmill.proofs.QuietRuns.{HasNone, quiet_maximal}
 use Rattle.turnmill.specs.JobDoings.{doings_of}
-use Rattle.turnmill.specs.Judged.{IsFirstRaceIn, IsJudgedOf, IsOrderIn}
-use Rattle.turnmill.specs.Judgements.{IsJudgedBy}
-use Rattle.turnmill.specs.Output.{IsReportedBy}
+use Rattle.turnmill.specs.Judged.{IsFirstRaceIn, IsJudgedInAnyOrder, IsOrderIn}
+use Rattle.turnmill.specs.Judgements.{IsJudgedByClocks}
+use Rattle.turnmill.specs.Output.{CallsForReport}
 
 module _ (job : JobView) (sound : IsSoundJob job) where
   alike_in_order : (run : RunView) (one : IsMaximalRunOf job (start_of job) run) (before : Order) → IsOrderIn job run before → HasNone job sound run → AreAlikeInOrder job run before
@@ -31,11 +31,11 @@ module _ (job : JobView) (sound : IsSoundJob job) where
       (made_by job run cs one.all) (made_by job other ds ordered.all) order other_order
 
   -- so the job calls for the report of the run
-  pub reported_any : (run : RunView) (verdict : Verdict) (judged : IsJudgedOf job run verdict) → judged.on.race ≡ None → IsReportedBy job run verdict
+  pub reported_any : (run : RunView) (verdict : Verdict) (judged : IsJudgedInAnyOrder job run verdict) → judged.on.race ≡ None → CallsForReport job run verdict
   reported_any run verdict judged none =
       quiet_report job sound run verdict judged none
       (alike_in_order run judged.maximal judged.on.before judged.on.ordered (subst (λ (race : Option Race). IsFirstRaceIn job run race) none judged.on.first))
 
-  pub reported_quiet : (run : RunView) (clocks : ClocksView) (stretches : StretchesView) (verdict : Verdict) → IsJudgedBy job run clocks stretches verdict → clocks.race ≡ None
-      → IsReportedBy job run verdict
+  pub reported_quiet : (run : RunView) (clocks : ClocksView) (stretches : StretchesView) (verdict : Verdict) → IsJudgedByClocks job run clocks stretches verdict → clocks.race ≡ None
+      → CallsForReport job run verdict
   reported_quiet run clocks stretches verdict is none = reported_any run verdict is.judged (is.race_is ∙ none)

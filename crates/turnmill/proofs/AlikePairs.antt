@@ -1,7 +1,6 @@
 -- Where the times of zones are alike in two runs, the compared pairs are alike one by one: as many, and alike those that meet.
-use Rattle.std.proofs.Common.{◌≡◌, ◌∙◌, ℕ, ◌==◌, ◌||◌, ◌&&◌, not, Bool, true, false, cond, List, [], ◌∷◌, map, filter, find, length, slice_get, slice_index_or, zip, Option, None, Some, option_map, All, refl, sym, ap, ap₂, subst}
+use Rattle.std.proofs.Common.{◌≡◌, ◌∙◌, ◌==◌, ◌||◌, not, Bool, true, false, cond, List, [], ◌∷◌, map, filter, find, zip, Option, Some, refl, ap, ap₂}
 use Rattle.std.specs.List.{flat_map, list_any}
-use Rattle.clash_check.specs.Counts.{count_of}
 use Rattle.clash_check.specs.Verdicts.{name_of, no_by}
 use Rattle.job_types.specs.Job.{JobView}
 use Rattle.job_types.specs.Zones.{zones_in_order}
@@ -17,7 +16,7 @@ use Rattle.sync_types.specs.Views.{RunView}
 use Rattle.sync_types.specs.declared.verdicts.PlaceName.{PlaceName}
 use Rattle.sync_types.specs.declared.verdicts.Verdict.TheVariants as verdicts
 use Rattle.speed_laws.specs.AlikeRuns.{AllAlike, AllZonesAlike, AreAlike}
-use Rattle.turnmill.proofs.Matches.{Match, match-append, match-filter, match-flat_map, match-if, match-length, match-map, match-own}
+use Rattle.turnmill.proofs.Matches.{Match, match-append, match-filter, match-flat_map, match-if, match-map, match-own}
 
 -- ---- the lists of stretches match
 

@@ -1,11 +1,11 @@
 -- Where the times of zones are alike in two runs without a race, and their channels stop alike, the verdicts are the same.
-use Rattle.std.proofs.Common.{◌≡◌, ◌∙◌, ℕ, zero, suc, nat_lt, List, [], ◌∷◌, filter, zip, slice_get, slice_index_or, Option, None, Some, if◌then◌else◌, refl, sym, ap, ap₂}
+use Rattle.std.proofs.Common.{◌≡◌, ◌∙◌, ℕ, zero, suc, nat_lt, List, [], ◌∷◌, filter, zip, slice_get, slice_index_or, Option, None, Some, if◌then◌else◌, ap, ap₂}
 use Rattle.clash_check.specs.Counts.{count_of}
 use Rattle.clash_check.specs.FirstAnswer.{first_some}
 use Rattle.clash_check.specs.Verdicts.{alarm_by, budget_verdict, meeting_verdict, or_else, stuck_by, verdict_by}
 use Rattle.stop_verdicts.specs.Stops.{has_channel, stops_of}
 use Rattle.job_types.specs.Job.{JobView}
-use Rattle.protection_zones.specs.Overlaps.{Order, Pair, compared_pairs}
+use Rattle.protection_zones.specs.Overlaps.{Order, compared_pairs}
 use Rattle.protection_zones.specs.Stretches.{StretchView}
 use Rattle.speed_laws.specs.AlikeRuns.{AreAlike, HaveAlikeZoneTimes, zones_in_run}
 use Rattle.sync_types.specs.Boards.{channel_numbers}

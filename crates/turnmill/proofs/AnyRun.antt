@@ -24,15 +24,15 @@ use Rattle.turnmill.proofs.InOrder.{in_order}
 use Rattle.turnmill.proofs.QuietRuns.{HasNone, none_told, quiet_maximal}
 use Rattle.turnmill.proofs.RowOrder.{comes_before, row_order}
 use Rattle.turnmill.proofs.TurnLemmas.{deeds_in, same_deeds}
-use Rattle.turnmill.specs.Judged.{IsFirstRaceIn, IsJudgedOf, IsOrderIn, IsVerdictOn, board_of, zone_time_in}
+use Rattle.turnmill.specs.Judged.{IsFirstRaceIn, IsJudgedInAnyOrder, IsOrderIn, IsVerdictOn, board_of, zone_time_in}
 use Rattle.turnmill.specs.OneResult.{TakeAllTurns}
-use Rattle.turnmill.specs.Output.{IsReportedBy}
+use Rattle.turnmill.specs.Output.{CallsForReport}
 
 -- the times of zones are alike in the run and in the run in order
 abbrev pub AreAlikeInOrder : JobView → RunView → Order → Type 0
 AreAlikeInOrder job run before = (other : RunView) → IsRunInOrder job (start_of job) other → (after : Order) → IsOrderIn job other after → HaveAlikeZoneTimes job before after run other
 
-module _ (job : JobView) (sound : IsSoundJob job) (run : RunView) (verdict : Verdict) (judged : IsJudgedOf job run verdict) (none : judged.on.race ≡ None)
+module _ (job : JobView) (sound : IsSoundJob job) (run : RunView) (verdict : Verdict) (judged : IsJudgedInAnyOrder job run verdict) (none : judged.on.race ≡ None)
     (alike : AreAlikeInOrder job run judged.on.before) where
   abbrev on : IsVerdictOn job run verdict
   on = judged.on
@@ -86,7 +86,7 @@ module _ (job : JobView) (sound : IsSoundJob job) (run : RunView) (verdict : Ver
     other_rows =
         sym (runs_are_whole job (start_of job) other (start_sound job sound) (record { channels = ds; maximal = all_turns; all = ordered.all })).rows
 
-    reported : IsReportedBy job run verdict
+    reported : CallsForReport job run verdict
     reported = record {
       run = other;
       verdict = verdict;
@@ -105,5 +105,5 @@ module _ (job : JobView) (sound : IsSoundJob job) (run : RunView) (verdict : Ver
     }
 
   -- so the job calls for the report of the run
-  pub quiet_report : IsReportedBy job run verdict
+  pub quiet_report : CallsForReport job run verdict
   quiet_report = let found = in_order job in reported found.0 found.1

@@ -1,5 +1,5 @@
 -- What the parts of a verdict need of a run of an accepted job after which no channel runs.
-use Rattle.std.proofs.Common.{◌≡◌, ◌<◌, ◌≤◌, All, List, length, Result, Ok, Err, IfOk, refl, ap, ◌∙◌, arith}
+use Rattle.std.proofs.Common.{◌≡◌, ◌≤◌, All, length, Result, Ok, Err, IfOk, refl, ap, ◌∙◌, arith}
 use Rattle.std.proofs.lemmas.List.Elements.{All-weaker}
 use Rattle.axis_sets.specs.declared.limits.TheConstants.{CHANNEL_LIMIT}
 use Rattle.channel_machine.specs.StartStates.{start_of}
@@ -25,9 +25,9 @@ use Rattle.sync_types.specs.declared.ChannelEnd.{ChannelEnd}
 use Rattle.sync_types.specs.declared.ChannelEnd.TheVariants.{Idle, Ended, Holding, Alarmed}
 use Rattle.sync_types.specs.declared.Item.{Item}
 use Rattle.sync_types.specs.declared.verdicts.Verdict.{Verdict}
-use Rattle.turnmill.specs.Judged.{IsJudgedOf}
-use Rattle.turnmill.specs.Judgements.{IsJudgedBy}
-use Rattle.turnmill.specs.Output.{IsReportedBy}
+use Rattle.turnmill.specs.Judged.{IsJudgedInAnyOrder}
+use Rattle.turnmill.specs.Judgements.{IsJudgedByClocks}
+use Rattle.turnmill.specs.Output.{CallsForReport}
 
 -- how a channel has stopped
 listed : (end : ChannelEnd) → law.IsListedEnd end → IsListedEnd end
@@ -54,7 +54,7 @@ module _ (job : JobView) (run : RunView) (sound : IsSoundJob job) (maximal : IsM
       → ((start : StartView) → ComesFrom start run → IsOrderOf (first_board start) (moves_in run.entries) (is_before_in clocks.rows))
       → ((start : StartView) → ComesFrom start run → IsFirst (first_board start) (moves_in run.entries) (length run.entries) clocks.race)
       → verdict ≡ verdict_by (is_before_in clocks.rows) clocks.race job run stretches
-      → IsJudgedOf job run verdict
+      → IsJudgedInAnyOrder job run verdict
   judged stretches clocks verdict time order race is = record {
     maximal = maximal;
     on = record {
@@ -71,7 +71,7 @@ module _ (job : JobView) (run : RunView) (sound : IsSoundJob job) (maximal : IsM
       → ((start : StartView) → ComesFrom start run → IsOrderOf (first_board start) (moves_in run.entries) (is_before_in clocks.rows))
       → ((start : StartView) → ComesFrom start run → IsFirst (first_board start) (moves_in run.entries) (length run.entries) clocks.race)
       → verdict ≡ verdict_by (is_before_in clocks.rows) clocks.race job run stretches
-      → IsJudgedBy job run clocks stretches verdict
+      → IsJudgedByClocks job run clocks stretches verdict
   unfolding judged
   judged_by stretches clocks verdict time order race is = record {
     judged = judged stretches clocks verdict time order race is;
@@ -86,8 +86,8 @@ module _ (job : JobView) (run : RunView) (sound : IsSoundJob job) (maximal : IsM
 
 -- ---- a run that is reported
 
-pub reported_in_order : (job : JobView) (run : RunView) (clocks : ClocksView) (stretches : StretchesView) (verdict : Verdict) → IsJudgedBy job run clocks stretches verdict
-    → IsRunInOrder job (start_of job) run → IsReportedBy job run verdict
+pub reported_in_order : (job : JobView) (run : RunView) (clocks : ClocksView) (stretches : StretchesView) (verdict : Verdict) → IsJudgedByClocks job run clocks stretches verdict
+    → IsRunInOrder job (start_of job) run → CallsForReport job run verdict
 reported_in_order job run clocks stretches verdict is ordered =
     record { run = run; verdict = verdict; judged = record { in_order = ordered; on = is.judged.on }; status_is = refl; bytes_are = refl }
 

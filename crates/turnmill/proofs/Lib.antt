@@ -8,11 +8,13 @@ pub mod OneOutput
 pub mod TurnLemmas
 pub mod CheckLemmas
 pub mod ResultLemmas
+pub mod CalledVerdicts
+pub mod InputAnswers
+pub mod CallAnswers
 pub mod ArgumentLemmas
 pub mod JobItems
 pub mod JobStands
 pub mod JobDoings
-pub mod RequestLemmas
 pub mod SampleLemmas
 pub mod Matches
 pub mod AlikePairs

@@ -26,9 +26,9 @@ use Rattle.sync_types.specs.declared.runs.Race.{Race}
 use Rattle.sync_types.specs.declared.verdicts.Verdict.{Verdict}
 use Rattle.sync_types.specs.declared.verdicts.Verdict.TheVariants as verdicts
 use Rattle.tape_job.specs.Read.{read_of}
-use Rattle.turnmill.specs.Output.{IsLineOf, IsOutput, IsOutputOf, IsReportOf, status_of}
+use Rattle.turnmill.specs.Output.{IsLineOf, InputCallsFor, ReadingCallsFor, JobCallsFor, status_of}
 use Rattle.turnmill.specs.declared.check.Status.{Status}
-use Rattle.turnmill.specs.Judged.{IsJudged, IsFirstRaceIn, IsOrderIn, board_of, zone_time_in}
+use Rattle.turnmill.specs.Judged.{IsJudgedInOrder, IsFirstRaceIn, IsOrderIn, board_of, zone_time_in}
 
 -- ---- the run in order
 
@@ -125,7 +125,7 @@ one_verdict job run before other_before race other_race ordered other_ordered fi
     ∙ ap₂ (λ (ps : List Pair) (r : Option Race). by_pairs ps r job run) pairs same
     ∙ sym (is_by_pairs other_before other_race job run (zone_time_in job run))
 
-judged_once : (job : JobView) (run other_run : RunView) (verdict other : Verdict) → IsJudged job run verdict → IsJudged job other_run other → (run ≡ other_run) × (verdict ≡ other)
+pub judged_once : (job : JobView) (run other_run : RunView) (verdict other : Verdict) → IsJudgedInOrder job run verdict → IsJudgedInOrder job other_run other → (run ≡ other_run) × (verdict ≡ other)
 judged_once job run other_run verdict other one two = (same, one.on.verdict_is ∙ verdicts_agree ∙ sym two.on.verdict_is)
   where
     same : run ≡ other_run
@@ -139,7 +139,7 @@ judged_once job run other_run verdict other one two = (same, one.on.verdict_is �
 
 -- ---- the output
 
-one_report : (job : JobView) (s t : Status) (bs cs : List ℕ) → IsReportOf job s bs → IsReportOf job t cs → (s ≡ t) × (bs ≡ cs)
+one_report : (job : JobView) (s t : Status) (bs cs : List ℕ) → JobCallsFor job s bs → JobCallsFor job t cs → (s ≡ t) × (bs ≡ cs)
 one_report job s t bs cs one two =
     let same = judged_once job one.run two.run one.verdict two.verdict one.judged two.judged in
     (one.status_is ∙ ap status_of same.1 ∙ sym two.status_is, one.bytes_are ∙ ap₂ (λ (r : RunView) (v : Verdict). report_bytes job r v) same.0 same.1 ∙ sym two.bytes_are)
@@ -147,12 +147,12 @@ one_report job s t bs cs one two =
 one_line : (refusal : Refusal) (s t : Status) (bs cs : List ℕ) → IsLineOf refusal s bs → IsLineOf refusal t cs → (s ≡ t) × (bs ≡ cs)
 one_line refusal s t bs cs one two = (one.status_is ∙ sym two.status_is, one.bytes_are ∙ sym two.bytes_are)
 
-one_output_of : (read : Result JobView Refusal) (s t : Status) (bs cs : List ℕ) → IsOutputOf read s bs → IsOutputOf read t cs → (s ≡ t) × (bs ≡ cs)
+one_output_of : (read : Result JobView Refusal) (s t : Status) (bs cs : List ℕ) → ReadingCallsFor read s bs → ReadingCallsFor read t cs → (s ≡ t) × (bs ≡ cs)
 one_output_of (Ok job) s t bs cs one two = one_report job s t bs cs one two
 one_output_of (Err refusal) s t bs cs one two = one_line refusal s t bs cs one two
 
 -- how the call ends and the bytes that it writes are one, whatever the input is
-pub one_output : (input : List ℕ) (s t : Status) (bs cs : List ℕ) → IsOutput input s bs → IsOutput input t cs → (s ≡ t) × (bs ≡ cs)
+pub one_output : (input : List ℕ) (s t : Status) (bs cs : List ℕ) → InputCallsFor input s bs → InputCallsFor input t cs → (s ≡ t) × (bs ≡ cs)
 one_output input s t bs cs one two = by_length (order_of INPUT_LIMIT (length input))
   where
     fits : length input ≤ INPUT_LIMIT → (s ≡ t) × (bs ≡ cs)

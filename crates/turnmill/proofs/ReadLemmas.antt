@@ -1,5 +1,5 @@
 -- An input that was read piece after piece.
-use Rattle.std.proofs.Common.{◌≡◌, ◌∙◌, ℕ, ◌+◌, ◌<◌, ◌≤◌, List, [], ◌++◌, length, take, Option, None, Some, Result, Ok, Err, IfOk, refl, ap, sym, subst, arith, length-append, append_assoc}
+use Rattle.std.proofs.Common.{◌≡◌, ◌∙◌, ℕ, ◌+◌, ◌<◌, ◌≤◌, List, [], ◌++◌, length, take, Option, None, Some, Result, IfOk, refl, ap, sym, subst, arith, length-append, append_assoc}
 use Rattle.std.proofs.lemmas.List.{append-nil, length-take-le}
 use Rattle.edge_io.specs.Moves.{Loses, IsEmptied}
 use Rattle.job_types.specs.Job.{JobView}
@@ -10,7 +10,7 @@ use Rattle.tape_job.specs.Input.{ReaderView, HasTaken}
 use Rattle.tape_job.specs.Read.{read_of}
 use Rattle.turnmill.proofs.CheckLemmas.{front-short, writes-short}
 use Rattle.turnmill.specs.Input.{ReadsAll, IsReadFrom}
-use Rattle.turnmill.specs.Output.{IsOutput, IsOutputOf, IsReadWhole, Writes, WritesFront}
+use Rattle.turnmill.specs.Output.{InputCallsFor, ReadingCallsFor, IsReadWhole, Writes, WritesFront}
 use Rattle.turnmill.specs.declared.check.Status.{Status}
 
 -- two losses, one after the other
@@ -58,11 +58,11 @@ read_from reader number read old mid new buffer given few empty still is =
 
 -- what is written of an input as it was read is what it calls for
 pub read_writes : (read : Result JobView Refusal) (left after old new : Option (List ℕ)) (status : Status) (from : IsReadFrom read left after)
-    → (IsReadWhole status → Writes (IsOutputOf read) status old new) → IsReadWhole status → Writes (IsOutput from.bytes) status old new
+    → (IsReadWhole status → Writes (ReadingCallsFor read) status old new) → IsReadWhole status → Writes (InputCallsFor from.bytes) status old new
 read_writes read left after old new status from writes whole = writes-short from.bytes read status old new from.short from.is (writes whole)
 
 pub read_front : (read : Result JobView Refusal) (left after old new : Option (List ℕ)) (from : IsReadFrom read left after)
-    → WritesFront (IsOutputOf read) old new → WritesFront (IsOutput from.bytes) old new
+    → WritesFront (ReadingCallsFor read) old new → WritesFront (InputCallsFor from.bytes) old new
 read_front read left after old new from writes = front-short from.bytes read old new from.short from.is writes
 
 -- a job that an input is, is sound

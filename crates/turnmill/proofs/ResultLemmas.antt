@@ -1,5 +1,5 @@
 -- A job has one result where its run in order has no race.
-use Rattle.std.proofs.Common.{◌≡◌, ◌≢◌, ℕ, ◌≤◌, List, length, Option, None, Some, Result, Ok, Err, IfSome, IfOk, IsOkAnd, refl, ap, subst, ◌∙◌}
+use Rattle.std.proofs.Common.{◌≡◌, ◌≢◌, ℕ, List, Option, None, Some, Result, Ok, Err, IfOk, IsOkAnd, refl, ap, subst, ◌∙◌}
 use Rattle.channel_machine.specs.StartStates.{start_of}
 use Rattle.clash_check.specs.Verdicts.{verdict_by}
 use Rattle.job_types.specs.Job.{JobView}
@@ -12,15 +12,11 @@ use Rattle.schedule_laws.proofs.RunLaws.{all_agree, speaks}
 use Rattle.schedule_laws.specs.Schedules.{IsQuietRun}
 use Rattle.sync_types.specs.Views.{RunView}
 use Rattle.sync_types.specs.declared.runs.Race.{Race}
-use Rattle.tape_job.proofs.SoundJobs.{read_sound}
-use Rattle.tape_job.specs.Read.{read_of}
-use Rattle.turnmill.proofs.CheckLemmas.{of_input, whole_verdict}
 use Rattle.turnmill.proofs.QuietRuns.{quiet_in_order, quiet_run}
 use Rattle.turnmill.proofs.TurnLemmas.{same_motions}
-use Rattle.turnmill.specs.Input.{ReadsAll}
 use Rattle.turnmill.specs.Judged.{IsFirstRaceIn, zone_time_in}
-use Rattle.turnmill.specs.OneResult.{HasOneResult, LeadToTheSame, TakeAllTurns}
-use Rattle.turnmill.specs.Output.{IsOutput, IsOutputOf, IsReadWhole, IsVerdict, Writes, status_of}
+use Rattle.turnmill.specs.OneResult.{HasOneResult, LeadToTheSame, OneQuietRunSpeaksForAll, TakeAllTurns}
+use Rattle.turnmill.specs.Output.{IsVerdict, ReadingCallsFor, status_of}
 use Rattle.turnmill.specs.declared.check.Status.{Status}
 use Rattle.turnmill.specs.declared.check.Status.TheVariants as ends
 
@@ -49,8 +45,8 @@ unfolding verdict_by
 no_race before None job run stretches other = refl
 no_race before (Some race) job run stretches other = absurd (other refl)
 
-result_by : (read : Result JobView Refusal) (status : Status) (bytes : List ℕ) → IfOk read IsSoundJob → IsVerdict status → status ≢ ends.Race
-    → IsOutputOf read status bytes → IsOkAnd read HasOneResult
+pub result_by : (read : Result JobView Refusal) (status : Status) (bytes : List ℕ) → IfOk read IsSoundJob → IsVerdict status → status ≢ ends.Race
+    → ReadingCallsFor read status bytes → IsOkAnd read HasOneResult
 result_by (Ok job) status bytes sound is other output =
     let told = output.judged.on in
     let not_race : status_of (verdict_by told.before told.race job output.run (zone_time_in job output.run)) ≢ ends.Race = λ same.
@@ -59,9 +55,9 @@ result_by (Ok job) status bytes sound is other output =
     one_result job sound output.run output.judged.in_order (subst (λ (r : Option Race). IsFirstRaceIn job output.run r) none told.first)
 result_by (Err refusal) status bytes sound is other output = absurd (subst IsVerdict output.status_is is)
 
-pub one_result_at : (left after old new : Option (List ℕ)) (bytes : List ℕ) (status : Status) → ReadsAll left after bytes → length bytes ≤ 8388608
-    → (IsReadWhole status → Writes (IsOutput bytes) status old new) → IsVerdict status → status ≢ ends.Race
-    → IfSome left (λ input. IsOkAnd (read_of input) HasOneResult)
-one_result_at left after old new bytes status reads short writes is other =
-    of_input (λ input. IsOkAnd (read_of input) HasOneResult) left after bytes reads
-    (result_by (read_of bytes) status (writes (whole_verdict status is)).bytes (read_sound bytes) is other ((writes (whole_verdict status is)).called_for.short short))
+-- ---- whatever the verdict is
+
+-- one order of turns without a race speaks for all
+pub all_spoken_for : (read : Result JobView Refusal) → IfOk read IsSoundJob → IfOk read OneQuietRunSpeaksForAll
+all_spoken_for (Ok job) sound = λ turns whole quiet. one_result_by job sound turns (quiet_run job sound turns whole quiet)
+all_spoken_for (Err refusal) sound = tt

@@ -1,5 +1,5 @@
 -- Each run has a test that tells the order of its events: by how many events of a channel are before each.
-use Rattle.std.proofs.Common.{◌≡◌, ℕ, ◌<◌, ◌≤◌, ◌==◌, ◌&&◌, ◌↔◌, not, nat_lt, Bool, true, false, inl, inr, List, length, refl, ap, ◌∙◌, arith, if◌then◌else◌}
+use Rattle.std.proofs.Common.{◌≡◌, ℕ, ◌≤◌, ◌==◌, ◌&&◌, not, nat_lt, Bool, true, false, inl, inr, List, refl, ap, ◌∙◌, arith, if◌then◌else◌}
 use Rattle.std.proofs.lemmas.Bool.{cases_Bool, and_parts, eqb-true, eq-eqb, ltb-false, le-ltb}
 use Rattle.order_clocks.proofs.CounterLaws.{before_from, before_to, one_back, one_itself}
 use Rattle.order_clocks.proofs.OrderLaws.{event_in, event_within, one_from, order_from, order_in}

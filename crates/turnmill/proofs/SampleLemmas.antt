@@ -1,5 +1,5 @@
 -- What a sample calls for.
-use Rattle.std.proofs.Common.{◌≡◌, ◌∙◌, ◌≤◌, ℕ, List, [], length, Option, None, Some, Result, Ok, Err, IfSome, refl, sym, ap, subst}
+use Rattle.std.proofs.Common.{◌≡◌, ◌∙◌, ℕ, List, Option, Result, Ok, Err, IsOk, refl, sym, ap, subst}
 use Rattle.channel_machine.specs.StartStates.{start_of}
 use Rattle.clash_check.specs.Counts.{count_of}
 use Rattle.edge_io.specs.Moves.{GrowsByFront}
@@ -14,23 +14,20 @@ use Rattle.channel_machine.specs.Scripts.{IsRunInOrder}
 use Rattle.protection_zones.specs.Overlaps.{Order}
 use Rattle.protection_zones.specs.Stretches.{StretchesView}
 use Rattle.sample_jobs.specs.Samples.{sample_bytes}
+use Rattle.sample_laws.proofs.Accepted.{sample_accepted}
 use Rattle.sync_types.specs.Views.{RunView}
 use Rattle.sync_types.specs.declared.verdicts.Verdict.{Verdict}
 use Rattle.tape_job.specs.Read.{read_of}
-use Rattle.turnmill.proofs.CheckLemmas.{short_output}
-use Rattle.turnmill.specs.Judgements.{IsJudgedBy}
+use Rattle.turnmill.specs.Judgements.{IsJudgedByClocks}
 use Rattle.turnmill.specs.Judged.{zone_time_in}
-use Rattle.turnmill.specs.Output.{IsOutput, IsOutputOf, IsReadWhole, Writes, WritesFront, status_of}
-use Rattle.turnmill.specs.Summary.{IsOutputFor, IsSummaryBy, IsSummaryOf, figures_of, move_count}
-use Rattle.turnmill.specs.Words.{input_for}
+use Rattle.turnmill.specs.Output.{ReadingCallsFor, WritesFront, status_of}
+use Rattle.turnmill.specs.Summary.{IsSummaryBy, IsSummaryOf, figures_of}
 use Rattle.turnmill.specs.declared.check.Status.{Status}
-use Rattle.turnmill.specs.declared.words.Request.{Request}
-use Rattle.turnmill.specs.declared.words.Request.TheVariants.{Sample}
 
 -- ---- the two lines of a job
 
 module _ (number : ℕ) (job : JobView) (run : RunView) (clocks : ClocksView) (stretches : StretchesView) (verdict : Verdict)
-    (is : IsJudgedBy job run clocks stretches verdict) (ordered : IsRunInOrder job (start_of job) run) where
+    (is : IsJudgedByClocks job run clocks stretches verdict) (ordered : IsRunInOrder job (start_of job) run) where
   -- the pairs that are counted are those of the time of the zones
   pub pairs_counted : (count : ℕ) → count ≡ count_of (is_before_in clocks.rows) job stretches → count ≡ count_of (is_before_in clocks.rows) job (zone_time_in job run)
   pairs_counted count counted = counted ∙ ap (λ (s : StretchesView). count_of (is_before_in clocks.rows) job s) is.time_is
@@ -64,21 +61,14 @@ front_of_read number read other old new same front = subst (λ (r : Result JobVi
 
 -- ---- the job of a sample is judged as one that is checked
 
-called_alike : (number : ℕ) (read : Result JobView Refusal) (status : Status) (bytes : List ℕ) → IsSummaryBy number read status bytes
-    → (report : List ℕ) × IsOutputOf read status report
+-- the call ends as a check of the sample would
+pub called_alike : (number : ℕ) (read : Result JobView Refusal) (status : Status) (bytes : List ℕ) → IsSummaryBy number read status bytes
+    → (report : List ℕ) × ReadingCallsFor read status report
 called_alike number (Ok job) status bytes is =
     (report_bytes job is.run is.verdict, record { run = is.run; verdict = is.verdict; judged = is.judged; status_is = is.status_is; bytes_are = refl })
-called_alike number (Err refusal) status bytes is = (bytes, is)
+called_alike number (Err refusal) status bytes is = absurd is
 
--- the call ends as a check of the sample would
-pub as_checked : (number : ℕ) (status : Status) (old new : Option (List ℕ)) → length (sample_bytes number) ≤ 8388608
-    → (IsReadWhole status → Writes (IsSummaryBy number (read_of (sample_bytes number))) status old new)
-    → IsReadWhole status → Writes (IsOutput (sample_bytes number)) status None None
-as_checked number status old new short writes whole =
-    let alike = called_alike number (read_of (sample_bytes number)) status (writes whole).bytes (writes whole).called_for in
-    record { bytes = alike.0; called_for = short_output (sample_bytes number) (read_of (sample_bytes number)) status alike.0 short refl alike.1; grows = tt }
+-- ---- no sample is refused
 
--- what is so of the sample is so of the input that its words call for
-pub of_sample : (request : Option Request) (number : ℕ) (left : Option (List ℕ)) (P : List ℕ → Type 0) → request ≡ Some (Sample number) → P (sample_bytes number)
-    → IfSome (input_for request left) P
-of_sample request number left P is so = subst (λ (r : Option Request). IfSome (input_for r left) P) (sym is) so
+pub not_refused : (number : ℕ) (refusal : Refusal) → read_of (sample_bytes number) ≡ Err refusal → ⊥
+not_refused number refusal refused = let accepted = subst (λ (r : Result JobView Refusal). IsOk r) refused (sample_accepted number) in cc

@@ -4,8 +4,8 @@ use Rattle.job_types.specs.Job.{JobView}
 use Rattle.job_types.specs.SoundJob.{IsSoundJob}
 use Rattle.sync_types.specs.Views.{RunView}
 use Rattle.sync_types.specs.declared.verdicts.Verdict.{Verdict}
-use Rattle.turnmill.specs.Judged.{IsJudgedOf}
-use Rattle.turnmill.specs.Output.{IsReportedBy}
+use Rattle.turnmill.specs.Judged.{IsJudgedInAnyOrder}
+use Rattle.turnmill.specs.Output.{CallsForReport}
 
 abbrev pub QuietRunsAreReported : JobView → RunView → Verdict → Type 0
-QuietRunsAreReported job run verdict = IsSoundJob job → (judged : IsJudgedOf job run verdict) → judged.on.race ≡ None → IsReportedBy job run verdict
+QuietRunsAreReported job run verdict = IsSoundJob job → (judged : IsJudgedInAnyOrder job run verdict) → judged.on.race ≡ None → CallsForReport job run verdict

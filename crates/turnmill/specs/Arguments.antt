@@ -1,5 +1,5 @@
 -- Meaning. The words that the program is called with.
-use Rattle.std.specs.Prelude.{◌≡◌, ◌≢◌, ℕ, Bool, false, List, map, drop, string_bytes, Option, None, Result, Ok, Err, IsErrAnd}
+use Rattle.std.specs.Prelude.{◌≡◌, ◌≢◌, ℕ, List, map, drop, string_bytes, Option, None, Result, Ok, Err, IsErrAnd}
 use Rattle.std.specs.Global.{Global, Vec}
 use Rattle.std.specs.IoError.{error_kind}
 use Rattle.std.specs.Vec.Iter.{into_iter_items}
@@ -7,7 +7,7 @@ use Rattle.std.specs.declared.io.Error.{Error}
 use Rattle.std.specs.declared.io.ErrorKind.TheVariants.{OutOfMemory}
 use Rattle.std.specs.declared.string.String.{String}
 use Rattle.std.specs.declared.vec.IntoIter.{IntoIter}
-use Rattle.turnmill.specs.Words.{call_of, reads_input}
+use Rattle.turnmill.specs.Words.{call_of}
 use Rattle.turnmill.specs.declared.check.Status.{Status}
 use Rattle.turnmill.specs.declared.check.Status.TheVariants.{Usage, NoMemory}
 use Rattle.turnmill.specs.declared.words.Request.{Request}
@@ -20,12 +20,7 @@ Arguments = IntoIter (String Global) Global
 abbrev pub words_in : Arguments → List (List ℕ)
 words_in arguments = map string_bytes (drop 1 (into_iter_items arguments))
 
--- the words ask for the input to be read; arguments of which one is no text have no words
-abbrev pub asks_to_read : Result Arguments Error → Bool
-asks_to_read (Ok arguments) = reads_input (words_in arguments)
-asks_to_read (Err error) = false
-
--- what the words call for
+-- what the words call for; arguments of which one is no text have no words
 abbrev pub call_in : Result Arguments Error → Option Request
 call_in (Ok arguments) = call_of (words_in arguments)
 call_in (Err error) = None

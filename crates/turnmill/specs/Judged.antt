@@ -1,13 +1,14 @@
--- Meaning. The verdict on a run of a job, that on the job, which is the one on its run in order, and what YES says of the job.
-use Rattle.std.specs.Prelude.{◌≡◌, ℕ, ◌<◌, ◌≤◌, All, length, find, Option, None}
+-- Meaning. The verdict on a run of a job, that on the job, which is the one on its run in order, and what YES and NO
+-- say of the job.
+use Rattle.std.specs.Prelude.{◌≡◌, ℕ, ◌<◌, ◌≤◌, All, length, find, Option, None, Some}
 use Rattle.channel_machine.specs.StartStates.{start_of}
 use Rattle.clash_check.specs.Counts.{count_of}
-use Rattle.clash_check.specs.Verdicts.{stops_of, verdict_by}
+use Rattle.clash_check.specs.Verdicts.{name_of, stops_of, verdict_by}
 use Rattle.job_types.specs.Job.{JobView}
 use Rattle.order_clocks.specs.Clocked.{IsOrderOf, moves_in}
 use Rattle.order_clocks.specs.Races.{IsFirst, IsRace}
 use Rattle.channel_machine.specs.Scripts.{IsMaximalRunOf, IsRunInOrder}
-use Rattle.protection_zones.specs.Overlaps.{Order, compared_pairs}
+use Rattle.protection_zones.specs.Overlaps.{Order, Pair, compared_pairs}
 use Rattle.protection_zones.specs.Pieces.{pair_meets}
 use Rattle.protection_zones.specs.Stretches.{StretchesView, all_stretches}
 use Rattle.sync_types.specs.Boards.{Board, first_board}
@@ -15,6 +16,7 @@ use Rattle.sync_types.specs.Views.{RunView}
 use Rattle.sync_types.specs.declared.ChannelEnd.{ChannelEnd}
 use Rattle.sync_types.specs.declared.ChannelEnd.TheVariants.{Idle, Ended}
 use Rattle.sync_types.specs.declared.runs.Race.{Race}
+use Rattle.sync_types.specs.declared.verdicts.PlaceName.{PlaceName}
 use Rattle.sync_types.specs.declared.verdicts.Verdict.{Verdict}
 
 -- the board as the job begins
@@ -42,12 +44,12 @@ pub record IsVerdictOn (job : JobView) (run : RunView) (verdict : Verdict) : Typ
   pub verdict_is : verdict ≡ verdict_by before race job run (zone_time_in job run)
 
 -- the run of the job in order, and the verdict on it
-pub record IsJudged (job : JobView) (run : RunView) (verdict : Verdict) : Type 0 where
+pub record IsJudgedInOrder (job : JobView) (run : RunView) (verdict : Verdict) : Type 0 where
   pub in_order : IsRunInOrder job (start_of job) run
   pub on : IsVerdictOn job run verdict
 
 -- a run of the job after which no channel runs, however they took turns, and the verdict on it
-pub record IsJudgedOf (job : JobView) (run : RunView) (verdict : Verdict) : Type 0 where
+pub record IsJudgedInAnyOrder (job : JobView) (run : RunView) (verdict : Verdict) : Type 0 where
   pub maximal : IsMaximalRunOf job (start_of job) run
   pub on : IsVerdictOn job run verdict
 
@@ -68,3 +70,19 @@ pub record IsClear (job : JobView) : Type 0 where
   pub ordered : IsOrderIn job run before
   pub few : count_of before job (zone_time_in job run) ≤ job.budget
   pub apart : find (pair_meets job run) (compared_pairs before job (zone_time_in job run)) ≡ None
+
+-- What NO says of a job, with the names of two boxes. As at YES its run in order has no race, in that run each channel
+-- has ended its program or has never started, and no more pairs of boxes are compared than the job allows. But of the
+-- pairs that are compared one meets, and the first that does is that of the two boxes.
+pub record HasFirstMeeting (job : JobView) (first second : PlaceName) : Type 0 where
+  pub run : RunView
+  pub in_order : IsRunInOrder job (start_of job) run
+  pub no_race : (i : ℕ) (race : Race) → i < length run.entries → IsRace (board_of job) (moves_in run.entries) i race → ⊥
+  pub finished : All (λ stop. HasFinished stop.1) (stops_of job run)
+  pub before : Order
+  pub ordered : IsOrderIn job run before
+  pub few : count_of before job (zone_time_in job run) ≤ job.budget
+  pub pair : Pair
+  pub meets_first : find (pair_meets job run) (compared_pairs before job (zone_time_in job run)) ≡ Some pair
+  pub first_is : first ≡ name_of pair.0
+  pub second_is : second ≡ name_of pair.1

@@ -7,11 +7,11 @@ use Rattle.protection_zones.specs.Stretches.{StretchesView}
 use Rattle.protection_zones.specs.Told.{IsTold}
 use Rattle.sync_types.specs.Views.{RunView}
 use Rattle.sync_types.specs.declared.verdicts.Verdict.{Verdict}
-use Rattle.turnmill.specs.Judged.{IsJudgedOf, zone_time_in}
+use Rattle.turnmill.specs.Judged.{IsJudgedInAnyOrder, zone_time_in}
 
 -- the verdict on a run of the job, by these clocks and these stretches
-pub record IsJudgedBy (job : JobView) (run : RunView) (clocks : ClocksView) (stretches : StretchesView) (verdict : Verdict) : Type 0 where
-  pub judged : IsJudgedOf job run verdict
+pub record IsJudgedByClocks (job : JobView) (run : RunView) (clocks : ClocksView) (stretches : StretchesView) (verdict : Verdict) : Type 0 where
+  pub judged : IsJudgedInAnyOrder job run verdict
   pub before_is : judged.on.before ≡ is_before_in clocks.rows
   pub race_is : judged.on.race ≡ clocks.race
   pub time_is : stretches ≡ zone_time_in job run

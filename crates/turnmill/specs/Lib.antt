@@ -8,3 +8,5 @@ pub mod Summary
 pub mod Arguments
 pub mod JobDoings
 pub mod AnyRun
+pub mod OneOutput
+pub mod Calls

@@ -10,7 +10,7 @@ use Rattle.sync_types.specs.declared.verdicts.Verdict.{Verdict}
 use Rattle.sync_types.specs.declared.verdicts.Verdict.TheVariants.{Yes, No, Undecided}
 use Rattle.sync_types.specs.declared.verdicts.Verdict.TheVariants as verdicts
 use Rattle.tape_job.specs.Read.{read_of}
-use Rattle.turnmill.specs.Judged.{IsJudged}
+use Rattle.turnmill.specs.Judged.{IsJudgedInOrder}
 use Rattle.turnmill.specs.declared.check.Status.{Status}
 use Rattle.turnmill.specs.declared.check.Status.TheVariants as ends
 
@@ -39,31 +39,31 @@ status_of (Undecided count budget) = ends.Undecided
 status_of (verdicts.Alarm channel alarm) = ends.Alarm
 
 -- a job calls for the report of its run in order, and for the status of the verdict on it
-pub record IsReportOf (job : JobView) (status : Status) (bytes : List ℕ) : Type 0 where
+pub record JobCallsFor (job : JobView) (status : Status) (bytes : List ℕ) : Type 0 where
   pub run : RunView
   pub verdict : Verdict
-  pub judged : IsJudged job run verdict
+  pub judged : IsJudgedInOrder job run verdict
   pub status_is : status ≡ status_of verdict
   pub bytes_are : bytes ≡ report_bytes job run verdict
 
 -- a job calls for the report of this run with this verdict, and for the status of the verdict
-abbrev pub IsReportedBy : JobView → RunView → Verdict → Type 0
-IsReportedBy job run verdict = IsReportOf job (status_of verdict) (report_bytes job run verdict)
+abbrev pub CallsForReport : JobView → RunView → Verdict → Type 0
+CallsForReport job run verdict = JobCallsFor job (status_of verdict) (report_bytes job run verdict)
 
 -- a refusal calls for its line
 pub record IsLineOf (refusal : Refusal) (status : Status) (bytes : List ℕ) : Type 0 where
   pub status_is : status ≡ ends.Refused
   pub bytes_are : bytes ≡ refusal_bytes refusal
 
-abbrev pub IsOutputOf : Result JobView Refusal → Status → List ℕ → Type 0
-IsOutputOf (Ok job) status bytes = IsReportOf job status bytes
-IsOutputOf (Err refusal) status bytes = IsLineOf refusal status bytes
+abbrev pub ReadingCallsFor : Result JobView Refusal → Status → List ℕ → Type 0
+ReadingCallsFor (Ok job) status bytes = JobCallsFor job status bytes
+ReadingCallsFor (Err refusal) status bytes = IsLineOf refusal status bytes
 
 -- What an input calls for: how the call ends, and the bytes that it writes. An input of more bytes than it may have calls for
 -- no bytes, whatever it says.
-pub record IsOutput (input : List ℕ) (status : Status) (bytes : List ℕ) : Type 0 where
+pub record InputCallsFor (input : List ℕ) (status : Status) (bytes : List ℕ) : Type 0 where
   pub long : INPUT_LIMIT < length input → (status ≡ ends.TooLong) × (bytes ≡ [])
-  pub short : length input ≤ INPUT_LIMIT → IsOutputOf (read_of input) status bytes
+  pub short : length input ≤ INPUT_LIMIT → ReadingCallsFor (read_of input) status bytes
 
 -- the call ends as is called for, and what is written has grown by the bytes that are called for
 pub record Writes (calls_for : Status → List ℕ → Type 0) (status : Status) (old new : Option (List ℕ)) : Type 0 where

@@ -1,5 +1,5 @@
 -- Meaning. What the words and their input call for: the two lines of a sample, and the output of an input that is checked.
-use Rattle.std.specs.Prelude.{◌≡◌, ℕ, Bool, true, false, List, [], length, Option, None, Some, Result, Ok, Err}
+use Rattle.std.specs.Prelude.{◌≡◌, ℕ, Bool, true, false, List, [], length, Option, None, Some, Result, IsOkAnd}
 use Rattle.std.specs.List.{count_by, sum_by}
 use Rattle.clash_check.specs.Counts.{count_of}
 use Rattle.job_report.specs.Report.{report_bytes}
@@ -14,8 +14,8 @@ use Rattle.sync_types.specs.declared.Part.{Part}
 use Rattle.sync_types.specs.declared.Part.TheVariants.{Move, Switch}
 use Rattle.sync_types.specs.declared.verdicts.Verdict.{Verdict}
 use Rattle.tape_job.specs.Read.{read_of}
-use Rattle.turnmill.specs.Judged.{IsJudged, zone_time_in}
-use Rattle.turnmill.specs.Output.{IsLineOf, IsOutput, status_of}
+use Rattle.turnmill.specs.Judged.{IsJudgedInOrder, zone_time_in}
+use Rattle.turnmill.specs.Output.{InputCallsFor, status_of}
 use Rattle.turnmill.specs.declared.check.Status.{Status}
 use Rattle.turnmill.specs.declared.check.Status.TheVariants as ends
 use Rattle.turnmill.specs.declared.words.Request.{Request}
@@ -48,17 +48,16 @@ figures_of number job run verdict before = record {
 pub record IsSummaryOf (number : ℕ) (job : JobView) (status : Status) (bytes : List ℕ) : Type 0 where
   pub run : RunView
   pub verdict : Verdict
-  pub judged : IsJudged job run verdict
+  pub judged : IsJudgedInOrder job run verdict
   pub status_is : status ≡ status_of verdict
   pub bytes_are : bytes ≡ summary_bytes (figures_of number job run verdict judged.on.before) verdict
 
--- a refusal calls for its line
+-- the sample is read as a job, and calls for the two lines of this job
 abbrev pub IsSummaryBy : ℕ → Result JobView Refusal → Status → List ℕ → Type 0
-IsSummaryBy number (Ok job) status bytes = IsSummaryOf number job status bytes
-IsSummaryBy number (Err refusal) status bytes = IsLineOf refusal status bytes
+IsSummaryBy number read status bytes = IsOkAnd read (λ job. IsSummaryOf number job status bytes)
 
 -- What the words call for with their input: how the call ends, and the bytes that it writes. Words without an accepted form call for no bytes.
-abbrev pub IsOutputFor : Option Request → List ℕ → Status → List ℕ → Type 0
-IsOutputFor (Some Check) input status bytes = IsOutput input status bytes
-IsOutputFor (Some (Sample number)) input status bytes = IsSummaryBy number (read_of input) status bytes
-IsOutputFor None input status bytes = (status ≡ ends.Usage) × (bytes ≡ [])
+abbrev pub WordsCallFor : Option Request → List ℕ → Status → List ℕ → Type 0
+WordsCallFor (Some Check) input status bytes = InputCallsFor input status bytes
+WordsCallFor (Some (Sample number)) input status bytes = IsSummaryBy number (read_of input) status bytes
+WordsCallFor None input status bytes = (status ≡ ends.Usage) × (bytes ≡ [])

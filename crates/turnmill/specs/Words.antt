@@ -1,5 +1,6 @@
 -- Meaning. The words of a call: what they ask for, and the input that they call for.
-use Rattle.std.specs.Prelude.{ℕ, ◌==◌, ◌&&◌, ◌||◌, nat_lt, nat_le, Bool, false, if◌then◌else◌, List, [], ◌∷◌, length, codes, Option, None, Some, option_and_then, option_map}
+use Rattle.std.specs.Prelude.{ℕ, ◌==◌, ◌&&◌, nat_lt, nat_le, Bool, false, if◌then◌else◌, List, [], ◌∷◌, map, length, codes, Option, None, Some, option_and_then, option_map}
+use Rattle.std.specs.Borrow.{Bor}
 use Rattle.std.specs.Char.{is_ascii_digit}
 use Rattle.std.specs.List.{list_all}
 use Rattle.std.specs.Str.{bytes_eq}
@@ -8,6 +9,10 @@ use Rattle.sample_jobs.specs.Samples.{sample_bytes}
 use Rattle.turnmill.specs.Input.{is_check}
 use Rattle.turnmill.specs.declared.words.Request.{Request}
 use Rattle.turnmill.specs.declared.words.Request.TheVariants.{Check, Sample}
+
+-- the words, each by its bytes
+abbrev pub words_of : List (Bor (List ℕ)) → List (List ℕ)
+words_of words = map (λ word. word.now) words
 
 -- one to nine decimal digits
 abbrev pub is_number : List ℕ → Bool
@@ -41,10 +46,6 @@ request_of words = if is_check words then Some Check else option_map (λ number.
 abbrev pub is_run : List (List ℕ) → Bool
 is_run (word ∷ []) = bytes_eq word (codes "run")
 is_run words = false
-
--- the words ask for the input to be read
-abbrev pub reads_input : List (List ℕ) → Bool
-reads_input words = is_run words || is_check words
 
 -- what the words call for where threads may run a job: `run` calls for what `check` calls for
 abbrev pub call_of : List (List ℕ) → Option Request

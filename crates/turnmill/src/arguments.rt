@@ -1,14 +1,7 @@
 //! The call by the arguments of the command line.
-ghost use Rattle.std.specs.Prelude.{◌≡◌, ◌≢◌, ◌↔◌, ◌⊎◌, ◌-◌, ◌^◌, ◌<◌, ◌≤◌, true, false, map, IfSome, IfOk, IsOkAnd, string_bytes, [], None, Some};
-ghost use Rattle.speed_laws.specs.Safety.{IsSafeAlways};
-ghost use Rattle.tape_job.specs.Read.{read_of};
-ghost use Rattle.turnmill.specs.Arguments.{GivesWords, HasNoText, asks_to_read, call_in};
-ghost use Rattle.turnmill.specs.JobDoings.{doings_of};
-ghost use Rattle.turnmill.specs.Judged.{IsClear};
-ghost use Rattle.turnmill.specs.OneResult.{HasOneResult};
-ghost use Rattle.turnmill.specs.Output.{IsVerdict, Writes};
-ghost use Rattle.turnmill.specs.Summary.{IsOutputFor};
-ghost use Rattle.turnmill.specs.Words.{input_for};
+ghost use Rattle.std.specs.Prelude.{◌≡◌, ◌-◌, ◌^◌, ◌<◌, map, IfOk, string_bytes};
+ghost use Rattle.turnmill.specs.Arguments.{GivesWords, HasNoText, call_in};
+ghost use Rattle.turnmill.specs.Calls.{AnswersCall, sink_change, source_change};
 
 use crate::check::Status;
 use crate::running::run_words;
@@ -55,29 +48,11 @@ pub fn run_arguments<R: Threads + Wait + Sync, S: Source, K: Sink, G: Gate + Syn
     requires few_writes { K.faults sink.old < 2 ^ 64 - 1 }
     requires readable { S.can_read source.old }
 
-    // Where the words are accepted, the call ends and writes as `run_words` says.
-    ensures exact { IfSome (input_for (call_in arguments) (S.left source.old)) (λ input.
-        S.faults source.new ≡ S.faults source.old → K.faults sink.new ≡ K.faults sink.old
-        → (result ≡ Status.NoMemory) ⊎ Writes (IsOutputFor (call_in arguments) input) result (K.written sink.old) (K.written sink.new)) }
-    ensures verdict { IsVerdict result → IfSome (input_for (call_in arguments) (S.left source.old)) (λ input.
-        Writes (IsOutputFor (call_in arguments) input) result (K.written sink.old) (K.written sink.new)
-        × (asks_to_read arguments ≡ true → S.left source.new ≡ Some [])) }
-    ensures yes { result ≡ Status.Yes → IfSome (input_for (call_in arguments) (S.left source.old)) (λ input. IsOkAnd (read_of input) IsClear) }
-    ensures schedules { IsVerdict result → result ≢ Status.Race
-        → IfSome (input_for (call_in arguments) (S.left source.old)) (λ input. IsOkAnd (read_of input) HasOneResult) }
-    ensures speeds { result ≡ Status.Yes → IfSome (input_for (call_in arguments) (S.left source.old)) (λ input.
-        IsOkAnd (read_of input) (λ job. IsSafeAlways job (doings_of job))) }
-    ensures read_fault { (result ≡ Status.ReadFault) ↔ (S.faults source.old < S.faults source.new) }
-    ensures write_fault { (result ≡ Status.WriteFault) ↔ (K.faults sink.old < K.faults sink.new) }
-    ensures read_faults_never_fall { S.faults source.old ≤ S.faults source.new }
-    ensures write_faults_never_fall { K.faults sink.old ≤ K.faults sink.new }
+    ensures answer { AnswersCall (call_in arguments) result
+        (source_change S.left S.faults source.old source.new) (sink_change K.written K.faults sink.old sink.new) }
 
-    // Only `check` and `run` read. Words that are not accepted read and write nothing. An argument that is no text is a faulty command line.
-    ensures only_asked_reads { asks_to_read arguments ≡ false → source.new ≡ source.old }
-    ensures usage { result ≡ Status.Usage → call_in arguments ≡ None }
-    ensures usage_comes { call_in arguments ≡ None → (result ≡ Status.Usage) ⊎ (result ≡ Status.NoMemory) }
+    // An argument that is no text is a faulty command line.
     ensures no_text { HasNoText arguments → result ≡ Status.Usage }
-    ensures usage_writes_nothing { call_in arguments ≡ None → sink.new ≡ sink.old }
 {
     let words = match words_of(alloc, arguments) {
         Ok(words) => words,

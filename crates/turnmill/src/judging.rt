@@ -8,8 +8,8 @@ ghost use Rattle.job_types.specs.SoundJob.{BlocksFit, IsSoundJob};
 ghost use Rattle.order_clocks.specs.Tells.{is_before_in};
 ghost use Rattle.product_run.specs.RunLaws.{step_limit};
 ghost use Rattle.channel_machine.specs.Scripts.{IsMaximalRunOf, IsRunInOrder};
-ghost use Rattle.turnmill.specs.Judgements.{IsJudgedBy};
-ghost use Rattle.turnmill.specs.Output.{IsReportedBy};
+ghost use Rattle.turnmill.specs.Judgements.{IsJudgedByClocks};
+ghost use Rattle.turnmill.specs.Output.{CallsForReport};
 
 use clash_check::{count, judge, judge_shared};
 use nc_faults::NoMemory;
@@ -34,7 +34,7 @@ pub(crate) struct Judgement {
 pub(crate) fn judge_run(alloc: Global, job: &Job, run: Run) -> Result<Judgement, NoMemory>
     requires accepted { IsSoundJob job.now }
     requires maximal { IsMaximalRunOf job.now (start_of job.now) run }
-    ensures judged { IfOk result (λ j. IsJudgedBy job.now j.run j.clocks j.stretches j.verdict) }
+    ensures judged { IfOk result (λ j. IsJudgedByClocks job.now j.run j.clocks j.stretches j.verdict) }
     ensures same { IfOk result (λ j. j.run ≡ run) }
 {
     let clocks = clocks_of(alloc, &run)?;
@@ -57,7 +57,7 @@ pub(crate) fn judge_by_threads<R: Threads + Sync>(
 ) -> Result<Judgement, NoMemory>
     requires accepted { IsSoundJob job.now }
     requires maximal { IsMaximalRunOf job.now (start_of job.now) run }
-    ensures judged { IfOk result (λ j. IsJudgedBy job.now j.run j.clocks j.stretches j.verdict) }
+    ensures judged { IfOk result (λ j. IsJudgedByClocks job.now j.run j.clocks j.stretches j.verdict) }
     ensures same { IfOk result (λ j. j.run ≡ run) }
 {
     let clocks = clocks_of(alloc, &run)?;
@@ -75,7 +75,7 @@ pub(crate) fn judge_by_threads<R: Threads + Sync>(
 pub(crate) fn judge_job(alloc: Global, job: &Job) -> Result<Judgement, NoMemory>
     requires accepted { IsSoundJob job.now }
     requires indices { BlocksFit job.now }
-    ensures judged { IfOk result (λ j. IsJudgedBy job.now j.run j.clocks j.stretches j.verdict) }
+    ensures judged { IfOk result (λ j. IsJudgedByClocks job.now j.run j.clocks j.stretches j.verdict) }
     ensures in_order { IfOk result (λ j. IsRunInOrder job.now (start_of job.now) j.run) }
 {
     let run = run_in_order(alloc, job)?;
@@ -86,7 +86,7 @@ pub(crate) fn judge_job(alloc: Global, job: &Job) -> Result<Judgement, NoMemory>
 pub(crate) fn judge_in_order(alloc: Global, job: &Job) -> Result<Judgement, NoMemory>
     requires accepted { IsSoundJob job.now }
     requires indices { BlocksFit job.now }
-    ensures reported { IfOk result (λ j. IsReportedBy job.now j.run j.verdict) }
+    ensures reported { IfOk result (λ j. CallsForReport job.now j.run j.verdict) }
     ensures listed { IfOk result (λ j. All IsListedEnd j.run.ends) }
     ensures few { IfOk result (λ j. length j.run.entries ≤ step_limit) }
 {
@@ -120,7 +120,7 @@ pub(crate) fn entries_of(run: &Run) -> &[Entry]
 /// How many pairs of boxes are compared.
 pub(crate) fn pair_count(job: &Job, judgement: &Judgement) -> u64
     requires accepted { IsSoundJob job.now }
-    requires judged { IsJudgedBy job.now judgement.now.run judgement.now.clocks judgement.now.stretches judgement.now.verdict }
+    requires judged { IsJudgedByClocks job.now judgement.now.run judgement.now.clocks judgement.now.stretches judgement.now.verdict }
     ensures { result ≡ count_of (is_before_in judgement.now.clocks.rows) job.now judgement.now.stretches }
 {
     see_goes(&judgement.run);

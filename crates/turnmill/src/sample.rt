@@ -1,5 +1,5 @@
 //! The sample of a number: its job is judged, and told in two lines.
-ghost use Rattle.std.specs.Prelude.{◌≡◌, ◌↔◌, ◌-◌, ◌^◌, ◌<◌, ◌≤◌, All, length, map, sum_by, IfSome, Ok};
+ghost use Rattle.std.specs.Prelude.{◌≡◌, ◌≢◌, ◌↔◌, ◌-◌, ◌^◌, ◌<◌, ◌≤◌, All, length, map, sum_by, IfSome, Ok};
 ghost use Rattle.job_lines.specs.declared.limits.TheConstants.{INPUT_LIMIT};
 ghost use Rattle.job_report.specs.Channels.{IsListedEnd};
 ghost use Rattle.job_report.specs.Report.{report_bytes};
@@ -8,11 +8,11 @@ ghost use Rattle.order_clocks.specs.Tells.{is_before_in};
 ghost use Rattle.sample_jobs.specs.Samples.{sample_bytes};
 ghost use Rattle.sample_jobs.specs.declared.TheConstants.{GREATEST_NUMBER};
 ghost use Rattle.tape_job.specs.Read.{read_of};
-ghost use Rattle.turnmill.specs.Judgements.{IsJudgedBy};
+ghost use Rattle.turnmill.specs.Judgements.{IsJudgedByClocks};
 ghost use Rattle.turnmill.specs.Output.{IsAnswer, IsReadWhole, Writes, WritesFront};
 ghost use Rattle.turnmill.specs.Summary.{IsSummaryBy, figures_of, is_motion, move_count, moves_of};
 
-use crate::check::{Status, answer_refusal, status_of};
+use crate::check::{Status, status_of};
 use crate::judging::{Judgement, judge_job, pair_count};
 use edge_io::{CountSink, Sink};
 use job_report::{Figures, report, summary};
@@ -88,7 +88,7 @@ fn report_length(job: &Job, run: &Run, verdict: &Verdict) -> Option<u64>
 /// The figures of a sample.
 fn figures_of(number: u32, job: &Job, judgement: &Judgement) -> Option<Figures>
     requires accepted { IsSoundJob job.now }
-    requires judged { IsJudgedBy job.now judgement.now.run judgement.now.clocks judgement.now.stretches judgement.now.verdict }
+    requires judged { IsJudgedByClocks job.now judgement.now.run judgement.now.clocks judgement.now.stretches judgement.now.verdict }
     ensures { IfSome result (λ figures. figures
         ≡ figures_of number job.now judgement.now.run judgement.now.verdict (is_before_in judgement.now.clocks.rows)) }
 {
@@ -113,6 +113,7 @@ fn answer_job<K: Sink>(alloc: Global, number: u32, job: &Job, sink: &mut K) -> S
     ensures cause { (result ≡ Status.WriteFault) ↔ (K.faults sink.old < K.faults sink.new) }
     ensures never_fall { K.faults sink.old ≤ K.faults sink.new }
     ensures ends { IsAnswer result }
+    ensures never_refused { result ≢ Status.Refused }
 {
     let Ok(judgement) = judge_job(alloc, job) else {
         return Status::NoMemory;
@@ -129,6 +130,7 @@ fn answer_job<K: Sink>(alloc: Global, number: u32, job: &Job, sink: &mut K) -> S
 }
 
 /// Answers words that ask for a sample: judges the job of the number by the calls that check an input, and writes its two lines.
+/// Each sample is a job, so none is refused.
 pub(crate) fn answer_sample<K: Sink>(alloc: Global, number: u32, sink: &mut K) -> Status
     requires number { number ≤ GREATEST_NUMBER }
     requires few { K.faults sink.old < 2 ^ 64 - 1 }
@@ -141,6 +143,7 @@ pub(crate) fn answer_sample<K: Sink>(alloc: Global, number: u32, sink: &mut K) -
     ensures cause { (result ≡ Status.WriteFault) ↔ (K.faults sink.old < K.faults sink.new) }
     ensures never_fall { K.faults sink.old ≤ K.faults sink.new }
     ensures ends { IsAnswer result }
+    ensures never_refused { result ≢ Status.Refused }
 {
     let Ok(bytes) = sample(alloc, number) else {
         return Status::NoMemory;
@@ -151,7 +154,7 @@ pub(crate) fn answer_sample<K: Sink>(alloc: Global, number: u32, sink: &mut K) -
             forget(job);
             status
         }
-        Err(JobFault::Refused(refusal)) => answer_refusal(&refusal, sink),
+        Err(JobFault::Refused(_)) => unreachable!(),
         Err(JobFault::NoMemory) => Status::NoMemory,
     }
 }

@@ -1,12 +1,12 @@
 //! The words of a call, and what they ask for.
-ghost use Rattle.std.specs.Prelude.{◌≡◌, ◌≤◌, ◌&&◌, ℕ, true, map, codes, Some, IfOk, IfErr, IsErr, is_some, option_map};
+ghost use Rattle.std.specs.Prelude.{◌≡◌, ◌≤◌, ◌&&◌, ℕ, true, codes, Some, IfOk, IfErr, IsErr, is_some, option_map};
 ghost use Rattle.std.specs.Char.{is_ascii_digit};
 ghost use Rattle.std.specs.List.{list_all};
 ghost use Rattle.std.specs.Str.{bytes_eq};
 ghost use Rattle.clap.specs.Words.{first_value, found_of, kind_of};
 ghost use Rattle.sample_jobs.specs.declared.TheConstants.{GREATEST_NUMBER};
 ghost use Rattle.turnmill.specs.Input.{is_check};
-ghost use Rattle.turnmill.specs.Words.{is_number, is_run, number_of, number_text, request_of, sample_number, text_after};
+ghost use Rattle.turnmill.specs.Words.{is_number, is_run, number_of, number_text, request_of, sample_number, text_after, words_of};
 ghost use Rattle.turnmill.specs.declared.words.Request.TheVariants as requests;
 
 use clap::error::ErrorKind;
@@ -28,7 +28,7 @@ const DIGIT_LIMIT: usize = 9;
 
 /// Whether the words are `check` alone.
 fn is_check(words: &[&str]) -> bool
-    ensures { result ≡ is_check (map (λ word. word.now) words.now) }
+    ensures { result ≡ is_check (words_of words.now) }
 {
     match words {
         [word] => *word == "check",
@@ -38,7 +38,7 @@ fn is_check(words: &[&str]) -> bool
 
 /// Whether the words are `run` alone.
 pub(crate) fn is_run(words: &[&str]) -> bool
-    ensures { result ≡ is_run (map (λ word. word.now) words.now) }
+    ensures { result ≡ is_run (words_of words.now) }
 {
     match words {
         [word] => *word == "run",
@@ -62,7 +62,7 @@ fn names_number(first: &str, second: &str) -> bool
 
 /// N in the words `sample --number N` and `sample --number=N`.
 fn number_text<'a>(words: &[&'a str]) -> Option<&'a str>
-    ensures { option_map (λ text. text.now) result ≡ number_text (map (λ word. word.now) words.now) }
+    ensures { option_map (λ text. text.now) result ≡ number_text (words_of words.now) }
 {
     match words {
         [first, second] => {
@@ -102,7 +102,7 @@ fn is_number(text: &str) -> bool
 
 /// Whether the words ask for a sample.
 fn is_sample(words: &[&str]) -> bool
-    ensures { result ≡ is_some (sample_number (map (λ word. word.now) words.now)) }
+    ensures { result ≡ is_some (sample_number (words_of words.now)) }
 {
     match number_text(words) {
         Some(text) => is_number(text),
@@ -112,8 +112,8 @@ fn is_sample(words: &[&str]) -> bool
 
 /// The matches of words that ask for a sample.
 fn matches_of<'a>(alloc: Global, words: &'a [&'a str]) -> Result<ArgMatches<'a>, Error>
-    requires { is_some (sample_number (map (λ word. word.now) words.now)) ≡ true }
-    ensures number { IfOk result (λ matches. first_value (found_of matches) (codes "number") ≡ number_text (map (λ word. word.now) words.now)) }
+    requires { is_some (sample_number (words_of words.now)) ≡ true }
+    ensures number { IfOk result (λ matches. first_value (found_of matches) (codes "number") ≡ number_text (words_of words.now)) }
     ensures fault { IfErr result (λ fault. kind_of fault ≡ ErrorKind.OutOfMemory) }
 {
     let number = Arg::new(alloc, "number").long("number");
@@ -135,8 +135,8 @@ fn value_of(text: &str) -> u32
 
 /// The number of the sample that the words ask for, as `clap` reads it.
 fn sample_number(alloc: Global, words: &[&str]) -> Result<u32, NoMemory>
-    requires { is_some (sample_number (map (λ word. word.now) words.now)) ≡ true }
-    ensures value { IfOk result (λ number. sample_number (map (λ word. word.now) words.now) ≡ Some number) }
+    requires { is_some (sample_number (words_of words.now)) ≡ true }
+    ensures value { IfOk result (λ number. sample_number (words_of words.now) ≡ Some number) }
     ensures small { IfOk result (λ number. number ≤ GREATEST_NUMBER) }
 {
     let Ok(matches) = matches_of(alloc, words) else {
@@ -150,9 +150,9 @@ fn sample_number(alloc: Global, words: &[&str]) -> Result<u32, NoMemory>
 
 /// What the words ask for, `None` where they have no accepted form.
 pub(crate) fn request_of(alloc: Global, words: &[&str]) -> Result<Option<Request>, NoMemory>
-    ensures value { IfOk result (λ request. request ≡ request_of (map (λ word. word.now) words.now)) }
+    ensures value { IfOk result (λ request. request ≡ request_of (words_of words.now)) }
     ensures small { IfOk result (λ request. (number : ℕ) → request ≡ Some (requests.Sample number) → number ≤ GREATEST_NUMBER) }
-    ensures fault { IsErr result → is_some (sample_number (map (λ word. word.now) words.now)) ≡ true }
+    ensures fault { IsErr result → is_some (sample_number (words_of words.now)) ≡ true }
 {
     if is_check(words) {
         return Ok(Some(Request::Check));

@@ -1,82 +1,57 @@
 -- `run` is answered as `check` is, and other words as they are without it.
-use Rattle.std.proofs.Common.{◌≡◌, ◌<◌, ◌≤◌, ◌⊎◌, true, false, List, ℕ, [], length, map, Option, None, Some, IsErr, IsErrAnd, rules}
-use Rattle.edge_io.specs.Moves.{Grows}
-use Rattle.job_report.specs.Report.{refusal_bytes}
-use Rattle.tape_job.specs.Read.{read_of}
-use Rattle.turnmill.proofs.CallLemmas.{all_under, other_calls, other_reads, read_under, run_calls}
-use Rattle.turnmill.proofs.CheckLemmas.{clear_at_yes, front_of_input, refused_ends, refused_wrote, safe_at_yes, writes-long}
-use Rattle.turnmill.proofs.ReadLemmas.{read_front, read_is_sound, read_writes}
-use Rattle.turnmill.proofs.RequestLemmas.{asked_answers, asked_front, asked_input, asked_verdict}
-use Rattle.turnmill.proofs.ResultLemmas.{one_result_at}
+use Rattle.std.proofs.Common.{◌≡◌, ◌∙◌, true, false, Some, refl, rules}
+use Rattle.turnmill.proofs.CallAnswers.{answers_as, out_of_memory, read_failed, read_too_long, read_whole, sink_stays}
+use Rattle.turnmill.proofs.CallLemmas.{other_calls, run_calls}
+use Rattle.turnmill.proofs.ReadLemmas.{read_is_sound}
 use Rattle.turnmill.proofs.running.run_words.Goals as goal
-use Rattle.turnmill.specs.Input.{is_check}
-use Rattle.turnmill.specs.Words.{call_of, is_run, reads_input, request_of}
-use Rattle.turnmill.specs.declared.check.Status.TheVariants as ends
+use Rattle.turnmill.specs.Words.{is_run, request_of, words_of}
 use Rattle.turnmill.specs.declared.words.Request.TheVariants.{Check}
 
 -- ---- other words than `run`
 
-pub returns-then-not-is_run-clause-exact : goal.returns-then-not-is_run-clause-exact
-returns-then-not-is_run-clause-exact g c =
-    let other : is_run (map (λ word. word.now) c.args.words.now) ≡ false = search rules in
-    let same : request_of (map (λ word. word.now) c.args.words.now) ≡ call_of (map (λ word. word.now) c.args.words.now) = other_calls (map (λ word. word.now) c.args.words.now) other in
-    asked_answers _ _ _ _ _ _ _ _ _ same c.check_words.ensures.exact
+pub returns-then-not-is_run-clause-answer : goal.returns-then-not-is_run-clause-answer
+returns-then-not-is_run-clause-answer g c =
+    let other : is_run (words_of c.args.words.now) ≡ false = search rules in
+    answers_as _ _ (request_of (words_of c.args.words.now)) _ _ (other_calls (words_of c.args.words.now) other) c.check_words.ensures.answer
 
-pub returns-then-not-is_run-clause-verdict : goal.returns-then-not-is_run-clause-verdict
-returns-then-not-is_run-clause-verdict g c = λ verdict.
-    let other : is_run (map (λ word. word.now) c.args.words.now) ≡ false = search rules in
-    let same : request_of (map (λ word. word.now) c.args.words.now) ≡ call_of (map (λ word. word.now) c.args.words.now) = other_calls (map (λ word. word.now) c.args.words.now) other in
-    let reads : is_check (map (λ word. word.now) c.args.words.now) ≡ reads_input (map (λ word. word.now) c.args.words.now) = other_reads (map (λ word. word.now) c.args.words.now) other in
-    asked_verdict _ _ _ _ _ _ _ _ _ same reads (c.check_words.ensures.verdict verdict)
+pub returns-then-not-is_run-clause-usage : goal.returns-then-not-is_run-clause-usage
+returns-then-not-is_run-clause-usage g c = λ none.
+    let other : is_run (words_of c.args.words.now) ≡ false = search rules in
+    c.check_words.ensures.usage (other_calls (words_of c.args.words.now) other ∙ none)
 
 -- ---- `run`
+
+pub returns-in-Err-Failed-clause-answer : goal.returns-in-Err-Failed-clause-answer
+returns-in-Err-Failed-clause-answer g c =
+    let asked : is_run (words_of c.args.words.now) ≡ true = search rules in
+    answers_as _ _ (Some Check) _ _ (run_calls (words_of c.args.words.now) asked)
+    (read_failed _ _ (rw c.in-Err-Failed.field-0-is at c.in-Err-Failed.ensures.exact) refl)
+
+pub returns-in-Err-TooLong-clause-answer : goal.returns-in-Err-TooLong-clause-answer
+returns-in-Err-TooLong-clause-answer g c =
+    let asked : is_run (words_of c.args.words.now) ≡ true = search rules in
+    let told = rw c.in-Err-TooLong.field-0-is at c.in-Err-TooLong.ensures.exact in
+    answers_as _ _ (Some Check) _ _ (run_calls (words_of c.args.words.now) asked) (read_too_long _ _ told.0 told.1 refl)
+
+pub returns-in-Err-NoMemory-clause-answer : goal.returns-in-Err-NoMemory-clause-answer
+returns-in-Err-NoMemory-clause-answer g c =
+    let asked : is_run (words_of c.args.words.now) ≡ true = search rules in
+    answers_as _ _ (Some Check) _ _ (run_calls (words_of c.args.words.now) asked)
+    (out_of_memory _ _ (Some Check) (rw c.in-Err-NoMemory.field-0-is at c.in-Err-NoMemory.ensures.exact) (λ other. absurd (other refl)) refl)
 
 pub answer_read-status-requires-clause-accepted : goal.answer_read-status-requires-clause-accepted
 answer_read-status-requires-clause-accepted g c = λ _ _. read_is_sound _ _ _ c.in-Ok.ensures.exact.1
 
-pub returns-in-Err-TooLong-clause-exact : goal.returns-in-Err-TooLong-clause-exact
-returns-in-Err-TooLong-clause-exact g c =
-    let asked : is_run (map (λ word. word.now) c.args.words.now) ≡ true = search rules in
-    let is : Some Check ≡ call_of (map (λ word. word.now) c.args.words.now) = run_calls (map (λ word. word.now) c.args.words.now) asked in
-    asked_answers _ (Some Check) _ _ _ _ _ _ _ is (writes-long _ _ _ _ _ _ (rw c.in-Err-TooLong.field-0-is at c.in-Err-TooLong.ensures.exact).1)
-
-pub returns-clause-yes : goal.returns-clause-yes
-returns-clause-yes g c = λ yes.
-    let asked : is_run (map (λ word. word.now) c.args.words.now) ≡ true = search rules in
-    let is : Some Check ≡ call_of (map (λ word. word.now) c.args.words.now) = run_calls (map (λ word. word.now) c.args.words.now) asked in
-    asked_input _ (Some Check) _ _ is
-    (clear_at_yes _ _ _ _ _ _ c.in-Ok.ensures.exact.1.all c.in-Ok.ensures.exact.1.short (read_writes _ _ _ _ _ _ c.in-Ok.ensures.exact.1 c.answer_read-status.ensures.whole) yes)
-
-pub returns-clause-schedules : goal.returns-clause-schedules
-returns-clause-schedules g c = λ verdict other.
-    let asked : is_run (map (λ word. word.now) c.args.words.now) ≡ true = search rules in
-    let is : Some Check ≡ call_of (map (λ word. word.now) c.args.words.now) = run_calls (map (λ word. word.now) c.args.words.now) asked in
-    asked_input _ (Some Check) _ _ is
-    (one_result_at _ _ _ _ _ _ c.in-Ok.ensures.exact.1.all c.in-Ok.ensures.exact.1.short (read_writes _ _ _ _ _ _ c.in-Ok.ensures.exact.1 c.answer_read-status.ensures.whole) verdict other)
-
-pub returns-clause-speeds : goal.returns-clause-speeds
-returns-clause-speeds g c = λ yes.
-    let asked : is_run (map (λ word. word.now) c.args.words.now) ≡ true = search rules in
-    let is : Some Check ≡ call_of (map (λ word. word.now) c.args.words.now) = run_calls (map (λ word. word.now) c.args.words.now) asked in
-    asked_input _ (Some Check) _ _ is
-    (safe_at_yes _ _ _ _ _ _ c.in-Ok.ensures.exact.1.all c.in-Ok.ensures.exact.1.short (read_writes _ _ _ _ _ _ c.in-Ok.ensures.exact.1 c.answer_read-status.ensures.whole) yes)
-
-pub returns-clause-refused : goal.returns-clause-refused
-returns-clause-refused g c = λ refused.
-    let asked : is_run (map (λ word. word.now) c.args.words.now) ≡ true = search rules in
-    let is : Some Check ≡ call_of (map (λ word. word.now) c.args.words.now) = run_calls (map (λ word. word.now) c.args.words.now) asked in
-    asked_input _ (Some Check) _ _ is
-    (read_under _ (λ input. IsErrAnd (read_of input) (λ refusal. Grows _ _ (refusal_bytes refusal))) _ _
-    (refused_wrote _ _ _ _ _ _ c.in-Ok.ensures.exact.1.all c.in-Ok.ensures.exact.1.short (read_writes _ _ _ _ _ _ c.in-Ok.ensures.exact.1 c.answer_read-status.ensures.whole) refused))
-
-pub returns-clause-refused_comes : goal.returns-clause-refused_comes
-returns-clause-refused_comes g c =
-    all_under _ _ _
-    (refused_ends _ _ _ _ _ _ _ _ _ c.in-Ok.ensures.exact.1.all c.in-Ok.ensures.exact.1.short c.answer_read-status.ensures.ends
-    (read_writes _ _ _ _ _ _ c.in-Ok.ensures.exact.1 c.answer_read-status.ensures.whole) (λ fault. c.answer_read-status.ensures.cause.0 fault))
-
-pub returns-clause-written_front : goal.returns-clause-written_front
-returns-clause-written_front g c = λ fault.
-    let asked : is_run (map (λ word. word.now) c.args.words.now) ≡ true = search rules in
-    let is : Some Check ≡ call_of (map (λ word. word.now) c.args.words.now) = run_calls (map (λ word. word.now) c.args.words.now) asked in
-    asked_front _ (Some Check) _ _ _ is (front_of_input _ _ _ _ _ c.in-Ok.ensures.exact.1.all (read_front _ _ _ _ _ c.in-Ok.ensures.exact.1 (c.answer_read-status.ensures.front fault)))
+pub returns-clause-answer : goal.returns-clause-answer
+returns-clause-answer g c =
+    let asked : is_run (words_of c.args.words.now) ≡ true = search rules in
+    let told = c.answer_read-status.ensures in
+    answers_as _ _ (Some Check) _ _ (run_calls (words_of c.args.words.now) asked)
+    (read_whole _ _ _ _ c.in-Ok.ensures.exact.0 c.in-Ok.ensures.exact.1 (record {
+      whole = told.whole;
+      front = told.front;
+      silent = λ is. sink_stays g.K.Sink.written g.K.Sink.faults _ _ (told.silent is);
+      cause = told.cause;
+      never_fall = told.never_fall;
+      is_answer = told.ends;
+    }))
