@@ -202,6 +202,11 @@ executed_block setting past place (line, block) =
 
 -- ---- the segment
 
+-- In one sentence: a channel executes one block after another, and its segment ends with the first of these: an alarm,
+-- where no block comes, where one alarms, or where it would be one too many; a block that asks anything of the other
+-- channels; the end of the main program. The definitions below say it a case at a time: `go` stands for what the segment
+-- is from a channel on that goes on.
+
 -- what a segment does, motions and zones that it switches, the step that ends it, and the channel after it
 pub record SegmentView : Type 0 where
   pub items : List Item

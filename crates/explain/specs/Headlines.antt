@@ -28,7 +28,7 @@ stop_text front channel back = front ++ (decimal channel ++ back)
 
 -- the verdict in one line
 unfoldable pub headline : Verdict → List ℕ
-headline (Race race) = codes "RACE: nothing says which of two places comes first, and what follows depends on it.\n"
+headline (Race race) = codes "RACE: nothing says which of two places comes first, and what follows may depend on it.\n"
 headline (Alarm channel alarm) = stop_text (codes "ALARM: the control would stop channel ") channel (codes ", and so no boxes are compared.\n")
 headline (Stuck channel line) = stop_text (codes "STUCK: channel ") channel (codes " waits for good, and so no boxes are compared.\n")
 headline (Undecided count budget) = count_text count budget

@@ -11,26 +11,53 @@ use std::io::{self, ErrorKind, Write};
 use std::rt::Files;
 use std::time::Clock;
 
-/// The status of a call whose words or files are at fault.
-const FAULT: u8 = 2;
+/// Why a call has no answer. The number of each is its exit status, which is that of `turnmill` for the same.
+#[derive(Clone, Copy)]
+enum Fault {
+    /// The words have no accepted form.
+    Usage = 7,
+    /// A file could not be opened, or a read failed.
+    ReadFault = 8,
+    /// A write failed.
+    WriteFault = 9,
+    /// An input has more than `INPUT_LIMIT` bytes.
+    TooLong = 10,
+    /// Memory was wanted and not found.
+    NoMemory = 11,
+}
+
+impl Fault {
+    /// The exit status.
+    fn status(self) -> u8 {
+        self as u8
+    }
+}
 
 /// The number that Linux gives a write to an output that is closed, EBADF.
 const BAD_DESCRIPTOR: i32 = 9;
 
 /// Says on standard error what is wrong with a file.
 fn say_fault<R: Eprint>(rt: &R, name: &str, fault: &InputFault) -> u8 {
-    let _ = match fault {
-        InputFault::Failed(error) => eprintln!(rt; "explain: {name}: {error}"),
-        InputFault::TooLong => eprintln!(rt; "explain: {name}: more than {INPUT_LIMIT} bytes"),
-        InputFault::NoMemory => eprintln!(rt; "explain: {name}: out of memory"),
-    };
-    FAULT
+    match fault {
+        InputFault::Failed(error) => {
+            let _ = eprintln!(rt; "explain: {name}: {error}");
+            Fault::ReadFault.status()
+        }
+        InputFault::TooLong => {
+            let _ = eprintln!(rt; "explain: {name}: more than {INPUT_LIMIT} bytes");
+            Fault::TooLong.status()
+        }
+        InputFault::NoMemory => {
+            let _ = eprintln!(rt; "explain: {name}: out of memory");
+            Fault::NoMemory.status()
+        }
+    }
 }
 
 /// Says on standard error that memory was too short.
 fn say_no_memory<R: Eprint>(rt: &R) -> u8 {
     let _ = eprintln!(rt; "explain: out of memory");
-    FAULT
+    Fault::NoMemory.status()
 }
 
 /// Says on standard error why a refused input is not drawn. Bytes of its line that are no text are shown as U+FFFD.
@@ -58,7 +85,7 @@ fn write_text<R: Print + Eprint>(rt: &R, text: &[u8], status: u8) -> u8 {
             if !is_untaken(&error) {
                 let _ = eprintln!(rt; "explain: {error}");
             }
-            FAULT
+            Fault::WriteFault.status()
         }
     }
 }
@@ -169,7 +196,7 @@ fn answer_files<R: Files + Input + Print + Eprint + Clock>(
         [name] => answer_file(rt, alloc, name, form, is_told),
         _ => {
             let _ = eprintln!(rt; "explain: one file is explained at a time");
-            FAULT
+            Fault::Usage.status()
         }
     }
 }
@@ -198,7 +225,11 @@ fn answer_words<R: Files + Input + Print + Eprint + Clock>(
         Ok(request) => answer_request(rt, alloc, &request, is_told),
         Err(error) => {
             let _ = error.print(rt);
-            if error.use_stderr() { FAULT } else { 0 }
+            if error.use_stderr() {
+                Fault::Usage.status()
+            } else {
+                0
+            }
         }
     }
 }
@@ -219,7 +250,7 @@ pub(crate) fn answer_arguments<R: Files + Input + Print + Eprint + Clock>(
         Ok(arguments) => arguments.collect(alloc),
         Err(error) => {
             let _ = eprintln!(rt; "explain: {error}");
-            return FAULT;
+            return Fault::Usage.status();
         }
     };
     let Ok(words) = words else {

@@ -71,7 +71,7 @@ pub(crate) fn say_headline(text: &mut Text, verdict: &Verdict)
 {
     match verdict {
         Verdict::Race(_) => text.say(
-            "RACE: nothing says which of two places comes first, and what follows depends on it.\n",
+            "RACE: nothing says which of two places comes first, and what follows may depend on it.\n",
         ),
         Verdict::Alarm(channel, _) => say_stop(
             text,

@@ -22,7 +22,7 @@ pub(crate) static REFUSALS: [Row; 40] = [
         3,
         "byte not allowed",
         "A byte that may not stand there: in a job line or a header any outside 32 to 126 and the tab, in a block also a byte that begins no word, number or sign. Comments and texts may hold any.",
-        "Look for umlauts, control characters and signs such as ~, ' or %, and delete them or move them into a comment.",
+        "Look for umlauts, control characters and signs such as ~, ' or %, and delete them or move them into a comment. Where it is the first byte of a file, the file begins with a byte order mark, or is in UTF-16: save it as UTF-8 without such a mark.",
     ),
     (
         9,
@@ -34,7 +34,7 @@ pub(crate) static REFUSALS: [Row; 40] = [
         10,
         "bad program header",
         "The line begins with % and is no header: %_N_, a name of 1 to 24 letters, digits and underscores, and _MPF or _SPF.",
-        "Write the header as %_N_SHAFT_MPF, with nothing but a comment after it.",
+        "Write the header as %_N_SHAFT_MPF, with nothing but a comment after it. Delete a % that stands alone, as at the end of a tape. Of an archive take the parts _MPF and _SPF alone: each other part, as %_N_TO_TOA, is left out with all its lines.",
     ),
     (
         4,
@@ -130,7 +130,7 @@ pub(crate) static REFUSALS: [Row; 40] = [
         40,
         "synchronised action not supported",
         "ID, IDS, WHEN, WHENEVER, FROM, EVERY or DO.",
-        "Leave the action out of the copy that is checked.",
+        "Leave the action out of the copy that is checked. A YES then says nothing of what it does.",
     ),
     (
         41,
@@ -190,7 +190,7 @@ pub(crate) static REFUSALS: [Row; 40] = [
         50,
         "transformation not supported",
         "TRANSMIT, TRACYL, TRAORI, TRAANG or TRAFOOF; or axis words after ROT and AROT.",
-        "Leave such parts out of the copy that is checked. A turn is written with RPL.",
+        "Leave such parts out of the copy that is checked. A YES then says nothing of them. A turn is written with RPL.",
     ),
     (
         51,
@@ -405,7 +405,7 @@ pub(crate) static ALARMS: [Row; 33] = [
         25,
         "no such mark",
         "The number of a mark is not a whole number from 0 to 9.",
-        "",
+        "Take a mark from 0 to 9, the same number in all programs that are to meet at it.",
     ),
     (
         26,
@@ -417,7 +417,7 @@ pub(crate) static ALARMS: [Row; 33] = [
         27,
         "channel not idle",
         "INIT or START names a channel that runs, waits, has ended or is alarmed. A channel starts once in a job.",
-        "",
+        "Delete START at the end of its CHANNEL line if a program is to start the channel, or leave out the INIT or START that comes too late. What is to run a second time is a loop of its own program, with a WAITM before each pass.",
     ),
     (
         28,
@@ -429,13 +429,13 @@ pub(crate) static ALARMS: [Row; 33] = [
         29,
         "zone not held",
         "CPROT names a zone that the channel does not hold, or one that the job has not. Who owns the axes of a zone holds it.",
-        "",
+        "Switch the zone in the channel that holds it, before its axes are let go by RELEASE or after they are taken by GET, or correct the number.",
     ),
     (
         30,
         "zone state",
         "The state of a CPROT is neither 0, off, nor 2, on. It comes after 29.",
-        "",
+        "Write 2 to switch the zone on, and 0 to switch it off.",
     ),
     (
         31,

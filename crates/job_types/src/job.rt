@@ -23,7 +23,7 @@ pub struct Job {
     pub margin: Um,
     /// How often a motion is halved to be compared in pieces, 0 to 4; 0 where no line gives it.
     pub depth: u8,
-    /// How many pairs of places may be compared, 1 to 100,000,000; 1,000,000 where no line gives it.
+    /// How many pairs of boxes may be compared, 1 to 100,000,000; 1,000,000 where no line gives it.
     pub budget: u32,
     /// Whether the programs may have G41 and G42.
     pub compensation: bool,

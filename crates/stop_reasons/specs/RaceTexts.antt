@@ -15,7 +15,7 @@ advice_text prize remedy = codes "What was raced for: " ++ (prize ++ (codes "\nW
 
 -- both places, and what the letter of the race says
 unfoldable pub race_text : List ℕ → JobView → Race → List ℕ
-race_text input job race = codes "RACE: nothing says which of two places comes first, and what follows depends on it.\n"
+race_text input job race = codes "RACE: nothing says which of two places comes first, and what follows may depend on it.\n"
     ++ (place_text input job (codes "First place:  ") race.first
     ++ (place_text input job (codes "Second place: ") race.second
     ++ advice_text (prize_of races race.case) (remedy_of races race.case)))

@@ -38,7 +38,7 @@ pub fn say_race(text: &mut Text, told: &Told, race: &Race)
     ensures { text.new ≡ text.old ++ model.race_text told.now.lines.now told.now.job.now race.now }
 {
     text.say(
-        "RACE: nothing says which of two places comes first, and what follows depends on it.\n",
+        "RACE: nothing says which of two places comes first, and what follows may depend on it.\n",
     );
     say_one(text, told, "First place:  ", race.first);
     say_one(text, told, "Second place: ", race.second);
