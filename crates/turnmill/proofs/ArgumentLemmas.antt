@@ -5,12 +5,12 @@ use Rattle.std.specs.IoError.{error_kind}
 use Rattle.std.specs.declared.io.Error.{Error}
 use Rattle.std.specs.declared.io.ErrorKind.TheVariants.{OutOfMemory}
 use Rattle.std.specs.declared.string.String.{String}
+use Rattle.exit_statuses.specs.declared.Status.{Status}
+use Rattle.exit_statuses.specs.declared.Status.TheVariants as ends
 use Rattle.turnmill.proofs.CallAnswers.{out_of_memory, unaccepted}
 use Rattle.turnmill.specs.Arguments.{Arguments, GivesWords, call_in, words_in}
 use Rattle.turnmill.specs.Calls.{AnswersCall, Change, SinkState, SourceState}
 use Rattle.turnmill.specs.Words.{call_of}
-use Rattle.turnmill.specs.declared.check.Status.{Status}
-use Rattle.turnmill.specs.declared.check.Status.TheVariants as ends
 
 -- the words call for what the arguments call for
 pub asked_call : (arguments : Result Arguments Error) (words : Vec (String Global)) (texts : List (List ℕ)) → GivesWords arguments (Ok words)

@@ -1,5 +1,7 @@
 -- What a call promises, by how it ends.
 use Rattle.std.proofs.Common.{◌≡◌, ◌≢◌, ◌⊎◌, ℕ, ◌<◌, ◌≤◌, List, [], length, Option, None, Some, Result, IfSome, inl, inr, refl, ap, sym, subst, arith}
+use Rattle.exit_statuses.specs.declared.Status.{Status}
+use Rattle.exit_statuses.specs.declared.Status.TheVariants as ends
 use Rattle.job_types.specs.Job.{JobView}
 use Rattle.nc_faults.specs.declared.Refusal.{Refusal}
 use Rattle.sample_jobs.specs.Samples.{sample_bytes}
@@ -11,8 +13,6 @@ use Rattle.turnmill.specs.Input.{IsReadFrom, ReadsAll, TakesTooMany}
 use Rattle.turnmill.specs.Output.{IsAnswer, IsReadWhole, ReadingCallsFor}
 use Rattle.turnmill.specs.Summary.{IsSummaryBy, WordsCallFor}
 use Rattle.turnmill.specs.Words.{input_for}
-use Rattle.turnmill.specs.declared.check.Status.{Status}
-use Rattle.turnmill.specs.declared.check.Status.TheVariants as ends
 use Rattle.turnmill.specs.declared.words.Request.{Request}
 use Rattle.turnmill.specs.declared.words.Request.TheVariants.{Check, Sample}
 

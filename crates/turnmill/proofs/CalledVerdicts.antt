@@ -1,6 +1,9 @@
 -- What an input is that calls for YES, for NO or for REFUSED.
 use Rattle.std.proofs.Common.{◌≡◌, ℕ, ◌≤◌, List, ◌++◌, length, Option, None, Some, Result, Ok, Err, IfOk, IsErr, IsErrAnd, IsOkAnd, refl, ap, sym, subst, ◌∙◌, append_assoc}
 use Rattle.edge_io.specs.Moves.{Grows}
+use Rattle.exit_statuses.specs.Statuses.{status_of}
+use Rattle.exit_statuses.specs.declared.Status.{Status}
+use Rattle.exit_statuses.specs.declared.Status.TheVariants as ends
 use Rattle.job_report.specs.Report.{all_lines, head_lines, refusal_bytes, report_bytes}
 use Rattle.job_report.specs.Summary.{figures_line, summary_bytes}
 use Rattle.job_report.specs.Verdicts.{verdict_line}
@@ -23,10 +26,8 @@ use Rattle.turnmill.proofs.SampleLemmas.{called_alike}
 use Rattle.turnmill.specs.Calls.{NamesFirstMeeting}
 use Rattle.turnmill.specs.JobDoings.{doings_of}
 use Rattle.turnmill.specs.Judged.{IsClear, IsJudgedInOrder}
-use Rattle.turnmill.specs.Output.{IsReadWhole, ReadingCallsFor, Writes, status_of}
+use Rattle.turnmill.specs.Output.{IsReadWhole, ReadingCallsFor, Writes}
 use Rattle.turnmill.specs.Summary.{IsSummaryBy, WordsCallFor, figures_of}
-use Rattle.turnmill.specs.declared.check.Status.{Status}
-use Rattle.turnmill.specs.declared.check.Status.TheVariants as ends
 use Rattle.turnmill.specs.declared.words.Request.{Request}
 use Rattle.turnmill.specs.declared.words.Request.TheVariants.{Check, Sample}
 

@@ -3,6 +3,9 @@ use Rattle.std.proofs.Common.{◌≡◌, ℕ, ◌+◌, ◌<◌, ◌≤◌, List,
 use Rattle.std.proofs.Math.Seq.{drop-append_seam}
 use Rattle.std.proofs.lemmas.List.{append-nil}
 use Rattle.edge_io.specs.Moves.{Loses, Grows, GrowsByFront}
+use Rattle.exit_statuses.specs.Statuses.{status_of}
+use Rattle.exit_statuses.specs.declared.Status.{Status}
+use Rattle.exit_statuses.specs.declared.Status.TheVariants as ends
 use Rattle.job_report.specs.Report.{report_bytes}
 use Rattle.job_types.specs.Job.{JobView}
 use Rattle.nc_faults.specs.declared.Refusal.{Refusal}
@@ -10,9 +13,7 @@ use Rattle.sync_types.specs.Views.{RunView}
 use Rattle.sync_types.specs.declared.verdicts.Verdict.{Verdict}
 use Rattle.tape_job.specs.Read.{read_of}
 use Rattle.turnmill.specs.Input.{TakesTooMany}
-use Rattle.turnmill.specs.Output.{CallsForReport, InputCallsFor, IsAnswer, IsReadWhole, IsVerdict, ReadingCallsFor, Writes, WritesFront, status_of}
-use Rattle.turnmill.specs.declared.check.Status.{Status}
-use Rattle.turnmill.specs.declared.check.Status.TheVariants as ends
+use Rattle.turnmill.specs.Output.{CallsForReport, InputCallsFor, IsAnswer, IsReadWhole, IsVerdict, ReadingCallsFor, Writes, WritesFront}
 
 -- a source that lost as many bytes as are too many had them
 pub TakesTooMany-lost : (old new : Option (List ℕ)) (bytes : List ℕ) → length bytes ≡ 8388609 → Loses old new bytes → TakesTooMany old new

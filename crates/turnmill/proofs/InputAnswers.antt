@@ -1,6 +1,8 @@
 -- What a call promises of its input, by how it ends.
 use Rattle.std.proofs.Common.{◌≡◌, ◌↔◌, ◌⊎◌, ℕ, ◌<◌, ◌≤◌, List, [], length, Option, Some, IsOkAnd, IfOk, inl, inr, refl, sym, subst, arith}
 use Rattle.edge_io.specs.Moves.{Grows}
+use Rattle.exit_statuses.specs.declared.Status.{Status}
+use Rattle.exit_statuses.specs.declared.Status.TheVariants as ends
 use Rattle.tape_job.proofs.SoundJobs.{read_sound}
 use Rattle.tape_job.specs.Read.{read_of}
 use Rattle.turnmill.proofs.CalledVerdicts.{clear_at_yes, named_at_no, read_as, refused_calls, refused_wrote, safe_where, yes_where_clear}
@@ -11,8 +13,6 @@ use Rattle.turnmill.specs.Judged.{IsClear}
 use Rattle.turnmill.specs.OneResult.{OneQuietRunSpeaksForAll}
 use Rattle.turnmill.specs.Output.{IsAnswer, IsReadWhole, ReadingCallsFor, Writes, WritesFront}
 use Rattle.turnmill.specs.Summary.{WordsCallFor}
-use Rattle.turnmill.specs.declared.check.Status.{Status}
-use Rattle.turnmill.specs.declared.check.Status.TheVariants as ends
 use Rattle.turnmill.specs.declared.words.Request.{Request}
 use Rattle.turnmill.specs.declared.words.Request.TheVariants.{Check}
 

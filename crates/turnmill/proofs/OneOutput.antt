@@ -5,6 +5,8 @@ use Rattle.channel_machine.specs.StartStates.{start_of}
 use Rattle.clash_check.specs.Counts.{count_of}
 use Rattle.clash_check.specs.FirstAnswer.{first_some}
 use Rattle.clash_check.specs.Verdicts.{alarm_by, budget_verdict, meeting_verdict, no_by, or_else, race_verdict, stops_of, stuck_by, verdict_by}
+use Rattle.exit_statuses.specs.Statuses.{status_of}
+use Rattle.exit_statuses.specs.declared.Status.{Status}
 use Rattle.job_lines.specs.declared.limits.TheConstants.{INPUT_LIMIT}
 use Rattle.job_report.specs.Report.{report_bytes}
 use Rattle.job_types.specs.Job.{JobView}
@@ -26,8 +28,7 @@ use Rattle.sync_types.specs.declared.runs.Race.{Race}
 use Rattle.sync_types.specs.declared.verdicts.Verdict.{Verdict}
 use Rattle.sync_types.specs.declared.verdicts.Verdict.TheVariants as verdicts
 use Rattle.tape_job.specs.Read.{read_of}
-use Rattle.turnmill.specs.Output.{IsLineOf, InputCallsFor, ReadingCallsFor, JobCallsFor, status_of}
-use Rattle.turnmill.specs.declared.check.Status.{Status}
+use Rattle.turnmill.specs.Output.{IsLineOf, InputCallsFor, ReadingCallsFor, JobCallsFor}
 use Rattle.turnmill.specs.Judged.{IsJudgedInOrder, IsFirstRaceIn, IsOrderIn, board_of, zone_time_in}
 
 -- ---- the run in order

@@ -2,6 +2,7 @@
 use Rattle.std.proofs.Common.{◌≡◌, ◌∙◌, ℕ, ◌+◌, ◌<◌, ◌≤◌, List, [], ◌++◌, length, take, Option, None, Some, Result, IfOk, refl, ap, sym, subst, arith, length-append, append_assoc}
 use Rattle.std.proofs.lemmas.List.{append-nil, length-take-le}
 use Rattle.edge_io.specs.Moves.{Loses, IsEmptied}
+use Rattle.exit_statuses.specs.declared.Status.{Status}
 use Rattle.job_types.specs.Job.{JobView}
 use Rattle.job_types.specs.SoundJob.{IsSoundJob}
 use Rattle.nc_faults.specs.declared.Refusal.{Refusal}
@@ -11,7 +12,6 @@ use Rattle.tape_job.specs.Read.{read_of}
 use Rattle.turnmill.proofs.CheckLemmas.{front-short, writes-short}
 use Rattle.turnmill.specs.Input.{ReadsAll, IsReadFrom}
 use Rattle.turnmill.specs.Output.{InputCallsFor, ReadingCallsFor, IsReadWhole, Writes, WritesFront}
-use Rattle.turnmill.specs.declared.check.Status.{Status}
 
 -- two losses, one after the other
 loses_more : (old mid new : Option (List ℕ)) (first more : List ℕ) → Loses old mid first → Loses mid new more → Loses old new (first ++ more)

@@ -2,6 +2,9 @@
 use Rattle.std.proofs.Common.{◌≡◌, ◌≢◌, ℕ, List, Option, None, Some, Result, Ok, Err, IfOk, IsOkAnd, refl, ap, subst, ◌∙◌}
 use Rattle.channel_machine.specs.StartStates.{start_of}
 use Rattle.clash_check.specs.Verdicts.{verdict_by}
+use Rattle.exit_statuses.specs.Statuses.{status_of}
+use Rattle.exit_statuses.specs.declared.Status.{Status}
+use Rattle.exit_statuses.specs.declared.Status.TheVariants as ends
 use Rattle.job_types.specs.Job.{JobView}
 use Rattle.job_types.specs.SoundJob.{IsSoundJob}
 use Rattle.nc_faults.specs.declared.Refusal.{Refusal}
@@ -16,9 +19,7 @@ use Rattle.turnmill.proofs.QuietRuns.{quiet_in_order, quiet_run}
 use Rattle.turnmill.proofs.TurnLemmas.{same_motions}
 use Rattle.turnmill.specs.Judged.{IsFirstRaceIn, zone_time_in}
 use Rattle.turnmill.specs.OneResult.{HasOneResult, LeadToTheSame, OneQuietRunSpeaksForAll, TakeAllTurns}
-use Rattle.turnmill.specs.Output.{IsVerdict, ReadingCallsFor, status_of}
-use Rattle.turnmill.specs.declared.check.Status.{Status}
-use Rattle.turnmill.specs.declared.check.Status.TheVariants as ends
+use Rattle.turnmill.specs.Output.{IsVerdict, ReadingCallsFor}
 
 module _ (job : JobView) (sound : IsSoundJob job) where
   one_result_by : (cs : List ℕ) → IsQuietRun (script_of job) (start_of job) cs → HasOneResult job

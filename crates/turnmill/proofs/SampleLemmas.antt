@@ -3,6 +3,8 @@ use Rattle.std.proofs.Common.{◌≡◌, ◌∙◌, ℕ, List, Option, Result, O
 use Rattle.channel_machine.specs.StartStates.{start_of}
 use Rattle.clash_check.specs.Counts.{count_of}
 use Rattle.edge_io.specs.Moves.{GrowsByFront}
+use Rattle.exit_statuses.specs.Statuses.{status_of}
+use Rattle.exit_statuses.specs.declared.Status.{Status}
 use Rattle.job_report.specs.Report.{report_bytes}
 use Rattle.job_report.specs.Summary.{summary_bytes}
 use Rattle.job_report.specs.declared.summaries.Figures.{Figures}
@@ -20,9 +22,8 @@ use Rattle.sync_types.specs.declared.verdicts.Verdict.{Verdict}
 use Rattle.tape_job.specs.Read.{read_of}
 use Rattle.turnmill.specs.Judgements.{IsJudgedByClocks}
 use Rattle.turnmill.specs.Judged.{zone_time_in}
-use Rattle.turnmill.specs.Output.{ReadingCallsFor, WritesFront, status_of}
+use Rattle.turnmill.specs.Output.{ReadingCallsFor, WritesFront}
 use Rattle.turnmill.specs.Summary.{IsSummaryBy, IsSummaryOf, figures_of}
-use Rattle.turnmill.specs.declared.check.Status.{Status}
 
 -- ---- the two lines of a job
 

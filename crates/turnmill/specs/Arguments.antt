@@ -7,9 +7,9 @@ use Rattle.std.specs.declared.io.Error.{Error}
 use Rattle.std.specs.declared.io.ErrorKind.TheVariants.{OutOfMemory}
 use Rattle.std.specs.declared.string.String.{String}
 use Rattle.std.specs.declared.vec.IntoIter.{IntoIter}
+use Rattle.exit_statuses.specs.declared.Status.{Status}
+use Rattle.exit_statuses.specs.declared.Status.TheVariants.{Usage, NoMemory}
 use Rattle.turnmill.specs.Words.{call_of}
-use Rattle.turnmill.specs.declared.check.Status.{Status}
-use Rattle.turnmill.specs.declared.check.Status.TheVariants.{Usage, NoMemory}
 use Rattle.turnmill.specs.declared.words.Request.{Request}
 
 -- the arguments of a program, of which the first is its own name

@@ -1,6 +1,8 @@
 -- Meaning. What every call promises: how it ends, what it writes and what it leaves unread.
 use Rattle.std.specs.Prelude.{◌≡◌, ◌≢◌, ◌↔◌, ◌⊎◌, ℕ, ◌<◌, ◌≤◌, List, [], ◌++◌, length, Option, None, Some, IfSome, IfOk, IsOkAnd, IsErr, IsErrAnd}
 use Rattle.edge_io.specs.Moves.{Grows}
+use Rattle.exit_statuses.specs.declared.Status.{Status}
+use Rattle.exit_statuses.specs.declared.Status.TheVariants as ends
 use Rattle.job_lines.specs.declared.limits.TheConstants.{INPUT_LIMIT}
 use Rattle.job_report.specs.Report.{refusal_bytes}
 use Rattle.job_report.specs.Verdicts.{verdict_line}
@@ -16,8 +18,6 @@ use Rattle.turnmill.specs.OneResult.{HasOneResult, OneQuietRunSpeaksForAll}
 use Rattle.turnmill.specs.Output.{IsVerdict, Writes, WritesFront}
 use Rattle.turnmill.specs.Summary.{WordsCallFor}
 use Rattle.turnmill.specs.Words.{input_for}
-use Rattle.turnmill.specs.declared.check.Status.{Status}
-use Rattle.turnmill.specs.declared.check.Status.TheVariants as ends
 use Rattle.turnmill.specs.declared.words.Request.{Request}
 use Rattle.turnmill.specs.declared.words.Request.TheVariants.{Check}
 

@@ -1,7 +1,7 @@
 -- Law. An input calls for one output.
 use Rattle.std.specs.Prelude.{◌≡◌, ℕ, List}
+use Rattle.exit_statuses.specs.declared.Status.{Status}
 use Rattle.turnmill.specs.Output.{InputCallsFor}
-use Rattle.turnmill.specs.declared.check.Status.{Status}
 
 -- how the call ends and the bytes that it writes are one
 abbrev pub CallsForOneOutput : List ℕ → Type 0

@@ -1,42 +1,17 @@
 -- Meaning. What an input calls for: how the call ends, and the bytes that it writes.
 use Rattle.std.specs.Prelude.{◌≡◌, ◌⊎◌, ℕ, ◌<◌, ◌≤◌, List, [], length, Option, Result, Ok, Err, ⊤}
 use Rattle.edge_io.specs.Moves.{Grows, GrowsByFront}
+use Rattle.exit_statuses.specs.Statuses.{status_of}
+use Rattle.exit_statuses.specs.declared.Status.{Status}
+use Rattle.exit_statuses.specs.declared.Status.TheVariants as ends
 use Rattle.nc_faults.specs.declared.Refusal.{Refusal}
 use Rattle.job_lines.specs.declared.limits.TheConstants.{INPUT_LIMIT}
 use Rattle.job_report.specs.Report.{report_bytes, refusal_bytes}
 use Rattle.job_types.specs.Job.{JobView}
 use Rattle.sync_types.specs.Views.{RunView}
 use Rattle.sync_types.specs.declared.verdicts.Verdict.{Verdict}
-use Rattle.sync_types.specs.declared.verdicts.Verdict.TheVariants.{Yes, No, Undecided}
-use Rattle.sync_types.specs.declared.verdicts.Verdict.TheVariants as verdicts
 use Rattle.tape_job.specs.Read.{read_of}
 use Rattle.turnmill.specs.Judged.{IsJudgedInOrder}
-use Rattle.turnmill.specs.declared.check.Status.{Status}
-use Rattle.turnmill.specs.declared.check.Status.TheVariants as ends
-
--- the number that the program ends with
-abbrev pub exit_number : Status → ℕ
-exit_number ends.Yes = 0
-exit_number ends.No = 1
-exit_number ends.Race = 2
-exit_number ends.Stuck = 3
-exit_number ends.Alarm = 4
-exit_number ends.Undecided = 5
-exit_number ends.Refused = 6
-exit_number ends.Usage = 7
-exit_number ends.ReadFault = 8
-exit_number ends.WriteFault = 9
-exit_number ends.TooLong = 10
-exit_number ends.NoMemory = 11
-
--- the status of a verdict
-abbrev pub status_of : Verdict → Status
-status_of Yes = ends.Yes
-status_of (verdicts.Race race) = ends.Race
-status_of (verdicts.Stuck channel line) = ends.Stuck
-status_of (No first second) = ends.No
-status_of (Undecided count budget) = ends.Undecided
-status_of (verdicts.Alarm channel alarm) = ends.Alarm
 
 -- a job calls for the report of its run in order, and for the status of the verdict on it
 pub record JobCallsFor (job : JobView) (status : Status) (bytes : List ℕ) : Type 0 where

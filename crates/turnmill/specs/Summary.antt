@@ -2,6 +2,9 @@
 use Rattle.std.specs.Prelude.{◌≡◌, ℕ, Bool, true, false, List, [], length, Option, None, Some, Result, IsOkAnd}
 use Rattle.std.specs.List.{count_by, sum_by}
 use Rattle.clash_check.specs.Counts.{count_of}
+use Rattle.exit_statuses.specs.Statuses.{status_of}
+use Rattle.exit_statuses.specs.declared.Status.{Status}
+use Rattle.exit_statuses.specs.declared.Status.TheVariants as ends
 use Rattle.job_report.specs.Report.{report_bytes}
 use Rattle.job_report.specs.Summary.{summary_bytes}
 use Rattle.job_report.specs.declared.summaries.Figures.{Figures}
@@ -15,9 +18,7 @@ use Rattle.sync_types.specs.declared.Part.TheVariants.{Move, Switch}
 use Rattle.sync_types.specs.declared.verdicts.Verdict.{Verdict}
 use Rattle.tape_job.specs.Read.{read_of}
 use Rattle.turnmill.specs.Judged.{IsJudgedInOrder, zone_time_in}
-use Rattle.turnmill.specs.Output.{InputCallsFor, status_of}
-use Rattle.turnmill.specs.declared.check.Status.{Status}
-use Rattle.turnmill.specs.declared.check.Status.TheVariants as ends
+use Rattle.turnmill.specs.Output.{InputCallsFor}
 use Rattle.turnmill.specs.declared.words.Request.{Request}
 use Rattle.turnmill.specs.declared.words.Request.TheVariants.{Check, Sample}
 

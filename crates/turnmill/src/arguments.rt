@@ -3,9 +3,9 @@ ghost use Rattle.std.specs.Prelude.{◌≡◌, ◌-◌, ◌^◌, ◌<◌, map, I
 ghost use Rattle.turnmill.specs.Arguments.{GivesWords, HasNoText, call_in};
 ghost use Rattle.turnmill.specs.Calls.{AnswersCall, sink_change, source_change};
 
-use crate::check::Status;
 use crate::running::run_words;
 use edge_io::{Gate, Sink, Source};
+use exit_statuses::Status;
 use std::alloc::{AllocError, Global};
 use std::env::Args;
 use std::io;

@@ -8,62 +8,20 @@ ghost use Rattle.tape_job.specs.Read.{read_of};
 ghost use Rattle.turnmill.specs.Calls.{AnswersCall, sink_change, source_change};
 ghost use Rattle.turnmill.specs.Input.{ReadsJob};
 ghost use Rattle.turnmill.specs.declared.check.InputFault.TheVariants as faults;
-ghost use Rattle.turnmill.specs.Output.{status_of, CallsForReport, IsAnswer, IsReadWhole, ReadingCallsFor, Writes, WritesFront};
+ghost use Rattle.turnmill.specs.Output.{CallsForReport, IsAnswer, IsReadWhole, ReadingCallsFor, Writes, WritesFront};
 ghost use Rattle.turnmill.specs.Words.{request_of, words_of};
 
 use crate::judging::{Judgement, judge_in_order};
 use crate::sample::answer_sample;
 use crate::words::{Request, request_of};
 use edge_io::{Failed, Sink, Source};
+use exit_statuses::Status;
 use job_lines::INPUT_LIMIT;
 use job_report::{refused, report};
 use nc_faults::{NoMemory, Refusal};
 use std::alloc::Global;
 use std::mem::forget;
-use std::process::ExitCode;
-use sync_types::Verdict;
 use tape_job::{Job, JobFault, JobReader};
-
-/// How a call ends. The number of each is the exit status of the program.
-#[derive(Clone, Copy, PartialEq, Eq)]
-pub enum Status {
-    /// No two zones of different groups can meet.
-    Yes = 0,
-    /// Two zones may meet.
-    No = 1,
-    /// The order of two channels' actions is open.
-    Race = 2,
-    /// A channel waits for good.
-    Stuck = 3,
-    /// A channel is stopped by an alarm.
-    Alarm = 4,
-    /// More boxes are to be compared than the job allows.
-    Undecided = 5,
-    /// The input is no job.
-    Refused = 6,
-    /// The words have no accepted form.
-    Usage = 7,
-    /// A read failed.
-    ReadFault = 8,
-    /// A write failed.
-    WriteFault = 9,
-    /// The input has more than `INPUT_LIMIT` bytes.
-    TooLong = 10,
-    /// Memory was wanted and not found.
-    NoMemory = 11,
-}
-
-impl From<Status> for ExitCode {
-    ghost use Rattle.std.specs.Prelude.{◌≡◌};
-    ghost use Rattle.std.specs.Process.{exit_status};
-    ghost use Rattle.turnmill.specs.Output.{exit_number};
-
-    ghost from_gives = { λ status code. exit_status code ≡ exit_number status };
-
-    fn from(status: Status) -> ExitCode {
-        ExitCode::from(status as u8)
-    }
-}
 
 /// The number of bytes at which an input is too long.
 const TOO_MANY: usize = INPUT_LIMIT + 1;
@@ -127,7 +85,8 @@ pub(crate) fn read_job_from<S: Source>(
 ) -> Result<Result<Job, Refusal>, InputFault>
     requires few { S.faults source.old < 2 ^ 64 - 1 }
     requires readable { S.can_read source.old }
-    ensures exact { ReadsJob result (S.left source.old) (S.left source.new) (S.faults source.old) (S.faults source.new) }
+    ensures exact { ReadsJob result (S.left source.old) (S.left source.new)
+        (S.faults source.old) (S.faults source.new) }
     ensures indices { IfOk result (λ read. IfOk read BlocksFit) }
     ensures listed { IfOk result (λ read. IfErr read (λ refusal. IsRefusalCode refusal.code)) }
 {
@@ -146,20 +105,6 @@ pub(crate) fn read_job_from<S: Source>(
     Err(InputFault::TooLong)
 }
 
-/// The status of a verdict.
-pub(crate) fn status_of(verdict: &Verdict) -> Status
-    ensures { result ≡ status_of verdict.now }
-{
-    match verdict {
-        Verdict::Race(_) => Status::Race,
-        Verdict::Alarm(_, _) => Status::Alarm,
-        Verdict::Stuck(_, _) => Status::Stuck,
-        Verdict::Undecided { .. } => Status::Undecided,
-        Verdict::No(_, _) => Status::No,
-        Verdict::Yes => Status::Yes,
-    }
-}
-
 /// Writes the report of a job that is judged, and answers with the status of the verdict.
 pub(crate) fn write_report<K: Sink>(job: &Job, judgement: &Judgement, sink: &mut K) -> Status
     requires reported { CallsForReport job.now judgement.now.run judgement.now.verdict }
@@ -175,7 +120,7 @@ pub(crate) fn write_report<K: Sink>(job: &Job, judgement: &Judgement, sink: &mut
     ensures ends { IsAnswer result }
 {
     match report(job, &judgement.run, &judgement.verdict, sink) {
-        Ok(()) => status_of(&judgement.verdict),
+        Ok(()) => Status::of_verdict(&judgement.verdict),
         Err(_) => Status::WriteFault,
     }
 }

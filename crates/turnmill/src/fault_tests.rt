@@ -1,9 +1,9 @@
 //! Reads and writes that fail, and an input that comes in pieces. The job is that of the program's stored run.
 ghost use Rattle.std.specs.Prelude.{◌<◌};
 
-use crate::check::Status;
 use crate::running::run_words;
 use edge_io::{MemSink, MemSource, OpenGate};
+use exit_statuses::Status;
 use std::alloc::{AllocError, Global};
 use std::sync::Wait;
 use std::test::Fail;

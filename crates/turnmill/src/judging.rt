@@ -120,7 +120,8 @@ pub(crate) fn entries_of(run: &Run) -> &[Entry]
 /// How many pairs of boxes are compared.
 pub(crate) fn pair_count(job: &Job, judgement: &Judgement) -> u64
     requires accepted { IsSoundJob job.now }
-    requires judged { IsJudgedByClocks job.now judgement.now.run judgement.now.clocks judgement.now.stretches judgement.now.verdict }
+    requires judged { IsJudgedByClocks job.now judgement.now.run judgement.now.clocks
+        judgement.now.stretches judgement.now.verdict }
     ensures { result ≡ count_of (is_before_in judgement.now.clocks.rows) job.now judgement.now.stretches }
 {
     see_goes(&judgement.run);

@@ -10,10 +10,11 @@ ghost use Rattle.turnmill.specs.Calls.{AnswersCall, sink_change, source_change};
 ghost use Rattle.turnmill.specs.Output.{CallsForReport, IsAnswer, IsReadWhole, ReadingCallsFor, Writes, WritesFront};
 ghost use Rattle.turnmill.specs.Words.{call_of, words_of};
 
-use crate::check::{InputFault, Status, answer_refusal, check_words, read_job_from, write_report};
+use crate::check::{InputFault, answer_refusal, check_words, read_job_from, write_report};
 use crate::judging::{Judgement, entries_of, judge_by_threads, judge_in_order};
 use crate::words::is_run;
 use edge_io::{Gate, Sink, Source};
+use exit_statuses::Status;
 use job_lines::INPUT_LIMIT;
 use nc_faults::{NoMemory, Refusal};
 use parallel_run::run_threads;

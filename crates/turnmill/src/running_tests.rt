@@ -1,8 +1,8 @@
 //! `run` judges the run that its threads make, and tells the gate each entry of it.
 
-use crate::check::Status;
 use crate::running::run_words;
 use edge_io::{Gate, MemSink, MemSource};
+use exit_statuses::Status;
 use std::alloc::{AllocError, Global};
 use std::sync::Wait;
 use std::sync::atomic::{AtomicU64, Ordering};

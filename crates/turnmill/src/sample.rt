@@ -12,9 +12,9 @@ ghost use Rattle.turnmill.specs.Judgements.{IsJudgedByClocks};
 ghost use Rattle.turnmill.specs.Output.{IsAnswer, IsReadWhole, Writes, WritesFront};
 ghost use Rattle.turnmill.specs.Summary.{IsSummaryBy, figures_of, is_motion, move_count, moves_of};
 
-use crate::check::{Status, status_of};
 use crate::judging::{Judgement, judge_job, pair_count};
 use edge_io::{CountSink, Sink};
+use exit_statuses::Status;
 use job_report::{Figures, report, summary};
 use sample_jobs::sample;
 use std::alloc::Global;
@@ -88,7 +88,8 @@ fn report_length(job: &Job, run: &Run, verdict: &Verdict) -> Option<u64>
 /// The figures of a sample.
 fn figures_of(number: u32, job: &Job, judgement: &Judgement) -> Option<Figures>
     requires accepted { IsSoundJob job.now }
-    requires judged { IsJudgedByClocks job.now judgement.now.run judgement.now.clocks judgement.now.stretches judgement.now.verdict }
+    requires judged { IsJudgedByClocks job.now judgement.now.run judgement.now.clocks
+        judgement.now.stretches judgement.now.verdict }
     ensures { IfSome result (λ figures. figures
         ≡ figures_of number job.now judgement.now.run judgement.now.verdict (is_before_in judgement.now.clocks.rows)) }
 {
@@ -107,8 +108,10 @@ fn answer_job<K: Sink>(alloc: Global, number: u32, job: &Job, sink: &mut K) -> S
     requires accepted { IsSoundJob job.now }
     requires indices { BlocksFit job.now }
     requires few { K.faults sink.old < 2 ^ 64 - 1 }
-    ensures whole { IsReadWhole result → Writes (IsSummaryBy number (Ok job.now)) result (K.written sink.old) (K.written sink.new) }
-    ensures front { result ≡ Status.WriteFault → WritesFront (IsSummaryBy number (Ok job.now)) (K.written sink.old) (K.written sink.new) }
+    ensures whole { IsReadWhole result
+        → Writes (IsSummaryBy number (Ok job.now)) result (K.written sink.old) (K.written sink.new) }
+    ensures front { result ≡ Status.WriteFault
+        → WritesFront (IsSummaryBy number (Ok job.now)) (K.written sink.old) (K.written sink.new) }
     ensures silent { result ≡ Status.NoMemory → sink.new ≡ sink.old }
     ensures cause { (result ≡ Status.WriteFault) ↔ (K.faults sink.old < K.faults sink.new) }
     ensures never_fall { K.faults sink.old ≤ K.faults sink.new }
@@ -124,7 +127,7 @@ fn answer_job<K: Sink>(alloc: Global, number: u32, job: &Job, sink: &mut K) -> S
     let verdict = judgement.verdict;
     forget(judgement);
     match summary(&figures, &verdict, sink) {
-        Ok(()) => status_of(&verdict),
+        Ok(()) => Status::of_verdict(&verdict),
         Err(_) => Status::WriteFault,
     }
 }

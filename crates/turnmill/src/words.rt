@@ -113,7 +113,8 @@ fn is_sample(words: &[&str]) -> bool
 /// The matches of words that ask for a sample.
 fn matches_of<'a>(alloc: Global, words: &'a [&'a str]) -> Result<ArgMatches<'a>, Error>
     requires { is_some (sample_number (words_of words.now)) ≡ true }
-    ensures number { IfOk result (λ matches. first_value (found_of matches) (codes "number") ≡ number_text (words_of words.now)) }
+    ensures number { IfOk result (λ matches. first_value (found_of matches) (codes "number")
+        ≡ number_text (words_of words.now)) }
     ensures fault { IfErr result (λ fault. kind_of fault ≡ ErrorKind.OutOfMemory) }
 {
     let number = Arg::new(alloc, "number").long("number");
@@ -151,7 +152,8 @@ fn sample_number(alloc: Global, words: &[&str]) -> Result<u32, NoMemory>
 /// What the words ask for, `None` where they have no accepted form.
 pub(crate) fn request_of(alloc: Global, words: &[&str]) -> Result<Option<Request>, NoMemory>
     ensures value { IfOk result (λ request. request ≡ request_of (words_of words.now)) }
-    ensures small { IfOk result (λ request. (number : ℕ) → request ≡ Some (requests.Sample number) → number ≤ GREATEST_NUMBER) }
+    ensures small { IfOk result (λ request. (number : ℕ)
+        → request ≡ Some (requests.Sample number) → number ≤ GREATEST_NUMBER) }
     ensures fault { IsErr result → is_some (sample_number (words_of words.now)) ≡ true }
 {
     if is_check(words) {

@@ -1,8 +1,8 @@
 -- A job is answered by its two lines.
 use Rattle.std.proofs.Common.{◌∙◌, ℕ, List, Ok, subst, sym}
+use Rattle.exit_statuses.specs.declared.Status.{Status}
 use Rattle.job_report.specs.Summary.{summary_bytes}
 use Rattle.turnmill.specs.Summary.{IsSummaryBy}
-use Rattle.turnmill.specs.declared.check.Status.{Status}
 use Rattle.turnmill.proofs.CalledVerdicts.{no_refusal}
 use Rattle.turnmill.proofs.SampleLemmas.{front_of_summary, summary_called}
 use Rattle.turnmill.proofs.sample.answer_job.Goals as goal
@@ -14,7 +14,7 @@ returns-in-Ok-summary-clause-whole g c = λ whole.
     let bytes : List ℕ = summary_bytes c.in-Some.figures c.in-Ok.judgement.verdict in
     record {
       bytes = bytes;
-      called_for = subst (λ (s : Status). IsSummaryBy c.args.number (Ok job) s bytes) (sym c.status_of.ensures) called;
+      called_for = subst (λ (s : Status). IsSummaryBy c.args.number (Ok job) s bytes) (sym c.of_verdict.ensures) called;
       grows = c.in-Ok-summary.ensures.whole;
     }
 
@@ -23,4 +23,4 @@ returns-in-Err-clause-front g c = λ is. front_of_summary c.args.number c.args.j
     c.in-Ok.ensures.in_order c.in-Some.figures _ _ c.in-Some.ensures c.in-Err.ensures.front
 
 pub returns-in-Ok-summary-clause-never_refused : goal.returns-in-Ok-summary-clause-never_refused
-returns-in-Ok-summary-clause-never_refused g c = λ refused. no_refusal c.in-Ok.judgement.verdict (sym c.status_of.ensures ∙ refused)
+returns-in-Ok-summary-clause-never_refused g c = λ refused. no_refusal c.in-Ok.judgement.verdict (sym c.of_verdict.ensures ∙ refused)
