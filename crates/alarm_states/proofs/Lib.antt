@@ -1,3 +1,3 @@
 pub mod BlockLaws
-pub mod GrantLaws
+pub mod KeptLaws
 pub mod TextLaws

@@ -1,7 +1,6 @@
 pub mod Alarms
 pub mod Blocks
 pub mod Calls
-pub mod Grants
 pub mod KeptChannels
 pub mod States
 pub mod Texts

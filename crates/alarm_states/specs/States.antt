@@ -6,12 +6,12 @@ use Rattle.block_readings.specs.declared.readings.Reading.{Reading}
 use Rattle.channel_machine.specs.CallLevels.{alarmed_levels}
 use Rattle.channel_machine.specs.Kept.{StateView}
 use Rattle.channel_machine.specs.Locals.{IsKeptOf}
+use Rattle.channel_machine.specs.RunGrants.{grants_of}
 use Rattle.channel_machine.specs.StartStates.{start_of}
 use Rattle.job_types.specs.Job.{JobView}
 use Rattle.sync_types.specs.Views.{RunView}
 use Rattle.alarm_states.specs.Blocks.{IsPlaceOf, opener_at, said_at}
 use Rattle.alarm_states.specs.Calls.{calls_at}
-use Rattle.alarm_states.specs.Grants.{grants_of}
 use Rattle.alarm_states.specs.declared.state.AlarmState.{AlarmState}
 
 -- the values that a block reads where this is kept of its channel

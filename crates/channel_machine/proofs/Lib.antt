@@ -21,3 +21,5 @@ pub mod RunsSoFar
 pub mod RunTurns
 pub mod StartNumbers
 pub mod TracedChannels
+pub mod GrantLaws
+pub mod PassedBlocks

@@ -79,7 +79,7 @@ module _ (s : SurroundingsView) (c : Channel) (mid after : List Item) (kept late
 
   -- or it goes on
   pub goes_so : (halt : Option Step) → halt ≡ None → Advances s was.next mid halt after later → GoesOn s c [] after later
-  goes_so None is told = record { next = told.next; keeps = told.keeps; placed = λ placed. told.placed (was.placed placed); rest = was.rest ∙ told.rest }
+  goes_so None is told = record { next = told.goes.next; keeps = told.goes.keeps; placed = λ placed. told.goes.placed (was.placed placed); rest = was.rest ∙ told.goes.rest }
   goes_so (Some step) is told = absurd cc
 
 -- a setting is one of the job for a channel, however far that has come

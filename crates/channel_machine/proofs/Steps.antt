@@ -27,7 +27,7 @@ use Rattle.sync_types.specs.declared.Step.{Step}
 use Rattle.channel_machine.specs.declared.levels.Levels.{Levels}
 use Rattle.channel_machine.specs.Levels.{levels_after}
 use Rattle.channel_machine.specs.Run.{SurroundingsView, Executed, Deed, Did, Channel, SegmentView, blocks_of, item_by, item_of, on_after, on_by_request, parameters_after, setting_after, setup_after, grant_after, header_of, words_after, found_after, stands_after, line_after, opener_at, block_at, executed_block, step_at, step_after, alarm_segment, with_items_before, channel_at_end, ends_main, segment_after_block, segment_after_request, run_after, segment_of}
-use Rattle.channel_machine.specs.Kept.{StateView, Keeps, GoesOn, Advances, Halts, IsFollowing, IsHeld, IsSegment, after_block}
+use Rattle.channel_machine.specs.Kept.{StateView, Keeps, GoesOnBy, Advances, Halts, IsBlockMore, IsFollowing, IsHeld, IsSegment, after_block}
 use Rattle.channel_machine.proofs.PlacedChannels.{placed_block}
 use Rattle.channel_machine.proofs.Requests.{asked_no_alarm}
 use Rattle.channel_machine.proofs.Pasts.{fold-did, map-did, count-did, grant-did, on-did, stands-did}
@@ -50,6 +50,10 @@ ends_at s segment items k later line action past step is at keeps = record {
   after = subst (λ (g : SegmentView). Keeps s g.after later) (sym is) keeps;
 }
 
+-- no block was executed
+none_more : (s : SurroundingsView) (c : Channel) (items : List Item) (past : List Deed) → past ≡ c.past → IsBlockMore s c items items past
+none_more s c items past same = record { done = None; past = same ∙ sym (append-nil c.past); items = sym (append-nil items); there = tt }
+
 -- an alarm ends the segment of a channel that has done no more
 pub alarms_at : (s : SurroundingsView) (c : Channel) (items : List Item) (k later : StateView) (line : ℕ) (action : Action) (step : Step)
     → with_items_before items (segment_of s c) ≡ ended items k line action c.past → step ≡ step_at k.axes k.on (stands k.at) line action → Keeps s (channel_at_end c.past) later
@@ -57,6 +61,7 @@ pub alarms_at : (s : SurroundingsView) (c : Channel) (items : List Item) (k late
 alarms_at s c items k later line action step is at keeps = record {
   segment = ends_at s (with_items_before items (segment_of s c)) items k later line action c.past step is at keeps;
   stays = λ _ _. ap (λ (g : SegmentView). g.after.past) is;
+  more = none_more s c items (segment_of s c).after.past (ap (λ (g : SegmentView). g.after.past) is);
 }
 
 -- with this step, after these items
@@ -208,6 +213,10 @@ module _ (s : SurroundingsView) (c : Channel) (k : StateView) (keeps : Keeps s c
           abbrev items_more : List Item
           items_more = before ++ option_to_list (item_by line request effect.item)
 
+          -- the block was executed
+          one_more : (past : List Deed) → past ≡ past_more → IsBlockMore s c before items_more past
+          one_more past same = record { done = Some this; past = same; items = refl; there = record { levels = levels; control = there; found = here } }
+
           abbrev kept_after : Option Levels → StateView
           kept_after next = after_block mid line request next
 
@@ -284,12 +293,15 @@ module _ (s : SurroundingsView) (c : Channel) (k : StateView) (keeps : Keeps s c
             -- control goes on
             leads : (next : Option Levels) → levels_after s.skip s.programs levels effect.course ≡ Ok next
                 → segment_after_block s c.past levels line (Ok this) (λ after. run_after s more after) ≡ with_items_before (option_to_list (item_of this)) (run_after s more (after next))
-                → GoesOn s c before items_more (kept_after next)
+                → GoesOnBy s c before items_more (kept_after next)
             leads next led goes_on = record {
-              next = after next;
-              keeps = keeps_after next;
-              placed = λ placed. placed_block s c levels there placed this next led;
-              rest = ap (with_items_before before) (executed_as ∙ goes_on) ∙ both (run_after s more (after next)) ∙ ap (with_items_before items_more) (sym (there_after next));
+              goes = record {
+                next = after next;
+                keeps = keeps_after next;
+                placed = λ placed. placed_block s c levels there placed this next led;
+                rest = ap (with_items_before before) (executed_as ∙ goes_on) ∙ both (run_after s more (after next)) ∙ ap (with_items_before items_more) (sym (there_after next));
+              };
+              more = one_more past_more refl;
             }
 
             -- the block ends the segment with a step
@@ -305,6 +317,7 @@ module _ (s : SurroundingsView) (c : Channel) (k : StateView) (keeps : Keeps s c
               stays = λ code alarm.
                   absurd (asked_no_alarm (setting_after s c.past) (parameter_in (parameters_after c.past)) block.statement code
                   (asks ∙ ap (λ (r : Option Request). Ok r) acts ∙ ap (λ (a : Action). Ok (Some (Act a))) alarm));
+              more = one_more (segment_of s c).after.past (ap (λ (g : SegmentView). g.after.past) (executed_as ∙ is));
             }
 
             held_so : (r : Option Request) → request ≡ r → (next : Option Levels) → ends_main levels effect.course ≡ false → levels_after s.skip s.programs levels effect.course ≡ Ok next
@@ -330,6 +343,7 @@ module _ (s : SurroundingsView) (c : Channel) (k : StateView) (keeps : Keeps s c
                       ends_at s (with_items_before before (segment_of s c)) items_more (kept_after None) new line End past_more (step_at mid.axes (on_by_request mid.on request) (stands mid.at) line End)
                       (finishes ends) refl (over_after new is.2);
                   stays = λ code alarm. absurd cc;
+                  more = one_more (segment_of s c).after.past (ap (λ (g : SegmentView). g.after.past) (finishes ends));
                 })
             after_so false goes halt items new is = led_so (levels_after s.skip s.programs levels effect.course) goes refl halt items new is
 

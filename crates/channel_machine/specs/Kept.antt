@@ -1,5 +1,5 @@
 -- Steps. What is kept of a channel between two blocks.
-use Rattle.std.specs.Prelude.{◌≡◌, ℕ, ◌+◌, ℤ, Bool, true, false, List, ◌++◌, length, slice_get, Option, Some, None, unwrap_or, Result, Ok, Err}
+use Rattle.std.specs.Prelude.{◌≡◌, ℕ, ◌+◌, ℤ, Bool, true, false, List, [], ◌∷◌, ◌++◌, length, slice_get, Option, Some, None, IfSome, option_and_then, unwrap_or, Result, Ok, Err}
 use Rattle.std.specs.Option.{option_to_list}
 use Rattle.axis_sets.specs.Positions.{position_of, stands}
 use Rattle.coordination_words.specs.declared.asked.Request.{Request}
@@ -24,7 +24,7 @@ use Rattle.channel_machine.specs.declared.levels.Levels.{Levels}
 use Rattle.channel_machine.specs.declared.local.State.{State}
 use Rattle.job_types.specs.Job.{JobView, ProgramView}
 use Rattle.channel_machine.specs.Levels.{lines_of, program_blocks}
-use Rattle.channel_machine.specs.Run.{SurroundingsView, Channel, SegmentView, parameters_after, chain_after, words_after, stands_after, line_after, blocks_of, grant_after, on_after, on_by_request, item_by, with_items_before, segment_of, step_at}
+use Rattle.channel_machine.specs.Run.{SurroundingsView, Executed, Deed, Did, Channel, SegmentView, block_at, item_of, parameters_after, chain_after, words_after, stands_after, line_after, blocks_of, grant_after, on_after, on_by_request, item_by, with_items_before, segment_of, step_at}
 use Rattle.job_types.specs.Slots.{offset_of}
 
 -- where control is; how many blocks were executed, and the line of the last, or of the header; the parameters, the words of groups and the frame that hold; where the axes stand; the channel and the axes in its slots, which do not change; and the axes that it owns, and the zones that are on
@@ -64,6 +64,24 @@ pub record Keeps (setting : SurroundingsView) (channel : Channel) (kept : StateV
   pub axes : kept.axes ≡ (grant_after setting channel.past).axes
   pub on : kept.on ≡ on_after setting channel.past
 
+-- the deed of a block, where it was executed
+abbrev pub deeds_of : Option Executed → List Deed
+deeds_of None = []
+deeds_of (Some done) = Did done ∷ []
+
+-- an executed block is the one that stood where control was
+pub record StoodAtControl (setting : SurroundingsView) (channel : Channel) (done : Executed) : Type 0 where
+  pub levels : Levels
+  pub control : channel.levels ≡ Some levels
+  pub found : block_at setting levels.here ≡ Some (done.line, done.block)
+
+-- after these deeds and with these items the channel has executed the block at which control stood, or none where that alarms or there is none
+pub record IsBlockMore (setting : SurroundingsView) (channel : Channel) (before after : List Item) (deeds : List Deed) : Type 0 where
+  pub done : Option Executed
+  pub past : deeds ≡ channel.past ++ deeds_of done
+  pub items : after ≡ before ++ option_to_list (option_and_then item_of done)
+  pub there : IfSome done (StoodAtControl setting channel)
+
 -- a block on, with these items more, the channel goes on as this is kept of it
 pub record GoesOn (setting : SurroundingsView) (channel : Channel) (before after : List Item) (kept : StateView) : Type 0 where
   pub next : Channel
@@ -87,11 +105,17 @@ pub record IsSegment (setting : SurroundingsView) (segment : SegmentView) (kept 
 pub record Halts (setting : SurroundingsView) (channel : Channel) (before : List Item) (step : Step) (after : List Item) (kept : StateView) : Type 0 where
   pub segment : IsSegment setting (with_items_before before (segment_of setting channel)) (record { items = after; step = step; after = kept })
   pub stays : (code : ℕ) → step.action ≡ Alarm code → (segment_of setting channel).after.past ≡ channel.past
+  pub more : IsBlockMore setting channel before after (segment_of setting channel).after.past
+
+-- a block on, which was executed, the channel goes on
+pub record GoesOnBy (setting : SurroundingsView) (channel : Channel) (before after : List Item) (kept : StateView) : Type 0 where
+  pub goes : GoesOn setting channel before after kept
+  pub more : IsBlockMore setting channel before after goes.next.past
 
 -- a block on, the segment ends with this step, or the channel goes on
 abbrev pub Advances : SurroundingsView → Channel → List Item → Option Step → List Item → StateView → Type 0
 Advances setting channel before (Some step) after kept = Halts setting channel before step after kept
-Advances setting channel before None after kept = GoesOn setting channel before after kept
+Advances setting channel before None after kept = GoesOnBy setting channel before after kept
 
 -- what a state keeps
 abbrev pub state_view : State → StateView

@@ -8,3 +8,5 @@ pub mod Scripts
 pub mod Locals
 pub mod CallLevels
 pub mod TracedSegments
+pub mod Passing
+pub mod RunGrants

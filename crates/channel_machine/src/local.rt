@@ -1,8 +1,9 @@
 //! A channel between two blocks.
 
-ghost use Rattle.std.specs.Prelude.{◌≡◌, ℕ, [], option_and_then, option_copied, option_map, reverse, slice_get, unwrap_or, IfOk, IfSome};
+ghost use Rattle.std.specs.Prelude.{◌≡◌, ℕ, [], option_and_then, option_copied, option_map, reverse, slice_get, slice_index, unwrap_or, IfOk, IfSome};
 ghost use Rattle.axis_sets.specs.Positions.{position_of, stands};
 ghost use Rattle.std.specs.Option.{option_map_or};
+ghost use Rattle.g_groups.specs.declared.numbers.TheConstants.{OFFSET_GROUP};
 ghost use Rattle.channel_machine.specs.Kept.{IsAfterGrant, IsSettingIn, Keeps, state_view};
 ghost use Rattle.channel_machine.specs.Levels.{LevelsFit};
 ghost use Rattle.channel_machine.specs.Run as model;
@@ -11,7 +12,7 @@ use crate::levels::{Levels, begin};
 use axis_sets::{AXIS_LIMIT, AxisId, ChannelId, Positions, ZoneSet};
 use block_effects::{ChannelAxes, Parameters, Situation};
 use frames::Frame;
-use g_groups::Modal;
+use g_groups::{Modal, OFFSET_GROUP};
 use job_types::{Job, slot_axis};
 use nc_faults::NoMemory;
 use nc_subprograms::Place;
@@ -195,6 +196,14 @@ impl Local {
         ensures { result.now ≡ self.now.parameters }
     {
         &self.state.situation.parameters
+    }
+
+    /// The number of the word that chooses the settable offset and holds in the channel: 500 where none is chosen.
+    #[tactic(auto, unfolding(g_groups::specs::Groups::holding_of))]
+    pub fn offset_word(&self) -> u16
+        ensures { result ≡ slice_index self.now.modal OFFSET_GROUP }
+    {
+        self.state.situation.modal.word(OFFSET_GROUP)
     }
 
     /// Goes on with a grant after the step that ended its last segment: it owns the axes of the grant, those with a

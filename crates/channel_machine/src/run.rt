@@ -113,17 +113,17 @@ fn opener_of(flow: &Flow, pc: u32) -> &Stmt
 
 /// A block that comes.
 #[derive(Clone, Copy)]
-struct NextBlock<'a> {
+pub struct NextBlock<'a> {
     /// Its line.
-    line: u32,
+    pub line: u32,
     /// The block.
-    block: &'a Block,
+    pub block: &'a Block,
     /// The statement that begins the structure round it.
-    opener: &'a Stmt,
+    pub opener: &'a Stmt,
 }
 
 /// The block at a place, if one stands there.
-fn find_block<'a>(job: &'a Job, here: &Place) -> Option<NextBlock<'a>>
+pub(crate) fn find_block<'a>(job: &'a Job, here: &Place) -> Option<NextBlock<'a>>
     requires { BlocksFit job.now }
     ensures { MatchOption result (slice_get (lines_of job.now.programs here.now.program) here.now.pc ≡ None)
         (λ next. IsThere job.now.programs here.now next.line (view_of next.block.now) (statement_view next.opener.now)) }

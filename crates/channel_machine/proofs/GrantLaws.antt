@@ -7,11 +7,8 @@ use Rattle.std.proofs.lemmas.Option.{slice_get-get_or}
 use Rattle.std.specs.List.{flat_map, range_with_len}
 use Rattle.std.specs.Option.{option_map_or}
 use Rattle.number_laws.proofs.Lists.{range_with_len-push}
-use Rattle.channel_machine.specs.CallLevels.{alarmed_levels}
-use Rattle.channel_machine.specs.Locals.{IsKeptOf}
 use Rattle.coord_core.proofs.Granted.{is_granted}
 use Rattle.coord_core.specs.Boards.{BoardView, HaveSameEntries, replayed, with_step}
-use Rattle.job_types.specs.Job.{JobView}
 use Rattle.sync_types.proofs.EntryLaws.{after_one_more}
 use Rattle.sync_types.specs.Boards.{Board, first_board, grant_in, is_running}
 use Rattle.sync_types.specs.Runs.{as_list}
@@ -19,14 +16,12 @@ use Rattle.sync_types.specs.Turns.{after_entries, after_step, entry_of, AreEntri
 use Rattle.sync_types.specs.Views.{EntryView, StartView}
 use Rattle.sync_types.specs.declared.Grant.{Grant}
 use Rattle.sync_types.specs.declared.Step.{Step}
-use Rattle.alarm_states.specs.Grants.{board_before, grants_at, grants_before, own_grant}
-use Rattle.alarm_states.specs.KeptChannels.{IsKept}
-use Rattle.alarm_states.specs.declared.kept.Kept.{Kept}
+use Rattle.channel_machine.specs.RunGrants.{board_before, grants_at, grants_before, own_grant}
 
 -- before the first entry the channel has got none
-pub first_kept : (job : JobView) (start : StartView) (es : List EntryView) (c : ℕ) (kept : Kept) → kept.local ≡ None → kept.levels ≡ None → IsKept job c (grants_before start es c 0) kept
-unfolding grants_before alarmed_levels
-first_kept job start es c kept local levels = record { local = subst (IsKeptOf job c []) (sym local) tt; levels = levels }
+pub no_grants : (start : StartView) (es : List EntryView) (c : ℕ) → [] ≡ grants_before start es c 0
+unfolding grants_before
+no_grants start es c = refl
 
 module _ (start : StartView) (es : List EntryView) (c n : ℕ) where
   one_more : grants_before start es c (n + 1) ≡ grants_before start es c n ++ grants_at start es c n
@@ -52,14 +47,14 @@ module _ (start : StartView) (es : List EntryView) (c n : ℕ) where
             ap as_list (ap (λ (d : ℕ). grant_in ((board_before start es n).state d)) (sym same) ∙ granted)
         by_test false is = refl
 
-    -- what is kept after the entry
-    pub next_kept : (job : JobView) (b : Board) (acting : ℕ) (grant : Grant) (after : Kept) → acting ≡ e.channel → b ≡ board_before start es n → grant_in (b.state acting) ≡ Some grant
-        → IsKept job c (grants_before start es c n ++ own_grant c acting grant) after → IsKept job c (grants_before start es c (n + 1)) after
-    next_kept job b acting grant after acts same granted kept =
+    -- the grants after the entry
+    pub next_grants : (b : Board) (acting : ℕ) (grant : Grant) (old new : List Grant) → acting ≡ e.channel → b ≡ board_before start es n → grant_in (b.state acting) ≡ Some grant
+        → old ≡ grants_before start es c n → new ≡ old ++ own_grant c acting grant → new ≡ grants_before start es c (n + 1)
+    next_grants b acting grant old new acts same granted before more =
         let there : grant_in ((board_before start es n).state e.channel) ≡ Some grant =
         ap (λ (a : Board). grant_in (a.state e.channel)) (sym same) ∙ ap (λ (d : ℕ). grant_in (b.state d)) (sym acts) ∙ granted in
         let own : own_grant c acting grant ≡ grants_at start es c n = ap (λ (d : ℕ). own_grant c d grant) acts ∙ sym (grant_here grant there) in
-        subst (λ (gs : List Grant). IsKept job c gs after) (ap (λ (gs : List Grant). grants_before start es c n ++ gs) own ∙ sym one_more) kept
+        more ∙ ap (λ (gs : List Grant). gs ++ own_grant c acting grant) before ∙ ap (λ (gs : List Grant). grants_before start es c n ++ gs) own ∙ sym one_more
 
     -- the board after the entry
     pub next_board : (old new : BoardView) (acting : ℕ) (step : Step) → acting ≡ e.channel → step ≡ e.step → replayed old ≡ board_before start es n
@@ -74,17 +69,6 @@ module _ (start : StartView) (es : List EntryView) (c n : ℕ) where
         ∙ ap (λ (s : Step). after_step (board_before start es n) e.channel s) steps
         ∙ sym (after_one_more (first_board start) (take n es) e)
         ∙ ap (after_entries (first_board start)) (sym front)
-
--- what is kept after the entry of a channel
-pub own_kept : (job : JobView) (c acting : ℕ) (grant : Grant) (made : List Grant) (after : Kept) → (acting == c) ≡ true → IsKept job c (made ++ grant ∷ []) after
-    → IsKept job c (made ++ own_grant c acting grant) after
-own_kept job c acting grant made after own kept =
-    subst (λ (gs : List Grant). IsKept job c (made ++ gs) after) (sym (ap (λ (t : Bool). cond t (grant ∷ []) []) own)) kept
-
-pub other_kept : (job : JobView) (c acting : ℕ) (grant : Grant) (made : List Grant) (after : Kept) → (acting == c) ≡ false → IsKept job c made after
-    → IsKept job c (made ++ own_grant c acting grant) after
-other_kept job c acting grant made after other kept =
-    subst (λ (gs : List Grant). IsKept job c gs after) (sym (append-nil made) ∙ ap (λ (gs : List Grant). made ++ gs) (sym (ap (λ (t : Bool). cond t (grant ∷ []) []) other))) kept
 
 -- the channel of each entry of a run runs before it
 runs_at : (b : Board) (es : List EntryView) (n : ℕ) (e : EntryView) → AreEntries b es → n < length es → e ≡ get_or es n e → is_running ((after_entries b (take n es)).state e.channel) ≡ true

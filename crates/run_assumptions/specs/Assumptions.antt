@@ -1,0 +1,17 @@
+-- Meaning. What a run takes for granted.
+use Rattle.std.specs.Prelude.{ℕ, List}
+use Rattle.std.specs.List.{flat_map, range_with_len}
+use Rattle.axis_sets.specs.declared.limits.TheConstants.{CHANNEL_LIMIT}
+use Rattle.job_types.specs.Job.{JobView}
+use Rattle.sync_types.specs.Views.{RunView}
+use Rattle.run_assumptions.specs.Remarks.{remarks_in_run}
+use Rattle.run_assumptions.specs.Rows.{rows_of}
+use Rattle.run_assumptions.specs.declared.rows.Assumed.{Assumed}
+
+-- of a channel
+abbrev pub channel_assumptions : JobView → RunView → ℕ → List Assumed
+channel_assumptions job run c = rows_of job run c (remarks_in_run job run c)
+
+-- of all channels, in the order of their numbers
+unfoldable pub assumptions_of : JobView → RunView → List Assumed
+assumptions_of job run = flat_map (channel_assumptions job run) (range_with_len 1 CHANNEL_LIMIT)
