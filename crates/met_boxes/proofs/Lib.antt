@@ -11,3 +11,5 @@ pub mod SomeLaws
 pub mod NearestLaws
 pub mod GroupLaws
 pub mod PassedLaws
+pub mod CountLaws
+pub mod PairLaws

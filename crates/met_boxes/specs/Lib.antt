@@ -10,3 +10,6 @@ pub mod NearSteps
 pub mod Groups
 pub mod GroupSteps
 pub mod PassedOwns
+pub mod ZonePairs
+pub mod PairSteps
+pub mod CountSteps

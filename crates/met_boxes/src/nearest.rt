@@ -513,7 +513,11 @@ fn look_in_row(near: &mut Vec<Near>, scene: &Scene, row: &Row) -> Result<(), All
 }
 
 /// The nearest of the stretches of some rows.
-fn nearest_in(alloc: Global, scene: &Scene, rows: &[Row]) -> Result<Vec<Near>, AllocError>
+pub(crate) fn nearest_in(
+    alloc: Global,
+    scene: &Scene,
+    rows: &[Row],
+) -> Result<Vec<Near>, AllocError>
     requires fit { All (All IsFit) scene.now.run.now.items }
     requires deep { scene.now.job.now.depth ≤ DEPTH_LIMIT }
     requires timed { All (IsRowTimed (is_before_in scene.now.clocks.now.rows)) rows.now }

@@ -45,7 +45,7 @@ pub(crate) fn may_overlap(clocks: &Clocks, left: &Stretch, right: &Stretch) -> b
 }
 
 /// Whether this is the channel.
-fn is_of(channel: ChannelId, owner: Option<ChannelId>) -> bool
+pub(crate) fn is_of(channel: ChannelId, owner: Option<ChannelId>) -> bool
     ensures { result ≡ is_of channel owner }
 {
     match owner {

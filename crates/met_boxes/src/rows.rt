@@ -14,8 +14,10 @@ use std::marker::Model;
 /// A zone with its stretches.
 #[derive(Drop)]
 pub(crate) struct Time<'a> {
-    zone: ZoneLine,
-    stretches: &'a [Stretch],
+    /// The zone.
+    pub(crate) zone: ZoneLine,
+    /// Its stretches.
+    pub(crate) stretches: &'a [Stretch],
 }
 
 impl<'a> Model for Time<'a> {
@@ -89,7 +91,7 @@ pub(crate) fn times_of<'a>(
 
 /// Adds two zones, where they are of different groups.
 #[tactic(auto, unfolding(crate::specs::Rows::rows_for))]
-fn add_zones<'a>(
+pub(crate) fn add_zones<'a>(
     rows: &mut Vec<Row<'a>>,
     one: &'a Time<'a>,
     two: &'a Time<'a>,
@@ -122,7 +124,7 @@ fn add_with<'a>(
 }
 
 /// Those of some zones from a place on.
-fn rest<'a>(times: &'a [Time<'a>], from: usize) -> &'a [Time<'a>]
+pub(crate) fn rest<'a>(times: &'a [Time<'a>], from: usize) -> &'a [Time<'a>]
     requires { from ≤ length times.now }
     ensures { result.now ≡ drop from times.now }
 {

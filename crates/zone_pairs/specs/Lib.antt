@@ -1,0 +1,4 @@
+pub mod Pairs
+pub mod PairTexts
+pub mod Reasons
+pub mod PairData
