@@ -4,6 +4,7 @@ pub mod FitLemmas
 pub mod InputLemmas
 pub mod LibraryLemmas
 pub mod LineLemmas
+pub mod LineRefusalLemmas
 pub mod NestLemmas
 pub mod PieceLemmas
 pub mod ReadingLemmas

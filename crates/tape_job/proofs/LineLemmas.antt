@@ -1,12 +1,12 @@
 -- The lines of an input of which a front is known.
-use Rattle.std.proofs.Common.{◌≡◌, ◌∙◌, ℕ, ◌+◌, ◌<◌, ◌≤◌, Bool, true, false, not, cond, nat_lt, List, [], ◌∷◌, ◌++◌, length, take, drop, position, Some, None, refl, sym, ap, true≢false, rules, arith, length-append}
-use Rattle.std.specs.List.{list_all, position_or_len, prefix_len, onto_first}
-use Rattle.std.proofs.Math.Seq.{take-append-add, drop-append-add, take-length}
-use Rattle.std.proofs.lemmas.Bool.{and_parts, and_from, eqb-true}
+use Rattle.std.proofs.Common.{◌≡◌, ◌∙◌, ℕ, ◌+◌, ◌<◌, ◌≤◌, Bool, true, false, not, cond, nat_lt, List, [], ◌∷◌, ◌++◌, length, take, drop, Some, None, refl, sym, ap, true≢false, rules, arith, length-append}
+use Rattle.std.specs.List.{position_or_len, prefix_len, onto_first}
+use Rattle.std.proofs.Math.Seq.{take-append-add, drop-append-add, take-length, drop-length}
+use Rattle.std.proofs.lemmas.Bool.{and_parts, eqb-true}
 use Rattle.std.proofs.lemmas.Bool.Decides.{nat_tests}
 use Rattle.block_scanner.specs.LineParts.{first_of, up_to_feed}
 use Rattle.block_scanner.proofs.Prefixes.{cut, stops_at}
-use Rattle.tape_job.specs.Lines.{is_feed, raw_lines}
+use Rattle.tape_job.specs.Lines.{is_feed, raw_lines, IsFirstLine}
 use Rattle.tape_job.specs.Pieces.{lacks_feed}
 
 pub is_no : (b : Bool) → not b ≡ true → b ≡ false
@@ -121,3 +121,27 @@ open_first taken piece is = by (nat_lt (position_or_len is_feed piece) (length p
         let here : position_or_len is_feed piece ≡ length found.front = found.long in
         let past : length piece ≤ position_or_len is_feed piece = grind (arith, nat_tests) in
         (sym (ap (λ (p : ℕ × Bool). p.0) same), lacks found.front found.following found.joined found.holds (omega (arith, past, here)))
+
+-- ---- the first line of an input
+
+pub first_line : (bytes : List ℕ) (n : ℕ) → 0 < length bytes → n ≡ (first_of bytes).0 → IsFirstLine bytes n
+first_line bytes n some is = by (first_of bytes).1 refl
+  where
+    ended : EndsFirst n bytes → IsFirstLine bytes n
+    ended ends = record {
+      some = ends.some;
+      within = ends.within;
+      lines = ap raw_lines ends.all ∙ whole_line ends.front (drop n bytes) ends.lacks ∙ ap (λ line. line ∷ raw_lines (drop n bytes)) (sym ends.line);
+    }
+
+    only : (bytes : List ℕ) → 0 < length bytes → n ≡ length bytes → lacks_feed bytes ≡ true → IsFirstLine bytes n
+    only [] some is lacks = absurd (omega (arith, some))
+    only (x ∷ xs) some is lacks = record {
+      some = omega (arith, some, is);
+      within = omega (arith, is);
+      lines = only_line x xs lacks ∙ rw (is, take-length (x ∷ xs), drop-length (x ∷ xs)) refl;
+    }
+
+    by : (b : Bool) → (first_of bytes).1 ≡ b → IsFirstLine bytes n
+    by true feed = ended (ends_first n bytes (rw (is, sym feed) refl))
+    by false feed = let open_line = open_first n bytes (rw (is, sym feed) refl) in only bytes some open_line.0 open_line.1

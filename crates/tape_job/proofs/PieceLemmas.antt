@@ -1,6 +1,5 @@
 -- An input that comes in pieces is read as it is whole.
-use Rattle.std.proofs.Common.{◌≡◌, ◌∙◌, ℕ, zero, suc, ◌+◌, ◌-◌, ◌<◌, ◌≤◌, ◌==◌, Bool, true, false, not, cond, nat_lt, List, [], ◌∷◌, ◌++◌, length, take, drop, slice_index, Option, None, Some, Result, Ok, Err, inl, inr, refl, sym, ap, subst, true≢false, append_assoc, append-nil, arith, length-append}
-use Rattle.std.specs.List.{list_all, enumerate_from}
+use Rattle.std.proofs.Common.{◌≡◌, ◌∙◌, ℕ, zero, suc, ◌+◌, ◌-◌, ◌<◌, ◌≤◌, ◌==◌, Bool, true, false, not, cond, nat_lt, List, [], ◌∷◌, ◌++◌, length, take, drop, slice_index, Some, Ok, Err, inl, inr, refl, sym, ap, subst, true≢false, append_assoc, append-nil, arith, length-append}
 use Rattle.std.specs.Option.{option_or}
 use Rattle.std.specs.Str.Lines.{strip_carriage_return}
 use Rattle.std.proofs.Math.Seq.{take-append_seam, take-length, drop-length, get_or-append_seam}

@@ -1,10 +1,12 @@
 pub mod Draft
 pub mod FirstRefusal
 pub mod Input
+pub mod LineRefusals
 pub mod Lines
 pub mod Pieces
 pub mod Read
 pub mod Reading
+pub mod RefusalSteps
 pub mod Rules
 pub mod Steps
 pub mod Told

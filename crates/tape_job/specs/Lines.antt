@@ -1,5 +1,5 @@
 -- Meaning. The lines of an input, and what stands in a line.
-use Rattle.std.specs.Prelude.{ℕ, ◌-◌, Bool, not, ◌||◌, List, [], ◌∷◌, if◌then◌else◌, ◌==◌, slice_index, take, length, filter, position, Option, Some, None}
+use Rattle.std.specs.Prelude.{◌≡◌, ℕ, ◌-◌, ◌<◌, ◌≤◌, Bool, not, ◌||◌, List, [], ◌∷◌, if◌then◌else◌, ◌==◌, slice_index, take, drop, length, filter, position, Option, Some, None}
 use Rattle.std.specs.List.{list_any, slice_split, onto_first, enumerate_from}
 use Rattle.std.specs.Str.{bytes_eq}
 use Rattle.std.specs.Str.Lines.{strip_carriage_return}
@@ -17,6 +17,12 @@ is_feed byte = byte == 10
 abbrev pub raw_lines : List ℕ → List (List ℕ)
 raw_lines [] = []
 raw_lines (byte ∷ bytes) = if is_feed byte then (byte ∷ []) ∷ raw_lines bytes else onto_first byte (raw_lines bytes)
+
+-- the first line of an input has so many bytes
+pub record IsFirstLine (bytes : List ℕ) (length_of_line : ℕ) : Type 0 where
+  pub some : 0 < length_of_line
+  pub within : length_of_line ≤ length bytes
+  pub lines : raw_lines bytes ≡ take length_of_line bytes ∷ raw_lines (drop length_of_line bytes)
 
 abbrev pub numbered_lines : List ℕ → List Line
 numbered_lines bytes = enumerate_from 1 (raw_lines bytes)

@@ -14,10 +14,13 @@ mod programs;
 mod read;
 mod reader;
 mod reading;
+mod refusals;
 mod rules;
 
 pub use fault::JobFault;
 pub use job_reader::JobReader;
 pub use job_types::{AxisLine, ChannelLine, GeoLine, Job, OffsetLine, Program, Side, ZoneLine};
 pub use laws::{accepted_jobs_are_sound, refusals_are_first};
+pub use lines::{first_length, text_in};
 pub use read::read_job;
+pub use refusals::{line_codes, line_refusals};

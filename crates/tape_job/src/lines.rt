@@ -1,9 +1,9 @@
 //! Lines of bytes, their texts and their words.
-ghost use Rattle.std.specs.Prelude.{◌≡◌, ◌≤◌, true, IfOk, IfSome, map, length, position};
+ghost use Rattle.std.specs.Prelude.{◌≡◌, ◌<◌, ◌≤◌, true, IfOk, IfSome, map, length, position};
 ghost use Rattle.block_scanner.specs.Bytes.{is_semicolon};
 ghost use Rattle.block_scanner.specs.LineParts.{first_of};
 ghost use Rattle.nc_blocks.specs.Names.{upper};
-ghost use Rattle.tape_job.specs.Lines.{is_feed, text_of, before_comment, words, is_visible, has_token, begins_with_percent, is_bare};
+ghost use Rattle.tape_job.specs.Lines.{is_feed, IsFirstLine, text_of, before_comment, words, is_visible, has_token, begins_with_percent, is_bare};
 
 use block_scanner::is_blank;
 use std::alloc::{AllocError, Global};
@@ -25,9 +25,21 @@ pub(crate) fn length_of_first(bytes: &[u8]) -> Option<usize>
     Some(at + 1)
 }
 
+/// How many bytes the first line has, with its line feed where it has one.
+#[tactic(auto, using(crate::proofs::LineLemmas::first_line), unfolding(block_scanner::specs::LineParts::first_of))]
+pub fn first_length(bytes: &[u8]) -> usize
+    requires { 0 < length bytes.now }
+    ensures { IsFirstLine bytes.now result }
+{
+    match feed_in(bytes) {
+        Some(at) => at + 1,
+        None => bytes.len(),
+    }
+}
+
 /// The text of a line, without its line end.
 #[tactic(auto, unfolding(crate::specs::Lines::text_of))]
-pub(crate) fn text_in(raw: &[u8]) -> &[u8]
+pub fn text_in(raw: &[u8]) -> &[u8]
     ensures value { result.now ≡ text_of raw.now }
     ensures shorter { length result.now ≤ length raw.now }
 {

@@ -1,5 +1,5 @@
 -- The line that was begun is the last one, and lacks its line feed.
-use Rattle.std.proofs.Common.{◌≡◌, true, false, ◌+◌, subst, rules, arith}
+use Rattle.std.proofs.Common.{◌≡◌, true, false, subst, rules, arith}
 use Rattle.std.proofs.lemmas.Result.{err_from_is_err_and}
 use Rattle.tape_job.specs.Read.{GivesRead}
 use Rattle.tape_job.proofs.PieceLemmas.{last_alike, last_fails, last_taken, none_begun}

@@ -1,4 +1,4 @@
-use Rattle.std.proofs.Common.{◌≡◌, ◌∙◌, sym, ap}
+use Rattle.std.proofs.Common.{◌∙◌, sym, ap}
 use Rattle.tape_job.specs.Told.{Told}
 use Rattle.tape_job.specs.Reading.{reading_view}
 use Rattle.tape_job.proofs.BareLines.{bare_tells_nothing}

@@ -1,0 +1,3 @@
+pub mod CommaLaws
+pub mod TextLaws
+pub mod WordLaws

@@ -1,0 +1,11 @@
+pub mod Effects
+pub mod Kinds
+pub mod LineWords
+pub mod Listing
+pub mod Names
+pub mod Places
+pub mod Refusals
+pub mod Rows
+pub mod SlipWords
+pub mod Slips
+pub mod WordPlaces
