@@ -162,7 +162,8 @@ pub(crate) fn renew(
     memory: &mut Memory,
 )
     ensures place { memory.new.place ≡ place }
-    ensures kept { (IsRowOf (map (λ own. own.cover) boxes.now) memory.new.kept.covers × (memory.new.kept.pieces.rows ≡ [])) ⊎ ((memory.old.place ≡ place) × (memory.new.kept ≡ memory.old.kept)) }
+    ensures kept { (IsRowOf (map (λ own. own.cover) boxes.now) memory.new.kept.covers × (memory.new.kept.pieces.rows ≡ []))
+        ⊎ ((memory.old.place ≡ place) × (memory.new.kept ≡ memory.old.kept)) }
     ensures passed { (memory.new.passed ≡ []) ⊎ ((memory.old.place ≡ place) × (memory.new.passed ≡ memory.old.passed)) }
 {
     let times = if memory.place == place {

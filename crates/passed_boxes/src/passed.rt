@@ -91,7 +91,8 @@ impl PassedBoxes {
     /// Whether an equal box of an equal motion is kept.
     pub fn has(&self, cover: &Box3, motion: Option<&Motion>) -> bool
         ensures passes { result ≡ true → (test : Box3 → Option Motion → Bool)
-            → All (λ kept. test kept.cover kept.motion ≡ true) self.now → test cover.now (option_copied motion.entry) ≡ true }
+            → All (λ kept. test kept.cover kept.motion ≡ true) self.now
+            → test cover.now (option_copied motion.entry) ≡ true }
         ensures none { result ≡ false
             → All (λ kept. kept.cover ≡ cover.now → kept.motion ≡ option_copied motion.entry → ⊥) self.now }
     {
@@ -105,8 +106,10 @@ impl PassedBoxes {
 
     /// Keeps a box with its motion, in the place of the earliest where there are 64.
     pub fn keep(&mut self, cover: &Box3, motion: Option<&Motion>)
-        ensures passes { (test : Box3 → Option Motion → Bool) → All (λ kept. test kept.cover kept.motion ≡ true) self.old
-            → test cover.now (option_copied motion.entry) ≡ true → All (λ kept. test kept.cover kept.motion ≡ true) self.new }
+        ensures passes { (test : Box3 → Option Motion → Bool)
+            → All (λ kept. test kept.cover kept.motion ≡ true) self.old
+            → test cover.now (option_copied motion.entry) ≡ true
+            → All (λ kept. test kept.cover kept.motion ≡ true) self.new }
         ensures latest { (self.new ≡ self.old)
             ⊎ (self.new ≡ latest (self.old ++ record { cover = cover.now; motion = option_copied motion.entry } ∷ [])) }
     {

@@ -76,7 +76,8 @@ impl Held {
     /// The turn of a pass that brings a step.
     pub(crate) fn act(&mut self, pass: &Pass, step: Step) -> Option<Outcome>
         ensures start { self.new.board.start ≡ self.old.board.start }
-        ensures turn { Brings self.old.board.start pass.now.channel step (history_of self.old) result (history_of self.new) }
+        ensures turn { Brings self.old.board.start pass.now.channel step
+            (history_of self.old) result (history_of self.new) }
     {
         act_turn(&mut self.locked, pass.channel, step)
     }
