@@ -1,3 +1,4 @@
 pub mod PieceLaws
 pub mod Directions
 pub mod MarginLaws
+pub mod WayLaws

@@ -3,9 +3,9 @@ use Rattle.std.specs.Prelude.{◌≡◌, ℕ, ℤ, pos, ◌==◌, ◌-ℤ◌, �
 use Rattle.std.specs.Option.{option_map_or}
 use Rattle.box_reach.specs.Depths.{IsPartingDepth}
 use Rattle.box_reach.specs.Lots.{DoLotsMeet}
-use Rattle.box_reach.specs.Reaches.{IsFirstLeast, reach_of}
 use Rattle.box_reach.specs.Shapes.{HasPoint, common_box, grown_box}
 use Rattle.job_types.specs.Job.{JobView}
+use Rattle.box_clashes.specs.Ways.{IsLeastWay, gives_room}
 use Rattle.box_clashes.specs.declared.clashes.Clash.{Clash}
 use Rattle.protection_zones.specs.Pieces.{boxes_in_pieces, motion_at}
 use Rattle.swept_boxes.specs.declared.Box3.{Box3}
@@ -38,9 +38,9 @@ IsPartingMargin margin lefts rights (Some greatest) =
     (pos 0 ≤ℤ greatest) × (DoMeetWith margin lefts rights greatest → ⊥)
     × ((other : ℤ) → greatest <ℤ other → HavePointsWith margin lefts rights other → DoMeetWith margin lefts rights other)
 
+-- what both whole boxes have in common, the room that axes would have to give them, and the margin and the depth that would part their pieces
 pub record IsClash (job : JobView) (run : RunView) (met : Meeting) (clash : Clash) : Type 0 where
   pub common : clash.common ≡ common_box met.left.cover met.right.cover
-  pub shift : clash.way.shift ≡ reach_of met.left.cover met.right.cover
-  pub direction : IsFirstLeast met.left.cover met.right.cover clash.way.direction
+  pub way : IsLeastWay (gives_room job met) met.left.cover met.right.cover 3 clash.way
   pub margin : IsPartingMargin job.margin (boxes_at job run met.left job.depth) (boxes_at job run met.right job.depth) clash.margin
   pub depth : IsPartingDepth (boxes_by_depth job run met.left) (boxes_by_depth job run met.right) job.depth clash.depth

@@ -1,1 +1,3 @@
 pub mod Clashes
+pub mod WaySteps
+pub mod Ways

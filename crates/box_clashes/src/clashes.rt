@@ -1,14 +1,17 @@
 //! What two boxes that meet have in common, and by what they would be apart.
-ghost use Rattle.std.specs.Prelude.{◌≡◌, ◌<◌, ◌≤◌, pos, ◌+ℤ◌, ◌-ℤ◌, ◌*ℤ◌, ◌≤ℤ◌, ◌<ℤ◌, All, length, map};
+ghost use Rattle.std.specs.Prelude.{◌≡◌, ◌<◌, ◌≤◌, ◌⊎◌, pos, neg_ℤ, ◌+ℤ◌, ◌-ℤ◌, ◌*ℤ◌, ◌≤ℤ◌, ◌<ℤ◌, All, length, map};
 ghost use Rattle.box_reach.specs.Depths.{IsPartingDepth};
+ghost use Rattle.box_reach.specs.Shapes.{moved_box};
 ghost use Rattle.job_lines.specs.declared.limits.TheConstants.{DEPTH_LIMIT};
 ghost use Rattle.job_types.specs.SoundJob.{IsSoundJob};
 ghost use Rattle.box_clashes.specs.Clashes as model;
 ghost use Rattle.protection_zones.specs.ZoneBoxes.{IsFit};
+ghost use Rattle.swept_boxes.specs.Boxes.{DoMeet};
 
 use crate::pieces::boxes_at;
+use crate::ways::way_for;
 use arrayvec::ArrayVec;
-use box_reach::{Way, common_box, least_way, most_near, parting_depth};
+use box_reach::{Way, common_box, most_near, parting_depth};
 use job_types::Job;
 use swept_boxes::Box3;
 use sync_types::Run;
@@ -19,7 +22,8 @@ use told_places::{Meeting, Place};
 pub struct Clash {
     /// What both whole boxes have in common.
     pub common: Box3,
-    /// Along which direction the whole boxes reach into each other the least, and how far.
+    /// In which direction the whole boxes reach into each other the least, and how far: of those in which an axis carries one of
+    /// both zones, or of all three where axes carry neither in any.
     pub way: Way,
     /// The greatest MARGIN with which they would not meet; none where they meet with each.
     pub margin: Option<i64>,
@@ -102,11 +106,15 @@ fn depth_of(job: &Job, run: &Run, met: &Meeting) -> Option<u8>
 pub fn clash_of(job: &Job, run: &Run, met: &Meeting) -> Clash
     requires sound { IsSoundJob job.now }
     requires fit { All (All IsFit) run.now.items }
-    ensures { model.IsClash job.now run.now met.now result }
+    ensures all { model.IsClash job.now run.now met.now result }
+
+    // One micrometre more parts the whole boxes, forwards or backwards in the direction of the way.
+    ensures parted { (DoMeet (moved_box met.now.left.cover result.way.direction (result.way.shift +ℤ pos 1)) met.now.right.cover → ⊥)
+        ⊎ (DoMeet (moved_box met.now.left.cover result.way.direction (neg_ℤ (result.way.shift +ℤ pos 1))) met.now.right.cover → ⊥) }
 {
     Clash {
         common: common_box(&met.left.cover, &met.right.cover),
-        way: least_way(&met.left.cover, &met.right.cover),
+        way: way_for(job, met),
         margin: margin_of(job, run, met),
         depth: depth_of(job, run, met),
     }

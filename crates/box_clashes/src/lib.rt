@@ -5,5 +5,6 @@
 mod bounds;
 mod clashes;
 mod pieces;
+mod ways;
 
 pub use clashes::{Clash, clash_of};

@@ -64,7 +64,7 @@ fn boxes_of_zone(
 }
 
 /// The zone of this number.
-fn zone_numbered(job: &Job, number: u8) -> Option<ZoneLine>
+pub(crate) fn zone_numbered(job: &Job, number: u8) -> Option<ZoneLine>
     ensures { result ≡ find (λ zone. zone.zone == number) job.now.zones }
 {
     job.zones

@@ -2,8 +2,8 @@
 use Rattle.std.proofs.Common.{◌≡◌, ◌∙◌, ℕ, List, ◌++◌, refl, sym, ap, append_assoc}
 use Rattle.std.specs.Prelude.{codes}
 use Rattle.std.specs.Fmt.{decimal}
-use Rattle.explain.specs.Explained.{IsExplained, IsHeaded}
-use Rattle.explain.specs.Headlines.{BeginsWith, headline, stop_text}
+use Rattle.explain.specs.Explained.{IsExplained, IsHeaded, IsVerdictText, zones_told}
+use Rattle.explain.specs.Headlines.{BeginsWith, first_line, headline, stop_text}
 use Rattle.job_types.specs.Job.{JobView}
 use Rattle.nc_faults.specs.declared.Alarm.{Alarm}
 use Rattle.order_clocks.specs.Clocked.{ClocksView}
@@ -54,13 +54,19 @@ headed_begins front IsBody text is = record { rest = is.body; whole = is.whole }
 told_begins : (front told text : List ℕ) → BeginsWith front told → text ≡ told → BeginsWith front text
 told_begins front told text begins is = record { rest = begins.rest; whole = is ∙ begins.whole }
 
-pub explained_begins : (input : List ℕ) (job : JobView) (start : StartView) (run : RunView) (clocks : ClocksView) (stretches : StretchesView) (met : List Meeting) (verdict : Verdict)
-    (text : List ℕ) → IsExplained input job start run clocks stretches met verdict text → BeginsWith (headline verdict) text
-explained_begins input job start run clocks stretches met (verdicts.Race race) text is = told_begins _ _ _ (race_begins input job race) is
-explained_begins input job start run clocks stretches met (verdicts.Stuck channel line) text is =
+verdict_begins : (input : List ℕ) (job : JobView) (start : StartView) (run : RunView) (clocks : ClocksView) (stretches : StretchesView) (met : List Meeting) (verdict : Verdict)
+    (text : List ℕ) → IsVerdictText input job start run clocks stretches met verdict text → BeginsWith (first_line verdict (zones_told job run clocks stretches)) text
+unfolding first_line
+verdict_begins input job start run clocks stretches met (verdicts.Race race) text is = told_begins _ _ _ (race_begins input job race) is
+verdict_begins input job start run clocks stretches met (verdicts.Stuck channel line) text is =
     told_begins _ _ _ (stuck_begins input job run (last_board start run) channel line) is
-explained_begins input job start run clocks stretches met (verdicts.Alarm channel alarm) text is =
+verdict_begins input job start run clocks stretches met (verdicts.Alarm channel alarm) text is =
     told_begins _ _ _ (begins_after _ _ _ (alarm_begins input job run (last_board start run) channel alarm)) is.told
-explained_begins input job start run clocks stretches met (verdicts.Undecided count budget) text is = headed_begins _ _ _ is
-explained_begins input job start run clocks stretches met (verdicts.No left right) text is = headed_begins _ _ _ is
-explained_begins input job start run clocks stretches met verdicts.Yes text is = headed_begins _ _ _ is
+verdict_begins input job start run clocks stretches met (verdicts.Undecided count budget) text is = headed_begins _ _ _ is
+verdict_begins input job start run clocks stretches met (verdicts.No left right) text is = headed_begins _ _ _ is
+verdict_begins input job start run clocks stretches met verdicts.Yes text is = headed_begins _ _ _ is
+
+pub explained_begins : (input : List ℕ) (job : JobView) (start : StartView) (run : RunView) (clocks : ClocksView) (stretches : StretchesView) (met : List Meeting) (verdict : Verdict)
+    (text : List ℕ) → IsExplained input job start run clocks stretches met verdict text → BeginsWith (first_line verdict (zones_told job run clocks stretches)) text
+explained_begins input job start run clocks stretches met verdict text is =
+    told_begins _ _ _ (begins_after _ _ _ (verdict_begins input job start run clocks stretches met verdict is.body is.is)) is.whole

@@ -4,3 +4,6 @@ pub mod FirstMet
 pub mod JudgeLemmas
 pub mod SaidLaws
 pub mod TextLaws
+pub mod LeftOutLaws
+pub mod RefusalLaws
+pub mod YesLaws

@@ -12,6 +12,8 @@ use Rattle.box_clashes.specs.declared.clashes.Clash.{Clash}
 use Rattle.met_boxes.specs.declared.groups.Group.{Group}
 use Rattle.swept_boxes.specs.declared.Box3.{Box3}
 use Rattle.sync_types.specs.Views.{RunView}
+use Rattle.sync_types.specs.declared.verdicts.StretchKind.{StretchKind}
+use Rattle.sync_types.specs.declared.verdicts.StretchKind.TheVariants.{Idle, Run, Hold, End, Free}
 use Rattle.told_places.specs.Boxes.{box_text, direction_text}
 use Rattle.told_places.specs.Lines.{line_place_text}
 use Rattle.told_places.specs.Places.{place_text, zone_text}
@@ -39,7 +41,7 @@ times_text input job run met = codes "When\n" ++ (span_text input job run met.le
 
 -- ---- by what they would be apart
 
--- the least way, and a micrometre more
+-- the room that they need in the direction in which axes can give the least, and a micrometre more
 unfoldable pub shift_text : Clash → List ℕ
 shift_text clash = codes "What would keep them apart\n  "
     ++ (millimetres_text (saturate_signed w64 (clash.way.shift +ℤ pos 1)) ++ (codes " mm more between them in " ++ (direction_text clash.way.direction ++ codes "\n")))
@@ -61,13 +63,25 @@ unfoldable pub depth_text : ℕ → Option ℕ → List ℕ
 depth_text depth (Some more) = codes "  DEPTH " ++ (decimal more ++ (codes "; it is " ++ (decimal depth ++ codes "\n")))
 depth_text depth None = codes "  no greater DEPTH\n"
 
-unfoldable pub ways_text : JobView → Clash → List ℕ
-ways_text job clash = shift_text clash ++ (margin_text job.margin clash.margin ++ depth_text job.depth clash.depth)
+-- that both zones are of one channel
+unfoldable pub one_channel_text : ℕ → List ℕ
+one_channel_text channel = codes "  one group for both, if they may touch: both are of channel " ++ (decimal channel ++ codes "\n")
+
+-- where one channel holds both zones
+unfoldable pub holders_text : Option ℕ → Option ℕ → List ℕ
+holders_text None other = []
+holders_text (Some one) None = []
+holders_text (Some one) (Some other) = if one == other then one_channel_text one else []
+
+-- by what they would be apart: room, a margin, a depth; or one group where one channel holds both
+unfoldable pub ways_text : JobView → Meeting → Clash → List ℕ
+ways_text job met clash =
+    shift_text clash ++ (margin_text job.margin clash.margin ++ (depth_text job.depth clash.depth ++ holders_text met.left.name.channel met.right.name.channel))
 
 -- ---- all of two boxes
 
 unfoldable pub first_text : List ℕ → JobView → RunView → Meeting → Clash → List ℕ
-first_text input job run met clash = head_text input job run met clash.common ++ (boxes_text met ++ (times_text input job run met ++ ways_text job clash))
+first_text input job run met clash = head_text input job run met clash.common ++ (boxes_text met ++ (times_text input job run met ++ ways_text job met clash))
 
 -- ---- pairs of lines
 
@@ -75,8 +89,16 @@ first_text input job run met clash = head_text input job run met clash.common ++
 unfoldable pub at_text : List ℕ → JobView → ℕ → List ℕ
 at_text input job line = if line == 0 then [] else (codes " " ++ line_place_text input job line)
 
+-- that a zone only stands where its channel has left it, since that has ended
+unfoldable pub stays_text : StretchKind → List ℕ
+stays_text Idle = []
+stays_text Run = []
+stays_text Hold = []
+stays_text End = codes " (stands there until the end)"
+stays_text Free = []
+
 unfoldable pub short_text : List ℕ → JobView → Place → List ℕ
-short_text input job place = zone_text place ++ at_text input job place.name.line
+short_text input job place = zone_text place ++ (at_text input job place.name.line ++ stays_text place.name.kind)
 
 -- a pair, and how often it meets
 unfoldable pub pair_text : List ℕ → JobView → Meeting → ℕ → List ℕ

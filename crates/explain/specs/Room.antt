@@ -1,5 +1,5 @@
--- Meaning. How the verdict YES is said: of each two groups how near their compared boxes come.
-use Rattle.std.specs.Prelude.{◌≡◌, ℕ, ℤ, pos, ◌-ℤ◌, if◌then◌else◌, List, [], ◌∷◌, ◌++◌, codes, int_div}
+-- Meaning. How the verdict YES is said: of each two groups how near their compared boxes come, and of each two zones whether they were compared.
+use Rattle.std.specs.Prelude.{◌≡◌, ℕ, ℤ, pos, ◌-ℤ◌, if◌then◌else◌, List, ◌++◌, codes, int_div}
 use Rattle.std.specs.Fmt.{decimal}
 use Rattle.std.specs.Int.{w64, saturate_signed}
 use Rattle.std.specs.Int.RustNames.{int_le}
@@ -11,6 +11,8 @@ use Rattle.met_boxes.specs.declared.nearest.Near.{Near}
 use Rattle.protection_zones.specs.Overlaps.{Pair}
 use Rattle.sync_types.specs.Views.{RunView}
 use Rattle.told_places.specs.Places.{place_text}
+use Rattle.zone_pairs.specs.PairTexts.{pairs_text}
+use Rattle.zone_pairs.specs.declared.pairs.ZonePair.{ZonePair}
 
 -- by how much two boxes are apart that reach so far into each other
 abbrev pub apart_of : ℤ → ℤ
@@ -34,16 +36,12 @@ near_text input job run near =
     groups_text near.groups
     ++ (room_text (apart_of near.reach) (margin_left (apart_of near.reach)) ++ (place_text input job run near.left ++ place_text input job run near.right))
 
--- no boxes are compared
-abbrev pub none_text : List Near → List ℕ
-none_text [] = codes "No boxes are compared: the programs keep all of them apart in time, or the job has one group.\n"
-none_text (near ∷ nears) = []
+-- of each two groups, and of each two zones
+unfoldable pub nears_text : List ℕ → JobView → RunView → List Near → List ZonePair → List ℕ
+nears_text input job run rows zones = flat_map (near_text input job run) rows ++ pairs_text zones
 
-unfoldable pub nears_text : List ℕ → JobView → RunView → List Near → List ℕ
-nears_text input job run rows = none_text rows ++ flat_map (near_text input job run) rows
-
--- of each two groups the two boxes of these pairs that come the nearest
-pub record IsYesText (input : List ℕ) (job : JobView) (run : RunView) (pairs : List Pair) (text : List ℕ) : Type 0 where
+-- of each two groups the two boxes of these pairs that come the nearest, and what is told of each two zones
+pub record IsYesText (input : List ℕ) (job : JobView) (run : RunView) (zones : List ZonePair) (pairs : List Pair) (text : List ℕ) : Type 0 where
   pub rows : List Near
   pub nearest : AreNearest job run pairs rows
-  pub told : text ≡ nears_text input job run rows
+  pub told : text ≡ nears_text input job run rows zones

@@ -1,60 +1,47 @@
-//! What an input is answered with: the text, and the number of the status.
-ghost use Rattle.std.specs.Prelude.{◌≡◌, ◌≤◌, All, IfOk, ◌<◌, ◌^◌, length, slice_get};
+//! What an input is answered with: the text, and the status.
+ghost use Rattle.std.specs.Prelude.{◌≡◌, ◌++◌, ◌≤◌, All, IfOk, ◌<◌, ◌^◌, length, slice_get};
 ghost use Rattle.channel_machine.specs.StartStates.{start_of};
-ghost use Rattle.explain.specs.Answers.{IsAnswer, IsJobAnswer, IsRefusalAnswer, status_of};
+ghost use Rattle.explain.specs.Answers.{IsAnswer, IsJobAnswer, IsRefusalAnswer, text_with};
 ghost use Rattle.explain.specs.Drawn.{IsDrawn};
 ghost use Rattle.explain.specs.Explained.{IsExplained};
 ghost use Rattle.explain.specs.Judgements.{IsExplainedBy};
-ghost use Rattle.input_lines.specs.Refusals.{refusal_text};
 ghost use Rattle.job_lines.specs.declared.limits.TheConstants.{DEPTH_LIMIT, INPUT_LIMIT};
 ghost use Rattle.job_types.specs.SoundJob.{BlocksFit, IsSoundJob};
 ghost use Rattle.protection_zones.specs.Told.{IsTold};
 ghost use Rattle.protection_zones.specs.ZoneBoxes.{IsFit};
+ghost use Rattle.ready_copies.specs.Copies.{left_out_text};
+ghost use Rattle.refused_lines.specs.Listing.{refusals_text};
 ghost use Rattle.sync_types.specs.Boards.{first_board};
 ghost use Rattle.sync_types.specs.Runs.{ComesFrom};
 ghost use Rattle.sync_types.specs.Turns.{AreEntries};
 
-use crate::data::{data_of, refusal_data};
+use crate::data::data_of;
 use crate::explaining::explain;
 use crate::judged::Judged;
 use crate::judging::{Judgement, judge_job, met_in};
 use crate::progress::{Stage, Watch};
 use crate::words::Form;
 use channel_machine::start_state;
-use input_lines::{Lines, explain_refusal};
+use exit_statuses::Status;
+use input_lines::Lines;
 use job_types::Job;
 use nc_faults::{NoMemory, Refusal};
+use ready_copies::left_out_text;
+use refused_lines::{RefusedLine, explain_refusals, refused_lines};
 use run_drawing::draw;
 use run_pictures::picture_of;
 use std::alloc::Global;
-use sync_types::Verdict;
-use tape_job::{JobFault, read_job};
+use tape_job::{JobFault, line_refusals, read_job};
+use told_data::refusal_data;
 use told_places::Meeting;
 
-/// The status of a refused input.
-pub(crate) const REFUSED: u8 = 6;
-
-/// A text, and the number of the status that it comes with.
+/// A text, and the status that it comes with.
 #[derive(Drop)]
 pub(crate) struct Answer {
     /// The text.
     pub(crate) text: Vec<u8>,
-    /// The number of the status: that of `turnmill check` on the same input.
-    pub(crate) status: u8,
-}
-
-/// The number of the status of a verdict.
-fn status_of(verdict: &Verdict) -> u8
-    ensures { result ≡ status_of verdict.now }
-{
-    match verdict {
-        Verdict::Yes => 0,
-        Verdict::No(_, _) => 1,
-        Verdict::Race(_) => 2,
-        Verdict::Stuck(_, _) => 3,
-        Verdict::Alarm(_, _) => 4,
-        Verdict::Undecided { .. } => 5,
-    }
+    /// The status: that of `turnmill check` on the same input.
+    pub(crate) status: Status,
 }
 
 /// The drawing of a judged job.
@@ -143,23 +130,24 @@ fn answer_job<W: Watch>(
     let text = text_on(alloc, lines, job, &judgement, met.as_slice(), form)?;
     Ok(Answer {
         text,
-        status: status_of(&judgement.verdict),
+        status: Status::of_verdict(&judgement.verdict),
     })
 }
 
-/// The text on a refused input. There is nothing to draw of it: the text says so.
+/// The text on a refused input, of whose lines these are refused by themselves. There is nothing to draw of it: the text says so.
 fn refused_text(
     alloc: Global,
     lines: &Lines,
     refusal: &Refusal,
+    rows: &[RefusedLine],
     form: Form,
 ) -> Result<Vec<u8>, NoMemory>
-    ensures told { IfOk result (λ text. form ≡ Form.Text → text.items ≡ refusal_text lines.now refusal.now.line refusal.now.code) }
-    ensures undrawn { IfOk result (λ text. form ≡ Form.Drawing → text.items ≡ refusal_text lines.now refusal.now.line refusal.now.code) }
+    ensures told { IfOk result (λ text. form ≡ Form.Text → text.items ≡ refusals_text lines.now refusal.now rows.now) }
+    ensures undrawn { IfOk result (λ text. form ≡ Form.Drawing → text.items ≡ refusals_text lines.now refusal.now rows.now) }
 {
     match form {
-        Form::Data => refusal_data(alloc, lines, refusal),
-        Form::Text | Form::Drawing => explain_refusal(alloc, lines, refusal),
+        Form::Data => refusal_data(alloc, lines, refusal, rows),
+        Form::Text | Form::Drawing => explain_refusals(alloc, lines, refusal, rows),
     }
 }
 
@@ -167,16 +155,46 @@ fn refused_text(
 fn answer_refusal(
     alloc: Global,
     lines: &Lines,
+    input: &[u8],
     refusal: &Refusal,
     form: Form,
 ) -> Result<Answer, NoMemory>
-    ensures { IfOk result (λ answer. IsRefusalAnswer form lines.now refusal.now answer.text.items answer.status) }
+    requires short { length input.now ≤ INPUT_LIMIT }
+    requires same { lines.now ≡ input.now }
+    ensures { IfOk result (λ answer. IsRefusalAnswer form input.now refusal.now answer.text.items answer.status) }
 {
-    let text = refused_text(alloc, lines, refusal, form)?;
+    let refusals = line_refusals(alloc, input)?;
+    let rows = refused_lines(alloc, lines, refusals.as_slice())?;
+    let text = refused_text(alloc, lines, refusal, rows.as_slice(), form)?;
     Ok(Answer {
         text,
-        status: REFUSED,
+        status: Status::Refused,
     })
+}
+
+/// Adds to an answer how many lines the input has left out.
+fn with_left_out_text(alloc: Global, input: &[u8], answer: Answer) -> Result<Answer, NoMemory>
+    ensures { IfOk result (λ told. (told.text.items ≡ answer.text.items ++ left_out_text input.now) × (told.status ≡ answer.status)) }
+{
+    let Answer { mut text, status } = answer;
+    let left_out = left_out_text(alloc, input)?;
+    text.extend_from_slice(left_out.as_slice())?;
+    Ok(Answer { text, status })
+}
+
+/// Adds to an answer how many lines the input has left out, where it is plain text.
+fn with_left_out(
+    alloc: Global,
+    input: &[u8],
+    form: Form,
+    answer: Answer,
+) -> Result<Answer, NoMemory>
+    ensures { IfOk result (λ told. (told.text.items ≡ text_with form input.now answer.text.items) × (told.status ≡ answer.status)) }
+{
+    match form {
+        Form::Text => with_left_out_text(alloc, input, answer),
+        Form::Drawing | Form::Data => Ok(answer),
+    }
 }
 
 /// Explains an input. `NoMemory` where too little memory is found.
@@ -192,8 +210,11 @@ pub(crate) fn answer_input<W: Watch>(
     watch.begins(Stage::Reading);
     let lines = Lines::of(alloc, input)?;
     match read_job(alloc, input) {
-        Ok(job) => answer_job(alloc, &lines, &job, form, watch),
-        Err(JobFault::Refused(refusal)) => answer_refusal(alloc, &lines, &refusal, form),
+        Ok(job) => {
+            let answer = answer_job(alloc, &lines, &job, form, watch)?;
+            with_left_out(alloc, input, form, answer)
+        }
+        Err(JobFault::Refused(refusal)) => answer_refusal(alloc, &lines, input, &refusal, form),
         Err(JobFault::NoMemory) => Err(NoMemory),
     }
 }

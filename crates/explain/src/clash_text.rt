@@ -9,6 +9,7 @@ ghost use Rattle.protection_zones.specs.ZoneBoxes.{IsFit};
 
 use crate::judged::Judged;
 use crate::line_texts::{LineTexts, say_known, texts_of};
+use axis_sets::ChannelId;
 use box_clashes::{Clash, clash_of};
 use growing_text::Text;
 use job_types::Job;
@@ -17,6 +18,7 @@ use micro_units::Um;
 use nc_faults::NoMemory;
 use std::alloc::Global;
 use swept_boxes::Box3;
+use sync_types::StretchKind;
 use told_places::{Meeting, Place, Told, say_box, say_direction, say_place, say_span, say_zone};
 
 /// Says in which blocks two zones can meet, and where: in three to five lines.
@@ -125,14 +127,37 @@ fn say_depth(text: &mut Text, depth: u8, more: Option<u8>)
     }
 }
 
+/// Says that both zones are of this channel.
+#[tactic(auto, unfolding(crate::specs::Clashes::one_channel_text))]
+fn say_one_channel(text: &mut Text, channel: ChannelId)
+    ensures { text.new ≡ text.old ++ model.one_channel_text channel }
+{
+    text.say("  one group for both, if they may touch: both are of channel ");
+    text.number(u64::from(channel.number));
+    text.say("\n");
+}
+
+/// Says that one channel holds both zones, where that is so.
+#[tactic(auto, unfolding(crate::specs::Clashes::holders_text))]
+fn say_holders(text: &mut Text, one: Option<ChannelId>, other: Option<ChannelId>)
+    ensures { text.new ≡ text.old ++ model.holders_text one other }
+{
+    if let (Some(one), Some(other)) = (one, other) {
+        if one == other {
+            say_one_channel(text, one);
+        }
+    }
+}
+
 /// Says by what two boxes would be apart.
 #[tactic(auto, unfolding(crate::specs::Clashes::ways_text))]
-fn say_ways(text: &mut Text, job: &Job, clash: &Clash)
-    ensures { text.new ≡ text.old ++ model.ways_text job.now clash.now }
+fn say_ways(text: &mut Text, job: &Job, met: &Meeting, clash: &Clash)
+    ensures { text.new ≡ text.old ++ model.ways_text job.now met.now clash.now }
 {
     say_shift(text, clash);
     say_margin(text, job.margin, clash.margin);
     say_depth(text, job.depth, clash.depth);
+    say_holders(text, met.left.name.channel, met.right.name.channel);
 }
 
 /// Says the first two boxes that meet, and by what they would be apart.
@@ -143,7 +168,18 @@ fn say_first(text: &mut Text, told: &Told, first: &Meeting, clash: &Clash)
     say_head(text, told, first, &clash.common);
     say_boxes(text, first);
     say_times(text, told, first);
-    say_ways(text, told.job, clash);
+    say_ways(text, told.job, first, clash);
+}
+
+/// Says that a zone only stands where its channel has left it, where that has ended.
+#[tactic(auto, unfolding(crate::specs::Clashes::stays_text))]
+fn say_stays(text: &mut Text, kind: StretchKind)
+    ensures { text.new ≡ text.old ++ model.stays_text kind }
+{
+    match kind {
+        StretchKind::End => text.say(" (stands there until the end)"),
+        StretchKind::Idle | StretchKind::Run | StretchKind::Hold | StretchKind::Free => {}
+    }
 }
 
 /// Says a box in short.
@@ -154,6 +190,7 @@ fn say_short(text: &mut Text, told: &Told, known: &LineTexts, place: &Place)
 {
     say_zone(text, place);
     say_known(text, told, known, place.name.line);
+    say_stays(text, place.name.kind);
 }
 
 /// Says a pair of lines that meets, and how often.
@@ -228,28 +265,28 @@ fn first_told(
     mut text: Text,
     first: &Meeting,
     others: &[Meeting],
-) -> Result<Vec<u8>, NoMemory>
+) -> Result<Text, NoMemory>
     requires sound { IsSoundJob judged.now.job.now }
     requires fit { All (All IsFit) judged.now.run.now.items }
     requires all { judged.now.met.now ≡ first.now ∷ others.now }
-    ensures { IfOk result (λ all. IsHeaded text (model.IsNoText judged.now.lines.now judged.now.job.now judged.now.run.now first.now others.now) all.items) }
+    ensures { IfOk result (λ all. IsHeaded text (model.IsNoText judged.now.lines.now judged.now.job.now judged.now.run.now first.now others.now) all) }
 {
     let clash = clash_of(judged.job, judged.run, first);
     let groups = groups_of(alloc, judged.met)?;
     let known = texts_of(alloc, &judged.told(), judged.met, groups.as_slice())?;
     say_met(&mut text, judged, &known, first, &clash, groups.as_slice());
-    text.finish()
+    Ok(text)
 }
 
 /// A text, and after it what is said of the verdict NO: the first two boxes that meet, by what they would be apart, and all pairs of
 /// lines that meet.
-pub(crate) fn no_told(alloc: Global, judged: &Judged, text: Text) -> Result<Vec<u8>, NoMemory>
+pub(crate) fn no_told(alloc: Global, judged: &Judged, text: Text) -> Result<Text, NoMemory>
     requires sound { IsSoundJob judged.now.job.now }
     requires fit { All (All IsFit) judged.now.run.now.items }
-    ensures { IfOk result (λ all. IsHeaded text (model.IsMetText judged.now.lines.now judged.now.job.now judged.now.run.now judged.now.met.now) all.items) }
+    ensures { IfOk result (λ all. IsHeaded text (model.IsMetText judged.now.lines.now judged.now.job.now judged.now.run.now judged.now.met.now) all) }
 {
     match judged.met {
         [first, others @ ..] => first_told(alloc, judged, text, first, others),
-        [] => text.finish(),
+        [] => Ok(text),
     }
 }

@@ -4,7 +4,7 @@ ghost use Rattle.channel_machine.specs.StartStates.{start_of};
 ghost use Rattle.clash_check.specs.PairNumbers.{numbers_of};
 ghost use Rattle.explain.specs.Clashes.{IsMetText};
 ghost use Rattle.explain.specs.Explained as model;
-ghost use Rattle.explain.specs.Headlines.{headline};
+ghost use Rattle.explain.specs.Headlines.{headline, yes_line};
 ghost use Rattle.explain.specs.Numbers.{IsUndecidedText};
 ghost use Rattle.explain.specs.Room.{IsYesText};
 ghost use Rattle.job_types.specs.SoundJob.{BlocksFit, IsSoundJob};
@@ -12,6 +12,7 @@ ghost use Rattle.order_clocks.specs.Tells.{is_before_in};
 ghost use Rattle.protection_zones.specs.Overlaps.{compared_pairs};
 ghost use Rattle.protection_zones.specs.Told.{IsTold};
 ghost use Rattle.protection_zones.specs.ZoneBoxes.{IsFit};
+ghost use Rattle.run_assumptions.specs.Assumptions.{assumptions_of};
 ghost use Rattle.stop_reasons.specs.Alarms.{alarm_text};
 ghost use Rattle.stop_reasons.specs.RaceTexts.{race_text};
 ghost use Rattle.stop_reasons.specs.Stuck.{last_board, stuck_text};
@@ -20,37 +21,39 @@ ghost use Rattle.sync_types.specs.Runs.{ComesFrom};
 ghost use Rattle.sync_types.specs.Turns.{AreEntries};
 
 use crate::clash_text::no_told;
-use crate::headlines::say_headline;
+use crate::headlines::{say_headline, say_yes_line};
 use crate::judged::Judged;
 use crate::other_texts::{undecided_told, yes_told};
 use alarm_states::{AlarmState, alarm_state, say_state};
 use axis_sets::ChannelId;
 use growing_text::Text;
+use met_boxes::zone_pairs_of;
 use nc_faults::NoMemory;
+use run_assumptions::{Assumed, assumptions_of, say_assumptions};
 use std::alloc::Global;
 use stop_reasons::{say_alarm, say_race, say_stuck};
 use sync_types::{Race, Verdict};
 use told_places::Told;
 
 /// The explanation of RACE.
-fn race_explained(alloc: Global, judged: &Judged, race: &Race) -> Result<Vec<u8>, NoMemory>
-    ensures { IfOk result (λ text. text.items ≡ race_text judged.now.lines.now judged.now.job.now race.now) }
+fn race_explained(alloc: Global, judged: &Judged, race: &Race) -> Text
+    ensures { result ≡ race_text judged.now.lines.now judged.now.job.now race.now }
 {
     let mut text = Text::new(alloc);
     say_race(&mut text, &judged.told(), race);
-    text.finish()
+    text
 }
 
 /// The explanation of STUCK of this channel.
-fn stuck_explained(alloc: Global, judged: &Judged, channel: ChannelId) -> Result<Vec<u8>, NoMemory>
+fn stuck_explained(alloc: Global, judged: &Judged, channel: ChannelId) -> Text
     requires few { length judged.now.run.now.entries < 2 ^ 32 }
     requires comes { ComesFrom judged.now.start.now judged.now.run.now }
-    ensures { IfOk result (λ text. text.items
-        ≡ stuck_text judged.now.lines.now judged.now.job.now judged.now.run.now (last_board judged.now.start.now judged.now.run.now) channel) }
+    ensures { result
+        ≡ stuck_text judged.now.lines.now judged.now.job.now judged.now.run.now (last_board judged.now.start.now judged.now.run.now) channel }
 {
     let mut text = Text::new(alloc);
     say_stuck(&mut text, &judged.told(), judged.start, channel);
-    text.finish()
+    text
 }
 
 /// Says what an alarmed block found; nothing where that is not known.
@@ -97,36 +100,31 @@ fn say_found(text: &mut Text, channel: ChannelId, found: &[u8])
 }
 
 /// The explanation of ALARM of this channel, whose block found this.
-fn alarm_told(
-    alloc: Global,
-    judged: &Judged,
-    channel: ChannelId,
-    found: &[u8],
-) -> Result<Vec<u8>, NoMemory>
+fn alarm_told(alloc: Global, judged: &Judged, channel: ChannelId, found: &[u8]) -> Text
     requires few { length judged.now.run.now.entries < 2 ^ 32 }
     requires comes { ComesFrom judged.now.start.now judged.now.run.now }
-    ensures { IfOk result (λ text. text.items
+    ensures { result
         ≡ alarm_text judged.now.lines.now judged.now.job.now judged.now.run.now (last_board judged.now.start.now judged.now.run.now) channel
-        ++ model.found_text channel found.now) }
+        ++ model.found_text channel found.now }
 {
     let mut text = Text::new(alloc);
     say_alarm(&mut text, &judged.told(), judged.start, channel);
     say_found(&mut text, channel, found);
-    text.finish()
+    text
 }
 
 /// The explanation of ALARM of this channel: why alarms stop channels, and what the block of this one found.
-fn alarm_explained(alloc: Global, judged: &Judged, channel: ChannelId) -> Result<Vec<u8>, NoMemory>
+fn alarm_explained(alloc: Global, judged: &Judged, channel: ChannelId) -> Result<Text, NoMemory>
     requires sound { IsSoundJob judged.now.job.now }
     requires blocks { BlocksFit judged.now.job.now }
     requires few { length judged.now.run.now.entries < 2 ^ 32 }
     requires comes { ComesFrom judged.now.start.now judged.now.run.now }
     requires made { AreEntries (first_board (start_of judged.now.job.now)) judged.now.run.now.entries }
-    ensures { IfOk result (λ text. model.IsAlarmText judged.now.lines.now judged.now.job.now judged.now.start.now judged.now.run.now channel text.items) }
+    ensures { IfOk result (λ text. model.IsAlarmText judged.now.lines.now judged.now.job.now judged.now.start.now judged.now.run.now channel text) }
 {
     let state = alarm_state(alloc, judged.job, judged.run, channel)?;
     let found = state_told(alloc, judged, &state)?;
-    alarm_told(alloc, judged, channel, found.as_slice())
+    Ok(alarm_told(alloc, judged, channel, found.as_slice()))
 }
 
 /// A verdict in one line, which more is to be said of.
@@ -139,37 +137,80 @@ fn headed(alloc: Global, verdict: &Verdict) -> Text
 }
 
 /// The explanation of NO.
-fn no_explained(alloc: Global, judged: &Judged) -> Result<Vec<u8>, NoMemory>
+fn no_explained(alloc: Global, judged: &Judged) -> Result<Text, NoMemory>
     requires sound { IsSoundJob judged.now.job.now }
     requires fit { All (All IsFit) judged.now.run.now.items }
     ensures { IfOk result (λ text. model.IsHeaded (headline judged.now.verdict.now)
-        (IsMetText judged.now.lines.now judged.now.job.now judged.now.run.now judged.now.met.now) text.items) }
+        (IsMetText judged.now.lines.now judged.now.job.now judged.now.run.now judged.now.met.now) text) }
 {
     no_told(alloc, judged, headed(alloc, judged.verdict))
 }
 
 /// The explanation of UNDECIDED.
-fn undecided_explained(alloc: Global, judged: &Judged) -> Result<Vec<u8>, NoMemory>
+fn undecided_explained(alloc: Global, judged: &Judged) -> Result<Text, NoMemory>
     requires whole { IsTold judged.now.job.now judged.now.run.now judged.now.stretches.now judged.now.clocks.now }
     ensures { IfOk result (λ text. model.IsHeaded (headline judged.now.verdict.now)
-        (IsUndecidedText (numbers_of (is_before_in judged.now.clocks.now.rows) judged.now.job.now judged.now.stretches.now)) text.items) }
+        (IsUndecidedText (numbers_of (is_before_in judged.now.clocks.now.rows) judged.now.job.now judged.now.stretches.now)) text) }
 {
     undecided_told(alloc, judged, headed(alloc, judged.verdict))
 }
 
 /// The explanation of YES.
-fn yes_explained(alloc: Global, judged: &Judged) -> Result<Vec<u8>, NoMemory>
+fn yes_explained(alloc: Global, judged: &Judged) -> Result<Text, NoMemory>
     requires sound { IsSoundJob judged.now.job.now }
     requires whole { IsTold judged.now.job.now judged.now.run.now judged.now.stretches.now judged.now.clocks.now }
     requires fit { All (All IsFit) judged.now.run.now.items }
-    ensures { IfOk result (λ text. model.IsHeaded (headline judged.now.verdict.now)
+    ensures { IfOk result (λ text. model.IsHeaded
+        (yes_line (model.zones_told judged.now.job.now judged.now.run.now judged.now.clocks.now judged.now.stretches.now))
         (IsYesText judged.now.lines.now judged.now.job.now judged.now.run.now
-        (compared_pairs (is_before_in judged.now.clocks.now.rows) judged.now.job.now judged.now.stretches.now)) text.items) }
+        (model.zones_told judged.now.job.now judged.now.run.now judged.now.clocks.now judged.now.stretches.now)
+        (compared_pairs (is_before_in judged.now.clocks.now.rows) judged.now.job.now judged.now.stretches.now)) text) }
 {
-    yes_told(alloc, judged, headed(alloc, judged.verdict))
+    let zones = zone_pairs_of(
+        alloc,
+        judged.job,
+        judged.run,
+        judged.stretches,
+        judged.clocks,
+    )?;
+    let mut text = Text::new(alloc);
+    say_yes_line(&mut text, zones.as_slice());
+    yes_told(alloc, judged, zones.as_slice(), text)
 }
 
-/// The explanation of the verdict on a judged job, in plain text: the verdict in one line, and why.
+/// What is said of the verdict on a judged job: the verdict in one line, and why.
+fn verdict_explained(alloc: Global, judged: &Judged) -> Result<Text, NoMemory>
+    requires sound { IsSoundJob judged.now.job.now }
+    requires blocks { BlocksFit judged.now.job.now }
+    requires whole { IsTold judged.now.job.now judged.now.run.now judged.now.stretches.now judged.now.clocks.now }
+    requires fit { All (All IsFit) judged.now.run.now.items }
+    requires few { length judged.now.run.now.entries < 2 ^ 32 }
+    requires comes { ComesFrom judged.now.start.now judged.now.run.now }
+    requires made { AreEntries (first_board (start_of judged.now.job.now)) judged.now.run.now.entries }
+    ensures { IfOk result (λ text. model.IsVerdictText judged.now.lines.now judged.now.job.now judged.now.start.now judged.now.run.now judged.now.clocks.now
+        judged.now.stretches.now judged.now.met.now judged.now.verdict.now text) }
+{
+    match judged.verdict {
+        Verdict::Race(race) => Ok(race_explained(alloc, judged, race)),
+        Verdict::Alarm(channel, _) => alarm_explained(alloc, judged, *channel),
+        Verdict::Stuck(channel, _) => Ok(stuck_explained(alloc, judged, *channel)),
+        Verdict::Undecided { .. } => undecided_explained(alloc, judged),
+        Verdict::No(_, _) => no_explained(alloc, judged),
+        Verdict::Yes => yes_explained(alloc, judged),
+    }
+}
+
+/// Says what the run of a judged job takes for granted.
+#[tactic(auto, unfolding(crate::specs::Explained::granted_text))]
+fn say_granted(text: &mut Text, judged: &Judged, rows: &[Assumed])
+    requires { rows.now ≡ assumptions_of judged.now.job.now judged.now.run.now }
+    ensures { text.new ≡ text.old ++ model.granted_text judged.now.lines.now judged.now.job.now judged.now.run.now }
+{
+    say_assumptions(text, &judged.told(), rows);
+}
+
+/// The explanation of the verdict on a judged job, in plain text: the verdict in one line, and why; and below it what the run takes for
+/// granted.
 pub(crate) fn explain(alloc: Global, judged: &Judged) -> Result<Vec<u8>, NoMemory>
     requires sound { IsSoundJob judged.now.job.now }
     requires blocks { BlocksFit judged.now.job.now }
@@ -181,12 +222,8 @@ pub(crate) fn explain(alloc: Global, judged: &Judged) -> Result<Vec<u8>, NoMemor
     ensures { IfOk result (λ text. model.IsExplained judged.now.lines.now judged.now.job.now judged.now.start.now judged.now.run.now judged.now.clocks.now
         judged.now.stretches.now judged.now.met.now judged.now.verdict.now text.items) }
 {
-    match judged.verdict {
-        Verdict::Race(race) => race_explained(alloc, judged, race),
-        Verdict::Alarm(channel, _) => alarm_explained(alloc, judged, *channel),
-        Verdict::Stuck(channel, _) => stuck_explained(alloc, judged, *channel),
-        Verdict::Undecided { .. } => undecided_explained(alloc, judged),
-        Verdict::No(_, _) => no_explained(alloc, judged),
-        Verdict::Yes => yes_explained(alloc, judged),
-    }
+    let mut text = verdict_explained(alloc, judged)?;
+    let rows = assumptions_of(alloc, judged.job, judged.run)?;
+    say_granted(&mut text, judged, rows.as_slice());
+    text.finish()
 }

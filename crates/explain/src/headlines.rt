@@ -5,6 +5,7 @@ ghost use Rattle.explain.specs.Headlines as model;
 use axis_sets::ChannelId;
 use growing_text::Text;
 use sync_types::{PlaceName, Verdict};
+use zone_pairs::{ZonePair, is_none_compared, say_none_compared};
 
 /// Says who holds a zone.
 #[tactic(auto, unfolding(crate::specs::Headlines::holder_text))]
@@ -90,5 +91,17 @@ pub(crate) fn say_headline(text: &mut Text, verdict: &Verdict)
         Verdict::Yes => text.say(
             "YES: no two zones of different groups can meet, at whatever speed each channel runs.\n",
         ),
+    }
+}
+
+/// Says the verdict YES. Where no boxes of any two zones were compared, it says so, and why.
+#[tactic(auto, unfolding(crate::specs::Headlines::yes_line))]
+pub(crate) fn say_yes_line(text: &mut Text, zones: &[ZonePair])
+    ensures { text.new ≡ text.old ++ model.yes_line zones.now }
+{
+    if is_none_compared(zones) {
+        say_none_compared(text, zones);
+    } else {
+        say_headline(text, &Verdict::Yes);
     }
 }

@@ -5,19 +5,22 @@ mod answers;
 mod calls;
 mod clash_text;
 mod data;
-mod data_meetings;
-mod data_places;
+mod data_waits;
+mod ends;
 mod explaining;
 mod files;
 mod headlines;
+mod joins;
 mod judged;
 mod judging;
 mod line_texts;
 mod other_texts;
 mod progress;
+mod refusal_lines;
 mod words;
 
 use calls::answer_arguments;
+use ends::Ends;
 use std::env;
 use std::io::IsTerminal;
 use std::process::ExitCode;
@@ -25,6 +28,12 @@ use std::process::ExitCode;
 /// Explains the job that the words of the command line name. The answer goes to standard output, and what is wrong with words or
 /// files to standard error.
 fn main(rt: HostRuntime) -> ExitCode {
-    let is_told = rt.stderr().is_terminal();
-    ExitCode::from(answer_arguments(&rt, rt.alloc(), env::args(&rt), is_told))
+    let error = rt.stderr();
+    let ends = Ends {
+        rt: &rt,
+        error: &error,
+        alloc: rt.alloc(),
+        is_told: error.is_terminal(),
+    };
+    ExitCode::from(answer_arguments(&ends, env::args(&rt)))
 }

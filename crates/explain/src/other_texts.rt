@@ -18,6 +18,7 @@ use met_boxes::{Near, nearest_of};
 use nc_faults::NoMemory;
 use std::alloc::Global;
 use told_places::{Told, say_place};
+use zone_pairs::{ZonePair, say_zone_pairs};
 
 /// By how much two boxes are apart that reach so far into each other.
 pub(crate) fn apart_of(reach: i64) -> i64
@@ -78,33 +79,28 @@ fn say_all_near(text: &mut Text, told: &Told, rows: &[Near])
     }
 }
 
-/// Says that no boxes are compared, where that is so.
-fn say_none(text: &mut Text, rows: &[Near])
-    ensures { text.new ≡ text.old ++ room.none_text rows.now }
-{
-    if rows.is_empty() {
-        text.say(
-            "No boxes are compared: the programs keep all of them apart in time, or the job has one group.\n",
-        );
-    }
-}
-
-/// Says how near each two groups come to each other, or that no boxes are compared.
+/// Says how near each two groups come to each other, and of each two zones whether they were compared.
 #[tactic(auto, unfolding(crate::specs::Room::nears_text))]
-fn say_nears(text: &mut Text, told: &Told, rows: &[Near])
-    ensures { text.new ≡ text.old ++ room.nears_text told.now.lines.now told.now.job.now told.now.run.now rows.now }
+fn say_nears(text: &mut Text, told: &Told, rows: &[Near], zones: &[ZonePair])
+    ensures { text.new ≡ text.old ++ room.nears_text told.now.lines.now told.now.job.now told.now.run.now rows.now zones.now }
 {
-    say_none(text, rows);
     say_all_near(text, told, rows);
+    say_zone_pairs(text, zones);
 }
 
-/// A text, and after it what is said of the verdict YES: how near the compared boxes of each two groups come.
-pub(crate) fn yes_told(alloc: Global, judged: &Judged, mut text: Text) -> Result<Vec<u8>, NoMemory>
+/// A text, and after it what is said of the verdict YES: how near the compared boxes of each two groups come, and of each two zones
+/// what is told of them.
+pub(crate) fn yes_told(
+    alloc: Global,
+    judged: &Judged,
+    zones: &[ZonePair],
+    mut text: Text,
+) -> Result<Text, NoMemory>
     requires sound { IsSoundJob judged.now.job.now }
     requires whole { IsTold judged.now.job.now judged.now.run.now judged.now.stretches.now judged.now.clocks.now }
     requires fit { All (All IsFit) judged.now.run.now.items }
-    ensures { IfOk result (λ all. IsHeaded text (room.IsYesText judged.now.lines.now judged.now.job.now judged.now.run.now
-        (compared_pairs (is_before_in judged.now.clocks.now.rows) judged.now.job.now judged.now.stretches.now)) all.items) }
+    ensures { IfOk result (λ all. IsHeaded text (room.IsYesText judged.now.lines.now judged.now.job.now judged.now.run.now zones.now
+        (compared_pairs (is_before_in judged.now.clocks.now.rows) judged.now.job.now judged.now.stretches.now)) all) }
 {
     let rows = nearest_of(
         alloc,
@@ -113,8 +109,8 @@ pub(crate) fn yes_told(alloc: Global, judged: &Judged, mut text: Text) -> Result
         judged.stretches,
         judged.clocks,
     )?;
-    say_nears(&mut text, &judged.told(), rows.as_slice());
-    text.finish()
+    say_nears(&mut text, &judged.told(), rows.as_slice(), zones);
+    Ok(text)
 }
 
 /// Says how many pairs of two zones are to be compared.
@@ -157,12 +153,12 @@ pub(crate) fn undecided_told(
     alloc: Global,
     judged: &Judged,
     mut text: Text,
-) -> Result<Vec<u8>, NoMemory>
+) -> Result<Text, NoMemory>
     requires whole { IsTold judged.now.job.now judged.now.run.now judged.now.stretches.now judged.now.clocks.now }
     ensures { IfOk result (λ all. IsHeaded text (numbers.IsUndecidedText
-        (numbers_of (is_before_in judged.now.clocks.now.rows) judged.now.job.now judged.now.stretches.now)) all.items) }
+        (numbers_of (is_before_in judged.now.clocks.now.rows) judged.now.job.now judged.now.stretches.now)) all) }
 {
     let rows = pair_numbers(alloc, judged.job, judged.stretches, judged.clocks)?;
     say_numbers(&mut text, rows.as_slice());
-    text.finish()
+    Ok(text)
 }

@@ -1,6 +1,6 @@
 //! The words of a call, and what they ask for.
-use clap::{Arg, ArgAction, ArgMatches, Command, Error};
-use std::alloc::Global;
+use clap::{Arg, ArgAction, ArgGroup, ArgMatches, Command, Error};
+use std::alloc::{AllocError, Global};
 
 /// In which form a job is explained.
 #[derive(Clone, Copy, PartialEq, Eq)]
@@ -13,75 +13,104 @@ pub(crate) enum Form {
     Data,
 }
 
-/// What a call is asked for, of files as they are named.
-#[derive(Drop)]
-pub(crate) enum Request<'a> {
+/// What a call is asked for.
+#[derive(Clone, Copy, PartialEq, Eq)]
+pub(crate) enum Task {
     /// To explain a job in this form.
-    Explain(Form, Vec<&'a str>),
-    /// To join a job list and programs to one input.
-    Join(Vec<&'a str>),
+    Explain(Form),
+    /// To join a job list and the files of a control to one job.
+    Join,
+    /// To copy a job with the refused lines that move nothing as comments.
+    Ready,
+    /// To list the refused lines of a job for an editor.
+    Lines,
 }
 
-/// The words that the program takes.
-fn command<'a>(alloc: Global) -> Result<Command<'a>, Error> {
-    let files = Arg::new(alloc, "files")
+/// What a call is asked for, and the files that it names: a job, or a job list and the files of a control after it.
+#[derive(Drop)]
+pub(crate) struct Request<'a> {
+    pub(crate) task: Task,
+    pub(crate) names: Vec<&'a str>,
+}
+
+/// A word that asks for something.
+fn flag<'a>(alloc: Global, name: &'a str, help: &'a str) -> Arg<'a> {
+    Arg::new(alloc, name)
+        .long(name)
+        .help(help)
+        .action(ArgAction::SetTrue)
+}
+
+/// The names of files.
+fn files<'a>(alloc: Global) -> Arg<'a> {
+    Arg::new(alloc, "files")
         .value_name("FILE")
-        .help("The job; - is standard input")
+        .help("A job, or a job list and the files of a control; - is standard input")
         .required(true)
         .action(ArgAction::Append)
-        .num_args(1..);
-    let svg = Arg::new(alloc, "svg")
-        .long("svg")
-        .help("Draws the run of the job as SVG")
-        .action(ArgAction::SetTrue);
-    let json = Arg::new(alloc, "json")
-        .long("json")
-        .help("Gives the same facts as JSON")
-        .action(ArgAction::SetTrue)
-        .conflicts_with("svg")?;
-    let join = Arg::new(alloc, "join")
-        .long("join")
-        .help("Joins a job list and files of a control to one job")
-        .action(ArgAction::SetTrue)
-        .conflicts_with("svg")?
-        .conflicts_with("json")?;
-    let command = Command::new(alloc, "explain")
-        .about("Says why a job has its verdict")
-        .arg(svg)?
-        .arg(json)?
-        .arg(join)?
-        .arg(files)?;
-    Ok(command)
+        .num_args(1..)
 }
 
-/// The form that matches ask for.
-fn form_of(matches: &ArgMatches) -> Form {
-    if matches.get_flag("svg") {
-        Form::Drawing
+/// The words that the program takes; of the flags one at most.
+fn command<'a>(alloc: Global) -> Result<Command<'a>, AllocError> {
+    let forms = ArgGroup::new(alloc, "forms")
+        .arg("svg")?
+        .arg("json")?
+        .arg("join")?
+        .arg("ready")?
+        .arg("lines")?;
+    Command::new(alloc, "explain")
+        .about("Says why a job has its verdict")
+        .arg(flag(alloc, "svg", "Draws the run of the job as SVG"))?
+        .arg(flag(alloc, "json", "Gives the same facts as JSON"))?
+        .arg(flag(
+            alloc,
+            "join",
+            "Joins a job list and files of a control to one job",
+        ))?
+        .arg(flag(
+            alloc,
+            "ready",
+            "Copies the job with refused lines that move nothing as comments",
+        ))?
+        .arg(flag(alloc, "lines", "Lists each refused line as FILE:LINE: text"))?
+        .arg(files(alloc))?
+        .group(forms)
+}
+
+/// What matches ask for.
+fn task_of(matches: &ArgMatches) -> Task {
+    if matches.get_flag("join") {
+        Task::Join
+    } else if matches.get_flag("ready") {
+        Task::Ready
+    } else if matches.get_flag("lines") {
+        Task::Lines
+    } else if matches.get_flag("svg") {
+        Task::Explain(Form::Drawing)
     } else if matches.get_flag("json") {
-        Form::Data
+        Task::Explain(Form::Data)
     } else {
-        Form::Text
+        Task::Explain(Form::Text)
     }
 }
 
 /// The files that matches name.
-fn files_of<'a>(alloc: Global, matches: &ArgMatches<'a>) -> Result<Vec<&'a str>, Error> {
-    let mut files = Vec::new(alloc);
-    if let Some(names) = matches.get_strs("files") {
-        files.extend_from_slice(names)?;
+fn names_of<'a>(alloc: Global, matches: &ArgMatches<'a>) -> Result<Vec<&'a str>, AllocError> {
+    let mut names = Vec::new(alloc);
+    if let Some(files) = matches.get_strs("files") {
+        names.extend_from_slice(files)?;
     }
-    Ok(files)
+    Ok(names)
 }
 
 /// What the words ask for.
 pub(crate) fn request_of<'a>(alloc: Global, words: &'a [&'a str]) -> Result<Request<'a>, Error> {
     let command = command(alloc)?;
     let matches = command.try_get_matches_from(words)?;
-    let files = files_of(alloc, &matches)?;
-    if matches.get_flag("join") {
-        Ok(Request::Join(files))
-    } else {
-        Ok(Request::Explain(form_of(&matches), files))
-    }
+    let names = names_of(alloc, &matches)?;
+    Ok(Request {
+        task: task_of(&matches),
+        names,
+    })
 }

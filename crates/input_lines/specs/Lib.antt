@@ -3,5 +3,4 @@ pub mod Headers
 pub mod Lines
 pub mod Numbers
 pub mod Origins
-pub mod Refusals
 pub mod Trimmed

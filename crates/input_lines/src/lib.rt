@@ -1,5 +1,5 @@
-//! The lines of an input as they were written: their texts, their block numbers and the files that they come from; and why an
-//! input is refused, in plain text.
+//! The lines of an input as they were written: their texts, their block numbers and the files that they come from; and what
+//! refusals and alarms are called, when they come and what to do.
 #![tactic(auto)]
 
 mod advice;
@@ -7,7 +7,6 @@ mod headers;
 mod lines;
 mod numbers;
 mod origins;
-mod refusal_text;
 mod tables;
 
 pub use advice::{
@@ -16,4 +15,3 @@ pub use advice::{
 pub use lines::Lines;
 pub use numbers::block_number;
 pub use origins::{Origin, origin_of, say_origin};
-pub use refusal_text::{explain_refusal, fault_place};

@@ -40,13 +40,13 @@ pub(crate) static REFUSALS: [Row; 40] = [
         4,
         "unknown job line",
         "The first word begins no job line, the line has too few or too many words, be it by a blank, or another word stands in the place of START, ON, OFF or CONTOUR.",
-        "Count the words, and compare the line with its form in job-list.md. Look at the slips.",
+        "Count the words, and compare the line with its form in docs/job-list.md. Look at docs/refusals.md, Slips in job lines.",
     ),
     (
         5,
         "number out of range",
         "A number, a name of an axis, a slot, a G word, an owner, a holder, a carrier or a length is not of its form or not in its range; or the low end of a zone is above its high end.",
-        "Correct the value. Whole numbers have no leading zero and no sign; lengths have a digit before the point. Look at the slips.",
+        "Correct the value. Whole numbers have no leading zero and no sign; lengths have a digit before the point. Look at docs/refusals.md, Slips in job lines.",
     ),
     (
         6,
@@ -94,7 +94,7 @@ pub(crate) static REFUSALS: [Row; 40] = [
         22,
         "block not readable",
         "The line can't be read on at some place, and no other code says more: a missing operand or value, a comma for a point, a comment in parentheses, a bracket that does not fit, a second comparison, a parameter above R999 or with a point in its number, a name of more than 32 characters, a number with an exponent, a word out of its form.",
-        "Look at the slips. Compare the block with its form in language.md.",
+        "Look at docs/refusals.md, Slips in blocks. Compare the block with its form in docs/language.md.",
     ),
     (
         23,
@@ -106,7 +106,7 @@ pub(crate) static REFUSALS: [Row; 40] = [
         24,
         "statement not alone",
         "Something stands after a form that has ended, or such a form stands in a block of words. A word that turnmill does not know is read as a call, which ends with its name: what follows it is refused, as in POS[Z3]=50.",
-        "Give the statement a block of its own. For a word that is not known see the slips.",
+        "Give the statement a block of its own. For a word that is not known see docs/refusals.md, Slips in blocks.",
     ),
     (
         25,
@@ -124,7 +124,7 @@ pub(crate) static REFUSALS: [Row; 40] = [
         27,
         "unknown address",
         "A letter or a name stands where a word should begin, and begins none. It may be a word of the control that turnmill does not know.",
-        "Correct the address. A program of that name is called in a block of its own. A word that only tunes the motion is left out: the slips.",
+        "Correct the address. A program of that name is called in a block of its own. A word that only tunes the motion is left out: docs/refusals.md, Slips in blocks.",
     ),
     (
         40,
@@ -227,13 +227,13 @@ pub(crate) static REFUSALS: [Row; 40] = [
         57,
         "word not supported",
         "G with a number that no group has, or GOTOS, CALL, PCALL, EXTCALL, EXTERN or ENDLABEL.",
-        "Take a word of language.md.",
+        "Take a word of docs/language.md.",
     ),
     (
         58,
         "call with arguments not supported",
         "A call has something in its parentheses, or a word that turnmill does not know has.",
-        "Set R parameters before the call. For a word that is not known see the slips.",
+        "Set R parameters before the call. For a word that is not known see docs/refusals.md, Slips in blocks.",
     ),
     (
         59,
@@ -261,7 +261,7 @@ pub(crate) static ALARMS: [Row; 33] = [
         3,
         "root of a negative number",
         "The value of a SQRT is below 0.",
-        "The same as for 2. With SQRT(ABS(..)) the size is taken.",
+        "All parameters are 0 until a block gives them a value. Give the ones under the root values before, or step over the block with IF R2<R3 GOTOF ... With SQRT(ABS(..)) the size is taken.",
     ),
     (
         4,
@@ -285,7 +285,7 @@ pub(crate) static ALARMS: [Row; 33] = [
         7,
         "no such program",
         "A call names a program that the input has not. It comes before alarm 6.",
-        "Add the program after the others, or correct its name. Or look whether the name is a word of the control. Only the words that language.md lists are never a call. Any other name alone in its block is one, so SPCON, SPCOF, CFC, CUT2D, STOPFIFO, COMPON and CP have this alarm. They move no axis: leave such a block out of the copy that is checked. With something beside it such a word is refused before any channel runs: refusals.md.",
+        "Add the program after the others, or correct its name. Or look whether the name is a word of the control. Only the words that docs/language.md lists are never a call. Any other name alone in its block is one, so SPCON, SPCOF, CFC, CUT2D, STOPFIFO, COMPON and CP have this alarm. They move no axis: leave such a block out of the copy that is checked. With something beside it such a word is refused before any channel runs: docs/refusals.md, Slips in blocks.",
     ),
     (
         8,

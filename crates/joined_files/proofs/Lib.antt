@@ -1,2 +1,2 @@
-mod SplitLaws
+mod LineLaws
 mod TrimLaws

@@ -5,7 +5,7 @@ use native.Mathlib.Numerals.{unary_clauses}
 use Rattle.std.specs.List.{slice_index}
 use Rattle.std.specs.Char.{is_ascii_whitespace}
 use Rattle.std.specs.Str.{IsAsciiWhitespaceBelow, IsAsciiWhitespaceFrom, IsTrimAsciiStart, IsTrimAsciiEnd}
-use Rattle.joined_files.specs.Joined.{without_start, without_end, before_end}
+use Rattle.joined_files.specs.Lines.{without_start, without_end, before_end}
 
 pub start_from : (s : List ℕ) (m : ℕ) → m ≤ length s → IsAsciiWhitespaceBelow s m → (m < length s → is_ascii_whitespace (slice_index s m) ≡ false) → drop m s ≡ without_start s
 start_from [] zero fits below stops = refl

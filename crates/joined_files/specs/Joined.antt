@@ -1,28 +1,8 @@
 -- Meaning. A job list and the files of a control, joined to one input.
-use Rattle.std.specs.Prelude.{ℕ, ◌+◌, ◌==◌, ◌||◌, Bool, List, [], ◌∷◌, ◌++◌, if◌then◌else◌, map, slice_index, nat_lt, codes}
-use Rattle.std.specs.Char.{is_ascii_whitespace}
+use Rattle.std.specs.Prelude.{ℕ, ◌+◌, ◌==◌, ◌||◌, not, Bool, true, List, [], ◌∷◌, ◌++◌, if◌then◌else◌, map, nat_lt, codes}
 use Rattle.std.specs.Fmt.{decimal}
-use Rattle.std.specs.List.{slice_split}
-use Rattle.joined_files.specs.Names.{base_name, header_of}
-
--- a text without the white space at its start
-abbrev pub without_start : List ℕ → List ℕ
-without_start [] = []
-without_start (byte ∷ bytes) = if is_ascii_whitespace byte then without_start bytes else byte ∷ bytes
-
--- a byte before others, unless it is white space before nothing
-abbrev pub before_end : ℕ → List ℕ → List ℕ
-before_end byte [] = if is_ascii_whitespace byte then [] else byte ∷ []
-before_end byte (next ∷ rest) = byte ∷ next ∷ rest
-
--- a text without the white space at its end
-abbrev pub without_end : List ℕ → List ℕ
-without_end [] = []
-without_end (byte ∷ bytes) = before_end byte (without_end bytes)
-
--- '%', 37, is the first byte that is no white space
-abbrev pub has_header : List ℕ → Bool
-has_header text = slice_index (without_start text) 0 == 37
+use Rattle.joined_files.specs.Lines.{first_told, first_word, is_header, is_other_part, is_tape_end, lines_of, trimmed, without_end, without_mark}
+use Rattle.joined_files.specs.Names.{base_name, ends_so, header_of}
 
 -- a byte of a comment: an underscore for control characters, and for ';', 59, which begins comments
 abbrev pub comment_byte : ℕ → ℕ
@@ -32,27 +12,48 @@ comment_byte byte = if nat_lt byte 32 || byte == 59 then 95 else byte
 unfoldable pub comment : List ℕ → ℕ → List ℕ
 comment name line = codes " ; FILE " ++ (map comment_byte name ++ (codes " LINE " ++ decimal line))
 
--- the comment where the line is a header
-abbrev pub comment_at : List ℕ → ℕ → List ℕ → List ℕ
-comment_at name number line = if has_header line then comment name number else []
+-- what becomes of a line, by its number: a header has no white space before it, and behind it the comment; the end of a tape goes, and so
+-- does the white space at the end of any line
+unfoldable pub content_text : List ℕ → ℕ → List ℕ → List ℕ
+content_text name number line =
+    if is_header (trimmed line) then trimmed line ++ comment name number
+    else if is_tape_end (trimmed line) then []
+    else without_end line
 
--- a line of a file, by its number
-unfoldable pub line_text : List ℕ → ℕ → List ℕ → List ℕ
-line_text name number line = without_end line ++ (comment_at name number line ++ codes "\n")
+-- the same as a line, be it empty: so the lines after it keep their numbers
+abbrev pub line_text : List ℕ → ℕ → List ℕ → List ℕ
+line_text name number line = content_text name number line ++ codes "\n"
 
--- lines of a file, the first with this number
-abbrev pub lines_text : List ℕ → ℕ → List (List ℕ) → List ℕ
-lines_text name number [] = []
-lines_text name number (line ∷ lines) = line_text name number line ++ lines_text name (number + 1) lines
+-- whether a part is taken from a line on: where the line is a header, unless the part is no program, and elsewhere as before it
+unfoldable pub takes_from : Bool → List ℕ → Bool
+takes_from before line = if is_header (trimmed line) then not (is_other_part (first_word (trimmed line))) else before
 
--- the header that a file gets where it begins with none
-abbrev pub made_header : List ℕ → List ℕ → List ℕ
-made_header name bytes = if has_header bytes then [] else header_of name ++ (comment name 0 ++ codes "\n")
+-- a line in a part that is taken, and nothing elsewhere
+abbrev pub taken_text : Bool → List ℕ → ℕ → List ℕ → List ℕ
+taken_text taken name number line = if taken then line_text name number line else []
 
--- a file, by its path: a header, and its lines, which line feeds, 10, part
+-- lines of a file, the first with this number, after a part that is taken or not
+abbrev pub lines_text : List ℕ → ℕ → Bool → List (List ℕ) → List ℕ
+lines_text name number before [] = []
+lines_text name number before (line ∷ lines) =
+    taken_text (takes_from before line) name number line ++ lines_text name (number + 1) (takes_from before line) lines
+
+-- the header that a file gets where the first of its lines that is not silent is none
+abbrev pub made_header : List ℕ → List (List ℕ) → List ℕ
+made_header name lines = if is_header (first_told lines) then [] else header_of name ++ (comment name 0 ++ codes "\n")
+
+-- a file, by its name and its lines: a header, and the lines of all its parts that are programs
+abbrev pub parts_text : List ℕ → List (List ℕ) → List ℕ
+parts_text name lines = made_header name lines ++ lines_text name 1 true lines
+
+-- a file, by its path and its bytes
 unfoldable pub file_text : List ℕ → List ℕ → List ℕ
-file_text path bytes = made_header (base_name path) bytes ++ lines_text (base_name path) 1 (slice_split (λ byte. byte == 10) (without_end bytes))
+file_text path bytes = parts_text (base_name path) (lines_of (without_mark bytes))
 
--- the job list, and the files after it
+-- a text, with a line feed at its end
+abbrev pub ended_text : List ℕ → List ℕ
+ended_text text = if ends_so text (codes "\n") then text else text ++ codes "\n"
+
+-- the job list as it is, and the files after it
 unfoldable pub joined : List ℕ → List ℕ → List ℕ
-joined list files = without_end list ++ (codes "\n" ++ files)
+joined list files = ended_text (without_mark list) ++ files

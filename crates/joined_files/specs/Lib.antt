@@ -1,2 +1,4 @@
 pub mod Joined
+pub mod Lines
 pub mod Names
+pub mod Parts

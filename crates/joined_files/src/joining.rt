@@ -1,9 +1,13 @@
 //! A job list and the files of a control, joined to one input.
-ghost use Rattle.std.specs.Prelude.{◌≡◌, ◌<◌, ◌+◌, ◌==◌, ◌++◌, IfOk, drop, length, map};
-ghost use Rattle.std.specs.List.{flat_map, position, slice_split};
+ghost use Rattle.std.specs.Prelude.{◌≡◌, ◌++◌, IfOk, map, true};
+ghost use Rattle.std.specs.List.{flat_map};
 ghost use Rattle.joined_files.specs.Joined as model;
 
-use crate::names::{base_name, put_header};
+use crate::lines::{
+    first_told, first_word, is_header, is_other_part, is_tape_end, lines_of, trimmed, without_end,
+    without_mark,
+};
+use crate::names::{base_name, ends_so, put_header};
 use growing_text::Text;
 use nc_faults::NoMemory;
 use std::alloc::Global;
@@ -15,28 +19,6 @@ pub struct ControlFile<'a> {
     pub path: &'a str,
     /// Its bytes.
     pub bytes: &'a [u8],
-}
-
-/// A text without the white space at its end.
-fn without_end(text: &[u8]) -> &[u8]
-    ensures { result.now ≡ model.without_end text.now }
-{
-    text.trim_ascii_end()
-}
-
-/// A text without the white space at its start.
-fn without_start(text: &[u8]) -> &[u8]
-    ensures { result.now ≡ model.without_start text.now }
-{
-    text.trim_ascii_start()
-}
-
-/// Whether `%` is the first byte that is no white space.
-fn has_header(text: &[u8]) -> bool
-    ensures { result ≡ model.has_header text.now }
-{
-    let rest = without_start(text);
-    !rest.is_empty() && rest[0] == b'%'
 }
 
 /// A byte of a comment: an underscore for control characters, and for `;`, which begins comments.
@@ -70,64 +52,67 @@ fn put_comment(text: &mut Text, name: &[u8], line: u64)
     text.number(line);
 }
 
-/// Writes the comment where the line is a header.
-fn put_comment_at(text: &mut Text, name: &[u8], number: u64, line: &[u8])
-    ensures { text.new ≡ text.old ++ model.comment_at name.now number line.now }
+/// Writes what becomes of a line, by its number.
+#[tactic(auto, unfolding(crate::specs::Joined::content_text))]
+fn put_content(text: &mut Text, name: &[u8], number: u64, line: &[u8])
+    ensures { text.new ≡ text.old ++ model.content_text name.now number line.now }
 {
-    if has_header(line) {
+    let content = trimmed(line);
+    if is_header(content) {
+        text.bytes(content);
         put_comment(text, name, number);
+    } else if !is_tape_end(content) {
+        text.bytes(without_end(line));
     }
 }
 
-/// Writes a line of a file, by its number.
-#[tactic(auto, unfolding(crate::specs::Joined::line_text))]
-fn put_line(text: &mut Text, name: &[u8], number: u64, line: &[u8])
-    ensures { text.new ≡ text.old ++ model.line_text name.now number line.now }
+/// Whether a part is taken from a line on, where before it one is or is not.
+#[tactic(auto, unfolding(crate::specs::Joined::takes_from))]
+fn takes_from(before: bool, line: &[u8]) -> bool
+    ensures { result ≡ model.takes_from before line.now }
 {
-    text.bytes(without_end(line));
-    put_comment_at(text, name, number, line);
-    text.say("\n");
+    let content = trimmed(line);
+    if is_header(content) {
+        !is_other_part(first_word(content))
+    } else {
+        before
+    }
 }
 
-/// The place of the first line feed.
-fn feed_of(text: &[u8]) -> Option<usize>
-    ensures { result ≡ position (λ byte. byte == 10) text.now }
+/// Writes a line in a part that is taken, and nothing elsewhere.
+fn put_taken(text: &mut Text, is_taken: bool, name: &[u8], number: u64, line: &[u8])
+    ensures { text.new ≡ text.old ++ model.taken_text is_taken name.now number line.now }
 {
-    text.iter().position(|byte| *byte == b'\n')
+    if is_taken {
+        put_content(text, name, number, line);
+        text.say("\n");
+    }
 }
 
-/// What stands behind a place of a text.
-fn behind(text: &[u8], place: usize) -> &[u8]
-    requires { place < length text.now }
-    ensures { result.now ≡ drop (place + 1) text.now }
+/// Writes lines of a file, but for parts that are no programs.
+fn put_lines(text: &mut Text, name: &[u8], lines: &[&[u8]])
+    ensures { text.new ≡ text.old ++ model.lines_text name.now 1 true (map (λ line. line.now) lines.now) }
 {
-    &text[place + 1..]
-}
-
-/// Writes lines of a file, which line feeds part.
-fn put_lines(text: &mut Text, name: &[u8], bytes: &[u8])
-    ensures { text.new ≡ text.old ++ model.lines_text name.now 1 (slice_split (λ byte. byte == 10) bytes.now) }
-{
-    let mut number: u64 = 1;
-    let mut rest = bytes;
-    while let Some(place) = feed_of(rest) {
-        put_line(text, name, number, &rest[..place]);
-        rest = behind(rest, place);
+    let mut number: u64 = 0;
+    let mut is_taken = true;
+    for line in lines {
         number += 1;
+        is_taken = takes_from(is_taken, line);
+        put_taken(text, is_taken, name, number, line);
     }
-    put_line(text, name, number, rest);
 }
 
-/// Writes the header that a file gets where it begins with none. `NoMemory` where too little memory is found.
+/// Writes the header that a file gets where the first of its lines that is not silent is none. `NoMemory` where too little memory
+/// is found.
 fn put_made_header(
     alloc: Global,
     text: &mut Text,
     name: &[u8],
-    bytes: &[u8],
+    lines: &[&[u8]],
 ) -> Result<(), NoMemory>
-    ensures { IfOk result (λ _. text.new ≡ text.old ++ model.made_header name.now bytes.now) }
+    ensures { IfOk result (λ _. text.new ≡ text.old ++ model.made_header name.now (map (λ line. line.now) lines.now)) }
 {
-    if has_header(bytes) {
+    if is_header(first_told(lines)) {
         return Ok(());
     }
     put_header(alloc, text, name)?;
@@ -142,8 +127,9 @@ fn put_file(alloc: Global, text: &mut Text, path: &[u8], bytes: &[u8]) -> Result
     ensures { IfOk result (λ _. text.new ≡ text.old ++ model.file_text path.now bytes.now) }
 {
     let name = base_name(path);
-    put_made_header(alloc, text, name, bytes)?;
-    put_lines(text, name, without_end(bytes));
+    let lines = lines_of(alloc, without_mark(bytes))?;
+    put_made_header(alloc, text, name, lines.as_slice())?;
+    put_lines(text, name, lines.as_slice());
     Ok(())
 }
 
@@ -157,22 +143,35 @@ fn put_files(alloc: Global, text: &mut Text, files: &[ControlFile]) -> Result<()
     Ok(())
 }
 
+/// Writes a text, with a line feed at its end.
+fn put_ended(text: &mut Text, bytes: &[u8])
+    ensures { text.new ≡ text.old ++ model.ended_text bytes.now }
+{
+    text.bytes(bytes);
+    if !ends_so(bytes, b"\n") {
+        text.say("\n");
+    }
+}
+
 /// One input from a job list and the files of a control.
 ///
-/// It is the list without the white space at its end, a line feed, and each file. A file whose first byte that is no white space
-/// is not `%` gets a header from its name: `%_N_UPPER_MPF` from `UPPER.MPF`, `%_N_UPPER_SPF` from `upper.spf`. In the name of
-/// the program letters are capitals, and an underscore stands for what no name has. A `_N_` before it and a `_MPF` or `_SPF` at
-/// its end are those of the header, and it is cut behind 24 letters. A file's name with nothing before its ending gives a header
-/// that is refused. Behind each header stands the comment `; FILE UPPER.MPF LINE n`: n is the line of the file that the header
-/// was, counted from 1, or 0 where joining made it. In it control characters and `;` of the file's name are underscores. Each
-/// line of a file loses the white space at its end, as a carriage return. `NoMemory` where too little memory is found.
+/// It is the list, with a line feed at its end, and each file. A byte order mark before any of them is dropped. A file gets a
+/// header from its name, `%_N_UPPER_MPF` from `UPPER.MPF` and `%_N_UPPER_SPF` from `upper.spf`, unless its first line that is
+/// neither empty nor a comment is a header. In the name of the program letters are capitals, and an underscore stands for what no
+/// name has. A `_N_` before it and a `_MPF` or `_SPF` at its end are those of the header, and it is cut behind 24 letters. A file's
+/// name with nothing before its ending gives a header that is refused.
+///
+/// Behind each header stands the comment `; FILE UPPER.MPF LINE n`: n is the line of the file that the header was, counted from 1,
+/// or 0 where joining made it. In it control characters and `;` of the file's name are underscores. A header loses the white space
+/// before it. A line with `%` alone, as at the ends of a tape, becomes empty. Each line of a file loses the white space at its end,
+/// as a carriage return. The parts of a file that `other_parts` gives are left out, each up to the next header.
+/// `NoMemory` where too little memory is found.
 #[tactic(auto, unfolding(crate::specs::Joined::joined))]
 pub fn joined_input(alloc: Global, list: &[u8], files: &[ControlFile]) -> Result<Vec<u8>, NoMemory>
     ensures { IfOk result (λ input. input.items ≡ model.joined list.now (flat_map (λ file. model.file_text file.path.now file.bytes.now) files.now)) }
 {
     let mut text = Text::new(alloc);
-    text.bytes(without_end(list));
-    text.say("\n");
+    put_ended(&mut text, without_mark(list));
     put_files(alloc, &mut text, files)?;
     text.finish()
 }

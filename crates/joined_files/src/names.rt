@@ -80,7 +80,7 @@ fn without_sign(letters: &[u8]) -> &[u8]
 }
 
 /// Whether a text ends so.
-fn ends_so(text: &[u8], end: &[u8]) -> bool
+pub(crate) fn ends_so(text: &[u8], end: &[u8]) -> bool
     ensures { result ≡ model.ends_so text.now end.now }
 {
     match text.strip_suffix(end) {

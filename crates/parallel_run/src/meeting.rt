@@ -89,7 +89,8 @@ impl Model for Meeting {
 
     ghost view = { λ m. record { table_id = m.table.shared.table_id; workers = m.workers } };
 
-    ghost invariant = { λ m. (m.table.shared.table_id.words ≡ 1) × (m.table.shared.key ≡ m.workers) × (m.workers + 1 < 2 ^ 64) };
+    ghost invariant = { λ m. (m.table.shared.table_id.words ≡ 1) × (m.table.shared.key ≡ m.workers)
+        × (m.workers + 1 < 2 ^ 64) };
 }
 
 impl Meeting {

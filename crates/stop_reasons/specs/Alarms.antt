@@ -1,11 +1,12 @@
 -- Meaning. How the verdict ALARM is said.
-use Rattle.std.specs.Prelude.{ℕ, List, [], ◌∷◌, ◌++◌, Option, None, Some, codes, ◌==◌, if◌then◌else◌, length}
+use Rattle.std.specs.Prelude.{ℕ, List, [], ◌++◌, Option, Some, codes, ◌==◌, if◌then◌else◌, length}
 use Rattle.std.specs.Fmt.{decimal}
 use Rattle.std.specs.List.{flat_map}
 use Rattle.input_lines.specs.Advice.{advice_of, alarms, cause_of, name_of}
 use Rattle.job_types.specs.Job.{JobView}
 use Rattle.nc_faults.specs.declared.Alarm.{Alarm}
 use Rattle.stop_reasons.specs.Ends.{end_of}
+use Rattle.stop_reasons.specs.Remedies.{advice_text}
 use Rattle.stop_reasons.specs.Stuck.{waits_text}
 use Rattle.sync_types.specs.Boards.{Board, channel_numbers}
 use Rattle.sync_types.specs.Views.{RunView}
@@ -25,10 +26,6 @@ place_text input job line = codes ", in " ++ (block_text input job line ++ codes
 -- when it comes
 unfoldable pub cause_text : ℕ → List ℕ
 cause_text code = codes "  " ++ (cause_of alarms code ++ codes "\n")
-
--- an advice
-unfoldable pub advice_text : List ℕ → List ℕ
-advice_text advice = codes "  What to do: " ++ (advice ++ codes "\n")
 
 -- what to do, where that is not in its cause
 unfoldable pub to_do_text : List ℕ → List ℕ

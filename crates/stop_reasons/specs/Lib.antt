@@ -1,6 +1,12 @@
 pub mod Alarms
 pub mod Ends
+pub mod Lacks
+pub mod MarkBlocks
+pub mod MarkTables
+pub mod Passes
 pub mod RaceTexts
 pub mod Races
+pub mod Remedies
+pub mod Rows
 pub mod Stuck
 pub mod Waits

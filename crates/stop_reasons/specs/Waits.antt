@@ -1,10 +1,14 @@
--- Meaning. What a channel waits for, and who could give it.
-use Rattle.std.specs.Prelude.{ℕ, ◌==◌, Bool, true, false, List, [], ◌++◌, if◌then◌else◌, Option, None, Some, codes}
+-- Meaning. What a channel that waits for good lacks, who could give it, and what to do.
+use Rattle.std.specs.Prelude.{ℕ, List, [], ◌++◌, Option, None, Some, codes}
 use Rattle.std.specs.Fmt.{decimal}
 use Rattle.std.specs.List.{flat_map}
 use Rattle.job_types.specs.Job.{JobView}
 use Rattle.stop_reasons.specs.Ends.{end_of, stop_text}
-use Rattle.sync_types.specs.Boards.{Board, Hold, AtMarks, AtEnds, AtAxes, among, axis_numbers, channel_numbers, owner_of}
+use Rattle.stop_reasons.specs.Lacks.{lacked_axis, lacked_end, lacked_mark}
+use Rattle.stop_reasons.specs.Remedies.{advice_of, advice_text, remedy_of}
+use Rattle.stop_reasons.specs.declared.lacks.Lack.{Lack}
+use Rattle.stop_reasons.specs.declared.lacks.Lack.TheVariants.{Axis, End, Mark, OwnEnd}
+use Rattle.sync_types.specs.Boards.{Board, Hold, AtMarks, AtEnds, AtAxes, axis_numbers, channel_numbers}
 use Rattle.sync_types.specs.Views.{RunView}
 use Rattle.sync_types.specs.declared.ChannelEnd.{ChannelEnd}
 use Rattle.told_places.specs.Lines.{block_text, channel_first_text, channel_text}
@@ -28,20 +32,15 @@ only_text channel = codes ". Only " ++ channel_text channel
 unfoldable pub missing_mark : List ℕ → JobView → ℕ → ℕ → Option ChannelEnd → List ℕ
 missing_mark input job mark channel end = only_text channel ++ (raising_text mark ++ stop_text input job end)
 
--- a mark for which is waited, and whether it stands
-unfoldable pub mark_text : List ℕ → JobView → ℕ → ℕ → Option ChannelEnd → Bool → List ℕ
-mark_text input job mark channel end true = mark_name mark channel ++ codes ", which stands\n"
-mark_text input job mark channel end false = mark_name mark channel ++ missing_mark input job mark channel end
+-- a mark that does not stand
+unfoldable pub mark_text : List ℕ → JobView → ℕ → ℕ → Option ChannelEnd → List ℕ
+mark_text input job mark channel end = mark_name mark channel ++ missing_mark input job mark channel end
 
 -- ---- ends
 
--- what the channel does for the end of whose program is waited
-unfoldable pub ending_text : List ℕ → JobView → ℕ → ℕ → Option ChannelEnd → List ℕ
-ending_text input job own channel end = if channel == own then codes ", which is its own: so it waits for itself\n" else codes ", which " ++ stop_text input job end
-
--- the end of a program, and what its channel does
-unfoldable pub end_text : List ℕ → JobView → ℕ → ℕ → Option ChannelEnd → List ℕ
-end_text input job own channel end = codes "  for the end of the program of " ++ (channel_text channel ++ ending_text input job own channel end)
+-- the end of another channel's program, and what that channel does
+unfoldable pub end_text : List ℕ → JobView → ℕ → Option ChannelEnd → List ℕ
+end_text input job channel end = codes "  for the end of the program of " ++ (channel_text channel ++ (codes ", which " ++ stop_text input job end))
 
 -- ---- axes
 
@@ -53,34 +52,33 @@ letting_go_text owner = codes " owns" ++ (only_text owner ++ codes " can let it 
 unfoldable pub owned_axis : List ℕ → JobView → ℕ → Option ChannelEnd → List ℕ
 owned_axis input job owner end = codes ", which " ++ (channel_text owner ++ (letting_go_text owner ++ stop_text input job end))
 
--- who has an axis for which a channel waits
-unfoldable pub owner_text : List ℕ → JobView → RunView → ℕ → Option ℕ → List ℕ
-owner_text input job run own None = codes ", which is free\n"
-owner_text input job run own (Some other) = if other == own then codes ", which it owns\n" else owned_axis input job other (end_of job run other)
+-- an axis that another channel owns
+unfoldable pub axis_wait_text : List ℕ → JobView → ℕ → ℕ → Option ChannelEnd → List ℕ
+axis_wait_text input job axis owner end = codes "  for the axis " ++ (axis_text job axis ++ owned_axis input job owner end)
 
--- an axis for which a channel waits
-unfoldable pub axis_wait_text : List ℕ → JobView → RunView → ℕ → ℕ → Option ℕ → List ℕ
-axis_wait_text input job run own axis owner = codes "  for the axis " ++ (axis_text job axis ++ owner_text input job run own owner)
+-- ---- all that a channel lacks
 
--- ---- all for which a channel waits, as it stands on a board
+-- something that it lacks, and who could give it
+unfoldable pub lacking_text : List ℕ → JobView → RunView → Lack → List ℕ
+lacking_text input job run (Mark mark channel) = mark_text input job mark channel (end_of job run channel)
+lacking_text input job run (End channel) = end_text input job channel (end_of job run channel)
+lacking_text input job run OwnEnd = codes "  for the end of its own program: so it waits for itself\n"
+lacking_text input job run (Axis axis owner) = axis_wait_text input job axis owner (end_of job run owner)
 
--- of the channels whose marks are waited for
-unfoldable pub mark_line : List ℕ → JobView → RunView → Board → ℕ → List ℕ → ℕ → List ℕ
-mark_line input job run b mark named channel = if among named channel then mark_text input job mark channel (end_of job run channel) (b.marks channel mark) else []
+-- and what to do
+unfoldable pub lack_text : List ℕ → JobView → RunView → Lack → List ℕ
+lack_text input job run lack = lacking_text input job run lack ++ advice_text (advice_of (remedy_of job run lack))
 
--- of those whose ends are waited for
-unfoldable pub end_line : List ℕ → JobView → RunView → ℕ → List ℕ → ℕ → List ℕ
-end_line input job run own named channel = if among named channel then end_text input job own channel (end_of job run channel) else []
+-- nothing where nothing is lacking
+unfoldable pub some_lack_text : List ℕ → JobView → RunView → Option Lack → List ℕ
+some_lack_text input job run None = []
+some_lack_text input job run (Some lack) = lack_text input job run lack
 
--- of the axes
-unfoldable pub axis_line : List ℕ → JobView → RunView → Board → ℕ → List ℕ → ℕ → List ℕ
-axis_line input job run b own axes axis = if among axes axis then axis_wait_text input job run own axis (owner_of (b.axis axis)) else []
-
--- all for which a channel waits, in ascending order
+-- all that a channel lacks which waits so on a board, in ascending order
 unfoldable pub hold_text : List ℕ → JobView → RunView → Board → ℕ → Hold → List ℕ
-hold_text input job run b own (AtMarks mark named) = flat_map (mark_line input job run b mark named) channel_numbers
-hold_text input job run b own (AtEnds named) = flat_map (end_line input job run own named) channel_numbers
-hold_text input job run b own (AtAxes axes) = flat_map (axis_line input job run b own axes) axis_numbers
+hold_text input job run b own (AtMarks mark named) = flat_map (λ channel. some_lack_text input job run (lacked_mark b mark named channel)) channel_numbers
+hold_text input job run b own (AtEnds named) = flat_map (λ channel. some_lack_text input job run (lacked_end job run own named channel)) channel_numbers
+hold_text input job run b own (AtAxes axes) = flat_map (λ axis. some_lack_text input job run (lacked_axis b own axes axis)) axis_numbers
 
 -- where a channel waits
 unfoldable pub head_text : List ℕ → JobView → ℕ → ℕ → List ℕ

@@ -8,6 +8,7 @@ ghost use Rattle.sync_types.specs.Runs.{ComesFrom};
 
 use crate::ends::end_of;
 use crate::numbers::all_channels;
+use crate::remedies::say_advice;
 use crate::stuck_text::say_waits;
 use axis_sets::ChannelId;
 use growing_text::Text;
@@ -45,16 +46,6 @@ fn say_cause(text: &mut Text, code: u16)
 {
     text.say("  ");
     text.say(alarm_cause(code));
-    text.say("\n");
-}
-
-/// Says an advice.
-#[tactic(auto, unfolding(crate::specs::Alarms::advice_text))]
-fn say_advice(text: &mut Text, advice: &str)
-    ensures { text.new ≡ text.old ++ model.advice_text advice.now }
-{
-    text.say("  What to do: ");
-    text.say(advice);
     text.say("\n");
 }
 

@@ -10,7 +10,7 @@ use sync_types::{ChannelEnd, Run};
 use told_places::{Told, say_block};
 
 /// Whether one of these lines has a channel.
-fn has_channel(lines: &[ChannelLine], channel: ChannelId) -> bool
+pub(crate) fn has_channel(lines: &[ChannelLine], channel: ChannelId) -> bool
     ensures { result ≡ list_any (λ line. line.channel == channel) lines.now }
 {
     lines.iter().any(|line| line.channel == channel)

@@ -1,84 +1,61 @@
-//! All for which a channel waits.
-ghost use Rattle.std.specs.Prelude.{◌≡◌, ◌++◌, [], if◌then◌else◌};
+//! All that a waiting channel lacks, said.
+ghost use Rattle.std.specs.Prelude.{◌≡◌, ◌++◌};
 ghost use Rattle.std.specs.List.{flat_map};
 ghost use Rattle.axis_sets.specs.Sets.{members_of};
 ghost use Rattle.order_clocks.specs.Watching.{hold_shown};
 ghost use Rattle.run_ends.specs.LastBoards.{IsTold};
-ghost use Rattle.stop_reasons.specs.Ends.{end_of};
+ghost use Rattle.stop_reasons.specs.Lacks as lack;
 ghost use Rattle.stop_reasons.specs.Waits as model;
-ghost use Rattle.stop_reasons.specs.Waits.{axis_wait_text, end_text, mark_text};
 ghost use Rattle.sync_types.specs.Boards.{Board, axis_numbers, channel_numbers};
 
+use crate::lacks::{AskedAxes, lacked_axis, lacked_end, lacked_mark};
 use crate::numbers::{all_axes, all_channels};
-use crate::waits::{say_asked_axis, say_mark, say_program_end};
-use axis_sets::{AxisId, AxisSet, ChannelId, ChannelSet};
+use crate::waits::say_some_lack;
+use axis_sets::{AxisId, ChannelId, ChannelSet};
 use growing_text::Text;
 use run_ends::LastBoard;
-use step_deeds::Hold;
+use step_deeds::{Hold, NamedMarks};
 use told_places::Told;
 
-/// Says the mark of a channel, where it is one of those for whose marks is waited.
-fn say_mark_if(
-    text: &mut Text,
-    told: &Told,
-    is_named: bool,
-    channel: ChannelId,
-    mark: u8,
-    stands: bool,
-)
-    ensures { text.new ≡ text.old ++ (if is_named then mark_text told.now.lines.now told.now.job.now mark channel (end_of told.now.job.now told.now.run.now channel) stands else []) }
-{
-    if is_named {
-        say_mark(text, told, channel, mark, stands);
-    }
-}
-
-/// Says what stands on a board of the mark of a channel.
+/// Says the mark of a channel, where it is waited for and does not stand.
 fn say_mark_of(
     text: &mut Text,
     told: &Told,
     board: &LastBoard,
-    mark: u8,
-    named: &ChannelSet,
+    marks: &NamedMarks,
     channel: ChannelId,
 )
-    ensures { (b : Board) → IsTold board.now b → text.new ≡ text.old ++ model.mark_line told.now.lines.now told.now.job.now told.now.run.now b mark (members_of named.now) channel }
+    ensures { (b : Board) → IsTold board.now b → text.new ≡ text.old
+        ++ model.some_lack_text told.now.lines.now told.now.job.now told.now.run.now (lack.lacked_mark b marks.now.number (members_of marks.now.named) channel) }
 {
-    let is_named = named.contains(channel);
-    let stands = board.stands(channel, mark);
-    say_mark_if(text, told, is_named, channel, mark, stands);
+    let lacked = lacked_mark(board, marks, channel);
+    say_some_lack(text, told, &lacked);
 }
 
-/// Says for which marks is waited.
-fn say_marks(text: &mut Text, told: &Told, board: &LastBoard, mark: u8, named: &ChannelSet)
-    ensures { (b : Board) → IsTold board.now b → text.new ≡ text.old ++ flat_map (model.mark_line told.now.lines.now told.now.job.now told.now.run.now b mark (members_of named.now)) channel_numbers }
+/// Says the marks that are lacking.
+fn say_marks(text: &mut Text, told: &Told, board: &LastBoard, marks: &NamedMarks)
+    ensures { (b : Board) → IsTold board.now b → text.new ≡ text.old ++ flat_map (λ channel. model.some_lack_text told.now.lines.now told.now.job.now told.now.run.now
+        (lack.lacked_mark b marks.now.number (members_of marks.now.named) channel)) channel_numbers }
 {
     let all = all_channels();
     for channel in &all {
-        say_mark_of(text, told, board, mark, named, *channel);
+        say_mark_of(text, told, board, marks, *channel);
     }
 }
 
-/// Says the end of a channel's program, where it is one of those for whose ends is waited.
-fn say_end_if(text: &mut Text, told: &Told, own: ChannelId, is_named: bool, channel: ChannelId)
-    ensures { text.new ≡ text.old ++ (if is_named then end_text told.now.lines.now told.now.job.now own channel (end_of told.now.job.now told.now.run.now channel) else []) }
-{
-    if is_named {
-        say_program_end(text, told, own, channel);
-    }
-}
-
-/// Says what there is of the end of a channel's program.
+/// Says the end of a channel's program, where it is waited for and the program has not ended.
 fn say_end_of(text: &mut Text, told: &Told, own: ChannelId, named: &ChannelSet, channel: ChannelId)
-    ensures { text.new ≡ text.old ++ model.end_line told.now.lines.now told.now.job.now told.now.run.now own (members_of named.now) channel }
+    ensures { text.new ≡ text.old ++ model.some_lack_text told.now.lines.now told.now.job.now told.now.run.now
+        (lack.lacked_end told.now.job.now told.now.run.now own (members_of named.now) channel) }
 {
-    let is_named = named.contains(channel);
-    say_end_if(text, told, own, is_named, channel);
+    let lacked = lacked_end(told, own, named, channel);
+    say_some_lack(text, told, &lacked);
 }
 
-/// Says for which ends is waited.
+/// Says the ends of programs that are lacking.
 fn say_ends(text: &mut Text, told: &Told, own: ChannelId, named: &ChannelSet)
-    ensures { text.new ≡ text.old ++ flat_map (model.end_line told.now.lines.now told.now.job.now told.now.run.now own (members_of named.now)) channel_numbers }
+    ensures { text.new ≡ text.old ++ flat_map (λ channel. model.some_lack_text told.now.lines.now told.now.job.now told.now.run.now
+        (lack.lacked_end told.now.job.now told.now.run.now own (members_of named.now) channel)) channel_numbers }
 {
     let all = all_channels();
     for channel in &all {
@@ -86,55 +63,40 @@ fn say_ends(text: &mut Text, told: &Told, own: ChannelId, named: &ChannelSet)
     }
 }
 
-/// Says an axis, where it is one of those for which is waited.
-fn say_axis_if(
-    text: &mut Text,
-    told: &Told,
-    own: ChannelId,
-    is_asked: bool,
-    axis: AxisId,
-    owner: &Option<ChannelId>,
-)
-    ensures { text.new ≡ text.old ++ (if is_asked then axis_wait_text told.now.lines.now told.now.job.now told.now.run.now own axis owner.now else []) }
+/// Says an axis, where it is asked for and another channel owns it.
+fn say_axis_of(text: &mut Text, told: &Told, board: &LastBoard, asked: &AskedAxes, axis: AxisId)
+    ensures { (b : Board) → IsTold board.now b → text.new ≡ text.old
+        ++ model.some_lack_text told.now.lines.now told.now.job.now told.now.run.now (lack.lacked_axis b asked.now.own (members_of asked.now.axes) axis) }
 {
-    if is_asked {
-        say_asked_axis(text, told, own, axis, owner);
-    }
+    let lacked = lacked_axis(board, asked, axis);
+    say_some_lack(text, told, &lacked);
 }
 
-/// Says who has an axis on a board.
-fn say_axis_of(
-    text: &mut Text,
-    told: &Told,
-    board: &LastBoard,
-    own: ChannelId,
-    axes: &AxisSet,
-    axis: AxisId,
-)
-    ensures { (b : Board) → IsTold board.now b → text.new ≡ text.old ++ model.axis_line told.now.lines.now told.now.job.now told.now.run.now b own (members_of axes.now) axis }
-{
-    let is_asked = axes.contains(axis);
-    let owner = board.owner_of(axis);
-    say_axis_if(text, told, own, is_asked, axis, &owner);
-}
-
-/// Says for which axes is waited.
-fn say_axes(text: &mut Text, told: &Told, board: &LastBoard, own: ChannelId, axes: &AxisSet)
-    ensures { (b : Board) → IsTold board.now b → text.new ≡ text.old ++ flat_map (model.axis_line told.now.lines.now told.now.job.now told.now.run.now b own (members_of axes.now)) axis_numbers }
+/// Says the axes that are lacking.
+fn say_axes(text: &mut Text, told: &Told, board: &LastBoard, asked: &AskedAxes)
+    ensures { (b : Board) → IsTold board.now b → text.new ≡ text.old ++ flat_map (λ axis. model.some_lack_text told.now.lines.now told.now.job.now told.now.run.now
+        (lack.lacked_axis b asked.now.own (members_of asked.now.axes) axis)) axis_numbers }
 {
     let all = all_axes();
     for axis in &all {
-        say_axis_of(text, told, board, own, axes, *axis);
+        say_axis_of(text, told, board, asked, *axis);
     }
 }
 
-/// Says all for which a channel waits.
+/// Says all that a channel lacks which waits so.
 pub(crate) fn say_hold(text: &mut Text, told: &Told, board: &LastBoard, own: ChannelId, hold: &Hold)
-    ensures { (b : Board) → IsTold board.now b → text.new ≡ text.old ++ model.hold_text told.now.lines.now told.now.job.now told.now.run.now b own (hold_shown hold.now) }
+    ensures { (b : Board) → IsTold board.now b
+        → text.new ≡ text.old ++ model.hold_text told.now.lines.now told.now.job.now told.now.run.now b own (hold_shown hold.now) }
 {
     match hold {
-        Hold::Marks(mark, named) => say_marks(text, told, board, *mark, named),
+        Hold::Marks(number, named) => {
+            let marks = NamedMarks {
+                number: *number,
+                named: *named,
+            };
+            say_marks(text, told, board, &marks);
+        }
         Hold::Ends(named) => say_ends(text, told, own, named),
-        Hold::Axes(axes) => say_axes(text, told, board, own, axes),
+        Hold::Axes(axes) => say_axes(text, told, board, &AskedAxes { own, axes: *axes }),
     }
 }

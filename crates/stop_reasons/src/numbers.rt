@@ -1,8 +1,9 @@
-//! All channels and all axes, in order.
+//! All channels, all axes and all marks, in order.
 ghost use Rattle.std.specs.Prelude.{◌≡◌};
+ghost use Rattle.stop_reasons.specs.MarkTables.{mark_numbers};
 ghost use Rattle.sync_types.specs.Boards.{axis_numbers, channel_numbers};
 
-use axis_sets::{AxisId, ChannelId};
+use axis_sets::{AxisId, ChannelId, MARK_LIMIT};
 
 /// The channels that a job can have, ascending.
 pub(crate) fn all_channels() -> [ChannelId; 8]
@@ -42,4 +43,11 @@ pub(crate) fn all_axes() -> [AxisId; 16]
         AxisId { index: 14 },
         AxisId { index: 15 },
     ]
+}
+
+/// The numbers of marks, ascending.
+pub(crate) fn all_marks() -> [u8; MARK_LIMIT]
+    ensures { result ≡ mark_numbers }
+{
+    [0, 1, 2, 3, 4, 5, 6, 7, 8, 9]
 }

@@ -1,13 +1,15 @@
 //! The verdict STUCK, said.
 ghost use Rattle.std.specs.Prelude.{◌≡◌, ◌++◌, ◌<◌, ◌^◌, length};
+ghost use Rattle.std.specs.List.{flat_map};
 ghost use Rattle.order_clocks.specs.Watching.{hold_shown, wait_shown};
 ghost use Rattle.run_ends.specs.LastBoards.{IsTold};
 ghost use Rattle.stop_reasons.specs.Stuck as model;
 ghost use Rattle.stop_reasons.specs.Waits.{head_text, hold_text, wait_text};
-ghost use Rattle.sync_types.specs.Boards.{Board};
+ghost use Rattle.sync_types.specs.Boards.{Board, channel_numbers};
 ghost use Rattle.sync_types.specs.Runs.{ComesFrom};
 
 use crate::holds::say_hold;
+use crate::mark_tables::say_marks;
 use crate::numbers::all_channels;
 use axis_sets::ChannelId;
 use growing_text::Text;
@@ -61,9 +63,9 @@ fn say_channel_wait(text: &mut Text, told: &Told, board: &LastBoard, channel: Ch
 }
 
 /// Says all channels of a board that wait.
-#[tactic(auto, unfolding(crate::specs::Stuck::waits_text))]
-fn say_board(text: &mut Text, told: &Told, board: &LastBoard)
-    ensures { (b : Board) → IsTold board.now b → text.new ≡ text.old ++ model.waits_text told.now.lines.now told.now.job.now told.now.run.now b }
+fn say_channels(text: &mut Text, told: &Told, board: &LastBoard)
+    ensures { (b : Board) → IsTold board.now b
+        → text.new ≡ text.old ++ flat_map (model.channel_wait told.now.lines.now told.now.job.now told.now.run.now b) channel_numbers }
 {
     let all = all_channels();
     for channel in &all {
@@ -71,7 +73,17 @@ fn say_board(text: &mut Text, told: &Told, board: &LastBoard)
     }
 }
 
-/// Says all channels that wait for good, for what, and who could give it.
+/// Says all channels of a board that wait, and the marks that they wait for.
+#[tactic(auto, unfolding(crate::specs::Stuck::waits_text))]
+fn say_board(text: &mut Text, told: &Told, board: &LastBoard)
+    ensures { (b : Board) → IsTold board.now b
+        → text.new ≡ text.old ++ model.waits_text told.now.lines.now told.now.job.now told.now.run.now b }
+{
+    say_channels(text, told, board);
+    say_marks(text, told, board);
+}
+
+/// Says all channels that wait for good, what each lacks, who could give it, what to do, and the marks that they wait for.
 pub(crate) fn say_waits(text: &mut Text, told: &Told, start: &StartState)
     requires few { length told.now.run.now.entries < 2 ^ 32 }
     requires whole { ComesFrom start.now told.now.run.now }
@@ -81,8 +93,9 @@ pub(crate) fn say_waits(text: &mut Text, told: &Told, start: &StartState)
     say_board(text, told, &board);
 }
 
-/// Says the verdict STUCK, which names this channel: each channel that waits for good when the run is over, where, for what,
-/// and who could give it. The start and the run are those of the job.
+/// Says the verdict STUCK, which names this channel: each channel that waits for good when the run is over, where, what it
+/// lacks, who could give that, and what to do; and the marks that are waited for, by channel. The start and the run are those
+/// of the job.
 #[tactic(auto, unfolding(crate::specs::Stuck::stuck_text))]
 pub fn say_stuck(text: &mut Text, told: &Told, start: &StartState, channel: ChannelId)
     requires few { length told.now.run.now.entries < 2 ^ 32 }

@@ -1,9 +1,10 @@
-//! What a channel waits for, and who could give it.
+//! What a channel that waits for good lacks, who could give it, and what to do.
 ghost use Rattle.std.specs.Prelude.{◌≡◌, ◌++◌};
-ghost use Rattle.stop_reasons.specs.Ends.{end_of};
 ghost use Rattle.stop_reasons.specs.Waits as model;
 
 use crate::ends::{end_of, say_stop};
+use crate::lacks::Lack;
+use crate::remedies::{remedy_of, say_advice};
 use axis_sets::{AxisId, ChannelId};
 use growing_text::Text;
 use sync_types::ChannelEnd;
@@ -57,49 +58,23 @@ fn say_missing_mark(
     say_stop(text, told, end);
 }
 
-/// Says a mark for which is waited: that it stands, or who would raise it.
+/// Says a mark that does not stand.
 #[tactic(auto, unfolding(crate::specs::Waits::mark_text))]
-pub(crate) fn say_mark(text: &mut Text, told: &Told, channel: ChannelId, mark: u8, stands: bool)
-    ensures { text.new ≡ text.old ++ model.mark_text told.now.lines.now told.now.job.now mark channel (end_of told.now.job.now told.now.run.now channel) stands }
+fn say_mark(text: &mut Text, told: &Told, channel: ChannelId, mark: u8, end: &Option<ChannelEnd>)
+    ensures { text.new ≡ text.old ++ model.mark_text told.now.lines.now told.now.job.now mark channel end.now }
 {
     say_mark_name(text, channel, mark);
-    if stands {
-        text.say(", which stands\n");
-    } else {
-        say_missing_mark(text, told, channel, mark, &end_of(told, channel));
-    }
+    say_missing_mark(text, told, channel, mark, end);
 }
 
-/// Says what the channel does for the end of whose program is waited; none other can end it where it is the one that waits.
-#[tactic(auto, unfolding(crate::specs::Waits::ending_text))]
-fn say_ending(text: &mut Text, told: &Told, own: ChannelId, channel: ChannelId)
-    ensures { text.new ≡ text.old ++ model.ending_text told.now.lines.now told.now.job.now own channel (end_of told.now.job.now told.now.run.now channel) }
-{
-    if channel == own {
-        text.say(", which is its own: so it waits for itself\n");
-    } else {
-        text.say(", which ");
-        say_stop(text, told, &end_of(told, channel));
-    }
-}
-
-/// Says the end of a program for which is waited, and what its channel does.
-pub(crate) fn say_program_end(text: &mut Text, told: &Told, own: ChannelId, channel: ChannelId)
-    ensures { text.new ≡ text.old ++ model.end_text told.now.lines.now told.now.job.now own channel (end_of told.now.job.now told.now.run.now channel) }
+/// Says the end of another channel's program, and what that channel does.
+#[tactic(auto, unfolding(crate::specs::Waits::end_text))]
+fn say_program_end(text: &mut Text, told: &Told, channel: ChannelId, end: &Option<ChannelEnd>)
+    ensures { text.new ≡ text.old ++ model.end_text told.now.lines.now told.now.job.now channel end.now }
 {
     text.say("  for the end of the program of ");
     say_channel(text, channel);
-    say_ending(text, told, own, channel);
-}
-
-/// Says of an axis that another channel owns that this one could let it go, and what it does.
-#[tactic(auto, unfolding(crate::specs::Waits::owned_axis))]
-fn say_owned_axis(text: &mut Text, told: &Told, owner: ChannelId, end: &Option<ChannelEnd>)
-    ensures { text.new ≡ text.old ++ model.owned_axis told.now.lines.now told.now.job.now owner end.now }
-{
     text.say(", which ");
-    say_channel(text, owner);
-    say_letting_go(text, owner);
     say_stop(text, told, end);
 }
 
@@ -113,35 +88,65 @@ fn say_letting_go(text: &mut Text, owner: ChannelId)
     text.say(" can let it go, by RELEASE, and it ");
 }
 
-/// Says who has an axis for which is waited.
-#[tactic(auto, unfolding(crate::specs::Waits::owner_text))]
-fn say_owner(text: &mut Text, told: &Told, own: ChannelId, owner: &Option<ChannelId>)
-    ensures { text.new ≡ text.old ++ model.owner_text told.now.lines.now told.now.job.now told.now.run.now own owner.now }
+/// Says of an axis that another channel owns that this one could let it go, and what it does.
+#[tactic(auto, unfolding(crate::specs::Waits::owned_axis))]
+fn say_owned_axis(text: &mut Text, told: &Told, owner: ChannelId, end: &Option<ChannelEnd>)
+    ensures { text.new ≡ text.old ++ model.owned_axis told.now.lines.now told.now.job.now owner end.now }
 {
-    match owner {
-        None => text.say(", which is free\n"),
-        Some(other) => {
-            if *other == own {
-                text.say(", which it owns\n");
-            } else {
-                say_owned_axis(text, told, *other, &end_of(told, *other));
-            }
+    text.say(", which ");
+    say_channel(text, owner);
+    say_letting_go(text, owner);
+    say_stop(text, told, end);
+}
+
+/// Says an axis that another channel owns.
+#[tactic(auto, unfolding(crate::specs::Waits::axis_wait_text))]
+fn say_asked_axis(
+    text: &mut Text,
+    told: &Told,
+    axis: AxisId,
+    owner: ChannelId,
+    end: &Option<ChannelEnd>,
+)
+    ensures { text.new ≡ text.old ++ model.axis_wait_text told.now.lines.now told.now.job.now axis owner end.now }
+{
+    text.say("  for the axis ");
+    say_axis(text, told.job, axis);
+    say_owned_axis(text, told, owner, end);
+}
+
+/// Says something that a channel lacks, and who could give it.
+#[tactic(auto, unfolding(crate::specs::Waits::lacking_text))]
+fn say_lacking(text: &mut Text, told: &Told, lack: &Lack)
+    ensures { text.new ≡ text.old ++ model.lacking_text told.now.lines.now told.now.job.now told.now.run.now lack.now }
+{
+    match lack {
+        Lack::Mark(mark, channel) => {
+            say_mark(text, told, *channel, *mark, &end_of(told, *channel));
+        }
+        Lack::End(channel) => say_program_end(text, told, *channel, &end_of(told, *channel)),
+        Lack::OwnEnd => text.say("  for the end of its own program: so it waits for itself\n"),
+        Lack::Axis(axis, owner) => {
+            say_asked_axis(text, told, *axis, *owner, &end_of(told, *owner));
         }
     }
 }
 
-/// Says an axis for which is waited: that it is free or the channel's own, or who could let it go.
-#[tactic(auto, unfolding(crate::specs::Waits::axis_wait_text))]
-pub(crate) fn say_asked_axis(
-    text: &mut Text,
-    told: &Told,
-    own: ChannelId,
-    axis: AxisId,
-    owner: &Option<ChannelId>,
-)
-    ensures { text.new ≡ text.old ++ model.axis_wait_text told.now.lines.now told.now.job.now told.now.run.now own axis owner.now }
+/// Says something that a channel lacks, who could give it, and what to do.
+#[tactic(auto, unfolding(crate::specs::Waits::lack_text))]
+fn say_lack(text: &mut Text, told: &Told, lack: &Lack)
+    ensures { text.new ≡ text.old ++ model.lack_text told.now.lines.now told.now.job.now told.now.run.now lack.now }
 {
-    text.say("  for the axis ");
-    say_axis(text, told.job, axis);
-    say_owner(text, told, own, owner);
+    say_lacking(text, told, lack);
+    say_advice(text, remedy_of(told, lack).advice());
+}
+
+/// Says it where something is lacking.
+#[tactic(auto, unfolding(crate::specs::Waits::some_lack_text))]
+pub(crate) fn say_some_lack(text: &mut Text, told: &Told, lack: &Option<Lack>)
+    ensures { text.new ≡ text.old ++ model.some_lack_text told.now.lines.now told.now.job.now told.now.run.now lack.now }
+{
+    if let Some(lack) = lack {
+        say_lack(text, told, lack);
+    }
 }

@@ -1,13 +1,10 @@
-use Rattle.std.proofs.Common.{◌≡◌, ◌+◌, ◌≤◌, ◌==◌, ◌++◌, length}
-use Rattle.std.specs.List.{slice_split}
+-- The lines so far are written.
+use Rattle.std.proofs.Common.{◌≡◌, ◌+◌, ◌++◌, true, drop, map}
 use Rattle.joined_files.specs.Joined.{lines_text}
 use Rattle.joined_files.proofs.joining.put_lines.Given as goal
 
-abbrev pub invariant-loop-place : goal.invariant-loop-place
-invariant-loop-place l = record {
-  within : l.number + length l.rest ≤ length l.bytes + 1;
-  text : l.text ++ lines_text l.name l.number (slice_split (λ byte. byte == 10) l.rest) ≡ l.initial.text ++ lines_text l.name 1 (slice_split (λ byte. byte == 10) l.bytes);
+abbrev pub invariant-loop-line : goal.invariant-loop-line
+invariant-loop-line l = record {
+  counted : l.number ≡ l.line-index;
+  text : l.text ++ lines_text l.name (l.number + 1) l.is_taken (map (λ line. line.now) (drop l.line-index l.lines)) ≡ l.initial.text ++ lines_text l.name 1 true (map (λ line. line.now) l.lines);
 }
-
-abbrev pub decreases-loop-place : goal.decreases-loop-place
-decreases-loop-place l = length l.rest

@@ -2,8 +2,10 @@
 use Rattle.std.proofs.Common.{◌≡◌, ◌++◌, take}
 use Rattle.std.specs.List.{flat_map}
 use Rattle.axis_sets.specs.Sets.{members_of}
-use Rattle.stop_reasons.specs.Waits.{end_line}
+use Rattle.stop_reasons.specs.Lacks.{lacked_end}
+use Rattle.stop_reasons.specs.Waits.{some_lack_text}
 use Rattle.stop_reasons.proofs.holds.say_ends.Given as goal
 
 abbrev pub invariant-loop-channel : goal.invariant-loop-channel
-invariant-loop-channel l = l.text ≡ l.initial.text ++ flat_map (end_line l.told.lines.now l.told.job.now l.told.run.now l.own (members_of l.named)) (take l.channel-index l.channel-items)
+invariant-loop-channel l = l.text ≡ l.initial.text
+    ++ flat_map (λ channel. some_lack_text l.told.lines.now l.told.job.now l.told.run.now (lacked_end l.told.job.now l.told.run.now l.own (members_of l.named) channel)) (take l.channel-index l.channel-items)

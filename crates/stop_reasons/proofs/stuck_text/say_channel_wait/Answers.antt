@@ -1,4 +1,4 @@
-use Rattle.std.proofs.Common.{◌≡◌, ◌∙◌, ℕ, Option, ◌++◌, ap}
+use Rattle.std.proofs.Common.{◌∙◌, ℕ, Option, ◌++◌, ap}
 use Rattle.stop_reasons.specs.Stuck.{channel_wait}
 use Rattle.stop_reasons.specs.Waits.{wait_text}
 use Rattle.sync_types.specs.Boards.{Hold}
