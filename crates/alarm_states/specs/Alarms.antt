@@ -1,6 +1,6 @@
 -- Meaning. In which line an alarm stops a channel.
 use Rattle.std.specs.Prelude.{ℕ, ◌==◌, if◌then◌else◌, List, [], ◌∷◌, Option, Some, None}
-use Rattle.nc_faults.specs.declared.alarms.TheConstants.{NO_PROGRAM_END}
+use Rattle.fault_codes.specs.declared.alarms.TheConstants.{NO_PROGRAM_END}
 use Rattle.sync_types.specs.Views.{EntryView}
 use Rattle.sync_types.specs.declared.Action.{Action}
 use Rattle.sync_types.specs.declared.Action.TheVariants.{WaitM, SetM, ClearM, Init, Start, WaitE, Release, Get, End, Alarm}

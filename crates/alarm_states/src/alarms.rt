@@ -3,7 +3,7 @@ ghost use Rattle.std.specs.Prelude.{◌≡◌};
 ghost use Rattle.alarm_states.specs.Alarms as model;
 
 use axis_sets::ChannelId;
-use nc_faults::alarms::NO_PROGRAM_END;
+use fault_codes::alarms::NO_PROGRAM_END;
 use sync_types::{Action, Entry, Run};
 
 /// The line of an alarm of a block.

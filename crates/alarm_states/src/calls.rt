@@ -7,8 +7,8 @@ use crate::blocks::flow_at;
 use channel_machine::Levels;
 use job_types::Job;
 use nc_control_flow::Flow;
-use nc_faults::NoMemory;
 use nc_subprograms::Place;
+use out_of_memory::NoMemory;
 use std::alloc::Global;
 
 /// A call that is open: the block of a program that called the next program.

@@ -13,7 +13,7 @@ ghost use Rattle.alarm_states.specs.KeptChannels.{IsKept};
 use axis_sets::ChannelId;
 use channel_machine::{Levels, Local, grants_in, start_state, traced_segment};
 use job_types::Job;
-use nc_faults::NoMemory;
+use out_of_memory::NoMemory;
 use std::alloc::Global;
 use sync_types::{Grant, Run};
 

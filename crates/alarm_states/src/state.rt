@@ -23,7 +23,7 @@ use block_readings::{Reading, readings_in};
 use channel_machine::{Levels, Local};
 use job_types::Job;
 use nc_control_flow::Flow;
-use nc_faults::NoMemory;
+use out_of_memory::NoMemory;
 use std::alloc::Global;
 use sync_types::Run;
 

@@ -25,7 +25,7 @@ use Rattle.nc_expressions.specs.declared.trees.BinaryOp.TheVariants.{Add, Sub, M
 use Rattle.nc_expressions.specs.Symbols.{index_of}
 use Rattle.nc_expressions.specs.Tree.{Tree, Number, Parameter, Indexed, Unary, Binary}
 use Rattle.nc_expressions.specs.Value.{◌>>=◌, in_range_or_alarm, quotient_or_alarm, root_or_alarm, unary_value, binary_value, at_index, value_of}
-use Rattle.nc_faults.specs.Texts.{IsAlarmCode, alarm_texts}
+use Rattle.fault_codes.specs.Codes.{IsAlarmCode, alarm_codes}
 use Rattle.nc_blocks.specs.declared.blocks.FrameWord.{FrameWord}
 use Rattle.nc_blocks.specs.declared.blocks.FrameWord.TheVariants.{Trans, Atrans, Scale, Ascale, Mirror, Amirror}
 use Rattle.nc_blocks.specs.Statement.{OperandView, Value, Text, AxisName, WordView, Assign, AssignAt, G, Axis, Radius, Aux, End, Statement, WordBlock, IfJump, If, While, Until, For, EndFor, Case, RepeatFrom, RepeatBlock, Call, Shape, Turn}
@@ -37,55 +37,55 @@ use Rattle.block_effects.proofs.EffectSteps.{left}
 
 -- the codes that a run can end with
 listed_1 : IsAlarmCode 1
-unfolding IsAlarmCode alarm_texts
+unfolding IsAlarmCode alarm_codes
 listed_1 = refl
 
 listed_2 : IsAlarmCode 2
-unfolding IsAlarmCode alarm_texts
+unfolding IsAlarmCode alarm_codes
 listed_2 = refl
 
 listed_3 : IsAlarmCode 3
-unfolding IsAlarmCode alarm_texts
+unfolding IsAlarmCode alarm_codes
 listed_3 = refl
 
 listed_4 : IsAlarmCode 4
-unfolding IsAlarmCode alarm_texts
+unfolding IsAlarmCode alarm_codes
 listed_4 = refl
 
 listed_7 : IsAlarmCode 7
-unfolding IsAlarmCode alarm_texts
+unfolding IsAlarmCode alarm_codes
 listed_7 = refl
 
 pub listed_8 : IsAlarmCode 8
-unfolding IsAlarmCode alarm_texts
+unfolding IsAlarmCode alarm_codes
 listed_8 = refl
 
 pub listed_9 : IsAlarmCode 9
-unfolding IsAlarmCode alarm_texts
+unfolding IsAlarmCode alarm_codes
 listed_9 = refl
 
 listed_10 : IsAlarmCode 10
-unfolding IsAlarmCode alarm_texts
+unfolding IsAlarmCode alarm_codes
 listed_10 = refl
 
 listed_11 : IsAlarmCode 11
-unfolding IsAlarmCode alarm_texts
+unfolding IsAlarmCode alarm_codes
 listed_11 = refl
 
 listed_12 : IsAlarmCode 12
-unfolding IsAlarmCode alarm_texts
+unfolding IsAlarmCode alarm_codes
 listed_12 = refl
 
 listed_16 : IsAlarmCode 16
-unfolding IsAlarmCode alarm_texts
+unfolding IsAlarmCode alarm_codes
 listed_16 = refl
 
 listed_17 : IsAlarmCode 17
-unfolding IsAlarmCode alarm_texts
+unfolding IsAlarmCode alarm_codes
 listed_17 = refl
 
 listed_33 : IsAlarmCode 33
-unfolding IsAlarmCode alarm_texts
+unfolding IsAlarmCode alarm_codes
 listed_33 = refl
 
 -- an alarm, where one comes, is in the table

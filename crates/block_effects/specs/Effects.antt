@@ -23,7 +23,7 @@ use Rattle.sync_types.specs.declared.Item.{Item}
 use Rattle.sync_types.specs.declared.Part.TheVariants.{Move}
 use Rattle.block_effects.specs.Shapes.{shaped_by, turned_by, plane_of}
 use Rattle.block_effects.specs.Words.{SetupView, Progress, parameter_in, value_in, assignment, increment, first_progress, words_done}
-use Rattle.nc_faults.specs.declared.alarms.TheConstants.{REPETITION_COUNT, NO_SUCH_PROGRAM, ARC_WORDS, GROUP_TWICE}
+use Rattle.fault_codes.specs.declared.alarms.TheConstants.{REPETITION_COUNT, NO_SUCH_PROGRAM, ARC_WORDS, GROUP_TWICE}
 use Rattle.g_groups.specs.declared.numbers.TheConstants.{MOTION_GROUP, DWELL_GROUP, AREA_GROUP, PLANE_GROUP, OFFSET_GROUP}
 use Rattle.nc_blocks.specs.declared.limits.TheConstants.{PASS_LIMIT}
 

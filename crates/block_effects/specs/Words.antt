@@ -13,7 +13,7 @@ use Rattle.nc_expressions.specs.Value.{◌>>=◌, in_range_or_alarm, value_of}
 use Rattle.nc_blocks.specs.Statement.{OperandView, Value, Text, AxisName, WordView, Assign, AssignAt, G, Axis, Radius, Aux, End}
 use Rattle.block_effects.specs.declared.parameters.Change.{Change}
 use Rattle.block_effects.specs.declared.progress.WordsDone.{WordsDone}
-use Rattle.nc_faults.specs.declared.alarms.TheConstants.{PARAMETER_INDEX, ADDRESS_TWICE, NO_SUCH_AXIS, GEOMETRY_AXIS_BY_NAME}
+use Rattle.fault_codes.specs.declared.alarms.TheConstants.{PARAMETER_INDEX, ADDRESS_TWICE, NO_SUCH_AXIS, GEOMETRY_AXIS_BY_NAME}
 use Rattle.nc_expressions.specs.declared.limits.TheConstants.{PARAMETER_LIMIT, LAST_PARAMETER}
 use Rattle.axis_sets.specs.declared.limits.TheConstants.{AXIS_LIMIT}
 

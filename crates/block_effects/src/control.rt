@@ -14,11 +14,11 @@ ghost use Rattle.nc_expressions.specs.declared.limits.TheConstants.{LAST_PARAMET
 
 use crate::course::{Course, Setup};
 use crate::parameters::{Change, Parameters};
+use fault_codes::alarms::{NO_SUCH_PROGRAM, REPETITION_COUNT};
 use micro_units::Num;
 use nc_blocks::{JumpTo, NameText, PASS_LIMIT, Stmt};
 use nc_control_flow::Outcome;
 use nc_expressions::{Expr, Names, eval};
-use nc_faults::alarms::{NO_SUCH_PROGRAM, REPETITION_COUNT};
 
 /// Whether a value counts as true.
 fn is_true(value: Num) -> bool

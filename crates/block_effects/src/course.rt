@@ -4,7 +4,7 @@ use axis_sets::AxisId;
 use micro_units::Um;
 use nc_blocks::NameText;
 use nc_control_flow::Outcome;
-use nc_faults::NoMemory;
+use out_of_memory::NoMemory;
 use sync_types::Item;
 use thiserror::Error;
 

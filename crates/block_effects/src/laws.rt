@@ -4,7 +4,7 @@ ghost use Rattle.std.specs.Prelude.{◌≡◌, ℕ, Option, Some, Ok, Err};
 ghost use Rattle.block_motions.specs.Motions.{IsMotionOf};
 ghost use Rattle.path_geometry.specs.declared.motion.Motion.{Motion};
 ghost use Rattle.nc_blocks.specs.Statement.{Statement};
-ghost use Rattle.nc_faults.specs.Texts.{IsAlarmCode};
+ghost use Rattle.fault_codes.specs.Codes.{IsAlarmCode};
 ghost use Rattle.sync_types.specs.declared.Item.{Item};
 ghost use Rattle.sync_types.specs.Items.{motion_of};
 ghost use Rattle.block_effects.specs.Effects.{Effect, SituationView, effect_of};

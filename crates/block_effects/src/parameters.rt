@@ -7,9 +7,9 @@ ghost use Rattle.block_effects.specs.Words as model;
 ghost use Rattle.block_effects.specs.Words.{parameters_before, zeros, IsGiven, IsUndone};
 ghost use Rattle.nc_expressions.specs.declared.limits.TheConstants.{LAST_PARAMETER};
 
+use fault_codes::alarms::{NUMBER_TOO_LARGE, PARAMETER_INDEX};
 use micro_units::Num;
 use nc_expressions::{Expr, Names, PARAMETER_LIMIT, eval, index_of};
-use nc_faults::alarms::{NUMBER_TOO_LARGE, PARAMETER_INDEX};
 use std::alloc::{AllocError, Global};
 use std::marker::Model;
 

@@ -12,10 +12,10 @@ use crate::parameters::{Change, Parameters};
 use crate::situation::ChannelAxes;
 use axis_sets::{AXIS_LIMIT, AxisId};
 use block_motions::{ArcWords, Programmed, Targets};
+use fault_codes::alarms::{ADDRESS_TWICE, GEOMETRY_AXIS_BY_NAME, NO_SUCH_AXIS};
 use micro_units::Num;
 use nc_blocks::{Operand, Word};
 use nc_expressions::{Expr, eval};
-use nc_faults::alarms::{ADDRESS_TWICE, GEOMETRY_AXIS_BY_NAME, NO_SUCH_AXIS};
 use path_geometry::Motion;
 
 /// What the words of a block have done so far, besides what they gave parameters.

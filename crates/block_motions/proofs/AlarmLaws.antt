@@ -1,7 +1,7 @@
 -- The alarms of motions are in the table of alarms.
 use Rattle.std.proofs.Common.{◌≡◌, ℕ, ℤ, pos, Bool, true, false, not, cond, List, Option, None, Some, Result, Ok, Err, subst, refl}
 use Rattle.std.specs.Prelude.{int_lt, unsigned_abs}
-use Rattle.nc_faults.specs.Texts.{IsAlarmCode, alarm_texts}
+use Rattle.fault_codes.specs.Codes.{IsAlarmCode, alarm_codes}
 use Rattle.frames.specs.declared.Plane.{Plane}
 use Rattle.path_geometry.specs.Arcs.{arc_with, unless_alarm, centre_alarm, arc_about, radius_alarm, centre_of, place_alarm, arc_placed, arc_of_radius}
 use Rattle.path_geometry.specs.Ends.{EndsView}
@@ -17,39 +17,39 @@ use Rattle.block_motions.specs.Sides.{SideView}
 use Rattle.block_motions.specs.declared.words.ArcWords.{ArcWords}
 
 pub listed_13 : IsAlarmCode 13
-unfolding IsAlarmCode alarm_texts
+unfolding IsAlarmCode alarm_codes
 listed_13 = refl
 
 pub listed_14 : IsAlarmCode 14
-unfolding IsAlarmCode alarm_texts
+unfolding IsAlarmCode alarm_codes
 listed_14 = refl
 
 listed_15 : IsAlarmCode 15
-unfolding IsAlarmCode alarm_texts
+unfolding IsAlarmCode alarm_codes
 listed_15 = refl
 
 pub listed_18 : IsAlarmCode 18
-unfolding IsAlarmCode alarm_texts
+unfolding IsAlarmCode alarm_codes
 listed_18 = refl
 
 listed_19 : IsAlarmCode 19
-unfolding IsAlarmCode alarm_texts
+unfolding IsAlarmCode alarm_codes
 listed_19 = refl
 
 listed_20 : IsAlarmCode 20
-unfolding IsAlarmCode alarm_texts
+unfolding IsAlarmCode alarm_codes
 listed_20 = refl
 
 listed_21 : IsAlarmCode 21
-unfolding IsAlarmCode alarm_texts
+unfolding IsAlarmCode alarm_codes
 listed_21 = refl
 
 listed_22 : IsAlarmCode 22
-unfolding IsAlarmCode alarm_texts
+unfolding IsAlarmCode alarm_codes
 listed_22 = refl
 
 listed_23 : IsAlarmCode 23
-unfolding IsAlarmCode alarm_texts
+unfolding IsAlarmCode alarm_codes
 listed_23 = refl
 
 -- ---- the alarm of an arc, if it has one

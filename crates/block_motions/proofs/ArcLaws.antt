@@ -25,7 +25,7 @@ use Rattle.block_motions.specs.Sides.{SideView}
 use Rattle.block_motions.specs.declared.words.ArcWords.{ArcWords}
 use Rattle.block_motions.proofs.ArcAxes.{about_axes, radius_axes}
 use Rattle.block_motions.proofs.Runs.{in_range, have_plane}
-use Rattle.nc_faults.specs.declared.alarms.TheConstants.{ARC_SCALE, ARC_WORDS, AXIS_NOT_OWNED, CENTRE_OUTSIDE_PLANE, NO_SUCH_AXIS, OUT_OF_RANGE}
+use Rattle.fault_codes.specs.declared.alarms.TheConstants.{ARC_SCALE, ARC_WORDS, AXIS_NOT_OWNED, CENTRE_OUTSIDE_PLANE, NO_SUCH_AXIS, OUT_OF_RANGE}
 
 -- ---- the centre and the size are in range
 

@@ -17,7 +17,7 @@ use Rattle.block_motions.specs.Motions.{end_from, is_in_reach, are_in_reach, is_
 use Rattle.block_motions.proofs.Ends.{le_or_lt, ends_all, Differ, ends_once}
 use Rattle.block_motions.proofs.GoalLaws.{IsFit, AllFit, goals_fit}
 use Rattle.block_motions.proofs.Reaches.{reach_at, own_at}
-use Rattle.nc_faults.specs.declared.alarms.TheConstants.{AXIS_NOT_OWNED, NO_SUCH_AXIS, OUT_OF_RANGE}
+use Rattle.fault_codes.specs.declared.alarms.TheConstants.{AXIS_NOT_OWNED, NO_SUCH_AXIS, OUT_OF_RANGE}
 
 -- ---- the motion of a block
 

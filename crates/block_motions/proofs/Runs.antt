@@ -13,7 +13,7 @@ use Rattle.path_geometry.specs.declared.motion.Motion.{Motion}
 use Rattle.block_motions.specs.Arcs.{run_in_range, is_moved, can_run, some_motion, arc_given, arc_to}
 use Rattle.block_motions.specs.Sides.{SideView}
 use Rattle.block_motions.specs.declared.words.ArcWords.{ArcWords}
-use Rattle.nc_faults.specs.declared.alarms.TheConstants.{AXIS_NOT_OWNED, OUT_OF_RANGE}
+use Rattle.fault_codes.specs.declared.alarms.TheConstants.{AXIS_NOT_OWNED, OUT_OF_RANGE}
 
 all_true : {X : Type 0} (f : X → Bool) (xs : List X) → list_all f xs ≡ true → All (λ x. f x ≡ true) xs
 all_true f [] is = All-nil (λ x. f x ≡ true)

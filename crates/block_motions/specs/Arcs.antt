@@ -22,7 +22,7 @@ use Rattle.micro_units.specs.Position.{is_position}
 use Rattle.path_geometry.specs.declared.motion.Motion.{Motion}
 use Rattle.block_motions.specs.Sides.{SideView}
 use Rattle.block_motions.specs.declared.words.ArcWords.{ArcWords}
-use Rattle.nc_faults.specs.declared.alarms.TheConstants.{ARC_SCALE, ARC_WORDS, AXIS_NOT_OWNED, CENTRE_OUTSIDE_PLANE, NO_SUCH_AXIS, OUT_OF_RANGE}
+use Rattle.fault_codes.specs.declared.alarms.TheConstants.{ARC_SCALE, ARC_WORDS, AXIS_NOT_OWNED, CENTRE_OUTSIDE_PLANE, NO_SUCH_AXIS, OUT_OF_RANGE}
 use Rattle.g_groups.specs.declared.numbers.TheConstants.{MOTION_GROUP, PLANE_GROUP}
 
 -- the axes X, Y and Z are 0, 1 and 2; I, J and K are the words of the centre on them

@@ -12,7 +12,7 @@ use Rattle.block_motions.specs.declared.goals.Goal.{Goal}
 use Rattle.block_motions.specs.declared.goals.Goal.TheVariants.{To, By, TooFar}
 use Rattle.block_motions.specs.declared.goals.Targets.{Targets}
 use Rattle.block_motions.specs.Goals.{ConditionsView, have_axes, goals_of}
-use Rattle.nc_faults.specs.declared.alarms.TheConstants.{AXIS_NOT_OWNED, NO_SUCH_AXIS, OUT_OF_RANGE}
+use Rattle.fault_codes.specs.declared.alarms.TheConstants.{AXIS_NOT_OWNED, NO_SUCH_AXIS, OUT_OF_RANGE}
 use Rattle.axis_sets.specs.declared.limits.TheConstants.{AXIS_LIMIT}
 use Rattle.g_groups.specs.declared.numbers.TheConstants.{MOTION_GROUP, RAPID_GROUP, RTLIOF}
 

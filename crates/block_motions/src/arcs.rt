@@ -20,12 +20,12 @@ use crate::planes::Side;
 use crate::sides::{have_one_factor, in_turn, is_backward, sides_in};
 use crate::words::{ArcWords, centre_word, is_given, is_in_plane, moves_arc, plane_of};
 use axis_sets::{AXIS_LIMIT, AxisId, AxisSet, Positions};
+use fault_codes::alarms::{
+    ARC_SCALE, ARC_WORDS, AXIS_NOT_OWNED, CENTRE_OUTSIDE_PLANE, NO_SUCH_AXIS, OUT_OF_RANGE,
+};
 use frames::Plane;
 use micro_units::{Num, Um, is_position};
 use nc_blocks::Measure;
-use nc_faults::alarms::{
-    ARC_SCALE, ARC_WORDS, AXIS_NOT_OWNED, CENTRE_OUTSIDE_PLANE, NO_SUCH_AXIS, OUT_OF_RANGE,
-};
 use path_geometry::{Ends, Motion, arc_by_centre, arc_by_radius};
 
 /// The goals, in which an axis without a goal stays.

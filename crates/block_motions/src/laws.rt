@@ -1,7 +1,7 @@
 //! Laws of the motion of a block. The functions do nothing: their contracts are the laws.
 
 ghost use Rattle.std.specs.Prelude.{◌≡◌, ℕ, ℤ, Bool, List, Option, Some, Ok, Err};
-ghost use Rattle.nc_faults.specs.Texts.{IsAlarmCode};
+ghost use Rattle.fault_codes.specs.Codes.{IsAlarmCode};
 ghost use Rattle.path_geometry.specs.Motions.{IsSound};
 ghost use Rattle.path_geometry.specs.declared.motion.Motion.{Motion};
 ghost use Rattle.block_motions.specs.Arcs.{arc_motion};

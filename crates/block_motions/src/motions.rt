@@ -10,9 +10,9 @@ use crate::goals::{Conditions, Goal, Targets, have_axes, put_goals, word};
 use crate::words::is_any;
 use arrayvec::ArrayVec;
 use axis_sets::{AXIS_LIMIT, AxisId, AxisSet, Positions};
+use fault_codes::alarms::{AXIS_NOT_OWNED, NO_SUCH_AXIS, OUT_OF_RANGE};
 use g_groups::{MOTION_GROUP, RAPID_GROUP, RTLIOF};
 use micro_units::{Um, is_position};
-use nc_faults::alarms::{AXIS_NOT_OWNED, NO_SUCH_AXIS, OUT_OF_RANGE};
 use path_geometry::{Ends, Motion};
 
 /// Where an axis stands.

@@ -9,7 +9,7 @@ use crate::reads::block_reads;
 use micro_units::Num;
 use nc_blocks::Stmt;
 use nc_expressions::{Names, PARAMETER_LIMIT};
-use nc_faults::NoMemory;
+use out_of_memory::NoMemory;
 use std::alloc::Global;
 
 /// A parameter that a block reads.

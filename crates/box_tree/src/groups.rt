@@ -8,7 +8,7 @@ ghost use Rattle.swept_boxes.specs.Boxes.{boxes_meet};
 ghost use Rattle.swept_boxes.specs.declared.Box3.{Box3};
 
 use crate::boxes::{do_meet, joined};
-use nc_faults::NoMemory;
+use out_of_memory::NoMemory;
 use std::alloc::Global;
 use swept_boxes::Box3;
 

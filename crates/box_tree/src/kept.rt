@@ -6,7 +6,7 @@ ghost use Rattle.swept_boxes.specs.Boxes.{boxes_meet};
 ghost use Rattle.swept_boxes.specs.declared.Box3.{Box3};
 
 use crate::{BoxTree, PieceTree};
-use nc_faults::NoMemory;
+use out_of_memory::NoMemory;
 use std::alloc::Global;
 use std::marker::Model;
 

@@ -8,7 +8,7 @@ use crate::BoxTree;
 use crate::groups::{Group, do_groups_meet, join_groups, met_between};
 use crate::slants::{Slants, pass_aslant, slants_of};
 use arrayvec::ArrayVec;
-use nc_faults::NoMemory;
+use out_of_memory::NoMemory;
 use std::alloc::Global;
 use std::marker::Model;
 use swept_boxes::Box3;

@@ -6,7 +6,7 @@ ghost use Rattle.swept_boxes.specs.Boxes.{boxes_meet};
 use crate::boxes::{first_after, first_met};
 use crate::groups::{Group, first_of_any, groups_of, met_between};
 use crate::slants::{Slants, slants_of};
-use nc_faults::NoMemory;
+use out_of_memory::NoMemory;
 use std::alloc::Global;
 use std::marker::Model;
 use swept_boxes::Box3;

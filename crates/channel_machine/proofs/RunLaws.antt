@@ -11,7 +11,7 @@ use Rattle.nc_blocks.specs.Statement.{BlockView}
 use Rattle.nc_control_flow.specs.Counted.{next_going}
 use Rattle.nc_control_flow.proofs.Alarms.{Alarms, going_alarms}
 use Rattle.nc_expressions.specs.Value.{◌>>=◌}
-use Rattle.nc_faults.specs.Texts.{IsAlarmCode, alarm_texts}
+use Rattle.fault_codes.specs.Codes.{IsAlarmCode, alarm_codes}
 use Rattle.nc_subprograms.specs.declared.Place.{Place}
 use Rattle.nc_subprograms.specs.Stack.{stack_after_call}
 use Rattle.path_geometry.specs.Motions.{IsSound}
@@ -36,15 +36,15 @@ use Rattle.micro_units.specs.Position.{IsPosition}
 -- ---- alarms of control
 
 listed_5 : IsAlarmCode 5
-unfolding IsAlarmCode alarm_texts
+unfolding IsAlarmCode alarm_codes
 listed_5 = refl
 
 listed_6 : IsAlarmCode 6
-unfolding IsAlarmCode alarm_texts
+unfolding IsAlarmCode alarm_codes
 listed_6 = refl
 
 listed_32 : IsAlarmCode 32
-unfolding IsAlarmCode alarm_texts
+unfolding IsAlarmCode alarm_codes
 listed_32 = refl
 
 going_listed : {A : Type 0} (r : Result A ℕ) → Alarms r → IsListed r

@@ -6,7 +6,7 @@ use Rattle.channel_machine.specs.Run.{SurroundingsView, Executed, Deed, Channel,
 use Rattle.channel_machine.specs.Scripts.{segment_after}
 use Rattle.channel_machine.specs.declared.levels.Levels.{Levels}
 use Rattle.job_types.specs.Job.{JobView}
-use Rattle.nc_faults.specs.declared.alarms.TheConstants.{NO_PROGRAM_END}
+use Rattle.fault_codes.specs.declared.alarms.TheConstants.{NO_PROGRAM_END}
 use Rattle.sync_types.specs.declared.Action.{Action}
 use Rattle.sync_types.specs.declared.Action.TheVariants.{WaitM, SetM, ClearM, Init, Start, WaitE, Release, Get, End, Alarm}
 use Rattle.sync_types.specs.declared.Grant.{Grant}

@@ -13,7 +13,7 @@ use Rattle.nc_blocks.specs.Statement.{BlockView, Statement}
 use Rattle.nc_control_flow.specs.Parts.{statement_at}
 use Rattle.nc_control_flow.specs.Structures.{opening}
 use Rattle.nc_expressions.specs.Value.{◌>>=◌}
-use Rattle.nc_faults.specs.Texts.{IsAlarmCode}
+use Rattle.fault_codes.specs.Codes.{IsAlarmCode}
 use Rattle.nc_subprograms.specs.declared.Place.{Place}
 use Rattle.sync_types.specs.declared.Action.{Action}
 use Rattle.sync_types.specs.declared.Action.TheVariants.{End, Alarm}
@@ -33,7 +33,7 @@ use Rattle.channel_machine.specs.Coordination.{request_in, setting_with}
 use Rattle.channel_machine.specs.Levels.{lines_of, program_blocks, first_place, levels_from, levels_after}
 use Rattle.job_types.specs.Slots.{slot_axis, offset_of}
 use Rattle.job_types.specs.Axes.{axis_named}
-use Rattle.nc_faults.specs.declared.alarms.TheConstants.{TOO_MANY_BLOCKS, NO_PROGRAM_END}
+use Rattle.fault_codes.specs.declared.alarms.TheConstants.{TOO_MANY_BLOCKS, NO_PROGRAM_END}
 use Rattle.axis_sets.specs.declared.limits.TheConstants.{AXIS_LIMIT}
 use Rattle.channel_machine.specs.declared.limits.TheConstants.{BLOCK_LIMIT}
 

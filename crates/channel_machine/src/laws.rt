@@ -9,7 +9,7 @@ ghost use Rattle.sync_types.specs.declared.Grant.{Grant};
 ghost use Rattle.block_motions.specs.Motions.{IsMotionOf};
 ghost use Rattle.sync_types.specs.declared.Item.{Item};
 ghost use Rattle.sync_types.specs.declared.Action.TheVariants.{Alarm};
-ghost use Rattle.nc_faults.specs.declared.alarms.TheConstants.{NO_PROGRAM_END};
+ghost use Rattle.fault_codes.specs.declared.alarms.TheConstants.{NO_PROGRAM_END};
 ghost use Rattle.job_types.specs.Job.{JobView};
 ghost use Rattle.channel_machine.specs.CallLevels.{IsAlarmedThere};
 ghost use Rattle.channel_machine.specs.Scripts.{segment_after};

@@ -11,7 +11,7 @@ use crate::run::{Segment, run_on, run_segment};
 use crate::traces::{TracedSegment, trace_on, trace_segment};
 use axis_sets::{CHANNEL_PLACES, ChannelId};
 use job_types::Job;
-use nc_faults::NoMemory;
+use out_of_memory::NoMemory;
 use std::alloc::{AllocError, Global};
 use sync_types::Grant;
 

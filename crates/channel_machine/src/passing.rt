@@ -13,7 +13,7 @@ use crate::limits::BLOCK_LIMIT;
 use crate::local::{Local, State};
 use crate::run::{NextBlock, advance, find_block};
 use job_types::Job;
-use nc_faults::NoMemory;
+use out_of_memory::NoMemory;
 use std::alloc::Global;
 use sync_types::{Item, Part, Step};
 

@@ -7,7 +7,7 @@ ghost use Rattle.sync_types.specs.Turns.{AreEntries};
 
 use axis_sets::ChannelId;
 use coord_core::Board;
-use nc_faults::NoMemory;
+use out_of_memory::NoMemory;
 use std::alloc::{AllocError, Global};
 use sync_types::{Entry, Grant, StartState, Step};
 

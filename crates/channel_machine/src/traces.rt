@@ -12,9 +12,9 @@ use crate::levels::Levels;
 use crate::limits::BLOCK_LIMIT;
 use crate::local::{Local, State, copied_some};
 use crate::run::{Segment, advance};
+use fault_codes::alarms::NO_PROGRAM_END;
 use job_types::Job;
-use nc_faults::NoMemory;
-use nc_faults::alarms::NO_PROGRAM_END;
+use out_of_memory::NoMemory;
 use std::alloc::Global;
 use sync_types::{Action, Grant};
 

@@ -7,7 +7,7 @@ ghost use Rattle.swept_boxes.specs.Boxes.{boxes_meet};
 
 use crate::overlaps::share_place;
 use box_tree::{BoxTree, KeptTrees, do_meet};
-use nc_faults::NoMemory;
+use out_of_memory::NoMemory;
 use passed_boxes::PassedBoxes;
 use protection_zones::ZoneBox;
 use std::alloc::Global;

@@ -15,8 +15,8 @@ use crate::pair_counts::count_of_zones;
 use crate::zone_pairs::lists_of;
 use axis_sets::{ZONE_LIMIT, ZoneId};
 use job_types::{Job, ZoneLine};
-use nc_faults::NoMemory;
 use order_clocks::Clocks;
+use out_of_memory::NoMemory;
 use protection_zones::{Stretch, Stretches, zone_at};
 use std::alloc::{AllocError, Global};
 

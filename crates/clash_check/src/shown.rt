@@ -2,7 +2,7 @@
 ghost use Rattle.clash_check.specs.Shown as model;
 ghost use Rattle.std.specs.Prelude.{◌≡◌, ℕ, ◌+◌, ◌-◌, ◌≤◌, IfOk, length, vec_len, slice_index};
 
-use nc_faults::NoMemory;
+use out_of_memory::NoMemory;
 use protection_zones::Stretch;
 use std::alloc::Global;
 

@@ -9,7 +9,7 @@ ghost use Rattle.protection_zones.specs.ZoneBoxes.{IsFit};
 use crate::ascents::ascends_at;
 use crate::meetings::{Scene, first_of_zones};
 use axis_sets::ZONE_LIMIT;
-use nc_faults::NoMemory;
+use out_of_memory::NoMemory;
 use protection_zones::{Stretch, Stretches, zone_at};
 use std::alloc::Global;
 use sync_types::PlaceName;

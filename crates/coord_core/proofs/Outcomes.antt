@@ -6,7 +6,7 @@ use Rattle.coord_core.specs.Histories.{History, board_of, runs, outcome_in, outc
 use Rattle.coord_core.specs.declared.ChannelState.TheVariants as told
 use Rattle.coord_core.specs.declared.outcome.Outcome.{Outcome}
 use Rattle.coord_core.specs.declared.outcome.Outcome.TheVariants.{Granted, Done, Over, Closed, NoMemory}
-use Rattle.nc_faults.specs.declared.Alarm.{Alarm}
+use Rattle.fault_codes.specs.declared.Alarm.{Alarm}
 use Rattle.sync_types.specs.Boards.{State, IsIdle, IsRunning, IsHolding, HasEnded, HasAlarmed, is_running, grant_in}
 use Rattle.sync_types.specs.Runs.{is_over}
 use Rattle.sync_types.specs.Views.{StartView}

@@ -7,7 +7,7 @@ ghost use Rattle.coord_core.specs.declared.activities.Activity.TheVariants.{Runn
 
 use crate::ChannelState;
 use axis_sets::{AxisSet, CHANNEL_PLACES, ChannelId, ChannelSet};
-use nc_faults::Alarm;
+use fault_codes::Alarm;
 use sync_types::Grant;
 
 /// What a channel does, with what it goes on with or for what it waits, and its line.

@@ -13,7 +13,7 @@ use crate::sets::{are_within, has_none, is_within};
 use crate::state::State;
 use crate::table::{AxisLine, Table};
 use axis_sets::{AXIS_LIMIT, AxisSet, CHANNEL_PLACES, ChannelId, ChannelSet, MARK_LIMIT, ZoneId};
-use nc_faults::alarms::*;
+use fault_codes::alarms::*;
 use sync_types::Action;
 
 /// A line of a start state that has a channel, its program, and whether it runs.

@@ -12,7 +12,7 @@ use crate::activities::{activity_of, channel_state, grant_in};
 use crate::state::State;
 use arrayvec::ArrayVec;
 use axis_sets::ChannelId;
-use nc_faults::NoMemory;
+use out_of_memory::NoMemory;
 use std::alloc::Global;
 use std::marker::Model;
 use sync_types::{Entry, Grant, StartState, Step};

@@ -22,9 +22,9 @@ mod zones;
 pub use board::Board;
 pub use desk::Desk;
 pub use ends::{end_by, ends_of};
+use fault_codes::Alarm;
 pub use laws::{a_look_tells_what_is, others_let_a_channel_run};
 pub use locked::Locked;
-use nc_faults::Alarm;
 pub use outcome::Outcome;
 pub use turns::{act_turn, close_turn, look_turn};
 

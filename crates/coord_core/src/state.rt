@@ -17,7 +17,7 @@ use crate::table::Table;
 use crate::zones::note_on;
 use arrayvec::ArrayVec;
 use axis_sets::{CHANNEL_LIMIT, CHANNEL_PLACES, ChannelId, ChannelSet, Positions};
-use nc_faults::Alarm;
+use fault_codes::Alarm;
 use sync_types::{Action, Go, Step};
 
 /// Who goes on in a step.

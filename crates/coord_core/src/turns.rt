@@ -6,7 +6,7 @@ ghost use Rattle.coord_core.specs.Histories.{history_of, answer_of};
 
 use crate::{ChannelState, Locked, Outcome};
 use axis_sets::ChannelId;
-use nc_faults::NoMemory;
+use out_of_memory::NoMemory;
 use sync_types::Step;
 
 /// What a channel is told, or `None` where it has to wait. One that the board has not is idle.

@@ -2,7 +2,7 @@
 use Rattle.std.specs.Prelude.{ℕ, ℤ, zero, suc, ◌-◌, ◌==◌, Bool, List, [], ◌∷◌, map, filter, find, length, slice_index_or, Option, Some, None}
 use Rattle.std.specs.List.{range_with_len}
 use Rattle.std.specs.Option.{option_map_or}
-use Rattle.nc_faults.specs.declared.Alarm.{Alarm}
+use Rattle.fault_codes.specs.declared.Alarm.{Alarm}
 use Rattle.sync_types.specs.BoardEnds.{ends_of}
 use Rattle.sync_types.specs.Boards.{Ownership, Board, among, no_positions}
 use Rattle.sync_types.specs.Runs.{Script, Stage, first_stage, after_turn, moves_of, stage_after, lowest_running}

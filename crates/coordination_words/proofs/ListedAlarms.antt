@@ -15,7 +15,7 @@ use Rattle.nc_expressions.specs.declared.trees.BinaryOp.TheVariants.{Add, Sub, M
 use Rattle.nc_expressions.specs.Symbols.{index_of}
 use Rattle.nc_expressions.specs.Tree.{Tree, Number, Parameter, Indexed, Unary, Binary}
 use Rattle.nc_expressions.specs.Value.{◌>>=◌, in_range_or_alarm, quotient_or_alarm, root_or_alarm, unary_value, binary_value, at_index, value_of}
-use Rattle.nc_faults.specs.Texts.{IsAlarmCode, alarm_texts}
+use Rattle.fault_codes.specs.Codes.{IsAlarmCode, alarm_codes}
 use Rattle.sync_types.specs.declared.Action.TheVariants.{WaitM, SetM, ClearM, Init, Start, WaitE, Release, Get}
 use Rattle.coordination_words.specs.Operands.{or_alarm, operand_value, whole_below, mark_in, channel_in, if_passes, zone_in, state_of, state_in, axis_in, axis_found, slot_named, program_in, set_with, marks_in, channels_in, axes_in, first_in}
 use Rattle.coordination_words.specs.Programs.{program_named, program_text}
@@ -35,7 +35,7 @@ bind_listed (Err code) f first rest = first
 -- ---- values
 
 checked_listed : (z : ℤ) → IsListed (in_range_or_alarm z)
-unfolding in_range_or_alarm IsAlarmCode alarm_texts
+unfolding in_range_or_alarm IsAlarmCode alarm_codes
 checked_listed z = by_size (nat_lt (unsigned_abs z) (10 ^ 14))
   where
     by_size : (b : Bool) → IsListed (cond b (Ok z) (Err 1))
@@ -43,7 +43,7 @@ checked_listed z = by_size (nat_lt (unsigned_abs z) (10 ^ 14))
     by_size false = refl
 
 divided_listed : (divisor : ℤ) (value : Result ℤ ℕ) → IsListed value → IsListed (quotient_or_alarm divisor value)
-unfolding quotient_or_alarm IsAlarmCode alarm_texts
+unfolding quotient_or_alarm IsAlarmCode alarm_codes
 divided_listed divisor value listed = by_zero (int_eq divisor (pos 0))
   where
     by_zero : (b : Bool) → IsListed (cond b (Err 2) value)
@@ -51,7 +51,7 @@ divided_listed divisor value listed = by_zero (int_eq divisor (pos 0))
     by_zero false = listed
 
 rooted_listed : (z : ℤ) → IsListed (root_or_alarm z)
-unfolding root_or_alarm IsAlarmCode alarm_texts
+unfolding root_or_alarm IsAlarmCode alarm_codes
 rooted_listed z = by_sign (int_lt z (pos 0))
   where
     by_sign : (b : Bool) → IsListed (cond b (Err 3) (Ok (square_root z)))
@@ -87,7 +87,7 @@ binary_listed GreaterEqual x y = tt
 binary_listed LessEqual x y = tt
 
 at_index_listed : (parameters : ℕ → ℤ) (o : Option ℕ) → IsListed (at_index parameters o)
-unfolding IsAlarmCode alarm_texts
+unfolding IsAlarmCode alarm_codes
 at_index_listed parameters None = refl
 at_index_listed parameters (Some i) = tt
 
@@ -113,35 +113,35 @@ operand_listed parameters code is (Text bytes) = is
 operand_listed parameters code is (AxisName bytes) = is
 
 no_mark : IsAlarmCode 25
-unfolding IsAlarmCode alarm_texts
+unfolding IsAlarmCode alarm_codes
 no_mark = refl
 
 no_channel : IsAlarmCode 24
-unfolding IsAlarmCode alarm_texts
+unfolding IsAlarmCode alarm_codes
 no_channel = refl
 
 no_axis : IsAlarmCode 14
-unfolding IsAlarmCode alarm_texts
+unfolding IsAlarmCode alarm_codes
 no_axis = refl
 
 no_program : IsAlarmCode 7
-unfolding IsAlarmCode alarm_texts
+unfolding IsAlarmCode alarm_codes
 no_program = refl
 
 no_zone : IsAlarmCode 29
-unfolding IsAlarmCode alarm_texts
+unfolding IsAlarmCode alarm_codes
 no_zone = refl
 
 no_state : IsAlarmCode 30
-unfolding IsAlarmCode alarm_texts
+unfolding IsAlarmCode alarm_codes
 no_state = refl
 
 not_owned : IsAlarmCode 15
-unfolding IsAlarmCode alarm_texts
+unfolding IsAlarmCode alarm_codes
 not_owned = refl
 
 split : IsAlarmCode 31
-unfolding IsAlarmCode alarm_texts
+unfolding IsAlarmCode alarm_codes
 split = refl
 
 mark_listed : (parameters : ℕ → ℤ) (operand : OperandView) → IsListed (mark_in parameters operand)

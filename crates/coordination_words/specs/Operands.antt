@@ -5,7 +5,7 @@ use Rattle.std.specs.Str.{bytes_eq}
 use Rattle.nc_blocks.specs.Statement.{OperandView, Value, Text, AxisName}
 use Rattle.nc_expressions.specs.Value.{◌>>=◌, value_of}
 use Rattle.axis_sets.specs.declared.limits.TheConstants.{AXIS_LIMIT, CHANNEL_PLACES, MARK_LIMIT, ZONE_PLACES}
-use Rattle.nc_faults.specs.declared.alarms.TheConstants.{NO_SUCH_AXIS, NO_SUCH_CHANNEL, NO_SUCH_MARK, NO_SUCH_PROGRAM, ZONE_NOT_HELD, ZONE_STATE}
+use Rattle.fault_codes.specs.declared.alarms.TheConstants.{NO_SUCH_AXIS, NO_SUCH_CHANNEL, NO_SUCH_MARK, NO_SUCH_PROGRAM, ZONE_NOT_HELD, ZONE_STATE}
 use Rattle.coordination_words.specs.Programs.{program_named, program_text}
 use Rattle.coordination_words.specs.Settings.{SettingView}
 

@@ -6,7 +6,7 @@ use Rattle.nc_blocks.specs.Statement.{OperandView}
 use Rattle.nc_blocks.specs.declared.blocks.CoordWord.{CoordWord}
 use Rattle.nc_blocks.specs.declared.blocks.CoordWord.TheVariants as word
 use Rattle.nc_expressions.specs.Value.{◌>>=◌}
-use Rattle.nc_faults.specs.declared.alarms.TheConstants.{AXIS_NOT_OWNED, NO_SUCH_CHANNEL, NO_SUCH_MARK, NO_SUCH_PROGRAM, ZONE_NOT_HELD, ZONE_SPLIT, ZONE_STATE}
+use Rattle.fault_codes.specs.declared.alarms.TheConstants.{AXIS_NOT_OWNED, NO_SUCH_CHANNEL, NO_SUCH_MARK, NO_SUCH_PROGRAM, ZONE_NOT_HELD, ZONE_SPLIT, ZONE_STATE}
 use Rattle.sync_types.specs.BoardAlarms.{is_whole}
 use Rattle.sync_types.specs.declared.Action.TheVariants.{WaitM, SetM, ClearM, Init, Start, WaitE, Release, Get}
 use Rattle.coordination_words.specs.Operands.{mark_in, channel_in, zone_in, state_in, program_in, marks_in, channels_in, axes_in, first_in}

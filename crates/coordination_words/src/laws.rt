@@ -5,7 +5,7 @@ ghost use Rattle.axis_sets.specs.Sets.{IsEmpty};
 ghost use Rattle.nc_blocks.specs.Statement.{OperandView};
 ghost use Rattle.nc_blocks.specs.declared.blocks.CoordWord.{CoordWord};
 ghost use Rattle.nc_blocks.specs.declared.blocks.CoordWord.TheVariants as coord;
-ghost use Rattle.nc_faults.specs.Texts.{IsAlarmCode};
+ghost use Rattle.fault_codes.specs.Codes.{IsAlarmCode};
 ghost use Rattle.sync_types.specs.declared.Action.{Action};
 ghost use Rattle.sync_types.specs.declared.Action.TheVariants.{ClearM};
 ghost use Rattle.coordination_words.specs.Laws.{IsOfTheJob};

@@ -12,12 +12,12 @@ use axis_sets::{
     AxisId, AxisSet, CHANNEL_PLACES, ChannelId, ChannelSet, MARK_LIMIT, MarkSet, Member, Set,
     ZONE_PLACES, ZoneId,
 };
+use fault_codes::alarms::{
+    NO_SUCH_AXIS, NO_SUCH_CHANNEL, NO_SUCH_MARK, NO_SUCH_PROGRAM, ZONE_NOT_HELD, ZONE_STATE,
+};
 use micro_units::Num;
 use nc_blocks::Operand;
 use nc_expressions::{Names, eval};
-use nc_faults::alarms::{
-    NO_SUCH_AXIS, NO_SUCH_CHANNEL, NO_SUCH_MARK, NO_SUCH_PROGRAM, ZONE_NOT_HELD, ZONE_STATE,
-};
 
 // ---- values
 

@@ -15,12 +15,12 @@ use crate::operands::{
 };
 use crate::setting::Setting;
 use axis_sets::{AxisSet, ChannelId, ChannelSet};
-use nc_blocks::{CoordWord, Operand};
-use nc_expressions::Names;
-use nc_faults::alarms::{
+use fault_codes::alarms::{
     AXIS_NOT_OWNED, NO_SUCH_CHANNEL, NO_SUCH_MARK, NO_SUCH_PROGRAM, ZONE_NOT_HELD, ZONE_SPLIT,
     ZONE_STATE,
 };
+use nc_blocks::{CoordWord, Operand};
+use nc_expressions::Names;
 use sync_types::Action;
 
 /// The channels without one.

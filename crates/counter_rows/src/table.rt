@@ -7,7 +7,7 @@ ghost use Rattle.std.specs.Prelude.{◌≡◌, ℕ, ◌+◌, ◌<◌, ◌≤◌,
 
 use crate::Row;
 use axis_sets::CHANNEL_PLACES;
-use nc_faults::NoMemory;
+use out_of_memory::NoMemory;
 use std::alloc::Global;
 use std::marker::Model;
 

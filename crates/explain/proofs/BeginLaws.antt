@@ -5,7 +5,7 @@ use Rattle.std.specs.Fmt.{decimal}
 use Rattle.explain.specs.Explained.{IsExplained, IsHeaded, IsVerdictText, zones_told}
 use Rattle.explain.specs.Headlines.{BeginsWith, first_line, headline, stop_text}
 use Rattle.job_types.specs.Job.{JobView}
-use Rattle.nc_faults.specs.declared.Alarm.{Alarm}
+use Rattle.fault_codes.specs.declared.Alarm.{Alarm}
 use Rattle.order_clocks.specs.Clocked.{ClocksView}
 use Rattle.protection_zones.specs.Stretches.{StretchesView}
 use Rattle.stop_reasons.specs.Alarms.{alarm_text}

@@ -4,7 +4,7 @@ use Rattle.std.specs.Prelude.{◌||◌, nat_lt, IfOk, Result, Ok, Err, Option, V
 use Rattle.std.specs.Global.{Global}
 use Rattle.explain.specs.Drawn.{IsDrawn}
 use Rattle.job_types.specs.Job.{JobView}
-use Rattle.nc_faults.specs.declared.NoMemory.{NoMemory}
+use Rattle.out_of_memory.specs.declared.NoMemory.{NoMemory}
 use Rattle.picture_views.specs.declared.shapes.Picture.{Picture}
 use Rattle.protection_zones.specs.Stretches.{StretchesView}
 use Rattle.run_drawing.specs.Drawing.{drawing_text}

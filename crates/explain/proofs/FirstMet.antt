@@ -8,7 +8,7 @@ use Rattle.clash_check.specs.Verdicts.{alarm_by, budget_verdict, meeting_verdict
 use Rattle.explain.specs.Judgements.{AreMet, IsFirstMet}
 use Rattle.job_types.specs.Job.{JobView}
 use Rattle.met_boxes.specs.Meetings.{meetings_of, told_box, told_pair}
-use Rattle.nc_faults.specs.declared.NoMemory.{NoMemory}
+use Rattle.out_of_memory.specs.declared.NoMemory.{NoMemory}
 use Rattle.protection_zones.specs.Overlaps.{Order, Pair, compared_pairs}
 use Rattle.protection_zones.specs.Pieces.{pair_meets}
 use Rattle.protection_zones.specs.Stretches.{StretchesView}

@@ -4,7 +4,7 @@ use Rattle.exit_statuses.specs.declared.Status.{Status}
 use Rattle.explain.specs.Answers.{IsAnswerTo, IsJobAnswer, text_with}
 use Rattle.explain.specs.declared.words.Form.{Form}
 use Rattle.job_types.specs.Job.{JobView}
-use Rattle.nc_faults.specs.declared.Refusal.{Refusal}
+use Rattle.fault_codes.specs.declared.Refusal.{Refusal}
 
 pub answered : (form : Form) (lines input : List ℕ) (read : Result JobView Refusal) (job : JobView) (front text : List ℕ) (status told : Status) → lines ≡ input → read ≡ Ok job
     → IsJobAnswer form lines job front status → text ≡ text_with form input front → told ≡ status → IsAnswerTo read form input text told

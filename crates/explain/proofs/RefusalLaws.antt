@@ -1,7 +1,7 @@
 -- A refused input is told with its own refused lines.
 use Rattle.std.proofs.Common.{◌≡◌, ◌∙◌, ℕ, List, map, ap}
 use Rattle.explain.specs.Answers.{refused_text}
-use Rattle.nc_faults.specs.declared.Refusal.{Refusal}
+use Rattle.fault_codes.specs.declared.Refusal.{Refusal}
 use Rattle.refused_lines.specs.Listing.{refusals_text}
 use Rattle.refused_lines.specs.Rows.{refused_line}
 use Rattle.refused_lines.specs.declared.rows.RefusedLine.{RefusedLine}

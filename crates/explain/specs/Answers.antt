@@ -11,7 +11,7 @@ use Rattle.explain.specs.Judgements.{AreMet, IsExplainedBy}
 use Rattle.explain.specs.declared.words.Form.{Form}
 use Rattle.explain.specs.declared.words.Form.TheVariants.{Data, Drawing, Text}
 use Rattle.job_types.specs.Job.{JobView}
-use Rattle.nc_faults.specs.declared.Refusal.{Refusal}
+use Rattle.fault_codes.specs.declared.Refusal.{Refusal}
 use Rattle.order_clocks.specs.Clocked.{ClocksView}
 use Rattle.order_clocks.specs.Tells.{is_before_in}
 use Rattle.protection_zones.specs.Stretches.{StretchesView}

@@ -15,7 +15,7 @@ use growing_text::Text;
 use job_types::Job;
 use met_boxes::{Group, groups_of};
 use micro_units::Um;
-use nc_faults::NoMemory;
+use out_of_memory::NoMemory;
 use std::alloc::Global;
 use swept_boxes::Box3;
 use sync_types::StretchKind;

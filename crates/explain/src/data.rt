@@ -13,7 +13,7 @@ use axis_sets::{CHANNEL_PLACES, ChannelId};
 use box_clashes::clash_of;
 use clash_check::{PairNumber, pair_numbers};
 use met_boxes::{Group, Near, groups_of, nearest_of, zone_pairs_of};
-use nc_faults::NoMemory;
+use out_of_memory::NoMemory;
 use run_assumptions::{Assumed, Assumption, assumptions_of};
 use serde_json::Value;
 use std::alloc::{AllocError, Global};

@@ -4,7 +4,7 @@ ghost use Rattle.sync_types.specs.Runs.{ComesFrom};
 
 use axis_sets::AxisId;
 use growing_text::Text;
-use nc_faults::NoMemory;
+use out_of_memory::NoMemory;
 use serde_json::{Value, json};
 use std::alloc::{AllocError, Global};
 use stop_reasons::{Lack, MarkRow, Remedy, WaitRow, mark_rows, wait_rows};

@@ -28,7 +28,7 @@ use alarm_states::{AlarmState, alarm_state, say_state};
 use axis_sets::ChannelId;
 use growing_text::Text;
 use met_boxes::zone_pairs_of;
-use nc_faults::NoMemory;
+use out_of_memory::NoMemory;
 use run_assumptions::{Assumed, assumptions_of, say_assumptions};
 use std::alloc::Global;
 use stop_reasons::{say_alarm, say_race, say_stuck};

@@ -7,7 +7,7 @@ use crate::files::read_file;
 use exit_statuses::Status;
 use job_lines::INPUT_LIMIT;
 use joined_files::{ControlFile, begins_with_job, joined_input, other_parts};
-use nc_faults::NoMemory;
+use out_of_memory::NoMemory;
 use std::rt::Files;
 
 /// What the input of several files is called.

@@ -7,7 +7,7 @@ ghost use Rattle.explain.specs.LineTexts.{AreSaid};
 use growing_text::Text;
 use indexmap::IndexMap;
 use met_boxes::Group;
-use nc_faults::NoMemory;
+use out_of_memory::NoMemory;
 use std::alloc::Global;
 use told_places::{Meeting, Told, say_line};
 

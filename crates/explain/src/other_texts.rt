@@ -15,7 +15,7 @@ use crate::judged::Judged;
 use clash_check::{PairNumber, pair_numbers};
 use growing_text::Text;
 use met_boxes::{Near, nearest_of};
-use nc_faults::NoMemory;
+use out_of_memory::NoMemory;
 use std::alloc::Global;
 use told_places::{Told, say_place};
 use zone_pairs::{ZonePair, say_zone_pairs};

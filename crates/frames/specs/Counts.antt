@@ -4,7 +4,7 @@ use Rattle.std.specs.Int.RustNames.{unsigned_abs}
 use Rattle.frames.specs.declared.axis_map.AxisMap.{AxisMap}
 use Rattle.frames.specs.Faults.{is_scale}
 use Rattle.frames.specs.Images.{sign, other_sign}
-use Rattle.nc_faults.specs.declared.alarms.TheConstants.{OUT_OF_RANGE, SCALE_NOT_ALLOWED}
+use Rattle.fault_codes.specs.declared.alarms.TheConstants.{OUT_OF_RANGE, SCALE_NOT_ALLOWED}
 
 -- the shift of an axis that is moved by so many millionths before it goes
 abbrev pub shift_when_moved : AxisMap → ℤ → ℤ

@@ -3,7 +3,7 @@ use Rattle.std.specs.Prelude.{ℕ, ◌*◌, ◌%◌, ◌==◌, nat_lt, nat_le, i
 use Rattle.std.specs.Int.RustNames.{unsigned_abs}
 use Rattle.frames.specs.Maps.{Map, shifting, scaling, mirroring, turning}
 use Rattle.frames.specs.Images.{Image, image_of}
-use Rattle.nc_faults.specs.declared.alarms.TheConstants.{SCALE_NOT_ALLOWED, NO_QUARTER_TURN, OUT_OF_RANGE}
+use Rattle.fault_codes.specs.declared.alarms.TheConstants.{SCALE_NOT_ALLOWED, NO_QUARTER_TURN, OUT_OF_RANGE}
 
 -- the first of two alarms
 abbrev pub or_else : Option ℕ → Option ℕ → Option ℕ

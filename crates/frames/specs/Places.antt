@@ -5,7 +5,7 @@ use Rattle.micro_units.specs.Rounding.{half_away}
 use Rattle.micro_units.specs.declared.Um.{Um}
 use Rattle.frames.specs.Images.{Image, sign}
 use Rattle.frames.specs.Maps.{Point}
-use Rattle.nc_faults.specs.declared.alarms.TheConstants.{OUT_OF_RANGE}
+use Rattle.fault_codes.specs.declared.alarms.TheConstants.{OUT_OF_RANGE}
 
 -- the point that is programmed by these numbers, twice each value in millionths of a millimetre
 abbrev pub programmed_point : (ℕ → ℤ) → Point

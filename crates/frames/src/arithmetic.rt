@@ -7,8 +7,8 @@ ghost use Rattle.frames.specs.Places.{GivesPlace};
 ghost use Rattle.frames.specs.Images.{sign};
 ghost use Rattle.micro_units.specs.declared.limits.TheConstants.{CHANGE_LIMIT};
 
+use fault_codes::alarms::OUT_OF_RANGE;
 use micro_units::Um;
-use nc_faults::alarms::OUT_OF_RANGE;
 
 /// A factor in millionths times a value in millionths.
 pub(crate) fn product(factor: u32, value: i64) -> i128

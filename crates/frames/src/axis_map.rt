@@ -4,8 +4,8 @@ ghost use Rattle.std.specs.Prelude.{◌<◌, ◌≤◌, ◌^◌};
 ghost use Rattle.std.specs.Int.RustNames.{unsigned_abs};
 
 use crate::arithmetic::{doubled, in_slot, offset_part, product, rounded, sum, with_sign};
+use fault_codes::alarms::{OUT_OF_RANGE, SCALE_NOT_ALLOWED};
 use micro_units::{CHANGE_LIMIT, Num, POSITION_LIMIT, Um};
-use nc_faults::alarms::{OUT_OF_RANGE, SCALE_NOT_ALLOWED};
 
 /// Where an axis goes: to the slot, as shift + sign · factor · value.
 #[derive(Clone, Copy)]

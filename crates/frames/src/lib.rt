@@ -18,9 +18,9 @@ mod axis_map;
 mod laws;
 
 pub use axis_map::AxisMap;
+use fault_codes::alarms::NO_QUARTER_TURN;
 pub use laws::{image_is_of_the_chain, shifts_add_up, turns_and_mirrors_end};
 use micro_units::{Num, Um};
-use nc_faults::alarms::NO_QUARTER_TURN;
 
 /// A plane, with the two axes in which it turns from the first towards the second.
 #[derive(Clone, Copy, PartialEq, Eq)]

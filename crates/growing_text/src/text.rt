@@ -5,7 +5,7 @@ ghost use Rattle.growing_text.specs.Lengths.{millimetres_text, size_text};
 
 use crate::said::Said;
 use itoa::Buffer;
-use nc_faults::NoMemory;
+use out_of_memory::NoMemory;
 use std::alloc::Global;
 use std::marker::Model;
 

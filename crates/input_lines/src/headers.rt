@@ -5,7 +5,7 @@ ghost use Rattle.input_lines.specs.Headers.{AreHeaders};
 ghost use Rattle.input_lines.specs.Origins.{header_of};
 
 use crate::lines::Lines;
-use nc_faults::NoMemory;
+use out_of_memory::NoMemory;
 use std::alloc::Global;
 
 /// Whether a line is a header.

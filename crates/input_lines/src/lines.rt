@@ -5,7 +5,7 @@ ghost use Rattle.input_lines.specs.Lines.{line_starts, line_text, nth_line};
 ghost use Rattle.input_lines.specs.Origins.{header_of};
 
 use crate::headers::headers_of;
-use nc_faults::NoMemory;
+use out_of_memory::NoMemory;
 use std::alloc::Global;
 use std::marker::Model;
 

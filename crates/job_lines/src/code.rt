@@ -1,7 +1,7 @@
 //! The rules that a line can break.
 ghost use Rattle.std.specs.Prelude.{◌≡◌};
 ghost use Rattle.job_lines.specs.Code.{refusal_code};
-ghost use Rattle.nc_faults.specs.Texts.{IsRefusalCode};
+ghost use Rattle.fault_codes.specs.Codes.{IsRefusalCode};
 
 /// A rule that a line can break. The rules that a block breaks by itself have no name here.
 #[derive(Clone, Copy, PartialEq, Eq)]
@@ -36,7 +36,7 @@ pub enum Code {
 
 impl Code {
     /// The code that a refusal shows.
-    #[tactic(auto, unfolding(crate::specs::Code::refusal_code, nc_faults::specs::Texts::IsRefusalCode, nc_faults::specs::Texts::refusal_texts))]
+    #[tactic(auto, unfolding(crate::specs::Code::refusal_code, fault_codes::specs::Codes::IsRefusalCode, fault_codes::specs::Codes::refusal_codes))]
     pub fn shown(self) -> u16
         ensures value { result ≡ refusal_code self }
         ensures listed { IsRefusalCode result }

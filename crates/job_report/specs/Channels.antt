@@ -4,8 +4,9 @@ use Rattle.std.specs.Fmt.{decimal}
 use Rattle.std.specs.List.{enumerate_from, filter_map, flat_map, last_or, list_any, range_with_len}
 use Rattle.axis_sets.specs.declared.limits.TheConstants.{CHANNEL_LIMIT}
 use Rattle.job_types.specs.Job.{JobView}
-use Rattle.nc_faults.specs.Texts.{IsAlarmCode, alarm_text_of}
-use Rattle.nc_faults.specs.declared.Alarm.{Alarm}
+use Rattle.fault_codes.specs.Codes.{IsAlarmCode}
+use Rattle.nc_faults.specs.Texts.{alarm_text_of}
+use Rattle.fault_codes.specs.declared.Alarm.{Alarm}
 use Rattle.sync_types.specs.Views.{EntryView, RunView}
 use Rattle.sync_types.specs.declared.ChannelEnd.{ChannelEnd}
 use Rattle.sync_types.specs.declared.ChannelEnd.TheVariants.{Idle, Ended, Holding, Alarmed}

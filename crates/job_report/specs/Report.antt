@@ -5,7 +5,7 @@ use Rattle.std.specs.List.{enumerate_from, flat_map}
 use Rattle.std.specs.Option.{option_map_or}
 use Rattle.job_types.specs.Job.{JobView}
 use Rattle.nc_faults.specs.Texts.{refusal_text_of}
-use Rattle.nc_faults.specs.declared.Refusal.{Refusal}
+use Rattle.fault_codes.specs.declared.Refusal.{Refusal}
 use Rattle.sync_types.specs.Views.{RunView}
 use Rattle.sync_types.specs.declared.verdicts.Verdict.{Verdict}
 use Rattle.job_report.specs.Channels.{channels_of, channel_lines}

@@ -1,7 +1,7 @@
 -- Meaning. The verdict line.
 use Rattle.std.specs.Prelude.{ℕ, List, ◌++◌, unwrap_or, codes}
 use Rattle.std.specs.Fmt.{decimal}
-use Rattle.nc_faults.specs.declared.Alarm.{Alarm}
+use Rattle.fault_codes.specs.declared.Alarm.{Alarm}
 use Rattle.sync_types.specs.declared.runs.Race.{Race}
 use Rattle.sync_types.specs.declared.verdicts.PlaceName.{PlaceName}
 use Rattle.sync_types.specs.declared.verdicts.StretchKind.{StretchKind}

@@ -7,15 +7,17 @@ ghost use Rattle.job_report.specs.Actions.{step_line};
 ghost use Rattle.job_report.specs.Channels as model;
 ghost use Rattle.job_report.specs.Motions.{item_line};
 ghost use Rattle.job_report.specs.Pages.{Puts, stage};
-ghost use Rattle.nc_faults.specs.Texts.{IsAlarmCode, alarm_text_of};
+ghost use Rattle.fault_codes.specs.Codes.{IsAlarmCode};
+ghost use Rattle.nc_faults.specs.Texts.{alarm_text_of};
 
 use crate::actions::push_step_line;
 use crate::motions::push_item_line;
 use crate::page::{LINE_ROOM, PAGE_ROOM, Page, TEXT_ROOM, begin_line};
 use axis_sets::ChannelId;
 use edge_io::{Failed, Sink};
+use fault_codes::Alarm;
 use job_types::Job;
-use nc_faults::{Alarm, alarm_text};
+use nc_faults::alarm_text;
 use sync_types::{ChannelEnd, Entry, Item, Run, Step};
 
 /// Whether an entry is a step of a channel.

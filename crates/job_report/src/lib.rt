@@ -8,7 +8,7 @@ ghost use Rattle.edge_io.specs.Moves.{HasCause, Grows, Counts, GrowsByFront};
 ghost use Rattle.job_report.specs.Channels.{IsListedEnd};
 ghost use Rattle.job_report.specs.Report.{report_bytes, refusal_bytes};
 ghost use Rattle.job_report.specs.Summary.{summary_bytes};
-ghost use Rattle.nc_faults.specs.Texts.{IsRefusalCode};
+ghost use Rattle.fault_codes.specs.Codes.{IsRefusalCode};
 
 mod actions;
 mod channels;
@@ -20,8 +20,8 @@ mod summaries;
 mod verdicts;
 
 use edge_io::{Failed, Sink};
+use fault_codes::Refusal;
 use job_types::Job;
-use nc_faults::Refusal;
 use page::{Page, flush};
 pub use summaries::Figures;
 use summaries::push_summary;

@@ -5,7 +5,8 @@ ghost use Rattle.job_report.specs.Channels.{IsListedEnd, channels_of, has_channe
 ghost use Rattle.job_report.specs.Pages.{Puts, stage};
 ghost use Rattle.job_report.specs.Report as model;
 ghost use Rattle.job_report.specs.Verdicts.{verdict_line};
-ghost use Rattle.nc_faults.specs.Texts.{IsRefusalCode, refusal_text_of};
+ghost use Rattle.fault_codes.specs.Codes.{IsRefusalCode};
+ghost use Rattle.nc_faults.specs.Texts.{refusal_text_of};
 
 use crate::channels::put_channel;
 use crate::page::{LINE_ROOM, PAGE_ROOM, Page, TEXT_ROOM, begin_line, flush};
@@ -13,8 +14,9 @@ use crate::verdicts::push_verdict_line;
 use arrayvec::ArrayVec;
 use axis_sets::{CHANNEL_LIMIT, ChannelId};
 use edge_io::{Failed, Sink};
+use fault_codes::Refusal;
 use job_types::Job;
-use nc_faults::{Refusal, refusal_text};
+use nc_faults::refusal_text;
 use sync_types::{Run, Verdict};
 
 /// Whether the job has a channel.

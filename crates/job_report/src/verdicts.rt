@@ -4,7 +4,7 @@ ghost use Rattle.job_report.specs.Verdicts as model;
 
 use crate::page::{LINE_ROOM, PAGE_ROOM, Page};
 use axis_sets::ChannelId;
-use nc_faults::Alarm;
+use fault_codes::Alarm;
 use sync_types::{PlaceName, Race, StretchKind, Verdict};
 
 /// The most bytes of a place as the verdict names it.

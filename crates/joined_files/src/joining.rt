@@ -9,7 +9,7 @@ use crate::lines::{
 };
 use crate::names::{base_name, ends_so, put_header};
 use growing_text::Text;
-use nc_faults::NoMemory;
+use out_of_memory::NoMemory;
 use std::alloc::Global;
 
 /// A file of a control.

@@ -5,7 +5,7 @@ ghost use Rattle.std.specs.Path.{rfind_below};
 ghost use Rattle.joined_files.specs.Names as model;
 
 use growing_text::Text;
-use nc_faults::NoMemory;
+use out_of_memory::NoMemory;
 use std::alloc::Global;
 
 /// The most letters that the name of a program has.

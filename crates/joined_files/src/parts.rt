@@ -3,7 +3,7 @@ ghost use Rattle.std.specs.Prelude.{◌≡◌, IfOk, map};
 ghost use Rattle.joined_files.specs.Parts as model;
 
 use crate::lines::{first_word, is_other_part, lines_of, trimmed, without_mark};
-use nc_faults::NoMemory;
+use out_of_memory::NoMemory;
 use std::alloc::Global;
 
 /// A part of a file that is no program.

@@ -5,7 +5,7 @@ ghost use Rattle.met_boxes.specs.GroupSteps as steps;
 
 use axis_sets::{ChannelId, ZoneId};
 use indexmap::IndexSet;
-use nc_faults::NoMemory;
+use out_of_memory::NoMemory;
 use std::alloc::{AllocError, Global};
 use sync_types::{PlaceName, StretchKind};
 use told_places::Meeting;

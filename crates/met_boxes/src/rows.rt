@@ -6,7 +6,7 @@ ghost use Rattle.met_boxes.specs.Times.{lists_in, times_from};
 ghost use Rattle.protection_zones.specs.Overlaps.{zone_times};
 
 use job_types::{Job, ZoneLine};
-use nc_faults::NoMemory;
+use out_of_memory::NoMemory;
 use protection_zones::{Stretch, Stretches, zone_at};
 use std::alloc::{AllocError, Global};
 use std::marker::Model;

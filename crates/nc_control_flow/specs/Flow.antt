@@ -10,7 +10,7 @@ use Rattle.nc_control_flow.specs.declared.repeats.Control.TheVariants.{Done, Com
 use Rattle.nc_control_flow.specs.Parts.{statement_at}
 use Rattle.nc_control_flow.specs.Repetitions.{Going, is_within, going_after_passes}
 use Rattle.nc_control_flow.specs.Moves.{OutcomeView, move_of}
-use Rattle.nc_faults.specs.declared.alarms.TheConstants.{TOO_MANY_REPETITIONS}
+use Rattle.fault_codes.specs.declared.alarms.TheConstants.{TOO_MANY_REPETITIONS}
 use Rattle.nc_control_flow.specs.declared.limits.TheConstants.{REPETITION_LIMIT}
 
 -- a leap ends the repetitions whose blocks it leaves; one too many is an alarm

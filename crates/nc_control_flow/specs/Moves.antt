@@ -11,7 +11,7 @@ use Rattle.nc_control_flow.specs.declared.flow.Move.TheVariants.{Onward, Leap, S
 use Rattle.nc_control_flow.specs.Repetitions.{OwnFits}
 use Rattle.nc_control_flow.specs.Structures.{closing, branching, opening}
 use Rattle.nc_control_flow.specs.Targets.{target_of, first_of_range, single_block}
-use Rattle.nc_faults.specs.declared.alarms.TheConstants.{JUMP_TARGET_MISSING}
+use Rattle.fault_codes.specs.declared.alarms.TheConstants.{JUMP_TARGET_MISSING}
 
 -- what came of a block, with the target of a jump in it
 pub data OutcomeView : Type 0 where

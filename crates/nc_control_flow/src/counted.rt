@@ -10,8 +10,8 @@ ghost use Rattle.nc_control_flow.specs.Counted.{plain_from, end_of};
 
 use crate::flow::{Flow, Move, Next, Outcome};
 use crate::repeats::{Control, Repeats, Running};
+use fault_codes::alarms::TOO_MANY_REPETITIONS;
 use nc_blocks::Block;
-use nc_faults::alarms::TOO_MANY_REPETITIONS;
 use std::alloc::{AllocError, Global};
 
 /// For each block the place of the nearest one without `/` at or after it; without one the place

@@ -8,9 +8,9 @@ use crate::index::Index;
 use crate::parts::{Sought, parts};
 use crate::repeats::{Control, Repeats, Running};
 use crate::structures::{found_ahead, found_before};
+use fault_codes::alarms::TOO_MANY_REPETITIONS;
 use nc_blocks::{Block, Target, Way};
-use nc_faults::NoMemory;
-use nc_faults::alarms::TOO_MANY_REPETITIONS;
+use out_of_memory::NoMemory;
 use std::alloc::Global;
 use std::marker::Model;
 

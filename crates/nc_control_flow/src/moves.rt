@@ -9,8 +9,8 @@ use crate::flow::{Flow, Move, Outcome};
 use crate::index::{places_of_label, places_of_number};
 use crate::places::{first_after, last_before};
 use crate::repeats::Running;
+use fault_codes::alarms::JUMP_TARGET_MISSING;
 use nc_blocks::{NameText, Stmt, Target, Way};
-use nc_faults::alarms::JUMP_TARGET_MISSING;
 
 impl Flow {
     ghost use Rattle.nc_control_flow.specs.Structures.{closing, branching, opening};

@@ -13,7 +13,7 @@ use Rattle.nc_expressions.specs.declared.trees.BinaryOp.TheVariants.{Add, Sub, M
 use Rattle.nc_expressions.specs.Symbols.{truth, index_of}
 use Rattle.nc_expressions.specs.Tree.{Tree, Number, Parameter, Indexed, Unary, Binary}
 use Rattle.micro_units.specs.declared.limits.TheConstants.{NUMBER_LIMIT}
-use Rattle.nc_faults.specs.declared.alarms.TheConstants.{NUMBER_TOO_LARGE, DIVISION_BY_ZERO, NEGATIVE_ROOT, PARAMETER_INDEX}
+use Rattle.fault_codes.specs.declared.alarms.TheConstants.{NUMBER_TOO_LARGE, DIVISION_BY_ZERO, NEGATIVE_ROOT, PARAMETER_INDEX}
 
 infixl 10 ◌>>=◌
 abbrev pub ◌>>=◌ : {A B : Type 0} → Result A ℕ → (A → Result B ℕ) → Result B ℕ

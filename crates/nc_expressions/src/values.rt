@@ -10,8 +10,8 @@ ghost use Rattle.nc_expressions.specs.declared.limits.TheConstants.{LAST_PARAMET
 
 use crate::symbols::{index_of, truth};
 use crate::trees::{BinaryOp, Expr, UnaryOp};
+use fault_codes::alarms::{DIVISION_BY_ZERO, NEGATIVE_ROOT, NUMBER_TOO_LARGE, PARAMETER_INDEX};
 use micro_units::{Num, NumFault};
-use nc_faults::alarms::{DIVISION_BY_ZERO, NEGATIVE_ROOT, NUMBER_TOO_LARGE, PARAMETER_INDEX};
 
 /// The values of the 1,000 parameters.
 pub trait Names {

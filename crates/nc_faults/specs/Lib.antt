@@ -1,2 +1,1 @@
-pub mod NoMemory
 pub mod Texts

@@ -1,7 +1,6 @@
 -- Meaning. The printed texts of refusals and alarms, by their codes.
-use Rattle.std.specs.Prelude.{ℕ, ◌==◌, Bool, IsTrue, List, [], ◌∷◌, codes, if◌then◌else◌}
-use Rattle.std.specs.List.{list_any}
-use Rattle.nc_faults.specs.declared.alarms.TheConstants.{NUMBER_TOO_LARGE, DIVISION_BY_ZERO, NEGATIVE_ROOT, PARAMETER_INDEX, JUMP_TARGET_MISSING, TOO_MANY_LEVELS, NO_SUCH_PROGRAM, TOO_MANY_BLOCKS, NO_PROGRAM_END, GROUP_TWICE, SCALE_NOT_ALLOWED, NO_QUARTER_TURN, OUT_OF_RANGE, NO_SUCH_AXIS, AXIS_NOT_OWNED, GEOMETRY_AXIS_BY_NAME, ADDRESS_TWICE, ARC_WORDS, CENTRE_OUTSIDE_PLANE, RADIUS_DIFFERS, ARC_DEGENERATE, RADIUS_TOO_SMALL, ARC_SCALE, NO_SUCH_CHANNEL, NO_SUCH_MARK, OWN_MARK_STANDS, CHANNEL_NOT_IDLE, NO_PROGRAM_SELECTED, ZONE_NOT_HELD, ZONE_STATE, ZONE_SPLIT, TOO_MANY_REPETITIONS, REPETITION_COUNT}
+use Rattle.std.specs.Prelude.{ℕ, ◌==◌, List, [], ◌∷◌, codes, if◌then◌else◌}
+use Rattle.fault_codes.specs.declared.alarms.TheConstants.{NUMBER_TOO_LARGE, DIVISION_BY_ZERO, NEGATIVE_ROOT, PARAMETER_INDEX, JUMP_TARGET_MISSING, TOO_MANY_LEVELS, NO_SUCH_PROGRAM, TOO_MANY_BLOCKS, NO_PROGRAM_END, GROUP_TWICE, SCALE_NOT_ALLOWED, NO_QUARTER_TURN, OUT_OF_RANGE, NO_SUCH_AXIS, AXIS_NOT_OWNED, GEOMETRY_AXIS_BY_NAME, ADDRESS_TWICE, ARC_WORDS, CENTRE_OUTSIDE_PLANE, RADIUS_DIFFERS, ARC_DEGENERATE, RADIUS_TOO_SMALL, ARC_SCALE, NO_SUCH_CHANNEL, NO_SUCH_MARK, OWN_MARK_STANDS, CHANNEL_NOT_IDLE, NO_PROGRAM_SELECTED, ZONE_NOT_HELD, ZONE_STATE, ZONE_SPLIT, TOO_MANY_REPETITIONS, REPETITION_COUNT, NO_SUCH_TOOL, TOOL_PLANE, TOO_MANY_ARGUMENTS}
 
 -- what a refusal says, by its code
 unfoldable pub refusal_texts : List (ℕ × List ℕ)
@@ -26,6 +25,9 @@ refusal_texts =
     (25, codes "structure not matched") ∷
     (26, codes "nested too deep") ∷
     (27, codes "unknown address") ∷
+    (28, codes "unknown variable") ∷
+    (29, codes "definition not at the beginning") ∷
+    (30, codes "variable defined twice") ∷
     (40, codes "synchronised action not supported") ∷
     (41, codes "measuring not supported") ∷
     (42, codes "cycle not supported") ∷
@@ -85,28 +87,19 @@ alarm_texts =
     (ZONE_SPLIT, codes "zone split") ∷
     (TOO_MANY_REPETITIONS, codes "too many repetitions") ∷
     (REPETITION_COUNT, codes "repetition count") ∷
+    (NO_SUCH_TOOL, codes "no such tool") ∷
+    (TOOL_PLANE, codes "tool plane") ∷
+    (TOO_MANY_ARGUMENTS, codes "too many arguments") ∷
     []
-
--- the code stands in the table
-abbrev pub has_code : List (ℕ × List ℕ) → ℕ → Bool
-has_code rows code = list_any (λ row. row.0 == code) rows
 
 -- the text beside the code in the table
 abbrev pub text_of : List (ℕ × List ℕ) → ℕ → List ℕ
 text_of [] code = []
 text_of (row ∷ rows) code = if row.0 == code then row.1 else text_of rows code
 
--- the code is that of a refusal
-unfoldable pub IsRefusalCode : ℕ → Type 0
-IsRefusalCode code = IsTrue (has_code refusal_texts code)
-
 -- what the refusal of this code says
 unfoldable pub refusal_text_of : ℕ → List ℕ
 refusal_text_of = text_of refusal_texts
-
--- the code is that of an alarm
-unfoldable pub IsAlarmCode : ℕ → Type 0
-IsAlarmCode code = IsTrue (has_code alarm_texts code)
 
 -- what the alarm of this code says
 unfoldable pub alarm_text_of : ℕ → List ℕ

@@ -2,57 +2,15 @@
 #![tactic(auto)]
 
 ghost use Rattle.std.specs.Prelude.{◌≡◌};
-ghost use Rattle.nc_faults.specs.NoMemory.{no_memory};
-ghost use Rattle.nc_faults.specs.Texts.{IsRefusalCode, refusal_text_of, IsAlarmCode, alarm_text_of};
+ghost use Rattle.fault_codes.specs.Codes.{IsRefusalCode, IsAlarmCode};
+ghost use Rattle.nc_faults.specs.Texts.{refusal_text_of, alarm_text_of};
 
-pub mod alarms;
-mod threads;
+use fault_codes::alarms::*;
+pub use fault_codes::{Alarm, Refusal, alarms};
+pub use out_of_memory::NoMemory;
 
-use alarms::*;
-use std::alloc::{AllocError, AllocFailed};
-use thiserror::Error;
-
-/// Memory was wanted and not found.
-#[derive(Clone, Copy, Debug, PartialEq, Eq, Error)]
-#[error("out of memory")]
-pub struct NoMemory;
-
-impl From<AllocError> for NoMemory {
-    ghost from_gives = { λ _ fault. fault ≡ no_memory };
-
-    fn from(_: AllocError) -> NoMemory {
-        NoMemory
-    }
-}
-
-impl<T: Drop> From<AllocFailed<T>> for NoMemory {
-    ghost from_gives = { λ _ fault. fault ≡ no_memory };
-
-    fn from(_: AllocFailed<T>) -> NoMemory {
-        NoMemory
-    }
-}
-
-/// A refused input: the code of the rule that it breaks, and the line of the input, counted from 1.
-#[derive(Clone, Copy, Debug, PartialEq, Eq)]
-pub struct Refusal {
-    /// The code of the broken rule.
-    pub code: u16,
-    /// The line of the input, counted from 1.
-    pub line: u32,
-}
-
-/// An alarm of a channel: its code and the line of its block.
-#[derive(Clone, Copy, PartialEq, Eq)]
-pub struct Alarm {
-    /// The code of the alarm.
-    pub code: u16,
-    /// The line of the block, counted from 1.
-    pub line: u32,
-}
-
-/// What the refusal of this code says. The codes are 1 to 12, 20 to 27 and 40 to 60.
-#[tactic(auto, unfolding(crate::specs::Texts::IsRefusalCode, crate::specs::Texts::refusal_text_of, crate::specs::Texts::refusal_texts))]
+/// What the refusal of this code says. The codes are 1 to 12, 20 to 30 and 40 to 60.
+#[tactic(auto, unfolding(fault_codes::specs::Codes::IsRefusalCode, fault_codes::specs::Codes::refusal_codes, crate::specs::Texts::refusal_text_of, crate::specs::Texts::refusal_texts))]
 pub fn refusal_text(code: u16) -> &'static str
     requires { IsRefusalCode code }
     ensures { result.now ≡ refusal_text_of code }
@@ -78,6 +36,9 @@ pub fn refusal_text(code: u16) -> &'static str
         25 => "structure not matched",
         26 => "nested too deep",
         27 => "unknown address",
+        28 => "unknown variable",
+        29 => "definition not at the beginning",
+        30 => "variable defined twice",
         40 => "synchronised action not supported",
         41 => "measuring not supported",
         42 => "cycle not supported",
@@ -104,7 +65,7 @@ pub fn refusal_text(code: u16) -> &'static str
 }
 
 /// What the alarm of this code says. The codes are those of `alarms`.
-#[tactic(auto, unfolding(crate::specs::Texts::IsAlarmCode, crate::specs::Texts::alarm_text_of, crate::specs::Texts::alarm_texts))]
+#[tactic(auto, unfolding(fault_codes::specs::Codes::IsAlarmCode, fault_codes::specs::Codes::alarm_codes, crate::specs::Texts::alarm_text_of, crate::specs::Texts::alarm_texts))]
 pub fn alarm_text(code: u16) -> &'static str
     requires { IsAlarmCode code }
     ensures { result.now ≡ alarm_text_of code }
@@ -143,6 +104,9 @@ pub fn alarm_text(code: u16) -> &'static str
         ZONE_SPLIT => "zone split",
         TOO_MANY_REPETITIONS => "too many repetitions",
         REPETITION_COUNT => "repetition count",
+        NO_SUCH_TOOL => "no such tool",
+        TOOL_PLANE => "tool plane",
+        TOO_MANY_ARGUMENTS => "too many arguments",
         _ => unreachable!(),
     }
 }

@@ -1,7 +1,7 @@
 -- Meaning. The places to which subprograms return, the latest first.
 use Rattle.std.specs.Prelude.{◌≡◌, ℕ, ◌==◌, List, [], ◌∷◌, length, Option, Some, None, Result, Ok, Err, if◌then◌else◌}
 use Rattle.nc_subprograms.specs.declared.Place.{Place}
-use Rattle.nc_faults.specs.declared.alarms.TheConstants.{TOO_MANY_LEVELS}
+use Rattle.fault_codes.specs.declared.alarms.TheConstants.{TOO_MANY_LEVELS}
 use Rattle.nc_subprograms.specs.declared.limits.TheConstants.{CALL_LIMIT}
 
 -- the main program has the first level, and each call one more; one level too many is an alarm

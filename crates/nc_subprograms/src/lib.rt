@@ -8,9 +8,9 @@ mod limits;
 mod threads;
 
 use arrayvec::ArrayVec;
+use fault_codes::alarms::TOO_MANY_LEVELS;
 pub use limits::{CALL_LIMIT, LEVEL_LIMIT};
 use nc_control_flow::Repeats;
-use nc_faults::alarms::TOO_MANY_LEVELS;
 use std::marker::Model;
 
 /// Where a program of a level stands.

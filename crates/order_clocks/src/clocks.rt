@@ -10,7 +10,7 @@ ghost use Rattle.sync_types.specs.Views.{StartView};
 
 use crate::counting::read_run;
 use counter_rows::RowTable;
-use nc_faults::NoMemory;
+use out_of_memory::NoMemory;
 use std::alloc::Global;
 use std::marker::Model;
 use sync_types::{ChannelEnd, Entry, EventId, Race, Run};

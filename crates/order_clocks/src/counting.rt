@@ -10,7 +10,7 @@ use crate::clocks::Clocks;
 use crate::reader::{Reader, StepRead};
 use crate::search::Search;
 use counter_rows::{Row, RowTable};
-use nc_faults::NoMemory;
+use out_of_memory::NoMemory;
 use std::alloc::Global;
 use step_deeds::goers;
 use sync_types::{ChannelEnd, Entry};

@@ -6,7 +6,7 @@ use Rattle.channel_machine.proofs.StartNumbers.{start_numbers}
 use Rattle.channel_machine.specs.StartStates.{start_of}
 use Rattle.coord_core.specs.Histories.{History}
 use Rattle.job_types.specs.Job.{JobView}
-use Rattle.nc_faults.specs.declared.NoMemory.{NoMemory}
+use Rattle.out_of_memory.specs.declared.NoMemory.{NoMemory}
 use Rattle.parallel_run.proofs.Tellings.{made_of_all}
 use Rattle.parallel_run.specs.Joining.{nobody}
 use Rattle.parallel_run.specs.Returns.{BackView, IsBack, IsFirstPass}

@@ -1,7 +1,7 @@
 -- Steps. What a worker brings back from its thread.
 use Rattle.std.specs.Prelude.{◌≡◌, IfOk, Result}
 use Rattle.job_types.specs.Job.{JobView}
-use Rattle.nc_faults.specs.declared.NoMemory.{NoMemory}
+use Rattle.out_of_memory.specs.declared.NoMemory.{NoMemory}
 use Rattle.parallel_run.specs.Workers.{WorkedView, HasMade}
 use Rattle.ticket_board.specs.Passes.{TicketBoardView, TicketPassView, IsPassOf, no_history}
 

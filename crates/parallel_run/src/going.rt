@@ -13,7 +13,7 @@ use axis_sets::{CHANNEL_LIMIT, ChannelId};
 use channel_machine::{Locals, Segment, next_segment};
 use coord_core::{Board, ends_of};
 use job_types::Job;
-use nc_faults::NoMemory;
+use out_of_memory::NoMemory;
 use std::alloc::Global;
 use std::sync::Wait;
 use sync_types::{ChannelEnd, Grant, Item, Run, StartState};

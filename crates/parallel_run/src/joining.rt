@@ -15,7 +15,7 @@ use crate::worked::Worked;
 use axis_sets::ChannelId;
 use coord_core::Board;
 use job_types::Job;
-use nc_faults::NoMemory;
+use out_of_memory::NoMemory;
 use std::alloc::Global;
 use std::collections::VecDeque;
 use std::sync::Wait;

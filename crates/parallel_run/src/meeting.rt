@@ -6,7 +6,7 @@ ghost use Rattle.std.specs.Prelude.{◌≡◌, ◌⊎◌, ℕ, ◌+◌, ◌<◌,
 ghost use Rattle.parallel_run.specs.Meetings.{AllCameWhereTold, AreToldAlike, Comes, GivesUp, IsTold, Looks, Sits, first_knowledge};
 
 use atomic_table::{Play, Seat, Table, TableRule};
-use nc_faults::NoMemory;
+use out_of_memory::NoMemory;
 use std::alloc::Global;
 use std::marker::Model;
 use std::thread;

@@ -11,7 +11,7 @@ ghost use Rattle.sync_types.specs.Views.{EntryView, StartView};
 use crate::worked::Worked;
 use axis_sets::CHANNEL_PLACES;
 use channel_machine::{Locals, no_locals};
-use nc_faults::NoMemory;
+use out_of_memory::NoMemory;
 use std::alloc::{AllocError, Global};
 use std::collections::VecDeque;
 use std::marker::Model;

@@ -15,7 +15,7 @@ use crate::worker::work;
 use channel_machine::start_state;
 use edge_io::Gate;
 use job_types::Job;
-use nc_faults::NoMemory;
+use out_of_memory::NoMemory;
 use std::alloc::{AllocError, Global};
 use std::sync::Wait;
 use std::thread;

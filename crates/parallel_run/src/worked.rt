@@ -8,7 +8,7 @@ ghost use Rattle.parallel_run.specs.Workers.{CanGoOn, HasNoted, IsWorked};
 use axis_sets::ChannelId;
 use channel_machine::{Local, Segment, next_segment};
 use job_types::Job;
-use nc_faults::NoMemory;
+use out_of_memory::NoMemory;
 use std::alloc::Global;
 use std::collections::VecDeque;
 use std::marker::Model;

@@ -11,7 +11,7 @@ use channel_machine::grant_fits;
 use coord_core::{Desk, Outcome};
 use edge_io::Gate;
 use job_types::Job;
-use nc_faults::NoMemory;
+use out_of_memory::NoMemory;
 use std::alloc::Global;
 use std::sync::Wait;
 

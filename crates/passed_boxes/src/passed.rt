@@ -5,7 +5,7 @@ ghost use Rattle.path_geometry.specs.declared.motion.Motion.{Motion};
 ghost use Rattle.swept_boxes.specs.declared.Box3.{Box3};
 
 use crate::motions::is_same_motion;
-use nc_faults::NoMemory;
+use out_of_memory::NoMemory;
 use path_geometry::Motion;
 use std::alloc::Global;
 use std::marker::Model;

@@ -8,7 +8,7 @@ use Rattle.path_geometry.specs.declared.motion.Arc.{Arc}
 use Rattle.path_geometry.specs.declared.motion.Motion.{Motion}
 use Rattle.path_geometry.specs.declared.motion.Motion.TheVariants as Kind
 use Rattle.micro_units.specs.Position.{is_position}
-use Rattle.nc_faults.specs.declared.alarms.TheConstants.{OUT_OF_RANGE, RADIUS_DIFFERS, ARC_DEGENERATE, RADIUS_TOO_SMALL}
+use Rattle.fault_codes.specs.declared.alarms.TheConstants.{OUT_OF_RANGE, RADIUS_DIFFERS, ARC_DEGENERATE, RADIUS_TOO_SMALL}
 
 -- the start and the end in the plane of two axes, seen from a centre
 abbrev pub start_about : EndsView → ℕ → ℕ → ℤ × ℤ → Vector

@@ -13,8 +13,8 @@ use crate::vector::{Vector, square_of};
 use crate::{Arc, Ends, Motion};
 use arrayvec::ArrayVec;
 use axis_sets::AxisId;
+use fault_codes::alarms::{ARC_DEGENERATE, OUT_OF_RANGE, RADIUS_DIFFERS, RADIUS_TOO_SMALL};
 use micro_units::{POSITION_LIMIT, Um, isqrt_ceil, isqrt_floor};
-use nc_faults::alarms::{ARC_DEGENERATE, OUT_OF_RANGE, RADIUS_DIFFERS, RADIUS_TOO_SMALL};
 
 /// The entry of an axis.
 fn entry_of(ends: &Ends, axis: AxisId) -> Option<(AxisId, Um, Um)>

@@ -6,7 +6,7 @@ use Rattle.channel_machine.specs.Levels.{levels_after}
 use Rattle.channel_machine.specs.Run.{SurroundingsView, Channel, Deed, Did, Executed, SegmentView, alarm_segment, block_at, blocks_of, channel_after_block, end_segment, ends_main, executed_block, item_of, run_after, segment_after_block, segment_after_course, segment_after_request, segment_of, with_block, with_items_before, with_levels}
 use Rattle.channel_machine.specs.declared.levels.Levels.{Levels}
 use Rattle.channel_machine.specs.declared.limits.TheConstants.{BLOCK_LIMIT}
-use Rattle.nc_faults.specs.declared.alarms.TheConstants.{TOO_MANY_BLOCKS}
+use Rattle.fault_codes.specs.declared.alarms.TheConstants.{TOO_MANY_BLOCKS}
 use Rattle.coordination_words.specs.declared.asked.Request.{Request}
 use Rattle.coordination_words.specs.declared.asked.Request.TheVariants.{Act, Switch}
 use Rattle.nc_blocks.specs.Statement.{BlockView}

@@ -4,7 +4,7 @@ use Rattle.std.proofs.lemmas.List.{length-map}
 use Rattle.axis_sets.specs.Positions.{position_of}
 use Rattle.channel_machine.specs.Run.{IsListedAction}
 use Rattle.micro_units.specs.Position.{IsPosition}
-use Rattle.nc_faults.specs.Texts.{IsAlarmCode, alarm_texts}
+use Rattle.fault_codes.specs.Codes.{IsAlarmCode, alarm_codes}
 use Rattle.sync_types.proofs.BoardTests.{by_test}
 use Rattle.sync_types.specs.BoardActions.{after_action, after_alarm, after_effects, after_own_part, after_part, channels_to_start, ownership_after, position_or_zero, state_after_action, state_after_alarm, state_of_actor, axes_to_free}
 use Rattle.sync_types.specs.BoardAlarms.{alarm_of, names_no_mark, names_no_channel, names_no_axis, lets_go_of_others, splits_a_zone, finds_own_mark, finds_one_awake, starts_without_program, own_alarm}
@@ -100,7 +100,7 @@ own_listed End listed = tt
 
 all_listed : (a b c d e f g h : Bool) (rest : Option ℕ) → IfSome rest IsAlarmCode
     → IfSome (cond a (Some 25) (cond b (Some 24) (cond c (Some 14) (cond d (Some 15) (cond e (Some 31) (cond f (Some 26) (cond g (Some 27) (cond h (Some 28) rest)))))))) IsAlarmCode
-unfolding IsAlarmCode alarm_texts
+unfolding IsAlarmCode alarm_codes
 all_listed true b c d e f g h rest listed = refl
 all_listed false true c d e f g h rest listed = refl
 all_listed false false true d e f g h rest listed = refl

@@ -11,7 +11,7 @@ use Rattle.channel_machine.specs.StartStates.{start_of}
 use Rattle.channel_machine.specs.declared.limits.TheConstants.{BLOCK_LIMIT}
 use Rattle.job_types.specs.Job.{JobView}
 use Rattle.job_types.specs.SoundJob.{IsSoundJob}
-use Rattle.nc_faults.specs.Texts.{IsAlarmCode}
+use Rattle.fault_codes.specs.Codes.{IsAlarmCode}
 use Rattle.path_geometry.specs.Motions.{axes_of, IsSound as IsSoundMotion}
 use Rattle.path_geometry.specs.declared.motion.Motion.{Motion}
 use Rattle.channel_machine.specs.Locals.{IsKeptOf}

@@ -10,7 +10,7 @@ ghost use Rattle.sync_types.specs.Starts.{IsSound};
 use channel_machine::{Segment, next_segment, no_locals, start_state};
 use coord_core::{Board, ends_of};
 use job_types::Job;
-use nc_faults::NoMemory;
+use out_of_memory::NoMemory;
 use std::alloc::Global;
 use sync_types::{Run, StartState};
 

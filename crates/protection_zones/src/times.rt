@@ -19,8 +19,8 @@ use crate::zone_time::Scene;
 use crate::zones::zone_numbered;
 use axis_sets::ZONE_LIMIT;
 use job_types::Job;
-use nc_faults::NoMemory;
 use order_clocks::Clocks;
+use out_of_memory::NoMemory;
 use std::alloc::{AllocError, Global};
 use sync_types::{ChannelEnd, Entry, Item, Run};
 

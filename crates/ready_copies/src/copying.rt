@@ -7,7 +7,7 @@ ghost use Rattle.ready_copies.specs.Marking.{marked, mark_place};
 
 use crate::marking::{mark_place, put_line};
 use growing_text::Text;
-use nc_faults::NoMemory;
+use out_of_memory::NoMemory;
 use std::alloc::Global;
 use tape_job::{first_length, line_codes};
 

@@ -5,7 +5,7 @@ ghost use Rattle.ready_copies.specs.Copies.{left_out_count};
 
 use crate::marking::is_left_out;
 use growing_text::Text;
-use nc_faults::NoMemory;
+use out_of_memory::NoMemory;
 use std::alloc::Global;
 use tape_job::first_length;
 

@@ -4,7 +4,7 @@ ghost use Rattle.ready_copies.specs.Marking as model;
 
 use block_scanner::LINE_LIMIT;
 use growing_text::Text;
-use nc_faults::NoMemory;
+use out_of_memory::NoMemory;
 use refused_lines::quiet_place;
 use std::alloc::Global;
 use tape_job::text_in;

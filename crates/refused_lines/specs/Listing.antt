@@ -4,7 +4,7 @@ use Rattle.std.specs.Fmt.{decimal}
 use Rattle.std.specs.List.{flat_map, list_any}
 use Rattle.input_lines.specs.Advice.{refusals, name_of}
 use Rattle.input_lines.specs.Origins.{origin_at, origin_text}
-use Rattle.nc_faults.specs.declared.Refusal.{Refusal}
+use Rattle.fault_codes.specs.declared.Refusal.{Refusal}
 use Rattle.refused_lines.specs.Refusals.{line_body, refusal_text}
 use Rattle.refused_lines.specs.SlipWords.{slip_advice}
 use Rattle.refused_lines.specs.declared.effects.Effect.{Effect}

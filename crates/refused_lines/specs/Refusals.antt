@@ -4,7 +4,7 @@ use Rattle.std.specs.Fmt.{decimal}
 use Rattle.input_lines.specs.Advice.{refusals, name_of, cause_of, advice_of}
 use Rattle.input_lines.specs.Lines.{line_text}
 use Rattle.input_lines.specs.Origins.{origin_text}
-use Rattle.nc_faults.specs.declared.Refusal.{Refusal}
+use Rattle.fault_codes.specs.declared.Refusal.{Refusal}
 use Rattle.refused_lines.specs.Rows.{refused_line}
 use Rattle.refused_lines.specs.SlipWords.{slip_advice}
 use Rattle.refused_lines.specs.declared.rows.RefusedLine.{RefusedLine}

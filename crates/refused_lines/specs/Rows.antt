@@ -2,7 +2,7 @@
 use Rattle.std.specs.Prelude.{ℕ, List, Option}
 use Rattle.std.specs.Option.{option_or, option_map}
 use Rattle.input_lines.specs.Lines.{line_text}
-use Rattle.nc_faults.specs.declared.Refusal.{Refusal}
+use Rattle.fault_codes.specs.declared.Refusal.{Refusal}
 use Rattle.refused_lines.specs.Effects.{effect_by, quiet_place_in}
 use Rattle.refused_lines.specs.LineWords.{words_of}
 use Rattle.refused_lines.specs.Places.{byte_place}

@@ -7,7 +7,7 @@ use crate::kinds::{depth_after, is_colon, is_letter, is_name, is_number, is_slas
 use crate::line_words::{LineWord, words_of};
 use crate::names::NameClass;
 use block_scanner::{Kind, Sign};
-use nc_faults::NoMemory;
+use out_of_memory::NoMemory;
 use std::alloc::Global;
 
 /// What a refused line would do.

@@ -6,7 +6,7 @@ ghost use Rattle.refused_lines.specs.LineWords.{class_in, word_of, words_of};
 
 use crate::names::{NameClass, class_of};
 use block_scanner::{Kind, LINE_LIMIT, ScanFault, Token, Words, scan};
-use nc_faults::NoMemory;
+use out_of_memory::NoMemory;
 use std::alloc::Global;
 
 /// A word of a line: a token, and what it is as a name.

@@ -5,7 +5,7 @@ ghost use Rattle.std.specs.Option.{option_or};
 ghost use Rattle.refused_lines.specs.Places as model;
 
 use block_scanner::{LINE_LIMIT, ScanFault, scan};
-use nc_faults::NoMemory;
+use out_of_memory::NoMemory;
 use std::alloc::Global;
 
 /// The code of a byte that may not stand there.

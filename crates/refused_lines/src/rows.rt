@@ -9,8 +9,9 @@ use crate::line_words::{LineWord, words_of};
 use crate::places::{byte_place, first_known};
 use crate::slips::{FoundSlip, Slip, slip_in};
 use crate::word_places::word_place;
+use fault_codes::Refusal;
 use input_lines::Lines;
-use nc_faults::{NoMemory, Refusal};
+use out_of_memory::NoMemory;
 use std::alloc::Global;
 
 /// A line that is refused.

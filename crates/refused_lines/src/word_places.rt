@@ -5,7 +5,7 @@ ghost use Rattle.refused_lines.specs.WordPlaces as model;
 use crate::kinds::{is_number, is_parenthesis, is_slash, is_some_letter};
 use crate::line_words::LineWord;
 use block_scanner::{LINE_LIMIT, ScanFault, scan};
-use nc_faults::NoMemory;
+use out_of_memory::NoMemory;
 use std::alloc::Global;
 use word_tables::{has_large_number, refused_word};
 

@@ -13,7 +13,7 @@ use crate::walks::remarks_with;
 use axis_sets::{CHANNEL_PLACES, ChannelId};
 use channel_machine::{grants_in, start_state};
 use job_types::Job;
-use nc_faults::NoMemory;
+use out_of_memory::NoMemory;
 use std::alloc::Global;
 use sync_types::Run;
 

@@ -3,7 +3,7 @@ ghost use Rattle.std.specs.Prelude.{◌≡◌, ℕ, [], Option, find, slice_inde
 ghost use Rattle.run_assumptions.specs.Firsts as model;
 
 use crate::remarks::Remark;
-use nc_faults::NoMemory;
+use out_of_memory::NoMemory;
 use std::alloc::{AllocError, Global};
 
 /// How many numbers there are of parameters and of words.

@@ -14,7 +14,7 @@ use crate::remarks::{Remark, RemarkKind};
 use axis_sets::{AXIS_LIMIT, AxisId, ChannelId};
 use job_types::{Job, OffsetLine, slot_axis};
 use nc_expressions::PARAMETER_LIMIT;
-use nc_faults::NoMemory;
+use out_of_memory::NoMemory;
 use std::alloc::{AllocError, Global};
 use sync_types::Run;
 

@@ -21,7 +21,7 @@ use crate::words::{add_if, add_statement};
 use axis_sets::ChannelId;
 use channel_machine::{Local, NextBlock, Passing, next_block, pass_block};
 use job_types::Job;
-use nc_faults::NoMemory;
+use out_of_memory::NoMemory;
 use std::alloc::{AllocError, Global};
 use sync_types::Grant;
 

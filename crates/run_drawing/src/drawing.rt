@@ -5,7 +5,7 @@ ghost use Rattle.run_drawing.specs.Drawing as model;
 use crate::styles::{LEGEND, STYLES};
 use crate::times::Lanes;
 use growing_text::Text;
-use nc_faults::NoMemory;
+use out_of_memory::NoMemory;
 use picture_views::{
     Picture, View, extent_of, has_motion, put_attribute, put_ends, put_number, put_place, put_size,
 };

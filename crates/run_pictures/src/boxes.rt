@@ -6,7 +6,7 @@ ghost use Rattle.run_pictures.specs.Boxes as model;
 
 use crate::kept::keep;
 use job_types::{Job, ZoneLine};
-use nc_faults::NoMemory;
+use out_of_memory::NoMemory;
 use picture_views::{Look, Tile};
 use protection_zones::{Stretch, Stretches, ZoneBox, boxes_by_pieces, zone_at};
 use swept_boxes::Box3;

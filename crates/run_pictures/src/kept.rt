@@ -2,7 +2,7 @@
 ghost use Rattle.std.specs.Prelude.{◌≡◌, ◌++◌, ◌∷◌, [], take, IfOk};
 ghost use Rattle.run_pictures.specs.Kept.{IsShortened};
 
-use nc_faults::NoMemory;
+use out_of_memory::NoMemory;
 
 /// Adds an item to a list, while the list is shorter than so many items. `NoMemory` where too little memory is found.
 pub(crate) fn keep<T: Copy>(list: &mut Vec<T>, limit: usize, item: T) -> Result<(), NoMemory>

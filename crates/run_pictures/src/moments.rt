@@ -5,7 +5,7 @@ ghost use Rattle.run_pictures.specs.Moments as model;
 use crate::kept::keep;
 use axis_sets::CHANNEL_PLACES;
 use job_types::Job;
-use nc_faults::NoMemory;
+use out_of_memory::NoMemory;
 use picture_views::{Deed, Moment};
 use std::alloc::Global;
 use sync_types::{Action, Entry, Go};

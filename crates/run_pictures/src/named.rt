@@ -6,7 +6,7 @@ ghost use Rattle.run_pictures.specs.Named as model;
 
 use axis_sets::ZoneId;
 use job_types::{Job, ZoneLine};
-use nc_faults::NoMemory;
+use out_of_memory::NoMemory;
 use picture_views::{Look, Tile};
 use protection_zones::{Stretch, ZoneBox, boxes_by_pieces};
 use std::alloc::Global;

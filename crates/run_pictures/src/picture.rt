@@ -13,7 +13,7 @@ use crate::moments::{add_entries, channels_of};
 use crate::named::add_named;
 use crate::{boxes, tracks};
 use job_types::Job;
-use nc_faults::NoMemory;
+use out_of_memory::NoMemory;
 use picture_views::{Moment, Picture, Tile, Track};
 use protection_zones::Stretches;
 use std::alloc::Global;

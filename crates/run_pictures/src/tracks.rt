@@ -10,7 +10,7 @@ use crate::turns::{signed, turn_of};
 use axis_sets::AxisId;
 use job_types::{Job, Side, ZoneLine};
 use micro_units::Um;
-use nc_faults::NoMemory;
+use out_of_memory::NoMemory;
 use path_geometry::Motion;
 use picture_views::{Track, Turn};
 use protection_zones::{Stretch, Stretches, ZoneBox, motion_at, zone_at};

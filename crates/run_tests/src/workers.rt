@@ -9,7 +9,7 @@ use channel_machine::start_state;
 use coord_core::{Board, Desk, Locked, Outcome};
 use edge_io::OpenGate;
 use job_types::Job;
-use nc_faults::NoMemory;
+use out_of_memory::NoMemory;
 use parallel_run::{Worked, work};
 use product_run::run_in_order;
 use shared_board::{MemoryDesk, MemoryPass, Pass, SharedBoard};

@@ -3,7 +3,7 @@ use Rattle.std.proofs.Common.{◌≡◌, ◌∙◌, ℕ, ◌+◌, ◌/◌, ◌%�
 use Rattle.std.specs.List.{range_with_len}
 use Rattle.job_types.specs.Job.{JobView, ProgramView}
 use Rattle.nc_blocks.specs.Statement.{BlockView}
-use Rattle.nc_faults.specs.declared.Refusal.{Refusal}
+use Rattle.fault_codes.specs.declared.Refusal.{Refusal}
 use Rattle.sample_jobs.specs.Samples.{seed_of, random, move_line, wait_line, move_lines, rows, program_text, sample_bytes}
 use Rattle.sample_jobs.specs.declared.Program.{Program}
 use Rattle.sample_jobs.specs.declared.Program.TheVariants.{First, Second}

@@ -9,7 +9,7 @@ use Rattle.job_types.specs.declared.job.ZoneLine.{ZoneLine}
 use Rattle.job_types.specs.Job.{ProgramView}
 use Rattle.nc_blocks.specs.Statement.{BlockView}
 use Rattle.nc_control_flow.specs.Nested.{nest_of}
-use Rattle.nc_faults.specs.declared.Refusal.{Refusal}
+use Rattle.fault_codes.specs.declared.Refusal.{Refusal}
 use Rattle.tape_job.specs.Lines.{raw_lines, text_of, before_comment, begins_with_percent}
 use Rattle.tape_job.specs.Pieces.{lacks_feed}
 use Rattle.tape_job.specs.Read.{end_of_program, line_trial, trial, end_trial}

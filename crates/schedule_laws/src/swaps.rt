@@ -10,7 +10,7 @@ ghost use Rattle.sync_types.specs.Views.{StartView};
 
 use axis_sets::ChannelId;
 use coord_core::Board;
-use nc_faults::NoMemory;
+use out_of_memory::NoMemory;
 use sync_types::Step;
 
 // A step of a channel that runs, and then one of another, where there is room for them.

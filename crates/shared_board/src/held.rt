@@ -9,7 +9,7 @@ ghost use Rattle.sync_types.specs.Turns.{AreEntries};
 use crate::shared::Pass;
 use arrayvec::ArrayVec;
 use coord_core::{Board, Locked, Outcome, act_turn, close_turn, look_turn};
-use nc_faults::NoMemory;
+use out_of_memory::NoMemory;
 use std::alloc::Global;
 use std::marker::Model;
 use sync_types::{StartState, Step};

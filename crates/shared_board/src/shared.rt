@@ -9,7 +9,7 @@ ghost use Rattle.sync_types.specs.Turns.{AreEntries};
 use crate::held::Held;
 use axis_sets::{CHANNEL_PLACES, ChannelId};
 use coord_core::{Board, Desk, Outcome};
-use nc_faults::NoMemory;
+use out_of_memory::NoMemory;
 use std::alloc::Global;
 use std::sync::{Condvar, Mutex, Wait};
 use sync_types::{StartState, Step};

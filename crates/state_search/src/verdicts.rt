@@ -3,8 +3,8 @@ ghost use Rattle.std.specs.Prelude.{IfSome};
 ghost use Rattle.job_types.specs.SoundJob.{BlocksFit, IsSoundJob};
 
 use clash_check::judge;
-use nc_faults::NoMemory;
 use order_clocks::clocks_of;
+use out_of_memory::NoMemory;
 use product_run::run_in_order;
 use protection_zones::stretches_of;
 use std::alloc::Global;

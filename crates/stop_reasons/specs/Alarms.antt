@@ -4,7 +4,7 @@ use Rattle.std.specs.Fmt.{decimal}
 use Rattle.std.specs.List.{flat_map}
 use Rattle.input_lines.specs.Advice.{advice_of, alarms, cause_of, name_of}
 use Rattle.job_types.specs.Job.{JobView}
-use Rattle.nc_faults.specs.declared.Alarm.{Alarm}
+use Rattle.fault_codes.specs.declared.Alarm.{Alarm}
 use Rattle.stop_reasons.specs.Ends.{end_of}
 use Rattle.stop_reasons.specs.Remedies.{advice_text}
 use Rattle.stop_reasons.specs.Stuck.{waits_text}

@@ -18,7 +18,7 @@ use crate::numbers::{all_axes, all_channels, all_marks};
 use crate::passes::MarkRow;
 use crate::remedies::{Remedy, remedy_of};
 use axis_sets::{AxisId, ChannelId, ChannelSet};
-use nc_faults::NoMemory;
+use out_of_memory::NoMemory;
 use run_ends::{LastBoard, last_board};
 use std::alloc::Global;
 use step_deeds::{Hold, NamedMarks};

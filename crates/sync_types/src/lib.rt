@@ -8,11 +8,11 @@ mod threads;
 mod verdicts;
 
 use axis_sets::{AxisSet, ChannelId, ChannelSet, MarkSet, Positions, ZoneId, ZoneSet};
+use fault_codes::Alarm;
 pub use laws::{
     a_run_that_is_over_has_all_ends, after_a_step_nobody_can_go, at_most_eight_go_on,
     axes_stay_together, events_are_one_alike, runs_are_replays, the_sequential_run_is_one,
 };
-use nc_faults::Alarm;
 use path_geometry::Motion;
 pub use runs::{Entry, EventId, Go, Race, Run};
 pub use start::StartState;

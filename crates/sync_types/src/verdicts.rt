@@ -1,7 +1,7 @@
 //! What is found of a run.
 use crate::Race;
 use axis_sets::{ChannelId, ZoneId};
-use nc_faults::Alarm;
+use fault_codes::Alarm;
 
 /// What happens in a stretch of a zone: what the channel does that holds it, or that none does.
 #[derive(Clone, Copy, PartialEq, Eq)]

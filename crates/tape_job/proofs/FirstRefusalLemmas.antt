@@ -1,7 +1,7 @@
 -- The trial of all lines finds the first that is refused.
 use Rattle.std.proofs.Common.{◌≡◌, ◌∙◌, inl, inr, ℕ, List, [], ◌∷◌, ◌++◌, Option, Some, None, subst, refl, ap, append_assoc, append-nil}
 use Rattle.std.specs.Option.{option_or}
-use Rattle.nc_faults.specs.declared.Refusal.{Refusal}
+use Rattle.fault_codes.specs.declared.Refusal.{Refusal}
 use Rattle.tape_job.specs.Lines.{Line, numbered_lines}
 use Rattle.tape_job.specs.Told.{facts_of}
 use Rattle.tape_job.specs.Read.{trial, first_trial, end_trial, answer, read_of}

@@ -10,7 +10,7 @@ use Rattle.nc_control_flow.specs.declared.nest.Structure.{Structure}
 use Rattle.nc_control_flow.specs.declared.nest.Structure.TheVariants as structure
 use Rattle.nc_control_flow.specs.Nest.{ends, nest_without, with_else, nest_with_else, nest_after, Nests}
 use Rattle.nc_control_flow.specs.Nested.{nested_on, nest_of}
-use Rattle.nc_faults.specs.Texts.{IsRefusalCode, refusal_texts}
+use Rattle.fault_codes.specs.Codes.{IsRefusalCode, refusal_codes}
 use Rattle.tape_job.specs.Rules.{structure_fault, fault_of}
 
 pub nest_push : (blocks : List (ℕ × BlockView)) (block : ℕ × BlockView) → nest_of (blocks ++ block ∷ []) ≡ nested_on (nest_of blocks) block
@@ -27,11 +27,11 @@ fault_is blocks block all nest = ap fault_of (nest_goes_on blocks block all nest
 
 -- ---- a structure is refused with 25 or 26, and both have a text
 has_25 : IsRefusalCode 25
-unfolding IsRefusalCode refusal_texts
+unfolding IsRefusalCode refusal_codes
 has_25 = refl
 
 has_26 : IsRefusalCode 26
-unfolding IsRefusalCode refusal_texts
+unfolding IsRefusalCode refusal_codes
 has_26 = refl
 
 opened_code : (full : Bool) (code : ℕ) (all : List Opened) → ◌≡◌ {A = Result (List Opened) ℕ} (if full then Err 26 else Ok all) (Err code) → IsRefusalCode code

@@ -10,7 +10,7 @@ use Rattle.block_scanner.specs.declared.Token.{Token}
 use Rattle.job_lines.specs.Code.{refusal_code}
 use Rattle.job_lines.specs.declared.code.Code.TheVariants.{BadByte, OpenText}
 use Rattle.nc_blocks.specs.Refusals.{block_refusals, IsBlockRefusal}
-use Rattle.nc_faults.specs.Texts.{refusal_texts, has_code, IsRefusalCode}
+use Rattle.fault_codes.specs.Codes.{refusal_codes, has_code, IsRefusalCode}
 use Rattle.nc_syntax.specs.Blocks.{statement_of}
 use Rattle.std.specs.Option.{option_map}
 use Rattle.job_lines.specs.declared.code.Code.{Code}
@@ -53,23 +53,23 @@ pub block_with_open_text : (compensation : Bool) (text : List ℕ) (place : ℕ)
 unfolding block_reading
 block_with_open_text compensation text place scanned = ap (tokens_reading compensation text) scanned
 
-one_of_codes : (code other : ℕ) (same found here all : Bool) → (other == code) ≡ same → here ≡ has_code refusal_texts other → here && all ≡ true → same || found ≡ true
-    → (all ≡ true → found ≡ true → has_code refusal_texts code ≡ true) → has_code refusal_texts code ≡ true
-one_of_codes code other true found true all same here each some rest = subst (λ c. has_code refusal_texts c ≡ true) (eqb-true other code same) (sym here)
+one_of_codes : (code other : ℕ) (same found here all : Bool) → (other == code) ≡ same → here ≡ has_code refusal_codes other → here && all ≡ true → same || found ≡ true
+    → (all ≡ true → found ≡ true → has_code refusal_codes code ≡ true) → has_code refusal_codes code ≡ true
+one_of_codes code other true found true all same here each some rest = subst (λ c. has_code refusal_codes c ≡ true) (eqb-true other code same) (sym here)
 one_of_codes code other true found false all same here each some rest = absurd (true≢false (sym each))
 one_of_codes code other false found true all same here each some rest = rest each some
 one_of_codes code other false found false all same here each some rest = absurd (true≢false (sym each))
 
-one_has_text : (code : ℕ) (codes : List ℕ) → list_all (λ other. has_code refusal_texts other) codes ≡ true → list_any (λ other. other == code) codes ≡ true
-    → has_code refusal_texts code ≡ true
+one_has_text : (code : ℕ) (codes : List ℕ) → list_all (λ other. has_code refusal_codes other) codes ≡ true → list_any (λ other. other == code) codes ≡ true
+    → has_code refusal_codes code ≡ true
 one_has_text code [] each some = absurd (true≢false (sym some))
 one_has_text code (other ∷ codes) each some =
-    one_of_codes code other (other == code) (list_any (λ o. o == code) codes) (has_code refusal_texts other) (list_all (λ o. has_code refusal_texts o) codes)
+    one_of_codes code other (other == code) (list_any (λ o. o == code) codes) (has_code refusal_codes other) (list_all (λ o. has_code refusal_codes o) codes)
     refl refl each some (one_has_text code codes)
 
 -- each code by which a block is refused has a text
 pub block_refusal_has_text : (code : ℕ) → IsBlockRefusal code → IsRefusalCode code
-unfolding IsBlockRefusal IsRefusalCode block_refusals refusal_texts
+unfolding IsBlockRefusal IsRefusalCode block_refusals refusal_codes
 block_refusal_has_text code is = one_has_text code block_refusals refl is
 
 -- a rule that a line breaks gives its code

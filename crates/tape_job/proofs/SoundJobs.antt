@@ -12,7 +12,7 @@ use Rattle.job_lines.specs.declared.declaration.Declaration.{Declaration}
 use Rattle.job_lines.specs.declared.declaration.Declaration.TheVariants.{Channel, Axis, Geo, Offset, Zone, Margin, Depth, Budget, Compensation, Skip}
 use Rattle.job_lines.specs.declared.declaration.NamedZone.{NamedZone}
 use Rattle.nc_blocks.specs.Statement.{BlockView}
-use Rattle.nc_faults.specs.declared.Refusal.{Refusal}
+use Rattle.fault_codes.specs.declared.Refusal.{Refusal}
 use Rattle.job_types.specs.declared.job.ChannelLine.{ChannelLine}
 use Rattle.job_types.specs.declared.job.Side.{Side}
 use Rattle.job_types.specs.Job.{JobView, ProgramView}

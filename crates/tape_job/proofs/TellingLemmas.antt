@@ -2,7 +2,7 @@
 use Rattle.std.proofs.Common.{is_some, unwrap_or, ◌≡◌, ◌∙◌, ℕ, Bool, true, false, not, ◌&&◌, ◌||◌, if◌then◌else◌, nat_lt, List, [], ◌∷◌, ◌++◌, Result, Ok, Err, Option, Some, None, refl, sym, ap, append_assoc, append-nil, ◌+◌, length, arith}
 use Rattle.std.specs.List.{list_any, cons_option, enumerate_from}
 use Rattle.std.specs.Option.{option_or}
-use Rattle.nc_faults.specs.declared.Refusal.{Refusal}
+use Rattle.fault_codes.specs.declared.Refusal.{Refusal}
 use Rattle.nc_blocks.specs.Statement.{BlockView}
 use Rattle.tape_job.specs.Draft.{nothing_told}
 use Rattle.tape_job.specs.Reading.{ReadingView, Header, BlockLine, words_of, block_line, tokens_reading, block_reading, entry_reading, with_shown, reading_of}

@@ -1,6 +1,6 @@
 -- Law. What it means that lines are accepted, or refused at the first line that breaks a rule.
 use Rattle.std.specs.Prelude.{◌≡◌, ◌⊎◌, List, ◌∷◌, ◌++◌, Result, Ok, Err, None, Some}
-use Rattle.nc_faults.specs.declared.Refusal.{Refusal}
+use Rattle.fault_codes.specs.declared.Refusal.{Refusal}
 use Rattle.job_types.specs.Job.{JobView}
 use Rattle.tape_job.specs.Lines.{Line}
 use Rattle.tape_job.specs.Told.{facts_of}

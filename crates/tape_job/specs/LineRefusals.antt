@@ -1,6 +1,6 @@
 -- Meaning. The lines of an input that are refused by themselves.
 use Rattle.std.specs.Prelude.{ℕ, ◌+◌, List, [], ◌∷◌, ◌++◌, Result, Ok, Err, Option, Some, None}
-use Rattle.nc_faults.specs.declared.Refusal.{Refusal}
+use Rattle.fault_codes.specs.declared.Refusal.{Refusal}
 use Rattle.tape_job.specs.Lines.{Line, numbered_lines}
 use Rattle.tape_job.specs.Reading.{ReadingView}
 use Rattle.tape_job.specs.Told.{reading_after}

@@ -13,7 +13,7 @@ use Rattle.job_lines.specs.Declaration.{declaration_of}
 use Rattle.job_lines.specs.declared.code.Code.{Code}
 use Rattle.job_lines.specs.declared.code.Code.TheVariants.{NoJobLine, LineTooLong, BadByte, UnknownJobLine, OpenText}
 use Rattle.job_lines.specs.declared.declaration.Declaration.{Declaration}
-use Rattle.nc_faults.specs.Texts.{IsRefusalCode}
+use Rattle.fault_codes.specs.Codes.{IsRefusalCode}
 use Rattle.nc_blocks.specs.Indices.{StatementFits}
 use Rattle.nc_blocks.specs.Names.{upper}
 use Rattle.nc_blocks.specs.Statement.{BlockView, view_of}

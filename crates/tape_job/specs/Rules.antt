@@ -14,7 +14,7 @@ use Rattle.job_lines.specs.declared.declaration.Declaration.TheVariants.{Channel
 use Rattle.nc_blocks.specs.Statement.{BlockView}
 use Rattle.nc_control_flow.specs.declared.nest.Opened.{Opened}
 use Rattle.nc_control_flow.specs.Nested.{nest_of}
-use Rattle.nc_faults.specs.declared.Refusal.{Refusal}
+use Rattle.fault_codes.specs.declared.Refusal.{Refusal}
 use Rattle.job_types.specs.declared.job.AxisLine.{AxisLine}
 use Rattle.job_types.specs.declared.job.Side.{Side}
 use Rattle.tape_job.specs.declared.draft.GivenOptions.{GivenOptions}

@@ -1,5 +1,6 @@
 //! Why an input gives no job.
-use nc_faults::{NoMemory, Refusal};
+use fault_codes::Refusal;
+use out_of_memory::NoMemory;
 use thiserror::Error;
 
 /// Why an input gives no job.

@@ -9,7 +9,7 @@ use crate::JobFault;
 use crate::piece_reader::PieceReader;
 use job_lines::INPUT_LIMIT;
 use job_types::Job;
-use nc_faults::NoMemory;
+use out_of_memory::NoMemory;
 use std::alloc::Global;
 use std::marker::Model;
 
@@ -73,7 +73,7 @@ fn memory_left(fault: JobFault) -> Result<(), NoMemory>
 impl JobReader {
     ghost use Rattle.std.specs.Prelude.{◌≡◌, ◌+◌, ◌≤◌, ◌++◌, List, ℕ, [], length, Err, IsErr, IfOk, IfErr, OnErr, OnOk};
     ghost use Rattle.job_types.specs.SoundJob.{BlocksFit};
-    ghost use Rattle.nc_faults.specs.declared.Refusal.{Refusal};
+    ghost use Rattle.fault_codes.specs.declared.Refusal.{Refusal};
     ghost use Rattle.tape_job.specs.Input.{HasRefused, HasTaken, IsSpent};
     ghost use Rattle.tape_job.specs.Read.{GivesRead, IsListed, read_of};
     ghost use Rattle.tape_job.specs.declared.fault.JobFault.TheVariants as faults;

@@ -1,13 +1,13 @@
 //! What headers and the end of the input break.
 ghost use Rattle.std.specs.Prelude.{◌≡◌};
-ghost use Rattle.nc_faults.specs.Texts.{IsRefusalCode};
+ghost use Rattle.fault_codes.specs.Codes.{IsRefusalCode};
 ghost use Rattle.tape_job.specs.Rules.{refusal};
 
 use crate::draft::Draft;
 use crate::reading::Reading;
+use fault_codes::Refusal;
 use job_lines::Code;
 use nc_blocks::NameText;
-use nc_faults::Refusal;
 
 /// The refusal of a line by this rule.
 #[tactic(auto, unfolding(crate::specs::Rules::refusal))]
@@ -23,7 +23,7 @@ pub(crate) fn refusal(code: Code, line: u32) -> Refusal
 
 impl Draft {
     ghost use Rattle.std.specs.Prelude.{◌≡◌, IfSome};
-    ghost use Rattle.nc_faults.specs.Texts.{IsRefusalCode};
+    ghost use Rattle.fault_codes.specs.Codes.{IsRefusalCode};
     ghost use Rattle.tape_job.specs.Reading.{reading_view};
     ghost use Rattle.tape_job.specs.Rules.{header_rule, rule_of, is_known, missing_program_refusal, open_structure_refusal};
 
@@ -64,7 +64,7 @@ impl Draft {
     }
 
     /// The refusal of a structure that the end of the last program leaves open.
-    #[tactic(auto, unfolding(crate::specs::Rules::open_structure_refusal, nc_faults::specs::Texts::IsRefusalCode, nc_faults::specs::Texts::refusal_texts))]
+    #[tactic(auto, unfolding(crate::specs::Rules::open_structure_refusal, fault_codes::specs::Codes::IsRefusalCode, fault_codes::specs::Codes::refusal_codes))]
     pub(crate) fn unmatched(&self) -> Option<Refusal>
         ensures value { result ≡ open_structure_refusal self.now.job }
         ensures listed { IfSome result (λ refused. IsRefusalCode refused.code) }

@@ -13,7 +13,7 @@ use job_lines::PROGRAM_LIMIT;
 use job_types::Program;
 use nc_blocks::{Block, NameText};
 use nc_control_flow::{Nest, resolve};
-use nc_faults::NoMemory;
+use out_of_memory::NoMemory;
 use std::alloc::{AllocError, Global};
 use std::marker::Model;
 

@@ -4,9 +4,9 @@ use crate::draft::Draft;
 use crate::library::refusal;
 use crate::lines::{begins_with_percent, has_token, is_bare};
 use crate::reading::{LineFault, Reading, reading_in};
+use fault_codes::Refusal;
 use job_lines::Code;
 use job_types::Job;
-use nc_faults::Refusal;
 use std::alloc::Global;
 use std::marker::Model;
 
@@ -32,7 +32,7 @@ impl Model for Reader {
 
 impl Reader {
     ghost use Rattle.std.specs.Prelude.{◌≡◌, ◌<◌, ◌≤◌, ◌+◌, ◌^◌, ℕ, List, [], length, Ok, None, Some, OnOk, IfOk, IfErr, IfSome};
-    ghost use Rattle.nc_faults.specs.Texts.{IsRefusalCode};
+    ghost use Rattle.fault_codes.specs.Codes.{IsRefusalCode};
     ghost use Rattle.tape_job.specs.Reading.{reading_view, reading_of, ReadingFits, FaultIsListed};
     ghost use Rattle.tape_job.specs.Rules.{last_count, rule_of};
     ghost use Rattle.job_types.specs.SoundJob.{BlocksFit};

@@ -7,8 +7,9 @@ ghost use Rattle.tape_job.specs.Told.{says_compensation};
 
 use crate::lines::{begins_with_percent, first_length, has_token};
 use crate::reading::{LineFault, Reading, reading_in};
+use fault_codes::Refusal;
 use job_lines::Declaration;
-use nc_faults::{NoMemory, Refusal};
+use out_of_memory::NoMemory;
 use std::alloc::Global;
 
 /// What the lines so far say of how the next one is read.

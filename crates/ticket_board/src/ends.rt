@@ -14,7 +14,7 @@ use crate::rule::{Place, Rules, View};
 use atomic_table::Table;
 use axis_sets::{CHANNEL_PLACES, ChannelId};
 use coord_core::Board;
-use nc_faults::NoMemory;
+use out_of_memory::NoMemory;
 use std::alloc::Global;
 use sync_types::StartState;
 

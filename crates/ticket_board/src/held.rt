@@ -10,7 +10,7 @@ ghost use Rattle.ticket_board.specs.Turns.{count_at};
 
 use axis_sets::ChannelId;
 use coord_core::{Board, Locked, Outcome, act_turn, close_turn, look_turn};
-use nc_faults::NoMemory;
+use out_of_memory::NoMemory;
 use std::alloc::Global;
 use std::marker::Model;
 use sync_types::{StartState, Step};

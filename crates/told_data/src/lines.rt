@@ -1,6 +1,6 @@
 //! Values as lines.
 use crate::assumptions::GrantedData;
-use nc_faults::NoMemory;
+use out_of_memory::NoMemory;
 use serde::Serialize;
 use serde_json::{Value, to_value, to_vec};
 use std::alloc::{AllocError, Global};

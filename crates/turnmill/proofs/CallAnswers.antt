@@ -3,7 +3,7 @@ use Rattle.std.proofs.Common.{◌≡◌, ◌≢◌, ◌⊎◌, ℕ, ◌<◌, ◌
 use Rattle.exit_statuses.specs.declared.Status.{Status}
 use Rattle.exit_statuses.specs.declared.Status.TheVariants as ends
 use Rattle.job_types.specs.Job.{JobView}
-use Rattle.nc_faults.specs.declared.Refusal.{Refusal}
+use Rattle.fault_codes.specs.declared.Refusal.{Refusal}
 use Rattle.sample_jobs.specs.Samples.{sample_bytes}
 use Rattle.tape_job.specs.Read.{read_of}
 use Rattle.turnmill.proofs.InputAnswers.{WritesAnswer, at_no_memory, at_read_fault, at_too_long, input_answered, not_less}

@@ -10,7 +10,7 @@ use Rattle.job_report.specs.Verdicts.{verdict_line}
 use Rattle.job_report.specs.declared.summaries.Figures.{Figures}
 use Rattle.job_types.specs.Job.{JobView}
 use Rattle.job_types.specs.SoundJob.{IsSoundJob}
-use Rattle.nc_faults.specs.declared.Refusal.{Refusal}
+use Rattle.fault_codes.specs.declared.Refusal.{Refusal}
 use Rattle.speed_laws.proofs.AllSpeeds.{always_safe}
 use Rattle.speed_laws.specs.Safety.{IsSafeAlways}
 use Rattle.sync_types.specs.Views.{RunView}

@@ -10,7 +10,7 @@ use Rattle.exit_statuses.specs.declared.Status.{Status}
 use Rattle.job_lines.specs.declared.limits.TheConstants.{INPUT_LIMIT}
 use Rattle.job_report.specs.Report.{report_bytes}
 use Rattle.job_types.specs.Job.{JobView}
-use Rattle.nc_faults.specs.declared.Refusal.{Refusal}
+use Rattle.fault_codes.specs.declared.Refusal.{Refusal}
 use Rattle.order_clocks.specs.Clocked.{moves_in}
 use Rattle.order_clocks.specs.RaceOrder.{IsUpTo, numbers_of}
 use Rattle.order_clocks.specs.Races.{IsFirst, IsFirstAt, IsRace}

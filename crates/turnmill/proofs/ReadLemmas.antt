@@ -5,7 +5,7 @@ use Rattle.edge_io.specs.Moves.{Loses, IsEmptied}
 use Rattle.exit_statuses.specs.declared.Status.{Status}
 use Rattle.job_types.specs.Job.{JobView}
 use Rattle.job_types.specs.SoundJob.{IsSoundJob}
-use Rattle.nc_faults.specs.declared.Refusal.{Refusal}
+use Rattle.fault_codes.specs.declared.Refusal.{Refusal}
 use Rattle.tape_job.proofs.SoundJobs.{read_sound}
 use Rattle.tape_job.specs.Input.{ReaderView, HasTaken}
 use Rattle.tape_job.specs.Read.{read_of}

@@ -7,7 +7,7 @@ use Rattle.exit_statuses.specs.declared.Status.{Status}
 use Rattle.exit_statuses.specs.declared.Status.TheVariants as ends
 use Rattle.job_types.specs.Job.{JobView}
 use Rattle.job_types.specs.SoundJob.{IsSoundJob}
-use Rattle.nc_faults.specs.declared.Refusal.{Refusal}
+use Rattle.fault_codes.specs.declared.Refusal.{Refusal}
 use Rattle.channel_machine.specs.Scripts.{IsRunInOrder, script_of}
 use Rattle.protection_zones.specs.Overlaps.{Order}
 use Rattle.protection_zones.specs.Stretches.{StretchesView}

@@ -9,7 +9,7 @@ use Rattle.job_report.specs.Report.{report_bytes}
 use Rattle.job_report.specs.Summary.{summary_bytes}
 use Rattle.job_report.specs.declared.summaries.Figures.{Figures}
 use Rattle.job_types.specs.Job.{JobView}
-use Rattle.nc_faults.specs.declared.Refusal.{Refusal}
+use Rattle.fault_codes.specs.declared.Refusal.{Refusal}
 use Rattle.order_clocks.specs.Clocked.{ClocksView}
 use Rattle.order_clocks.specs.Tells.{is_before_in}
 use Rattle.channel_machine.specs.Scripts.{IsRunInOrder}

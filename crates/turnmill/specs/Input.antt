@@ -3,7 +3,7 @@ use Rattle.std.specs.Prelude.{◌≡◌, ℕ, ◌+◌, ◌<◌, ◌≤◌, Bool,
 use Rattle.std.specs.Str.{bytes_eq}
 use Rattle.job_types.specs.Job.{JobView}
 use Rattle.job_types.specs.declared.job.Job.{Job}
-use Rattle.nc_faults.specs.declared.Refusal.{Refusal}
+use Rattle.fault_codes.specs.declared.Refusal.{Refusal}
 use Rattle.tape_job.specs.Read.{read_of}
 use Rattle.turnmill.specs.declared.check.InputFault.{InputFault}
 use Rattle.turnmill.specs.declared.check.InputFault.TheVariants.{Failed, TooLong, NoMemory}

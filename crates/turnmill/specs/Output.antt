@@ -4,7 +4,7 @@ use Rattle.edge_io.specs.Moves.{Grows, GrowsByFront}
 use Rattle.exit_statuses.specs.Statuses.{status_of}
 use Rattle.exit_statuses.specs.declared.Status.{Status}
 use Rattle.exit_statuses.specs.declared.Status.TheVariants as ends
-use Rattle.nc_faults.specs.declared.Refusal.{Refusal}
+use Rattle.fault_codes.specs.declared.Refusal.{Refusal}
 use Rattle.job_lines.specs.declared.limits.TheConstants.{INPUT_LIMIT}
 use Rattle.job_report.specs.Report.{report_bytes, refusal_bytes}
 use Rattle.job_types.specs.Job.{JobView}

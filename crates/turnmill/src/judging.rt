@@ -12,8 +12,8 @@ ghost use Rattle.turnmill.specs.Judgements.{IsJudgedByClocks};
 ghost use Rattle.turnmill.specs.Output.{CallsForReport};
 
 use clash_check::{count, judge, judge_shared};
-use nc_faults::NoMemory;
 use order_clocks::{Clocks, clocks_of};
+use out_of_memory::NoMemory;
 use product_run::run_in_order;
 use protection_zones::{Stretches, stretches_of};
 use std::alloc::Global;

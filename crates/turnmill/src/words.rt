@@ -11,7 +11,7 @@ ghost use Rattle.turnmill.specs.declared.words.Request.TheVariants as requests;
 
 use clap::error::ErrorKind;
 use clap::{Arg, ArgMatches, Command, Error};
-use nc_faults::NoMemory;
+use out_of_memory::NoMemory;
 use std::alloc::Global;
 
 /// What a call is asked for.

@@ -1,4 +1,4 @@
-//! The codes of alarms, by name. `alarm_text` has what each of them says.
+//! The codes of alarms, by name. `nc_faults::alarm_text` has what each of them says.
 
 /// The code of the alarm "number too large".
 pub const NUMBER_TOO_LARGE: u16 = 1;
@@ -98,3 +98,12 @@ pub const TOO_MANY_REPETITIONS: u16 = 32;
 
 /// The code of the alarm "repetition count".
 pub const REPETITION_COUNT: u16 = 33;
+
+/// The code of the alarm "no such tool".
+pub const NO_SUCH_TOOL: u16 = 34;
+
+/// The code of the alarm "tool plane".
+pub const TOOL_PLANE: u16 = 35;
+
+/// The code of the alarm "too many arguments".
+pub const TOO_MANY_ARGUMENTS: u16 = 36;

@@ -1,5 +1,5 @@
 -- Meaning. The want of memory.
-use Rattle.nc_faults.specs.declared.NoMemory.{NoMemory}
+use Rattle.out_of_memory.specs.declared.NoMemory.{NoMemory}
 
 -- the one value of its type
 abbrev pub no_memory : NoMemory
