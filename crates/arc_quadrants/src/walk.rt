@@ -32,7 +32,8 @@ pub fn quarters(arc: &Arc) -> ArrayVec<Quarter, 5>
     requires { IsSoundArc arc.now }
     ensures quarters { result.items ≡ quarters_of arc.now }
     ensures covers { (point : Point) → IsOnArc arc.now point
-        → Any (λ q. IsBound (bounds_between arc.now.inner arc.now.outer q.from q.to) (turned_back q.turn (point_seen arc.now point)) point.under) result.items }
+        → Any (λ q. IsBound (bounds_between arc.now.inner arc.now.outer q.from q.to)
+        (turned_back q.turn (point_seen arc.now point)) point.under) result.items }
     ensures fit { All IsFit result.items }
     ensures some { 0 < length result.items }
 {

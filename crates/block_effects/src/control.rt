@@ -156,7 +156,8 @@ pub(crate) fn begin_for<'a>(
     requires index { index ≤ LAST_PARAMETER }
     requires first { IndicesFit (tree_of first.now) }
     requires bound { IndicesFit (tree_of bound.now) }
-    ensures turns { Turns (model.for_begun parameters.old index (tree_of first.now) (tree_of bound.now)) result parameters.new }
+    ensures turns { Turns (model.for_begun parameters.old index (tree_of first.now)
+        (tree_of bound.now)) result parameters.new }
     ensures unchanged { OnErr result (parameters.new ≡ parameters.old) }
 {
     let change = parameters.give(index, first)?;

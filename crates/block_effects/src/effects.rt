@@ -72,7 +72,8 @@ fn make_motion(
 ) -> Result<(), u16>
     requires { motion.old ≡ None }
     ensures made { (h : ConditionsView) → AreInForce h conditions.now
-        → given_motion motion.new result ≡ model.motion_made axes.now.slots axes.now.owned h (stands at.old) targets.now arc.now }
+        → given_motion motion.new result ≡ model.motion_made axes.now.slots axes.now.owned h
+        (stands at.old) targets.now arc.now }
     ensures stand { IfOk result (λ _. StandsAtEndOf motion.new at.old at.new) }
     ensures unmoved { OnErr result (at.new ≡ at.old) }
 {
@@ -97,7 +98,8 @@ fn move_programmed(
 ) -> Result<(), u16>
     requires { motion.old ≡ None }
     ensures made { (h : ConditionsView) → AreInForce h conditions.now
-        → given_motion motion.new result ≡ model.moved_or_still axes.now.slots axes.now.owned h (stands at.old) groups.now targets.now arc.now }
+        → given_motion motion.new result ≡ model.moved_or_still axes.now.slots axes.now.owned h (stands at.old)
+        groups.now targets.now arc.now }
     ensures stand { IfOk result (λ _. StandsAtEndOf motion.new at.old at.new) }
     ensures unmoved { OnErr result (at.new ≡ at.old) }
 {
@@ -123,8 +125,10 @@ fn move_axes<S: Setup>(
     motion: &mut Option<Motion>,
 ) -> Result<(), u16>
     requires { motion.old ≡ None }
-    ensures made { (blocks : List (List GWord)) (chain : List Map) → IsAfter blocks modal.now → IsComposed chain frame.now
-        → given_motion motion.new result ≡ model.moved_or_still axes.now.slots axes.now.owned (model.held_after (S.offset setup.now) blocks chain) (stands at.old) groups.now targets.now arc.now }
+    ensures made { (blocks : List (List GWord)) (chain : List Map)
+        → IsAfter blocks modal.now → IsComposed chain frame.now
+        → given_motion motion.new result ≡ model.moved_or_still axes.now.slots axes.now.owned
+        (model.held_after (S.offset setup.now) blocks chain) (stands at.old) groups.now targets.now arc.now }
     ensures stand { IfOk result (λ _. StandsAtEndOf motion.new at.old at.new) }
     ensures unmoved { OnErr result (at.new ≡ at.old) }
 {
@@ -147,9 +151,13 @@ fn run_from<S: Setup>(
 ) -> Result<(), u16>
     requires fits { All WordFits (map word_view words.now) }
     requires told { TellsOfMoves done.old }
-    ensures acts { (blocks : List (List GWord)) (chain : List Map) → IsAfter blocks modal.now → IsComposed chain frame.now
-        → ActsAll (model.words_then_motion (equipment_of (S.names setup.now) (S.axis_named setup.now) (S.offset setup.now) axes.now)
-        (model.held_after (S.offset setup.now) blocks chain) (stands at.old) groups.now (progress_of parameters.old done.old) (map word_view words.now)) result (progress_of parameters.new done.new) done.new.motion }
+    ensures acts { (blocks : List (List GWord)) (chain : List Map)
+        → IsAfter blocks modal.now → IsComposed chain frame.now
+        → ActsAll (model.words_then_motion (equipment_of (S.names setup.now) (S.axis_named setup.now)
+        (S.offset setup.now) axes.now)
+        (model.held_after (S.offset setup.now) blocks chain) (stands at.old) groups.now
+        (progress_of parameters.old done.old) (map word_view words.now)) result
+        (progress_of parameters.new done.new) done.new.motion }
     ensures stand { IfOk result (λ _. StandsAtEndOf done.new.motion at.old at.new) }
     ensures parameters { OnErr result (parameters.new ≡ parameters.old) }
     ensures at { OnErr result (at.new ≡ at.old) }
@@ -212,8 +220,9 @@ fn run_words<'a, S: Setup>(
 ) -> Result<Course<'a>, u16>
     requires fits { All WordFits (map word_view words.now) }
     requires empty { item.old ≡ None }
-    ensures runs { WordsRunUnder modal.now groups.now (equipment_of (S.names setup.now) (S.axis_named setup.now) (S.offset setup.now) axes.now)
-        situation.old line (map word_view words.now) (answer_with item.new result) situation.new }
+    ensures runs { WordsRunUnder modal.now groups.now
+        (equipment_of (S.names setup.now) (S.axis_named setup.now) (S.offset setup.now) axes.now) situation.old line
+        (map word_view words.now) (answer_with item.new result) situation.new }
     ensures modal { situation.new.modal ≡ situation.old.modal }
     ensures stand { IfOk result (λ _. StandsAtEnd item.new situation.old.at situation.new.at) }
     ensures unchanged { OnErr result (situation.new ≡ situation.old) }
@@ -244,7 +253,8 @@ fn run_control<'a, S: Setup>(
 ) -> Result<Course<'a>, u16>
     requires opener { StatementFits (statement_view opener.now) }
     requires fits { StatementFits (statement_view stmt.now) }
-    ensures turns { Turns (model.control_effect (S.names setup.now) parameters.old (statement_view opener.now) (statement_view stmt.now)) result parameters.new }
+    ensures turns { Turns (model.control_effect (S.names setup.now) parameters.old (statement_view opener.now)
+        (statement_view stmt.now)) result parameters.new }
     ensures unchanged { OnErr result (parameters.new ≡ parameters.old) }
 {
     match stmt {
@@ -281,8 +291,9 @@ fn run_stmt<'a, S: Setup>(
     requires opener { StatementFits (statement_view opener.now) }
     requires fits { StatementFits (statement_view stmt.now) }
     requires empty { item.old ≡ None }
-    ensures runs { RunsUnder modal.now groups.now (equipment_of (S.names setup.now) (S.axis_named setup.now) (S.offset setup.now) axes.now)
-        situation.old line (statement_view opener.now) (statement_view stmt.now) (answer_with item.new result) situation.new }
+    ensures runs { RunsUnder modal.now groups.now
+        (equipment_of (S.names setup.now) (S.axis_named setup.now) (S.offset setup.now) axes.now) situation.old line
+        (statement_view opener.now) (statement_view stmt.now) (answer_with item.new result) situation.new }
     ensures modal { situation.new.modal ≡ situation.old.modal }
     ensures stand { IfOk result (λ _. StandsAtEnd item.new situation.old.at situation.new.at) }
     ensures unchanged { OnErr result (situation.new ≡ situation.old) }
@@ -319,7 +330,8 @@ fn run_stmt<'a, S: Setup>(
 /// the block before it alone.
 fn is_unchanged(modal: &Modal, groups: &[GWord]) -> bool
     ensures none { IsTrue result → groups.now ≡ [] }
-    ensures kept { IsTrue result → (blocks : List (List GWord)) → IsAfter blocks modal.now → IsAfter (blocks ++ groups.now ∷ []) modal.now }
+    ensures kept { IsTrue result → (blocks : List (List GWord)) → IsAfter blocks modal.now
+        → IsAfter (blocks ++ groups.now ∷ []) modal.now }
 {
     groups.is_empty() && modal.word(BLOCK_GROUP) == 0
 }
@@ -339,8 +351,9 @@ fn run<'a, S: Setup>(
     requires opener { StatementFits (statement_view opener.now) }
     requires fits { StatementFits (statement_view stmt.now) }
     requires empty { item.old ≡ None }
-    ensures runs { RunsAsDefined (equipment_of (S.names setup.now) (S.axis_named setup.now) (S.offset setup.now) axes.now)
-        situation.old line (statement_view opener.now) (statement_view stmt.now) (answer_with item.new result) situation.new }
+    ensures runs { RunsAsDefined (equipment_of (S.names setup.now) (S.axis_named setup.now) (S.offset setup.now)
+        axes.now) situation.old line (statement_view opener.now) (statement_view stmt.now)
+        (answer_with item.new result) situation.new }
     ensures modal { IfOk result (λ _. ModalIsAfter groups.now situation.old situation.new) }
     ensures stand { IfOk result (λ _. StandsAtEnd item.new situation.old.at situation.new.at) }
     ensures unchanged { OnErr result (situation.new ≡ situation.old) }
@@ -373,9 +386,11 @@ pub fn execute_to<'a, S: Setup>(
     requires opener { StatementFits (statement_view opener.now) }
     requires fits { StatementFits (statement_view stmt.now) }
     requires empty { item.old ≡ None }
-    ensures leaves { DoesAsDefined (equipment_of (S.names setup.now) (S.axis_named setup.now) (S.offset setup.now) axes.now)
-        situation.old line (statement_view opener.now) (statement_view stmt.now) (answer_with item.new result) situation.new }
-    ensures modal { IfOk result (λ _. ModalIsAfter (model.group_words (statement_view stmt.now)) situation.old situation.new) }
+    ensures leaves { DoesAsDefined (equipment_of (S.names setup.now) (S.axis_named setup.now) (S.offset setup.now)
+        axes.now) situation.old line (statement_view opener.now) (statement_view stmt.now)
+        (answer_with item.new result) situation.new }
+    ensures modal { IfOk result (λ _. ModalIsAfter (model.group_words (statement_view stmt.now))
+        situation.old situation.new) }
     ensures stand { IfOk result (λ _. StandsAtEnd item.new situation.old.at situation.new.at) }
     ensures unchanged { OnErr result (situation.new ≡ situation.old) }
 {
@@ -425,9 +440,10 @@ pub fn execute<'a, S: Setup>(
 ) -> Result<Done<'a>, BlockFault>
     requires opener { StatementFits (statement_view opener.now) }
     requires fits { StatementFits (statement_view stmt.now) }
-    ensures leaves { DoesAsDefined (equipment_of (S.names setup.now) (S.axis_named setup.now) (S.offset setup.now) axes.now)
-        situation.old line (statement_view opener.now) (statement_view stmt.now) result situation.new }
-    ensures modal { IfOk result (λ _. ModalIsAfter (model.group_words (statement_view stmt.now)) situation.old situation.new) }
+    ensures leaves { DoesAsDefined (equipment_of (S.names setup.now) (S.axis_named setup.now) (S.offset setup.now)
+        axes.now) situation.old line (statement_view opener.now) (statement_view stmt.now) result situation.new }
+    ensures modal { IfOk result (λ _. ModalIsAfter (model.group_words (statement_view stmt.now))
+        situation.old situation.new) }
     ensures stand { IfOk result (λ done. StandsAtEnd done.item situation.old.at situation.new.at) }
     ensures unchanged { OnErr result (situation.new ≡ situation.old) }
 {

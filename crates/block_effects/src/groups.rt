@@ -65,7 +65,8 @@ pub(crate) fn stands_still(groups: &[GWord]) -> bool
 /// The plane that holds.
 #[tactic(auto, unfolding(crate::specs::Shapes::plane_of, g_groups::specs::Groups::holding_of))]
 pub(crate) fn plane_in(modal: &Modal) -> Plane
-    ensures { (blocks : List (List GWord)) → IsAfter blocks modal.now → result ≡ plane_of (modal_word blocks PLANE_GROUP) }
+    ensures { (blocks : List (List GWord)) → IsAfter blocks modal.now
+        → result ≡ plane_of (modal_word blocks PLANE_GROUP) }
 {
     match modal.word(PLANE_GROUP) {
         17 => Plane::G17,

@@ -13,7 +13,8 @@ ghost use Rattle.block_effects.specs.Words.{SetupView};
 /// A law: the motion of a block is one of axes that the channel owns, each once, from where it stands
 /// to an end in range. It is sound where the axes stand in range.
 pub fn motions_begin_where_axes_stand()
-    ensures { (equipment : SetupView) (found : SituationView) (line : ℕ) (opener statement : Statement) (effect : Effect) (item : Item) (motion : Motion)
+    ensures { (equipment : SetupView) (found : SituationView) (line : ℕ) (opener statement : Statement)
+        (effect : Effect) (item : Item) (motion : Motion)
         → effect_of equipment found line opener statement ≡ Ok effect
         → effect.item ≡ Some item
         → motion_of item ≡ Some motion

@@ -159,8 +159,8 @@ fn program_axis<S: Setup>(
     name: &[u8],
     value: Programmed,
 ) -> Result<(), u16>
-    ensures { Aims (model.programmed_by (equipment_of (S.names setup.now) (S.axis_named setup.now) (S.offset setup.now) axes.now)
-        targets.old name.now (model.slot_named name.now) value) result targets.new }
+    ensures { Aims (model.programmed_by (equipment_of (S.names setup.now) (S.axis_named setup.now) (S.offset setup.now)
+        axes.now) targets.old name.now (model.slot_named name.now) value) result targets.new }
 {
     match slot_named(name) {
         Some(slot) => program_slot(&axes.slots, targets, slot, value),
@@ -236,8 +236,10 @@ impl WordsDone {
     ) -> Result<(), u16>
         ensures moves { self.new.moves ≡ self.old.moves }
         ensures acts { (parameters : List ℤ)
-            → Acts (model.word_progress (equipment_of (S.names setup.now) (S.axis_named setup.now) (S.offset setup.now) axes.now)
-            (progress_of parameters self.old) name.now (model.centre_named name.now) value) result (progress_of parameters self.new) }
+            → Acts (model.word_progress (equipment_of (S.names setup.now) (S.axis_named setup.now)
+            (S.offset setup.now) axes.now)
+            (progress_of parameters self.old) name.now (model.centre_named name.now) value) result
+            (progress_of parameters self.new) }
     {
         match centre_named(name) {
             Some(axis) => program_centre(&mut self.arc, axis, value),
@@ -257,8 +259,9 @@ impl WordsDone {
         requires fits { WordFits (word_view word.now) }
         requires told { TellsOfMoves self.old }
         ensures told { TellsOfMoves self.new }
-        ensures acts { ActsOn (model.word_done (equipment_of (S.names setup.now) (S.axis_named setup.now) (S.offset setup.now) axes.now)
-            (progress_of parameters.old self.old) (word_view word.now)) result (progress_of parameters.new self.new) }
+        ensures acts { ActsOn (model.word_done (equipment_of (S.names setup.now) (S.axis_named setup.now)
+            (S.offset setup.now) axes.now) (progress_of parameters.old self.old) (word_view word.now)) result
+            (progress_of parameters.new self.new) }
         ensures undone { IsUndoneSome result parameters.old parameters.new }
     {
         match word {

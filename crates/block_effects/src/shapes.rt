@@ -42,7 +42,8 @@ fn values_of(parameters: &Parameters, words: &[(u8, Expr)]) -> Result<[Option<Nu
 /// Shapes the frame by a word with these values, or answers its alarm.
 #[tactic(auto, using(crate::proofs::FrameSteps::adds_shapes), unfolding(crate::specs::Shapes::shape_chain))]
 fn shape_by(frame: &mut Frame, word: FrameWord, values: [Option<Num>; 3]) -> Result<(), u16>
-    ensures shapes { (chain : List Map) → IsComposed chain frame.old → Shapes (model.shape_chain chain word values) result frame.new }
+    ensures shapes { (chain : List Map) → IsComposed chain frame.old
+        → Shapes (model.shape_chain chain word values) result frame.new }
     ensures unchanged { OnErr result (frame.new ≡ frame.old) }
 {
     match word {
@@ -74,7 +75,8 @@ pub(crate) fn shape(
 /// Turns the frame, or answers the alarm.
 #[tactic(auto, using(crate::proofs::FrameSteps::adds_shapes), unfolding(crate::specs::Shapes::turn_chain))]
 fn turn_by(frame: &mut Frame, plane: Plane, additive: bool, angle: Option<Num>) -> Result<(), u16>
-    ensures shapes { (chain : List Map) → IsComposed chain frame.old → Shapes (model.turn_chain chain plane additive angle) result frame.new }
+    ensures shapes { (chain : List Map) → IsComposed chain frame.old
+        → Shapes (model.turn_chain chain plane additive angle) result frame.new }
     ensures unchanged { OnErr result (frame.new ≡ frame.old) }
 {
     if additive {

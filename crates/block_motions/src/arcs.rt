@@ -336,7 +336,8 @@ fn arc_between(
     at: &mut Positions,
 ) -> Result<Option<Motion>, u16>
     ensures made { (h : ConditionsView) → AreInForce h conditions.now
-        → result ≡ model.arc_between slots.now owned h (stands_at at.old) targets.now words.now plane (model.sides_in slots.now h plane) }
+        → result ≡ model.arc_between slots.now owned h (stands_at at.old) targets.now words.now plane
+        (model.sides_in slots.now h plane) }
     ensures stand { IfOk result (λ motion. StandsAtEndOf motion at.old at.new) }
     ensures unmoved { OnErr result (at.new ≡ at.old) }
 {

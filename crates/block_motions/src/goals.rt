@@ -247,7 +247,8 @@ fn has_axis(
     programmed: Option<Programmed>,
 ) -> bool
     requires { axis < 3 }
-    ensures { (h : ConditionsView) → IsComposed (model.chain_in h) frame.now → result ≡ model.has_axis slots.now h axis programmed }
+    ensures { (h : ConditionsView) → IsComposed (model.chain_in h) frame.now
+        → result ≡ model.has_axis slots.now h axis programmed }
 {
     programmed.is_none() || axis_through(slots, frame, axis).is_some()
 }

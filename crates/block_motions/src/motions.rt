@@ -156,7 +156,8 @@ fn move_to(
     motion: &mut Option<Motion>,
 ) -> Result<(), u16>
     requires { motion.old ≡ None }
-    ensures made { model.given_motion motion.new result ≡ model.straight_motion_to owned (positions.stands at.old) rapid goals.now }
+    ensures made { model.given_motion motion.new result
+        ≡ model.straight_motion_to owned (positions.stands at.old) rapid goals.now }
     ensures stand { IfOk result (λ _. model.StandsAtEndOf motion.new at.old at.new) }
     ensures unmoved { OnErr result (at.new ≡ at.old) }
 {
@@ -201,7 +202,8 @@ pub fn straight_motion(
 ) -> Result<(), u16>
     requires { motion.old ≡ None }
     ensures made { (h : ConditionsView) → AreInForce h conditions.now
-        → model.given_motion motion.new result ≡ model.straight_motion slots.now owned h (positions.stands at.old) targets.now }
+        → model.given_motion motion.new result ≡ model.straight_motion slots.now owned h
+        (positions.stands at.old) targets.now }
     ensures stand { IfOk result (λ _. model.StandsAtEndOf motion.new at.old at.new) }
     ensures unmoved { OnErr result (at.new ≡ at.old) }
 {

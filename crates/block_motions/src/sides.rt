@@ -71,7 +71,8 @@ pub(crate) fn have_one_factor(conditions: &Conditions, plane: Plane) -> bool
 /// Whether the frame mirrors one axis of the plane and not the other.
 fn is_mirrored(conditions: &Conditions, plane: Plane) -> bool
     ensures { (h : ConditionsView) → AreInForce h conditions.now
-        → result ≡ other_sign (image_of (chain_in h) (first_axis_of plane)).minus (image_of (chain_in h) (second_axis_of plane)).minus }
+        → result ≡ other_sign (image_of (chain_in h) (first_axis_of plane)).minus
+        (image_of (chain_in h) (second_axis_of plane)).minus }
 {
     let frame = frame_in(conditions);
     let (_, first, _) = frame.image(first_axis(plane));

@@ -27,7 +27,8 @@ fn reading_of<N: Names>(opener: &Stmt, statement: &Stmt, names: &N, number: u16)
     requires opener { StatementFits (statement_view opener.now) }
     requires fits { StatementFits (statement_view statement.now) }
     requires number { number < PARAMETER_LIMIT }
-    ensures { result ≡ model.reading_of (N.parameter names.now) (statement_view opener.now) (statement_view statement.now) number }
+    ensures { result ≡ model.reading_of (N.parameter names.now) (statement_view opener.now)
+        (statement_view statement.now) number }
 {
     if block_reads(opener, statement, names, number) {
         let value = names.parameter(number);
@@ -48,7 +49,8 @@ fn readings_below<N: Names>(
     requires opener { StatementFits (statement_view opener.now) }
     requires fits { StatementFits (statement_view statement.now) }
     requires limit { limit ≤ PARAMETER_LIMIT }
-    ensures { IfOk result (λ list. list.items ≡ model.readings_below (N.parameter names.now) (statement_view opener.now) (statement_view statement.now) limit) }
+    ensures { IfOk result (λ list. list.items ≡ model.readings_below (N.parameter names.now) (statement_view opener.now)
+        (statement_view statement.now) limit) }
 {
     let mut list = Vec::new(alloc);
     for number in 0..limit {
@@ -70,7 +72,8 @@ pub fn readings_in<N: Names>(
 ) -> Result<Vec<Reading>, NoMemory>
     requires opener { StatementFits (statement_view opener.now) }
     requires fits { StatementFits (statement_view statement.now) }
-    ensures { IfOk result (λ list. list.items ≡ model.readings_of (N.parameter names.now) (statement_view opener.now) (statement_view statement.now)) }
+    ensures { IfOk result (λ list. list.items ≡ model.readings_of (N.parameter names.now) (statement_view opener.now)
+        (statement_view statement.now)) }
 {
     readings_below(alloc, opener, statement, names, PARAMETER_LIMIT)
 }

@@ -145,7 +145,8 @@ fn end_reads<N: Names>(opener: &Stmt, names: &N, number: u16) -> bool
 pub fn block_reads<N: Names>(opener: &Stmt, statement: &Stmt, names: &N, number: u16) -> bool
     requires opener { StatementFits (statement_view opener.now) }
     requires fits { StatementFits (statement_view statement.now) }
-    ensures { result ≡ model.block_reads (N.parameter names.now) (statement_view opener.now) (statement_view statement.now) number }
+    ensures { result ≡ model.block_reads (N.parameter names.now) (statement_view opener.now)
+        (statement_view statement.now) number }
 {
     match statement {
         Stmt::Words(words) => words_read(words, names, number),

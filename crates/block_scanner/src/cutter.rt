@@ -116,8 +116,10 @@ impl Cutter {
         ensures first { result ≡ first_of piece.now }
         ensures some { 0 < result.0 }
         ensures within { result.0 ≤ length piece.now }
-        ensures goes_on { (raw : List ℕ) → self.old ≡ part_of raw false → self.new ≡ part_of (raw ++ take result.0 piece.now) result.1 }
-        ensures begins { (raw : List ℕ) → self.old ≡ part_of raw true → self.new ≡ part_of (take result.0 piece.now) result.1 }
+        ensures goes_on { (raw : List ℕ) → self.old ≡ part_of raw false
+            → self.new ≡ part_of (raw ++ take result.0 piece.now) result.1 }
+        ensures begins { (raw : List ℕ) → self.old ≡ part_of raw true
+            → self.new ≡ part_of (take result.0 piece.now) result.1 }
     {
         if self.ended {
             self.begin();

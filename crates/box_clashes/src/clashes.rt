@@ -67,7 +67,8 @@ fn parting_margin(margin: i32, lefts: &[Box3], rights: &[Box3]) -> Option<i64>
 fn margin_of(job: &Job, run: &Run, met: &Meeting) -> Option<i64>
     requires fit { All (All IsFit) run.now.items }
     requires deep { job.now.depth ≤ DEPTH_LIMIT }
-    ensures { model.IsPartingMargin job.now.margin (model.boxes_at job.now run.now met.now.left job.now.depth) (model.boxes_at job.now run.now met.now.right job.now.depth) result }
+    ensures { model.IsPartingMargin job.now.margin (model.boxes_at job.now run.now met.now.left job.now.depth)
+        (model.boxes_at job.now run.now met.now.right job.now.depth) result }
 {
     let lefts = boxes_at(job, run, job.depth, &met.left);
     let rights = boxes_at(job, run, job.depth, &met.right);
@@ -91,7 +92,8 @@ fn boxes_by_depth(job: &Job, run: &Run, place: &Place) -> [ArrayVec<Box3, 80>; 5
 /// The least depth above that of the job with which two boxes would not meet.
 fn depth_of(job: &Job, run: &Run, met: &Meeting) -> Option<u8>
     requires { All (All IsFit) run.now.items }
-    ensures { IsPartingDepth (model.boxes_by_depth job.now run.now met.now.left) (model.boxes_by_depth job.now run.now met.now.right) job.now.depth result }
+    ensures { IsPartingDepth (model.boxes_by_depth job.now run.now met.now.left)
+        (model.boxes_by_depth job.now run.now met.now.right) job.now.depth result }
 {
     let lefts = boxes_by_depth(job, run, &met.left);
     let rights = boxes_by_depth(job, run, &met.right);
@@ -109,8 +111,9 @@ pub fn clash_of(job: &Job, run: &Run, met: &Meeting) -> Clash
     ensures all { model.IsClash job.now run.now met.now result }
 
     // One micrometre more parts the whole boxes, forwards or backwards in the direction of the way.
-    ensures parted { (DoMeet (moved_box met.now.left.cover result.way.direction (result.way.shift +ℤ pos 1)) met.now.right.cover → ⊥)
-        ⊎ (DoMeet (moved_box met.now.left.cover result.way.direction (neg_ℤ (result.way.shift +ℤ pos 1))) met.now.right.cover → ⊥) }
+    ensures parted { (DoMeet (moved_box met.now.left.cover result.way.direction (result.way.shift +ℤ pos 1))
+        met.now.right.cover → ⊥) ⊎ (DoMeet (moved_box met.now.left.cover result.way.direction
+        (neg_ℤ (result.way.shift +ℤ pos 1))) met.now.right.cover → ⊥) }
 {
     Clash {
         common: common_box(&met.left.cover, &met.right.cover),

@@ -26,7 +26,8 @@ fn boxes_of_pieces(
 ) -> ArrayVec<Box3, 80>
     requires sound { IsSound motion.now }
     requires deep { depth ≤ DEPTH_LIMIT }
-    ensures { result.items ≡ map (λ piece. piece_box job.now.margin zone.now.sides piece cover.now) (pieces_at motion.now depth) }
+    ensures { result.items ≡ map (λ piece. piece_box job.now.margin zone.now.sides piece cover.now)
+        (pieces_at motion.now depth) }
 {
     let mut boxes = ArrayVec::new();
     for piece in pieces_of(motion, depth) {
@@ -55,7 +56,8 @@ fn boxes_of_zone(
 ) -> ArrayVec<Box3, 80>
     requires fit { All (All IsFit) run.now.items }
     requires deep { depth ≤ DEPTH_LIMIT }
-    ensures { result.items ≡ boxes_in_pieces job.now.margin depth zone.now.sides place.now.cover (motion_at run.now place.now.entry place.now.motion) }
+    ensures { result.items ≡ boxes_in_pieces job.now.margin depth zone.now.sides place.now.cover
+        (motion_at run.now place.now.entry place.now.motion) }
 {
     match motion_at(run, place.entry, place.motion) {
         None => one_box(place.cover),

@@ -85,8 +85,10 @@ fn lesser(found: Option<Way>, way: Way) -> Way
 /// The least way that was found in the directions below this one, or in this one.
 fn least_with(found: Option<Way>, job: &Job, met: &Meeting, direction: usize) -> Option<Way>
     requires in_space { direction < 3 }
-    requires below { IsLeastSoFar (model.gives_room job.now met.now) met.now.left.cover met.now.right.cover direction found }
-    ensures { IsLeastSoFar (model.gives_room job.now met.now) met.now.left.cover met.now.right.cover (direction + 1) result }
+    requires below { IsLeastSoFar (model.gives_room job.now met.now) met.now.left.cover
+        met.now.right.cover direction found }
+    ensures { IsLeastSoFar (model.gives_room job.now met.now) met.now.left.cover
+        met.now.right.cover (direction + 1) result }
 {
     if gives_room(job, met, direction) {
         let way = way_in(&met.left.cover, &met.right.cover, direction);

@@ -60,7 +60,8 @@ fn greater(most: Option<i64>, left: &Box3, right: &Box3) -> Option<i64>
 
 /// The greatest of some numbers and of how far a box reaches into each of these.
 fn most_with(before: Option<i64>, left: &Box3, right: &[Box3]) -> Option<i64>
-    ensures { (numbers : List ℤ) → IsGreatest before numbers → IsGreatest result (numbers ++ map (reach_of left.now) right.now) }
+    ensures { (numbers : List ℤ) → IsGreatest before numbers
+        → IsGreatest result (numbers ++ map (reach_of left.now) right.now) }
 {
     let mut most = before;
     for other in right {
@@ -71,7 +72,8 @@ fn most_with(before: Option<i64>, left: &Box3, right: &[Box3]) -> Option<i64>
 
 /// The same of each box of a lot with each of another.
 pub(crate) fn most_among(before: Option<i64>, left: &[Box3], right: &[Box3]) -> Option<i64>
-    ensures { (numbers : List ℤ) → IsGreatest before numbers → IsGreatest result (numbers ++ reaches left.now right.now) }
+    ensures { (numbers : List ℤ) → IsGreatest before numbers
+        → IsGreatest result (numbers ++ reaches left.now right.now) }
 {
     let mut most = before;
     for own in left {

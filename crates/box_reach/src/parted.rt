@@ -67,7 +67,8 @@ fn parts_meet(owns: &[Part], cover: &Box3, covers: &[Box3], others: &[Part]) -> 
 fn most_between(before: Option<i64>, own: &Part, cover: &Box3, other: &Part) -> Option<i64>
     requires own { IsCovered own.now }
     requires other { All (LiesIn cover.now) (boxes_in other.now) }
-    ensures { (numbers : List ℤ) → IsGreatest before numbers → IsGreatest result (numbers ++ reaches (boxes_in own.now) (boxes_in other.now)) }
+    ensures { (numbers : List ℤ) → IsGreatest before numbers
+        → IsGreatest result (numbers ++ reaches (boxes_in own.now) (boxes_in other.now)) }
 {
     if is_over(before, &own.cover, cover) {
         most_among(before, own.boxes.as_slice(), other.boxes.as_slice())
@@ -81,7 +82,8 @@ fn most_by(before: Option<i64>, own: &Part, covers: &[Box3], others: &[Part]) ->
     requires own { IsCovered own.now }
     requires covers { AreCovers covers.now others.now }
     requires others { All IsCovered others.now }
-    ensures { (numbers : List ℤ) → IsGreatest before numbers → IsGreatest result (numbers ++ reaches (boxes_in own.now) (flat_map boxes_in others.now)) }
+    ensures { (numbers : List ℤ) → IsGreatest before numbers
+        → IsGreatest result (numbers ++ reaches (boxes_in own.now) (flat_map boxes_in others.now)) }
 {
     let mut most = before;
     for place in 0..others.len() {
@@ -102,7 +104,8 @@ fn most_within(
     requires cover { All (LiesIn cover.now) (flat_map boxes_in others.now) }
     requires covers { AreCovers covers.now others.now }
     requires others { All IsCovered others.now }
-    ensures { (numbers : List ℤ) → IsGreatest before numbers → IsGreatest result (numbers ++ reaches (boxes_in own.now) (flat_map boxes_in others.now)) }
+    ensures { (numbers : List ℤ) → IsGreatest before numbers
+        → IsGreatest result (numbers ++ reaches (boxes_in own.now) (flat_map boxes_in others.now)) }
 {
     if is_over(before, &own.cover, cover) {
         most_by(before, own, covers, others)
@@ -123,7 +126,8 @@ fn most_of(
     requires cover { All (LiesIn cover.now) (flat_map boxes_in others.now) }
     requires covers { AreCovers covers.now others.now }
     requires others { All IsCovered others.now }
-    ensures { (numbers : List ℤ) → IsGreatest before numbers → IsGreatest result (numbers ++ reaches (flat_map boxes_in owns.now) (flat_map boxes_in others.now)) }
+    ensures { (numbers : List ℤ) → IsGreatest before numbers
+        → IsGreatest result (numbers ++ reaches (flat_map boxes_in owns.now) (flat_map boxes_in others.now)) }
 {
     let mut most = before;
     for own in owns {
@@ -134,7 +138,8 @@ fn most_of(
 
 /// The greatest of a number that may be there and of some others, where it is greater than that number.
 fn over(floor: Option<i64>, most: Option<i64>) -> Option<i64>
-    ensures { (numbers : List ℤ) → IsGreatest most (option_to_list floor ++ numbers) → IsGreatestOver floor result numbers }
+    ensures { (numbers : List ℤ) → IsGreatest most (option_to_list floor ++ numbers)
+        → IsGreatestOver floor result numbers }
 {
     match (floor, most) {
         (_, None) => None,
@@ -176,7 +181,8 @@ impl Model for PartedLot {
 
     ghost view = { λ lot. flat_map boxes_in lot.parts.items };
 
-    ghost invariant = { λ lot. All IsCovered lot.parts.items × AreCovers lot.covers.items lot.parts.items × All (LiesIn lot.cover) (flat_map boxes_in lot.parts.items) };
+    ghost invariant = { λ lot. All IsCovered lot.parts.items × AreCovers lot.covers.items lot.parts.items
+        × All (LiesIn lot.cover) (flat_map boxes_in lot.parts.items) };
 }
 
 impl PartedLot {

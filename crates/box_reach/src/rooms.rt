@@ -18,7 +18,8 @@ fn room_of(reach: i64) -> i64
 /// the one lot meets one of the other: by so much their margin can be greater. None where a lot is empty.
 pub fn margin_room(left: &[Box3], right: &[Box3]) -> Option<i64>
     ensures empty { IfNone result (reaches left.now right.now ≡ []) }
-    ensures apart { IfSome result (λ room. DoLotsMeet (map (grown_box room) left.now) (map (grown_box room) right.now) → ⊥) }
+    ensures apart { IfSome result (λ room. DoLotsMeet (map (grown_box room) left.now)
+        (map (grown_box room) right.now) → ⊥) }
     ensures most { IfSome result (λ room. (more : ℤ) → room <ℤ more
         → All HasPoint (map (grown_box more) left.now) → All HasPoint (map (grown_box more) right.now)
         → DoLotsMeet (map (grown_box more) left.now) (map (grown_box more) right.now)) }

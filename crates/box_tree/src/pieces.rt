@@ -34,7 +34,8 @@ impl Model for PieceTree {
 
     ghost view = { λ pieces. pieces.boxes.items };
 
-    ghost invariant = { λ pieces. AreGroups pieces.boxes.items pieces.groups.items × AreHeld pieces.boxes.items pieces.slants };
+    ghost invariant = { λ pieces. AreGroups pieces.boxes.items pieces.groups.items
+        × AreHeld pieces.boxes.items pieces.slants };
 }
 
 /// Each box as a group of its own.

@@ -113,7 +113,8 @@ pub(crate) fn slants_of(boxes: &[Box3]) -> Slants
 
 /// Whether boxes with these bounds are apart in the sums or in the differences.
 fn are_aslant(left: &Slant, right: &Slant) -> bool
-    ensures { result ≡ true → (own other : Box3) (one two : ℕ) → HoldsSlant own one two left.now → HoldsSlant other one two right.now
+    ensures { result ≡ true → (own other : Box3) (one two : ℕ) → HoldsSlant own one two left.now
+        → HoldsSlant other one two right.now
         → TouchIn own other one → TouchIn own other two → ⊥ }
 {
     if left.sum_high < right.sum_low {
@@ -130,7 +131,8 @@ fn are_aslant(left: &Slant, right: &Slant) -> bool
 
 /// Whether boxes with these bounds are apart in some two directions.
 pub(crate) fn pass_aslant(left: &Slants, right: &Slants) -> bool
-    ensures { result ≡ true → (own other : Box3) → HoldsSlants own left.now → HoldsSlants other right.now → boxes_meet own other ≡ false }
+    ensures { result ≡ true → (own other : Box3) → HoldsSlants own left.now → HoldsSlants other right.now
+        → boxes_meet own other ≡ false }
 {
     if are_aslant(&left.xy, &right.xy) {
         return true;

@@ -194,7 +194,8 @@ pub(crate) fn request_in(
 ) -> Result<Option<Request>, u16>
     requires programs { length job.now.programs ≤ 65536 }
     requires fits { StatementFits (statement_view stmt.now) }
-    ensures { result ≡ model.request_in (model.setting_in job.now channel axes.now.slots axes.now.owned) (parameter_in parameters.now) (statement_view stmt.now) }
+    ensures { result ≡ model.request_in (model.setting_in job.now channel axes.now.slots axes.now.owned)
+        (parameter_in parameters.now) (statement_view stmt.now) }
 {
     match stmt {
         Stmt::Coord(word, operands) => {

@@ -38,7 +38,8 @@ fn is_axis_fit(job: &Job, local: Option<&Local>, grant: &Grant, axis: AxisId) ->
 
 /// Whether each axis fits.
 fn axes_fit(job: &Job, local: Option<&Local>, grant: &Grant) -> bool
-    ensures { result ≡ list_all (model.is_axis_fit job.now (option_copied local.entry) grant.now) (range_with_len 0 AXIS_LIMIT) }
+    ensures { result ≡ list_all (model.is_axis_fit job.now (option_copied local.entry) grant.now)
+        (range_with_len 0 AXIS_LIMIT) }
 {
     for index in 0..AXIS_LIMIT as u8 {
         if !is_axis_fit(job, local, grant, AxisId { index }) {

@@ -22,7 +22,8 @@ ghost use Rattle.channel_machine.specs.declared.limits.TheConstants.{BLOCK_LIMIT
 pub fn motions_follow_one_another()
     ensures { (s : SurroundingsView) (c : Channel) (place : ℕ) (item : Item) (motion : Motion)
         → slice_get (segment_of s c).items place ≡ Some item → motion_of item ≡ Some motion
-        → IsMotionOf (grant_after s c.past).axes (left_at (take place (segment_of s c).items) (stands_after s c.past)) motion }
+        → IsMotionOf (grant_after s c.past).axes
+        (left_at (take place (segment_of s c).items) (stands_after s c.past)) motion }
 {}
 
 /// A law: the motions of a segment are sound, where the axes stand in range at its beginning.
@@ -34,7 +35,8 @@ pub fn motions_are_sound()
 
 /// A law: a segment does at most as many things as its channel may still execute blocks.
 pub fn motions_are_few()
-    ensures { (s : SurroundingsView) (c : Channel) → length (segment_of s c).items ≤ BLOCK_LIMIT - length (blocks_of c.past) }
+    ensures { (s : SurroundingsView) (c : Channel)
+        → length (segment_of s c).items ≤ BLOCK_LIMIT - length (blocks_of c.past) }
 {}
 
 /// A law: an alarm that ends a segment is in the table of alarms.
@@ -47,15 +49,21 @@ pub fn alarms_are_listed()
 /// grant each axis stands where the grant has it, or where it stood, and the channel has this grant.
 pub fn segments_join()
     ensures stand { (s : SurroundingsView) (c : Channel) (axis : ℕ)
-        → stands_after s (segment_of s c).after.past axis ≡ left_at (segment_of s c).items (stands_after s c.past) axis }
+        → stands_after s (segment_of s c).after.past axis
+        ≡ left_at (segment_of s c).items (stands_after s c.past) axis }
     ensures range { (s : SurroundingsView) (c : Channel) → ((axis : ℕ) → IsPosition (stands_after s c.past axis))
         → (axis : ℕ) → IsPosition (stands_after s (segment_of s c).after.past axis) }
-    ensures owned { (s : SurroundingsView) (c : Channel) → grant_after s (segment_of s c).after.past ≡ grant_after s c.past }
-    ensures counted { (s : SurroundingsView) (c : Channel) → length (blocks_of c.past) + length (segment_of s c).items ≤ length (blocks_of (segment_of s c).after.past) }
-    ensures few { (s : SurroundingsView) (c : Channel) → length (blocks_of c.past) ≤ BLOCK_LIMIT → length (blocks_of (segment_of s c).after.past) ≤ BLOCK_LIMIT }
+    ensures owned { (s : SurroundingsView) (c : Channel)
+        → grant_after s (segment_of s c).after.past ≡ grant_after s c.past }
+    ensures counted { (s : SurroundingsView) (c : Channel) → length (blocks_of c.past) + length (segment_of s c).items
+        ≤ length (blocks_of (segment_of s c).after.past) }
+    ensures few { (s : SurroundingsView) (c : Channel) → length (blocks_of c.past) ≤ BLOCK_LIMIT
+        → length (blocks_of (segment_of s c).after.past) ≤ BLOCK_LIMIT }
     ensures placed { (s : SurroundingsView) (c : Channel) (grant : Grant) (axis : ℕ)
-        → stands_after s (channel_after_grant c grant).past axis ≡ unwrap_or (position_of grant.at axis) (stands_after s c.past axis) }
-    ensures granted { (s : SurroundingsView) (c : Channel) (grant : Grant) → grant_after s (channel_after_grant c grant).past ≡ grant }
+        → stands_after s (channel_after_grant c grant).past axis
+        ≡ unwrap_or (position_of grant.at axis) (stands_after s c.past axis) }
+    ensures granted { (s : SurroundingsView) (c : Channel) (grant : Grant)
+        → grant_after s (channel_after_grant c grant).past ≡ grant }
 {}
 
 /// A law: where an alarm ends a segment of a channel that is not alarm 9, control is on the levels that are told of it, at a

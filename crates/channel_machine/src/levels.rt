@@ -94,7 +94,8 @@ fn land(here: &mut Place, next: Next) -> bool
 /// would run.
 fn go_on(job: &Job, here: &mut Place, outcome: Outcome, skip: bool) -> Result<bool, u16>
     requires { Stands skip job.now.programs here.old }
-    ensures { GoesOn job.now.programs (next_going skip here.old.pc (program_blocks job.now.programs here.old.program) here.old.repeats (outcome_view outcome.entry)) here.old result here.new }
+    ensures { GoesOn job.now.programs (next_going skip here.old.pc (program_blocks job.now.programs here.old.program)
+        here.old.repeats (outcome_view outcome.entry)) here.old result here.new }
 {
     match flow_of(job, here.program) {
         Some(flow) => match flow.next_counted(here.pc, &mut here.repeats, outcome, skip) {
@@ -176,7 +177,8 @@ fn call(job: &Job, levels: &mut Levels, number: u16, passes: u16, skip: bool) ->
 #[tactic(auto, unfolding(crate::specs::Levels::levels_after))]
 fn follow(job: &Job, levels: &mut Levels, course: Course, skip: bool) -> Result<bool, u16>
     requires { LevelsFit skip job.now.programs levels.old }
-    ensures { model.came_ok result levels.new ≡ model.levels_after skip job.now.programs levels.old (course_view course.entry) }
+    ensures { model.came_ok result levels.new
+        ≡ model.levels_after skip job.now.programs levels.old (course_view course.entry) }
 {
     match course {
         Course::Goes(outcome) => leave(job, levels, outcome, skip),
@@ -192,7 +194,8 @@ fn follow(job: &Job, levels: &mut Levels, course: Course, skip: bool) -> Result<
 /// comes anywhere.
 fn leave(job: &Job, levels: &mut Levels, outcome: Outcome, skip: bool) -> Result<bool, u16>
     requires { LevelsFit skip job.now.programs levels.old }
-    ensures { model.came_ok result levels.new ≡ model.going_on skip job.now.programs levels.old (outcome_view outcome.entry) }
+    ensures { model.came_ok result levels.new ≡ model.going_on skip job.now.programs levels.old
+        (outcome_view outcome.entry) }
 {
     match go_on(job, &mut levels.here, outcome, skip) {
         Ok(true) => Ok(true),

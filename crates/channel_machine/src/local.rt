@@ -209,7 +209,8 @@ impl Local {
     /// Goes on with a grant after the step that ended its last segment: it owns the axes of the grant, those with a
     /// position stand there, and its zones are on. All else lasts over the segments, the count of blocks too.
     pub fn resume(&mut self, grant: &Grant)
-        ensures kept { (s : model.SurroundingsView) (c : model.Channel) → Keeps s c self.old → Keeps s (model.channel_after_grant c grant.now) self.new }
+        ensures kept { (s : model.SurroundingsView) (c : model.Channel) → Keeps s c self.old
+            → Keeps s (model.channel_after_grant c grant.now) self.new }
         ensures channel { self.new.channel ≡ self.old.channel }
         ensures levels { self.new.levels ≡ self.old.levels }
         ensures count { self.new.count ≡ self.old.count }
@@ -225,9 +226,11 @@ impl Local {
         channel: ChannelId,
         grant: &Grant,
     ) -> Result<Local, NoMemory>
-        ensures kept { IfOk result (λ local. Keeps (model.surroundings_of job.now channel grant.now) (model.channel_at_start (model.surroundings_of job.now channel grant.now)) local) }
+        ensures kept { IfOk result (λ local. Keeps (model.surroundings_of job.now channel grant.now)
+            (model.channel_at_start (model.surroundings_of job.now channel grant.now)) local) }
         ensures fit { IfOk result (λ local. IfSome local.levels (LevelsFit job.now.skip job.now.programs)) }
-        ensures setting { IfOk result (λ local. IsSettingIn job.now (model.surroundings_of job.now channel grant.now) local) }
+        ensures setting { IfOk result (λ local. IsSettingIn job.now
+            (model.surroundings_of job.now channel grant.now) local) }
     {
         let situation = Situation {
             parameters: Parameters::new(alloc)?,

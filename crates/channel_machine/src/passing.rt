@@ -71,7 +71,8 @@ fn pass_state(alloc: Global, job: &Job, state: &mut State) -> Result<Passing, No
     requires fit { IfSome state.old.levels (LevelsFit job.now.skip job.now.programs) }
     requires few { state.old.count ≤ BLOCK_LIMIT }
     ensures told { IfOk result (λ p. (s : SurroundingsView) (c : Channel)
-        → IsSettingIn job.now s (state_view state.old) → Keeps s c (state_view state.old) → IsPassing s c p (state_view state.new)) }
+        → IsSettingIn job.now s (state_view state.old) → Keeps s c (state_view state.old)
+        → IsPassing s c p (state_view state.new)) }
     ensures fit { IfOk result (λ _. IfSome state.new.levels (LevelsFit job.now.skip job.now.programs)) }
     ensures few { IfOk result (λ _. state.new.count ≤ BLOCK_LIMIT) }
     ensures count { IfOk result (λ p. p.ends ≡ false → state.new.count ≡ state.old.count + 1) }
@@ -112,7 +113,8 @@ pub fn pass_block(alloc: Global, job: &Job, local: &mut Local) -> Result<Passing
 pub fn next_block<'a>(job: &'a Job, local: &Local) -> Option<NextBlock<'a>>
     requires { BlocksFit job.now }
     ensures { MatchOption result (NoneComes job.now.programs local.now.levels)
-        (λ next. Comes job.now.programs local.now.levels next.line (view_of next.block.now) (statement_view next.opener.now)) }
+        (λ next. Comes job.now.programs local.now.levels next.line (view_of next.block.now)
+        (statement_view next.opener.now)) }
 {
     match local.here() {
         Some(here) => find_block(job, here),

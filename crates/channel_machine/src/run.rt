@@ -93,7 +93,8 @@ fn step(state: &State, line: u32, action: Action) -> Step
 
 /// Ends the run of a channel on this line with this step: control is nowhere then.
 fn stop(state: &mut State, line: u32, action: Action, halt: &mut Option<Step>)
-    ensures step { halt.new ≡ Some (model.step_at state.old.own.owned state.old.on (stands state.old.situation.at) line action) }
+    ensures step { halt.new ≡ Some (model.step_at state.old.own.owned state.old.on
+        (stands state.old.situation.at) line action) }
     ensures nowhere { state.new ≡ record state.old { levels = None } }
 {
     state.levels = None;
@@ -126,7 +127,8 @@ pub struct NextBlock<'a> {
 pub(crate) fn find_block<'a>(job: &'a Job, here: &Place) -> Option<NextBlock<'a>>
     requires { BlocksFit job.now }
     ensures { MatchOption result (slice_get (lines_of job.now.programs here.now.program) here.now.pc ≡ None)
-        (λ next. IsThere job.now.programs here.now next.line (view_of next.block.now) (statement_view next.opener.now)) }
+        (λ next. IsThere job.now.programs here.now next.line (view_of next.block.now)
+        (statement_view next.opener.now)) }
 {
     let Some(flow) = flow_of(job, here.program) else {
         return None;
@@ -166,7 +168,8 @@ fn push_some(items: &mut Vec<Item>, item: &mut Option<Item>) -> Result<(), Alloc
 /// Adds the switch of a zone by a block on this line.
 #[inline(never)]
 fn push_switch(items: &mut Vec<Item>, line: u32, zone: ZoneId, on: bool) -> Result<(), AllocError>
-    ensures { OnOk result (items.new.items ≡ items.old.items ++ record { line = line; part = part.Switch zone on } ∷ []) }
+    ensures { OnOk result (items.new.items ≡ items.old.items
+        ++ record { line = line; part = part.Switch zone on } ∷ []) }
 {
     make_room(items)?;
     items.push(Item {
@@ -203,7 +206,8 @@ fn push_done(
     request: &Option<Request>,
     motion: &mut Option<Item>,
 ) -> Result<(), AllocError>
-    ensures { OnOk result (items.new.items ≡ items.old.items ++ option_to_list (model.item_by line request.now motion.old)) }
+    ensures { OnOk result (items.new.items ≡ items.old.items
+        ++ option_to_list (model.item_by line request.now motion.old)) }
 {
     match request {
         Some(Request::Switch(zone, on)) => push_switch(items, line, *zone, *on),
@@ -239,7 +243,11 @@ fn hold(state: &State, line: u32, request: &Option<Request>, halt: &mut Option<S
 /// Counts a block on this line that asks for this, and switches the zone that it switches.
 fn count_block(state: &mut State, line: u32, request: &Option<Request>)
     requires { state.old.count < BLOCK_LIMIT }
-    ensures { state.new ≡ record state.old { count = state.old.count + 1; last = line; on = model.on_by_request state.old.on request.now } }
+    ensures { state.new ≡ record state.old {
+      count = state.old.count + 1;
+      last = line;
+      on = model.on_by_request state.old.on request.now;
+    } }
 {
     state.count += 1;
     state.last = line;
@@ -268,8 +276,10 @@ fn leave(
     requires few { state.old.count < BLOCK_LIMIT }
     requires goes { halt.old ≡ None }
     ensures told { IfOk result (λ _. (levels : Levels) → state.old.levels ≡ Some levels
-        → IsFollowing (record (state_view state.old) { levels = None }) modal items.old.items motion.old line request.now (model.ends_main levels (course_view course.entry))
-        (levels_after job.now.skip job.now.programs levels (course_view course.entry)) halt.new items.new.items (state_view state.new)) }
+        → IsFollowing (record (state_view state.old) { levels = None }) modal items.old.items motion.old line
+        request.now (model.ends_main levels (course_view course.entry))
+        (levels_after job.now.skip job.now.programs levels (course_view course.entry)) halt.new
+        items.new.items (state_view state.new)) }
     ensures fit { IfOk result (λ _. IfSome state.new.levels (LevelsFit job.now.skip job.now.programs)) }
     ensures few { IfOk result (λ _. state.new.count ≤ BLOCK_LIMIT) }
     ensures count { IfOk result (λ _. IfNone halt.new (state.new.count ≡ state.old.count + 1)) }
@@ -314,8 +324,9 @@ fn perform(
     requires fit { IfSome state.old.levels (LevelsFit job.now.skip job.now.programs) }
     requires few { state.old.count < BLOCK_LIMIT }
     requires goes { halt.old ≡ None }
-    ensures told { IfOk result (λ _. AdvancesBy job.now (state_view state.old) next.entry.line (view_of next.entry.block.now) (statement_view next.entry.opener.now) request.now
-        items.old.items halt.new items.new.items (state_view state.new)) }
+    ensures told { IfOk result (λ _. AdvancesBy job.now (state_view state.old) next.entry.line
+        (view_of next.entry.block.now) (statement_view next.entry.opener.now) request.now items.old.items halt.new
+        items.new.items (state_view state.new)) }
     ensures fit { IfOk result (λ _. IfSome state.new.levels (LevelsFit job.now.skip job.now.programs)) }
     ensures few { IfOk result (λ _. state.new.count ≤ BLOCK_LIMIT) }
     ensures count { IfOk result (λ _. IfNone halt.new (state.new.count ≡ state.old.count + 1)) }
@@ -373,7 +384,8 @@ pub(crate) fn advance(
     requires fit { IfSome state.old.levels (LevelsFit job.now.skip job.now.programs) }
     requires few { state.old.count ≤ BLOCK_LIMIT }
     requires goes { halt.old ≡ None }
-    ensures told { IfOk result (λ _. (s : SurroundingsView) (c : Channel) → IsSettingIn job.now s (state_view state.old) → Keeps s c (state_view state.old)
+    ensures told { IfOk result (λ _. (s : SurroundingsView) (c : Channel) → IsSettingIn job.now s (state_view state.old)
+        → Keeps s c (state_view state.old)
         → Advances s c items.old.items halt.new items.new.items (state_view state.new)) }
     ensures fit { IfOk result (λ _. IfSome state.new.levels (LevelsFit job.now.skip job.now.programs)) }
     ensures few { IfOk result (λ _. state.new.count ≤ BLOCK_LIMIT) }
@@ -423,7 +435,8 @@ pub fn run_segment(alloc: Global, job: &Job, local: &Local) -> Result<Segment, N
     requires programs { length job.now.programs ≤ 65536 }
     requires fit { IfSome local.now.levels (LevelsFit job.now.skip job.now.programs) }
     requires few { local.now.count ≤ BLOCK_LIMIT }
-    ensures told { IfOk result (λ g. (s : SurroundingsView) (c : Channel) → IsSettingIn job.now s local.now → Keeps s c local.now
+    ensures told { IfOk result (λ g. (s : SurroundingsView) (c : Channel)
+        → IsSettingIn job.now s local.now → Keeps s c local.now
         → IsSegment s (segment_of s c) g) }
     ensures fit { IfOk result (λ g. IfSome g.after.levels (LevelsFit job.now.skip job.now.programs)) }
     ensures few { IfOk result (λ g. g.after.count ≤ BLOCK_LIMIT) }
@@ -441,7 +454,8 @@ pub fn run_on(alloc: Global, job: &Job, local: Local, grant: &Grant) -> Result<S
     requires programs { length job.now.programs ≤ 65536 }
     requires fit { IfSome local.levels (LevelsFit job.now.skip job.now.programs) }
     requires few { local.count ≤ BLOCK_LIMIT }
-    ensures told { IfOk result (λ g. (s : SurroundingsView) (c : Channel) → IsSettingIn job.now s local → Keeps s c local
+    ensures told { IfOk result (λ g. (s : SurroundingsView) (c : Channel)
+        → IsSettingIn job.now s local → Keeps s c local
         → IsSegment s (segment_of s (channel_after_grant c grant.now)) g) }
     ensures fit { IfOk result (λ g. IfSome g.after.levels (LevelsFit job.now.skip job.now.programs)) }
     ensures few { IfOk result (λ g. g.after.count ≤ BLOCK_LIMIT) }
@@ -458,7 +472,8 @@ fn run_state(alloc: Global, job: &Job, start: Box<State>) -> Result<Segment, NoM
     requires programs { length job.now.programs ≤ 65536 }
     requires fit { IfSome start.value.levels (LevelsFit job.now.skip job.now.programs) }
     requires few { start.value.count ≤ BLOCK_LIMIT }
-    ensures told { IfOk result (λ g. (s : SurroundingsView) (c : Channel) → IsSettingIn job.now s (state_view start.value) → Keeps s c (state_view start.value)
+    ensures told { IfOk result (λ g. (s : SurroundingsView) (c : Channel)
+        → IsSettingIn job.now s (state_view start.value) → Keeps s c (state_view start.value)
         → IsSegment s (segment_of s c) g) }
     ensures fit { IfOk result (λ g. IfSome g.after.levels (LevelsFit job.now.skip job.now.programs)) }
     ensures few { IfOk result (λ g. g.after.count ≤ BLOCK_LIMIT) }

@@ -63,7 +63,8 @@ pub(crate) fn trace_on(
     requires programs { length job.now.programs ≤ 65536 }
     requires fit { IfSome local.levels (LevelsFit job.now.skip job.now.programs) }
     requires few { local.count ≤ BLOCK_LIMIT }
-    ensures told { IfOk result (λ g. (s : SurroundingsView) (c : Channel) → IsSettingIn job.now s local → Keeps s c local
+    ensures told { IfOk result (λ g. (s : SurroundingsView) (c : Channel)
+        → IsSettingIn job.now s local → Keeps s c local
         → IsTraced s (channel_after_grant c grant.now) g) }
     ensures fit { IfOk result (λ g. IfSome g.segment.after.levels (LevelsFit job.now.skip job.now.programs)) }
     ensures few { IfOk result (λ g. g.segment.after.count ≤ BLOCK_LIMIT) }
@@ -84,7 +85,8 @@ pub(crate) fn trace_segment(
     requires programs { length job.now.programs ≤ 65536 }
     requires fit { IfSome local.levels (LevelsFit job.now.skip job.now.programs) }
     requires few { local.count ≤ BLOCK_LIMIT }
-    ensures told { IfOk result (λ g. (s : SurroundingsView) (c : Channel) → IsSettingIn job.now s local → Keeps s c local → IsTraced s c g) }
+    ensures told { IfOk result (λ g. (s : SurroundingsView) (c : Channel) → IsSettingIn job.now s local
+        → Keeps s c local → IsTraced s c g) }
     ensures fit { IfOk result (λ g. IfSome g.segment.after.levels (LevelsFit job.now.skip job.now.programs)) }
     ensures few { IfOk result (λ g. g.segment.after.count ≤ BLOCK_LIMIT) }
     ensures channel { IfOk result (λ g. g.segment.after.channel ≡ local.channel) }
@@ -99,7 +101,8 @@ fn trace_state(alloc: Global, job: &Job, start: Box<State>) -> Result<TracedSegm
     requires programs { length job.now.programs ≤ 65536 }
     requires fit { IfSome start.value.levels (LevelsFit job.now.skip job.now.programs) }
     requires few { start.value.count ≤ BLOCK_LIMIT }
-    ensures told { IfOk result (λ g. (s : SurroundingsView) (c : Channel) → IsSettingIn job.now s (state_view start.value) → Keeps s c (state_view start.value)
+    ensures told { IfOk result (λ g. (s : SurroundingsView) (c : Channel)
+        → IsSettingIn job.now s (state_view start.value) → Keeps s c (state_view start.value)
         → IsTraced s c g) }
     ensures fit { IfOk result (λ g. IfSome g.segment.after.levels (LevelsFit job.now.skip job.now.programs)) }
     ensures few { IfOk result (λ g. g.segment.after.count ≤ BLOCK_LIMIT) }

@@ -195,8 +195,10 @@ pub(crate) fn start_walk(
 
 /// The places of the stretches that may overlap this one, the next of a walk.
 pub(crate) fn range_of(clocks: &Clocks, own: &Stretch, others: &[Stretch], walk: Walk) -> Range
-    requires passing { (ended : Bool) → model.PassFirst (model.passes (is_before_in clocks.now.rows) ended own.now) others.now }
-    requires known { walk.ascends ≡ true → model.IsBetween (is_before_in clocks.now.rows) own.now others.now walk.range walk.limit }
+    requires passing { (ended : Bool) → model.PassFirst
+        (model.passes (is_before_in clocks.now.rows) ended own.now) others.now }
+    requires known { walk.ascends ≡ true → model.IsBetween (is_before_in clocks.now.rows) own.now
+        others.now walk.range walk.limit }
     ensures within_from { result.from ≤ length others.now }
     ensures within { result.upto ≤ length others.now }
     ensures from { result.from ≡ model.leading (model.passes (is_before_in clocks.now.rows) true own.now) others.now }

@@ -54,7 +54,8 @@ fn budget_verdict(job: &Job, run: &Run, stretches: &Stretches, clocks: &Clocks) 
     requires told { IsTold job.now run.now stretches.now clocks.now }
     requires few_entries { length run.now.entries < 2 ^ 20 }
     requires few_items { sum_by length run.now.items < 2 ^ 20 }
-    ensures { (later : Verdict) → model.or_else result later ≡ model.or_else (model.budget_verdict (is_before_in clocks.now.rows) job.now stretches.now) later }
+    ensures { (later : Verdict) → model.or_else result later
+        ≡ model.or_else (model.budget_verdict (is_before_in clocks.now.rows) job.now stretches.now) later }
 {
     see_goes(run);
     let count = count(job, stretches, clocks);
@@ -111,7 +112,8 @@ pub fn judge(
     requires few_entries { length run.now.entries < 2 ^ 20 }
     requires few_items { sum_by length run.now.items < 2 ^ 20 }
     requires fit { All (All IsFit) run.now.items }
-    ensures { IfOk result (λ verdict. verdict ≡ model.verdict_by (is_before_in clocks.now.rows) clocks.now.race job.now run.now stretches.now) }
+    ensures { IfOk result (λ verdict. verdict ≡ model.verdict_by (is_before_in clocks.now.rows) clocks.now.race
+        job.now run.now stretches.now) }
 {
     if let Some(verdict) = verdict_before(job, run, stretches, clocks) {
         return Ok(verdict);
@@ -146,7 +148,8 @@ pub fn judge_shared<R: Threads + Sync>(
     requires few_entries { length run.now.entries < 2 ^ 20 }
     requires few_items { sum_by length run.now.items < 2 ^ 20 }
     requires fit { All (All IsFit) run.now.items }
-    ensures { IfOk result (λ verdict. verdict ≡ model.verdict_by (is_before_in clocks.now.rows) clocks.now.race job.now run.now stretches.now) }
+    ensures { IfOk result (λ verdict. verdict ≡ model.verdict_by (is_before_in clocks.now.rows) clocks.now.race
+        job.now run.now stretches.now) }
 {
     if let Some(verdict) = verdict_before(job, run, stretches, clocks) {
         return Ok(verdict);

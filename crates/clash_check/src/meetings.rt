@@ -78,10 +78,13 @@ fn meets_made(
 ) -> bool
     requires fit { All (All IsFit) scene.now.run.now.items }
     requires place { place < length boxes.now }
-    requires kept { IsKeptOf scene.now.job.now scene.now.run.now held.now.zone.now held.now.stretch.now boxes.now kept.old }
-    ensures met { (d : ZoneBox) → result ≡ list_any (λ piece. list_any (boxes_meet piece)
-        (piece_boxes scene.now.job.now scene.now.run.now (model.place_of held.now.zone.now held.now.stretch.now (slice_index_or boxes.now place d)))) pieces.now }
-    ensures kept { IsKeptOf scene.now.job.now scene.now.run.now held.now.zone.now held.now.stretch.now boxes.now kept.new }
+    requires kept { IsKeptOf scene.now.job.now scene.now.run.now held.now.zone.now
+        held.now.stretch.now boxes.now kept.old }
+    ensures met { (d : ZoneBox) → result ≡ list_any
+        (λ piece. list_any (boxes_meet piece) (piece_boxes scene.now.job.now scene.now.run.now
+        (model.place_of held.now.zone.now held.now.stretch.now (slice_index_or boxes.now place d)))) pieces.now }
+    ensures kept { IsKeptOf scene.now.job.now scene.now.run.now held.now.zone.now
+        held.now.stretch.now boxes.now kept.new }
 {
     let later = &boxes[place];
     let made = boxes_by_pieces(scene.job, scene.run, held.zone, held.stretch, later);
@@ -102,10 +105,13 @@ fn pieces_touch(
 ) -> bool
     requires fit { All (All IsFit) scene.now.run.now.items }
     requires place { place < length boxes.now }
-    requires kept { IsKeptOf scene.now.job.now scene.now.run.now held.now.zone.now held.now.stretch.now boxes.now kept.old }
+    requires kept { IsKeptOf scene.now.job.now scene.now.run.now held.now.zone.now
+        held.now.stretch.now boxes.now kept.old }
     ensures met { (d : ZoneBox) → result ≡ model.pieces_touch pieces.now (slice_index_or boxes.now place d).cover
-        (piece_boxes scene.now.job.now scene.now.run.now (model.place_of held.now.zone.now held.now.stretch.now (slice_index_or boxes.now place d))) }
-    ensures kept { IsKeptOf scene.now.job.now scene.now.run.now held.now.zone.now held.now.stretch.now boxes.now kept.new }
+        (piece_boxes scene.now.job.now scene.now.run.now
+        (model.place_of held.now.zone.now held.now.stretch.now (slice_index_or boxes.now place d))) }
+    ensures kept { IsKeptOf scene.now.job.now scene.now.run.now held.now.zone.now
+        held.now.stretch.now boxes.now kept.new }
 {
     let later = &boxes[place];
     if !pieces.meets_box(&later.cover) {
@@ -131,13 +137,23 @@ fn first_by_pieces(
     from: usize,
 ) -> Option<(PlaceName, PlaceName)>
     requires fit { All (All IsFit) scene.now.run.now.items }
-    requires pieces { pieces.now ≡ piece_boxes scene.now.job.now scene.now.run.now (model.place_of left.now.zone.now left.now.stretch.now own.now) }
+    requires pieces { pieces.now ≡ piece_boxes scene.now.job.now scene.now.run.now
+        (model.place_of left.now.zone.now left.now.stretch.now own.now) }
     requires from { from ≤ length boxes.now }
-    requires near { (d : ZoneBox) → from < length boxes.now → is_near shared own.now (slice_index_or boxes.now from d) ≡ true }
-    requires kept { IsKeptOf scene.now.job.now scene.now.run.now right.now.zone.now right.now.stretch.now boxes.now kept.old }
-    ensures names { result ≡ first_some (λ later. model.names_where_met (record { job = scene.now.job.now; run = scene.now.run.now; before = is_before_in scene.now.clocks.now.rows }) shared
-        (model.place_of left.now.zone.now left.now.stretch.now own.now) (model.place_of right.now.zone.now right.now.stretch.now later)) (drop from boxes.now) }
-    ensures kept { IsKeptOf scene.now.job.now scene.now.run.now right.now.zone.now right.now.stretch.now boxes.now kept.new }
+    requires near { (d : ZoneBox) → from < length boxes.now
+        → is_near shared own.now (slice_index_or boxes.now from d) ≡ true }
+    requires kept { IsKeptOf scene.now.job.now scene.now.run.now right.now.zone.now
+        right.now.stretch.now boxes.now kept.old }
+    ensures names { result ≡ first_some (λ later.
+        model.names_where_met (record {
+          job = scene.now.job.now;
+          run = scene.now.run.now;
+          before = is_before_in scene.now.clocks.now.rows;
+        }) shared
+        (model.place_of left.now.zone.now left.now.stretch.now own.now)
+        (model.place_of right.now.zone.now right.now.stretch.now later)) (drop from boxes.now) }
+    ensures kept { IsKeptOf scene.now.job.now scene.now.run.now right.now.zone.now
+        right.now.stretch.now boxes.now kept.new }
 {
     let mut place = from;
     while place < boxes.len() {
@@ -163,11 +179,20 @@ fn first_from(
 ) -> Option<(PlaceName, PlaceName)>
     requires fit { All (All IsFit) scene.now.run.now.items }
     requires from { from ≤ length boxes.now }
-    requires near { (d : ZoneBox) → from < length boxes.now → is_near shared own.now (slice_index_or boxes.now from d) ≡ true }
-    requires kept { IsKeptOf scene.now.job.now scene.now.run.now right.now.zone.now right.now.stretch.now boxes.now kept.old }
-    ensures names { result ≡ first_some (λ later. model.names_where_met (record { job = scene.now.job.now; run = scene.now.run.now; before = is_before_in scene.now.clocks.now.rows }) shared
-        (model.place_of left.now.zone.now left.now.stretch.now own.now) (model.place_of right.now.zone.now right.now.stretch.now later)) (drop from boxes.now) }
-    ensures kept { IsKeptOf scene.now.job.now scene.now.run.now right.now.zone.now right.now.stretch.now boxes.now kept.new }
+    requires near { (d : ZoneBox) → from < length boxes.now
+        → is_near shared own.now (slice_index_or boxes.now from d) ≡ true }
+    requires kept { IsKeptOf scene.now.job.now scene.now.run.now right.now.zone.now
+        right.now.stretch.now boxes.now kept.old }
+    ensures names { result ≡ first_some (λ later.
+        model.names_where_met (record {
+          job = scene.now.job.now;
+          run = scene.now.run.now;
+          before = is_before_in scene.now.clocks.now.rows;
+        }) shared
+        (model.place_of left.now.zone.now left.now.stretch.now own.now)
+        (model.place_of right.now.zone.now right.now.stretch.now later)) (drop from boxes.now) }
+    ensures kept { IsKeptOf scene.now.job.now scene.now.run.now right.now.zone.now
+        right.now.stretch.now boxes.now kept.new }
 {
     let boxes_of_own = boxes_by_pieces(scene.job, scene.run, left.zone, left.stretch, own);
     let pieces = PieceTree::over(boxes_of_own);
@@ -188,12 +213,18 @@ fn first_touched(
     passed: &mut PassedBoxes,
 ) -> Option<(PlaceName, PlaceName)>
     requires fit { All (All IsFit) scene.now.run.now.items }
-    requires passed { ArePassed scene.now.job.now scene.now.run.now left.now.zone.now right.now.zone.now right.now.stretch.now boxes.now passed.old }
-    requires kept { IsKeptOf scene.now.job.now scene.now.run.now right.now.zone.now right.now.stretch.now boxes.now kept.old }
-    ensures names { result ≡ model.first_touched_among (record { job = scene.now.job.now; run = scene.now.run.now; before = is_before_in scene.now.clocks.now.rows }) shared
-        (model.place_of left.now.zone.now left.now.stretch.now own.now) right.now.zone.now right.now.stretch.now boxes.now }
-    ensures kept { IsKeptOf scene.now.job.now scene.now.run.now right.now.zone.now right.now.stretch.now boxes.now kept.new }
-    ensures passed { ArePassed scene.now.job.now scene.now.run.now left.now.zone.now right.now.zone.now right.now.stretch.now boxes.now passed.new }
+    requires passed { ArePassed scene.now.job.now scene.now.run.now left.now.zone.now right.now.zone.now
+        right.now.stretch.now boxes.now passed.old }
+    requires kept { IsKeptOf scene.now.job.now scene.now.run.now right.now.zone.now
+        right.now.stretch.now boxes.now kept.old }
+    ensures names { result ≡ model.first_touched_among
+        (record { job = scene.now.job.now; run = scene.now.run.now; before = is_before_in scene.now.clocks.now.rows })
+        shared (model.place_of left.now.zone.now left.now.stretch.now own.now) right.now.zone.now
+        right.now.stretch.now boxes.now }
+    ensures kept { IsKeptOf scene.now.job.now scene.now.run.now right.now.zone.now
+        right.now.stretch.now boxes.now kept.new }
+    ensures passed { ArePassed scene.now.job.now scene.now.run.now left.now.zone.now right.now.zone.now
+        right.now.stretch.now boxes.now passed.new }
 {
     let first = next_near(shared, own, boxes, &kept.covers, 0);
     if first == boxes.len() {
@@ -221,11 +252,20 @@ fn first_in_all_boxes(
     memory: &mut Memory,
 ) -> Option<(PlaceName, PlaceName)>
     requires fit { All (All IsFit) scene.now.run.now.items }
-    requires memory { memory.old.place ≡ place → IsMemory scene.now.job.now scene.now.run.now left.now.zone.now right.now.zone.now right.now.stretch.now memory.old }
-    ensures names { result ≡ first_some (λ own. model.first_touched (record { job = scene.now.job.now; run = scene.now.run.now; before = is_before_in scene.now.clocks.now.rows }) shared
-        (model.place_of left.now.zone.now left.now.stretch.now own) right.now.zone.now right.now.stretch.now) left.now.stretch.now.boxes }
+    requires memory { memory.old.place ≡ place
+        → IsMemory scene.now.job.now scene.now.run.now left.now.zone.now right.now.zone.now
+        right.now.stretch.now memory.old }
+    ensures names { result ≡ first_some (λ own.
+        model.first_touched (record {
+          job = scene.now.job.now;
+          run = scene.now.run.now;
+          before = is_before_in scene.now.clocks.now.rows;
+        }) shared
+        (model.place_of left.now.zone.now left.now.stretch.now own) right.now.zone.now
+        right.now.stretch.now) left.now.stretch.now.boxes }
     ensures place { memory.new.place ≡ place }
-    ensures memory { IsMemory scene.now.job.now scene.now.run.now left.now.zone.now right.now.zone.now right.now.stretch.now memory.new }
+    ensures memory { IsMemory scene.now.job.now scene.now.run.now left.now.zone.now right.now.zone.now
+        right.now.stretch.now memory.new }
 {
     let stretch = left.stretch;
     let other = right.stretch;
@@ -265,8 +305,10 @@ fn first_in_places(
 ) -> Option<(PlaceName, PlaceName)>
     requires fit { All (All IsFit) scene.now.run.now.items }
     requires ascend { places.do_boxes_ascend others.now ≡ true }
-    ensures { result ≡ first_some (λ own. model.first_touched_among (record { job = scene.now.job.now; run = scene.now.run.now; before = is_before_in scene.now.clocks.now.rows }) true
-        (model.place_of left.now.zone.now left.now.stretch.now own) right.now.zone.now right.now.stretch.now others.now) boxes.now }
+    ensures { result ≡ first_some (λ own. model.first_touched_among
+        (record { job = scene.now.job.now; run = scene.now.run.now; before = is_before_in scene.now.clocks.now.rows })
+        true (model.place_of left.now.zone.now left.now.stretch.now own) right.now.zone.now
+        right.now.stretch.now others.now) boxes.now }
 {
     let mut range = Range { from: 0, upto: 0 };
     for own in boxes {
@@ -301,10 +343,19 @@ fn first_in_boxes(
     memory: &mut Memory,
 ) -> Option<(PlaceName, PlaceName)>
     requires fit { All (All IsFit) scene.now.run.now.items }
-    requires memory { memory.old.place ≡ place → IsMemory scene.now.job.now scene.now.run.now left.now.zone.now right.now.zone.now right.now.stretch.now memory.old }
-    ensures memory { StaysMemory scene.now.job.now scene.now.run.now left.now.zone.now right.now.zone.now right.now.stretch.now place memory.old memory.new }
-    ensures names { result ≡ first_some (λ own. model.first_touched (record { job = scene.now.job.now; run = scene.now.run.now; before = is_before_in scene.now.clocks.now.rows }) shared
-        (model.place_of left.now.zone.now left.now.stretch.now own) right.now.zone.now right.now.stretch.now) left.now.stretch.now.boxes }
+    requires memory { memory.old.place ≡ place
+        → IsMemory scene.now.job.now scene.now.run.now left.now.zone.now right.now.zone.now
+        right.now.stretch.now memory.old }
+    ensures memory { StaysMemory scene.now.job.now scene.now.run.now left.now.zone.now right.now.zone.now
+        right.now.stretch.now place memory.old memory.new }
+    ensures names { result ≡ first_some (λ own.
+        model.first_touched (record {
+          job = scene.now.job.now;
+          run = scene.now.run.now;
+          before = is_before_in scene.now.clocks.now.rows;
+        }) shared
+        (model.place_of left.now.zone.now left.now.stretch.now own) right.now.zone.now
+        right.now.stretch.now) left.now.stretch.now.boxes }
 {
     let own = left.stretch;
     let other = right.stretch;
@@ -327,9 +378,13 @@ fn first_in_stretches(
     memory: &mut Memory,
 ) -> Option<(PlaceName, PlaceName)>
     requires fit { All (All IsFit) scene.now.run.now.items }
-    requires memory { memory.old.place ≡ place → IsMemory scene.now.job.now scene.now.run.now left.now.zone.now right.now.zone.now right.now.stretch.now memory.old }
-    ensures memory { StaysMemory scene.now.job.now scene.now.run.now left.now.zone.now right.now.zone.now right.now.stretch.now place memory.old memory.new }
-    ensures names { result ≡ model.first_in_stretches (record { job = scene.now.job.now; run = scene.now.run.now; before = is_before_in scene.now.clocks.now.rows })
+    requires memory { memory.old.place ≡ place
+        → IsMemory scene.now.job.now scene.now.run.now left.now.zone.now right.now.zone.now
+        right.now.stretch.now memory.old }
+    ensures memory { StaysMemory scene.now.job.now scene.now.run.now left.now.zone.now right.now.zone.now
+        right.now.stretch.now place memory.old memory.new }
+    ensures names { result ≡ model.first_in_stretches
+        (record { job = scene.now.job.now; run = scene.now.run.now; before = is_before_in scene.now.clocks.now.rows })
         left.now.zone.now left.now.stretch.now right.now.zone.now right.now.stretch.now }
 {
     let stretch = right.stretch;
@@ -358,8 +413,12 @@ fn first_against<'a>(
     others: &'a [Stretch],
 ) -> Option<(PlaceName, PlaceName)>
     requires fit { All (All IsFit) scene.now.run.now.items }
-    ensures { result ≡ model.first_against (record { job = scene.now.job.now; run = scene.now.run.now; before = is_before_in scene.now.clocks.now.rows })
-        left.now.zone.now (record { zone = other.now; stretches = others.now }) left.now.stretch.now }
+    ensures { result ≡ model.first_against (record {
+      job = scene.now.job.now;
+      run = scene.now.run.now;
+      before = is_before_in scene.now.clocks.now.rows;
+    }) left.now.zone.now
+        (record { zone = other.now; stretches = others.now }) left.now.stretch.now }
 {
     let own = left.stretch;
     if own.boxes.is_empty() {
@@ -393,9 +452,12 @@ fn first_of_shown<'a>(
     requires next { IsNext others.now next.now }
     requires within_from { range.from ≤ length others.now }
     requires within { range.upto ≤ length others.now }
-    requires memory { IsMemoryOfAny scene.now.job.now scene.now.run.now left.now.zone.now other.now others.now memory.old }
-    ensures memory { IsMemoryOfAny scene.now.job.now scene.now.run.now left.now.zone.now other.now others.now memory.new }
-    ensures names { result ≡ first_some (model.first_in_stretches (record { job = scene.now.job.now; run = scene.now.run.now; before = is_before_in scene.now.clocks.now.rows })
+    requires memory { IsMemoryOfAny scene.now.job.now scene.now.run.now left.now.zone.now
+        other.now others.now memory.old }
+    ensures memory { IsMemoryOfAny scene.now.job.now scene.now.run.now left.now.zone.now
+        other.now others.now memory.new }
+    ensures names { result ≡ first_some (model.first_in_stretches
+        (record { job = scene.now.job.now; run = scene.now.run.now; before = is_before_in scene.now.clocks.now.rows })
         left.now.zone.now left.now.stretch.now other.now) (drop range.from (take range.upto others.now)) }
 {
     let mut place = next[range.from];
@@ -428,10 +490,14 @@ fn first_in_range<'a>(
     requires next { IsNext others.now next.now }
     requires within_from { range.from ≤ length others.now }
     requires within { range.upto ≤ length others.now }
-    requires memory { IsMemoryOfAny scene.now.job.now scene.now.run.now left.now.zone.now other.now others.now memory.old }
-    ensures memory { IsMemoryOfAny scene.now.job.now scene.now.run.now left.now.zone.now other.now others.now memory.new }
-    ensures names { result ≡ model.first_against (record { job = scene.now.job.now; run = scene.now.run.now; before = is_before_in scene.now.clocks.now.rows })
-        left.now.zone.now (record { zone = other.now; stretches = drop range.from (take range.upto others.now) }) left.now.stretch.now }
+    requires memory { IsMemoryOfAny scene.now.job.now scene.now.run.now left.now.zone.now
+        other.now others.now memory.old }
+    ensures memory { IsMemoryOfAny scene.now.job.now scene.now.run.now left.now.zone.now
+        other.now others.now memory.new }
+    ensures names { result ≡ model.first_against
+        (record { job = scene.now.job.now; run = scene.now.run.now; before = is_before_in scene.now.clocks.now.rows })
+        left.now.zone.now (record { zone = other.now; stretches = drop range.from (take range.upto others.now) })
+        left.now.stretch.now }
 {
     let own = left.stretch;
     if own.boxes.is_empty() {
@@ -450,7 +516,8 @@ fn first_of_all<'a>(
     others: &[Stretch],
 ) -> Option<(PlaceName, PlaceName)>
     requires fit { All (All IsFit) scene.now.run.now.items }
-    ensures { result ≡ first_some (model.first_against (record { job = scene.now.job.now; run = scene.now.run.now; before = is_before_in scene.now.clocks.now.rows })
+    ensures { result ≡ first_some (model.first_against
+        (record { job = scene.now.job.now; run = scene.now.run.now; before = is_before_in scene.now.clocks.now.rows })
         zone.now (record { zone = other.now; stretches = others.now })) own.now }
 {
     for stretch in own {
@@ -475,10 +542,12 @@ fn first_of_ascending<'a>(
 ) -> Option<(PlaceName, PlaceName)>
     requires fit { All (All IsFit) scene.now.run.now.items }
     requires timed { IsTimed (is_before_in scene.now.clocks.now.rows) own.now (others.now ∷ []) }
-    requires own_ascend { own_ascends ≡ true → ascents.do_ascend (is_before_in scene.now.clocks.now.rows) own.now ≡ true }
+    requires own_ascend { own_ascends ≡ true → ascents.do_ascend
+        (is_before_in scene.now.clocks.now.rows) own.now ≡ true }
     requires ascend { ascents.do_ascend (is_before_in scene.now.clocks.now.rows) others.now ≡ true }
     requires next { IsNext others.now next.now }
-    ensures { result ≡ first_some (model.first_against (record { job = scene.now.job.now; run = scene.now.run.now; before = is_before_in scene.now.clocks.now.rows })
+    ensures { result ≡ first_some (model.first_against
+        (record { job = scene.now.job.now; run = scene.now.run.now; before = is_before_in scene.now.clocks.now.rows })
         zone.now (record { zone = other.now; stretches = others.now })) own.now }
 {
     let mut walk = start_walk(scene.clocks, own, others, own_ascends);
@@ -508,10 +577,16 @@ pub(crate) fn first_of_zones(
 ) -> Option<(PlaceName, PlaceName)>
     requires fit { All (All IsFit) scene.now.run.now.items }
     requires timed { IsTimed (is_before_in scene.now.clocks.now.rows) own.now (others.now ∷ []) }
-    requires own_ascend { own_ascends ≡ true → ascents.do_ascend (is_before_in scene.now.clocks.now.rows) own.now ≡ true }
-    requires others_ascend { others_ascend ≡ true → ascents.do_ascend (is_before_in scene.now.clocks.now.rows) others.now ≡ true }
-    ensures { result ≡ model.first_of_zones (record { job = scene.now.job.now; run = scene.now.run.now; before = is_before_in scene.now.clocks.now.rows })
-        (record { zone = zone.now; stretches = own.now }) (record { zone = other.now; stretches = others.now }) }
+    requires own_ascend { own_ascends ≡ true → ascents.do_ascend
+        (is_before_in scene.now.clocks.now.rows) own.now ≡ true }
+    requires others_ascend { others_ascend ≡ true
+        → ascents.do_ascend (is_before_in scene.now.clocks.now.rows) others.now ≡ true }
+    ensures { result ≡ model.first_of_zones (record {
+      job = scene.now.job.now;
+      run = scene.now.run.now;
+      before = is_before_in scene.now.clocks.now.rows;
+    }) (record { zone = zone.now; stretches = own.now })
+        (record { zone = other.now; stretches = others.now }) }
 {
     if zone.group == other.group {
         return None;

@@ -108,7 +108,8 @@ fn past_far(own: &ZoneBox, boxes: &[ZoneBox], covers: &Option<BoxTree>, from: us
     requires covers { IsRowOf (map (λ own. own.cover) boxes.now) covers.now }
     ensures within { result ≤ length boxes.now }
     ensures on { from ≤ result }
-    ensures far { (k : ℕ) (d : ZoneBox) → from ≤ k → k < result → boxes_meet own.now.cover (slice_index_or boxes.now k d).cover ≡ false }
+    ensures far { (k : ℕ) (d : ZoneBox) → from ≤ k → k < result
+        → boxes_meet own.now.cover (slice_index_or boxes.now k d).cover ≡ false }
 {
     match covers {
         None => from,
@@ -138,8 +139,10 @@ pub(crate) fn next_near(
     requires covers { IsRowOf (map (λ own. own.cover) boxes.now) covers.now }
     ensures within { result ≤ length boxes.now }
     ensures on { from ≤ result }
-    ensures far { (k : ℕ) (d : ZoneBox) → from ≤ k → k < result → model.is_near shared own.now (slice_index_or boxes.now k d) ≡ false }
-    ensures near { (d : ZoneBox) → result < length boxes.now → model.is_near shared own.now (slice_index_or boxes.now result d) ≡ true }
+    ensures far { (k : ℕ) (d : ZoneBox) → from ≤ k → k < result
+        → model.is_near shared own.now (slice_index_or boxes.now k d) ≡ false }
+    ensures near { (d : ZoneBox) → result < length boxes.now
+        → model.is_near shared own.now (slice_index_or boxes.now result d) ≡ true }
 {
     let mut place = past_far(own, boxes, covers, from);
     while place < boxes.len() {
@@ -162,8 +165,8 @@ pub(crate) fn renew(
     memory: &mut Memory,
 )
     ensures place { memory.new.place ≡ place }
-    ensures kept { (IsRowOf (map (λ own. own.cover) boxes.now) memory.new.kept.covers × (memory.new.kept.pieces.rows ≡ []))
-        ⊎ ((memory.old.place ≡ place) × (memory.new.kept ≡ memory.old.kept)) }
+    ensures kept { (IsRowOf (map (λ own. own.cover) boxes.now) memory.new.kept.covers
+        × (memory.new.kept.pieces.rows ≡ [])) ⊎ ((memory.old.place ≡ place) × (memory.new.kept ≡ memory.old.kept)) }
     ensures passed { (memory.new.passed ≡ []) ⊎ ((memory.old.place ≡ place) × (memory.new.passed ≡ memory.old.passed)) }
 {
     let times = if memory.place == place {

@@ -56,8 +56,8 @@ fn add_with_place(
     requires ascents { orders.AreAscents (is_before_in clocks.now.rows) (lists_in lists.now) ascents.now }
     requires own_ascend { own_ascends ≡ true → orders.do_ascend (is_before_in clocks.now.rows) own.now ≡ true }
     requires timed { IsTimed (is_before_in clocks.now.rows) own.now (lists_in lists.now) }
-    ensures { OnOk result (rows.new.items ≡ rows.old.items
-        ++ steps.numbers_with_place (is_before_in clocks.now.rows) (record { zone = zone.now; stretches = own.now }) job.now (lists_in lists.now) place) }
+    ensures { OnOk result (rows.new.items ≡ rows.old.items ++ steps.numbers_with_place (is_before_in clocks.now.rows)
+        (record { zone = zone.now; stretches = own.now }) job.now (lists_in lists.now) place) }
 {
     match zone_at(job, place) {
         None => Ok(()),
@@ -95,7 +95,8 @@ fn add_with(
     requires own_ascend { own_ascends ≡ true → orders.do_ascend (is_before_in clocks.now.rows) own.now ≡ true }
     requires timed { IsTimed (is_before_in clocks.now.rows) own.now (lists_in lists.now) }
     ensures { OnOk result (rows.new.items ≡ rows.old.items
-        ++ flat_map (steps.numbers_with (is_before_in clocks.now.rows) (record { zone = zone.now; stretches = own.now })) (times_from job.now (lists_in lists.now) from)) }
+        ++ flat_map (steps.numbers_with (is_before_in clocks.now.rows)
+        (record { zone = zone.now; stretches = own.now })) (times_from job.now (lists_in lists.now) from)) }
 {
     for place in from..lists.len() {
         add_with_place(
@@ -125,7 +126,8 @@ fn add_from_place(
     requires place { place < length lists.now }
     requires ascents { orders.AreAscents (is_before_in clocks.now.rows) (lists_in lists.now) ascents.now }
     requires timed { IsTimed (is_before_in clocks.now.rows) [] (lists_in lists.now) }
-    ensures { OnOk result (rows.new.items ≡ rows.old.items ++ steps.numbers_from_place (is_before_in clocks.now.rows) job.now (lists_in lists.now) place) }
+    ensures { OnOk result (rows.new.items ≡ rows.old.items ++ steps.numbers_from_place (is_before_in clocks.now.rows)
+        job.now (lists_in lists.now) place) }
 {
     match zone_at(job, place) {
         None => Ok(()),
@@ -151,7 +153,8 @@ fn numbers_in(
     clocks: &Clocks,
 ) -> Result<Vec<PairNumber>, AllocError>
     requires { IsTimed (is_before_in clocks.now.rows) [] (lists_in lists.now) }
-    ensures { IfOk result (λ rows. rows.items ≡ steps.numbers_in_times (is_before_in clocks.now.rows) (times_from job.now (lists_in lists.now) 0)) }
+    ensures { IfOk result (λ rows. rows.items ≡ steps.numbers_in_times (is_before_in clocks.now.rows)
+        (times_from job.now (lists_in lists.now) 0)) }
 {
     let ascents = ascents_of(clocks, lists);
     let mut rows = Vec::new(alloc);
@@ -177,7 +180,8 @@ pub fn pair_numbers(
     clocks: &Clocks,
 ) -> Result<Vec<PairNumber>, NoMemory>
     requires { (run : RunView) × IsTold job.now run stretches.now clocks.now }
-    ensures { IfOk result (λ rows. model.AreByCount (model.numbers_of (is_before_in clocks.now.rows) job.now stretches.now) rows.items) }
+    ensures { IfOk result (λ rows. model.AreByCount
+        (model.numbers_of (is_before_in clocks.now.rows) job.now stretches.now) rows.items) }
 {
     let mut rows = numbers_in(alloc, job, lists_of(stretches), clocks)?;
     sort_by_count(&mut rows)?;

@@ -166,7 +166,8 @@ pub(crate) fn count_of_zones(
     requires timed { IsTimed (is_before_in clocks.now.rows) own.now (others.now ∷ []) }
     requires own_ascend { own_ascends ≡ true → orders.do_ascend (is_before_in clocks.now.rows) own.now ≡ true }
     requires others_ascend { others_ascend ≡ true → orders.do_ascend (is_before_in clocks.now.rows) others.now ≡ true }
-    ensures { result ≡ model.capped (model.count_of_zones (is_before_in clocks.now.rows) (record { zone = zone.now; stretches = own.now }) (record { zone = other.now; stretches = others.now })) }
+    ensures { result ≡ model.capped (model.count_of_zones (is_before_in clocks.now.rows)
+        (record { zone = zone.now; stretches = own.now }) (record { zone = other.now; stretches = others.now })) }
 {
     if zone.group == other.group {
         return 0;
@@ -193,7 +194,8 @@ fn count_with_place(
     requires ascents { orders.AreAscents (is_before_in clocks.now.rows) (lists_in lists.now) ascents.now }
     requires own_ascend { own_ascends ≡ true → orders.do_ascend (is_before_in clocks.now.rows) own.now ≡ true }
     requires timed { IsTimed (is_before_in clocks.now.rows) own.now (lists_in lists.now) }
-    ensures { result ≡ model.capped (model.count_with_place (is_before_in clocks.now.rows) (record { zone = zone.now; stretches = own.now }) job.now (lists_in lists.now) place) }
+    ensures { result ≡ model.capped (model.count_with_place (is_before_in clocks.now.rows)
+        (record { zone = zone.now; stretches = own.now }) job.now (lists_in lists.now) place) }
 {
     match zone_at(job, place) {
         None => 0,
@@ -223,7 +225,8 @@ fn count_with(
     requires ascents { orders.AreAscents (is_before_in clocks.now.rows) (lists_in lists.now) ascents.now }
     requires own_ascend { own_ascends ≡ true → orders.do_ascend (is_before_in clocks.now.rows) own.now ≡ true }
     requires timed { IsTimed (is_before_in clocks.now.rows) own.now (lists_in lists.now) }
-    ensures { result ≡ model.capped (sum_by (model.count_of_zones (is_before_in clocks.now.rows) (record { zone = zone.now; stretches = own.now })) (times_from job.now (lists_in lists.now) from)) }
+    ensures { result ≡ model.capped (sum_by (model.count_of_zones (is_before_in clocks.now.rows)
+        (record { zone = zone.now; stretches = own.now })) (times_from job.now (lists_in lists.now) from)) }
 {
     let mut count: u64 = 0;
     for place in from..lists.len() {
@@ -252,7 +255,8 @@ fn count_from_place(
     requires place { place < length lists.now }
     requires ascents { orders.AreAscents (is_before_in clocks.now.rows) (lists_in lists.now) ascents.now }
     requires timed { IsTimed (is_before_in clocks.now.rows) [] (lists_in lists.now) }
-    ensures { result ≡ model.capped (model.count_from_place (is_before_in clocks.now.rows) job.now (lists_in lists.now) place) }
+    ensures { result ≡ model.capped (model.count_from_place (is_before_in clocks.now.rows)
+        job.now (lists_in lists.now) place) }
 {
     match zone_at(job, place) {
         None => 0,
@@ -272,7 +276,8 @@ fn count_from_place(
 /// The pairs of each zone with each later one, or the greatest `u64` where there are more.
 fn count_in(job: &Job, lists: &[Vec<Stretch>], clocks: &Clocks) -> u64
     requires { IsTimed (is_before_in clocks.now.rows) [] (lists_in lists.now) }
-    ensures { result ≡ model.capped (model.count_in_times (is_before_in clocks.now.rows) (times_from job.now (lists_in lists.now) 0)) }
+    ensures { result ≡ model.capped (model.count_in_times (is_before_in clocks.now.rows)
+        (times_from job.now (lists_in lists.now) 0)) }
 {
     let ascents = ascents_of(clocks, lists);
     let mut count: u64 = 0;

@@ -46,7 +46,8 @@ fn passes_place(ended: bool, own: &ZoneBox, other: &ZoneBox) -> bool
 fn place_from(ended: bool, own: &ZoneBox, others: &[ZoneBox], hint: usize) -> usize
     requires { PassFirst (model.passes_place ended own.now) others.now }
     ensures within { result ≤ length others.now }
-    ensures left { result + leading (model.passes_place ended own.now) (drop result others.now) ≡ leading (model.passes_place ended own.now) others.now }
+    ensures left { result + leading (model.passes_place ended own.now) (drop result others.now)
+        ≡ leading (model.passes_place ended own.now) others.now }
 {
     if 0 < hint && hint <= others.len() && passes_place(ended, own, &others[hint - 1]) {
         hint

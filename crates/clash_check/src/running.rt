@@ -43,7 +43,8 @@ pub(crate) fn boxes_before(others: &[Stretch], place: usize, known: Boxes) -> Bo
 
 /// Keeps this place for the channel of a stretch, where it has boxes.
 fn mark(places: &mut [usize; CHANNEL_PLACES], stretch: &Stretch, place: usize)
-    ensures { (channel : ℕ) → channel < CHANNEL_PLACES → slice_index places.new channel ≡ (if model.has_boxes_of channel stretch.now then place else slice_index places.old channel) }
+    ensures { (channel : ℕ) → channel < CHANNEL_PLACES → slice_index places.new channel
+        ≡ (if model.has_boxes_of channel stretch.now then place else slice_index places.old channel) }
 {
     if stretch.boxes.is_empty() {
         return;
@@ -71,7 +72,8 @@ pub(crate) fn mark_latest(
 
 /// Whether all stretches of the channel of a stretch, with boxes, are before a place.
 fn is_alone(left: &Stretch, places: &[usize; CHANNEL_PLACES], from: usize) -> bool
-    ensures { result ≡ true → (channel : ℕ) → left.now.name.channel ≡ Some channel → (channel < CHANNEL_PLACES) × (slice_index places.now channel ≤ from) }
+    ensures { result ≡ true → (channel : ℕ) → left.now.name.channel ≡ Some channel → (channel < CHANNEL_PLACES)
+        × (slice_index places.now channel ≤ from) }
 {
     match left.name.channel {
         None => true,
@@ -90,10 +92,13 @@ pub(crate) fn count_in_range(
     upto: Boxes,
     latest: &[usize; CHANNEL_PLACES],
 ) -> u64
-    requires passing { (ended : Bool) → ascents.PassFirst (ascents.passes (is_before_in clocks.now.rows) ended left.now) others.now }
+    requires passing { (ended : Bool) → ascents.PassFirst
+        (ascents.passes (is_before_in clocks.now.rows) ended left.now) others.now }
     requires within { range.upto ≤ length others.now }
-    requires from { range.from ≡ ascents.leading (ascents.passes (is_before_in clocks.now.rows) true left.now) others.now }
-    requires upto { range.upto ≡ ascents.leading (ascents.passes (is_before_in clocks.now.rows) false left.now) others.now }
+    requires from { range.from ≡ ascents.leading
+        (ascents.passes (is_before_in clocks.now.rows) true left.now) others.now }
+    requires upto { range.upto ≡ ascents.leading
+        (ascents.passes (is_before_in clocks.now.rows) false left.now) others.now }
     requires boxes_before { model.IsSum others.now range.from before.boxes }
     requires boxes_upto { model.IsSum others.now range.upto upto.boxes }
     requires latest { model.IsLatest others.now range.upto latest.now }

@@ -62,12 +62,18 @@ impl Seeks for Zones<'_, '_> {
     ghost use Rattle.order_clocks.specs.Tells.{is_before_in};
     ghost use Rattle.protection_zones.specs.ZoneBoxes.{IsFit};
 
-    ghost ready = { λ zones. All (All IsFit) zones.scene.run.now.items × IsTimed (is_before_in zones.scene.clocks.now.rows) [] (lists_in zones.lists.now)
+    ghost ready = { λ zones. All (All IsFit) zones.scene.run.now.items
+        × IsTimed (is_before_in zones.scene.clocks.now.rows) [] (lists_in zones.lists.now)
         × AreAscents (is_before_in zones.scene.clocks.now.rows) (lists_in zones.lists.now) zones.ascents.now };
 
     ghost has_room = { λ zones count. zones.scene.room * count ≤ KEPT_LIMIT };
 
-    ghost found = { λ zones pairs. first_of_pairs (record { job = zones.scene.job.now; run = zones.scene.run.now; before = is_before_in zones.scene.clocks.now.rows }) (lists_in zones.lists.now) pairs };
+    ghost found = { λ zones pairs. first_of_pairs
+        (record {
+          job = zones.scene.job.now;
+          run = zones.scene.run.now;
+          before = is_before_in zones.scene.clocks.now.rows;
+        }) (lists_in zones.lists.now) pairs };
 
     fn seek(&self, pairs: &[(usize, usize)]) -> Option<(PlaceName, PlaceName)> {
         first_of_pairs(&self.scene, self.lists, self.ascents, pairs)
@@ -151,7 +157,8 @@ fn seek_by_threads<R: Threads + Sync>(
     requires timed { IsTimed (is_before_in scene.now.clocks.now.rows) [] (lists_in lists.now) }
     requires ascents { AreAscents (is_before_in scene.now.clocks.now.rows) (lists_in lists.now) ascents.now }
     requires room { scene.now.room ≤ KEPT_LIMIT }
-    ensures { IfOk result (λ names. names ≡ first_of_pairs (record { job = scene.now.job.now; run = scene.now.run.now; before = is_before_in scene.now.clocks.now.rows })
+    ensures { IfOk result (λ names. names ≡ first_of_pairs
+        (record { job = scene.now.job.now; run = scene.now.run.now; before = is_before_in scene.now.clocks.now.rows })
         (lists_in lists.now) pairs.now) }
 {
     let count = pairs.len();
@@ -185,8 +192,11 @@ pub(crate) fn first_by_threads<R: Threads + Sync>(
     requires timed { IsTimed (is_before_in scene.now.clocks.now.rows) [] (lists_in lists.now) }
     requires ascents { AreAscents (is_before_in scene.now.clocks.now.rows) (lists_in lists.now) ascents.now }
     requires room { scene.now.room ≤ KEPT_LIMIT }
-    ensures { result ≡ first_of_pairs (record { job = scene.now.job.now; run = scene.now.run.now; before = is_before_in scene.now.clocks.now.rows })
-        (lists_in lists.now) pairs.now }
+    ensures { result ≡ first_of_pairs (record {
+      job = scene.now.job.now;
+      run = scene.now.run.now;
+      before = is_before_in scene.now.clocks.now.rows;
+    }) (lists_in lists.now) pairs.now }
 {
     match seek_by_threads(rt, scene, lists, ascents, pairs) {
         Ok(names) => names,

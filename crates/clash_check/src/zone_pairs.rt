@@ -17,7 +17,8 @@ use sync_types::PlaceName;
 /// Appends the pairs of the zone of a place with each later one, of so many.
 fn push_pairs(pairs: &mut Vec<(usize, usize)>, place: usize, count: usize) -> Result<(), NoMemory>
     requires { place < count }
-    ensures { IfOk result (λ done. pairs.new.items ≡ pairs.old.items ++ model.pairs_with place (place + 1) (count - (place + 1))) }
+    ensures { IfOk result (λ done. pairs.new.items ≡ pairs.old.items
+        ++ model.pairs_with place (place + 1) (count - (place + 1))) }
 {
     for other in place + 1..count {
         pairs.push((place, other))?;
@@ -64,7 +65,11 @@ fn first_of_pair(
     requires fit { All (All IsFit) scene.now.run.now.items }
     requires timed { IsTimed (is_before_in scene.now.clocks.now.rows) [] (lists_in lists.now) }
     requires ascents { AreAscents (is_before_in scene.now.clocks.now.rows) (lists_in lists.now) ascents.now }
-    ensures { result ≡ model.first_of_pair (record { job = scene.now.job.now; run = scene.now.run.now; before = is_before_in scene.now.clocks.now.rows }) (lists_in lists.now) pair }
+    ensures { result ≡ model.first_of_pair (record {
+      job = scene.now.job.now;
+      run = scene.now.run.now;
+      before = is_before_in scene.now.clocks.now.rows;
+    }) (lists_in lists.now) pair }
 {
     let (place, later) = pair;
     match zone_at(scene.job, place) {
@@ -100,7 +105,11 @@ pub(crate) fn first_of_pairs(
     requires fit { All (All IsFit) scene.now.run.now.items }
     requires timed { IsTimed (is_before_in scene.now.clocks.now.rows) [] (lists_in lists.now) }
     requires ascents { AreAscents (is_before_in scene.now.clocks.now.rows) (lists_in lists.now) ascents.now }
-    ensures { result ≡ model.first_of_pairs (record { job = scene.now.job.now; run = scene.now.run.now; before = is_before_in scene.now.clocks.now.rows }) (lists_in lists.now) pairs.now }
+    ensures { result ≡ model.first_of_pairs (record {
+      job = scene.now.job.now;
+      run = scene.now.run.now;
+      before = is_before_in scene.now.clocks.now.rows;
+    }) (lists_in lists.now) pairs.now }
 {
     for pair in pairs {
         if let Some(names) = first_of_pair(scene, lists, ascents, *pair) {

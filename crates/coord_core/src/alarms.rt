@@ -154,7 +154,8 @@ impl Table {
 
     // Whether the channel lets an axis go that it does not own.
     fn lets_go_of_others(&self, channel: ChannelId, action: &Action) -> bool
-        ensures { (channels : List Activity) → result ≡ lets_go_of_others (board_in self.now channels) channel action.now }
+        ensures { (channels : List Activity) → result
+            ≡ lets_go_of_others (board_in self.now channels) channel action.now }
     {
         match action {
             Action::Release(axes) => !are_within(*axes, self.owners.owned_by(channel)),

@@ -39,7 +39,8 @@ impl Model for Board {
 
     ghost view = { λ b. record { start = b.state.table.start; entries = b.entries.items; spare = b.spare } };
 
-    ghost invariant = { λ b. (board_in b.state.table b.state.channels ≡ after_entries (first_board b.state.table.start) b.entries.items)
+    ghost invariant = { λ b. (board_in b.state.table b.state.channels
+        ≡ after_entries (first_board b.state.table.start) b.entries.items)
         × AreEntries (first_board b.state.table.start) b.entries.items
         × IsTable b.state.table
         × IsSound b.state.table.start

@@ -36,7 +36,8 @@ pub trait Desk {
         requires fits { fits self.now pass.old }
         requires runs { TellsOfRunning (tells pass.old) }
         ensures fits { fits self.now pass.new }
-        ensures told { TellsOn (λ before after. ActsAndWaits before step result after) (tells pass.old) (tells pass.new) };
+        ensures told { TellsOn (λ before after. ActsAndWaits before step result after)
+            (tells pass.old) (tells pass.new) };
 
     /// Closes the board: every call after it answers `Closed`.
     fn close<R: Wait>(&self, rt: &R, pass: &mut Self::Pass)

@@ -36,7 +36,8 @@ fn change_marks(marks: &mut Marks, channel: ChannelId, action: &Action)
 
 // INIT selects a program.
 fn select_program(programs: &mut [Option<u16>; CHANNEL_PLACES], action: &Action)
-    ensures { (c : ℕ) → slice_index_or programs.new c None ≡ program_after action.now c (slice_index_or programs.old c None) }
+    ensures { (c : ℕ) → slice_index_or programs.new c None
+        ≡ program_after action.now c (slice_index_or programs.old c None) }
 {
     if let Action::Init(channel, program) = action {
         programs[usize::from(channel.number)] = Some(*program);
@@ -55,7 +56,8 @@ fn position_or_zero(position: Option<Um>) -> Um
 
 // A position for each of these axes; one that is not told is 0.
 fn full_positions(axes: AxisSet, at: &Positions) -> Positions
-    ensures { (x : ℕ) → position_of result x ≡ (if has axes x then Some (position_or_zero (position_of at.now x)) else None) }
+    ensures { (x : ℕ) → position_of result x ≡ (if has axes x
+        then Some (position_or_zero (position_of at.now x)) else None) }
 {
     let mut positions = Positions::empty();
     for index in 0..AXIS_LIMIT {
@@ -74,7 +76,8 @@ impl State {
         requires no_alarm { alarm_of (board_in self.old.table self.old.channels) channel step.now.action ≡ None }
         ensures kept { IsTable self.new.table }
         ensures channels { self.new.channels ≡ self.old.channels }
-        ensures board { board_in self.new.table self.new.channels ≡ after_effects (board_in self.old.table self.old.channels) channel step.now }
+        ensures board { board_in self.new.table self.new.channels
+            ≡ after_effects (board_in self.old.table self.old.channels) channel step.now }
     {
         change_marks(&mut self.table.marks, channel, &step.action);
         select_program(&mut self.table.programs, &step.action);

@@ -39,7 +39,8 @@ fn channels_ended(channels: &Activities) -> ChannelSet
 // Whether a channel goes on that waits for marks which all stand, or for channels which all have ended.
 fn goes_at_once(table: &Table, channels: &Activities, channel: ChannelId, ended: ChannelSet) -> bool
     requires ended { HasPassing ended (λ c. has_ended (state_in c (activity_at channels.now c))) }
-    ensures { result ≡ goes_at_once (board_in table.now channels.now) (state_in channel (activity_at channels.now channel)) }
+    ensures { result ≡ goes_at_once (board_in table.now channels.now)
+        (state_in channel (activity_at channels.now channel)) }
 {
     match activity_of(channels, channel) {
         Activity::AtMark(mark, named, _) => table
@@ -53,7 +54,8 @@ fn goes_at_once(table: &Table, channels: &Activities, channel: ChannelId, ended:
 
 // The channels that go on at once.
 fn channels_that_go(table: &Table, channels: &Activities) -> ChannelSet
-    ensures { HasPassing result (λ c. goes_at_once (board_in table.now channels.now) (state_in c (activity_at channels.now c))) }
+    ensures { HasPassing result (λ c. goes_at_once (board_in table.now channels.now)
+        (state_in c (activity_at channels.now c))) }
 {
     let ended = channels_ended(channels);
     let mut goers = ChannelSet::empty();
@@ -71,7 +73,8 @@ fn channels_that_go(table: &Table, channels: &Activities) -> ChannelSet
 // The own mark of a channel that goes on at WAITM is lowered.
 fn lower_own_mark(marks: &mut Marks, channel: ChannelId, activity: &Activity)
     ensures { (c m : ℕ) → has_mark marks.new c m
-        ≡ (if c == channel then has_mark marks.old c m && not (lowers (state_in channel activity.now) m) else has_mark marks.old c m) }
+        ≡ (if c == channel then has_mark marks.old c m && not (lowers (state_in channel activity.now) m)
+        else has_mark marks.old c m) }
 {
     if let Activity::AtMark(mark, _, _) = activity {
         if marks.stands(channel, *mark) {
@@ -100,12 +103,15 @@ fn lower_own_marks(marks: &mut Marks, channels: &Activities, goers: ChannelSet)
 // These channels run on.
 fn run_on(table: &Table, channels: &mut Activities, goers: ChannelSet, goes: &mut Goes)
     requires kept { IsTable table.now }
-    requires goers { HasPassing goers (λ c. goes_at_once (board_in table.now channels.old) (state_in c (activity_at channels.old c))) }
+    requires goers { HasPassing goers (λ c. goes_at_once (board_in table.now channels.old)
+        (state_in c (activity_at channels.old c))) }
     requires room { length goes.old.items + length (goers_at_once (board_in table.now channels.old)) ≤ CHANNEL_LIMIT }
     ensures channels { (c : ℕ) → activity_at channels.new c
-        ≡ (if has goers c then Running (grant_with (board_in table.now channels.old) c no_positions) else activity_at channels.old c) }
+        ≡ (if has goers c then Running (grant_with (board_in table.now channels.old) c no_positions)
+        else activity_at channels.old c) }
     ensures goes { goes.new.items ≡ goes.old.items
-        ++ map go_of (map (going_at_once (board_in table.now channels.old)) (goers_at_once (board_in table.now channels.old))) }
+        ++ map go_of (map (going_at_once (board_in table.now channels.old))
+        (goers_at_once (board_in table.now channels.old))) }
 {
     for number in 1..CHANNEL_PLACES {
         let channel = ChannelId {
@@ -131,11 +137,14 @@ impl State {
     // All channels go on whose marks stand or whose channels have ended, and their own marks are lowered.
     pub(crate) fn let_go(&mut self, goes: &mut Goes)
         requires kept { IsTable self.old.table }
-        requires room { length goes.old.items + length (goers_at_once (board_in self.old.table self.old.channels)) ≤ CHANNEL_LIMIT }
+        requires room { length goes.old.items + length
+            (goers_at_once (board_in self.old.table self.old.channels)) ≤ CHANNEL_LIMIT }
         ensures kept { IsTable self.new.table }
-        ensures board { board_in self.new.table self.new.channels ≡ after_goes (board_in self.old.table self.old.channels) }
-        ensures goes { goes.new.items ≡ goes.old.items ++ map go_of
-            (map (going_at_once (board_in self.old.table self.old.channels)) (goers_at_once (board_in self.old.table self.old.channels))) }
+        ensures board { board_in self.new.table self.new.channels
+            ≡ after_goes (board_in self.old.table self.old.channels) }
+        ensures goes { goes.new.items ≡ goes.old.items
+            ++ map go_of (map (going_at_once (board_in self.old.table self.old.channels))
+            (goers_at_once (board_in self.old.table self.old.channels))) }
     {
         let goers = channels_that_go(&self.table, &self.channels);
         let marks_before = self.table.marks;
@@ -178,8 +187,10 @@ impl State {
         requires can_take { can_take (board_in self.old.table self.old.channels) channel ≡ true }
         requires room { length goes.old.items < CHANNEL_LIMIT }
         ensures kept { IsTable self.new.table }
-        ensures board { board_in self.new.table self.new.channels ≡ after_taking (board_in self.old.table self.old.channels) channel }
-        ensures goes { goes.new.items ≡ goes.old.items ++ go_of (going_of_taker (board_in self.old.table self.old.channels) channel) ∷ [] }
+        ensures board { board_in self.new.table self.new.channels
+            ≡ after_taking (board_in self.old.table self.old.channels) channel }
+        ensures goes { goes.new.items ≡ goes.old.items
+            ++ go_of (going_of_taker (board_in self.old.table self.old.channels) channel) ∷ [] }
     {
         let Activity::AtAxes(axes, _) = *activity_of(&self.channels, channel) else {
             unreachable!()
@@ -196,10 +207,13 @@ impl State {
     // Each time the lowest channel that can takes the axes for which it waits, until none can.
     pub(crate) fn hand_out_axes(&mut self, goes: &mut Goes)
         requires kept { IsTable self.old.table }
-        requires room { length goes.old.items + length (all_takings (board_in self.old.table self.old.channels)).goings ≤ CHANNEL_LIMIT }
+        requires room { length goes.old.items + length
+            (all_takings (board_in self.old.table self.old.channels)).goings ≤ CHANNEL_LIMIT }
         ensures kept { IsTable self.new.table }
-        ensures board { board_in self.new.table self.new.channels ≡ (all_takings (board_in self.old.table self.old.channels)).board }
-        ensures goes { goes.new.items ≡ goes.old.items ++ map go_of (all_takings (board_in self.old.table self.old.channels)).goings }
+        ensures board { board_in self.new.table self.new.channels
+            ≡ (all_takings (board_in self.old.table self.old.channels)).board }
+        ensures goes { goes.new.items ≡ goes.old.items
+            ++ map go_of (all_takings (board_in self.old.table self.old.channels)).goings }
     {
         for _turn in 0..CHANNEL_LIMIT {
             match self.next_taker() {

@@ -86,7 +86,8 @@ fn first_owners(lines: &[AxisLine]) -> Owners
 
 // The program of each channel.
 fn first_programs(lines: &[ChannelLine]) -> [Option<u16>; CHANNEL_PLACES]
-    ensures { (c : ℕ) → slice_index_or result c None ≡ option_map_or (λ line. line.1) (find (λ line. line.0 == c) lines.now) None }
+    ensures { (c : ℕ) → slice_index_or result c None
+        ≡ option_map_or (λ line. line.1) (find (λ line. line.0 == c) lines.now) None }
 {
     let _known = channels_of(lines);
     let mut programs = [None; CHANNEL_PLACES];
@@ -151,7 +152,8 @@ fn copy_of(start: &StartState) -> StartState
 
 // The owners of all axes at the start.
 fn owners_at_first(start: &StartState) -> Owners
-    ensures owners { (x : ℕ) → ownership_in (axis_state result x) ≡ ownership_of (first_owner start.now x) (first_position start.now x) }
+    ensures owners { (x : ℕ) → ownership_in (axis_state result x)
+        ≡ ownership_of (first_owner start.now x) (first_position start.now x) }
     ensures all { (x : ℕ) → x < AXIS_LIMIT → is_some (axis_state result x) ≡ true }
 {
     first_owners(start.axes.as_slice())

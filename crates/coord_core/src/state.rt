@@ -50,8 +50,10 @@ fn start_channels(table: &Table, channels: &mut Activities, named: ChannelSet, g
     requires none { has named 0 ≡ false }
     requires size { length named ≡ CHANNEL_PLACES }
     ensures channels { (c : ℕ) → activity_at channels.new c
-        ≡ (if has named c then Running (start_grant (board_in table.now channels.old) c) else activity_at channels.old c) }
-    ensures goes { goes.new.items ≡ map go_of (map (going_of_start (board_in table.now channels.old)) (members_of named)) }
+        ≡ (if has named c then Running (start_grant (board_in table.now channels.old) c)
+        else activity_at channels.old c) }
+    ensures goes { goes.new.items ≡ map go_of
+        (map (going_of_start (board_in table.now channels.old)) (members_of named)) }
 {
     for number in 1..CHANNEL_PLACES {
         let channel = ChannelId {
@@ -69,7 +71,8 @@ impl State {
     // What the acting channel does after its action.
     fn actor_after(&self, channel: ChannelId, step: &Step) -> Activity
         requires kept { IsTable self.now.table }
-        ensures { state_in channel result ≡ state_of_actor (board_in self.now.table self.now.channels) channel step.now.line step.now.action }
+        ensures { state_in channel result ≡ state_of_actor (board_in self.now.table self.now.channels) channel
+            step.now.line step.now.action }
     {
         match step.action {
             Action::WaitM(mark, named) => Activity::AtMark(mark, named, step.line),
@@ -86,8 +89,10 @@ impl State {
         requires no_alarm { alarm_of (board_in self.old.table self.old.channels) channel step.now.action ≡ None }
         requires empty { goes.old.items ≡ [] }
         ensures kept { IsTable self.new.table }
-        ensures board { board_in self.new.table self.new.channels ≡ after_action (board_in self.old.table self.old.channels) channel step.now }
-        ensures goes { goes.new.items ≡ map go_of (map (going_of_start (board_in self.new.table self.new.channels)) (channels_to_start step.now.action)) }
+        ensures board { board_in self.new.table self.new.channels
+            ≡ after_action (board_in self.old.table self.old.channels) channel step.now }
+        ensures goes { goes.new.items ≡ map go_of
+            (map (going_of_start (board_in self.new.table self.new.channels)) (channels_to_start step.now.action)) }
         ensures named { StartsChannels step.now.action }
     {
         self.apply(channel, step);
@@ -102,9 +107,12 @@ impl State {
         requires kept { IsTable self.old.table }
         requires empty { goes.old.items ≡ [] }
         ensures kept { IsTable self.new.table }
-        ensures board { board_in self.new.table self.new.channels ≡ after_own_part (board_in self.old.table self.old.channels) channel step.now }
-        ensures goes { goes.new.items ≡ map go_of (map (going_of_start (board_in self.new.table self.new.channels))
-            (channels_started (alarm_of (board_in self.old.table self.old.channels) channel step.now.action) step.now.action)) }
+        ensures board { board_in self.new.table self.new.channels
+            ≡ after_own_part (board_in self.old.table self.old.channels) channel step.now }
+        ensures goes { goes.new.items ≡ map go_of
+            (map (going_of_start (board_in self.new.table self.new.channels))
+            (channels_started (alarm_of (board_in self.old.table self.old.channels) channel
+            step.now.action) step.now.action)) }
         ensures named { StartsChannels step.now.action }
     {
         let alarm = self.alarm_of(channel, &step.action);
@@ -149,8 +157,10 @@ impl State {
         requires kept { IsTable self.old.table }
         requires empty { goes.old.items ≡ [] }
         ensures kept { IsTable self.new.table }
-        ensures board { board_in self.new.table self.new.channels ≡ after_step (board_in self.old.table self.old.channels) channel step.now }
-        ensures goes { goes.new.items ≡ map go_of (goings_in_step (board_in self.old.table self.old.channels) channel step.now) }
+        ensures board { board_in self.new.table self.new.channels
+            ≡ after_step (board_in self.old.table self.old.channels) channel step.now }
+        ensures goes { goes.new.items ≡ map go_of
+            (goings_in_step (board_in self.old.table self.old.channels) channel step.now) }
     {
         self.act_or_alarm(channel, step, goes);
         self.let_go(goes);

@@ -45,7 +45,8 @@ pub(crate) fn first_position(lines: &[AxisLine], axis: AxisId) -> Um
 // Where these axes stand at the start.
 fn first_positions(lines: &[AxisLine], axes: AxisSet) -> Positions
     ensures positions { (x : ℕ) → position_of result x
-        ≡ (if has axes x then Some (option_map_or (λ line. line.2) (find (λ line. line.0 == x) lines.now) (pos 0)) else None) }
+        ≡ (if has axes x then Some (option_map_or (λ line. line.2) (find (λ line. line.0 == x) lines.now) (pos 0))
+        else None) }
     ensures size { length result ≡ AXIS_LIMIT }
 {
     let mut positions = Positions::empty();
@@ -60,7 +61,8 @@ fn first_positions(lines: &[AxisLine], axes: AxisSet) -> Positions
 
 // The same of the axes of a start state.
 fn positions_at_first(start: &StartState, axes: AxisSet) -> Positions
-    ensures positions { (x : ℕ) → position_of result x ≡ (if has axes x then Some (first_position start.now x) else None) }
+    ensures positions { (x : ℕ) → position_of result x
+        ≡ (if has axes x then Some (first_position start.now x) else None) }
     ensures size { length result ≡ AXIS_LIMIT }
 {
     first_positions(start.axes.as_slice(), axes)

@@ -113,7 +113,8 @@ pub(crate) fn hand_over(zones: &mut Zones, axes: AxisSet, holder: &Option<Channe
 
 // The zones that the channel holds and that are on.
 pub(crate) fn zones_on(zones: &[ZoneState], channel: ChannelId) -> ZoneSet
-    ensures members { (z : ℕ) → has result z ≡ list_any (λ zone. (zone.zone == z) && (is_this zone.holder channel && zone.on)) zones.now }
+    ensures members { (z : ℕ) → has result z ≡ list_any
+        (λ zone. (zone.zone == z) && (is_this zone.holder channel && zone.on)) zones.now }
     ensures none { has result 0 ≡ false }
     ensures size { length result ≡ ZONE_PLACES }
 {

@@ -17,14 +17,16 @@ ghost use Rattle.coordination_words.specs.declared.asked.Request.TheVariants.{Ac
 /// all axes of a zone or none. It waits for no own mark and lets go of own axes alone, and it is no alarm and no program
 /// end. CPROT asks nothing of them.
 pub fn requests_are_of_the_job()
-    ensures { (setting : SettingView) (parameters : ℕ → ℤ) (word : CoordWord) (operands : List OperandView) (action : Action)
+    ensures { (setting : SettingView) (parameters : ℕ → ℤ) (word : CoordWord)
+        (operands : List OperandView) (action : Action)
         → model.request_of setting parameters word operands ≡ Ok (Act action)
         → IsOfTheJob setting action × (word ≢ coord.CProt) }
 {}
 
 /// A law: a zone that is switched is one that the channel holds, and CPROT alone switches.
 pub fn switches_are_of_held_zones()
-    ensures { (setting : SettingView) (parameters : ℕ → ℤ) (word : CoordWord) (operands : List OperandView) (zone : ℕ) (on : Bool)
+    ensures { (setting : SettingView) (parameters : ℕ → ℤ) (word : CoordWord)
+        (operands : List OperandView) (zone : ℕ) (on : Bool)
         → model.request_of setting parameters word operands ≡ Ok (Switch zone on)
         → (setting.holds zone ≡ true) × (word ≡ coord.CProt) }
 {}

@@ -88,7 +88,8 @@ pub(crate) fn channel_in<S: Setting, N: Names>(
     parameters: &N,
 ) -> Result<ChannelId, u16>
     requires { OperandFits (operand_view operand.now) }
-    ensures { result ≡ model.channel_in (S.setting setting.now) (N.parameter parameters.now) (operand_view operand.now) }
+    ensures { result ≡ model.channel_in (S.setting setting.now)
+        (N.parameter parameters.now) (operand_view operand.now) }
 {
     let value = operand_value(operand, parameters, NO_SUCH_CHANNEL)?;
     match channel_of(setting, whole_below(value, CHANNEL_PLACES as u8)) {
@@ -245,7 +246,8 @@ pub(crate) fn channels_in<S: Setting, N: Names>(
     parameters: &N,
 ) -> Result<ChannelSet, u16>
     requires { All OperandFits (map operand_view operands.now) }
-    ensures { result ≡ model.channels_in (S.setting setting.now) (N.parameter parameters.now) (map operand_view operands.now) }
+    ensures { result ≡ model.channels_in (S.setting setting.now) (N.parameter parameters.now)
+        (map operand_view operands.now) }
 {
     let mut channels = ChannelSet::empty();
     for operand in operands {

@@ -38,7 +38,8 @@ fn meeting<S: Setting, N: Names>(
     parameters: &N,
 ) -> Result<Request, u16>
     requires { All OperandFits (map operand_view operands.now) }
-    ensures { result ≡ model.meeting (S.setting setting.now) (N.parameter parameters.now) (map operand_view operands.now) }
+    ensures { result ≡ model.meeting (S.setting setting.now) (N.parameter parameters.now)
+        (map operand_view operands.now) }
 {
     let Some((first, others)) = operands.split_first() else {
         return Err(NO_SUCH_MARK);
@@ -55,7 +56,8 @@ fn selection<S: Setting, N: Names>(
     parameters: &N,
 ) -> Result<Request, u16>
     requires { All OperandFits (map operand_view operands.now) }
-    ensures { result ≡ model.selection (S.setting setting.now) (N.parameter parameters.now) (map operand_view operands.now) }
+    ensures { result ≡ model.selection (S.setting setting.now) (N.parameter parameters.now)
+        (map operand_view operands.now) }
 {
     let Some((first, others)) = operands.split_first() else {
         return Err(NO_SUCH_CHANNEL);
@@ -75,7 +77,8 @@ fn switching<S: Setting, N: Names>(
     parameters: &N,
 ) -> Result<Request, u16>
     requires { All OperandFits (map operand_view operands.now) }
-    ensures { result ≡ model.switching (S.setting setting.now) (N.parameter parameters.now) (map operand_view operands.now) }
+    ensures { result ≡ model.switching (S.setting setting.now) (N.parameter parameters.now)
+        (map operand_view operands.now) }
 {
     let Some((first, others)) = operands.split_first() else {
         return Err(ZONE_NOT_HELD);
@@ -158,7 +161,8 @@ pub fn request_of<S: Setting, N: Names>(
     parameters: &N,
 ) -> Result<Request, u16>
     requires { All OperandFits (map operand_view operands.now) }
-    ensures { result ≡ model.request_of (S.setting setting.now) (N.parameter parameters.now) word (map operand_view operands.now) }
+    ensures { result ≡ model.request_of (S.setting setting.now) (N.parameter parameters.now) word
+        (map operand_view operands.now) }
 {
     match word {
         CoordWord::WaitM => meeting(operands, setting, parameters),

@@ -16,7 +16,8 @@ pub fn put_column(
     row: Row,
 )
     requires { channel < CHANNEL_PLACES }
-    ensures rows { (m d : ℕ) → slice_index_or (slice_index_or rows.new m []) d [] ≡ (if has set.now m && (d == channel) then row else slice_index_or (slice_index_or rows.old m []) d []) }
+    ensures rows { (m d : ℕ) → slice_index_or (slice_index_or rows.new m []) d []
+        ≡ (if has set.now m && (d == channel) then row else slice_index_or (slice_index_or rows.old m []) d []) }
 {
     for m in 0..MARK_LIMIT {
         if set[m] {
@@ -28,7 +29,8 @@ pub fn put_column(
 /// Writes the row at a channel.
 pub fn put_at(rows: &mut [Row; CHANNEL_PLACES], channel: usize, row: Row)
     requires { channel < CHANNEL_PLACES }
-    ensures rows { (d : ℕ) → slice_index_or rows.new d [] ≡ (if d == channel then row else slice_index_or rows.old d []) }
+    ensures rows { (d : ℕ) → slice_index_or rows.new d []
+        ≡ (if d == channel then row else slice_index_or rows.old d []) }
     ensures size { length rows.new ≡ CHANNEL_PLACES }
 {
     rows[channel] = row;
@@ -50,7 +52,9 @@ pub fn most_column(
     start: Row,
 ) -> Row
     requires { m < MARK_LIMIT }
-    ensures counts { (c : ℕ) → count_of result c ≡ max (count_of start c) (top (λ d. count_of (slice_index_or (slice_index_or rows.now m []) d []) c) (members_of chosen.now)) }
+    ensures counts { (c : ℕ) → count_of result c
+        ≡ max (count_of start c) (top (λ d. count_of (slice_index_or (slice_index_or rows.now m []) d []) c)
+        (members_of chosen.now)) }
 {
     most_chosen(&rows[m], chosen, start)
 }
@@ -72,7 +76,9 @@ pub fn most_down(
     start: Row,
 ) -> Row
     requires { channel < CHANNEL_PLACES }
-    ensures counts { (c : ℕ) → count_of result c ≡ max (count_of start c) (top (λ m. count_of (slice_index_or (slice_index_or rows.now m []) channel []) c) (members_of chosen.now)) }
+    ensures counts { (c : ℕ) → count_of result c
+        ≡ max (count_of start c) (top (λ m. count_of (slice_index_or (slice_index_or rows.now m []) channel []) c)
+        (members_of chosen.now)) }
 {
     let mut row = start;
     for m in 0..MARK_LIMIT {

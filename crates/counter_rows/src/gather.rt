@@ -8,7 +8,8 @@ use axis_sets::CHANNEL_PLACES;
 
 /// Writes the row at each chosen place.
 pub fn put_chosen<const N: usize>(rows: &mut [Row; N], chosen: &[bool; N], row: Row)
-    ensures rows { (m : ℕ) → slice_index_or rows.new m [] ≡ (if has chosen.now m then row else slice_index_or rows.old m []) }
+    ensures rows { (m : ℕ) → slice_index_or rows.new m []
+        ≡ (if has chosen.now m then row else slice_index_or rows.old m []) }
     ensures size { length rows.new ≡ N }
 {
     for m in 0..N {
@@ -20,7 +21,8 @@ pub fn put_chosen<const N: usize>(rows: &mut [Row; N], chosen: &[bool; N], row: 
 
 /// The greatest numbers of a row and of those at the chosen places.
 pub fn most_chosen<const N: usize>(rows: &[Row; N], chosen: &[bool; N], start: Row) -> Row
-    ensures counts { (c : ℕ) → count_of result c ≡ max (count_of start c) (top (λ m. count_of (slice_index_or rows.now m []) c) (members_of chosen.now)) }
+    ensures counts { (c : ℕ) → count_of result c
+        ≡ max (count_of start c) (top (λ m. count_of (slice_index_or rows.now m []) c) (members_of chosen.now)) }
 {
     let mut row = start;
     for m in 0..N {
@@ -49,7 +51,8 @@ pub fn count_chosen(row: Row, chosen: &[bool; CHANNEL_PLACES]) -> Row
 /// each of their channels.
 pub fn joint_row(own: &[Row; CHANNEL_PLACES], chosen: &[bool; CHANNEL_PLACES]) -> Row
     requires { (x : ℕ) → top (λ m. count_of (slice_index_or own.now m []) x) (members_of chosen.now) + 1 < 2 ^ 64 }
-    ensures { (x : ℕ) → count_of result x ≡ (let most = top (λ m. count_of (slice_index_or own.now m []) x) (members_of chosen.now) in if has chosen.now x then suc most else most) }
+    ensures { (x : ℕ) → count_of result x ≡ (let most = top (λ m. count_of (slice_index_or own.now m []) x)
+        (members_of chosen.now) in if has chosen.now x then suc most else most) }
 {
     let most = most_chosen(own, chosen, Row::zero());
     count_chosen(most, chosen)

@@ -14,7 +14,8 @@ pub fn put_rows(
     chosen: &[bool; CHANNEL_PLACES],
     rows: &[Row; CHANNEL_PLACES],
 )
-    ensures rows { (c : ℕ) → slice_index_or past.new c [] ≡ (if has chosen.now c then slice_index_or rows.now c [] else slice_index_or past.old c []) }
+    ensures rows { (c : ℕ) → slice_index_or past.new c []
+        ≡ (if has chosen.now c then slice_index_or rows.now c [] else slice_index_or past.old c []) }
     ensures size { length past.new ≡ CHANNEL_PLACES }
 {
     for c in 0..CHANNEL_PLACES {
@@ -30,7 +31,8 @@ pub fn same_group(
     group: &[u8; CHANNEL_PLACES],
     number: u8,
 ) -> [bool; CHANNEL_PLACES]
-    ensures members { (c : ℕ) → c < CHANNEL_PLACES → has result c ≡ (has goes.now c && (slice_index group.now c == number)) }
+    ensures members { (c : ℕ) → c < CHANNEL_PLACES
+        → has result c ≡ (has goes.now c && (slice_index group.now c == number)) }
     ensures size { length result ≡ CHANNEL_PLACES }
 {
     let mut chosen = [false; CHANNEL_PLACES];
@@ -47,7 +49,8 @@ pub fn joint_rows(
     group: &[u8; CHANNEL_PLACES],
 ) -> [Row; CHANNEL_PLACES]
     requires { (g x : ℕ) → joint_top own.now goes.now group.now g x + 1 < 2 ^ 64 }
-    ensures rows { (c x : ℕ) → c < CHANNEL_PLACES → has goes.now c ≡ true → count_of (slice_index_or result c []) x ≡ joint_count own.now goes.now group.now (slice_index group.now c) x }
+    ensures rows { (c x : ℕ) → c < CHANNEL_PLACES → has goes.now c ≡ true → count_of (slice_index_or result c []) x
+        ≡ joint_count own.now goes.now group.now (slice_index group.now c) x }
     ensures size { length result ≡ CHANNEL_PLACES }
 {
     let mut rows = [Row::zero(); CHANNEL_PLACES];

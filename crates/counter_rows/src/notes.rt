@@ -15,7 +15,8 @@ pub fn note_chosen<const N: usize>(
     count: u64,
 )
     requires { channel < CHANNEL_PLACES }
-    ensures rows { (m c : ℕ) → count_of (slice_index_or rows.new m []) c ≡ (if has chosen.now m && (c == channel) then count else count_of (slice_index_or rows.old m []) c) }
+    ensures rows { (m c : ℕ) → count_of (slice_index_or rows.new m []) c
+        ≡ (if has chosen.now m && (c == channel) then count else count_of (slice_index_or rows.old m []) c) }
     ensures size { length rows.new ≡ N }
 {
     for m in 0..N {
@@ -28,7 +29,8 @@ pub fn note_chosen<const N: usize>(
 /// Writes the number of a channel in its own row.
 pub fn note_at(rows: &mut [Row; CHANNEL_PLACES], channel: usize, count: u64)
     requires { channel < CHANNEL_PLACES }
-    ensures rows { (d c : ℕ) → count_of (slice_index_or rows.new d []) c ≡ (if (d == channel) && (c == channel) then count else count_of (slice_index_or rows.old d []) c) }
+    ensures rows { (d c : ℕ) → count_of (slice_index_or rows.new d []) c
+        ≡ (if (d == channel) && (c == channel) then count else count_of (slice_index_or rows.old d []) c) }
     ensures size { length rows.new ≡ CHANNEL_PLACES }
 {
     rows[channel] = rows[channel].put(channel, count);
@@ -42,7 +44,9 @@ pub fn note_column(
     count: u64,
 )
     requires { channel < CHANNEL_PLACES }
-    ensures rows { (m d c : ℕ) → count_of (slice_index_or (slice_index_or rows.new m []) d []) c ≡ (if (has chosen.now m && (d == channel)) && (c == channel) then count else count_of (slice_index_or (slice_index_or rows.old m []) d []) c) }
+    ensures rows { (m d c : ℕ) → count_of (slice_index_or (slice_index_or rows.new m []) d []) c
+        ≡ (if (has chosen.now m && (d == channel)) && (c == channel) then count
+        else count_of (slice_index_or (slice_index_or rows.old m []) d []) c) }
 {
     for m in 0..MARK_LIMIT {
         if chosen[m] {
@@ -60,7 +64,9 @@ pub fn note_one(
 )
     requires number { number < MARK_LIMIT }
     requires channel { channel < CHANNEL_PLACES }
-    ensures rows { (m d c : ℕ) → count_of (slice_index_or (slice_index_or rows.new m []) d []) c ≡ (if ((m == number) && (d == channel)) && (c == channel) then count else count_of (slice_index_or (slice_index_or rows.old m []) d []) c) }
+    ensures rows { (m d c : ℕ) → count_of (slice_index_or (slice_index_or rows.new m []) d []) c
+        ≡ (if ((m == number) && (d == channel)) && (c == channel) then count
+        else count_of (slice_index_or (slice_index_or rows.old m []) d []) c) }
 {
     note_at(&mut rows[number], channel, count);
 }
@@ -75,7 +81,9 @@ pub fn note_row(
 )
     requires number { number < MARK_LIMIT }
     requires channel { channel < CHANNEL_PLACES }
-    ensures rows { (m d c : ℕ) → count_of (slice_index_or (slice_index_or rows.new m []) d []) c ≡ (if ((m == number) && has chosen.now d) && (c == channel) then count else count_of (slice_index_or (slice_index_or rows.old m []) d []) c) }
+    ensures rows { (m d c : ℕ) → count_of (slice_index_or (slice_index_or rows.new m []) d []) c
+        ≡ (if ((m == number) && has chosen.now d) && (c == channel) then count
+        else count_of (slice_index_or (slice_index_or rows.old m []) d []) c) }
 {
     note_chosen(&mut rows[number], chosen, channel, count);
 }

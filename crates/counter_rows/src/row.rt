@@ -62,7 +62,8 @@ impl Row {
     pub fn counted(mut self, channel: usize) -> Row
         requires channel { channel < CHANNEL_PLACES }
         requires room { count_of self channel + 1 < 2 ^ 64 }
-        ensures counts { (c : ℕ) → count_of result c ≡ (if c == channel then suc (count_of self c) else count_of self c) }
+        ensures counts { (c : ℕ) → count_of result c
+            ≡ (if c == channel then suc (count_of self c) else count_of self c) }
         ensures size { length result ≡ CHANNEL_PLACES }
     {
         self.counts[channel] += 1;

@@ -17,7 +17,8 @@ pub fn put_marks(
     row: Row,
 )
     requires { channel < CHANNEL_PLACES }
-    ensures rows { (m d : ℕ) → slice_index_or (slice_index_or rows.new m []) d [] ≡ (if has marks.now m && (d == channel) then row else slice_index_or (slice_index_or rows.old m []) d []) }
+    ensures rows { (m d : ℕ) → slice_index_or (slice_index_or rows.new m []) d []
+        ≡ (if has marks.now m && (d == channel) then row else slice_index_or (slice_index_or rows.old m []) d []) }
 {
     if !marks.is_empty() {
         put_column(rows, &mark_flags(marks), channel, row);
@@ -26,7 +27,8 @@ pub fn put_marks(
 
 /// Writes the row of each axis.
 pub fn put_axes(rows: &mut [Row; AXIS_LIMIT], axes: &AxisSet, row: Row)
-    ensures rows { (x : ℕ) → slice_index_or rows.new x [] ≡ (if has axes.now x then row else slice_index_or rows.old x []) }
+    ensures rows { (x : ℕ) → slice_index_or rows.new x []
+        ≡ (if has axes.now x then row else slice_index_or rows.old x []) }
 {
     if !axes.is_empty() {
         put_chosen(rows, &axis_flags(axes), row);
@@ -35,7 +37,8 @@ pub fn put_axes(rows: &mut [Row; AXIS_LIMIT], axes: &AxisSet, row: Row)
 
 /// Writes the row of each channel.
 pub fn put_channels(rows: &mut [Row; CHANNEL_PLACES], channels: &ChannelSet, row: Row)
-    ensures rows { (c : ℕ) → slice_index_or rows.new c [] ≡ (if has channels.now c then row else slice_index_or rows.old c []) }
+    ensures rows { (c : ℕ) → slice_index_or rows.new c []
+        ≡ (if has channels.now c then row else slice_index_or rows.old c []) }
 {
     if !channels.is_empty() {
         put_chosen(rows, &channel_flags(channels), row);

@@ -66,11 +66,13 @@ pub(crate) fn push_rows(
     rows: &StepRows,
     goes: &[bool; CHANNEL_PLACES],
 ) -> Result<StepPlaces, NoMemory>
-    ensures kept { IfOk result (λ places. (k : ℕ) → k < length list.old.items → slice_index_or list.new.items k [] ≡ slice_index_or list.old.items k []) }
+    ensures kept { IfOk result (λ places. (k : ℕ) → k < length list.old.items → slice_index_or list.new.items k []
+        ≡ slice_index_or list.old.items k []) }
     ensures more { length list.old.items ≤ length list.new.items }
     ensures within { IfOk result (λ places. (c : ℕ) → place_in places c < length list.new.items) }
     ensures act { IfOk result (λ places. slice_index_or list.new.items places.first [] ≡ rows.now.act) }
-    ensures goes { IfOk result (λ places. (c : ℕ) → has goes.now c ≡ true → slice_index_or list.new.items (place_in places c) [] ≡ slice_index_or rows.now.goes c []) }
+    ensures goes { IfOk result (λ places. (c : ℕ) → has goes.now c ≡ true
+        → slice_index_or list.new.items (place_in places c) [] ≡ slice_index_or rows.now.goes c []) }
 {
     let first = list.len();
     list.push(rows.act)?;
@@ -103,9 +105,11 @@ impl RowTable {
     /// Adds the rows of a step. `NoMemory` where there is too little.
     pub fn push(&mut self, rows: &StepRows, goes: &[bool; CHANNEL_PLACES]) -> Result<(), NoMemory>
         ensures size { IsOk result → length self.new.steps ≡ length self.old.steps + 1 }
-        ensures kept { IsOk result → (i c : ℕ) → i < length self.old.steps → (act_in self.new i ≡ act_in self.old i) × (go_in self.new i c ≡ go_in self.old i c) }
+        ensures kept { IsOk result → (i c : ℕ) → i < length self.old.steps → (act_in self.new i ≡ act_in self.old i)
+            × (go_in self.new i c ≡ go_in self.old i c) }
         ensures act { IsOk result → act_in self.new (length self.old.steps) ≡ rows.now.act }
-        ensures goes { IsOk result → (c : ℕ) → has goes.now c ≡ true → go_in self.new (length self.old.steps) c ≡ slice_index_or rows.now.goes c [] }
+        ensures goes { IsOk result → (c : ℕ) → has goes.now c ≡ true → go_in self.new (length self.old.steps) c
+            ≡ slice_index_or rows.now.goes c [] }
     {
         let places = push_rows(&mut self.rows, rows, goes)?;
         self.steps.push(places)?;

@@ -49,7 +49,8 @@ pub(crate) struct Answer {
 fn drawing_of(alloc: Global, judged: &Judged) -> Result<Vec<u8>, NoMemory>
     requires fit { All (All IsFit) judged.now.run.now.items }
     requires deep { judged.now.job.now.depth ≤ DEPTH_LIMIT }
-    ensures { IfOk result (λ text. IsDrawn judged.now.job.now judged.now.run.now judged.now.stretches.now (slice_get judged.now.met.now 0) text.items) }
+    ensures { IfOk result (λ text. IsDrawn judged.now.job.now judged.now.run.now judged.now.stretches.now
+        (slice_get judged.now.met.now 0) text.items) }
 {
     let picture = picture_of(
         alloc,
@@ -71,10 +72,12 @@ fn text_of(alloc: Global, judged: &Judged, form: Form) -> Result<Vec<u8>, NoMemo
     requires few { length judged.now.run.now.entries < 2 ^ 32 }
     requires comes { ComesFrom judged.now.start.now judged.now.run.now }
     requires made { AreEntries (first_board (start_of judged.now.job.now)) judged.now.run.now.entries }
-    ensures told { IfOk result (λ text. form ≡ Form.Text → IsExplained judged.now.lines.now judged.now.job.now judged.now.start.now judged.now.run.now
+    ensures told { IfOk result (λ text. form ≡ Form.Text
+        → IsExplained judged.now.lines.now judged.now.job.now judged.now.start.now judged.now.run.now
         judged.now.clocks.now judged.now.stretches.now judged.now.met.now judged.now.verdict.now text.items) }
     ensures drawn { IfOk result (λ text. form ≡ Form.Drawing
-        → IsDrawn judged.now.job.now judged.now.run.now judged.now.stretches.now (slice_get judged.now.met.now 0) text.items) }
+        → IsDrawn judged.now.job.now judged.now.run.now judged.now.stretches.now
+        (slice_get judged.now.met.now 0) text.items) }
 {
     match form {
         Form::Text => explain(alloc, judged),
@@ -94,10 +97,13 @@ fn text_on(
 ) -> Result<Vec<u8>, NoMemory>
     requires accepted { IsSoundJob job.now }
     requires indices { BlocksFit job.now }
-    requires judged { IsExplainedBy job.now judgement.now.run judgement.now.clocks judgement.now.stretches judgement.now.verdict }
-    ensures told { IfOk result (λ text. form ≡ Form.Text → IsExplained lines.now job.now (start_of job.now) judgement.now.run judgement.now.clocks
+    requires judged { IsExplainedBy job.now judgement.now.run judgement.now.clocks
+        judgement.now.stretches judgement.now.verdict }
+    ensures told { IfOk result (λ text. form ≡ Form.Text
+        → IsExplained lines.now job.now (start_of job.now) judgement.now.run judgement.now.clocks
         judgement.now.stretches met.now judgement.now.verdict text.items) }
-    ensures drawn { IfOk result (λ text. form ≡ Form.Drawing → IsDrawn job.now judgement.now.run judgement.now.stretches (slice_get met.now 0) text.items) }
+    ensures drawn { IfOk result (λ text. form ≡ Form.Drawing
+        → IsDrawn job.now judgement.now.run judgement.now.stretches (slice_get met.now 0) text.items) }
 {
     let start = start_state(job);
     let judged = Judged {
@@ -144,7 +150,8 @@ fn refused_text(
     form: Form,
 ) -> Result<Vec<u8>, NoMemory>
     ensures told { IfOk result (λ text. form ≡ Form.Text → text.items ≡ refusals_text lines.now refusal.now rows.now) }
-    ensures undrawn { IfOk result (λ text. form ≡ Form.Drawing → text.items ≡ refusals_text lines.now refusal.now rows.now) }
+    ensures undrawn { IfOk result (λ text. form ≡ Form.Drawing
+        → text.items ≡ refusals_text lines.now refusal.now rows.now) }
 {
     match form {
         Form::Data => refusal_data(alloc, lines, refusal, rows),
@@ -175,7 +182,8 @@ fn answer_refusal(
 
 /// Adds to an answer how many lines the input has left out.
 fn with_left_out_text(alloc: Global, input: &[u8], answer: Answer) -> Result<Answer, NoMemory>
-    ensures { IfOk result (λ told. (told.text.items ≡ answer.text.items ++ left_out_text input.now) × (told.status ≡ answer.status)) }
+    ensures { IfOk result (λ told. (told.text.items ≡ answer.text.items ++ left_out_text input.now)
+        × (told.status ≡ answer.status)) }
 {
     let Answer { mut text, status } = answer;
     let left_out = left_out_text(alloc, input)?;
@@ -190,7 +198,8 @@ fn with_left_out(
     form: Form,
     answer: Answer,
 ) -> Result<Answer, NoMemory>
-    ensures { IfOk result (λ told. (told.text.items ≡ text_with form input.now answer.text.items) × (told.status ≡ answer.status)) }
+    ensures { IfOk result (λ told. (told.text.items ≡ text_with form input.now answer.text.items)
+        × (told.status ≡ answer.status)) }
 {
     match form {
         Form::Text => with_left_out_text(alloc, input, answer),

@@ -24,7 +24,8 @@ use told_places::{Meeting, Place, Told, say_box, say_direction, say_place, say_s
 /// Says in which blocks two zones can meet, and where: in three to five lines.
 #[tactic(auto, unfolding(crate::specs::Clashes::head_text))]
 fn say_head(text: &mut Text, told: &Told, met: &Meeting, common: &Box3)
-    ensures { text.new ≡ text.old ++ model.head_text told.now.lines.now told.now.job.now told.now.run.now met.now common.now }
+    ensures { text.new ≡ text.old ++ model.head_text told.now.lines.now told.now.job.now
+        told.now.run.now met.now common.now }
 {
     say_place(text, told, &met.left);
     say_place(text, told, &met.right);
@@ -163,7 +164,8 @@ fn say_ways(text: &mut Text, job: &Job, met: &Meeting, clash: &Clash)
 /// Says the first two boxes that meet, and by what they would be apart.
 #[tactic(auto, unfolding(crate::specs::Clashes::first_text))]
 fn say_first(text: &mut Text, told: &Told, first: &Meeting, clash: &Clash)
-    ensures { text.new ≡ text.old ++ model.first_text told.now.lines.now told.now.job.now told.now.run.now first.now clash.now }
+    ensures { text.new ≡ text.old ++ model.first_text told.now.lines.now told.now.job.now
+        told.now.run.now first.now clash.now }
 {
     say_head(text, told, first, &clash.common);
     say_boxes(text, first);
@@ -223,7 +225,8 @@ fn say_group(text: &mut Text, told: &Told, known: &LineTexts, met: &[Meeting], g
 /// Says the pairs of lines of groups.
 fn say_each(text: &mut Text, told: &Told, known: &LineTexts, met: &[Meeting], groups: &[Group])
     requires { AreSaid told.now.lines.now told.now.job.now known.now }
-    ensures { text.new ≡ text.old ++ flat_map (model.group_text told.now.lines.now told.now.job.now met.now) groups.now }
+    ensures { text.new ≡ text.old ++ flat_map
+        (model.group_text told.now.lines.now told.now.job.now met.now) groups.now }
 {
     for group in groups {
         say_group(text, told, known, met, group);
@@ -250,8 +253,9 @@ fn say_met(
     groups: &[Group],
 )
     requires { AreSaid judged.now.lines.now judged.now.job.now known.now }
-    ensures { text.new ≡ text.old ++ (model.first_text judged.now.lines.now judged.now.job.now judged.now.run.now first.now clash.now
-        ++ model.groups_text judged.now.lines.now judged.now.job.now judged.now.met.now groups.now) }
+    ensures { text.new ≡ text.old ++ (model.first_text judged.now.lines.now judged.now.job.now judged.now.run.now
+        first.now clash.now ++ model.groups_text judged.now.lines.now judged.now.job.now
+        judged.now.met.now groups.now) }
 {
     let told = judged.told();
     say_first(text, &told, first, clash);
@@ -269,7 +273,8 @@ fn first_told(
     requires sound { IsSoundJob judged.now.job.now }
     requires fit { All (All IsFit) judged.now.run.now.items }
     requires all { judged.now.met.now ≡ first.now ∷ others.now }
-    ensures { IfOk result (λ all. IsHeaded text (model.IsNoText judged.now.lines.now judged.now.job.now judged.now.run.now first.now others.now) all) }
+    ensures { IfOk result (λ all. IsHeaded text
+        (model.IsNoText judged.now.lines.now judged.now.job.now judged.now.run.now first.now others.now) all) }
 {
     let clash = clash_of(judged.job, judged.run, first);
     let groups = groups_of(alloc, judged.met)?;
@@ -283,7 +288,8 @@ fn first_told(
 pub(crate) fn no_told(alloc: Global, judged: &Judged, text: Text) -> Result<Text, NoMemory>
     requires sound { IsSoundJob judged.now.job.now }
     requires fit { All (All IsFit) judged.now.run.now.items }
-    ensures { IfOk result (λ all. IsHeaded text (model.IsMetText judged.now.lines.now judged.now.job.now judged.now.run.now judged.now.met.now) all) }
+    ensures { IfOk result (λ all. IsHeaded text
+        (model.IsMetText judged.now.lines.now judged.now.job.now judged.now.run.now judged.now.met.now) all) }
 {
     match judged.met {
         [first, others @ ..] => first_told(alloc, judged, text, first, others),

@@ -48,8 +48,8 @@ fn race_explained(alloc: Global, judged: &Judged, race: &Race) -> Text
 fn stuck_explained(alloc: Global, judged: &Judged, channel: ChannelId) -> Text
     requires few { length judged.now.run.now.entries < 2 ^ 32 }
     requires comes { ComesFrom judged.now.start.now judged.now.run.now }
-    ensures { result
-        ≡ stuck_text judged.now.lines.now judged.now.job.now judged.now.run.now (last_board judged.now.start.now judged.now.run.now) channel }
+    ensures { result ≡ stuck_text judged.now.lines.now judged.now.job.now judged.now.run.now
+        (last_board judged.now.start.now judged.now.run.now) channel }
 {
     let mut text = Text::new(alloc);
     say_stuck(&mut text, &judged.told(), judged.start, channel);
@@ -103,9 +103,8 @@ fn say_found(text: &mut Text, channel: ChannelId, found: &[u8])
 fn alarm_told(alloc: Global, judged: &Judged, channel: ChannelId, found: &[u8]) -> Text
     requires few { length judged.now.run.now.entries < 2 ^ 32 }
     requires comes { ComesFrom judged.now.start.now judged.now.run.now }
-    ensures { result
-        ≡ alarm_text judged.now.lines.now judged.now.job.now judged.now.run.now (last_board judged.now.start.now judged.now.run.now) channel
-        ++ model.found_text channel found.now }
+    ensures { result ≡ alarm_text judged.now.lines.now judged.now.job.now judged.now.run.now
+        (last_board judged.now.start.now judged.now.run.now) channel ++ model.found_text channel found.now }
 {
     let mut text = Text::new(alloc);
     say_alarm(&mut text, &judged.told(), judged.start, channel);
@@ -120,7 +119,8 @@ fn alarm_explained(alloc: Global, judged: &Judged, channel: ChannelId) -> Result
     requires few { length judged.now.run.now.entries < 2 ^ 32 }
     requires comes { ComesFrom judged.now.start.now judged.now.run.now }
     requires made { AreEntries (first_board (start_of judged.now.job.now)) judged.now.run.now.entries }
-    ensures { IfOk result (λ text. model.IsAlarmText judged.now.lines.now judged.now.job.now judged.now.start.now judged.now.run.now channel text) }
+    ensures { IfOk result (λ text. model.IsAlarmText judged.now.lines.now judged.now.job.now judged.now.start.now
+        judged.now.run.now channel text) }
 {
     let state = alarm_state(alloc, judged.job, judged.run, channel)?;
     let found = state_told(alloc, judged, &state)?;
@@ -150,7 +150,8 @@ fn no_explained(alloc: Global, judged: &Judged) -> Result<Text, NoMemory>
 fn undecided_explained(alloc: Global, judged: &Judged) -> Result<Text, NoMemory>
     requires whole { IsTold judged.now.job.now judged.now.run.now judged.now.stretches.now judged.now.clocks.now }
     ensures { IfOk result (λ text. model.IsHeaded (headline judged.now.verdict.now)
-        (IsUndecidedText (numbers_of (is_before_in judged.now.clocks.now.rows) judged.now.job.now judged.now.stretches.now)) text) }
+        (IsUndecidedText (numbers_of (is_before_in judged.now.clocks.now.rows) judged.now.job.now
+        judged.now.stretches.now)) text) }
 {
     undecided_told(alloc, judged, headed(alloc, judged.verdict))
 }
@@ -161,8 +162,8 @@ fn yes_explained(alloc: Global, judged: &Judged) -> Result<Text, NoMemory>
     requires whole { IsTold judged.now.job.now judged.now.run.now judged.now.stretches.now judged.now.clocks.now }
     requires fit { All (All IsFit) judged.now.run.now.items }
     ensures { IfOk result (λ text. model.IsHeaded
-        (yes_line (model.zones_told judged.now.job.now judged.now.run.now judged.now.clocks.now judged.now.stretches.now))
-        (IsYesText judged.now.lines.now judged.now.job.now judged.now.run.now
+        (yes_line (model.zones_told judged.now.job.now judged.now.run.now judged.now.clocks.now
+        judged.now.stretches.now)) (IsYesText judged.now.lines.now judged.now.job.now judged.now.run.now
         (model.zones_told judged.now.job.now judged.now.run.now judged.now.clocks.now judged.now.stretches.now)
         (compared_pairs (is_before_in judged.now.clocks.now.rows) judged.now.job.now judged.now.stretches.now)) text) }
 {
@@ -187,8 +188,9 @@ fn verdict_explained(alloc: Global, judged: &Judged) -> Result<Text, NoMemory>
     requires few { length judged.now.run.now.entries < 2 ^ 32 }
     requires comes { ComesFrom judged.now.start.now judged.now.run.now }
     requires made { AreEntries (first_board (start_of judged.now.job.now)) judged.now.run.now.entries }
-    ensures { IfOk result (λ text. model.IsVerdictText judged.now.lines.now judged.now.job.now judged.now.start.now judged.now.run.now judged.now.clocks.now
-        judged.now.stretches.now judged.now.met.now judged.now.verdict.now text) }
+    ensures { IfOk result (λ text. model.IsVerdictText judged.now.lines.now judged.now.job.now judged.now.start.now
+        judged.now.run.now judged.now.clocks.now judged.now.stretches.now judged.now.met.now
+        judged.now.verdict.now text) }
 {
     match judged.verdict {
         Verdict::Race(race) => Ok(race_explained(alloc, judged, race)),
@@ -219,8 +221,9 @@ pub(crate) fn explain(alloc: Global, judged: &Judged) -> Result<Vec<u8>, NoMemor
     requires few { length judged.now.run.now.entries < 2 ^ 32 }
     requires comes { ComesFrom judged.now.start.now judged.now.run.now }
     requires made { AreEntries (first_board (start_of judged.now.job.now)) judged.now.run.now.entries }
-    ensures { IfOk result (λ text. model.IsExplained judged.now.lines.now judged.now.job.now judged.now.start.now judged.now.run.now judged.now.clocks.now
-        judged.now.stretches.now judged.now.met.now judged.now.verdict.now text.items) }
+    ensures { IfOk result (λ text. model.IsExplained judged.now.lines.now judged.now.job.now judged.now.start.now
+        judged.now.run.now judged.now.clocks.now judged.now.stretches.now judged.now.met.now
+        judged.now.verdict.now text.items) }
 {
     let mut text = verdict_explained(alloc, judged)?;
     let rows = assumptions_of(alloc, judged.job, judged.run)?;

@@ -55,8 +55,10 @@ pub(crate) fn judge_job<W: Watch>(
 /// All boxes that meet.
 fn all_met(alloc: Global, job: &Job, judgement: &Judgement) -> Result<Vec<Meeting>, NoMemory>
     requires accepted { IsSoundJob job.now }
-    requires judged { IsExplainedBy job.now judgement.now.run judgement.now.clocks judgement.now.stretches judgement.now.verdict }
-    ensures { IfOk result (λ met. met.items ≡ meetings_of (is_before_in judgement.now.clocks.rows) job.now judgement.now.run judgement.now.stretches) }
+    requires judged { IsExplainedBy job.now judgement.now.run judgement.now.clocks
+        judgement.now.stretches judgement.now.verdict }
+    ensures { IfOk result (λ met. met.items ≡ meetings_of (is_before_in judgement.now.clocks.rows) job.now
+        judgement.now.run judgement.now.stretches) }
 {
     meetings_of(
         alloc,
@@ -74,8 +76,10 @@ pub(crate) fn met_in(
     judgement: &Judgement,
 ) -> Result<Vec<Meeting>, NoMemory>
     requires accepted { IsSoundJob job.now }
-    requires judged { IsExplainedBy job.now judgement.now.run judgement.now.clocks judgement.now.stretches judgement.now.verdict }
-    ensures { IfOk result (λ met. AreMet (is_before_in judgement.now.clocks.rows) job.now judgement.now.run judgement.now.stretches judgement.now.verdict met.items) }
+    requires judged { IsExplainedBy job.now judgement.now.run judgement.now.clocks
+        judgement.now.stretches judgement.now.verdict }
+    ensures { IfOk result (λ met. AreMet (is_before_in judgement.now.clocks.rows) job.now judgement.now.run
+        judgement.now.stretches judgement.now.verdict met.items) }
 {
     match judgement.verdict {
         Verdict::No(_, _) => all_met(alloc, job, judgement),

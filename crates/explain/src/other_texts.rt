@@ -72,7 +72,8 @@ fn say_near(text: &mut Text, told: &Told, near: &Near)
 
 /// Says how near each two groups come to each other.
 fn say_all_near(text: &mut Text, told: &Told, rows: &[Near])
-    ensures { text.new ≡ text.old ++ flat_map (room.near_text told.now.lines.now told.now.job.now told.now.run.now) rows.now }
+    ensures { text.new ≡ text.old ++ flat_map
+        (room.near_text told.now.lines.now told.now.job.now told.now.run.now) rows.now }
 {
     for near in rows {
         say_near(text, told, near);
@@ -82,7 +83,8 @@ fn say_all_near(text: &mut Text, told: &Told, rows: &[Near])
 /// Says how near each two groups come to each other, and of each two zones whether they were compared.
 #[tactic(auto, unfolding(crate::specs::Room::nears_text))]
 fn say_nears(text: &mut Text, told: &Told, rows: &[Near], zones: &[ZonePair])
-    ensures { text.new ≡ text.old ++ room.nears_text told.now.lines.now told.now.job.now told.now.run.now rows.now zones.now }
+    ensures { text.new ≡ text.old ++ room.nears_text told.now.lines.now told.now.job.now
+        told.now.run.now rows.now zones.now }
 {
     say_all_near(text, told, rows);
     say_zone_pairs(text, zones);
@@ -99,7 +101,8 @@ pub(crate) fn yes_told(
     requires sound { IsSoundJob judged.now.job.now }
     requires whole { IsTold judged.now.job.now judged.now.run.now judged.now.stretches.now judged.now.clocks.now }
     requires fit { All (All IsFit) judged.now.run.now.items }
-    ensures { IfOk result (λ all. IsHeaded text (room.IsYesText judged.now.lines.now judged.now.job.now judged.now.run.now zones.now
+    ensures { IfOk result (λ all. IsHeaded text
+        (room.IsYesText judged.now.lines.now judged.now.job.now judged.now.run.now zones.now
         (compared_pairs (is_before_in judged.now.clocks.now.rows) judged.now.job.now judged.now.stretches.now)) all) }
 {
     let rows = nearest_of(

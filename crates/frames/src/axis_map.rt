@@ -132,7 +132,8 @@ impl AxisMap {
     /// Where half of `twice` millionths of a millimetre goes, with an offset in micrometres; or
     /// alarm 13.
     pub(crate) fn end(&self, twice: i64, offset: Um) -> Result<(u8, Um), u16>
-        ensures { GivesPlace self.now.slot (half_away (place_sum self.now twice offset) 2000000000) POSITION_LIMIT result }
+        ensures { GivesPlace self.now.slot (half_away (place_sum self.now twice offset)
+            2000000000) POSITION_LIMIT result }
     {
         in_slot(
             self.slot,

@@ -18,7 +18,8 @@ pub fn image_is_of_the_chain()
 /// A law: shifts of one axis, one after the other, are the shift by their sum.
 pub fn shifts_add_up()
     ensures { (axis : ℕ) (values : List ℤ) (p : Point)
-        → IsSamePoint (mapped_point (map (shifting axis) values) p) (mapped_point (shifting axis (total values) ∷ []) p) }
+        → IsSamePoint (mapped_point (map (shifting axis) values) p)
+        (mapped_point (shifting axis (total values) ∷ []) p) }
 {}
 
 /// A law: four turns of 90 degrees are none, a turn of -90 undoes one of 90, and a mirror undoes

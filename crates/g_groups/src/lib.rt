@@ -150,9 +150,12 @@ pub fn table_is_sound()
     ensures rapids { IsNamed RAPID_GROUP RTLION (codes "RTLION") × IsNamed RAPID_GROUP RTLIOF (codes "RTLIOF") }
     ensures blocks { IsNamed BLOCK_GROUP SUPA (codes "SUPA") }
     ensures approaches { IsNamed APPROACH_GROUP NORM (codes "NORM") × IsNamed APPROACH_GROUP KONT (codes "KONT") }
-    ensures accelerations { IsNamed ACCELERATION_GROUP BRISK (codes "BRISK") × IsNamed ACCELERATION_GROUP SOFT (codes "SOFT") }
-    ensures feeds_forward { IsNamed FEED_FORWARD_GROUP FFWON (codes "FFWON") × IsNamed FEED_FORWARD_GROUP FFWOF (codes "FFWOF") }
-    ensures area_switches { IsNamed AREA_SWITCH_GROUP WALIMON (codes "WALIMON") × IsNamed AREA_SWITCH_GROUP WALIMOF (codes "WALIMOF") }
+    ensures accelerations { IsNamed ACCELERATION_GROUP BRISK (codes "BRISK")
+        × IsNamed ACCELERATION_GROUP SOFT (codes "SOFT") }
+    ensures feeds_forward { IsNamed FEED_FORWARD_GROUP FFWON (codes "FFWON")
+        × IsNamed FEED_FORWARD_GROUP FFWOF (codes "FFWOF") }
+    ensures area_switches { IsNamed AREA_SWITCH_GROUP WALIMON (codes "WALIMON")
+        × IsNamed AREA_SWITCH_GROUP WALIMOF (codes "WALIMOF") }
     ensures diameters { IsNamed DIAMETER_GROUP DIAMON (codes "DIAMON") × IsNamed DIAMETER_GROUP DIAMOF (codes "DIAMOF")
         × IsNamed DIAMETER_GROUP DIAM90 (codes "DIAM90") }
 {}

@@ -50,7 +50,8 @@ fn last_place(text: &[u8], mark: &[u8]) -> Option<usize>
 
 /// What stands before and behind a mark in a text, where it last stands; nothing where it does not stand in it.
 fn after_last<'a>(text: &'a [u8], mark: &[u8]) -> Option<(&'a [u8], &'a [u8])>
-    ensures { MatchOption result (model.parts_of mark.now text.now ≡ None) (λ parts. model.parts_of mark.now text.now ≡ Some (parts.0.now, parts.1.now)) }
+    ensures { MatchOption result (model.parts_of mark.now text.now ≡ None) (λ parts. model.parts_of mark.now text.now
+        ≡ Some (parts.0.now, parts.1.now)) }
 {
     match last_place(text, mark) {
         Some(place) => Some((&text[..place], &text[place + mark.len()..])),
@@ -77,7 +78,8 @@ fn number_of(digits: &[u8]) -> u32
 /// The file that a header names, and the line of the file that is the header, or 0 where the file has none.
 #[tactic(auto, unfolding(crate::specs::Origins::origin_in))]
 fn origin_in(header: &[u8]) -> Option<Origin<'_>>
-    ensures { MatchOption result (model.origin_in header.now ≡ None) (λ origin. model.origin_in header.now ≡ Some (origin.file.now, origin.line)) }
+    ensures { MatchOption result (model.origin_in header.now ≡ None) (λ origin. model.origin_in header.now
+        ≡ Some (origin.file.now, origin.line)) }
 {
     match after_last(header, FILE_MARK) {
         Some((_, comment)) => match after_last(comment, LINE_MARK) {
@@ -119,7 +121,8 @@ fn header_line(lines: &Lines, line: u32) -> u32
 /// From which line of which file a line of a joined input comes; nothing where no header names one.
 #[tactic(auto, unfolding(crate::specs::Origins::origin_at))]
 pub fn origin_of<'a>(lines: &Lines<'a>, line: u32) -> Option<Origin<'a>>
-    ensures { MatchOption result (model.origin_at lines.now line ≡ None) (λ origin. model.origin_at lines.now line ≡ Some (origin.file.now, origin.line)) }
+    ensures { MatchOption result (model.origin_at lines.now line ≡ None) (λ origin. model.origin_at lines.now line
+        ≡ Some (origin.file.now, origin.line)) }
 {
     let header = header_line(lines, line);
     if header == 0 {

@@ -386,7 +386,8 @@ fn zone_declaration_in(
     lz: &[u8],
     hz: &[u8],
 ) -> Result<Declaration, Code>
-    ensures { result ≡ zone_declaration_of zone.now group.now holder.now state.now cx.now lx.now hx.now cy.now ly.now hy.now cz.now lz.now hz.now }
+    ensures { result ≡ zone_declaration_of zone.now group.now holder.now state.now cx.now lx.now hx.now cy.now
+        ly.now hy.now cz.now lz.now hz.now }
 {
     let on = state_in(state)?;
     let zone = zone_in(zone)?;

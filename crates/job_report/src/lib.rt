@@ -34,9 +34,12 @@ use sync_types::{Run, Verdict};
 pub fn report<K: Sink>(job: &Job, run: &Run, verdict: &Verdict, sink: &mut K) -> Result<(), Failed>
     requires listed { All IsListedEnd run.now.ends }
     requires few { K.faults sink.old < 2 ^ 64 - 1 }
-    ensures whole { OnOk result (Grows (K.written sink.old) (K.written sink.new) (report_bytes job.now run.now verdict.now)) }
-    ensures number { OnOk result (Counts (K.count sink.old) (K.count sink.new) (length (report_bytes job.now run.now verdict.now))) }
-    ensures front { OnErr result (GrowsByFront (K.written sink.old) (K.written sink.new) (report_bytes job.now run.now verdict.now)) }
+    ensures whole { OnOk result (Grows (K.written sink.old) (K.written sink.new)
+        (report_bytes job.now run.now verdict.now)) }
+    ensures number { OnOk result (Counts (K.count sink.old) (K.count sink.new)
+        (length (report_bytes job.now run.now verdict.now))) }
+    ensures front { OnErr result (GrowsByFront (K.written sink.old) (K.written sink.new)
+        (report_bytes job.now run.now verdict.now)) }
     ensures cause { HasCause (K.faults sink.old) (K.faults sink.new) result }
 {
     let mut page = Page::new();
@@ -64,9 +67,12 @@ pub fn refused<K: Sink>(refusal: &Refusal, sink: &mut K) -> Result<(), Failed>
 /// The first write that fails ends the call, and nothing is written after it.
 pub fn summary<K: Sink>(figures: &Figures, verdict: &Verdict, sink: &mut K) -> Result<(), Failed>
     requires { K.faults sink.old < 2 ^ 64 - 1 }
-    ensures whole { OnOk result (Grows (K.written sink.old) (K.written sink.new) (summary_bytes figures.now verdict.now)) }
-    ensures number { OnOk result (Counts (K.count sink.old) (K.count sink.new) (length (summary_bytes figures.now verdict.now))) }
-    ensures front { OnErr result (GrowsByFront (K.written sink.old) (K.written sink.new) (summary_bytes figures.now verdict.now)) }
+    ensures whole { OnOk result (Grows (K.written sink.old) (K.written sink.new)
+        (summary_bytes figures.now verdict.now)) }
+    ensures number { OnOk result (Counts (K.count sink.old) (K.count sink.new)
+        (length (summary_bytes figures.now verdict.now))) }
+    ensures front { OnErr result (GrowsByFront (K.written sink.old) (K.written sink.new)
+        (summary_bytes figures.now verdict.now)) }
     ensures cause { HasCause (K.faults sink.old) (K.faults sink.new) result }
 {
     let mut page = Page::new();

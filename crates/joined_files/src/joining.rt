@@ -135,7 +135,8 @@ fn put_file(alloc: Global, text: &mut Text, path: &[u8], bytes: &[u8]) -> Result
 
 /// Writes files, one after another. `NoMemory` where too little memory is found.
 fn put_files(alloc: Global, text: &mut Text, files: &[ControlFile]) -> Result<(), NoMemory>
-    ensures { IfOk result (λ _. text.new ≡ text.old ++ flat_map (λ file. model.file_text file.path.now file.bytes.now) files.now) }
+    ensures { IfOk result (λ _. text.new ≡ text.old
+        ++ flat_map (λ file. model.file_text file.path.now file.bytes.now) files.now) }
 {
     for file in files {
         put_file(alloc, text, file.path.as_bytes(), file.bytes)?;
@@ -168,7 +169,8 @@ fn put_ended(text: &mut Text, bytes: &[u8])
 /// `NoMemory` where too little memory is found.
 #[tactic(auto, unfolding(crate::specs::Joined::joined))]
 pub fn joined_input(alloc: Global, list: &[u8], files: &[ControlFile]) -> Result<Vec<u8>, NoMemory>
-    ensures { IfOk result (λ input. input.items ≡ model.joined list.now (flat_map (λ file. model.file_text file.path.now file.bytes.now) files.now)) }
+    ensures { IfOk result (λ input. input.items
+        ≡ model.joined list.now (flat_map (λ file. model.file_text file.path.now file.bytes.now) files.now)) }
 {
     let mut text = Text::new(alloc);
     put_ended(&mut text, without_mark(list));

@@ -104,7 +104,8 @@ fn count_by_halves(clocks: &Clocks, ended: bool, own: &Stretch, others: &[Stretc
 /// Whether so many stretches pass before the first that does not.
 fn do_pass(clocks: &Clocks, ended: bool, own: &Stretch, others: &[Stretch], count: usize) -> bool
     requires { model.PassFirst (model.passes (is_before_in clocks.now.rows) ended own.now) others.now }
-    ensures { result ≡ nat_le count (model.leading (model.passes (is_before_in clocks.now.rows) ended own.now) others.now) }
+    ensures { result ≡ nat_le count (model.leading
+        (model.passes (is_before_in clocks.now.rows) ended own.now) others.now) }
 {
     if count == 0 {
         return true;
@@ -118,7 +119,8 @@ fn do_pass(clocks: &Clocks, ended: bool, own: &Stretch, others: &[Stretch], coun
 /// Whether so many pass and no more.
 fn is_count(clocks: &Clocks, ended: bool, own: &Stretch, others: &[Stretch], count: usize) -> bool
     requires { model.PassFirst (model.passes (is_before_in clocks.now.rows) ended own.now) others.now }
-    ensures { result ≡ true → count ≡ model.leading (model.passes (is_before_in clocks.now.rows) ended own.now) others.now }
+    ensures { result ≡ true → count ≡ model.leading
+        (model.passes (is_before_in clocks.now.rows) ended own.now) others.now }
 {
     do_pass(clocks, ended, own, others, count)
         && !do_pass(clocks, ended, own, others, count.saturating_add(1))
@@ -179,8 +181,10 @@ pub(crate) fn near_part<'a>(
     ascend: bool,
     range: &mut Range,
 ) -> &'a [Stretch]
-    requires { ascend ≡ true → (ended : Bool) → model.PassFirst (model.passes (is_before_in clocks.now.rows) ended own.now) others.now }
-    ensures { filter (may_overlap (is_before_in clocks.now.rows) own.now) result.now ≡ filter (may_overlap (is_before_in clocks.now.rows) own.now) others.now }
+    requires { ascend ≡ true → (ended : Bool)
+        → model.PassFirst (model.passes (is_before_in clocks.now.rows) ended own.now) others.now }
+    ensures { filter (may_overlap (is_before_in clocks.now.rows) own.now) result.now
+        ≡ filter (may_overlap (is_before_in clocks.now.rows) own.now) others.now }
 {
     if ascend {
         let found = range_near(clocks, own, others, *range);

@@ -55,8 +55,8 @@ fn count_in_boxes(left: &Stretch, right: &Stretch) -> u64
 
 /// How many boxes of two stretches are compared.
 fn count_in_stretches(clocks: &Clocks, left: &Held, right: &Held) -> u64
-    ensures { result ≡ capped (length (stretch_pairs (is_before_in clocks.now.rows) left.now.zone.now left.now.stretch.now
-        right.now.zone.now right.now.stretch.now)) }
+    ensures { result ≡ capped (length (stretch_pairs (is_before_in clocks.now.rows) left.now.zone.now
+        left.now.stretch.now right.now.zone.now right.now.stretch.now)) }
 {
     if may_overlap(clocks, left.stretch, right.stretch) {
         count_in_boxes(left.stretch, right.stretch)
@@ -109,7 +109,8 @@ fn count_in_zones(
 ) -> u64
     requires { IsTimed (is_before_in clocks.now.rows) (owns.now ∷ (others.now ∷ [])) }
     ensures { result ≡ capped (length (flat_map
-        (λ left. flat_map (stretch_pairs (is_before_in clocks.now.rows) zone.now left other.now) others.now) owns.now)) }
+        (λ left. flat_map (stretch_pairs (is_before_in clocks.now.rows) zone.now left other.now) others.now)
+        owns.now)) }
 {
     let ascend = do_ascend(clocks, others);
     let mut range = Range { from: 0, upto: 0 };

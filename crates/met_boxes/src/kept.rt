@@ -34,7 +34,8 @@ pub(crate) fn are_kept(left: &Held, place: usize) -> bool
 /// Adds places of which nothing is kept, until there are as many as this.
 fn have_places(alloc: Global, kept: &mut Vec<PartedLot>, count: usize) -> Result<(), AllocError>
     ensures places { OnOk result (count ≤ length kept.new.items) }
-    ensures kept { OnOk result ((job : JobView) → (run : RunView) → (zone : ZoneLine) → (stretch : StretchView) → AreKept job run zone stretch kept.old.items → AreKept job run zone stretch kept.new.items) }
+    ensures kept { OnOk result ((job : JobView) → (run : RunView) → (zone : ZoneLine) → (stretch : StretchView)
+        → AreKept job run zone stretch kept.old.items → AreKept job run zone stretch kept.new.items) }
 {
     for place in kept.len()..count {
         kept.push(PartedLot::new(alloc))?;
@@ -46,7 +47,8 @@ fn have_places(alloc: Global, kept: &mut Vec<PartedLot>, count: usize) -> Result
 pub(crate) fn lot_of(scene: &Scene, held: &Held, own: &ZoneBox) -> Result<PartedLot, AllocError>
     requires fit { All (All IsFit) scene.now.run.now.items }
     requires deep { scene.now.job.now.depth ≤ DEPTH_LIMIT }
-    ensures { IfOk result (λ made. made ≡ piece_boxes scene.now.job.now scene.now.run.now (place_of held.now.zone.now held.now.stretch.now own.now)) }
+    ensures { IfOk result (λ made. made ≡ piece_boxes scene.now.job.now scene.now.run.now
+        (place_of held.now.zone.now held.now.stretch.now own.now)) }
 {
     let boxes = boxes_by_pieces(scene.job, scene.run, held.zone, held.stretch, own);
     PartedLot::over(scene.alloc, boxes.as_slice())
@@ -64,8 +66,11 @@ fn make_at(
     requires deep { scene.now.job.now.depth ≤ DEPTH_LIMIT }
     requires place { place < length kept.old.items }
     ensures len { OnOk result (length kept.new.items ≡ length kept.old.items) }
-    ensures kept { OnOk result ((made : List Box3) → IsKeptAt kept.new.items place made → made ≡ piece_boxes scene.now.job.now scene.now.run.now (place_of right.now.zone.now right.now.stretch.now later.now)) }
-    ensures others { OnOk result ((other : ℕ) → (made : List Box3) → (other ≡ place → ⊥) → IsKeptAt kept.new.items other made → IsKeptAt kept.old.items other made) }
+    ensures kept { OnOk result ((made : List Box3) → IsKeptAt kept.new.items place made
+        → made ≡ piece_boxes scene.now.job.now scene.now.run.now
+        (place_of right.now.zone.now right.now.stretch.now later.now)) }
+    ensures others { OnOk result ((other : ℕ) → (made : List Box3) → (other ≡ place → ⊥)
+        → IsKeptAt kept.new.items other made → IsKeptAt kept.old.items other made) }
 {
     let made = lot_of(scene, right, later)?;
     kept[place] = made;
@@ -83,11 +88,15 @@ fn make_once(
     requires fit { All (All IsFit) scene.now.run.now.items }
     requires deep { scene.now.job.now.depth ≤ DEPTH_LIMIT }
     requires later { IsAt right.now.stretch.now.boxes place later.now }
-    requires kept { AreKept scene.now.job.now scene.now.run.now right.now.zone.now right.now.stretch.now kept.old.items }
+    requires kept { AreKept scene.now.job.now scene.now.run.now right.now.zone.now
+        right.now.stretch.now kept.old.items }
     requires place { place < length kept.old.items }
     ensures place { OnOk result (place < length kept.new.items) }
-    ensures kept { OnOk result (AreKept scene.now.job.now scene.now.run.now right.now.zone.now right.now.stretch.now kept.new.items) }
-    ensures made { OnOk result ((made : List Box3) → IsKeptAt kept.new.items place made → made ≡ piece_boxes scene.now.job.now scene.now.run.now (place_of right.now.zone.now right.now.stretch.now later.now)) }
+    ensures kept { OnOk result (AreKept scene.now.job.now scene.now.run.now right.now.zone.now
+        right.now.stretch.now kept.new.items) }
+    ensures made { OnOk result ((made : List Box3) → IsKeptAt kept.new.items place made
+        → made ≡ piece_boxes scene.now.job.now scene.now.run.now
+        (place_of right.now.zone.now right.now.stretch.now later.now)) }
 {
     if kept[place].is_empty() {
         make_at(kept, scene, right, place, later)?;
@@ -107,10 +116,14 @@ pub(crate) fn keep_at(
     requires deep { scene.now.job.now.depth ≤ DEPTH_LIMIT }
     requires later { IsAt right.now.stretch.now.boxes place later.now }
     requires small { place < KEPT_LIMIT }
-    requires kept { AreKept scene.now.job.now scene.now.run.now right.now.zone.now right.now.stretch.now kept.old.items }
+    requires kept { AreKept scene.now.job.now scene.now.run.now right.now.zone.now
+        right.now.stretch.now kept.old.items }
     ensures place { OnOk result (place < length kept.new.items) }
-    ensures kept { OnOk result (AreKept scene.now.job.now scene.now.run.now right.now.zone.now right.now.stretch.now kept.new.items) }
-    ensures made { OnOk result ((made : List Box3) → IsKeptAt kept.new.items place made → made ≡ piece_boxes scene.now.job.now scene.now.run.now (place_of right.now.zone.now right.now.stretch.now later.now)) }
+    ensures kept { OnOk result (AreKept scene.now.job.now scene.now.run.now right.now.zone.now
+        right.now.stretch.now kept.new.items) }
+    ensures made { OnOk result ((made : List Box3) → IsKeptAt kept.new.items place made
+        → made ≡ piece_boxes scene.now.job.now scene.now.run.now
+        (place_of right.now.zone.now right.now.stretch.now later.now)) }
 {
     have_places(scene.alloc, kept, place + 1)?;
     make_once(kept, scene, right, place, later)?;

@@ -75,7 +75,11 @@ pub fn told_box(stretch: &Stretch, own: &ZoneBox) -> Place
 
 /// What is told of a box of each of two stretches.
 fn told_pair(left: &Held, own: &ZoneBox, right: &Held, later: &ZoneBox) -> Meeting
-    ensures { result ≡ told_pair (model.place_of left.now.zone.now left.now.stretch.now own.now, model.place_of right.now.zone.now right.now.stretch.now later.now) }
+    ensures { result ≡ told_pair (
+      model.place_of left.now.zone.now left.now.stretch.now own.now,
+      model.place_of
+          right.now.zone.now right.now.stretch.now later.now,
+    ) }
 {
     Meeting {
         left: told_box(left.stretch, own),
@@ -131,7 +135,12 @@ fn add_by_pieces(
     later: &ZoneBox,
     others: &PartedLot,
 ) -> Result<(), AllocError>
-    ensures { OnOk result (list.new.items ≡ list.old.items ++ (if lots_meet pieces.now others.now then told_pair (model.place_of left.now.zone.now left.now.stretch.now own.now, model.place_of right.now.zone.now right.now.stretch.now later.now) ∷ [] else [])) }
+    ensures { OnOk result (list.new.items ≡ list.old.items
+        ++ (if lots_meet pieces.now others.now then told_pair (
+          model.place_of left.now.zone.now left.now.stretch.now own.now,
+          model.place_of right.now.zone.now
+              right.now.stretch.now later.now,
+        ) ∷ [] else [])) }
 {
     if pieces.meets(others) {
         add(list, &told_pair(left, own, right, later))?;
@@ -154,12 +163,21 @@ fn add_one(
 ) -> Result<(), AllocError>
     requires fit { All (All IsFit) scene.now.run.now.items }
     requires deep { scene.now.job.now.depth ≤ DEPTH_LIMIT }
-    requires pieces { pieces.now ≡ piece_boxes scene.now.job.now scene.now.run.now (model.place_of left.now.zone.now left.now.stretch.now own.now) }
+    requires pieces { pieces.now ≡ piece_boxes scene.now.job.now scene.now.run.now
+        (model.place_of left.now.zone.now left.now.stretch.now own.now) }
     requires later { IsAt right.now.stretch.now.boxes place later.now }
-    requires kept { AreKept scene.now.job.now scene.now.run.now right.now.zone.now right.now.stretch.now kept.old.items }
-    ensures kept { OnOk result (AreKept scene.now.job.now scene.now.run.now right.now.zone.now right.now.stretch.now kept.new.items) }
-    ensures met { OnOk result (list.new.items ≡ list.old.items ++ model.met_one (record { job = scene.now.job.now; run = scene.now.run.now; before = is_before_in scene.now.clocks.now.rows })
-        (model.place_of left.now.zone.now left.now.stretch.now own.now) right.now.zone.now right.now.stretch.now later.now) }
+    requires kept { AreKept scene.now.job.now scene.now.run.now right.now.zone.now
+        right.now.stretch.now kept.old.items }
+    ensures kept { OnOk result (AreKept scene.now.job.now scene.now.run.now right.now.zone.now
+        right.now.stretch.now kept.new.items) }
+    ensures met { OnOk result (list.new.items ≡ list.old.items
+        ++ model.met_one (record {
+          job = scene.now.job.now;
+          run = scene.now.run.now;
+          before = is_before_in scene.now.clocks.now.rows;
+        })
+        (model.place_of left.now.zone.now left.now.stretch.now own.now) right.now.zone.now
+        right.now.stretch.now later.now) }
 {
     if !may_meet(left, own, right, later) {
         return Ok(());
@@ -188,12 +206,21 @@ fn add_each(
 ) -> Result<(), AllocError>
     requires fit { All (All IsFit) scene.now.run.now.items }
     requires deep { scene.now.job.now.depth ≤ DEPTH_LIMIT }
-    requires pieces { pieces.now ≡ piece_boxes scene.now.job.now scene.now.run.now (model.place_of left.now.zone.now left.now.stretch.now own.now) }
+    requires pieces { pieces.now ≡ piece_boxes scene.now.job.now scene.now.run.now
+        (model.place_of left.now.zone.now left.now.stretch.now own.now) }
     requires laters { laters.now ≡ right.now.stretch.now.boxes }
-    requires kept { AreKept scene.now.job.now scene.now.run.now right.now.zone.now right.now.stretch.now kept.old.items }
-    ensures kept { OnOk result (AreKept scene.now.job.now scene.now.run.now right.now.zone.now right.now.stretch.now kept.new.items) }
-    ensures met { OnOk result (list.new.items ≡ list.old.items ++ flat_map (model.met_one (record { job = scene.now.job.now; run = scene.now.run.now; before = is_before_in scene.now.clocks.now.rows })
-        (model.place_of left.now.zone.now left.now.stretch.now own.now) right.now.zone.now right.now.stretch.now) laters.now) }
+    requires kept { AreKept scene.now.job.now scene.now.run.now right.now.zone.now
+        right.now.stretch.now kept.old.items }
+    ensures kept { OnOk result (AreKept scene.now.job.now scene.now.run.now right.now.zone.now
+        right.now.stretch.now kept.new.items) }
+    ensures met { OnOk result (list.new.items ≡ list.old.items
+        ++ flat_map (model.met_one (record {
+          job = scene.now.job.now;
+          run = scene.now.run.now;
+          before = is_before_in scene.now.clocks.now.rows;
+        })
+        (model.place_of left.now.zone.now left.now.stretch.now own.now) right.now.zone.now
+        right.now.stretch.now) laters.now) }
 {
     for place in 0..laters.len() {
         let later = &laters[place];
@@ -213,10 +240,17 @@ fn add_by(
 ) -> Result<(), AllocError>
     requires fit { All (All IsFit) scene.now.run.now.items }
     requires deep { scene.now.job.now.depth ≤ DEPTH_LIMIT }
-    requires kept { AreKept scene.now.job.now scene.now.run.now right.now.zone.now right.now.stretch.now kept.old.items }
-    ensures kept { OnOk result (AreKept scene.now.job.now scene.now.run.now right.now.zone.now right.now.stretch.now kept.new.items) }
-    ensures met { OnOk result (list.new.items ≡ list.old.items ++ model.met_by (record { job = scene.now.job.now; run = scene.now.run.now; before = is_before_in scene.now.clocks.now.rows })
-        right.now.zone.now right.now.stretch.now (model.place_of left.now.zone.now left.now.stretch.now own.now)) }
+    requires kept { AreKept scene.now.job.now scene.now.run.now right.now.zone.now
+        right.now.stretch.now kept.old.items }
+    ensures kept { OnOk result (AreKept scene.now.job.now scene.now.run.now right.now.zone.now
+        right.now.stretch.now kept.new.items) }
+    ensures met { OnOk result (list.new.items ≡ list.old.items
+        ++ model.met_by (record {
+          job = scene.now.job.now;
+          run = scene.now.run.now;
+          before = is_before_in scene.now.clocks.now.rows;
+        }) right.now.zone.now right.now.stretch.now
+        (model.place_of left.now.zone.now left.now.stretch.now own.now)) }
 {
     let other = right.stretch;
     let laters = other.boxes.as_slice();
@@ -239,10 +273,17 @@ fn add_owns(
 ) -> Result<(), AllocError>
     requires fit { All (All IsFit) scene.now.run.now.items }
     requires deep { scene.now.job.now.depth ≤ DEPTH_LIMIT }
-    requires kept { AreKept scene.now.job.now scene.now.run.now right.now.zone.now right.now.stretch.now kept.old.items }
-    ensures kept { OnOk result (AreKept scene.now.job.now scene.now.run.now right.now.zone.now right.now.stretch.now kept.new.items) }
-    ensures met { OnOk result (list.new.items ≡ list.old.items ++ flat_map (λ own. model.met_by (record { job = scene.now.job.now; run = scene.now.run.now; before = is_before_in scene.now.clocks.now.rows })
-        right.now.zone.now right.now.stretch.now (model.place_of left.now.zone.now left.now.stretch.now own)) owns.now) }
+    requires kept { AreKept scene.now.job.now scene.now.run.now right.now.zone.now
+        right.now.stretch.now kept.old.items }
+    ensures kept { OnOk result (AreKept scene.now.job.now scene.now.run.now right.now.zone.now
+        right.now.stretch.now kept.new.items) }
+    ensures met { OnOk result (list.new.items ≡ list.old.items
+        ++ flat_map (λ own. model.met_by (record {
+          job = scene.now.job.now;
+          run = scene.now.run.now;
+          before = is_before_in scene.now.clocks.now.rows;
+        }) right.now.zone.now right.now.stretch.now
+        (model.place_of left.now.zone.now left.now.stretch.now own)) owns.now) }
 {
     for own in owns {
         add_by(list, kept, scene, left, own, right)?;
@@ -259,8 +300,13 @@ fn add_in_boxes(
 ) -> Result<(), AllocError>
     requires fit { All (All IsFit) scene.now.run.now.items }
     requires deep { scene.now.job.now.depth ≤ DEPTH_LIMIT }
-    ensures { OnOk result (list.new.items ≡ list.old.items ++ model.met_in_boxes (record { job = scene.now.job.now; run = scene.now.run.now; before = is_before_in scene.now.clocks.now.rows })
-        left.now.zone.now left.now.stretch.now right.now.zone.now right.now.stretch.now) }
+    ensures { OnOk result (list.new.items ≡ list.old.items
+        ++ model.met_in_boxes (record {
+          job = scene.now.job.now;
+          run = scene.now.run.now;
+          before = is_before_in scene.now.clocks.now.rows;
+        }) left.now.zone.now left.now.stretch.now
+        right.now.zone.now right.now.stretch.now) }
 {
     let stretch = left.stretch;
     let owns = stretch.boxes.as_slice();
@@ -279,8 +325,13 @@ fn add_in_stretches(
 ) -> Result<(), AllocError>
     requires fit { All (All IsFit) scene.now.run.now.items }
     requires deep { scene.now.job.now.depth ≤ DEPTH_LIMIT }
-    ensures { OnOk result (list.new.items ≡ list.old.items ++ model.met_in_stretches (record { job = scene.now.job.now; run = scene.now.run.now; before = is_before_in scene.now.clocks.now.rows })
-        left.now.zone.now left.now.stretch.now right.now.zone.now right.now.stretch.now) }
+    ensures { OnOk result (list.new.items ≡ list.old.items
+        ++ model.met_in_stretches (record {
+          job = scene.now.job.now;
+          run = scene.now.run.now;
+          before = is_before_in scene.now.clocks.now.rows;
+        }) left.now.zone.now left.now.stretch.now
+        right.now.zone.now right.now.stretch.now) }
 {
     if may_overlap(scene.clocks, left.stretch, right.stretch) {
         add_in_boxes(list, scene, left, right)?;
@@ -298,8 +349,13 @@ fn add_against(
 ) -> Result<(), AllocError>
     requires fit { All (All IsFit) scene.now.run.now.items }
     requires deep { scene.now.job.now.depth ≤ DEPTH_LIMIT }
-    ensures { OnOk result (list.new.items ≡ list.old.items ++ flat_map (model.met_in_stretches (record { job = scene.now.job.now; run = scene.now.run.now; before = is_before_in scene.now.clocks.now.rows })
-        left.now.zone.now left.now.stretch.now other.now) others.now) }
+    ensures { OnOk result (list.new.items ≡ list.old.items
+        ++ flat_map (model.met_in_stretches (record {
+          job = scene.now.job.now;
+          run = scene.now.run.now;
+          before = is_before_in scene.now.clocks.now.rows;
+        }) left.now.zone.now left.now.stretch.now other.now)
+        others.now) }
 {
     for stretch in others {
         let right = Held {
@@ -323,9 +379,15 @@ fn add_beside(
 ) -> Result<(), AllocError>
     requires fit { All (All IsFit) scene.now.run.now.items }
     requires deep { scene.now.job.now.depth ≤ DEPTH_LIMIT }
-    requires passing { ascend ≡ true → (ended : Bool) → PassFirst (passes (is_before_in scene.now.clocks.now.rows) ended left.now.stretch.now) others.now }
-    ensures { OnOk result (list.new.items ≡ list.old.items ++ flat_map (model.met_in_stretches (record { job = scene.now.job.now; run = scene.now.run.now; before = is_before_in scene.now.clocks.now.rows })
-        left.now.zone.now left.now.stretch.now other.now) others.now) }
+    requires passing { ascend ≡ true → (ended : Bool)
+        → PassFirst (passes (is_before_in scene.now.clocks.now.rows) ended left.now.stretch.now) others.now }
+    ensures { OnOk result (list.new.items ≡ list.old.items
+        ++ flat_map (model.met_in_stretches (record {
+          job = scene.now.job.now;
+          run = scene.now.run.now;
+          before = is_before_in scene.now.clocks.now.rows;
+        }) left.now.zone.now left.now.stretch.now other.now)
+        others.now) }
 {
     let near = near_part(scene.clocks, left.stretch, others, ascend, range);
     add_against(list, scene, left, other, near)?;
@@ -344,7 +406,9 @@ fn add_in_zones(
     requires fit { All (All IsFit) scene.now.run.now.items }
     requires deep { scene.now.job.now.depth ≤ DEPTH_LIMIT }
     requires timed { IsTimed (is_before_in scene.now.clocks.now.rows) (owns.now ∷ (others.now ∷ [])) }
-    ensures { OnOk result (list.new.items ≡ list.old.items ++ flat_map (λ left. flat_map (model.met_in_stretches (record { job = scene.now.job.now; run = scene.now.run.now; before = is_before_in scene.now.clocks.now.rows })
+    ensures { OnOk result (list.new.items ≡ list.old.items
+        ++ flat_map (λ left. flat_map (model.met_in_stretches
+        (record { job = scene.now.job.now; run = scene.now.run.now; before = is_before_in scene.now.clocks.now.rows })
         zone.now left other.now) others.now) owns.now) }
 {
     let ascend = do_ascend(scene.clocks, others);
@@ -361,7 +425,12 @@ fn add_in_row(list: &mut Vec<Meeting>, scene: &Scene, row: &Row) -> Result<(), A
     requires fit { All (All IsFit) scene.now.run.now.items }
     requires deep { scene.now.job.now.depth ≤ DEPTH_LIMIT }
     requires timed { IsRowTimed (is_before_in scene.now.clocks.now.rows) row.now }
-    ensures { OnOk result (list.new.items ≡ list.old.items ++ model.met_in_row (record { job = scene.now.job.now; run = scene.now.run.now; before = is_before_in scene.now.clocks.now.rows }) row.now) }
+    ensures { OnOk result (list.new.items ≡ list.old.items
+        ++ model.met_in_row (record {
+          job = scene.now.job.now;
+          run = scene.now.run.now;
+          before = is_before_in scene.now.clocks.now.rows;
+        }) row.now) }
 {
     add_in_zones(list, scene, row.zone, row.owns, row.other, row.others)?;
     Ok(())
@@ -372,7 +441,12 @@ fn met_in(alloc: Global, scene: &Scene, rows: &[Row]) -> Result<Vec<Meeting>, Al
     requires fit { All (All IsFit) scene.now.run.now.items }
     requires deep { scene.now.job.now.depth ≤ DEPTH_LIMIT }
     requires timed { All (IsRowTimed (is_before_in scene.now.clocks.now.rows)) rows.now }
-    ensures { IfOk result (λ met. met.items ≡ flat_map (model.met_in_row (record { job = scene.now.job.now; run = scene.now.run.now; before = is_before_in scene.now.clocks.now.rows })) rows.now) }
+    ensures { IfOk result (λ met. met.items ≡ flat_map
+        (model.met_in_row (record {
+          job = scene.now.job.now;
+          run = scene.now.run.now;
+          before = is_before_in scene.now.clocks.now.rows;
+        })) rows.now) }
 {
     let mut list = Vec::new(alloc);
     for row in rows {
@@ -393,7 +467,8 @@ pub fn meetings_of(
     requires sound { IsSoundJob job.now }
     requires whole { IsTold job.now run.now stretches.now clocks.now }
     requires fit { All (All IsFit) run.now.items }
-    ensures { IfOk result (λ met. met.items ≡ meetings_of (is_before_in clocks.now.rows) job.now run.now stretches.now) }
+    ensures { IfOk result (λ met. met.items ≡ meetings_of (is_before_in clocks.now.rows)
+        job.now run.now stretches.now) }
 {
     let times = times_of(alloc, job, stretches)?;
     let all = times.as_slice();

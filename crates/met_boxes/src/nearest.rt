@@ -103,7 +103,11 @@ fn put(rows: &mut Vec<Near>, near: &Near) -> Result<(), AllocError>
 
 /// How near two boxes come that reach so far into each other.
 fn near_of(reach: i64, left: &Held, own: &ZoneBox, right: &Held, later: &ZoneBox) -> Near
-    ensures groups { result.groups ≡ model.groups_of (place_of left.now.zone.now left.now.stretch.now own.now, place_of right.now.zone.now right.now.stretch.now later.now) }
+    ensures groups { result.groups ≡ model.groups_of (
+      place_of left.now.zone.now left.now.stretch.now own.now,
+      place_of right.now.zone.now
+          right.now.stretch.now later.now,
+    ) }
     ensures reach { result.reach ≡ reach }
     ensures left { result.left ≡ told_place (place_of left.now.zone.now left.now.stretch.now own.now) }
     ensures right { result.right ≡ told_place (place_of right.now.zone.now right.now.stretch.now later.now) }
@@ -144,7 +148,11 @@ fn reach_in(rows: &[Near], groups: (u8, u8)) -> Option<i64>
 
 /// Whether the covers of two boxes reach further into each other than any row of their groups.
 fn may_be_nearer(rows: &[Near], left: &Held, own: &ZoneBox, right: &Held, later: &ZoneBox) -> bool
-    ensures { result ≡ steps.may_be_nearer rows.now (place_of left.now.zone.now left.now.stretch.now own.now, place_of right.now.zone.now right.now.stretch.now later.now) }
+    ensures { result ≡ steps.may_be_nearer rows.now (
+      place_of left.now.zone.now left.now.stretch.now own.now,
+      place_of right.now.zone.now
+          right.now.stretch.now later.now,
+    ) }
 {
     let way = least_way(&own.cover, &later.cover);
     !is_any_as_near(rows, groups_of(left.zone, right.zone), way.shift)
@@ -152,7 +160,8 @@ fn may_be_nearer(rows: &[Near], left: &Held, own: &ZoneBox, right: &Held, later:
 
 /// The same of two boxes that are compared.
 fn may_count(rows: &[Near], left: &Held, own: &ZoneBox, right: &Held, later: &ZoneBox) -> bool
-    ensures { result ≡ steps.may_count rows.now (place_of left.now.zone.now left.now.stretch.now own.now) right.now.zone.now right.now.stretch.now later.now }
+    ensures { result ≡ steps.may_count rows.now (place_of left.now.zone.now left.now.stretch.now own.now)
+        right.now.zone.now right.now.stretch.now later.now }
 {
     are_compared(share_channel(left.stretch, right.stretch), own, later)
         && may_be_nearer(rows, left, own, right, later)
@@ -166,7 +175,8 @@ fn may_any_count(
     right: &Held,
     laters: &[ZoneBox],
 ) -> bool
-    ensures { result ≡ list_any (steps.may_count rows.now (place_of left.now.zone.now left.now.stretch.now own.now) right.now.zone.now right.now.stretch.now) laters.now }
+    ensures { result ≡ list_any (steps.may_count rows.now (place_of left.now.zone.now left.now.stretch.now own.now)
+        right.now.zone.now right.now.stretch.now) laters.now }
 {
     laters
         .iter()
@@ -188,7 +198,11 @@ fn look_by_pieces(
         → pieces.now ≡ piece_boxes job run (place_of left.now.zone.now left.now.stretch.now own.now)
         → others.now ≡ piece_boxes job run (place_of right.now.zone.now right.now.stretch.now later.now)
         → model.AreNearest job run seen rows.old.items
-        → model.AreNearest job run (seen ++ (place_of left.now.zone.now left.now.stretch.now own.now, place_of right.now.zone.now right.now.stretch.now later.now) ∷ []) rows.new.items) }
+        → model.AreNearest job run (seen ++ (
+          place_of left.now.zone.now left.now.stretch.now own.now,
+          place_of
+              right.now.zone.now right.now.stretch.now later.now,
+        ) ∷ []) rows.new.items) }
 {
     let so_far = reach_in(rows.as_slice(), groups_of(left.zone, right.zone));
     if let Some(reach) = pieces.most_over(so_far, others) {
@@ -213,12 +227,21 @@ fn look(
 ) -> Result<(), AllocError>
     requires fit { All (All IsFit) scene.now.run.now.items }
     requires deep { scene.now.job.now.depth ≤ DEPTH_LIMIT }
-    requires pieces { pieces.now ≡ piece_boxes scene.now.job.now scene.now.run.now (place_of left.now.zone.now left.now.stretch.now own.now) }
+    requires pieces { pieces.now ≡ piece_boxes scene.now.job.now scene.now.run.now
+        (place_of left.now.zone.now left.now.stretch.now own.now) }
     requires later { IsAt right.now.stretch.now.boxes place later.now }
-    requires kept { AreKept scene.now.job.now scene.now.run.now right.now.zone.now right.now.stretch.now kept.old.items }
-    ensures kept { OnOk result (AreKept scene.now.job.now scene.now.run.now right.now.zone.now right.now.stretch.now kept.new.items) }
-    ensures near { OnOk result ((seen : List Pair) → model.AreNearest scene.now.job.now scene.now.run.now seen rows.old.items
-        → model.AreNearest scene.now.job.now scene.now.run.now (seen ++ (place_of left.now.zone.now left.now.stretch.now own.now, place_of right.now.zone.now right.now.stretch.now later.now) ∷ []) rows.new.items) }
+    requires kept { AreKept scene.now.job.now scene.now.run.now right.now.zone.now
+        right.now.stretch.now kept.old.items }
+    ensures kept { OnOk result (AreKept scene.now.job.now scene.now.run.now right.now.zone.now
+        right.now.stretch.now kept.new.items) }
+    ensures near { OnOk result ((seen : List Pair)
+        → model.AreNearest scene.now.job.now scene.now.run.now seen rows.old.items
+        → model.AreNearest scene.now.job.now scene.now.run.now
+        (seen ++ (
+          place_of left.now.zone.now left.now.stretch.now own.now,
+          place_of right.now.zone.now
+              right.now.stretch.now later.now,
+        ) ∷ []) rows.new.items) }
 {
     if are_kept(left, place) {
         keep_at(kept, scene, right, place, later)?;
@@ -246,12 +269,21 @@ fn look_near(
 ) -> Result<(), AllocError>
     requires fit { All (All IsFit) scene.now.run.now.items }
     requires deep { scene.now.job.now.depth ≤ DEPTH_LIMIT }
-    requires pieces { pieces.now ≡ piece_boxes scene.now.job.now scene.now.run.now (place_of left.now.zone.now left.now.stretch.now own.now) }
+    requires pieces { pieces.now ≡ piece_boxes scene.now.job.now scene.now.run.now
+        (place_of left.now.zone.now left.now.stretch.now own.now) }
     requires later { IsAt right.now.stretch.now.boxes place later.now }
-    requires kept { AreKept scene.now.job.now scene.now.run.now right.now.zone.now right.now.stretch.now kept.old.items }
-    ensures kept { OnOk result (AreKept scene.now.job.now scene.now.run.now right.now.zone.now right.now.stretch.now kept.new.items) }
-    ensures near { OnOk result ((seen : List Pair) → steps.AreNearestSoFar scene.now.job.now scene.now.run.now seen rows.old.items
-        → steps.AreNearestSoFar scene.now.job.now scene.now.run.now (seen ++ (place_of left.now.zone.now left.now.stretch.now own.now, place_of right.now.zone.now right.now.stretch.now later.now) ∷ []) rows.new.items) }
+    requires kept { AreKept scene.now.job.now scene.now.run.now right.now.zone.now
+        right.now.stretch.now kept.old.items }
+    ensures kept { OnOk result (AreKept scene.now.job.now scene.now.run.now right.now.zone.now
+        right.now.stretch.now kept.new.items) }
+    ensures near { OnOk result ((seen : List Pair)
+        → steps.AreNearestSoFar scene.now.job.now scene.now.run.now seen rows.old.items
+        → steps.AreNearestSoFar scene.now.job.now scene.now.run.now
+        (seen ++ (
+          place_of left.now.zone.now left.now.stretch.now own.now,
+          place_of right.now.zone.now
+              right.now.stretch.now later.now,
+        ) ∷ []) rows.new.items) }
 {
     if may_be_nearer(rows.as_slice(), left, own, right, later) {
         look(rows, kept, scene, left, own, pieces, right, place, later)?;
@@ -273,12 +305,18 @@ fn look_at(
 ) -> Result<(), AllocError>
     requires fit { All (All IsFit) scene.now.run.now.items }
     requires deep { scene.now.job.now.depth ≤ DEPTH_LIMIT }
-    requires pieces { pieces.now ≡ piece_boxes scene.now.job.now scene.now.run.now (place_of left.now.zone.now left.now.stretch.now own.now) }
+    requires pieces { pieces.now ≡ piece_boxes scene.now.job.now scene.now.run.now
+        (place_of left.now.zone.now left.now.stretch.now own.now) }
     requires later { IsAt right.now.stretch.now.boxes place later.now }
-    requires kept { AreKept scene.now.job.now scene.now.run.now right.now.zone.now right.now.stretch.now kept.old.items }
-    ensures kept { OnOk result (AreKept scene.now.job.now scene.now.run.now right.now.zone.now right.now.stretch.now kept.new.items) }
-    ensures near { OnOk result ((seen : List Pair) → steps.AreNearestSoFar scene.now.job.now scene.now.run.now seen rows.old.items
-        → steps.AreNearestSoFar scene.now.job.now scene.now.run.now (seen ++ steps.pair_where (place_of left.now.zone.now left.now.stretch.now own.now) right.now.zone.now right.now.stretch.now later.now) rows.new.items) }
+    requires kept { AreKept scene.now.job.now scene.now.run.now right.now.zone.now
+        right.now.stretch.now kept.old.items }
+    ensures kept { OnOk result (AreKept scene.now.job.now scene.now.run.now right.now.zone.now
+        right.now.stretch.now kept.new.items) }
+    ensures near { OnOk result ((seen : List Pair)
+        → steps.AreNearestSoFar scene.now.job.now scene.now.run.now seen rows.old.items
+        → steps.AreNearestSoFar scene.now.job.now scene.now.run.now
+        (seen ++ steps.pair_where (place_of left.now.zone.now left.now.stretch.now own.now) right.now.zone.now
+        right.now.stretch.now later.now) rows.new.items) }
 {
     if are_compared(share_channel(left.stretch, right.stretch), own, later) {
         look_near(rows, kept, scene, left, own, pieces, right, place, later)?;
@@ -299,12 +337,18 @@ fn look_each(
 ) -> Result<(), AllocError>
     requires fit { All (All IsFit) scene.now.run.now.items }
     requires deep { scene.now.job.now.depth ≤ DEPTH_LIMIT }
-    requires pieces { pieces.now ≡ piece_boxes scene.now.job.now scene.now.run.now (place_of left.now.zone.now left.now.stretch.now own.now) }
+    requires pieces { pieces.now ≡ piece_boxes scene.now.job.now scene.now.run.now
+        (place_of left.now.zone.now left.now.stretch.now own.now) }
     requires laters { laters.now ≡ right.now.stretch.now.boxes }
-    requires kept { AreKept scene.now.job.now scene.now.run.now right.now.zone.now right.now.stretch.now kept.old.items }
-    ensures kept { OnOk result (AreKept scene.now.job.now scene.now.run.now right.now.zone.now right.now.stretch.now kept.new.items) }
-    ensures near { OnOk result ((seen : List Pair) → steps.AreNearestSoFar scene.now.job.now scene.now.run.now seen rows.old.items
-        → steps.AreNearestSoFar scene.now.job.now scene.now.run.now (seen ++ flat_map (steps.pair_where (place_of left.now.zone.now left.now.stretch.now own.now) right.now.zone.now right.now.stretch.now) laters.now) rows.new.items) }
+    requires kept { AreKept scene.now.job.now scene.now.run.now right.now.zone.now
+        right.now.stretch.now kept.old.items }
+    ensures kept { OnOk result (AreKept scene.now.job.now scene.now.run.now right.now.zone.now
+        right.now.stretch.now kept.new.items) }
+    ensures near { OnOk result ((seen : List Pair)
+        → steps.AreNearestSoFar scene.now.job.now scene.now.run.now seen rows.old.items
+        → steps.AreNearestSoFar scene.now.job.now scene.now.run.now
+        (seen ++ flat_map (steps.pair_where (place_of left.now.zone.now left.now.stretch.now own.now)
+        right.now.zone.now right.now.stretch.now) laters.now) rows.new.items) }
 {
     for place in 0..laters.len() {
         let later = &laters[place];
@@ -324,10 +368,15 @@ fn look_anew(
 ) -> Result<(), AllocError>
     requires fit { All (All IsFit) scene.now.run.now.items }
     requires deep { scene.now.job.now.depth ≤ DEPTH_LIMIT }
-    requires kept { AreKept scene.now.job.now scene.now.run.now right.now.zone.now right.now.stretch.now kept.old.items }
-    ensures kept { OnOk result (AreKept scene.now.job.now scene.now.run.now right.now.zone.now right.now.stretch.now kept.new.items) }
-    ensures near { OnOk result ((seen : List Pair) → steps.AreNearestSoFar scene.now.job.now scene.now.run.now seen rows.old.items
-        → steps.AreNearestSoFar scene.now.job.now scene.now.run.now (seen ++ steps.pairs_by right.now.zone.now right.now.stretch.now (place_of left.now.zone.now left.now.stretch.now own.now)) rows.new.items) }
+    requires kept { AreKept scene.now.job.now scene.now.run.now right.now.zone.now
+        right.now.stretch.now kept.old.items }
+    ensures kept { OnOk result (AreKept scene.now.job.now scene.now.run.now right.now.zone.now
+        right.now.stretch.now kept.new.items) }
+    ensures near { OnOk result ((seen : List Pair)
+        → steps.AreNearestSoFar scene.now.job.now scene.now.run.now seen rows.old.items
+        → steps.AreNearestSoFar scene.now.job.now scene.now.run.now
+        (seen ++ steps.pairs_by right.now.zone.now right.now.stretch.now
+        (place_of left.now.zone.now left.now.stretch.now own.now)) rows.new.items) }
 {
     let other = right.stretch;
     let laters = other.boxes.as_slice();
@@ -351,11 +400,16 @@ fn look_by(
 ) -> Result<(), AllocError>
     requires fit { All (All IsFit) scene.now.run.now.items }
     requires deep { scene.now.job.now.depth ≤ DEPTH_LIMIT }
-    requires kept { AreKept scene.now.job.now scene.now.run.now right.now.zone.now right.now.stretch.now kept.old.items }
-    ensures kept { OnOk result (AreKept scene.now.job.now scene.now.run.now right.now.zone.now right.now.stretch.now kept.new.items) }
-    ensures near { OnOk result ((seen : List Pair) → AreLookedAt scene.now.job.now scene.now.run.now left.now.zone.now right.now.zone.now right.now.stretch.now seen rows.old.items passed.old
+    requires kept { AreKept scene.now.job.now scene.now.run.now right.now.zone.now
+        right.now.stretch.now kept.old.items }
+    ensures kept { OnOk result (AreKept scene.now.job.now scene.now.run.now right.now.zone.now
+        right.now.stretch.now kept.new.items) }
+    ensures near { OnOk result ((seen : List Pair)
         → AreLookedAt scene.now.job.now scene.now.run.now left.now.zone.now right.now.zone.now right.now.stretch.now
-        (seen ++ steps.pairs_by right.now.zone.now right.now.stretch.now (place_of left.now.zone.now left.now.stretch.now own.now)) rows.new.items passed.new) }
+        seen rows.old.items passed.old
+        → AreLookedAt scene.now.job.now scene.now.run.now left.now.zone.now right.now.zone.now right.now.stretch.now
+        (seen ++ steps.pairs_by right.now.zone.now right.now.stretch.now
+        (place_of left.now.zone.now left.now.stretch.now own.now)) rows.new.items passed.new) }
 {
     let stretch = left.stretch;
     let motion = motion_at(scene.run, stretch.entry, own.motion);
@@ -381,11 +435,16 @@ fn look_owns(
 ) -> Result<(), AllocError>
     requires fit { All (All IsFit) scene.now.run.now.items }
     requires deep { scene.now.job.now.depth ≤ DEPTH_LIMIT }
-    requires kept { AreKept scene.now.job.now scene.now.run.now right.now.zone.now right.now.stretch.now kept.old.items }
-    ensures kept { OnOk result (AreKept scene.now.job.now scene.now.run.now right.now.zone.now right.now.stretch.now kept.new.items) }
-    ensures near { OnOk result ((seen : List Pair) → AreLookedAt scene.now.job.now scene.now.run.now left.now.zone.now right.now.zone.now right.now.stretch.now seen rows.old.items passed.old
+    requires kept { AreKept scene.now.job.now scene.now.run.now right.now.zone.now
+        right.now.stretch.now kept.old.items }
+    ensures kept { OnOk result (AreKept scene.now.job.now scene.now.run.now right.now.zone.now
+        right.now.stretch.now kept.new.items) }
+    ensures near { OnOk result ((seen : List Pair)
         → AreLookedAt scene.now.job.now scene.now.run.now left.now.zone.now right.now.zone.now right.now.stretch.now
-        (seen ++ flat_map (λ own. steps.pairs_by right.now.zone.now right.now.stretch.now (place_of left.now.zone.now left.now.stretch.now own)) owns.now) rows.new.items passed.new) }
+        seen rows.old.items passed.old
+        → AreLookedAt scene.now.job.now scene.now.run.now left.now.zone.now right.now.zone.now right.now.stretch.now
+        (seen ++ flat_map (λ own. steps.pairs_by right.now.zone.now right.now.stretch.now
+        (place_of left.now.zone.now left.now.stretch.now own)) owns.now) rows.new.items passed.new) }
 {
     for own in owns {
         look_by(rows, kept, passed, scene, left, own, right)?;
@@ -402,8 +461,11 @@ fn look_in_boxes(
 ) -> Result<(), AllocError>
     requires fit { All (All IsFit) scene.now.run.now.items }
     requires deep { scene.now.job.now.depth ≤ DEPTH_LIMIT }
-    ensures { OnOk result ((seen : List Pair) → steps.AreNearestSoFar scene.now.job.now scene.now.run.now seen rows.old.items
-        → steps.AreNearestSoFar scene.now.job.now scene.now.run.now (seen ++ steps.pairs_in_boxes left.now.zone.now left.now.stretch.now right.now.zone.now right.now.stretch.now) rows.new.items) }
+    ensures { OnOk result ((seen : List Pair)
+        → steps.AreNearestSoFar scene.now.job.now scene.now.run.now seen rows.old.items
+        → steps.AreNearestSoFar scene.now.job.now scene.now.run.now
+        (seen ++ steps.pairs_in_boxes left.now.zone.now left.now.stretch.now right.now.zone.now
+        right.now.stretch.now) rows.new.items) }
 {
     let stretch = left.stretch;
     let owns = stretch.boxes.as_slice();
@@ -422,8 +484,11 @@ fn look_in_stretches(
 ) -> Result<(), AllocError>
     requires fit { All (All IsFit) scene.now.run.now.items }
     requires deep { scene.now.job.now.depth ≤ DEPTH_LIMIT }
-    ensures { OnOk result ((seen : List Pair) → steps.AreNearestSoFar scene.now.job.now scene.now.run.now seen rows.old.items
-        → steps.AreNearestSoFar scene.now.job.now scene.now.run.now (seen ++ stretch_pairs (is_before_in scene.now.clocks.now.rows) left.now.zone.now left.now.stretch.now right.now.zone.now right.now.stretch.now) rows.new.items) }
+    ensures { OnOk result ((seen : List Pair)
+        → steps.AreNearestSoFar scene.now.job.now scene.now.run.now seen rows.old.items
+        → steps.AreNearestSoFar scene.now.job.now scene.now.run.now
+        (seen ++ stretch_pairs (is_before_in scene.now.clocks.now.rows) left.now.zone.now left.now.stretch.now
+        right.now.zone.now right.now.stretch.now) rows.new.items) }
 {
     if may_overlap(scene.clocks, left.stretch, right.stretch) {
         look_in_boxes(rows, scene, left, right)?;
@@ -441,8 +506,11 @@ fn look_against(
 ) -> Result<(), AllocError>
     requires fit { All (All IsFit) scene.now.run.now.items }
     requires deep { scene.now.job.now.depth ≤ DEPTH_LIMIT }
-    ensures { OnOk result ((seen : List Pair) → steps.AreNearestSoFar scene.now.job.now scene.now.run.now seen rows.old.items
-        → steps.AreNearestSoFar scene.now.job.now scene.now.run.now (seen ++ flat_map (stretch_pairs (is_before_in scene.now.clocks.now.rows) left.now.zone.now left.now.stretch.now other.now) others.now) rows.new.items) }
+    ensures { OnOk result ((seen : List Pair)
+        → steps.AreNearestSoFar scene.now.job.now scene.now.run.now seen rows.old.items
+        → steps.AreNearestSoFar scene.now.job.now scene.now.run.now
+        (seen ++ flat_map (stretch_pairs (is_before_in scene.now.clocks.now.rows) left.now.zone.now
+        left.now.stretch.now other.now) others.now) rows.new.items) }
 {
     for stretch in others {
         let right = Held {
@@ -466,9 +534,13 @@ fn look_beside(
 ) -> Result<(), AllocError>
     requires fit { All (All IsFit) scene.now.run.now.items }
     requires deep { scene.now.job.now.depth ≤ DEPTH_LIMIT }
-    requires passing { ascend ≡ true → (ended : Bool) → PassFirst (passes (is_before_in scene.now.clocks.now.rows) ended left.now.stretch.now) others.now }
-    ensures { OnOk result ((seen : List Pair) → steps.AreNearestSoFar scene.now.job.now scene.now.run.now seen rows.old.items
-        → steps.AreNearestSoFar scene.now.job.now scene.now.run.now (seen ++ flat_map (stretch_pairs (is_before_in scene.now.clocks.now.rows) left.now.zone.now left.now.stretch.now other.now) others.now) rows.new.items) }
+    requires passing { ascend ≡ true → (ended : Bool)
+        → PassFirst (passes (is_before_in scene.now.clocks.now.rows) ended left.now.stretch.now) others.now }
+    ensures { OnOk result ((seen : List Pair)
+        → steps.AreNearestSoFar scene.now.job.now scene.now.run.now seen rows.old.items
+        → steps.AreNearestSoFar scene.now.job.now scene.now.run.now
+        (seen ++ flat_map (stretch_pairs (is_before_in scene.now.clocks.now.rows) left.now.zone.now
+        left.now.stretch.now other.now) others.now) rows.new.items) }
 {
     let near = near_part(scene.clocks, left.stretch, others, ascend, range);
     look_against(rows, scene, left, other, near)?;
@@ -487,9 +559,11 @@ fn look_in_zones(
     requires fit { All (All IsFit) scene.now.run.now.items }
     requires deep { scene.now.job.now.depth ≤ DEPTH_LIMIT }
     requires timed { IsTimed (is_before_in scene.now.clocks.now.rows) (owns.now ∷ (others.now ∷ [])) }
-    ensures { OnOk result ((seen : List Pair) → steps.AreNearestSoFar scene.now.job.now scene.now.run.now seen rows.old.items
+    ensures { OnOk result ((seen : List Pair)
+        → steps.AreNearestSoFar scene.now.job.now scene.now.run.now seen rows.old.items
         → steps.AreNearestSoFar scene.now.job.now scene.now.run.now
-        (seen ++ flat_map (λ left. flat_map (stretch_pairs (is_before_in scene.now.clocks.now.rows) zone.now left other.now) others.now) owns.now) rows.new.items) }
+        (seen ++ flat_map (λ left. flat_map (stretch_pairs (is_before_in scene.now.clocks.now.rows) zone.now left
+        other.now) others.now) owns.now) rows.new.items) }
 {
     let ascend = do_ascend(scene.clocks, others);
     let mut range = Range { from: 0, upto: 0 };
@@ -505,8 +579,10 @@ fn look_in_row(near: &mut Vec<Near>, scene: &Scene, row: &Row) -> Result<(), All
     requires fit { All (All IsFit) scene.now.run.now.items }
     requires deep { scene.now.job.now.depth ≤ DEPTH_LIMIT }
     requires timed { IsRowTimed (is_before_in scene.now.clocks.now.rows) row.now }
-    ensures { OnOk result ((seen : List Pair) → steps.AreNearestSoFar scene.now.job.now scene.now.run.now seen near.old.items
-        → steps.AreNearestSoFar scene.now.job.now scene.now.run.now (seen ++ row_pairs (is_before_in scene.now.clocks.now.rows) row.now) near.new.items) }
+    ensures { OnOk result ((seen : List Pair)
+        → steps.AreNearestSoFar scene.now.job.now scene.now.run.now seen near.old.items
+        → steps.AreNearestSoFar scene.now.job.now scene.now.run.now
+        (seen ++ row_pairs (is_before_in scene.now.clocks.now.rows) row.now) near.new.items) }
 {
     look_in_zones(near, scene, row.zone, row.owns, row.other, row.others)?;
     Ok(())
@@ -521,7 +597,8 @@ pub(crate) fn nearest_in(
     requires fit { All (All IsFit) scene.now.run.now.items }
     requires deep { scene.now.job.now.depth ≤ DEPTH_LIMIT }
     requires timed { All (IsRowTimed (is_before_in scene.now.clocks.now.rows)) rows.now }
-    ensures { IfOk result (λ near. steps.AreNearestSoFar scene.now.job.now scene.now.run.now (pairs_in (is_before_in scene.now.clocks.now.rows) rows.now) near.items) }
+    ensures { IfOk result (λ near. steps.AreNearestSoFar scene.now.job.now scene.now.run.now
+        (pairs_in (is_before_in scene.now.clocks.now.rows) rows.now) near.items) }
 {
     let mut near = Vec::new(alloc);
     for row in rows {
@@ -543,7 +620,8 @@ pub fn nearest_of(
     requires sound { IsSoundJob job.now }
     requires whole { IsTold job.now run.now stretches.now clocks.now }
     requires fit { All (All IsFit) run.now.items }
-    ensures { IfOk result (λ near. model.AreNearest job.now run.now (compared_pairs (is_before_in clocks.now.rows) job.now stretches.now) near.items) }
+    ensures { IfOk result (λ near. model.AreNearest job.now run.now
+        (compared_pairs (is_before_in clocks.now.rows) job.now stretches.now) near.items) }
 {
     let times = times_of(alloc, job, stretches)?;
     let all = times.as_slice();

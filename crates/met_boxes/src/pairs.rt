@@ -136,8 +136,8 @@ fn two_of<'a>(scene: &Scene, one: &'a Time<'a>, two: &'a Time<'a>) -> Result<Zon
     requires deep { scene.now.job.now.depth ≤ DEPTH_LIMIT }
     requires ready { AreReady (is_before_in scene.now.clocks.now.rows) scene.now.job.now scene.now.run.now
         (rows_for one.now two.now) }
-    ensures { IfOk result (λ pair. pair ≡ model.two_of (is_before_in scene.now.clocks.now.rows) scene.now.job.now scene.now.run.now
-        one.now two.now) }
+    ensures { IfOk result (λ pair. pair ≡ model.two_of (is_before_in scene.now.clocks.now.rows) scene.now.job.now
+        scene.now.run.now one.now two.now) }
 {
     let found = comparison_of(scene, one, two)?;
     Ok(ZonePair::of(&facts_of(one), &facts_of(two), found))

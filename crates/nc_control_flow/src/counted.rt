@@ -19,7 +19,8 @@ use std::alloc::{AllocError, Global};
 pub(crate) fn plain_places(alloc: Global, blocks: &[(u32, Block)]) -> Result<Vec<u32>, AllocError>
     requires { length blocks.now < 2 ^ 32 }
     ensures len { IfOk result (λ v. vec_len v ≡ length blocks.now) }
-    ensures each { IfOk result (λ v. (k : ℕ) → k < length blocks.now → slice_index v.items k ≡ plain_from (views blocks.now) k) }
+    ensures each { IfOk result (λ v. (k : ℕ) → k < length blocks.now
+        → slice_index v.items k ≡ plain_from (views blocks.now) k) }
 {
     let mut plain = vec![in alloc; 0; blocks.len()]?;
     let mut nearest = blocks.len() as u32;
@@ -54,7 +55,8 @@ impl Flow {
     ) -> Result<Next, u16>
         requires counts { counts_at skip (views self.now) pc ≡ true }
         requires repeat { CountRepeats skip (views self.now) repeats.old }
-        ensures leads { Leads (views self.now) (next_going skip pc (views self.now) repeats.old (outcome_view outcome.entry)) result repeats.old repeats.new }
+        ensures leads { Leads (views self.now) (next_going skip pc (views self.now) repeats.old
+            (outcome_view outcome.entry)) result repeats.old repeats.new }
         ensures kept { CountRepeats skip (views self.now) repeats.new }
     {
         if skip {
@@ -89,7 +91,8 @@ impl Flow {
     fn next_plain(&self, pc: u32, repeats: &mut Repeats, outcome: Outcome) -> Result<Next, u16>
         requires counts { counts_at true (views self.now) pc ≡ true }
         requires repeat { CountRepeats true (views self.now) repeats.old }
-        ensures leads { Leads (views self.now) (next_going true pc (views self.now) repeats.old (outcome_view outcome.entry)) result repeats.old repeats.new }
+        ensures leads { Leads (views self.now) (next_going true pc (views self.now) repeats.old
+            (outcome_view outcome.entry)) result repeats.old repeats.new }
         ensures kept { CountRepeats true (views self.now) repeats.new }
     {
         match self.move_of(pc, &self.blocks[pc as usize].1.stmt, outcome) {
@@ -107,7 +110,8 @@ impl Flow {
         requires counts { counts_at true (views self.now) pc ≡ true }
         requires starts { MoveStarts pc asked }
         requires repeat { CountRepeats true (views self.now) repeats.old }
-        ensures leads { Leads (views self.now) (up_to_counting true (views self.now) (going_by_move pc repeats.old asked)) result repeats.old repeats.new }
+        ensures leads { Leads (views self.now) (up_to_counting true (views self.now)
+            (going_by_move pc repeats.old asked)) result repeats.old repeats.new }
         ensures kept { CountRepeats true (views self.now) repeats.new }
     {
         match asked {
@@ -133,8 +137,10 @@ impl Flow {
     fn walk(&self, repeats: &mut Repeats, control: Control) -> Next
         requires fits { Fits control }
         requires repeat { CountRepeats true (views self.now) repeats.old }
-        ensures next { result ≡ next_at (views self.now) (going_to_counted true (views self.now) (going_after_passes control repeats.old)).place }
-        ensures running { repeats.new ≡ (going_to_counted true (views self.now) (going_after_passes control repeats.old)).running }
+        ensures next { result ≡ next_at (views self.now)
+            (going_to_counted true (views self.now) (going_after_passes control repeats.old)).place }
+        ensures running { repeats.new ≡ (going_to_counted true (views self.now)
+            (going_after_passes control repeats.old)).running }
         ensures kept { CountRepeats true (views self.now) repeats.new }
     {
         let mut place = repeats.settle(control);

@@ -76,7 +76,8 @@ impl Model for Flow {
 
     ghost view = { λ f. f.blocks.items };
 
-    ghost invariant = { λ f. IsResolved (views f.blocks.items) f.ends.items f.branches.items f.openers.items f.plain.items f.index.labels f.index.numbers };
+    ghost invariant = { λ f. IsResolved (views f.blocks.items) f.ends.items f.branches.items f.openers.items
+        f.plain.items f.index.labels f.index.numbers };
 }
 
 /// Finds the structures, the labels and the block numbers of a program, whose blocks come with their
@@ -128,7 +129,8 @@ impl Flow {
     #[tactic(auto, unfolding(crate::specs::Flow::next_block))]
     pub fn next(&self, pc: u32, repeats: &mut Repeats, outcome: Outcome) -> Result<Next, u16>
         requires { pc < length self.now }
-        ensures { Leads (views self.now) (next_block pc (views self.now) repeats.old (outcome_view outcome.entry)) result repeats.old repeats.new }
+        ensures { Leads (views self.now) (next_block pc (views self.now) repeats.old (outcome_view outcome.entry))
+            result repeats.old repeats.new }
     {
         match self.move_of(pc, &self.blocks[pc as usize].1.stmt, outcome) {
             Ok(asked) => self.go(pc, repeats, asked),

@@ -13,12 +13,16 @@ ghost use Rattle.nc_control_flow.specs.Nested.{IsNested, blocks_of};
 /// it searches for; each ELSE has its end; and each one that ends has its beginning. So no search of
 /// such a program comes back without a place.
 pub fn structures_are_found()
-    ensures ends { (lines : List (ℕ × BlockView)) (pc : ℕ) → IsNested lines → part_of (statement_at pc (blocks_of lines)) ≡ Opens
+    ensures ends { (lines : List (ℕ × BlockView)) (pc : ℕ) → IsNested lines
+        → part_of (statement_at pc (blocks_of lines)) ≡ Opens
         → IsSome (matching End 0 (those_after pc (parts (blocks_of lines)))) }
-    ensures branches { (lines : List (ℕ × BlockView)) (pc : ℕ) → IsNested lines → part_of (statement_at pc (blocks_of lines)) ≡ Opens
+    ensures branches { (lines : List (ℕ × BlockView)) (pc : ℕ) → IsNested lines
+        → part_of (statement_at pc (blocks_of lines)) ≡ Opens
         → IsSome (matching Branch 0 (those_after pc (parts (blocks_of lines)))) }
-    ensures after_else { (lines : List (ℕ × BlockView)) (pc : ℕ) → IsNested lines → part_of (statement_at pc (blocks_of lines)) ≡ Branches
+    ensures after_else { (lines : List (ℕ × BlockView)) (pc : ℕ) → IsNested lines
+        → part_of (statement_at pc (blocks_of lines)) ≡ Branches
         → IsSome (matching End 0 (those_after pc (parts (blocks_of lines)))) }
-    ensures openers { (lines : List (ℕ × BlockView)) (pc : ℕ) → IsNested lines → part_of (statement_at pc (blocks_of lines)) ≡ Closes
+    ensures openers { (lines : List (ℕ × BlockView)) (pc : ℕ) → IsNested lines
+        → part_of (statement_at pc (blocks_of lines)) ≡ Closes
         → IsSome (matching Opener 0 (those_before pc (parts (blocks_of lines)))) }
 {}

@@ -72,12 +72,13 @@ pub fn parse_expr(
     // What is read is spelled so, and what is spelled so is read: one tree at most.
     ensures found { IfOk result (λ p. (start < p.1) × (p.1 ≤ length words.now.tokens)
         × Found (drop start (symbols_of words.now)) (tree_of p.0) (drop p.1 (symbols_of words.now))) }
-    ensures only { (x : Syntax) (rest : List Symbol) → IsExpression x → Follows rest →
-        drop start (symbols_of words.now) ≡ spelling x ++ rest → Reads (symbols_of words.now) (Ok (tree x, rest)) result }
+    ensures only { (x : Syntax) (rest : List Symbol) → IsExpression x → Follows rest → drop start (symbols_of words.now)
+        ≡ spelling x ++ rest → Reads (symbols_of words.now) (Ok (tree x, rest)) result }
 
     // What is refused breaks off at the first place at which no expression goes on, and why it
     // does there is the code.
-    ensures broken { IfErr result (λ e. (code : ℕ) → e ≡ SyntaxFault.Refused code → Broken (drop start (symbols_of words.now)) code) }
+    ensures broken { IfErr result (λ e. (code : ℕ) → e ≡ SyntaxFault.Refused code
+        → Broken (drop start (symbols_of words.now)) code) }
 
     ensures exact { GivesExpr (expr_at (symbols_of words.now) start) result }
     ensures indices { IfOk result (λ p. IndicesFit (tree_of p.0)) }

@@ -46,7 +46,8 @@ pub fn take_symbol(
     level: Level,
     symbol: Symbol,
 ) -> Result<Step, SyntaxFault>
-    ensures { Steps (step all_limits (state_of mode (stack_of pending.old.items) level) symbol) result (stack_of pending.new.items) }
+    ensures { Steps (step all_limits (state_of mode (stack_of pending.old.items) level) symbol) result
+        (stack_of pending.new.items) }
 {
     match mode {
         Mode::Wants => on_operand(alloc, pending, level, symbol),
@@ -80,7 +81,8 @@ fn on_operand(
     level: Level,
     symbol: Symbol,
 ) -> Result<Step, SyntaxFault>
-    ensures { Steps (on_operand all_limits (stack_of pending.old.items) level symbol) result (stack_of pending.new.items) }
+    ensures { Steps (on_operand all_limits (stack_of pending.old.items) level symbol) result
+        (stack_of pending.new.items) }
 {
     match symbol {
         Symbol::Number(number, _) => ended(alloc, pending, level, Expr::Number(number)),
@@ -101,7 +103,8 @@ fn ended(
     level: Level,
     operand: Expr,
 ) -> Result<Step, SyntaxFault>
-    ensures { Steps (On (state_with_tree level (attach (tree_of operand) (stack_of pending.old.items)))) result (stack_of pending.new.items) }
+    ensures { Steps (On (state_with_tree level (attach (tree_of operand) (stack_of pending.old.items)))) result
+        (stack_of pending.new.items) }
 {
     let operand = attach(alloc, pending, operand)?;
     Ok(Step::On(Mode::Has(operand), level))
@@ -124,7 +127,8 @@ fn on_sign(pending: &mut Vec<Held>, level: Level, op: BinaryOp) -> Result<Step, 
 
 /// Takes a NOT before an operand.
 fn on_not(pending: &mut Vec<Held>, level: Level) -> Result<Step, SyntaxFault>
-    ensures { Steps (with_prefix (joint_level level Level.Connects) (clash level Level.Connects) UnaryOp.Not (stack_of pending.old.items)) result (stack_of pending.new.items) }
+    ensures { Steps (with_prefix (joint_level level Level.Connects) (clash level Level.Connects) UnaryOp.Not
+        (stack_of pending.old.items)) result (stack_of pending.new.items) }
 {
     match together(level, Level::Connects) {
         Some(level) => {
@@ -138,7 +142,8 @@ fn on_not(pending: &mut Vec<Held>, level: Level) -> Result<Step, SyntaxFault>
 /// Opens a bracket that counts as a parenthesis.
 #[tactic(auto, unfolding(crate::specs::Machine::next_in_bracket))]
 fn opened(pending: &mut Vec<Held>, level: Level, bracket: Bracket) -> Result<Step, SyntaxFault>
-    ensures { Steps (next_in_bracket all_limits bracket (stack_of pending.old.items) level) result (stack_of pending.new.items) }
+    ensures { Steps (next_in_bracket all_limits bracket (stack_of pending.old.items) level) result
+        (stack_of pending.new.items) }
 {
     if PARENTHESIS_LIMIT <= depth(pending) {
         return Err(SyntaxFault::Refused(26));
@@ -178,7 +183,8 @@ fn on_argument(
     function: UnaryOp,
     symbol: Symbol,
 ) -> Result<Step, SyntaxFault>
-    ensures { Steps (on_argument all_limits function (stack_of pending.old.items) level symbol) result (stack_of pending.new.items) }
+    ensures { Steps (on_argument all_limits function (stack_of pending.old.items) level symbol) result
+        (stack_of pending.new.items) }
 {
     match symbol {
         Symbol::Open => opened(pending, level, Bracket::Argument(function)),
@@ -195,7 +201,8 @@ fn on_ended(
     operand: Expr,
     symbol: Symbol,
 ) -> Result<Step, SyntaxFault>
-    ensures { Steps (on_ended all_limits (tree_of operand) (stack_of pending.old.items) level symbol) result (stack_of pending.new.items) }
+    ensures { Steps (on_ended all_limits (tree_of operand) (stack_of pending.old.items) level symbol) result
+        (stack_of pending.new.items) }
 {
     match symbol {
         Symbol::Operator(op) => on_operator(alloc, pending, level, op, operand),
@@ -215,7 +222,8 @@ fn on_operator(
     op: BinaryOp,
     operand: Expr,
 ) -> Result<Step, SyntaxFault>
-    ensures { Steps (on_operator all_limits op (join (rank op) (tree_of operand) (stack_of pending.old.items)) level) result (stack_of pending.new.items) }
+    ensures { Steps (on_operator all_limits op (join (rank op) (tree_of operand) (stack_of pending.old.items)) level)
+        result (stack_of pending.new.items) }
 {
     let left = join(alloc, pending, rank(op), operand)?;
     match together(level, kind(op)) {
@@ -230,7 +238,8 @@ fn on_operator(
 /// Takes a closing parenthesis after an operand.
 #[tactic(auto, unfolding(crate::specs::Machine::on_close))]
 fn on_close(alloc: Global, pending: &mut Vec<Held>, operand: Expr) -> Result<Step, SyntaxFault>
-    ensures { Steps (on_close (join 0 (tree_of operand) (stack_of pending.old.items))) result (stack_of pending.new.items) }
+    ensures { Steps (on_close (join 0 (tree_of operand) (stack_of pending.old.items))) result
+        (stack_of pending.new.items) }
 {
     let inner = join(alloc, pending, 0, operand)?;
     match pop(pending) {
@@ -251,7 +260,8 @@ fn on_close_bracket(
     pending: &mut Vec<Held>,
     operand: Expr,
 ) -> Result<Step, SyntaxFault>
-    ensures { Steps (on_close_bracket (join 0 (tree_of operand) (stack_of pending.old.items))) result (stack_of pending.new.items) }
+    ensures { Steps (on_close_bracket (join 0 (tree_of operand) (stack_of pending.old.items))) result
+        (stack_of pending.new.items) }
 {
     let inner = join(alloc, pending, 0, operand)?;
     match pop(pending) {
@@ -267,7 +277,8 @@ fn on_close_bracket(
 /// Ends an expression where no bracket is open.
 #[tactic(auto, unfolding(crate::specs::Machine::on_other))]
 fn on_other(alloc: Global, pending: &mut Vec<Held>, operand: Expr) -> Result<Step, SyntaxFault>
-    ensures { Steps (on_other (join 0 (tree_of operand) (stack_of pending.old.items))) result (stack_of pending.new.items) }
+    ensures { Steps (on_other (join 0 (tree_of operand) (stack_of pending.old.items))) result
+        (stack_of pending.new.items) }
 {
     let inner = join(alloc, pending, 0, operand)?;
     match pop(pending) {

@@ -280,7 +280,8 @@ fn operands(
     requires first_fits { OperandFits (operand_view first) }
     requires second_fits { OperandFits (operand_view second) }
     ensures indices { IfOk result (λ v. All OperandFits (map operand_view v.items)) }
-    ensures exact { IfOk result (λ v. map operand_view v.items ≡ operand_view first ∷ (operand_view second ∷ third (bytes_option last))) }
+    ensures exact { IfOk result (λ v. map operand_view v.items ≡ operand_view first
+        ∷ (operand_view second ∷ third (bytes_option last))) }
 {
     let mut list = Vec::new(alloc);
     list.push(first)?;

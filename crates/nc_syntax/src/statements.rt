@@ -149,7 +149,8 @@ pub fn statement(alloc: Global, words: &Words<'_>, compensation: bool) -> Result
 
     // What is read is spelled so, and what is spelled so is read: one block at most.
     ensures found { IfOk result (λ b. Spells words.now (view_of b)) }
-    ensures only { (b : BlockView) → IsAccepted words.now compensation → Spells words.now b → Gives view_of (Ok b) result }
+    ensures only { (b : BlockView) → IsAccepted words.now compensation → Spells words.now b
+        → Gives view_of (Ok b) result }
 
     // A refusal of its form has the code of the leftmost place at which no block goes on.
     ensures breaks_off { IfErr result (BreaksOff words.now compensation) }

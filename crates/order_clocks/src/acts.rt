@@ -32,7 +32,8 @@ pub(crate) struct Act {
 
 /// The own marks that an action raises.
 pub(crate) fn raises_of(action: &Action, own: MarkSet) -> MarkSet
-    ensures { names_no_mark action.now ≡ false → (m : ℕ) → has result m ≡ (marks_after (has own) action.now m && not (has own m)) }
+    ensures { names_no_mark action.now ≡ false → (m : ℕ)
+        → has result m ≡ (marks_after (has own) action.now m && not (has own m)) }
 {
     match action {
         Action::WaitM(mark, _) => {

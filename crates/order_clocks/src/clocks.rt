@@ -90,8 +90,11 @@ fn ends_of(run: &Run) -> &[ChannelEnd]
 pub fn clocks_of(alloc: Global, run: &Run) -> Result<Clocks, NoMemory>
     requires few { length run.now.entries < 2 ^ 32 }
     requires whole { (start : StartView) × ComesFrom start run.now }
-    ensures order { (start : StartView) → ComesFrom start run.now → IfOk result (λ clocks. IsOrderOf (first_board start) (moves_in run.now.entries) (is_before_in clocks.rows)) }
-    ensures race { (start : StartView) → ComesFrom start run.now → IfOk result (λ clocks. IsFirst (first_board start) (moves_in run.now.entries) (length run.now.entries) clocks.race) }
+    ensures order { (start : StartView) → ComesFrom start run.now
+        → IfOk result (λ clocks. IsOrderOf (first_board start) (moves_in run.now.entries) (is_before_in clocks.rows)) }
+    ensures race { (start : StartView) → ComesFrom start run.now
+        → IfOk result (λ clocks. IsFirst (first_board start) (moves_in run.now.entries)
+        (length run.now.entries) clocks.race) }
 {
     read_run(alloc, entries_of(run), ends_of(run))
 }

@@ -23,8 +23,10 @@ pub(crate) fn read_run(
 ) -> Result<Clocks, NoMemory>
     requires few { length entries.now < 2 ^ 32 }
     requires whole { (b : Board) × IsWhole b entries.now ends.now }
-    ensures order { (b : Board) → IsWhole b entries.now ends.now → IfOk result (λ clocks. IsOrderOf b (moves_in entries.now) (is_before_in clocks.rows)) }
-    ensures race { (b : Board) → IsWhole b entries.now ends.now → IfOk result (λ clocks. IsFirst b (moves_in entries.now) (length entries.now) clocks.race) }
+    ensures order { (b : Board) → IsWhole b entries.now ends.now
+        → IfOk result (λ clocks. IsOrderOf b (moves_in entries.now) (is_before_in clocks.rows)) }
+    ensures race { (b : Board) → IsWhole b entries.now ends.now
+        → IfOk result (λ clocks. IsFirst b (moves_in entries.now) (length entries.now) clocks.race) }
 {
     let _zero = Row::zero();
     let first = Reader::new(entries, ends);

@@ -10,7 +10,8 @@ use step_deeds::{Departure, are_partners_at};
 
 /// Gives all that have the one number the other.
 pub(crate) fn relabel(group: &mut [u8; CHANNEL_PLACES], old: u8, new: u8)
-    ensures group { (c : ℕ) → c < CHANNEL_PLACES → slice_index group.new c ≡ (if slice_index group.old c == old then new else slice_index group.old c) }
+    ensures group { (c : ℕ) → c < CHANNEL_PLACES → slice_index group.new c
+        ≡ (if slice_index group.old c == old then new else slice_index group.old c) }
     ensures size { length group.new ≡ CHANNEL_PLACES }
 {
     for c in 0..CHANNEL_PLACES {
@@ -24,7 +25,8 @@ pub(crate) fn relabel(group: &mut [u8; CHANNEL_PLACES], old: u8, new: u8)
 pub(crate) fn join(group: &mut [u8; CHANNEL_PLACES], a: usize, b: usize)
     requires first { a < CHANNEL_PLACES }
     requires second { b < CHANNEL_PLACES }
-    ensures kept { (c d : ℕ) → c < CHANNEL_PLACES → d < CHANNEL_PLACES → slice_index group.old c ≡ slice_index group.old d → slice_index group.new c ≡ slice_index group.new d }
+    ensures kept { (c d : ℕ) → c < CHANNEL_PLACES → d < CHANNEL_PLACES → slice_index group.old c
+        ≡ slice_index group.old d → slice_index group.new c ≡ slice_index group.new d }
     ensures joined { slice_index group.new a ≡ slice_index group.new b }
     ensures linked { (ps : List Pair) → ArePaired ps a b → AreAllLinked ps group.old → AreAllLinked ps group.new }
     ensures size { length group.new ≡ CHANNEL_PLACES }
@@ -45,9 +47,11 @@ pub(crate) fn join_partners(
     requires first_below { a < CHANNEL_PLACES }
     requires second { 1 ≤ b }
     requires second_below { b < CHANNEL_PLACES }
-    ensures kept { (c d : ℕ) → c < CHANNEL_PLACES → d < CHANNEL_PLACES → slice_index group.old c ≡ slice_index group.old d → slice_index group.new c ≡ slice_index group.new d }
+    ensures kept { (c d : ℕ) → c < CHANNEL_PLACES → d < CHANNEL_PLACES → slice_index group.old c
+        ≡ slice_index group.old d → slice_index group.new c ≡ slice_index group.new d }
     ensures joined { are_partners goes.now a b ≡ true → slice_index group.new a ≡ slice_index group.new b }
-    ensures linked { (ps : List Pair) → PairsAllPartners ps goes.now → AreAllLinked ps group.old → AreAllLinked ps group.new }
+    ensures linked { (ps : List Pair) → PairsAllPartners ps goes.now
+        → AreAllLinked ps group.old → AreAllLinked ps group.new }
     ensures size { length group.new ≡ CHANNEL_PLACES }
 {
     if are_partners_at(goes, a, b) {
@@ -63,9 +67,12 @@ pub(crate) fn join_to(
 )
     requires from { 1 ≤ a }
     requires below { a < CHANNEL_PLACES }
-    ensures kept { (c d : ℕ) → c < CHANNEL_PLACES → d < CHANNEL_PLACES → slice_index group.old c ≡ slice_index group.old d → slice_index group.new c ≡ slice_index group.new d }
-    ensures joined { (b : ℕ) → 1 ≤ b → b < CHANNEL_PLACES → are_partners goes.now a b ≡ true → slice_index group.new a ≡ slice_index group.new b }
-    ensures linked { (ps : List Pair) → PairsAllPartners ps goes.now → AreAllLinked ps group.old → AreAllLinked ps group.new }
+    ensures kept { (c d : ℕ) → c < CHANNEL_PLACES → d < CHANNEL_PLACES → slice_index group.old c
+        ≡ slice_index group.old d → slice_index group.new c ≡ slice_index group.new d }
+    ensures joined { (b : ℕ) → 1 ≤ b → b < CHANNEL_PLACES → are_partners goes.now a b ≡ true
+        → slice_index group.new a ≡ slice_index group.new b }
+    ensures linked { (ps : List Pair) → PairsAllPartners ps goes.now
+        → AreAllLinked ps group.old → AreAllLinked ps group.new }
     ensures size { length group.new ≡ CHANNEL_PLACES }
 {
     if goes[usize::from(a)].is_none() {
@@ -78,7 +85,8 @@ pub(crate) fn join_to(
 
 /// Numbers for channels: those that go on as one event have one.
 pub(crate) fn groups_of(goes: &[Option<Departure>; CHANNEL_PLACES]) -> [u8; CHANNEL_PLACES]
-    ensures joined { (a b : ℕ) → 1 ≤ a → a < CHANNEL_PLACES → 1 ≤ b → b < CHANNEL_PLACES → are_partners goes.now a b ≡ true → slice_index result a ≡ slice_index result b }
+    ensures joined { (a b : ℕ) → 1 ≤ a → a < CHANNEL_PLACES → 1 ≤ b → b < CHANNEL_PLACES → are_partners goes.now a b
+        ≡ true → slice_index result a ≡ slice_index result b }
     ensures linked { (ps : List Pair) → PairsAllPartners ps goes.now → AreAllLinked ps result }
 {
     let mut group = [0, 1, 2, 3, 4, 5, 6, 7, 8];

@@ -131,7 +131,11 @@ pub(crate) fn lesser_if(least: Option<Race>, is_race: bool, race: Race) -> Optio
 
 /// A race of two events.
 pub(crate) fn race_of(case: u8, first: &Event, second: &Event) -> Race
-    ensures { result ≡ (record { case = case; first = (first.now.channel, first.now.line); second = (second.now.channel, second.now.line) }) }
+    ensures { result ≡ (record {
+      case = case;
+      first = (first.now.channel, first.now.line);
+      second = (second.now.channel, second.now.line);
+    }) }
 {
     Race {
         case,

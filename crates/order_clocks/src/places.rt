@@ -46,7 +46,8 @@ impl Places {
 
     /// Notes the act.
     pub(crate) fn note_act(&mut self, deed: &Deed, place: u64)
-        ensures { (t : Trace) (c : ℕ) → count_of (spot_at self.new t) c ≡ (if deed_leaves deed.now t && (c == deed.now.channel) then place else count_of (spot_at self.old t) c) }
+        ensures { (t : Trace) (c : ℕ) → count_of (spot_at self.new t) c
+            ≡ (if deed_leaves deed.now t && (c == deed.now.channel) then place else count_of (spot_at self.old t) c) }
     {
         let c = usize::from(deed.channel.number);
         note_column(&mut self.lowered, &mark_flags(&deed.lowers), c, place);
@@ -57,7 +58,8 @@ impl Places {
     pub(crate) fn note_go(&mut self, c: usize, gone: &Departure, place: u64)
         requires channel { c < CHANNEL_PLACES }
         requires number { DepartsFromMark (Some gone.now) }
-        ensures { (t : Trace) (d : ℕ) → count_of (spot_at self.new t) d ≡ (if departure_leaves c gone.now t && (d == c) then place else count_of (spot_at self.old t) d) }
+        ensures { (t : Trace) (d : ℕ) → count_of (spot_at self.new t) d
+            ≡ (if departure_leaves c gone.now t && (d == c) then place else count_of (spot_at self.old t) d) }
     {
         note_chosen(&mut self.took, &axis_flags(&gone.took), c, place);
         if let Some(held) = &gone.held {
@@ -81,7 +83,9 @@ impl Places {
         rows: &[Row; CHANNEL_PLACES],
     )
         requires numbers { (c : ℕ) → DepartsFromMark (slice_index_or goes.now c None) }
-        ensures { (t : Trace) (c : ℕ) → count_of (spot_at self.new t) c ≡ (if leaves_of c (slice_index_or goes.now c None) t then count_of (slice_index_or rows.now c []) c else count_of (spot_at self.old t) c) }
+        ensures { (t : Trace) (c : ℕ) → count_of (spot_at self.new t) c
+            ≡ (if leaves_of c (slice_index_or goes.now c None) t then count_of (slice_index_or rows.now c []) c
+            else count_of (spot_at self.old t) c) }
     {
         for c in 0..CHANNEL_PLACES {
             if let Some(gone) = &goes[c] {
@@ -93,7 +97,8 @@ impl Places {
     /// Notes the events of a step.
     pub(crate) fn note(&mut self, deed: &Deed, rows: &StepRows)
         requires numbers { (c : ℕ) → DepartsFromMark (departure_of deed.now c) }
-        ensures { (run : Course) (tracks : Tracks) (i : ℕ) → IsStep run i deed.now → IsTracked tracks i deed.now → AreRows run i rows.now → AreLast run tracks i self.old → AreLast run tracks (suc i) self.new }
+        ensures { (run : Course) (tracks : Tracks) (i : ℕ) → IsStep run i deed.now → IsTracked tracks i deed.now
+            → AreRows run i rows.now → AreLast run tracks i self.old → AreLast run tracks (suc i) self.new }
     {
         let c = deed.actor();
         self.note_act(deed, rows.act.at(c));
@@ -135,7 +140,8 @@ impl Places {
     pub(crate) fn go_limit(&self, c: usize, gone: &Option<Departure>) -> Row
         requires channel { c < CHANNEL_PLACES }
         requires number { DepartsFromMark gone.now }
-        ensures { (x : ℕ) → count_of result x ≡ top (λ t. count_of (spot_at self.now t) x) (departure_minds c gone.now) }
+        ensures { (x : ℕ) → count_of result x ≡ top (λ t. count_of (spot_at self.now t) x)
+            (departure_minds c gone.now) }
     {
         match gone {
             None => Row::zero(),
@@ -157,7 +163,9 @@ impl Places {
         rows: &[Row; CHANNEL_PLACES],
     ) -> bool
         requires numbers { (c : ℕ) → DepartsFromMark (slice_index_or goes.now c None) }
-        ensures { IsTrue result ↔ ((c d : ℕ) × (((d == c) ≡ false) × (count_of (slice_index_or rows.now c []) d < top (λ t. count_of (spot_at self.now t) d) (departure_minds c (slice_index_or goes.now c None))))) }
+        ensures { IsTrue result ↔ ((c d : ℕ) × (((d == c) ≡ false)
+            × (count_of (slice_index_or rows.now c []) d < top (λ t. count_of (spot_at self.now t) d)
+            (departure_minds c (slice_index_or goes.now c None))))) }
     {
         for c in 0..CHANNEL_PLACES {
             if goes[c].is_some() {
@@ -174,7 +182,8 @@ impl Places {
     pub(crate) fn is_racy(&self, deed: &Deed, rows: &StepRows) -> bool
         requires number { BeginsAtMark deed.now.begins }
         requires numbers { (c : ℕ) → DepartsFromMark (departure_of deed.now c) }
-        ensures { (run : Course) (tracks : Tracks) (i : ℕ) → IsStep run i deed.now → IsTracked tracks i deed.now → AreRows run i rows.now → AreLast run tracks i self.now → (IsTrue result ↔ IsRacyAt run tracks i) }
+        ensures { (run : Course) (tracks : Tracks) (i : ℕ) → IsStep run i deed.now → IsTracked tracks i deed.now
+            → AreRows run i rows.now → AreLast run tracks i self.now → (IsTrue result ↔ IsRacyAt run tracks i) }
     {
         let c = deed.actor();
         let limit = self.act_limit(deed);

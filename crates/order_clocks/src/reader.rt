@@ -73,8 +73,10 @@ pub(crate) fn goes_of(entry: &Entry) -> &[Go]
 pub(crate) fn tell_entry(watch: &mut Watch, entry: &Entry, alarms: bool, deed: &mut Deed)
     requires sound { WatchIsSound watch.old }
     ensures sound { WatchIsSound watch.new }
-    ensures reads { (b : Board) → Keeps watch.old b → IsLawful b entry.now.channel entry.now.step entry.now.goes alarms → IsRead deed.new (happening_of b entry.now.channel entry.now.step) }
-    ensures keeps { (b : Board) → Keeps watch.old b → IsLawful b entry.now.channel entry.now.step entry.now.goes alarms → Keeps watch.new (after_step b entry.now.channel entry.now.step) }
+    ensures reads { (b : Board) → Keeps watch.old b → IsLawful b entry.now.channel entry.now.step entry.now.goes alarms
+        → IsRead deed.new (happening_of b entry.now.channel entry.now.step) }
+    ensures keeps { (b : Board) → Keeps watch.old b → IsLawful b entry.now.channel entry.now.step entry.now.goes alarms
+        → Keeps watch.new (after_step b entry.now.channel entry.now.step) }
     ensures departures { (c : ℕ) → DepartsFromMark (departure_of deed.new c) }
     ensures begins { BeginIsSound deed.new.begins }
     ensures none { goes_in deed.new 0 ≡ false }
@@ -106,8 +108,10 @@ impl Reader {
         requires place { place < length entries.now }
         requires few { length entries.now < 2 ^ 32 }
         requires reader { (b : Board) × IsReaderAt b entries.now place self.old }
-        ensures next { (b : Board) → IsReaderAt b entries.now place self.old → IsReaderAt b entries.now (suc place) self.new }
-        ensures read { (b : Board) → IsReaderAt b entries.now place self.old → IsReadAt b (moves_in entries.now) place read.new self.new.watch }
+        ensures next { (b : Board) → IsReaderAt b entries.now place self.old
+            → IsReaderAt b entries.now (suc place) self.new }
+        ensures read { (b : Board) → IsReaderAt b entries.now place self.old
+            → IsReadAt b (moves_in entries.now) place read.new self.new.watch }
         ensures departures { (c : ℕ) → DepartsFromMark (departure_of read.new.deed c) }
         ensures begins { BeginsAtMark read.new.deed.begins }
     {

@@ -36,7 +36,8 @@ pub(crate) fn least_within(
     events: &[Option<Event>; EVENT_PLACES],
     waits: &[Option<Event>; EVENT_PLACES],
 ) -> Option<Race>
-    ensures { IsLeastWith (λ race. IsRaceBetween Waiting events.now waits.now EVENT_PLACES race ⊎ IsRaceBetween Together events.now events.now EVENT_PLACES race) None result }
+    ensures { IsLeastWith (λ race. IsRaceBetween Waiting events.now waits.now EVENT_PLACES race ⊎ IsRaceBetween Together
+        events.now events.now EVENT_PLACES race) None result }
 {
     let waiting = least_between(&Meeting::Waiting, events, waits, None);
     least_between(&Meeting::Together, events, events, waiting)
@@ -53,8 +54,11 @@ pub(crate) fn least_before(
     requires place { place ≤ length entries.now }
     requires few { length entries.now < 2 ^ 32 }
     requires reader { (b : Board) × IsReaderAt b entries.now 0 first.now }
-    ensures { (b : Board) (late : Deed) (rows : StepRows) → IsReaderAt b entries.now 0 first.now → IsKnownStep (course_of b (moves_in entries.now)) (tracks_of b (moves_in entries.now)) place late rows → AreEvents late rows lates.now
-        → IsLeastWith (IsEarlierRace (course_of b (moves_in entries.now)) (tracks_of b (moves_in entries.now)) place place) start result }
+    ensures { (b : Board) (late : Deed) (rows : StepRows) → IsReaderAt b entries.now 0 first.now
+        → IsKnownStep (course_of b (moves_in entries.now)) (tracks_of b (moves_in entries.now)) place late rows
+        → AreEvents late rows lates.now
+        → IsLeastWith (IsEarlierRace (course_of b (moves_in entries.now))
+        (tracks_of b (moves_in entries.now)) place place) start result }
 {
     let mut reader = *first;
     let mut least = start;
@@ -85,7 +89,9 @@ pub(crate) fn least_at(
     requires reader { (b : Board) × IsReaderAt b entries.now 0 first.now }
     requires departures { (c : ℕ) → DepartsFromMark (departure_of read.now.deed c) }
     requires begins { BeginsAtMark read.now.deed.begins }
-    ensures { (b : Board) → IsReaderAt b entries.now 0 first.now → IsReadAt b (moves_in entries.now) place read.now watch.now → AreLast (course_of b (moves_in entries.now)) (tracks_of b (moves_in entries.now)) place places.now
+    ensures { (b : Board) → IsReaderAt b entries.now 0 first.now
+        → IsReadAt b (moves_in entries.now) place read.now watch.now
+        → AreLast (course_of b (moves_in entries.now)) (tracks_of b (moves_in entries.now)) place places.now
         → place < length entries.now → IsLeastWith (IsRace b (moves_in entries.now) place) None result }
 {
     put_events(&read.deed, &read.rows, events);
@@ -125,7 +131,10 @@ impl Search {
         requires reader { (b : Board) × IsReaderAt b entries.now 0 first.now }
         requires departures { (c : ℕ) → DepartsFromMark (departure_of read.now.deed c) }
         requires begins { BeginsAtMark read.now.deed.begins }
-        ensures { (b : Board) → IsReaderAt b entries.now 0 first.now → IsReadAt b (moves_in entries.now) place read.now watch.now → IsSearched b (moves_in entries.now) place self.old → IsSearched b (moves_in entries.now) (suc place) self.new }
+        ensures { (b : Board) → IsReaderAt b entries.now 0 first.now
+            → IsReadAt b (moves_in entries.now) place read.now watch.now
+            → IsSearched b (moves_in entries.now) place self.old
+            → IsSearched b (moves_in entries.now) (suc place) self.new }
     {
         match self.race {
             Some(_) => {}

@@ -43,8 +43,10 @@ impl StepReader {
         requires place { place < length entries.now }
         requires few { length entries.now < 2 ^ 32 }
         requires reader { (b : Board) × IsAtStep b entries.now place self.old }
-        ensures next { (b : Board) → IsAtStep b entries.now place self.old → IsAtStep b entries.now (suc place) self.new }
-        ensures read { (b : Board) → IsAtStep b entries.now place self.old → IsReadStep b (moves_in entries.now) place result }
+        ensures next { (b : Board) → IsAtStep b entries.now place self.old
+            → IsAtStep b entries.now (suc place) self.new }
+        ensures read { (b : Board) → IsAtStep b entries.now place self.old
+            → IsReadStep b (moves_in entries.now) place result }
     {
         let entry = &entries[place];
         let alarms = self.stops.is_at(entry, place);

@@ -21,7 +21,8 @@ pub(crate) fn actor_of(entry: &Entry) -> usize
 /// For each channel one more than the place of its last entry; 0 where it has none.
 pub(crate) fn last_places(entries: &[Entry]) -> [usize; CHANNEL_PLACES]
     ensures places { AreLastPlaces (map (λ e. e.channel) entries.now) (length entries.now) result }
-    ensures channels { (i : ℕ) → i < length entries.now → (1 ≤ channel_at (map (λ e. e.channel) entries.now) i) × (channel_at (map (λ e. e.channel) entries.now) i < CHANNEL_PLACES) }
+    ensures channels { (i : ℕ) → i < length entries.now → (1 ≤ channel_at (map (λ e. e.channel) entries.now) i)
+        × (channel_at (map (λ e. e.channel) entries.now) i < CHANNEL_PLACES) }
     ensures size { length result ≡ CHANNEL_PLACES }
 {
     let mut last = [0; CHANNEL_PLACES];
@@ -72,7 +73,8 @@ pub(crate) fn take_end(ends: &[ChannelEnd], from: usize, acted: bool) -> (bool, 
     requires { from ≤ length ends.now }
     ensures within { result.1 ≤ length ends.now }
     ensures passed { acted ≡ false → result.1 ≡ from }
-    ensures taken { (flag : Bool) (flags : List Bool) → acted ≡ true → alarms_in (drop from ends.now) ≡ flag ∷ flags → (result.0 ≡ flag) × (alarms_in (drop result.1 ends.now) ≡ flags) }
+    ensures taken { (flag : Bool) (flags : List Bool) → acted ≡ true → alarms_in (drop from ends.now) ≡ flag ∷ flags
+        → (result.0 ≡ flag) × (alarms_in (drop result.1 ends.now) ≡ flags) }
 {
     if !acted {
         return (false, from);

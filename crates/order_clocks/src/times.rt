@@ -50,8 +50,11 @@ impl Times {
     /// Counts the Act.
     pub fn open(&mut self, deed: &Deed) -> Row
         requires room { count_of (slice_index_or self.old.past deed.now.channel []) deed.now.channel + 1 < 2 ^ 64 }
-        ensures row { (c : ℕ) → count_of result c ≡ (if c == deed.now.channel then suc (count_of (slice_index_or self.old.past deed.now.channel []) c) else count_of (slice_index_or self.old.past deed.now.channel []) c) }
-        ensures past { (c : ℕ) → slice_index_or self.new.past c [] ≡ (if c == deed.now.channel then result else slice_index_or self.old.past c []) }
+        ensures row { (c : ℕ) → count_of result c
+            ≡ (if c == deed.now.channel then suc (count_of (slice_index_or self.old.past deed.now.channel []) c)
+            else count_of (slice_index_or self.old.past deed.now.channel []) c) }
+        ensures past { (c : ℕ) → slice_index_or self.new.past c []
+            ≡ (if c == deed.now.channel then result else slice_index_or self.old.past c []) }
         ensures last { (k : Key) → row_at self.new k ≡ (if gives_of deed.now k then result else row_at self.old k) }
     {
         let c = usize::from(deed.channel.number);
@@ -70,7 +73,8 @@ impl Times {
     pub(crate) fn own_row(&self, c: usize, gone: &Option<Departure>) -> Row
         requires channel { c < CHANNEL_PLACES }
         requires number { DepartsFromMark gone.now }
-        ensures { (x : ℕ) → count_of result x ≡ max (count_of (slice_index_or self.now.past c []) x) (top (λ k. count_of (row_at self.now k) x) (keys_of c gone.now)) }
+        ensures { (x : ℕ) → count_of result x ≡ max (count_of (slice_index_or self.now.past c []) x)
+            (top (λ k. count_of (row_at self.now k) x) (keys_of c gone.now)) }
     {
         let past = at_channel(&self.past, c);
         match gone {
@@ -97,7 +101,9 @@ impl Times {
         goes: &[Option<Departure>; CHANNEL_PLACES],
     ) -> [Row; CHANNEL_PLACES]
         requires numbers { (c : ℕ) → DepartsFromMark (slice_index_or goes.now c None) }
-        ensures rows { (c x : ℕ) → c < CHANNEL_PLACES → count_of (slice_index_or result c []) x ≡ max (count_of (slice_index_or self.now.past c []) x) (top (λ k. count_of (row_at self.now k) x) (keys_of c (slice_index_or goes.now c None))) }
+        ensures rows { (c x : ℕ) → c < CHANNEL_PLACES → count_of (slice_index_or result c []) x
+            ≡ max (count_of (slice_index_or self.now.past c []) x)
+            (top (λ k. count_of (row_at self.now k) x) (keys_of c (slice_index_or goes.now c None))) }
         ensures size { length result ≡ CHANNEL_PLACES }
     {
         let mut own = [Row::zero(); CHANNEL_PLACES];
@@ -111,8 +117,10 @@ impl Times {
     pub(crate) fn close(&mut self, deed: &Deed, rows: &mut [Row; CHANNEL_PLACES])
         requires room { HasRoom self.old 1 }
         requires numbers { (c : ℕ) → DepartsFromMark (departure_of deed.now c) }
-        ensures shows { (run : Course) (i : ℕ) (s : LastRows) → IsStep run i deed.now → Shows self.old s → Shows self.new (rows_after_goings run i s) }
-        ensures rows { (run : Course) (i : ℕ) (s : LastRows) → IsStep run i deed.now → Shows self.old s → (c x : ℕ) → goes_in deed.now c ≡ true → count_of (slice_index_or rows.new c []) x ≡ go_row run i s (run.group i c) x }
+        ensures shows { (run : Course) (i : ℕ) (s : LastRows) → IsStep run i deed.now → Shows self.old s
+            → Shows self.new (rows_after_goings run i s) }
+        ensures rows { (run : Course) (i : ℕ) (s : LastRows) → IsStep run i deed.now → Shows self.old s → (c x : ℕ)
+            → goes_in deed.now c ≡ true → count_of (slice_index_or rows.new c []) x ≡ go_row run i s (run.group i c) x }
     {
         if is_nobody(&deed.goes) {
             return;
@@ -132,8 +140,10 @@ impl Times {
         requires numbers { (c : ℕ) → DepartsFromMark (departure_of deed.now c) }
         requires goers { (c : ℕ) → has goes.now c ≡ goes_in deed.now c }
         requires size { length goes.now ≡ CHANNEL_PLACES }
-        ensures shows { (run : Course) (i : ℕ) (s : LastRows) → IsStep run i deed.now → Shows self.old s → Shows self.new (rows_after_goings run i s) }
-        ensures rows { (run : Course) (i : ℕ) (s : LastRows) → IsStep run i deed.now → Shows self.old s → (c x : ℕ) → goes_in deed.now c ≡ true → count_of (slice_index_or rows.new c []) x ≡ go_row run i s (run.group i c) x }
+        ensures shows { (run : Course) (i : ℕ) (s : LastRows) → IsStep run i deed.now → Shows self.old s
+            → Shows self.new (rows_after_goings run i s) }
+        ensures rows { (run : Course) (i : ℕ) (s : LastRows) → IsStep run i deed.now → Shows self.old s → (c x : ℕ)
+            → goes_in deed.now c ≡ true → count_of (slice_index_or rows.new c []) x ≡ go_row run i s (run.group i c) x }
     {
         let own = self.own_rows(&deed.goes);
         *rows = joint_rows(&own, goes, &deed.group);
@@ -144,8 +154,10 @@ impl Times {
     pub fn step(&mut self, deed: &Deed, rows: &mut StepRows)
         requires room { HasRoom self.old 2 }
         requires numbers { (c : ℕ) → DepartsFromMark (departure_of deed.now c) }
-        ensures shows { (run : Course) (i : ℕ) → IsStep run i deed.now → Shows self.old (last_rows run i) → Shows self.new (last_rows run (suc i)) }
-        ensures rows { (run : Course) (i : ℕ) → IsStep run i deed.now → Shows self.old (last_rows run i) → AreRows run i rows.new }
+        ensures shows { (run : Course) (i : ℕ) → IsStep run i deed.now → Shows self.old (last_rows run i)
+            → Shows self.new (last_rows run (suc i)) }
+        ensures rows { (run : Course) (i : ℕ) → IsStep run i deed.now
+            → Shows self.old (last_rows run i) → AreRows run i rows.new }
     {
         rows.act = self.open(deed);
         self.close(deed, &mut rows.goes);

@@ -41,9 +41,11 @@ impl Watch {
     /// The act of a channel.
     pub(crate) fn open(&mut self, channel: ChannelId, line: u32, act: &Act)
         ensures marks { (c m : ℕ) → has (slice_index_or self.new.marks c []) m
-            ≡ (if c == channel then (has (slice_index_or self.old.marks c []) m || has act.now.raises m) && not (has act.now.lowers m) else has (slice_index_or self.old.marks c []) m) }
+            ≡ (if c == channel then (has (slice_index_or self.old.marks c []) m || has act.now.raises m)
+            && not (has act.now.lowers m) else has (slice_index_or self.old.marks c []) m) }
         ensures holds { (c : ℕ) → slice_index_or self.new.holds c None
-            ≡ (if c == channel then begun_at act.now.begins line (slice_index_or self.old.holds c None) else slice_index_or self.old.holds c None) }
+            ≡ (if c == channel then begun_at act.now.begins line (slice_index_or self.old.holds c None)
+            else slice_index_or self.old.holds c None) }
     {
         let c = usize::from(channel.number);
         self.marks[c] = self.marks[c].union(act.raises).minus(act.lowers);
@@ -57,10 +59,14 @@ impl Watch {
     pub(crate) fn let_go(&mut self, c: usize, at: &Positions) -> Departure
         requires { c < CHANNEL_PLACES }
         ensures held { result.held ≡ slice_index_or self.old.holds c None }
-        ensures took { (x : ℕ) → has result.took x ≡ (is_at_axes (slice_index_or self.old.holds c None) && is_some (position_of at.now x)) }
-        ensures holds { (d : ℕ) → slice_index_or self.new.holds d None ≡ (if d == c then None else slice_index_or self.old.holds d None) }
+        ensures took { (x : ℕ) → has result.took x
+            ≡ (is_at_axes (slice_index_or self.old.holds c None) && is_some (position_of at.now x)) }
+        ensures holds { (d : ℕ) → slice_index_or self.new.holds d None
+            ≡ (if d == c then None else slice_index_or self.old.holds d None) }
         ensures marks { (d m : ℕ) → has (slice_index_or self.new.marks d []) m
-            ≡ (if d == c then has (slice_index_or self.old.marks d []) m && not (lowers_at (slice_index_or self.old.holds d None) m) else has (slice_index_or self.old.marks d []) m) }
+            ≡ (if d == c then has (slice_index_or self.old.marks d []) m
+            && not (lowers_at (slice_index_or self.old.holds d None) m)
+            else has (slice_index_or self.old.marks d []) m) }
     {
         let held = self.holds[c];
         let took = took_of(&held, at);
@@ -83,7 +89,9 @@ impl Watch {
         ensures holds { (d : ℕ) → slice_index_or self.new.holds d None
             ≡ (if (d == number) && is_some (go_in goes.now d) then None else slice_index_or self.old.holds d None) }
         ensures marks { (d m : ℕ) → has (slice_index_or self.new.marks d []) m
-            ≡ (has (slice_index_or self.old.marks d []) m && not (((d == number) && is_some (go_in goes.now d)) && lowers_at (slice_index_or self.old.holds d None) m)) }
+            ≡ (has (slice_index_or self.old.marks d []) m
+            && not (((d == number) && is_some (go_in goes.now d))
+            && lowers_at (slice_index_or self.old.holds d None) m)) }
     {
         let c = usize::from(number);
         if !goers[c] {
@@ -103,13 +111,19 @@ impl Watch {
         gone: &mut [Option<Departure>; CHANNEL_PLACES],
         group: &mut [u8; CHANNEL_PLACES],
     )
-        ensures goes { (c : ℕ) → IsGone (slice_index_or gone.new c None) (slice_index_or self.old.holds c None) (go_in goes.now c) }
-        ensures holds { (c : ℕ) → slice_index_or self.new.holds c None ≡ (if is_some (go_in goes.now c) then None else slice_index_or self.old.holds c None) }
+        ensures goes { (c : ℕ) → IsGone (slice_index_or gone.new c None)
+            (slice_index_or self.old.holds c None) (go_in goes.now c) }
+        ensures holds { (c : ℕ) → slice_index_or self.new.holds c None
+            ≡ (if is_some (go_in goes.now c) then None else slice_index_or self.old.holds c None) }
         ensures marks { (c m : ℕ) → has (slice_index_or self.new.marks c []) m
-            ≡ (has (slice_index_or self.old.marks c []) m && not (is_some (go_in goes.now c) && lowers_at (slice_index_or self.old.holds c None) m)) }
+            ≡ (has (slice_index_or self.old.marks c []) m
+            && not (is_some (go_in goes.now c) && lowers_at (slice_index_or self.old.holds c None) m)) }
         ensures none { slice_index_or gone.new 0 None ≡ None }
-        ensures joined { (k : ℕ) → is_given (slice_index_or gone.new k None) ≡ true → (a b : ℕ) → 1 ≤ a → a < CHANNEL_PLACES → 1 ≤ b → b < CHANNEL_PLACES → are_partners gone.new a b ≡ true → slice_index group.new a ≡ slice_index group.new b }
-        ensures linked { (k : ℕ) → is_given (slice_index_or gone.new k None) ≡ true → (ps : List Pair) → PairsAllPartners ps gone.new → AreAllLinked ps group.new }
+        ensures joined { (k : ℕ) → is_given (slice_index_or gone.new k None) ≡ true → (a b : ℕ) → 1 ≤ a
+            → a < CHANNEL_PLACES → 1 ≤ b → b < CHANNEL_PLACES → are_partners gone.new a b ≡ true
+            → slice_index group.new a ≡ slice_index group.new b }
+        ensures linked { (k : ℕ) → is_given (slice_index_or gone.new k None) ≡ true → (ps : List Pair)
+            → PairsAllPartners ps gone.new → AreAllLinked ps group.new }
         ensures size { length gone.new ≡ CHANNEL_PLACES }
     {
         clear_goes(gone);
@@ -137,8 +151,10 @@ impl Watch {
     )
         requires sound { WatchIsSound self.old }
         ensures sound { WatchIsSound self.new }
-        ensures reads { (b : Board) → Keeps self.old b → IsLawful b channel step.now goes.now alarms → IsRead deed.new (happening_of b channel step.now) }
-        ensures keeps { (b : Board) → Keeps self.old b → IsLawful b channel step.now goes.now alarms → Keeps self.new (after_step b channel step.now) }
+        ensures reads { (b : Board) → Keeps self.old b → IsLawful b channel step.now goes.now alarms
+            → IsRead deed.new (happening_of b channel step.now) }
+        ensures keeps { (b : Board) → Keeps self.old b → IsLawful b channel step.now goes.now alarms
+            → Keeps self.new (after_step b channel step.now) }
         ensures departures { (c : ℕ) → DepartsFromMark (departure_of deed.new c) }
         ensures begins { BeginIsSound deed.new.begins }
         ensures none { goes_in deed.new 0 ≡ false }
@@ -167,7 +183,19 @@ pub(crate) fn put_act(
     touches: ChannelSet,
     deed: &mut Deed,
 )
-    ensures { deed.new ≡ (record { channel = channel; line = line; raises = act.now.raises; lowers = act.now.lowers; frees = act.now.frees; starts = act.now.starts; ends = act.now.ends; touches = touches; begins = act.now.begins; goes = deed.old.goes; group = deed.old.group }) }
+    ensures { deed.new ≡ (record {
+      channel = channel;
+      line = line;
+      raises = act.now.raises;
+      lowers = act.now.lowers;
+      frees = act.now.frees;
+      starts = act.now.starts;
+      ends = act.now.ends;
+      touches = touches;
+      begins = act.now.begins;
+      goes = deed.old.goes;
+      group = deed.old.group;
+    }) }
 {
     deed.channel = channel;
     deed.line = line;

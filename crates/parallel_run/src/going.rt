@@ -33,8 +33,8 @@ fn turn(
     requires runs { grant_in ((replayed board.old).state channel) ≡ Some grant.now }
     requires ready { AreReady job.now locals.old.items }
     ensures ready { OnOk result (AreReady job.now locals.new.items) }
-    ensures turn { OnOk result (IsTurn job.now channel grant.now board.old (map (λ items. items.items) items.old.items) locals.old.items
-        board.new (map (λ items. items.items) items.new.items) locals.new.items) }
+    ensures turn { OnOk result (IsTurn job.now channel grant.now board.old (map (λ items. items.items) items.old.items)
+        locals.old.items board.new (map (λ items. items.items) items.new.items) locals.new.items) }
 {
     let place = usize::from(channel.number);
     let local = locals[place].take();
@@ -77,7 +77,8 @@ pub(crate) fn go_on<R: Wait>(
     requires programs { length job.now.programs ≤ PROGRAM_LIMIT }
     requires ready { AreReady job.now locals.items }
     requires start { board.start ≡ start.now }
-    requires made { IsMadeByScript job.now start.now board.entries (map (λ items. items.items) items.items) locals.items }
+    requires made { IsMadeByScript job.now start.now board.entries
+        (map (λ items. items.items) items.items) locals.items }
     ensures maximal { IfOk result (IsMaximalRunOf job.now start.now) }
     ensures goes_on { IfOk result (λ run. GoOnWith start.now board.entries run.entries) }
 {

@@ -41,7 +41,8 @@ pub(crate) fn passes_and_workers<P: Drop>(
 
 /// Takes the next row of a channel; an empty one, where there is none.
 fn take_row(alloc: Global, rows: &mut Vec<VecDeque<Vec<Item>>>, channel: ChannelId) -> Vec<Item>
-    ensures row { result.items ≡ first_row (rows_at (map (λ rows. map (λ items. items.items) rows.items) rows.old.items) channel) }
+    ensures row { result.items ≡ first_row (rows_at
+        (map (λ rows. map (λ items. items.items) rows.items) rows.old.items) channel) }
     ensures rest { (c : ℕ) → rows_at (map (λ rows. map (λ items. items.items) rows.items) rows.new.items) c
         ≡ without_first (rows_at (map (λ rows. map (λ items. items.items) rows.items) rows.old.items)) channel c }
 {
@@ -86,7 +87,8 @@ pub fn join_workers<R: Wait>(
     requires programs { length job.now.programs ≤ PROGRAM_LIMIT }
     requires start { board.start ≡ start.now }
     requires made { All (HasMade job.now start.now board.entries) workers.items }
-    requires all { (c : ℕ) → among (map (λ worked. worked.channel) workers.items) c ≡ false → has_channel start.now c ≡ false }
+    requires all { (c : ℕ) → among (map (λ worked. worked.channel) workers.items) c ≡ false
+        → has_channel start.now c ≡ false }
     ensures maximal { IfOk result (IsMaximalRunOf job.now start.now) }
     ensures begun { IfOk result (IsBegunBy job.now start.now board.entries) }
 {

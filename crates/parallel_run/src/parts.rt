@@ -32,13 +32,18 @@ impl Model for Parts {
 
     ghost Value = { PartsView };
 
-    ghost view = { λ p. record { rows = map (λ rows. map (λ items. items.items) rows.items) p.rows.items; locals = p.locals.items } };
+    ghost view = { λ p. record {
+      rows = map (λ rows. map (λ items. items.items) rows.items)
+          p.rows.items;
+      locals = p.locals.items;
+    } };
 }
 
 /// No rows, for each number of a channel.
 fn no_rows(alloc: Global) -> Result<Vec<VecDeque<Vec<Item>>>, AllocError>
     ensures places { IfOk result (λ rows. length rows.items ≡ CHANNEL_PLACES) }
-    ensures none { IfOk result (λ rows. (c : ℕ) → slice_index_or (map (λ rows. map (λ items. items.items) rows.items) rows.items) c [] ≡ []) }
+    ensures none { IfOk result (λ rows. (c : ℕ)
+        → slice_index_or (map (λ rows. map (λ items. items.items) rows.items) rows.items) c [] ≡ []) }
 {
     let mut rows = Vec::new(alloc);
     for _ in 0..CHANNEL_PLACES {
@@ -80,7 +85,8 @@ impl Parts {
 /// What these workers leave of each channel.
 pub(crate) fn parts_of(alloc: Global, workers: Vec<Worked>) -> Result<Parts, NoMemory>
     ensures places { IfOk result HasPlaces }
-    ensures leaves { (job : JobView) → (start : StartView) → (entries : List EntryView) → All (HasMade job start entries) workers.items
+    ensures leaves { (job : JobView) → (start : StartView) → (entries : List EntryView)
+        → All (HasMade job start entries) workers.items
         → ((c : ℕ) → among (map (λ w. w.channel) workers.items) c ≡ false → HasMade job start entries (nobody c))
         → IfOk result (λ parts. (c : ℕ) → LeavesOf job start entries c parts) }
 {

@@ -31,7 +31,11 @@ impl Model for Worked {
 
     ghost Value = { WorkedView };
 
-    ghost view = { λ w. record { channel = w.channel; items = map (λ items. items.items) w.items.items; last = w.last } };
+    ghost view = { λ w. record {
+      channel = w.channel;
+      items = map (λ items. items.items) w.items.items;
+      last = w.last;
+    } };
 }
 
 impl Worked {

@@ -13,8 +13,10 @@ fn are_same_ends(left: &Ends, right: &Ends) -> bool
 
 /// Whether two arcs turn about the same centre from the first axis to the second and keep between the same radii.
 fn do_turn_alike(left: &Arc, right: &Arc) -> bool
-    ensures same { result ≡ true → (left.now.first ≡ right.now.first) × (left.now.second ≡ right.now.second) × (left.now.centre ≡ right.now.centre) }
-    ensures all { left.now.first ≡ right.now.first → left.now.second ≡ right.now.second → left.now.centre ≡ right.now.centre → result ≡ true }
+    ensures same { result ≡ true → (left.now.first ≡ right.now.first) × (left.now.second ≡ right.now.second)
+        × (left.now.centre ≡ right.now.centre) }
+    ensures all { left.now.first ≡ right.now.first → left.now.second ≡ right.now.second
+        → left.now.centre ≡ right.now.centre → result ≡ true }
 {
     left.first == right.first && left.second == right.second && left.centre == right.centre
 }

@@ -353,9 +353,9 @@ fn position_at(position: i64) -> Option<Um>
 fn arc_at(ends: &Ends, first: AxisId, second: AxisId, centre: &(Um, Um)) -> Result<Motion, u16>
     requires ends { AreSound ends.now }
     requires centre { IsPosition centre.now.0 × IsPosition centre.now.1 }
-    ensures { let s = spec.start_about ends.now first second centre.now in
-        let e = spec.end_about ends.now first second centre.now in
-        result ≡ (if spec.has_no_radius s e then Err RADIUS_TOO_SMALL else Ok (Motion.Arc (spec.arc_with ends.now first second centre.now 2))) }
+    ensures { let s = spec.start_about ends.now first second centre.now in let e = spec.end_about ends.now first second
+        centre.now in result ≡ (if spec.has_no_radius s e then Err RADIUS_TOO_SMALL
+        else Ok (Motion.Arc (spec.arc_with ends.now first second centre.now 2))) }
 {
     let start = start_about(ends, first, second, centre).square();
     let end = end_about(ends, first, second, centre).square();

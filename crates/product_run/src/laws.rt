@@ -16,8 +16,10 @@ pub fn runs_are_short()
 /// left them. In each run a channel that runs has got last what the board says that it goes on with.
 pub fn segments_move_what_they_own()
     ensures moves { (job : JobView) (c : ℕ) (made : List Grant) (grant : Grant) → MovesWhatItOwns job c made grant }
-    ensures stands { (job : JobView) (c : ℕ) (made : List Grant) (grant next : Grant) (axis : ℕ) → StandsByGrants job c made grant next axis }
-    ensures granted { (job : JobView) (start : StartView) (cs : List ℕ) (c : ℕ) (grant : Grant) → HasGotLast job start cs c grant }
+    ensures stands { (job : JobView) (c : ℕ) (made : List Grant) (grant next : Grant) (axis : ℕ)
+        → StandsByGrants job c made grant next axis }
+    ensures granted { (job : JobView) (start : StartView) (cs : List ℕ) (c : ℕ) (grant : Grant)
+        → HasGotLast job start cs c grant }
 {}
 
 /// A law: in each run of an accepted job, however its channels take turns, a channel that runs owns the axes of its grant and

@@ -30,8 +30,11 @@ pub(crate) fn add_exchange(
     counts: &[usize; CHANNEL_PLACES],
     next: usize,
 ) -> Result<(), AllocError>
-    ensures { (os : List Occurrence) → ((c : ℕ) → counts_in counts.now c ≡ count_in os c) → next ≡ suc (count_in os note.now.channel)
-        → AreExchanges os (map shown_exchange exchanges.old.items) → OnOk result (AreExchanges (os ++ shown_note note.now at.now ∷ []) (map shown_exchange exchanges.new.items)) }
+    ensures { (os : List Occurrence) → ((c : ℕ) → counts_in counts.now c ≡ count_in os c)
+        → next ≡ suc (count_in os note.now.channel)
+        → AreExchanges os (map shown_exchange exchanges.old.items)
+        → OnOk result (AreExchanges (os ++ shown_note note.now at.now ∷ [])
+        (map shown_exchange exchanges.new.items)) }
 {
     if note.axes.is_empty() {
         return Ok(());

@@ -21,13 +21,15 @@ pub fn ends_are_lowest_names()
 /// one box more than items, and serves one zone at one time; so the pairs that are compared can be counted.
 pub fn boxes_are_few()
     ensures boxes { (job : JobView) (start : StartView) (run : RunView) → BoxesAreFew job start run }
-    ensures pairs { (before : Order) (job : JobView) (start : StartView) (run : RunView) → PairsAreFew before job start run }
+    ensures pairs { (before : Order) (job : JobView) (start : StartView) (run : RunView)
+        → PairsAreFew before job start run }
 {}
 
 /// A law: two tests that both tell the order of the events of a run compare the same boxes, since each stretch begins and ends
 /// with an event by its lowest channel.
 pub fn orders_compare_the_same()
-    ensures { (before other : Order) (job : JobView) (b : Board) (run : RunView) → OrdersCompareTheSame before other job b run }
+    ensures { (before other : Order) (job : JobView) (b : Board) (run : RunView)
+        → OrdersCompareTheSame before other job b run }
 {}
 
 /// A law: each stretch of a zone begins with the event with which the one before it ends, and ends with a later event, where it

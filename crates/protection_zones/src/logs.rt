@@ -54,7 +54,8 @@ fn set_count(counts: &mut [usize; CHANNEL_PLACES], channel: ChannelId, count: us
 /// Adds an event in which axes of its channel stand so.
 fn add_event(log: &mut Log, note: &Note, at: &Positions) -> Result<(), AllocError>
     requires { (job : JobView) × (os : List Occurrence) × IsLog job os log.old }
-    ensures { (job : JobView) (os : List Occurrence) → IsLog job os log.old → OnOk result (IsLog job (os ++ shown_note note.now at.now ∷ []) log.new) }
+    ensures { (job : JobView) (os : List Occurrence) → IsLog job os log.old
+        → OnOk result (IsLog job (os ++ shown_note note.now at.now ∷ []) log.new) }
 {
     let next = add_outset(&mut log.outsets, note, at)?;
     add_exchange(&mut log.exchanges, note, at, &log.counts, next)?;
@@ -65,7 +66,8 @@ fn add_event(log: &mut Log, note: &Note, at: &Positions) -> Result<(), AllocErro
 /// Adds those that go on in the step of this place.
 fn add_goings(log: &mut Log, place: u32, deed: &Deed, goes: &[Go]) -> Result<(), AllocError>
     requires { (job : JobView) × (os : List Occurrence) × IsLog job os log.old }
-    ensures { (job : JobView) (os : List Occurrence) → IsLog job os log.old → OnOk result (IsLog job (os ++ map (read_going place deed.now) goes.now) log.new) }
+    ensures { (job : JobView) (os : List Occurrence) → IsLog job os log.old
+        → OnOk result (IsLog job (os ++ map (read_going place deed.now) goes.now) log.new) }
 {
     for go in goes {
         add_event(log, &going_note(place, deed, go), &go.grant.at)?;
@@ -90,7 +92,8 @@ fn step_in(entry: &Entry) -> &Step
 /// Adds the events of the step of this place.
 fn add_step(log: &mut Log, place: u32, read: &ReadStep, entry: &Entry) -> Result<(), AllocError>
     requires { (job : JobView) × (os : List Occurrence) × IsLog job os log.old }
-    ensures { (job : JobView) (os : List Occurrence) → IsLog job os log.old → OnOk result (IsLog job (os ++ read_step place read.now entry.now) log.new) }
+    ensures { (job : JobView) (os : List Occurrence) → IsLog job os log.old
+        → OnOk result (IsLog job (os ++ read_step place read.now entry.now) log.new) }
 {
     let step = step_in(entry);
     add_event(log, &act_note(place, read, step), &step.at)?;
@@ -107,7 +110,8 @@ pub(crate) fn log_of(
     requires axes { length job.now.axes ≤ AXIS_LIMIT }
     requires few { length entries.now < 2 ^ 32 }
     requires whole { (b : Board) × IsWhole b entries.now ends.now }
-    ensures { (b : Board) → IsWhole b entries.now ends.now → IfOk result (IsLog job.now (occurrences_of b (moves_in entries.now))) }
+    ensures { (b : Board) → IsWhole b entries.now ends.now
+        → IfOk result (IsLog job.now (occurrences_of b (moves_in entries.now))) }
 {
     let mut reader = StepReader::new(entries, ends);
     let mut log = first_log(alloc, job)?;

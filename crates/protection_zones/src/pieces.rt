@@ -89,7 +89,8 @@ fn piece_box(margin: Um, sides: &[Side; 3], ranges: &Ranges, cover: &Box3) -> Bo
 fn boxes_of_pieces(job: &Job, zone: &ZoneLine, motion: &Motion, cover: &Box3) -> ArrayVec<Box3, 80>
     requires sound { IsSound motion.now }
     requires deep { job.now.depth ≤ DEPTH_LIMIT }
-    ensures { result.items ≡ map (λ piece. piece_box job.now.margin zone.now.sides piece cover.now) (pieces_at motion.now job.now.depth) }
+    ensures { result.items ≡ map (λ piece. piece_box job.now.margin zone.now.sides piece cover.now)
+        (pieces_at motion.now job.now.depth) }
 {
     let mut boxes = ArrayVec::new();
     for piece in pieces_of(motion, job.depth) {
@@ -119,7 +120,8 @@ pub fn boxes_by_pieces(
 ) -> ArrayVec<Box3, 80>
     requires fit { All (All IsFit) run.now.items }
     requires deep { job.now.depth ≤ DEPTH_LIMIT }
-    ensures { result.items ≡ piece_boxes job.now run.now (record { zone = zone.now; stretch = stretch.now; box = own.now }) }
+    ensures { result.items ≡ piece_boxes job.now run.now
+        (record { zone = zone.now; stretch = stretch.now; box = own.now }) }
 {
     match motion_at(run, stretch.entry, own.motion) {
         None => one_box(own.cover),

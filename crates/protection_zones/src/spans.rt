@@ -138,8 +138,10 @@ pub(crate) fn add_outset(
 ) -> Result<usize, AllocError>
     requires size { length outsets.old.items ≡ CHANNEL_PLACES }
     requires begun { (job : JobView) × (os : List Occurrence) × AreOutsets job os outsets.old.items }
-    ensures number { (job : JobView) (os : List Occurrence) → AreOutsets job os outsets.old.items → IfOk result (λ number. number ≡ suc (count_in os note.now.channel)) }
-    ensures outsets { (job : JobView) (os : List Occurrence) → AreOutsets job os outsets.old.items → OnOk result (AreOutsets job (os ++ shown_note note.now at.now ∷ []) outsets.new.items) }
+    ensures number { (job : JobView) (os : List Occurrence) → AreOutsets job os outsets.old.items
+        → IfOk result (λ number. number ≡ suc (count_in os note.now.channel)) }
+    ensures outsets { (job : JobView) (os : List Occurrence) → AreOutsets job os outsets.old.items
+        → OnOk result (AreOutsets job (os ++ shown_note note.now at.now ∷ []) outsets.new.items) }
     ensures size { length outsets.new.items ≡ CHANNEL_PLACES }
 {
     let place = place_of(note.channel);

@@ -38,7 +38,13 @@ impl Model for Stretch {
 
     ghost Value = { StretchView };
 
-    ghost view = { λ s. record { name = s.name; first = s.first; last = s.last; entry = s.entry; boxes = s.boxes.items } };
+    ghost view = { λ s. record {
+      name = s.name;
+      first = s.first;
+      last = s.last;
+      entry = s.entry;
+      boxes = s.boxes.items;
+    } };
 }
 
 /// The time of all zones of a job.

@@ -201,7 +201,8 @@ pub(crate) fn boxes_at_rest(
     line: u32,
     start: &Row,
 ) -> Result<Vec<ZoneBox>, AllocError>
-    ensures { IfOk result (λ boxes. boxes.items ≡ map (shown_box margin zone.now) (boxes_of zone.now on line (positions_in start.now) [])) }
+    ensures { IfOk result (λ boxes. boxes.items
+        ≡ map (shown_box margin zone.now) (boxes_of zone.now on line (positions_in start.now) [])) }
 {
     if on {
         Ok(Vec::from_array(alloc, [standing_box(margin, zone, 0, line, start)])?)
@@ -223,7 +224,8 @@ pub(crate) fn write_boxes(
 ) -> Result<(), AllocError>
     requires few { length items.now < 2 ^ 32 }
     requires fit { All IsFit items.now }
-    ensures { OnOk result (boxes.new.items ≡ map (shown_box margin zone.now) (boxes_of zone.now on line (positions_in start.now) items.now)) }
+    ensures { OnOk result (boxes.new.items ≡ map (shown_box margin zone.now)
+        (boxes_of zone.now on line (positions_in start.now) items.now)) }
 {
     boxes.clear();
     let mut at = *start;

@@ -116,7 +116,8 @@ fn term_after(zone: &ZoneLine, exchange: &Exchange) -> Term
 
 /// The tenure up to an event.
 fn term_until(term: &Term, exchange: &Exchange) -> Term
-    ensures { shown_term result ≡ tenure_until (counts_in exchange.now.counts) (shown_term term.now) (shown_note exchange.now.note exchange.now.at) }
+    ensures { shown_term result ≡ tenure_until (counts_in exchange.now.counts) (shown_term term.now)
+        (shown_note exchange.now.note exchange.now.at) }
 {
     Term {
         upto: Some(count_of_owner(&exchange.counts, term.owner)),
@@ -133,7 +134,8 @@ pub(crate) fn terms_of(
     zone: &ZoneLine,
 ) -> Result<Vec<Term>, AllocError>
     requires { length job.now.axes ≤ AXIS_LIMIT }
-    ensures { IfOk result (λ terms. map shown_term terms.items ≡ tenures_then zone.now (λ t. t ∷ []) (first_tenure job.now zone.now) (map shown_exchange exchanges.now)) }
+    ensures { IfOk result (λ terms. map shown_term terms.items
+        ≡ tenures_then zone.now (λ t. t ∷ []) (first_tenure job.now zone.now) (map shown_exchange exchanges.now)) }
 {
     let mut terms = Vec::new(alloc);
     let mut current = first_term(job, zone);

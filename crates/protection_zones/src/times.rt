@@ -30,7 +30,9 @@ fn stretches_of_zone(alloc: Global, scene: &Scene, log: &Log) -> Result<Vec<Stre
     requires axes { length scene.now.job.now.axes ≤ AXIS_LIMIT }
     requires few { All (λ done. length done < 2 ^ 32) (all_items scene.now.items.now) }
     requires fit { All (All IsFit) (all_items scene.now.items.now) }
-    ensures { (os : List Occurrence) → IsLog scene.now.job.now os log.now → IfOk result (λ stretches. stretches.items ≡ stretches_of_zone scene.now.job.now (all_items scene.now.items.now) os scene.now.zone.now) }
+    ensures { (os : List Occurrence) → IsLog scene.now.job.now os log.now
+        → IfOk result (λ stretches. stretches.items
+        ≡ stretches_of_zone scene.now.job.now (all_items scene.now.items.now) os scene.now.zone.now) }
 {
     let terms = terms_of(alloc, scene.job, log.exchanges.as_slice(), scene.zone)?;
     scene.stretches(alloc, log.outsets.as_slice(), terms.as_slice())
@@ -47,7 +49,9 @@ fn stretches_in_order(
     requires axes { length job.now.axes ≤ AXIS_LIMIT }
     requires few { All (λ done. length done < 2 ^ 32) (all_items items.now) }
     requires fit { All (All IsFit) (all_items items.now) }
-    ensures { (os : List Occurrence) → IsLog job.now os log.now → IfOk result (λ zones. map (λ s. s.items) zones.items ≡ map (stretches_of_zone job.now (all_items items.now) os) (zones_in_order job.now)) }
+    ensures { (os : List Occurrence) → IsLog job.now os log.now
+        → IfOk result (λ zones. map (λ s. s.items) zones.items
+        ≡ map (stretches_of_zone job.now (all_items items.now) os) (zones_in_order job.now)) }
 {
     let mut zones = Vec::new(alloc);
     for index in 0..ZONE_LIMIT as u8 {
@@ -106,7 +110,8 @@ pub fn stretches_of(
     requires few_entries { length run.now.entries < 2 ^ 32 }
     requires few_items { All (λ done. length done < 2 ^ 32) run.now.items }
     requires fit { All (All IsFit) run.now.items }
-    ensures { (start : StartView) → ComesFrom start run.now → IfOk result (λ s. s ≡ all_stretches job.now (first_board start) run.now) }
+    ensures { (start : StartView) → ComesFrom start run.now
+        → IfOk result (λ s. s ≡ all_stretches job.now (first_board start) run.now) }
 {
     let _ = clocks;
     let log = log_of(alloc, job, entries_of(run), ends_of(run))?;

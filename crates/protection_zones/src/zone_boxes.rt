@@ -80,8 +80,10 @@ pub(crate) fn bounds_between(margin: Um, side: &Side, minus: bool, low: Um, high
 /// The bounds of a direction of a zone whose axes are within ranges, grown by the margin.
 #[tactic(auto, unfolding(crate::specs::ZoneBoxes::side_low, crate::specs::ZoneBoxes::side_high))]
 fn bounds_of(margin: Um, side: &Side, ranges: &Ranges, at: &Row) -> (i32, i32)
-    ensures low { result.0 ≡ model.side_low margin (model.low_in ranges.now (positions_in at.now)) (model.high_in ranges.now (positions_in at.now)) side.now }
-    ensures high { result.1 ≡ model.side_high margin (model.low_in ranges.now (positions_in at.now)) (model.high_in ranges.now (positions_in at.now)) side.now }
+    ensures low { result.0 ≡ model.side_low margin (model.low_in ranges.now (positions_in at.now))
+        (model.high_in ranges.now (positions_in at.now)) side.now }
+    ensures high { result.1 ≡ model.side_high margin (model.low_in ranges.now (positions_in at.now))
+        (model.high_in ranges.now (positions_in at.now)) side.now }
 {
     match side.carrier {
         None => grown(margin, side),
@@ -94,7 +96,8 @@ fn bounds_of(margin: Um, side: &Side, ranges: &Ranges, at: &Row) -> (i32, i32)
 
 /// The box whose directions have these bounds.
 fn box_of(margin: Um, sides: &[Side; 3], ranges: &Ranges, at: &Row) -> Box3
-    ensures { result ≡ model.box_of margin sides.now (model.low_in ranges.now (positions_in at.now)) (model.high_in ranges.now (positions_in at.now)) }
+    ensures { result ≡ model.box_of margin sides.now (model.low_in ranges.now (positions_in at.now))
+        (model.high_in ranges.now (positions_in at.now)) }
 {
     let x = bounds_of(margin, &sides[0], ranges, at);
     let y = bounds_of(margin, &sides[1], ranges, at);
@@ -107,7 +110,8 @@ fn box_of(margin: Um, sides: &[Side; 3], ranges: &Ranges, at: &Row) -> Box3
 
 /// The box of a zone whose axes are within ranges, and elsewhere stand, grown by the margin.
 pub(crate) fn zone_box(margin: Um, zone: &ZoneLine, ranges: &Ranges, at: &Row) -> Box3
-    ensures { result ≡ model.zone_box margin zone.now (model.low_in ranges.now (positions_in at.now)) (model.high_in ranges.now (positions_in at.now)) }
+    ensures { result ≡ model.zone_box margin zone.now (model.low_in ranges.now (positions_in at.now))
+        (model.high_in ranges.now (positions_in at.now)) }
 {
     box_of(margin, &zone.sides, ranges, at)
 }

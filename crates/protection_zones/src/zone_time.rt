@@ -130,7 +130,8 @@ impl<'a> Scene<'a> {
         requires few { length items.now < 2 ^ 32 }
         requires fit { All IsFit items.now }
         ensures { IfOk result (λ boxes. boxes.items ≡ map (shown_box self.now.job.now.margin self.now.zone.now)
-            (boxes_of self.now.zone.now (has begins.now.on self.now.zone.now.zone) begins.now.line (positions_in begins.now.at) items.now)) }
+            (boxes_of self.now.zone.now (has begins.now.on self.now.zone.now.zone) begins.now.line
+            (positions_in begins.now.at) items.now)) }
     {
         let job = self.job;
         let zone = self.zone;
@@ -162,7 +163,8 @@ impl<'a> Scene<'a> {
         requires place { place < length outsets.now }
         requires few { All (λ done. length done < 2 ^ 32) (all_items self.now.items.now) }
         requires fit { All (All IsFit) (all_items self.now.items.now) }
-        ensures { IfOk result (λ s. s ≡ stretch_of_span self.now.job.now self.now.zone.now channel (span_at (all_items self.now.items.now) outsets.now place)) }
+        ensures { IfOk result (λ s. s ≡ stretch_of_span self.now.job.now self.now.zone.now channel
+            (span_at (all_items self.now.items.now) outsets.now place)) }
     {
         let zone = self.zone;
         let begins = &outsets[place];
@@ -193,8 +195,10 @@ impl<'a> Scene<'a> {
     ) -> Result<(), AllocError>
         requires few { All (λ done. length done < 2 ^ 32) (all_items self.now.items.now) }
         requires fit { All (All IsFit) (all_items self.now.items.now) }
-        ensures { OnOk result (stretches.new.items ≡ stretches.old.items ++ map (stretch_of_span self.now.job.now self.now.zone.now channel)
-            (spans_between (spans_along (all_items self.now.items.now) (map shown_outset outsets.now)) term.now.from term.now.upto)) }
+        ensures { OnOk result (stretches.new.items ≡ stretches.old.items
+            ++ map (stretch_of_span self.now.job.now self.now.zone.now channel)
+            (spans_between (spans_along (all_items self.now.items.now) (map shown_outset outsets.now))
+            term.now.from term.now.upto)) }
     {
         for place in term.from..end_of(outsets.len(), term.upto) {
             let stretch = self.held_stretch(alloc, scratch, channel, outsets, place)?;
@@ -246,7 +250,9 @@ impl<'a> Scene<'a> {
         requires few { All (λ done. length done < 2 ^ 32) (all_items self.now.items.now) }
         requires fit { All (All IsFit) (all_items self.now.items.now) }
         ensures { (occurrences : List Occurrence) → AreOutsets self.now.job.now occurrences outsets.now
-            → OnOk result (stretches.new.items ≡ stretches.old.items ++ stretches_in_tenure self.now.job.now self.now.zone.now (spans_of self.now.job.now (all_items self.now.items.now) occurrences) (shown_term term.now)) }
+            → OnOk result (stretches.new.items ≡ stretches.old.items
+            ++ stretches_in_tenure self.now.job.now self.now.zone.now
+            (spans_of self.now.job.now (all_items self.now.items.now) occurrences) (shown_term term.now)) }
     {
         match term.owner {
             None => {
@@ -275,7 +281,9 @@ impl<'a> Scene<'a> {
         requires few { All (λ done. length done < 2 ^ 32) (all_items self.now.items.now) }
         requires fit { All (All IsFit) (all_items self.now.items.now) }
         ensures { (occurrences : List Occurrence) → AreOutsets self.now.job.now occurrences outsets.now
-            → IfOk result (λ stretches. stretches.items ≡ flat_map (stretches_in_tenure self.now.job.now self.now.zone.now (spans_of self.now.job.now (all_items self.now.items.now) occurrences)) (map shown_term terms.now)) }
+            → IfOk result (λ stretches. stretches.items
+            ≡ flat_map (stretches_in_tenure self.now.job.now self.now.zone.now
+            (spans_of self.now.job.now (all_items self.now.items.now) occurrences)) (map shown_term terms.now)) }
     {
         let mut scratch = Vec::new(alloc);
         let mut stretches = Vec::new(alloc);

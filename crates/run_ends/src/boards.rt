@@ -73,10 +73,13 @@ impl LastBoard {
     /// What a channel does in a step by itself.
     fn act(&mut self, deed: &Deed)
         ensures marks { (c m : ℕ) → has (slice_index_or self.new.marks c []) m
-            ≡ (if c == deed.now.channel then (has (slice_index_or self.old.marks c []) m || has deed.now.raises m) && not (has deed.now.lowers m) else has (slice_index_or self.old.marks c []) m) }
+            ≡ (if c == deed.now.channel then (has (slice_index_or self.old.marks c []) m || has deed.now.raises m)
+            && not (has deed.now.lowers m) else has (slice_index_or self.old.marks c []) m) }
         ensures holds { (c : ℕ) → slice_index_or self.new.holds c None
-            ≡ (if c == deed.now.channel then begun_at deed.now.begins deed.now.line (slice_index_or self.old.holds c None) else slice_index_or self.old.holds c None) }
-        ensures owners { (x : ℕ) → x < AXIS_LIMIT → slice_index_or self.new.owners x None ≡ (if has deed.now.frees x then None else slice_index_or self.old.owners x None) }
+            ≡ (if c == deed.now.channel then begun_at deed.now.begins deed.now.line
+            (slice_index_or self.old.holds c None) else slice_index_or self.old.holds c None) }
+        ensures owners { (x : ℕ) → x < AXIS_LIMIT → slice_index_or self.new.owners x None
+            ≡ (if has deed.now.frees x then None else slice_index_or self.old.owners x None) }
     {
         let c = deed.actor();
         self.marks[c] = self.marks[c].union(deed.raises).minus(deed.lowers);
@@ -95,9 +98,13 @@ impl LastBoard {
     /// A channel goes on: its wait is over, and it has what it took.
     fn let_go(&mut self, channel: ChannelId, gone: &Departure)
         ensures marks { (d m : ℕ) → has (slice_index_or self.new.marks d []) m
-            ≡ (if d == channel then has (slice_index_or self.old.marks d []) m && not (lowers_at (slice_index_or self.old.holds d None) m) else has (slice_index_or self.old.marks d []) m) }
-        ensures holds { (d : ℕ) → slice_index_or self.new.holds d None ≡ (if d == channel then None else slice_index_or self.old.holds d None) }
-        ensures owners { (x : ℕ) → x < AXIS_LIMIT → slice_index_or self.new.owners x None ≡ (if has gone.now.took x then Some channel else slice_index_or self.old.owners x None) }
+            ≡ (if d == channel then has (slice_index_or self.old.marks d []) m
+            && not (lowers_at (slice_index_or self.old.holds d None) m)
+            else has (slice_index_or self.old.marks d []) m) }
+        ensures holds { (d : ℕ) → slice_index_or self.new.holds d None
+            ≡ (if d == channel then None else slice_index_or self.old.holds d None) }
+        ensures owners { (x : ℕ) → x < AXIS_LIMIT → slice_index_or self.new.owners x None
+            ≡ (if has gone.now.took x then Some channel else slice_index_or self.old.owners x None) }
     {
         let c = usize::from(channel.number);
         let held = self.holds[c];
@@ -109,9 +116,12 @@ impl LastBoard {
     /// A channel goes on, where it does.
     fn let_go_if(&mut self, channel: ChannelId, gone: &Option<Departure>)
         ensures marks { (d m : ℕ) → has (slice_index_or self.new.marks d []) m
-            ≡ (has (slice_index_or self.old.marks d []) m && not (((d == channel) && is_given gone.now) && lowers_at (slice_index_or self.old.holds d None) m)) }
-        ensures holds { (d : ℕ) → slice_index_or self.new.holds d None ≡ (if (d == channel) && is_given gone.now then None else slice_index_or self.old.holds d None) }
-        ensures owners { (x : ℕ) → x < AXIS_LIMIT → slice_index_or self.new.owners x None ≡ (if took_by gone.now x then Some channel else slice_index_or self.old.owners x None) }
+            ≡ (has (slice_index_or self.old.marks d []) m
+            && not (((d == channel) && is_given gone.now) && lowers_at (slice_index_or self.old.holds d None) m)) }
+        ensures holds { (d : ℕ) → slice_index_or self.new.holds d None
+            ≡ (if (d == channel) && is_given gone.now then None else slice_index_or self.old.holds d None) }
+        ensures owners { (x : ℕ) → x < AXIS_LIMIT → slice_index_or self.new.owners x None
+            ≡ (if took_by gone.now x then Some channel else slice_index_or self.old.owners x None) }
     {
         if let Some(gone) = gone {
             self.let_go(channel, gone);
@@ -121,9 +131,12 @@ impl LastBoard {
     /// All that go on.
     fn depart(&mut self, goes: &[Option<Departure>; CHANNEL_PLACES])
         ensures marks { (c m : ℕ) → 1 ≤ c → c < CHANNEL_PLACES → has (slice_index_or self.new.marks c []) m
-            ≡ (has (slice_index_or self.old.marks c []) m && not (is_given (slice_index_or goes.now c None) && lowers_at (slice_index_or self.old.holds c None) m)) }
-        ensures holds { (c : ℕ) → 1 ≤ c → c < CHANNEL_PLACES → slice_index_or self.new.holds c None ≡ (if is_given (slice_index_or goes.now c None) then None else slice_index_or self.old.holds c None) }
-        ensures owners { (x : ℕ) → x < AXIS_LIMIT → slice_index_or self.new.owners x None ≡ taker_upto goes.now CHANNEL_LIMIT x (slice_index_or self.old.owners x None) }
+            ≡ (has (slice_index_or self.old.marks c []) m
+            && not (is_given (slice_index_or goes.now c None) && lowers_at (slice_index_or self.old.holds c None) m)) }
+        ensures holds { (c : ℕ) → 1 ≤ c → c < CHANNEL_PLACES → slice_index_or self.new.holds c None
+            ≡ (if is_given (slice_index_or goes.now c None) then None else slice_index_or self.old.holds c None) }
+        ensures owners { (x : ℕ) → x < AXIS_LIMIT → slice_index_or self.new.owners x None
+            ≡ taker_upto goes.now CHANNEL_LIMIT x (slice_index_or self.old.owners x None) }
     {
         for place in 0..CHANNEL_LIMIT as u8 {
             let number = place + 1;
@@ -134,7 +147,8 @@ impl LastBoard {
 
     /// A step.
     fn tell(&mut self, deed: &Deed)
-        ensures { (b : Board) (c : ℕ) (step : Step) → IsTold self.old b → is_running (b.state c) ≡ true → IsRead deed.now (happening_of b c step) → IsTold self.new (after_step b c step) }
+        ensures { (b : Board) (c : ℕ) (step : Step) → IsTold self.old b → is_running (b.state c) ≡ true
+            → IsRead deed.now (happening_of b c step) → IsTold self.new (after_step b c step) }
     {
         self.act(deed);
         self.depart(&deed.goes);
@@ -145,7 +159,8 @@ impl LastBoard {
 fn board_after(first: LastBoard, entries: &[Entry], ends: &[ChannelEnd]) -> LastBoard
     requires few { length entries.now < 2 ^ 32 }
     requires whole { (b : Board) × IsWhole b entries.now ends.now }
-    ensures { (b : Board) → IsWhole b entries.now ends.now → IsTold first b → IsTold result (after_entries b entries.now) }
+    ensures { (b : Board) → IsWhole b entries.now ends.now → IsTold first b
+        → IsTold result (after_entries b entries.now) }
 {
     let mut reader = StepReader::new(entries, ends);
     let mut board = first;

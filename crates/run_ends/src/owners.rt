@@ -44,7 +44,8 @@ pub(crate) fn first_owners(start: &StartState) -> Owners
 
 /// Gives these axes to a channel, or to nobody.
 pub(crate) fn give(owners: &mut Owners, axes: &AxisSet, owner: &Option<ChannelId>)
-    ensures { (x : ℕ) → x < AXIS_LIMIT → slice_index_or owners.new x None ≡ (if has axes.now x then owner.now else slice_index_or owners.old x None) }
+    ensures { (x : ℕ) → x < AXIS_LIMIT → slice_index_or owners.new x None
+        ≡ (if has axes.now x then owner.now else slice_index_or owners.old x None) }
 {
     for index in 0..AXIS_LIMIT {
         if axes.contains(AxisId { index: index as u8 }) {

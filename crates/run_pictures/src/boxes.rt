@@ -40,7 +40,8 @@ fn add_pieces(
     pieces: &[Box3],
     look: Look,
 ) -> Result<(), NoMemory>
-    ensures { IfOk result (λ _. take limit tiles.new.items ≡ take limit (tiles.old.items ++ map (model.tile_of look) pieces.now)) }
+    ensures { IfOk result (λ _. take limit tiles.new.items
+        ≡ take limit (tiles.old.items ++ map (model.tile_of look) pieces.now)) }
 {
     for piece in pieces {
         keep(tiles, limit, tile_of(piece, look))?;
@@ -60,7 +61,8 @@ fn add_box(
 ) -> Result<(), NoMemory>
     requires fit { All (All IsFit) run.now.items }
     requires deep { job.now.depth ≤ DEPTH_LIMIT }
-    ensures { IfOk result (λ _. take limit tiles.new.items ≡ take limit (tiles.old.items ++ model.tiles_of_box job.now run.now zone.now stretch.now own.now)) }
+    ensures { IfOk result (λ _. take limit tiles.new.items
+        ≡ take limit (tiles.old.items ++ model.tiles_of_box job.now run.now zone.now stretch.now own.now)) }
 {
     let pieces = boxes_by_pieces(job, run, zone, stretch, own);
     add_pieces(tiles, limit, pieces.as_slice(), look_of(&stretch.name))
@@ -77,7 +79,8 @@ fn add_stretch(
 ) -> Result<(), NoMemory>
     requires fit { All (All IsFit) run.now.items }
     requires deep { job.now.depth ≤ DEPTH_LIMIT }
-    ensures { IfOk result (λ _. take limit tiles.new.items ≡ take limit (tiles.old.items ++ model.tiles_of_stretch job.now run.now zone.now stretch.now)) }
+    ensures { IfOk result (λ _. take limit tiles.new.items
+        ≡ take limit (tiles.old.items ++ model.tiles_of_stretch job.now run.now zone.now stretch.now)) }
 {
     for own in &stretch.boxes {
         add_box(tiles, limit, job, run, zone, stretch, own)?;
@@ -96,7 +99,8 @@ fn add_stretches(
 ) -> Result<(), NoMemory>
     requires fit { All (All IsFit) run.now.items }
     requires deep { job.now.depth ≤ DEPTH_LIMIT }
-    ensures { IfOk result (λ _. take limit tiles.new.items ≡ take limit (tiles.old.items ++ flat_map (model.tiles_of_stretch job.now run.now zone.now) stretches.now)) }
+    ensures { IfOk result (λ _. take limit tiles.new.items
+        ≡ take limit (tiles.old.items ++ flat_map (model.tiles_of_stretch job.now run.now zone.now) stretches.now)) }
 {
     for stretch in stretches {
         add_stretch(tiles, limit, job, run, zone, stretch)?;
@@ -126,7 +130,8 @@ fn add_zone(
 ) -> Result<(), NoMemory>
     requires fit { All (All IsFit) run.now.items }
     requires deep { job.now.depth ≤ DEPTH_LIMIT }
-    ensures { IfOk result (λ _. take limit tiles.new.items ≡ take limit (tiles.old.items ++ model.tiles_of_zone job.now run.now stretches.now place)) }
+    ensures { IfOk result (λ _. take limit tiles.new.items
+        ≡ take limit (tiles.old.items ++ model.tiles_of_zone job.now run.now stretches.now place)) }
 {
     match zone_at(job, place) {
         Some(zone) => add_stretches(
@@ -152,7 +157,8 @@ pub(crate) fn add_zones(
 ) -> Result<(), NoMemory>
     requires fit { All (All IsFit) run.now.items }
     requires deep { job.now.depth ≤ DEPTH_LIMIT }
-    ensures { IfOk result (λ _. take limit tiles.new.items ≡ take limit (tiles.old.items ++ model.all_tiles job.now run.now stretches.now)) }
+    ensures { IfOk result (λ _. take limit tiles.new.items
+        ≡ take limit (tiles.old.items ++ model.all_tiles job.now run.now stretches.now)) }
 {
     for place in 0..stretches.zones.len() {
         add_zone(tiles, limit, job, run, stretches, place)?;

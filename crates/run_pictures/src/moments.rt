@@ -59,7 +59,8 @@ fn add_goings(
     actor: u8,
     goes: &[Go],
 ) -> Result<(), NoMemory>
-    ensures { IfOk result (λ _. take limit moments.new.items ≡ take limit (moments.old.items ++ map (model.going_of step actor) goes.now)) }
+    ensures { IfOk result (λ _. take limit moments.new.items
+        ≡ take limit (moments.old.items ++ map (model.going_of step actor) goes.now)) }
 {
     for go in goes {
         keep(moments, limit, going_of(step, actor, go))?;
@@ -74,7 +75,8 @@ fn add_entry(
     step: u32,
     entry: &Entry,
 ) -> Result<(), NoMemory>
-    ensures { IfOk result (λ _. take limit moments.new.items ≡ take limit (moments.old.items ++ model.moments_of step entry.now)) }
+    ensures { IfOk result (λ _. take limit moments.new.items
+        ≡ take limit (moments.old.items ++ model.moments_of step entry.now)) }
 {
     let acts = moment_of(step, entry);
     keep(moments, limit, acts)?;
@@ -88,7 +90,8 @@ pub(crate) fn add_entries(
     limit: usize,
     entries: &[Entry],
 ) -> Result<(), NoMemory>
-    ensures { IfOk result (λ _. take limit moments.new.items ≡ take limit (moments.old.items ++ model.moments_from 0 entries.now)) }
+    ensures { IfOk result (λ _. take limit moments.new.items
+        ≡ take limit (moments.old.items ++ model.moments_from 0 entries.now)) }
 {
     let mut step: u32 = 0;
     for entry in entries {

@@ -75,7 +75,8 @@ fn add_place(
 ) -> Result<(), NoMemory>
     requires fit { All (All IsFit) run.now.items }
     requires deep { job.now.depth ≤ DEPTH_LIMIT }
-    ensures { IfOk result (λ _. tiles.new.items ≡ tiles.old.items ++ model.tiles_of_place job.now run.now look place.now) }
+    ensures { IfOk result (λ _. tiles.new.items ≡ tiles.old.items
+        ++ model.tiles_of_place job.now run.now look place.now) }
 {
     match zone_of(job, place.name.zone) {
         Some(zone) => {
@@ -98,7 +99,8 @@ pub(crate) fn add_named(
 ) -> Result<(), NoMemory>
     requires fit { All (All IsFit) run.now.items }
     requires deep { job.now.depth ≤ DEPTH_LIMIT }
-    ensures { IfOk result (λ _. tiles.new.items ≡ tiles.old.items ++ model.named_tiles job.now run.now (option_copied first.entry)) }
+    ensures { IfOk result (λ _. tiles.new.items ≡ tiles.old.items
+        ++ model.named_tiles job.now run.now (option_copied first.entry)) }
 {
     if let Some(met) = first {
         add_place(alloc, tiles, job, run, &met.left, Look::First)?;

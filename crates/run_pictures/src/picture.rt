@@ -35,7 +35,8 @@ fn first_tiles(
 ) -> Result<(Vec<Tile>, bool), NoMemory>
     requires fit { All (All IsFit) run.now.items }
     requires deep { job.now.depth ≤ DEPTH_LIMIT }
-    ensures { IfOk result (λ tiles. IsShortened TILE_LIMIT (all_tiles job.now run.now stretches.now) tiles.0.items tiles.1) }
+    ensures { IfOk result (λ tiles. IsShortened TILE_LIMIT
+        (all_tiles job.now run.now stretches.now) tiles.0.items tiles.1) }
 {
     let mut tiles = Vec::new(alloc);
     boxes::add_zones(&mut tiles, TILE_LIMIT + 1, job, run, stretches)?;
@@ -50,7 +51,8 @@ fn first_tracks(
     run: &Run,
     stretches: &Stretches,
 ) -> Result<(Vec<Track>, bool), NoMemory>
-    ensures { IfOk result (λ tracks. IsShortened TILE_LIMIT (all_tracks job.now run.now stretches.now) tracks.0.items tracks.1) }
+    ensures { IfOk result (λ tracks. IsShortened TILE_LIMIT
+        (all_tracks job.now run.now stretches.now) tracks.0.items tracks.1) }
 {
     let mut tracks = Vec::new(alloc);
     tracks::add_zones(&mut tracks, TILE_LIMIT + 1, job, run, stretches)?;
@@ -80,12 +82,18 @@ pub fn picture_of(
 ) -> Result<Picture, NoMemory>
     requires fit { All (All IsFit) run.now.items }
     requires deep { job.now.depth ≤ DEPTH_LIMIT }
-    ensures tiles { IfOk result (λ picture. picture.tiles.items ≡ take TILE_LIMIT (all_tiles job.now run.now stretches.now) ++ named_tiles job.now run.now (option_copied first.entry)) }
-    ensures tracks { IfOk result (λ picture. picture.tracks.items ≡ take TILE_LIMIT (all_tracks job.now run.now stretches.now)) }
-    ensures moments { IfOk result (λ picture. picture.moments.items ≡ take MOMENT_LIMIT (moments_from 0 run.now.entries)) }
+    ensures tiles { IfOk result (λ picture. picture.tiles.items
+        ≡ take TILE_LIMIT (all_tiles job.now run.now stretches.now)
+        ++ named_tiles job.now run.now (option_copied first.entry)) }
+    ensures tracks { IfOk result (λ picture. picture.tracks.items
+        ≡ take TILE_LIMIT (all_tracks job.now run.now stretches.now)) }
+    ensures moments { IfOk result (λ picture. picture.moments.items
+        ≡ take MOMENT_LIMIT (moments_from 0 run.now.entries)) }
     ensures channels { IfOk result (λ picture. picture.channels.items ≡ channels_of job.now) }
-    ensures cut { IfOk result (λ picture. picture.is_cut ≡ (nat_lt TILE_LIMIT (length (all_tiles job.now run.now stretches.now))
-        || (nat_lt TILE_LIMIT (length (all_tracks job.now run.now stretches.now)) || nat_lt MOMENT_LIMIT (length (moments_from 0 run.now.entries))))) }
+    ensures cut { IfOk result (λ picture. picture.is_cut
+        ≡ (nat_lt TILE_LIMIT (length (all_tiles job.now run.now stretches.now))
+        || (nat_lt TILE_LIMIT (length (all_tracks job.now run.now stretches.now))
+        || nat_lt MOMENT_LIMIT (length (moments_from 0 run.now.entries))))) }
 {
     let (mut tiles, few_tiles) = first_tiles(alloc, job, run, stretches)?;
     let (tracks, few_tracks) = first_tracks(alloc, job, run, stretches)?;

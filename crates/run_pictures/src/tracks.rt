@@ -157,7 +157,8 @@ fn add_box(
     stretch: &Stretch,
     own: &ZoneBox,
 ) -> Result<(), NoMemory>
-    ensures { IfOk result (λ _. take limit tracks.new.items ≡ take limit (tracks.old.items ++ model.tracks_of_box job.now run.now zone.now stretch.now own.now)) }
+    ensures { IfOk result (λ _. take limit tracks.new.items
+        ≡ take limit (tracks.old.items ++ model.tracks_of_box job.now run.now zone.now stretch.now own.now)) }
 {
     match track_at(job, run, zone, stretch, own) {
         Some(track) => keep(tracks, limit, track),
@@ -174,7 +175,8 @@ fn add_stretch(
     zone: &ZoneLine,
     stretch: &Stretch,
 ) -> Result<(), NoMemory>
-    ensures { IfOk result (λ _. take limit tracks.new.items ≡ take limit (tracks.old.items ++ model.tracks_of_stretch job.now run.now zone.now stretch.now)) }
+    ensures { IfOk result (λ _. take limit tracks.new.items
+        ≡ take limit (tracks.old.items ++ model.tracks_of_stretch job.now run.now zone.now stretch.now)) }
 {
     for own in &stretch.boxes {
         add_box(tracks, limit, job, run, zone, stretch, own)?;
@@ -191,7 +193,8 @@ fn add_stretches(
     zone: &ZoneLine,
     stretches: &[Stretch],
 ) -> Result<(), NoMemory>
-    ensures { IfOk result (λ _. take limit tracks.new.items ≡ take limit (tracks.old.items ++ flat_map (model.tracks_of_stretch job.now run.now zone.now) stretches.now)) }
+    ensures { IfOk result (λ _. take limit tracks.new.items
+        ≡ take limit (tracks.old.items ++ flat_map (model.tracks_of_stretch job.now run.now zone.now) stretches.now)) }
 {
     for stretch in stretches {
         add_stretch(tracks, limit, job, run, zone, stretch)?;
@@ -209,7 +212,8 @@ fn add_zone(
     stretches: &Stretches,
     place: usize,
 ) -> Result<(), NoMemory>
-    ensures { IfOk result (λ _. take limit tracks.new.items ≡ take limit (tracks.old.items ++ model.tracks_of_zone job.now run.now stretches.now place)) }
+    ensures { IfOk result (λ _. take limit tracks.new.items
+        ≡ take limit (tracks.old.items ++ model.tracks_of_zone job.now run.now stretches.now place)) }
 {
     match zone_at(job, place) {
         Some(zone) => add_stretches(
@@ -233,7 +237,8 @@ pub(crate) fn add_zones(
     run: &Run,
     stretches: &Stretches,
 ) -> Result<(), NoMemory>
-    ensures { IfOk result (λ _. take limit tracks.new.items ≡ take limit (tracks.old.items ++ model.all_tracks job.now run.now stretches.now)) }
+    ensures { IfOk result (λ _. take limit tracks.new.items
+        ≡ take limit (tracks.old.items ++ model.all_tracks job.now run.now stretches.now)) }
 {
     for place in 0..stretches.zones.len() {
         add_zone(tracks, limit, job, run, stretches, place)?;

@@ -25,7 +25,8 @@ fn act_twice(
     requires second_runs { is_running ((replayed board.old).state second) ≡ true }
     requires differ { (second == first) ≡ false }
     requires room { 2 ≤ board.old.spare }
-    ensures steps { HaveSameEntries board.new (with_step (with_step board.old first first_step.now) second second_step.now) }
+    ensures steps { HaveSameEntries board.new
+        (with_step (with_step board.old first first_step.now) second second_step.now) }
     ensures sound { IsSound board.old.start }
     ensures lawful { AreEntries (first_board board.old.start) board.old.entries }
 {

@@ -8,7 +8,9 @@ ghost use Rattle.set_laws.specs.Others.{others_than};
 
 /// A law: where all members of a set pass a test, each passes it; and where all but one pass it, each other does.
 pub fn members_pass_each()
-    ensures all { (s : List Bool) (test : ℕ → Bool) (m : ℕ) → list_all test (members_of s) ≡ true → has s m ≡ true → test m ≡ true }
-    ensures others { (s : List Bool) (test : ℕ → Bool) (one m : ℕ) → list_all test (others_than one (members_of s)) ≡ true
+    ensures all { (s : List Bool) (test : ℕ → Bool) (m : ℕ) → list_all test (members_of s) ≡ true
+        → has s m ≡ true → test m ≡ true }
+    ensures others { (s : List Bool) (test : ℕ → Bool) (one m : ℕ)
+        → list_all test (others_than one (members_of s)) ≡ true
         → has s m ≡ true → (m == one) ≡ false → test m ≡ true }
 {}

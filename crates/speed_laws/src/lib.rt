@@ -28,9 +28,11 @@ ghost use Rattle.sync_types.specs.Views.{RunView, StartView};
 /// each of them is, and each axis has one owner there.
 pub fn zones_never_meet()
     ensures { (job : JobView) (doings : Doings) (speaking : List ℕ) (run : RunView) (before : Order)
-        → IsSoundJob job → AreSound job doings → IsQuietRun doings.script (start_of job) speaking → IsRunBy job doings speaking run
+        → IsSoundJob job → AreSound job doings → IsQuietRun doings.script (start_of job) speaking
+        → IsRunBy job doings speaking run
         → IsOrderOf (first_board (start_of job)) (moves_in run.entries) before
-        → find (pair_meets job run) (compared_pairs before job (all_stretches job (first_board (start_of job)) run)) ≡ None
+        → find (pair_meets job run) (compared_pairs before job (all_stretches job (first_board (start_of job)) run))
+        ≡ None
         → IsSafeAlways job doings }
 {}
 
@@ -39,8 +41,10 @@ pub fn zones_never_meet()
 /// afterwards where it was, and each zone is on that was on, and no other.
 pub fn axes_never_jump()
     ensures motions { (job : JobView) (doings : Doings) → AreSound job doings → MotionsJoin job doings }
-    ensures axes { (job : JobView) (doings : Doings) → IsSoundJob job → AreSound job doings → TellTheBoard job doings → NoAxisJumps job doings }
-    ensures zones { (job : JobView) (doings : Doings) → IsSoundJob job → TellTheBoard job doings → NoZoneSwitches job doings }
+    ensures axes { (job : JobView) (doings : Doings) → IsSoundJob job → AreSound job doings
+        → TellTheBoard job doings → NoAxisJumps job doings }
+    ensures zones { (job : JobView) (doings : Doings) → IsSoundJob job
+        → TellTheBoard job doings → NoZoneSwitches job doings }
 {}
 
 /// A law: small steps of an accepted job do not get stuck: from every state that they reach each running channel can go on to
@@ -70,7 +74,8 @@ pub fn runs_are_cuts()
 /// A law: wherever a run of an accepted job is, each zone is in a stretch of the run without a race that speaks for it: the
 /// stretch has begun, is not over, and is of the channel that holds the zone then, or of none where nobody holds it.
 pub fn zones_have_present_stretches()
-    ensures { (job : JobView) (doings : Doings) (speaking made : List ℕ) (zone : ZoneLine) → ZonesHavePresentStretches job doings speaking made zone }
+    ensures { (job : JobView) (doings : Doings) (speaking made : List ℕ) (zone : ZoneLine)
+        → ZonesHavePresentStretches job doings speaking made zone }
 {}
 
 /// A law: a run without a race of an accepted job and each other maximal run have the same times of zones: of each zone the same

@@ -90,7 +90,8 @@ fn say_channel_alarm(text: &mut Text, told: &Told, channel: ChannelId)
 
 /// Says all alarms.
 fn say_alarms(text: &mut Text, told: &Told)
-    ensures { text.new ≡ text.old ++ flat_map (model.channel_text told.now.lines.now told.now.job.now told.now.run.now) channel_numbers }
+    ensures { text.new ≡ text.old ++ flat_map
+        (model.channel_text told.now.lines.now told.now.job.now told.now.run.now) channel_numbers }
 {
     let all = all_channels();
     for channel in &all {
@@ -104,7 +105,8 @@ fn say_alarms(text: &mut Text, told: &Told)
 pub fn say_alarm(text: &mut Text, told: &Told, start: &StartState, channel: ChannelId)
     requires few { length told.now.run.now.entries < 2 ^ 32 }
     requires whole { ComesFrom start.now told.now.run.now }
-    ensures { text.new ≡ text.old ++ model.alarm_text told.now.lines.now told.now.job.now told.now.run.now (last_board start.now told.now.run.now) channel }
+    ensures { text.new ≡ text.old ++ model.alarm_text told.now.lines.now told.now.job.now told.now.run.now
+        (last_board start.now told.now.run.now) channel }
 {
     text.say("ALARM: the control would stop ");
     say_channel(text, channel);

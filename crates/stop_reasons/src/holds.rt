@@ -25,8 +25,9 @@ fn say_mark_of(
     marks: &NamedMarks,
     channel: ChannelId,
 )
-    ensures { (b : Board) → IsTold board.now b → text.new ≡ text.old
-        ++ model.some_lack_text told.now.lines.now told.now.job.now told.now.run.now (lack.lacked_mark b marks.now.number (members_of marks.now.named) channel) }
+    ensures { (b : Board) → IsTold board.now b
+        → text.new ≡ text.old ++ model.some_lack_text told.now.lines.now told.now.job.now told.now.run.now
+        (lack.lacked_mark b marks.now.number (members_of marks.now.named) channel) }
 {
     let lacked = lacked_mark(board, marks, channel);
     say_some_lack(text, told, &lacked);
@@ -34,8 +35,9 @@ fn say_mark_of(
 
 /// Says the marks that are lacking.
 fn say_marks(text: &mut Text, told: &Told, board: &LastBoard, marks: &NamedMarks)
-    ensures { (b : Board) → IsTold board.now b → text.new ≡ text.old ++ flat_map (λ channel. model.some_lack_text told.now.lines.now told.now.job.now told.now.run.now
-        (lack.lacked_mark b marks.now.number (members_of marks.now.named) channel)) channel_numbers }
+    ensures { (b : Board) → IsTold board.now b
+        → text.new ≡ text.old ++ flat_map (λ channel. model.some_lack_text told.now.lines.now told.now.job.now
+        told.now.run.now (lack.lacked_mark b marks.now.number (members_of marks.now.named) channel)) channel_numbers }
 {
     let all = all_channels();
     for channel in &all {
@@ -54,7 +56,8 @@ fn say_end_of(text: &mut Text, told: &Told, own: ChannelId, named: &ChannelSet, 
 
 /// Says the ends of programs that are lacking.
 fn say_ends(text: &mut Text, told: &Told, own: ChannelId, named: &ChannelSet)
-    ensures { text.new ≡ text.old ++ flat_map (λ channel. model.some_lack_text told.now.lines.now told.now.job.now told.now.run.now
+    ensures { text.new ≡ text.old ++ flat_map
+        (λ channel. model.some_lack_text told.now.lines.now told.now.job.now told.now.run.now
         (lack.lacked_end told.now.job.now told.now.run.now own (members_of named.now) channel)) channel_numbers }
 {
     let all = all_channels();
@@ -65,8 +68,9 @@ fn say_ends(text: &mut Text, told: &Told, own: ChannelId, named: &ChannelSet)
 
 /// Says an axis, where it is asked for and another channel owns it.
 fn say_axis_of(text: &mut Text, told: &Told, board: &LastBoard, asked: &AskedAxes, axis: AxisId)
-    ensures { (b : Board) → IsTold board.now b → text.new ≡ text.old
-        ++ model.some_lack_text told.now.lines.now told.now.job.now told.now.run.now (lack.lacked_axis b asked.now.own (members_of asked.now.axes) axis) }
+    ensures { (b : Board) → IsTold board.now b
+        → text.new ≡ text.old ++ model.some_lack_text told.now.lines.now told.now.job.now told.now.run.now
+        (lack.lacked_axis b asked.now.own (members_of asked.now.axes) axis) }
 {
     let lacked = lacked_axis(board, asked, axis);
     say_some_lack(text, told, &lacked);
@@ -74,8 +78,9 @@ fn say_axis_of(text: &mut Text, told: &Told, board: &LastBoard, asked: &AskedAxe
 
 /// Says the axes that are lacking.
 fn say_axes(text: &mut Text, told: &Told, board: &LastBoard, asked: &AskedAxes)
-    ensures { (b : Board) → IsTold board.now b → text.new ≡ text.old ++ flat_map (λ axis. model.some_lack_text told.now.lines.now told.now.job.now told.now.run.now
-        (lack.lacked_axis b asked.now.own (members_of asked.now.axes) axis)) axis_numbers }
+    ensures { (b : Board) → IsTold board.now b
+        → text.new ≡ text.old ++ flat_map (λ axis. model.some_lack_text told.now.lines.now told.now.job.now
+        told.now.run.now (lack.lacked_axis b asked.now.own (members_of asked.now.axes) axis)) axis_numbers }
 {
     let all = all_axes();
     for axis in &all {
@@ -86,7 +91,8 @@ fn say_axes(text: &mut Text, told: &Told, board: &LastBoard, asked: &AskedAxes)
 /// Says all that a channel lacks which waits so.
 pub(crate) fn say_hold(text: &mut Text, told: &Told, board: &LastBoard, own: ChannelId, hold: &Hold)
     ensures { (b : Board) → IsTold board.now b
-        → text.new ≡ text.old ++ model.hold_text told.now.lines.now told.now.job.now told.now.run.now b own (hold_shown hold.now) }
+        → text.new ≡ text.old ++ model.hold_text told.now.lines.now told.now.job.now
+        told.now.run.now b own (hold_shown hold.now) }
 {
     match hold {
         Hold::Marks(number, named) => {

@@ -47,7 +47,8 @@ fn mark_where(is_named: bool, stands: bool, mark: u8, channel: ChannelId) -> Opt
 
 /// The mark of a channel, where the channel is named and the mark does not stand.
 pub(crate) fn lacked_mark(board: &LastBoard, marks: &NamedMarks, channel: ChannelId) -> Option<Lack>
-    ensures { (b : Board) → IsTold board.now b → result ≡ model.lacked_mark b marks.now.number (members_of marks.now.named) channel }
+    ensures { (b : Board) → IsTold board.now b
+        → result ≡ model.lacked_mark b marks.now.number (members_of marks.now.named) channel }
 {
     let is_named = marks.named.contains(channel);
     let stands = board.stands(channel, marks.number);
@@ -137,7 +138,8 @@ fn axis_where(
 
 /// An axis of those that a channel asks for, where another channel owns it.
 pub(crate) fn lacked_axis(board: &LastBoard, asked: &AskedAxes, axis: AxisId) -> Option<Lack>
-    ensures { (b : Board) → IsTold board.now b → result ≡ model.lacked_axis b asked.now.own (members_of asked.now.axes) axis }
+    ensures { (b : Board) → IsTold board.now b
+        → result ≡ model.lacked_axis b asked.now.own (members_of asked.now.axes) axis }
 {
     let is_asked = asked.axes.contains(axis);
     let owner = board.owner_of(axis);

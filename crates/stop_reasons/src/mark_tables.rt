@@ -146,7 +146,8 @@ fn say_some_row(text: &mut Text, told: &Told, row: &Option<MarkRow>)
 
 /// Says a mark number in a channel, where the job has the channel.
 fn say_row_of(text: &mut Text, told: &Told, mark: u8, channel: ChannelId)
-    ensures { text.new ≡ text.old ++ model.some_row_text told.now.lines.now told.now.job.now (model.row_in told.now.job.now told.now.run.now mark channel) }
+    ensures { text.new ≡ text.old ++ model.some_row_text told.now.lines.now told.now.job.now
+        (model.row_in told.now.job.now told.now.run.now mark channel) }
 {
     let row = row_in(told, mark, channel);
     say_some_row(text, told, &row);
@@ -176,7 +177,8 @@ fn say_table(text: &mut Text, told: &Told, mark: u8)
 
 /// Says it where a channel waits for marks of this number.
 fn say_table_if(text: &mut Text, told: &Told, awaited: bool, mark: u8)
-    ensures { text.new ≡ text.old ++ (if awaited then model.table_text told.now.lines.now told.now.job.now told.now.run.now mark else []) }
+    ensures { text.new ≡ text.old ++ (if awaited then model.table_text told.now.lines.now told.now.job.now
+        told.now.run.now mark else []) }
 {
     if awaited {
         say_table(text, told, mark);
@@ -186,7 +188,8 @@ fn say_table_if(text: &mut Text, told: &Told, awaited: bool, mark: u8)
 /// Says a mark number in all channels of the job, where a channel of a board waits for marks of it.
 #[tactic(auto, unfolding(crate::specs::MarkTables::mark_table))]
 fn say_table_of(text: &mut Text, told: &Told, board: &LastBoard, mark: u8)
-    ensures { (b : Board) → IsTold board.now b → text.new ≡ text.old ++ model.mark_table told.now.lines.now told.now.job.now told.now.run.now b mark }
+    ensures { (b : Board) → IsTold board.now b
+        → text.new ≡ text.old ++ model.mark_table told.now.lines.now told.now.job.now told.now.run.now b mark }
 {
     let awaited = is_awaited(board, mark);
     say_table_if(text, told, awaited, mark);
@@ -195,7 +198,8 @@ fn say_table_of(text: &mut Text, told: &Told, board: &LastBoard, mark: u8)
 /// Says all mark numbers for which channels wait.
 #[tactic(auto, unfolding(crate::specs::MarkTables::marks_text))]
 pub(crate) fn say_marks(text: &mut Text, told: &Told, board: &LastBoard)
-    ensures { (b : Board) → IsTold board.now b → text.new ≡ text.old ++ model.marks_text told.now.lines.now told.now.job.now told.now.run.now b }
+    ensures { (b : Board) → IsTold board.now b
+        → text.new ≡ text.old ++ model.marks_text told.now.lines.now told.now.job.now told.now.run.now b }
 {
     let all = all_marks();
     for mark in &all {

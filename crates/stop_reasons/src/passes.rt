@@ -73,7 +73,8 @@ fn raisings_of(run: &Run, channel: ChannelId, mark: u8) -> usize
 
 /// Whether the step of a place raises the mark, where it is the channel's; else what is so before it.
 fn later_raising(run: &Run, channel: ChannelId, mark: u8, place: usize, before: bool) -> bool
-    ensures { result ≡ unwrap_or (option_and_then (model.raised_in channel mark) (slice_get run.now.entries place)) before }
+    ensures { result ≡ unwrap_or (option_and_then (model.raised_in channel mark) (slice_get run.now.entries place))
+        before }
 {
     match run.entries.get(place) {
         Some(entry) => {

@@ -58,7 +58,8 @@ fn push_mark_of(
     channel: ChannelId,
 ) -> Result<(), NoMemory>
     ensures { OnOk result ((b : Board) → IsTold board.now b
-        → list.new.items ≡ list.old.items ++ option_to_list (lack.lacked_mark b marks.now.number (members_of marks.now.named) channel)) }
+        → list.new.items ≡ list.old.items ++ option_to_list
+        (lack.lacked_mark b marks.now.number (members_of marks.now.named) channel)) }
 {
     let lacked = lacked_mark(board, marks, channel);
     push_lack(list, &lacked)?;
@@ -67,8 +68,9 @@ fn push_mark_of(
 
 /// A list with the marks that are lacking.
 fn push_marks(list: &mut Vec<Lack>, board: &LastBoard, marks: &NamedMarks) -> Result<(), NoMemory>
-    ensures { OnOk result ((b : Board) → IsTold board.now b → list.new.items
-        ≡ list.old.items ++ flat_map (λ channel. option_to_list (lack.lacked_mark b marks.now.number (members_of marks.now.named) channel)) channel_numbers) }
+    ensures { OnOk result ((b : Board) → IsTold board.now b → list.new.items ≡ list.old.items
+        ++ flat_map (λ channel. option_to_list (lack.lacked_mark b marks.now.number
+        (members_of marks.now.named) channel)) channel_numbers) }
 {
     let all = all_channels();
     for channel in &all {
@@ -85,8 +87,8 @@ fn push_end_of(
     named: &ChannelSet,
     channel: ChannelId,
 ) -> Result<(), NoMemory>
-    ensures { OnOk result (list.new.items
-        ≡ list.old.items ++ option_to_list (lack.lacked_end told.now.job.now told.now.run.now own (members_of named.now) channel)) }
+    ensures { OnOk result (list.new.items ≡ list.old.items
+        ++ option_to_list (lack.lacked_end told.now.job.now told.now.run.now own (members_of named.now) channel)) }
 {
     let lacked = lacked_end(told, own, named, channel);
     push_lack(list, &lacked)?;
@@ -101,7 +103,8 @@ fn push_ends(
     named: &ChannelSet,
 ) -> Result<(), NoMemory>
     ensures { OnOk result (list.new.items ≡ list.old.items
-        ++ flat_map (λ channel. option_to_list (lack.lacked_end told.now.job.now told.now.run.now own (members_of named.now) channel)) channel_numbers) }
+        ++ flat_map (λ channel. option_to_list (lack.lacked_end told.now.job.now told.now.run.now own
+        (members_of named.now) channel)) channel_numbers) }
 {
     let all = all_channels();
     for channel in &all {
@@ -118,7 +121,8 @@ fn push_axis_of(
     axis: AxisId,
 ) -> Result<(), NoMemory>
     ensures { OnOk result ((b : Board) → IsTold board.now b
-        → list.new.items ≡ list.old.items ++ option_to_list (lack.lacked_axis b asked.now.own (members_of asked.now.axes) axis)) }
+        → list.new.items ≡ list.old.items ++ option_to_list
+        (lack.lacked_axis b asked.now.own (members_of asked.now.axes) axis)) }
 {
     let lacked = lacked_axis(board, asked, axis);
     push_lack(list, &lacked)?;
@@ -127,8 +131,9 @@ fn push_axis_of(
 
 /// A list with the axes that are lacking.
 fn push_axes(list: &mut Vec<Lack>, board: &LastBoard, asked: &AskedAxes) -> Result<(), NoMemory>
-    ensures { OnOk result ((b : Board) → IsTold board.now b → list.new.items
-        ≡ list.old.items ++ flat_map (λ axis. option_to_list (lack.lacked_axis b asked.now.own (members_of asked.now.axes) axis)) axis_numbers) }
+    ensures { OnOk result ((b : Board) → IsTold board.now b → list.new.items ≡ list.old.items
+        ++ flat_map (λ axis. option_to_list (lack.lacked_axis b asked.now.own (members_of asked.now.axes) axis))
+        axis_numbers) }
 {
     let all = all_axes();
     for axis in &all {
@@ -146,7 +151,8 @@ fn push_lacks(
     hold: &Hold,
 ) -> Result<(), NoMemory>
     ensures { OnOk result ((b : Board) → IsTold board.now b
-        → list.new.items ≡ list.old.items ++ lack.lacks_of told.now.job.now told.now.run.now b own (hold_shown hold.now)) }
+        → list.new.items ≡ list.old.items ++ lack.lacks_of told.now.job.now told.now.run.now
+        b own (hold_shown hold.now)) }
 {
     match hold {
         Hold::Marks(number, named) => {
@@ -176,7 +182,8 @@ fn lacks_of(
     own: ChannelId,
     hold: &Hold,
 ) -> Result<Vec<Lack>, NoMemory>
-    ensures { IfOk result (λ list. (b : Board) → IsTold board.now b → list.items ≡ lack.lacks_of told.now.job.now told.now.run.now b own (hold_shown hold.now)) }
+    ensures { IfOk result (λ list. (b : Board) → IsTold board.now b
+        → list.items ≡ lack.lacks_of told.now.job.now told.now.run.now b own (hold_shown hold.now)) }
 {
     let mut list = Vec::new(alloc);
     push_lacks(&mut list, told, board, own, hold)?;
@@ -203,7 +210,8 @@ fn push_rows(
     line: u32,
     lacks: &[Lack],
 ) -> Result<(), NoMemory>
-    ensures { OnOk result (list.new.items ≡ list.old.items ++ map (model.wait_row told.now.job.now told.now.run.now channel line) lacks.now) }
+    ensures { OnOk result (list.new.items ≡ list.old.items
+        ++ map (model.wait_row told.now.job.now told.now.run.now channel line) lacks.now) }
 {
     for lack in lacks {
         list.push(wait_row(told, channel, line, lack))?;
@@ -220,7 +228,8 @@ fn push_wait(
     channel: ChannelId,
 ) -> Result<(), NoMemory>
     ensures { OnOk result ((b : Board) → IsTold board.now b
-        → list.new.items ≡ list.old.items ++ model.rows_of_wait told.now.job.now told.now.run.now b channel (wait_in (b.state channel))) }
+        → list.new.items ≡ list.old.items ++ model.rows_of_wait told.now.job.now told.now.run.now b channel
+        (wait_in (b.state channel))) }
 {
     let held = board.hold_of(channel);
     match &held {
@@ -240,8 +249,9 @@ fn push_waits(
     told: &Told,
     board: &LastBoard,
 ) -> Result<(), NoMemory>
-    ensures { OnOk result ((b : Board) → IsTold board.now b → list.new.items
-        ≡ list.old.items ++ flat_map (λ channel. model.rows_of_wait told.now.job.now told.now.run.now b channel (wait_in (b.state channel))) channel_numbers) }
+    ensures { OnOk result ((b : Board) → IsTold board.now b → list.new.items ≡ list.old.items
+        ++ flat_map (λ channel. model.rows_of_wait told.now.job.now told.now.run.now b channel
+        (wait_in (b.state channel))) channel_numbers) }
 {
     let all = all_channels();
     for channel in &all {
@@ -257,7 +267,8 @@ fn push_waits(
 pub fn wait_rows(alloc: Global, told: &Told, start: &StartState) -> Result<Vec<WaitRow>, NoMemory>
     requires few { length told.now.run.now.entries < 2 ^ 32 }
     requires whole { ComesFrom start.now told.now.run.now }
-    ensures { IfOk result (λ list. list.items ≡ model.wait_rows told.now.job.now told.now.run.now (last_board start.now told.now.run.now)) }
+    ensures { IfOk result (λ list. list.items ≡ model.wait_rows told.now.job.now told.now.run.now
+        (last_board start.now told.now.run.now)) }
 {
     let board = last_board(start, told.run);
     let mut list = Vec::new(alloc);
@@ -284,7 +295,8 @@ fn push_channel(
     mark: u8,
     channel: ChannelId,
 ) -> Result<(), NoMemory>
-    ensures { OnOk result (list.new.items ≡ list.old.items ++ option_to_list (row_in told.now.job.now told.now.run.now mark channel)) }
+    ensures { OnOk result (list.new.items ≡ list.old.items
+        ++ option_to_list (row_in told.now.job.now told.now.run.now mark channel)) }
 {
     let row = row_in(told, mark, channel);
     push_row(list, &row)?;
@@ -293,8 +305,9 @@ fn push_channel(
 
 /// A list with a row for a mark number in each channel of the job.
 fn push_channels(list: &mut Vec<MarkRow>, told: &Told, mark: u8) -> Result<(), NoMemory>
-    ensures { OnOk result (list.new.items
-        ≡ list.old.items ++ flat_map (λ channel. option_to_list (row_in told.now.job.now told.now.run.now mark channel)) channel_numbers) }
+    ensures { OnOk result (list.new.items ≡ list.old.items
+        ++ flat_map (λ channel. option_to_list (row_in told.now.job.now told.now.run.now mark channel))
+        channel_numbers) }
 {
     let all = all_channels();
     for channel in &all {
@@ -310,8 +323,9 @@ fn push_channels_if(
     awaited: bool,
     mark: u8,
 ) -> Result<(), NoMemory>
-    ensures { OnOk result (list.new.items ≡ list.old.items ++ (if awaited
-        then flat_map (λ channel. option_to_list (row_in told.now.job.now told.now.run.now mark channel)) channel_numbers else [])) }
+    ensures { OnOk result (list.new.items ≡ list.old.items
+        ++ (if awaited then flat_map (λ channel. option_to_list (row_in told.now.job.now told.now.run.now mark channel))
+        channel_numbers else [])) }
 {
     if awaited {
         push_channels(list, told, mark)?;
@@ -326,7 +340,8 @@ fn push_mark(
     board: &LastBoard,
     mark: u8,
 ) -> Result<(), NoMemory>
-    ensures { OnOk result ((b : Board) → IsTold board.now b → list.new.items ≡ list.old.items ++ model.rows_of_mark told.now.job.now told.now.run.now b mark) }
+    ensures { OnOk result ((b : Board) → IsTold board.now b → list.new.items ≡ list.old.items
+        ++ model.rows_of_mark told.now.job.now told.now.run.now b mark) }
 {
     let awaited = is_awaited(board, mark);
     push_channels_if(list, told, awaited, mark)?;
@@ -336,7 +351,8 @@ fn push_mark(
 /// A list with rows for all mark numbers for which channels of a board wait.
 fn push_all_marks(list: &mut Vec<MarkRow>, told: &Told, board: &LastBoard) -> Result<(), NoMemory>
     ensures { OnOk result ((b : Board) → IsTold board.now b
-        → list.new.items ≡ list.old.items ++ flat_map (model.rows_of_mark told.now.job.now told.now.run.now b) mark_numbers) }
+        → list.new.items ≡ list.old.items ++ flat_map
+        (model.rows_of_mark told.now.job.now told.now.run.now b) mark_numbers) }
 {
     let all = all_marks();
     for mark in &all {
@@ -351,7 +367,8 @@ fn push_all_marks(list: &mut Vec<MarkRow>, told: &Told, board: &LastBoard) -> Re
 pub fn mark_rows(alloc: Global, told: &Told, start: &StartState) -> Result<Vec<MarkRow>, NoMemory>
     requires few { length told.now.run.now.entries < 2 ^ 32 }
     requires whole { ComesFrom start.now told.now.run.now }
-    ensures { IfOk result (λ list. list.items ≡ model.mark_rows told.now.job.now told.now.run.now (last_board start.now told.now.run.now)) }
+    ensures { IfOk result (λ list. list.items ≡ model.mark_rows told.now.job.now told.now.run.now
+        (last_board start.now told.now.run.now)) }
 {
     let board = last_board(start, told.run);
     let mut list = Vec::new(alloc);

@@ -31,7 +31,8 @@ fn say_head(text: &mut Text, told: &Told, channel: ChannelId, line: u32)
 
 /// Says that a channel waits, and for what.
 fn say_held(text: &mut Text, told: &Told, board: &LastBoard, channel: ChannelId, held: &HoldAtLine)
-    ensures { (b : Board) → IsTold board.now b → text.new ≡ text.old ++ (head_text told.now.lines.now told.now.job.now channel held.now.line
+    ensures { (b : Board) → IsTold board.now b
+        → text.new ≡ text.old ++ (head_text told.now.lines.now told.now.job.now channel held.now.line
         ++ hold_text told.now.lines.now told.now.job.now told.now.run.now b channel (hold_shown held.now.hold)) }
 {
     say_head(text, told, channel, held.line);
@@ -46,7 +47,9 @@ fn say_wait(
     channel: ChannelId,
     held: &Option<HoldAtLine>,
 )
-    ensures { (b : Board) → IsTold board.now b → text.new ≡ text.old ++ wait_text told.now.lines.now told.now.job.now told.now.run.now b channel (wait_shown held.now) }
+    ensures { (b : Board) → IsTold board.now b
+        → text.new ≡ text.old ++ wait_text told.now.lines.now told.now.job.now told.now.run.now b
+        channel (wait_shown held.now) }
 {
     match held {
         Some(held) => say_held(text, told, board, channel, held),
@@ -56,7 +59,8 @@ fn say_wait(
 
 /// Says a channel of a board.
 fn say_channel_wait(text: &mut Text, told: &Told, board: &LastBoard, channel: ChannelId)
-    ensures { (b : Board) → IsTold board.now b → text.new ≡ text.old ++ model.channel_wait told.now.lines.now told.now.job.now told.now.run.now b channel }
+    ensures { (b : Board) → IsTold board.now b
+        → text.new ≡ text.old ++ model.channel_wait told.now.lines.now told.now.job.now told.now.run.now b channel }
 {
     let held = board.hold_of(channel);
     say_wait(text, told, board, channel, &held);
@@ -65,7 +69,8 @@ fn say_channel_wait(text: &mut Text, told: &Told, board: &LastBoard, channel: Ch
 /// Says all channels of a board that wait.
 fn say_channels(text: &mut Text, told: &Told, board: &LastBoard)
     ensures { (b : Board) → IsTold board.now b
-        → text.new ≡ text.old ++ flat_map (model.channel_wait told.now.lines.now told.now.job.now told.now.run.now b) channel_numbers }
+        → text.new ≡ text.old ++ flat_map (model.channel_wait told.now.lines.now told.now.job.now
+        told.now.run.now b) channel_numbers }
 {
     let all = all_channels();
     for channel in &all {
@@ -87,7 +92,8 @@ fn say_board(text: &mut Text, told: &Told, board: &LastBoard)
 pub(crate) fn say_waits(text: &mut Text, told: &Told, start: &StartState)
     requires few { length told.now.run.now.entries < 2 ^ 32 }
     requires whole { ComesFrom start.now told.now.run.now }
-    ensures { text.new ≡ text.old ++ model.waits_text told.now.lines.now told.now.job.now told.now.run.now (model.last_board start.now told.now.run.now) }
+    ensures { text.new ≡ text.old ++ model.waits_text told.now.lines.now told.now.job.now told.now.run.now
+        (model.last_board start.now told.now.run.now) }
 {
     let board = last_board(start, told.run);
     say_board(text, told, &board);
@@ -100,7 +106,8 @@ pub(crate) fn say_waits(text: &mut Text, told: &Told, start: &StartState)
 pub fn say_stuck(text: &mut Text, told: &Told, start: &StartState, channel: ChannelId)
     requires few { length told.now.run.now.entries < 2 ^ 32 }
     requires whole { ComesFrom start.now told.now.run.now }
-    ensures { text.new ≡ text.old ++ model.stuck_text told.now.lines.now told.now.job.now told.now.run.now (model.last_board start.now told.now.run.now) channel }
+    ensures { text.new ≡ text.old ++ model.stuck_text told.now.lines.now told.now.job.now told.now.run.now
+        (model.last_board start.now told.now.run.now) channel }
 {
     text.say("STUCK: ");
     say_channel(text, channel);

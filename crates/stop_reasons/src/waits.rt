@@ -144,7 +144,8 @@ fn say_lack(text: &mut Text, told: &Told, lack: &Lack)
 /// Says it where something is lacking.
 #[tactic(auto, unfolding(crate::specs::Waits::some_lack_text))]
 pub(crate) fn say_some_lack(text: &mut Text, told: &Told, lack: &Option<Lack>)
-    ensures { text.new ≡ text.old ++ model.some_lack_text told.now.lines.now told.now.job.now told.now.run.now lack.now }
+    ensures { text.new ≡ text.old ++ model.some_lack_text told.now.lines.now
+        told.now.job.now told.now.run.now lack.now }
 {
     if let Some(lack) = lack {
         say_lack(text, told, lack);

@@ -51,7 +51,8 @@ fn turned_ahead(turn: u8, u_low: u32, u_high: u32, v_low: u32, v_high: u32) -> P
     requires u_high { u_high ≤ 33554432 }
     requires v_low { v_low ≤ 33554432 }
     requires v_high { v_high ≤ 33554432 }
-    ensures { result ≡ boxes.turned_ahead turn (record { u_low = u_low; u_high = u_high; v_low = v_low; v_high = v_high }) }
+    ensures { result ≡ boxes.turned_ahead turn
+        (record { u_low = u_low; u_high = u_high; v_low = v_low; v_high = v_high }) }
 {
     let (u_low, u_high) = (u_low as i32, u_high as i32);
     let (v_low, v_high) = (v_low as i32, v_high as i32);

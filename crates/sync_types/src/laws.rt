@@ -19,14 +19,17 @@ pub fn axes_stay_together()
 /// A law: a run is the replay of its steps, and of its entries, and from a sound start a maximal run gives
 /// entries and ends that come from it.
 pub fn runs_are_replays()
-    ensures steps { (script : Script) (stage : Stage) (cs : List ℕ) → IsRun script stage cs → RunIsReplay script stage cs }
+    ensures steps { (script : Script) (stage : Stage) (cs : List ℕ) → IsRun script stage cs
+        → RunIsReplay script stage cs }
     ensures entries { (b : Board) (moves : List Move) → AreOfRunning b moves → EntriesAreReplay b moves }
-    ensures whole { (script : Script) (start : StartView) (cs : List ℕ) (items : List (List Item)) → MaximalRunsComeFrom script start cs items }
+    ensures whole { (script : Script) (start : StartView) (cs : List ℕ) (items : List (List Item))
+        → MaximalRunsComeFrom script start cs items }
 {}
 
 /// A law: the sequential run is a maximal run, and there is only one.
 pub fn the_sequential_run_is_one()
-    ensures { (script : Script) (stage : Stage) (cs ds : List ℕ) → IsSequential script stage cs → SequentialIsOne script stage cs ds }
+    ensures { (script : Script) (stage : Stage) (cs ds : List ℕ) → IsSequential script stage cs
+        → SequentialIsOne script stage cs ds }
 {}
 
 /// A law: where no channel runs each channel has its end.

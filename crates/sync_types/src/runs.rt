@@ -51,7 +51,11 @@ impl Model for Run {
 
     ghost Value = { RunView };
 
-    ghost view = { λ r. record { entries = r.entries.items; items = map (λ items. items.items) r.items.items; ends = r.ends.items } };
+    ghost view = { λ r. record {
+      entries = r.entries.items;
+      items = map (λ items. items.items) r.items.items;
+      ends = r.ends.items;
+    } };
 }
 
 /// An event of a run: what a channel does in a step, or that it goes on in that step.

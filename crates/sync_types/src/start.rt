@@ -22,5 +22,9 @@ impl Model for StartState {
 
     ghost view = { λ s. record { channels = s.channels.items; axes = s.axes.items; zones = s.zones.items } };
 
-    ghost inverse = { λ s. record { channels = record { items = s.channels }; axes = record { items = s.axes }; zones = record { items = s.zones } } };
+    ghost inverse = { λ s. record {
+      channels = record { items = s.channels };
+      axes = record { items = s.axes };
+      zones = record { items = s.zones };
+    } };
 }

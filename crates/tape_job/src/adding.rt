@@ -25,7 +25,10 @@ impl Draft {
         starts: bool,
     ) -> Result<(), AllocError>
         ensures { OnOk result (self.new ≡ record self.old {
-          job = record self.old.job { channels = self.old.job.channels ++ record { line = line; channel = channel; program = program; starts = starts } ∷ [] };
+          job = record self.old.job {
+            channels = self.old.job.channels
+                ++ record { line = line; channel = channel; program = program; starts = starts } ∷ [];
+          };
         }) }
     {
         self.job.channels.push(ChannelLine {
@@ -46,7 +49,10 @@ impl Draft {
         at: Um,
     ) -> Result<(), AllocError>
         ensures { OnOk result (self.new ≡ record self.old {
-          job = record self.old.job { axes = self.old.job.axes ++ record { line = line; letter = name.letter; number = name.number; owner = owner; at = at } ∷ [] };
+          job = record self.old.job {
+            axes = self.old.job.axes
+                ++ record { line = line; letter = name.letter; number = name.number; owner = owner; at = at } ∷ [];
+          };
         }) }
     {
         self.job.axes.push(AxisLine {
@@ -68,7 +74,10 @@ impl Draft {
         axis: AxisName,
     ) -> Result<(), AllocError>
         ensures { OnOk result (self.new ≡ record self.old {
-          job = record self.old.job { geo = with_entry self.old.job.geo (geo_line line channel slot (axis_of self.old.job.axes axis)) };
+          job = record self.old.job {
+            geo = with_entry
+                self.old.job.geo (geo_line line channel slot (axis_of self.old.job.axes axis));
+          };
         }) }
     {
         if let Some(axis) = self.axis_of(axis) {
@@ -92,7 +101,10 @@ impl Draft {
         by: Um,
     ) -> Result<(), AllocError>
         ensures { OnOk result (self.new ≡ record self.old {
-          job = record self.old.job { offsets = self.old.job.offsets ++ record { line = line; channel = channel; g = g; slot = slot; by = by } ∷ [] };
+          job = record self.old.job {
+            offsets = self.old.job.offsets
+                ++ record { line = line; channel = channel; g = g; slot = slot; by = by } ∷ [];
+          };
         }) }
     {
         self.job.offsets.push(OffsetLine {
@@ -108,7 +120,11 @@ impl Draft {
     /// Adds a zone, if its carriers are there.
     fn add_zone(&mut self, line: u32, zone: NamedZone) -> Result<(), AllocError>
         ensures { OnOk result (self.new ≡ record self.old {
-          job = record self.old.job { zones = with_entry self.old.job.zones (zone_line line zone (side_of self.old.job.axes zone.x) (side_of self.old.job.axes zone.y) (side_of self.old.job.axes zone.z)) };
+          job = record self.old.job {
+            zones = with_entry
+                self.old.job.zones (zone_line line zone (side_of self.old.job.axes zone.x)
+                (side_of self.old.job.axes zone.y) (side_of self.old.job.axes zone.z));
+          };
         }) }
     {
         if let (Some(x), Some(y), Some(z)) = (
@@ -180,7 +196,8 @@ impl Draft {
     ) -> Result<(), LineFault>
         requires admitted { rule_of self.old.options self.old.job (reading_view reading) ≡ None }
         requires short { last_count self.old.job.programs < 2 ^ 32 }
-        ensures exact { Adds (code_by self.old.options self.old.job line (Ok (reading_view reading))) (draft_with self.old line (Ok (reading_view reading))) result self.new }
+        ensures exact { Adds (code_by self.old.options self.old.job line (Ok (reading_view reading)))
+            (draft_with self.old line (Ok (reading_view reading))) result self.new }
         ensures listed { IfErr result FaultIsListed }
     {
         match reading {

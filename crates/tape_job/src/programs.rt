@@ -86,7 +86,9 @@ impl Unresolved {
     /// Puts a block after the others, unless it breaks their structures.
     #[tactic(auto, using(crate::proofs::NestLemmas::nest_goes_on, crate::proofs::NestLemmas::fault_is, crate::proofs::NestLemmas::nested_code))]
     fn push(&mut self, line: u32, block: Block) -> Result<(), LineFault>
-        ensures exact { Adds (structure_fault self.old.1.blocks (line, view_of block)) (self.old.0, record self.old.1 { blocks = self.old.1.blocks ++ (line, view_of block) ∷ [] }) result self.new }
+        ensures exact { Adds (structure_fault self.old.1.blocks (line, view_of block))
+            (self.old.0, record self.old.1 { blocks = self.old.1.blocks ++ (line, view_of block) ∷ [] }) result
+            self.new }
         ensures listed { IfErr result FaultIsListed }
         ensures named { self.new.0 ≡ self.old.0 }
     {
@@ -152,7 +154,8 @@ fn is_last(last: &Option<Unresolved>, name: &NameText) -> bool
 
 /// Puts a block after those of the last program, if there is one, unless it breaks their structures.
 fn push_to(last: &mut Option<Unresolved>, line: u32, block: Block) -> Result<(), LineFault>
-    ensures exact { Adds (last_fault last.old (line, view_of block)) (last_with last.old (line, view_of block)) result last.new }
+    ensures exact { Adds (last_fault last.old (line, view_of block))
+        (last_with last.old (line, view_of block)) result last.new }
     ensures listed { IfErr result FaultIsListed }
     ensures named { option_map (λ program. program.0) last.new ≡ option_map (λ program. program.0) last.old }
 {
@@ -253,7 +256,8 @@ impl Library {
 
     /// Puts a block after those of the last program, if there is one, unless it breaks their structures.
     pub(crate) fn push(&mut self, line: u32, block: Block) -> Result<(), LineFault>
-        ensures exact { Adds (structure_rule self.old (line, view_of block)) (with_block self.old (line, view_of block)) result self.new }
+        ensures exact { Adds (structure_rule self.old (line, view_of block))
+            (with_block self.old (line, view_of block)) result self.new }
         ensures listed { IfErr result FaultIsListed }
     {
         push_to(&mut self.last, line, block)

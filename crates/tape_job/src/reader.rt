@@ -27,7 +27,12 @@ impl Model for Reader {
 
     ghost coded = { Prim.hlevel (codes, tree_code) };
 
-    ghost view = { λ r. record { seen = r.seen; in_programs = r.in_programs; options = r.draft.options; job = r.draft.job } };
+    ghost view = { λ r. record {
+      seen = r.seen;
+      in_programs = r.in_programs;
+      options = r.draft.options;
+      job = r.draft.job;
+    } };
 }
 
 impl Reader {
@@ -100,10 +105,12 @@ impl Reader {
         raw: &[u8],
         reading: Reading,
     ) -> Result<(), LineFault>
-        requires said { reading_of self.old.seen self.old.in_programs self.old.job.compensation raw.now ≡ Ok (reading_view reading) }
+        requires said { reading_of self.old.seen self.old.in_programs self.old.job.compensation
+            raw.now ≡ Ok (reading_view reading) }
         requires admitted { rule_of self.old.options self.old.job (reading_view reading) ≡ None }
         requires short { last_count self.old.job.programs < 2 ^ 32 }
-        ensures exact { Adds (code_by self.old.options self.old.job number (Ok (reading_view reading))) (tell self.old (number, raw.now)) result self.new }
+        ensures exact { Adds (code_by self.old.options self.old.job number (Ok (reading_view reading)))
+            (tell self.old (number, raw.now)) result self.new }
         ensures listed { IfErr result FaultIsListed }
     {
         self.draft.add(alloc, number, reading)?;

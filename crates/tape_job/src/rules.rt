@@ -284,8 +284,8 @@ impl Draft {
     /// What a ZONE line breaks.
     #[tactic(auto, unfolding(crate::specs::Rules::zone_rule))]
     fn zone_rule(&self, zone: &NamedZone) -> Option<Code>
-        ensures { result ≡ zone_rule self.now.job zone.now.zone zone.now.holder
-            (side_of self.now.job.axes zone.now.x) (side_of self.now.job.axes zone.now.y) (side_of self.now.job.axes zone.now.z) }
+        ensures { result ≡ zone_rule self.now.job zone.now.zone zone.now.holder (side_of self.now.job.axes zone.now.x)
+            (side_of self.now.job.axes zone.now.y) (side_of self.now.job.axes zone.now.z) }
     {
         match (
             self.side_of(zone.x),

@@ -91,7 +91,8 @@ impl Desk for TicketBoard {
         ensures fits { IsPassOf self.now pass.new }
         ensures mine { pass.new.mine ≡ pass.old.mine }
         ensures told { Closes (told_of pass.old) (told_of pass.new) }
-        ensures closing { (pass.new.seen.closed ≡ true) × (pass.old.seen.closed ≡ true → pass.new.seen ≡ pass.old.seen) }
+        ensures closing { (pass.new.seen.closed ≡ true)
+            × (pass.old.seen.closed ≡ true → pass.new.seen ≡ pass.old.seen) }
         ensures shut { PutsMark pass.old pass.new }
     {
         pass.close_once(rt, &self.table.shared);

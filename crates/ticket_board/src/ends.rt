@@ -30,7 +30,8 @@ fn make_table(
     NoMemory,
 >
     requires { IsSound start.now }
-    ensures { IfOk result (λ t. (t.0.shared.table_id.words ≡ 3) × (t.0.shared.table_id.slots ≡ 1) × (t.1.table_id ≡ t.0.shared.table_id)
+    ensures { IfOk result (λ t. (t.0.shared.table_id.words ≡ 3) × (t.0.shared.table_id.slots ≡ 1)
+        × (t.1.table_id ≡ t.0.shared.table_id)
         × (t.1.me ≡ (first_view start.now, [])) × (t.0.shared.key ≡ start.now)) }
 {
     let held = HeldBoard::new(alloc, start)?;

@@ -33,7 +33,8 @@ impl HeldBoard {
     /// A board at this start, with no entry, which is not closed.
     pub(crate) fn new(alloc: Global, start: &StartState) -> Result<HeldBoard, NoMemory>
         requires sound { IsSound start.now }
-        ensures { IfOk result (λ held. (held.board.start ≡ start.now) × (held.board.entries ≡ []) × (held.closed ≡ false)) }
+        ensures { IfOk result (λ held. (held.board.start ≡ start.now)
+            × (held.board.entries ≡ []) × (held.closed ≡ false)) }
     {
         let locked = Locked {
             board: Board::new(alloc, start)?,

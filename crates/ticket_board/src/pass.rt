@@ -105,9 +105,11 @@ impl TicketPass {
     /// The first part of a seat that nobody has used, as a pass.
     pub(crate) fn cut(table: &Tickets, seat: &mut Place, channel: ChannelId) -> TicketPass
         requires table { (seat.old.table_id ≡ table.now.table_id) × (table.now.table_id.words ≡ 3) }
-        requires first { (seat.old.me.0.stage ≡ Idle) × ((ps : List Part) × (seat.old.me.0.parts ≡ fresh_part channel ∷ ps)) }
+        requires first { (seat.old.me.0.stage ≡ Idle)
+            × ((ps : List Part) × (seat.old.me.0.parts ≡ fresh_part channel ∷ ps)) }
         ensures pass { result ≡ first_pass seat.old.table_id seat.old.me.0.start channel }
-        ensures seat { (seat.new.table_id ≡ seat.old.table_id) × (seat.new.me ≡ (all_but_first seat.old.me.0, seat.old.me.1)) }
+        ensures seat { (seat.new.table_id ≡ seat.old.table_id)
+            × (seat.new.me ≡ (all_but_first seat.old.me.0, seat.old.me.1)) }
     {
         let mine = split(table, seat);
         let pass = TicketPass {
@@ -119,9 +121,11 @@ impl TicketPass {
 
     /// Gives its part to a seat that gathers them.
     pub(crate) fn give_up(self, table: &Tickets, all: &mut Place)
-        requires table { (self.table_id ≡ table.now.table_id) × (all.old.table_id ≡ table.now.table_id) × (table.now.table_id.words ≡ 3) }
+        requires table { (self.table_id ≡ table.now.table_id) × (all.old.table_id ≡ table.now.table_id)
+            × (table.now.table_id.words ≡ 3) }
         requires idle { all.old.me.0.stage ≡ Idle }
-        ensures same { (all.new.table_id ≡ all.old.table_id) × (all.new.id ≡ all.old.id) × (all.new.me.1 ≡ all.old.me.1) }
+        ensures same { (all.new.table_id ≡ all.old.table_id) × (all.new.id ≡ all.old.id)
+            × (all.new.me.1 ≡ all.old.me.1) }
         ensures joined { (all.new.me.0.stage ≡ Idle) × (all.new.me.0.parts ≡ part_in self ∷ all.old.me.0.parts) }
     {
         let TicketPass { seat, channel: _ } = self;

@@ -49,7 +49,8 @@ pub(crate) fn count<E: After>(table: &Tickets, seat: &mut Place, held: &HeldBoar
     requires table { (seat.old.table_id ≡ table.now.table_id) × (table.now.table_id.words ≡ 3) }
     requires after { E.after ≡ history_of held.now }
     requires holds { (n : ℕ) × (seat.old.me.0.stage ≡ Holding n) }
-    requires goes { (p : Part) × (seat.old.me.0.parts ≡ p ∷ []) × Goes seat.old.me.0.start p E.after more × (length_with_mark p.seen + more < 18446744073709551616) }
+    requires goes { (p : Part) × (seat.old.me.0.parts ≡ p ∷ []) × Goes seat.old.me.0.start p E.after more
+        × (length_with_mark p.seen + more < 18446744073709551616) }
     ensures same { (seat.new.table_id ≡ seat.old.table_id) × (seat.new.id ≡ seat.old.id) }
     ensures counted { Counts E.after seat.old.me seat.new.me }
 {
@@ -70,7 +71,8 @@ pub(crate) fn put_back(table: &Tickets, seat: &mut Place, held: HeldBoard)
 /// Serves the next ticket, and gives the slot back.
 pub(crate) fn serve(table: &Tickets, seat: &mut Place)
     requires table { (seat.old.table_id ≡ table.now.table_id) × (table.now.table_id.words ≡ 3) }
-    requires holds { (n : ℕ) × (l : Locked) × (p : Part) × (seat.old.me.0.stage ≡ Holding n) × (seat.old.me.0.parts ≡ p ∷ [])
+    requires holds { (n : ℕ) × (l : Locked) × (p : Part) × (seat.old.me.0.stage ≡ Holding n)
+        × (seat.old.me.0.parts ≡ p ∷ [])
         × (seat.old.me.1 ≡ (0, Some l) ∷ []) × (l.board.start ≡ seat.old.me.0.start) × (p.seen ≡ history_of l) }
     ensures same { (seat.new.table_id ≡ seat.old.table_id) × (seat.new.id ≡ seat.old.id) }
     ensures served { Serves seat.old.me seat.new.me }
@@ -83,14 +85,16 @@ pub(crate) fn split(table: &Tickets, seat: &mut Place) -> Place
     requires table { (seat.old.table_id ≡ table.now.table_id) × (table.now.table_id.words ≡ 3) }
     requires idle { seat.old.me.0.stage ≡ Idle }
     ensures same { (seat.new.table_id ≡ seat.old.table_id) × (result.table_id ≡ seat.old.table_id) }
-    ensures cut { (seat.new.me ≡ (all_but_first seat.old.me.0, seat.old.me.1)) × (result.me ≡ (only_first seat.old.me.0, [])) }
+    ensures cut { (seat.new.me ≡ (all_but_first seat.old.me.0, seat.old.me.1))
+        × (result.me ≡ (only_first seat.old.me.0, [])) }
 {
     table.split_seat::<OneEach>(seat)
 }
 
 /// Takes in the parts of another seat, before its own.
 pub(crate) fn join(table: &Tickets, seat: &mut Place, other: Place)
-    requires table { (seat.old.table_id ≡ table.now.table_id) × (other.table_id ≡ table.now.table_id) × (table.now.table_id.words ≡ 3) }
+    requires table { (seat.old.table_id ≡ table.now.table_id) × (other.table_id ≡ table.now.table_id)
+        × (table.now.table_id.words ≡ 3) }
     requires idle { (seat.old.me.0.stage ≡ Idle) × (other.me.0.stage ≡ Idle) × (other.me.1 ≡ []) }
     ensures same { (seat.new.table_id ≡ seat.old.table_id) × (seat.new.id ≡ seat.old.id) }
     ensures glued { seat.new.me ≡ (both_views seat.old.me.0 other.me.0, seat.old.me.1) }

@@ -17,9 +17,18 @@ use std::sync::Wait;
 /// Draws a ticket, reads the number served until it is the ticket, and takes the board out.
 pub(crate) fn enter<R: Wait>(rt: &R, table: &Tickets, seat: &mut Place) -> HeldBoard
     requires table { (seat.old.table_id ≡ table.now.table_id) × (table.now.table_id.words ≡ 3) }
-    requires idle { (seat.old.me.0.stage ≡ Idle) × (seat.old.me.1 ≡ []) × (seat.old.me.0.parts ≡ part_of seat.old.me.0 ∷ []) }
+    requires idle { (seat.old.me.0.stage ≡ Idle) × (seat.old.me.1 ≡ [])
+        × (seat.old.me.0.parts ≡ part_of seat.old.me.0 ∷ []) }
     ensures same { (seat.new.table_id ≡ seat.old.table_id) × (seat.new.id ≡ seat.old.id) }
-    ensures entered { (n : ℕ) × (seat.new.me ≡ (record { start = seat.old.me.0.start; parts = with_seen (history_of result) (part_of seat.old.me.0) ∷ []; stage = Holding n }, (0, None) ∷ [])) }
+    ensures entered { (n : ℕ)
+        × (seat.new.me ≡ (
+          record {
+            start = seat.old.me.0.start;
+            parts = with_seen (history_of result) (part_of seat.old.me.0) ∷ [];
+            stage = Holding n;
+          },
+          (0, None) ∷ [],
+        )) }
     ensures board { (result.board.start ≡ seat.old.me.0.start) × AreLawful seat.old.me.0.start result.board.entries
         × Fits seat.old.me.0.start (history_of result) (part_of seat.old.me.0) }
 {
@@ -39,10 +48,18 @@ pub(crate) fn leave(table: &Tickets, seat: &mut Place, held: HeldBoard, more: u6
     requires table { (seat.old.table_id ≡ table.now.table_id) × (table.now.table_id.words ≡ 3) }
     requires holds { (n : ℕ) × (seat.old.me.0.stage ≡ Holding n) }
     requires slot { (seat.old.me.1 ≡ (0, None) ∷ []) × (seat.old.me.0.parts ≡ part_of seat.old.me.0 ∷ []) }
-    requires board { (held.board.start ≡ seat.old.me.0.start) × Goes seat.old.me.0.start (part_of seat.old.me.0) (history_of held) more
+    requires board { (held.board.start ≡ seat.old.me.0.start)
+        × Goes seat.old.me.0.start (part_of seat.old.me.0) (history_of held) more
         × (length_with_mark (part_of seat.old.me.0).seen + more < 18446744073709551616) }
     ensures same { (seat.new.table_id ≡ seat.old.table_id) × (seat.new.id ≡ seat.old.id) }
-    ensures left { seat.new.me ≡ (record { start = seat.old.me.0.start; parts = with_count (history_of held) (part_of seat.old.me.0) ∷ []; stage = Idle }, []) }
+    ensures left { seat.new.me ≡ (
+      record {
+        start = seat.old.me.0.start;
+        parts = with_count (history_of held) (part_of seat.old.me.0) ∷ [];
+        stage = Idle;
+      },
+      [],
+    ) }
 {
     count::<Brand>(table, seat, &held, more);
     put_back(table, seat, held);

@@ -74,7 +74,8 @@ fn say_execution(text: &mut Text, told: &Told, place: &Place)
 /// Says the block that moves a zone, and its motion in a line of its own.
 #[tactic(auto, unfolding(crate::specs::Places::moving_text))]
 fn say_moving(text: &mut Text, told: &Told, place: &Place, motion: &Motion)
-    ensures { text.new ≡ text.old ++ model.moving_text told.now.lines.now told.now.job.now told.now.run.now place.now motion.now }
+    ensures { text.new ≡ text.old ++ model.moving_text told.now.lines.now told.now.job.now
+        told.now.run.now place.now motion.now }
 {
     text.say(" moves in ");
     say_block(text, told, place.name.line);
@@ -168,7 +169,8 @@ fn say_ended(text: &mut Text, told: &Told, place: &Place)
 /// Says the channel and the block of the reason why a zone stands still.
 #[tactic(auto, unfolding(crate::specs::Places::reason_text))]
 fn say_reason(text: &mut Text, told: &Told, place: &Place)
-    ensures { text.new ≡ text.old ++ model.reason_text told.now.lines.now told.now.job.now place.now place.now.name.kind }
+    ensures { text.new ≡ text.old ++ model.reason_text told.now.lines.now told.now.job.now
+        place.now place.now.name.kind }
 {
     match place.name.kind {
         StretchKind::Idle => say_idle(text, place),
@@ -192,7 +194,8 @@ fn say_standing(text: &mut Text, told: &Told, place: &Place)
 /// Says the motion of a block, or why the zone stands still.
 #[tactic(auto, unfolding(crate::specs::Places::doing_text))]
 fn say_doing(text: &mut Text, told: &Told, place: &Place)
-    ensures { text.new ≡ text.old ++ model.doing_text told.now.lines.now told.now.job.now told.now.run.now place.now (model.place_motion told.now.run.now place.now) }
+    ensures { text.new ≡ text.old ++ model.doing_text told.now.lines.now told.now.job.now told.now.run.now place.now
+        (model.place_motion told.now.run.now place.now) }
 {
     match motion_of(told.run, place) {
         Some(motion) => say_moving(text, told, place, motion),

@@ -23,7 +23,8 @@ pub struct Told<'a> {
 
 /// The name of the program of a place, where its header is not after a line; else another name.
 fn later_name<'a>(job: &'a Job, place: usize, line: u32, other: &'a [u8]) -> &'a [u8]
-    ensures { result.now ≡ unwrap_or (option_and_then (model.name_before line) (slice_get job.now.programs place)) other.now }
+    ensures { result.now ≡ unwrap_or (option_and_then (model.name_before line) (slice_get job.now.programs place))
+        other.now }
 {
     match job.programs.get_index(place) {
         Some((name, program)) => {
