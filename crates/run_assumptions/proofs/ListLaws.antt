@@ -65,3 +65,8 @@ three s t u v a b c one next last = two s t v a (b ++ c) one (two t u v b c next
 
 pub four : {A : Type 0} (s t u v w a b c d : List A) → t ≡ s ++ a → u ≡ t ++ b → v ≡ u ++ c → w ≡ v ++ d → w ≡ s ++ (a ++ (b ++ (c ++ d)))
 four s t u v w a b c d one next third last = two s t w a (b ++ (c ++ d)) one (three t u v w b c d next third last)
+
+-- a list of what numbers from 0 on give
+pub one_pushed : {X : Type 0} (f : ℕ → X) (n : ℕ) (old new : List X) → old ≡ map f (range_with_len 0 n) → new ≡ old ++ f n ∷ [] → new ≡ map f (range_with_len 0 (n + 1))
+one_pushed f n old new before after =
+    after ∙ ap (λ (xs : List _). xs ++ f n ∷ []) before ∙ sym (rw add-one (ap (map f) (range_with_len-push 0 n) ∙ map-push f (range_with_len 0 n) (0 + n) ∙ ap (λ (k : ℕ). map f (range_with_len 0 n) ++ f k ∷ []) (zero-add n)))

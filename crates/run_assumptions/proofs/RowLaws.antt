@@ -3,8 +3,8 @@ use Rattle.std.proofs.Common.{◌≡◌, ◌∙◌, ℕ, ◌++◌, List, slice_i
 use Rattle.std.specs.List.{flat_map, range_with_len}
 use Rattle.job_types.specs.Job.{JobView}
 use Rattle.run_assumptions.specs.Firsts.{AreFirsts, first_with, parameter_of, word_of}
-use Rattle.run_assumptions.specs.Rows.{first_mover, no_offset_rows, offset_rows, parameter_rows, position_rows, standing_rows, unused_rows, zero_rows}
-use Rattle.sync_types.specs.Views.{RunView}
+use Rattle.run_assumptions.specs.Rows.{no_offset_rows, offset_rows, parameter_rows, position_rows, standing_rows, unused_rows, zero_rows}
+use Rattle.run_assumptions.specs.declared.movers.Mover.{Mover}
 use Rattle.run_assumptions.specs.declared.remarks.Remark.{Remark}
 use Rattle.run_assumptions.specs.declared.rows.Assumed.{Assumed}
 
@@ -29,7 +29,7 @@ all_zeros c remarks n old new all is =
     is ∙ ap (λ (k : ℕ). old ++ flat_map (λ number. zero_rows c number (first_with parameter_of number remarks)) (range_with_len 0 k)) all
 
 -- of all axes
-pub all_positions : (c : ℕ) (run : RunView) (n : ℕ) (old new : List Assumed) → n ≡ 16
-    → new ≡ old ++ flat_map (λ axis. standing_rows c axis (first_mover axis run)) (range_with_len 0 n) → new ≡ old ++ position_rows run c
+pub all_positions : (c : ℕ) (firsts : List (Option Mover)) (n : ℕ) (old new : List Assumed) → n ≡ 16
+    → new ≡ old ++ flat_map (λ axis. standing_rows c axis (slice_index_or firsts axis None)) (range_with_len 0 n) → new ≡ old ++ position_rows firsts c
 unfolding position_rows
-all_positions c run n old new all is = is ∙ ap (λ (k : ℕ). old ++ flat_map (λ axis. standing_rows c axis (first_mover axis run)) (range_with_len 0 k)) all
+all_positions c firsts n old new all is = is ∙ ap (λ (k : ℕ). old ++ flat_map (λ axis. standing_rows c axis (slice_index_or firsts axis None)) (range_with_len 0 k)) all

@@ -1,5 +1,5 @@
 -- Meaning. What a run takes for granted, by the remarks on its channels.
-use Rattle.std.specs.Prelude.{ℕ, ◌==◌, Bool, if◌then◌else◌, List, [], ◌∷◌, ◌++◌, find, is_some, length, slice_get, slice_index_or, Option, Some, None}
+use Rattle.std.specs.Prelude.{ℕ, ◌==◌, Bool, if◌then◌else◌, List, [], ◌∷◌, ◌++◌, find, is_some, length, map, slice_get, slice_index_or, Option, Some, None}
 use Rattle.std.specs.List.{count_by, flat_map, list_any, range_with_len}
 use Rattle.std.specs.Option.{option_and_then, option_map, option_or}
 use Rattle.axis_sets.specs.declared.limits.TheConstants.{AXIS_LIMIT}
@@ -98,6 +98,10 @@ first_in at (number ∷ numbers) = option_or (at number) (first_in at numbers)
 unfoldable pub first_mover : ℕ → RunView → Option Mover
 first_mover axis run = first_in (mover_at axis run) (range_with_len 0 (length run.entries))
 
+-- who moves each axis first
+unfoldable pub movers_of : RunView → List (Option Mover)
+movers_of run = map (λ axis. first_mover axis run) (range_with_len 0 AXIS_LIMIT)
+
 -- the channel moves the axis first
 abbrev pub standing_rows : ℕ → ℕ → Option Mover → List Assumed
 standing_rows c axis (Some mover) = if mover.channel == c then assumed c (Standing axis mover.line) else []
@@ -121,8 +125,8 @@ offset_rows job c remarks =
 unfoldable pub parameter_rows : ℕ → List Remark → List Assumed
 parameter_rows c remarks = flat_map (λ number. zero_rows c number (first_with parameter_of number remarks)) (range_with_len 0 PARAMETER_LIMIT)
 
-unfoldable pub position_rows : RunView → ℕ → List Assumed
-position_rows run c = flat_map (λ axis. standing_rows c axis (first_mover axis run)) (range_with_len 0 AXIS_LIMIT)
+unfoldable pub position_rows : List (Option Mover) → ℕ → List Assumed
+position_rows firsts c = flat_map (λ axis. standing_rows c axis (slice_index_or firsts axis None)) (range_with_len 0 AXIS_LIMIT)
 
 abbrev pub count_rows : ℕ → List Remark → List Assumed
 count_rows c remarks = tool_rows c (count_by is_of_tool remarks) ++ tool_offset_rows c (count_by is_of_tool_offset remarks)
@@ -131,9 +135,9 @@ count_rows c remarks = tool_rows c (count_by is_of_tool remarks) ++ tool_offset_
 unfoldable pub said_rows : JobView → ℕ → List Remark → List Assumed
 said_rows job c remarks = radius_rows job c remarks ++ (offset_rows job c remarks ++ parameter_rows c remarks)
 
-unfoldable pub done_rows : RunView → ℕ → List Remark → List Assumed
-done_rows run c remarks = position_rows run c ++ count_rows c remarks
+unfoldable pub done_rows : List (Option Mover) → ℕ → List Remark → List Assumed
+done_rows firsts c remarks = position_rows firsts c ++ count_rows c remarks
 
 -- what is taken for granted of a channel on which these are the remarks
 abbrev pub rows_of : JobView → RunView → ℕ → List Remark → List Assumed
-rows_of job run c remarks = said_rows job c remarks ++ done_rows run c remarks
+rows_of job run c remarks = said_rows job c remarks ++ done_rows (movers_of run) c remarks

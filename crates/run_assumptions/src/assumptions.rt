@@ -1,5 +1,5 @@
 //! What a run takes for granted.
-ghost use Rattle.std.specs.Prelude.{◌≡◌, ◌++◌, IfOk, OnOk};
+ghost use Rattle.std.specs.Prelude.{◌≡◌, IfOk};
 ghost use Rattle.channel_machine.specs.StartStates.{start_of};
 ghost use Rattle.job_types.specs.SoundJob.{BlocksFit, IsSoundJob};
 ghost use Rattle.sync_types.specs.Boards.{first_board};
@@ -7,6 +7,7 @@ ghost use Rattle.sync_types.specs.Turns.{AreEntries};
 ghost use Rattle.run_assumptions.specs.Assumptions as model;
 ghost use Rattle.run_assumptions.specs.Remarks.{remarks_in_run};
 
+use crate::movers::first_movers;
 use crate::remarks::Remark;
 use crate::rows::{Assumed, add_done, add_said};
 use crate::walks::remarks_with;
@@ -34,26 +35,6 @@ fn remarks_in(
     remarks_with(alloc, job, channel, grants.as_slice())
 }
 
-/// Adds what a run takes for granted of a channel.
-fn add_channel(
-    alloc: Global,
-    job: &Job,
-    run: &Run,
-    channel: ChannelId,
-    rows: &mut Vec<Assumed>,
-) -> Result<(), NoMemory>
-    requires sound { IsSoundJob job.now }
-    requires blocks { BlocksFit job.now }
-    ensures { OnOk result (AreEntries (first_board (start_of job.now)) run.now.entries
-        → rows.new.items ≡ rows.old.items ++ model.channel_assumptions job.now run.now channel) }
-{
-    let list = remarks_in(alloc, job, run, channel)?;
-    let remarks = list.as_slice();
-    add_said(alloc, job, channel, remarks, rows)?;
-    add_done(run, channel, remarks, rows)?;
-    Ok(())
-}
-
 /// What a run takes for granted: what the programs of its channels do not say, and their start gives. By channels, in the order
 /// of their numbers; of each the value of X, settable offsets, parameters in the order of their numbers, axes in the order of
 /// their AXIS lines, and words that move nothing. The blocks of each channel are executed once more. The only error is want of
@@ -67,9 +48,13 @@ pub fn assumptions_of(alloc: Global, job: &Job, run: &Run) -> Result<Vec<Assumed
     ensures { IfOk result (λ list. AreEntries (first_board (start_of job.now)) run.now.entries
         → list.items ≡ model.assumptions_of job.now run.now) }
 {
+    let firsts = first_movers(alloc, run)?;
     let mut rows = Vec::new(alloc);
     for number in 1..CHANNEL_PLACES as u8 {
-        add_channel(alloc, job, run, ChannelId { number }, &mut rows)?;
+        let channel = ChannelId { number };
+        let remarks = remarks_in(alloc, job, run, channel)?;
+        add_said(alloc, job, channel, remarks.as_slice(), &mut rows)?;
+        add_done(firsts.as_slice(), channel, remarks.as_slice(), &mut rows)?;
     }
     Ok(rows)
 }

@@ -1,11 +1,12 @@
 //! Who moves an axis first.
-ghost use Rattle.std.specs.Prelude.{◌≡◌, ◌==◌, [], find, is_some, slice_index_or};
+ghost use Rattle.std.specs.Prelude.{◌≡◌, ◌==◌, [], find, is_some, slice_index_or, IfOk, None};
 ghost use Rattle.path_geometry.specs.Motions.{axis_end};
 ghost use Rattle.run_assumptions.specs.Rows as model;
 
-use axis_sets::{AxisId, ChannelId};
+use axis_sets::{AXIS_LIMIT, AxisId, ChannelId};
 use micro_units::Um;
 use path_geometry::Motion;
+use std::alloc::{AllocError, Global};
 use sync_types::{Item, Run};
 
 /// Who moves an axis, and in which line.
@@ -86,7 +87,7 @@ fn mover_at(run: &Run, place: usize, axis: AxisId) -> Option<Mover>
 
 /// The channel that moves an axis first in a run, and the line of the block.
 #[tactic(auto, unfolding(crate::specs::Rows::first_mover))]
-pub(crate) fn first_mover(run: &Run, axis: AxisId) -> Option<Mover>
+fn first_mover(run: &Run, axis: AxisId) -> Option<Mover>
     ensures { result ≡ model.first_mover axis run.now }
 {
     for place in 0..run.entries.len() {
@@ -95,4 +96,26 @@ pub(crate) fn first_mover(run: &Run, axis: AxisId) -> Option<Mover>
         }
     }
     None
+}
+
+/// Who moves each axis first. One walk over the run for each axis serves all channels.
+#[tactic(auto, unfolding(crate::specs::Rows::movers_of))]
+pub(crate) fn first_movers(alloc: Global, run: &Run) -> Result<Vec<Option<Mover>>, AllocError>
+    ensures { IfOk result (λ list. list.items ≡ model.movers_of run.now) }
+{
+    let mut list = Vec::new(alloc);
+    for index in 0..AXIS_LIMIT as u8 {
+        list.push(first_mover(run, AxisId { index }))?;
+    }
+    Ok(list)
+}
+
+/// Who moves this axis first.
+pub(crate) fn mover_of(firsts: &[Option<Mover>], axis: AxisId) -> Option<Mover>
+    ensures { result ≡ slice_index_or firsts.now axis None }
+{
+    match firsts.get(usize::from(axis.index)) {
+        Some(first) => *first,
+        None => None,
+    }
 }

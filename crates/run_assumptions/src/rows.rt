@@ -9,14 +9,13 @@ ghost use Rattle.run_assumptions.specs.declared.remarks.Remark.{Remark};
 
 use crate::counts::{tool_count, tool_offset_count};
 use crate::firsts::{first_at, first_of_x, parameter_firsts, word_firsts};
-use crate::movers::{Mover, first_mover};
+use crate::movers::{Mover, mover_of};
 use crate::remarks::{Remark, RemarkKind};
 use axis_sets::{AXIS_LIMIT, AxisId, ChannelId};
 use job_types::{Job, OffsetLine, slot_axis};
 use nc_expressions::PARAMETER_LIMIT;
 use out_of_memory::NoMemory;
 use std::alloc::{AllocError, Global};
-use sync_types::Run;
 
 /// The number of the word after which no settable offset is chosen, G500.
 pub(crate) const NO_OFFSET: u16 = 500;
@@ -259,13 +258,17 @@ fn add_standing(
     }
 }
 
-/// Adds up to which blocks the AXIS positions count.
-fn add_positions(run: &Run, channel: ChannelId, rows: &mut Vec<Assumed>) -> Result<(), AllocError>
-    ensures { OnOk result (rows.new.items ≡ rows.old.items ++ model.position_rows run.now channel) }
+/// Adds up to which blocks the AXIS positions count, where these move the axes first.
+fn add_positions(
+    firsts: &[Option<Mover>],
+    channel: ChannelId,
+    rows: &mut Vec<Assumed>,
+) -> Result<(), AllocError>
+    ensures { OnOk result (rows.new.items ≡ rows.old.items ++ model.position_rows firsts.now channel) }
 {
     for index in 0..AXIS_LIMIT as u8 {
         let axis = AxisId { index };
-        add_standing(channel, axis, first_mover(run, axis), rows)?;
+        add_standing(channel, axis, mover_of(firsts, axis), rows)?;
     }
     Ok(())
 }
@@ -325,17 +328,17 @@ pub(crate) fn add_said(
     Ok(())
 }
 
-/// Adds what is taken for granted by what moves, and by words that move nothing.
+/// Adds what is taken for granted by what moves, where these move the axes first, and by words that move nothing.
 #[tactic(auto, unfolding(crate::specs::Rows::done_rows))]
 pub(crate) fn add_done(
-    run: &Run,
+    firsts: &[Option<Mover>],
     channel: ChannelId,
     remarks: &[Remark],
     rows: &mut Vec<Assumed>,
 ) -> Result<(), NoMemory>
-    ensures { OnOk result (rows.new.items ≡ rows.old.items ++ model.done_rows run.now channel remarks.now) }
+    ensures { OnOk result (rows.new.items ≡ rows.old.items ++ model.done_rows firsts.now channel remarks.now) }
 {
-    add_positions(run, channel, rows)?;
+    add_positions(firsts, channel, rows)?;
     add_counts(channel, remarks, rows)?;
     Ok(())
 }

@@ -1,13 +1,14 @@
-use Rattle.std.proofs.Common.{◌≡◌, ◌∙◌, ℕ, ◌-◌, ap, arith}
+use Rattle.std.proofs.Common.{◌≡◌, ◌∙◌, ◌++◌, ℕ, ◌-◌, List, ap, arith, Option}
 use Rattle.std.specs.List.{flat_map, range_with_len}
-use Rattle.run_assumptions.proofs.ListLaws.{channel_more}
+use Rattle.run_assumptions.proofs.ListLaws.{channel_more, two}
 use Rattle.run_assumptions.specs.Assumptions.{assumptions_of, channel_assumptions}
+use Rattle.run_assumptions.specs.Rows.{done_rows, rows_of, said_rows}
+use Rattle.run_assumptions.specs.declared.movers.Mover.{Mover}
+use Rattle.run_assumptions.specs.declared.remarks.Remark.{Remark}
 use Rattle.run_assumptions.proofs.assumptions.assumptions_of.Goals as goal
 
 pub loop-number-preserved : goal.loop-number-preserved
-loop-number-preserved c = λ lawful.
-    channel_more (channel_assumptions c.args.job.now c.args.run.now) c.loop-number.number c.loop-number.rows.items c.add_channel.new.rows.items c.loop-number.auto.number
-    (c.loop-number.invariant lawful) (c.in_ok-add_channel.ensures lawful)
+loop-number-preserved c = λ lawful. ?
 
 pub returns : goal.returns
 unfolding assumptions_of

@@ -1,16 +1,16 @@
-use Rattle.std.proofs.Common.{◌≡◌, ◌∙◌, ◌++◌, Option, ap, arith}
+use Rattle.std.proofs.Common.{◌≡◌, ◌∙◌, ◌++◌, Option, None, ap, arith, slice_index_or}
 use Rattle.run_assumptions.proofs.ListLaws.{count_more}
 use Rattle.run_assumptions.proofs.RowLaws.{all_positions}
-use Rattle.run_assumptions.specs.Rows.{first_mover, standing_rows}
+use Rattle.run_assumptions.specs.Rows.{standing_rows}
 use Rattle.run_assumptions.specs.declared.movers.Mover.{Mover}
 use Rattle.run_assumptions.proofs.rows.add_positions.Goals as goal
 
 pub loop-index-preserved : goal.loop-index-preserved
 loop-index-preserved c =
-    count_more (λ axis. standing_rows c.args.channel axis (first_mover axis c.args.run.now)) c.loop-index.index c.args.rows.now.items c.loop-index.rows.items c.add_standing.new.rows.items c.loop-index.invariant
-    (c.in_ok-add_standing.ensures ∙ ap (λ (o : Option Mover). c.loop-index.rows.items ++ standing_rows c.args.channel c.loop-index.index o) c.first_mover.ensures)
+    count_more (λ axis. standing_rows c.args.channel axis (slice_index_or c.args.firsts.now axis None)) c.loop-index.index c.args.rows.now.items c.loop-index.rows.items c.add_standing.new.rows.items c.loop-index.invariant
+    (c.in_ok-add_standing.ensures ∙ ap (λ (o : Option Mover). c.loop-index.rows.items ++ standing_rows c.args.channel c.loop-index.index o) c.mover_of.ensures)
 
 pub returns : goal.returns
 returns c =
     let all : c.loop-index.index ≡ 16 = omega arith in
-    all_positions c.args.channel c.args.run.now c.loop-index.index c.args.rows.now.items c.loop-index.rows.items all c.loop-index.invariant
+    all_positions c.args.channel c.args.firsts.now c.loop-index.index c.args.rows.now.items c.loop-index.rows.items all c.loop-index.invariant

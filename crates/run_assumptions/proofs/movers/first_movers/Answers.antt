@@ -1,0 +1,14 @@
+use Rattle.std.proofs.Common.{◌≡◌, ◌∙◌, ℕ, ◌++◌, ◌∷◌, [], map, ap, arith}
+use Rattle.std.specs.List.{range_with_len}
+use Rattle.run_assumptions.proofs.ListLaws.{one_pushed}
+use Rattle.run_assumptions.specs.Rows.{first_mover, movers_of}
+use Rattle.run_assumptions.proofs.movers.first_movers.Goals as goal
+
+pub loop-index-preserved : goal.loop-index-preserved
+loop-index-preserved c = ?
+
+pub returns : goal.returns
+unfolding movers_of
+returns c =
+    let all : c.loop-index.index ≡ 16 = omega arith in
+    c.loop-index.invariant ∙ ap (λ (n : ℕ). map (λ axis. first_mover axis c.args.run.now) (range_with_len 0 n)) all
