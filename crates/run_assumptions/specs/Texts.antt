@@ -41,5 +41,5 @@ assumed_text input job assumed = codes "  " ++ (channel_first_text assumed.chann
 
 -- under a line that heads them; or that there is nothing
 unfoldable pub assumptions_text : List ℕ → JobView → List Assumed → List ℕ
-assumptions_text input job [] = codes "Nothing is taken for granted: the programs say all that they rest on.\n"
+assumptions_text input job [] = codes "Nothing is taken for granted but what the job list says.\n"
 assumptions_text input job (assumed ∷ rest) = codes "Taken for granted:\n" ++ flat_map (assumed_text input job) (assumed ∷ rest)

@@ -117,7 +117,7 @@ pub fn say_assumptions(text: &mut Text, told: &Told, rows: &[Assumed])
     ensures { text.new ≡ text.old ++ model.assumptions_text told.now.lines.now told.now.job.now rows.now }
 {
     if rows.is_empty() {
-        text.say("Nothing is taken for granted: the programs say all that they rest on.\n");
+        text.say("Nothing is taken for granted but what the job list says.\n");
     } else {
         text.say("Taken for granted:\n");
         say_rows(text, told, rows);

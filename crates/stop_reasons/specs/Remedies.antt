@@ -57,11 +57,11 @@ remedy_of job run (lack.Axis axis owner) = axis_remedy (end_of job run owner)
 
 -- what to do, in plain words: "that channel" is the one that could give what is lacking
 unfoldable pub advice_of : Remedy → List ℕ
-advice_of remedy.Write = codes "No block of that channel can raise the mark. Correct the number of the mark or the channel, here or in the block that was meant; or write the WAITM or SETM that is missing there."
+advice_of remedy.Write = codes "No block of that channel's own program, nor of one that no CHANNEL line names, can raise the mark. Correct the number of the mark or the channel, here or in the block that was meant; or write the WAITM or SETM that is missing there."
 advice_of remedy.Reach = codes "That channel ended without coming to a block that raises the mark. Look at the jumps before that block."
 advice_of remedy.Match = codes "That channel has raised the mark, but not once more. Let both come to this mark equally often: count the passes of their loops."
 advice_of remedy.Start = codes "Start that channel: by START in a channel that runs, or by START at the end of its CHANNEL line."
-advice_of remedy.Settle = codes "First give that channel what it waits for itself. Where each waits for the other, let both come to their marks in the same order."
+advice_of remedy.Settle = codes "That channel waits too: mend its wait first. Where each waits for the other, let both come to their marks in the same order."
 advice_of remedy.Mend = codes "First mend the alarm of that channel."
 advice_of remedy.Omit = codes "Leave the channel itself out of its WAITE."
 advice_of remedy.Release = codes "Let that channel do RELEASE of the axis before the block in which it stands, once it has moved the axis for the last time."

@@ -121,7 +121,7 @@ impl Remedy {
     {
         match self {
             Remedy::Write => {
-                "No block of that channel can raise the mark. Correct the number of the mark or the channel, here or in the block that was meant; or write the WAITM or SETM that is missing there."
+                "No block of that channel's own program, nor of one that no CHANNEL line names, can raise the mark. Correct the number of the mark or the channel, here or in the block that was meant; or write the WAITM or SETM that is missing there."
             }
             Remedy::Reach => {
                 "That channel ended without coming to a block that raises the mark. Look at the jumps before that block."
@@ -133,7 +133,7 @@ impl Remedy {
                 "Start that channel: by START in a channel that runs, or by START at the end of its CHANNEL line."
             }
             Remedy::Settle => {
-                "First give that channel what it waits for itself. Where each waits for the other, let both come to their marks in the same order."
+                "That channel waits too: mend its wait first. Where each waits for the other, let both come to their marks in the same order."
             }
             Remedy::Mend => "First mend the alarm of that channel.",
             Remedy::Omit => "Leave the channel itself out of its WAITE.",
