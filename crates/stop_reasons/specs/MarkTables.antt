@@ -48,7 +48,7 @@ stands_text false = []
 
 -- the first block that can raise the mark
 unfoldable pub first_block_text : List ℕ → JobView → Option ℕ → List ℕ
-first_block_text input job None = codes "; no block of its own program, nor of one that no CHANNEL line names, can raise it"
+first_block_text input job None = codes "; no block of its programs can raise it"
 first_block_text input job (Some line) = codes "; the first of its blocks that can raise it is in " ++ line_place_text input job line
 
 -- how often the channel has gone past the mark number

@@ -57,7 +57,7 @@ remedy_of job run (lack.Axis axis owner) = axis_remedy (end_of job run owner)
 
 -- what to do, in plain words: "that channel" is the one that could give what is lacking
 unfoldable pub advice_of : Remedy → List ℕ
-advice_of remedy.Write = codes "No block of that channel's own program, nor of one that no CHANNEL line names, can raise the mark. Correct the number of the mark or the channel, here or in the block that was meant; or write the WAITM or SETM that is missing there."
+advice_of remedy.Write = codes "No block of that channel's programs can raise the mark. Correct the number of the mark or the channel, here or in the block that was meant; or write the WAITM or SETM that is missing there."
 advice_of remedy.Reach = codes "That channel ended without coming to a block that raises the mark. Look at the jumps before that block."
 advice_of remedy.Match = codes "That channel has raised the mark, but not once more. Let both come to this mark equally often: count the passes of their loops."
 advice_of remedy.Start = codes "Start that channel: by START in a channel that runs, or by START at the end of its CHANNEL line."

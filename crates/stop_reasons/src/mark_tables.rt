@@ -108,9 +108,7 @@ fn say_first_block(text: &mut Text, told: &Told, block: &Option<u32>)
             text.say("; the first of its blocks that can raise it is in ");
             say_line(text, told, *line);
         }
-        None => text.say(
-            "; no block of its own program, nor of one that no CHANNEL line names, can raise it",
-        ),
+        None => text.say("; no block of its programs can raise it"),
     }
 }
 

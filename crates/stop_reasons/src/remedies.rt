@@ -121,7 +121,7 @@ impl Remedy {
     {
         match self {
             Remedy::Write => {
-                "No block of that channel's own program, nor of one that no CHANNEL line names, can raise the mark. Correct the number of the mark or the channel, here or in the block that was meant; or write the WAITM or SETM that is missing there."
+                "No block of that channel's programs can raise the mark. Correct the number of the mark or the channel, here or in the block that was meant; or write the WAITM or SETM that is missing there."
             }
             Remedy::Reach => {
                 "That channel ended without coming to a block that raises the mark. Look at the jumps before that block."
