@@ -49,12 +49,14 @@ pub fn assumptions_of(alloc: Global, job: &Job, run: &Run) -> Result<Vec<Assumed
         → list.items ≡ model.assumptions_of job.now run.now) }
 {
     let firsts = first_movers(alloc, run)?;
+    let movers = firsts.as_slice();
     let mut rows = Vec::new(alloc);
     for number in 1..CHANNEL_PLACES as u8 {
         let channel = ChannelId { number };
-        let remarks = remarks_in(alloc, job, run, channel)?;
-        add_said(alloc, job, channel, remarks.as_slice(), &mut rows)?;
-        add_done(firsts.as_slice(), channel, remarks.as_slice(), &mut rows)?;
+        let list = remarks_in(alloc, job, run, channel)?;
+        let remarks = list.as_slice();
+        add_said(alloc, job, channel, remarks, &mut rows)?;
+        add_done(movers, channel, remarks, &mut rows)?;
     }
     Ok(rows)
 }

@@ -5,7 +5,7 @@ use Rattle.run_assumptions.specs.Rows.{first_mover, movers_of}
 use Rattle.run_assumptions.proofs.movers.first_movers.Goals as goal
 
 pub loop-index-preserved : goal.loop-index-preserved
-loop-index-preserved c = ?
+loop-index-preserved c = one_pushed (λ axis. first_mover axis c.args.run.now) c.loop-index.index c.loop-index.list.items _ c.loop-index.invariant ?
 
 pub returns : goal.returns
 unfolding movers_of
