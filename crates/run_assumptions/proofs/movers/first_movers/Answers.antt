@@ -1,11 +1,13 @@
-use Rattle.std.proofs.Common.{◌≡◌, ◌∙◌, ℕ, ◌++◌, ◌∷◌, [], map, ap, arith}
+use Rattle.std.proofs.Common.{◌≡◌, ◌∙◌, ℕ, ◌++◌, ◌∷◌, [], map, ap, arith, Option}
 use Rattle.std.specs.List.{range_with_len}
 use Rattle.run_assumptions.proofs.ListLaws.{one_pushed}
 use Rattle.run_assumptions.specs.Rows.{first_mover, movers_of}
+use Rattle.run_assumptions.specs.declared.movers.Mover.{Mover}
 use Rattle.run_assumptions.proofs.movers.first_movers.Goals as goal
 
 pub loop-index-preserved : goal.loop-index-preserved
-loop-index-preserved c = one_pushed (λ axis. first_mover axis c.args.run.now) c.loop-index.index c.loop-index.list.items _ c.loop-index.invariant ?
+loop-index-preserved c = one_pushed (λ axis. first_mover axis c.args.run.now) c.loop-index.index c.loop-index.list.items _ c.loop-index.invariant
+    (c.in_ok-push.ensures.items ∙ ap (λ (o : Option Mover). c.loop-index.list.items ++ o ∷ []) c.first_mover.ensures)
 
 pub returns : goal.returns
 unfolding movers_of
