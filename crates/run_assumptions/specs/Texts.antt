@@ -13,9 +13,10 @@ use Rattle.run_assumptions.specs.declared.rows.Assumption.TheVariants.{Radius, N
 unfoldable pub parameter_text : ℕ → List ℕ
 parameter_text number = codes "R" ++ decimal number
 
--- so many executed blocks have a word that moves nothing
+-- words of this letter stand in so many executed blocks, and move nothing
 unfoldable pub count_text : ℕ → List ℕ → List ℕ
-count_text count letter = codes " has blocks with a word " ++ (letter ++ (codes ", which moves nothing here; executed are " ++ decimal count))
+count_text count letter =
+    codes " has words " ++ (letter ++ (codes ", which move nothing here, in " ++ (decimal count ++ codes " of the blocks that it executed")))
 
 -- which parameter is 0
 unfoldable pub zero_text : List ℕ → JobView → ℕ → ℕ → List ℕ

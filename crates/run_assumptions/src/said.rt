@@ -18,15 +18,16 @@ fn say_parameter(text: &mut Text, number: u16)
     text.number(u64::from(number));
 }
 
-/// Says how many executed blocks have a word that moves nothing.
+/// Says in how many executed blocks words of this letter stand, which move nothing.
 #[tactic(auto, unfolding(crate::specs::Texts::count_text))]
 fn say_count(text: &mut Text, count: usize, letter: &'static str)
     ensures { text.new ≡ text.old ++ model.count_text count letter.now }
 {
-    text.say(" has blocks with a word ");
+    text.say(" has words ");
     text.say(letter);
-    text.say(", which moves nothing here; executed are ");
+    text.say(", which move nothing here, in ");
     text.number(count as u64);
+    text.say(" of the blocks that it executed");
 }
 
 /// Says which parameter is 0.
