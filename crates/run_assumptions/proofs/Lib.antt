@@ -1,4 +1,5 @@
 pub mod FirstLaws
+pub mod GrantLaws
 pub mod ListLaws
 pub mod MoverLaws
 pub mod RemarkLaws

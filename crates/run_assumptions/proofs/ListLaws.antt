@@ -66,6 +66,9 @@ three s t u v a b c one next last = two s t v a (b ++ c) one (two t u v b c next
 pub four : {A : Type 0} (s t u v w a b c d : List A) → t ≡ s ++ a → u ≡ t ++ b → v ≡ u ++ c → w ≡ v ++ d → w ≡ s ++ (a ++ (b ++ (c ++ d)))
 four s t u v w a b c d one next third last = two s t w a (b ++ (c ++ d)) one (three t u v w b c d next third last)
 
+pub five : {A : Type 0} (s t u v w x a b c d e : List A) → t ≡ s ++ a → u ≡ t ++ b → v ≡ u ++ c → w ≡ v ++ d → x ≡ w ++ e → x ≡ s ++ (a ++ (b ++ (c ++ (d ++ e))))
+five s t u v w x a b c d e one next third fourth last = two s t x a (b ++ (c ++ (d ++ e))) one (four t u v w x b c d e next third fourth last)
+
 -- a list of what numbers from 0 on give
 pub one_pushed : {X : Type 0} (f : ℕ → X) (n : ℕ) (old new : List X) → old ≡ map f (range_with_len 0 n) → new ≡ old ++ f n ∷ [] → new ≡ map f (range_with_len 0 (n + 1))
 one_pushed f n old new before after =

@@ -16,9 +16,23 @@ use channel_machine::{grants_in, start_state};
 use job_types::Job;
 use out_of_memory::NoMemory;
 use std::alloc::Global;
-use sync_types::Run;
+use sync_types::{Entry, Run};
 
-/// The remarks on the executed blocks of a channel in a run of the job.
+/// Whether a channel acts in any of these entries.
+fn acts_in(entries: &[Entry], channel: ChannelId) -> bool
+    ensures { result ≡ model.does_act channel entries.now }
+{
+    for entry in entries {
+        if entry.channel == channel {
+            return true;
+        }
+    }
+    false
+}
+
+/// The remarks on the executed blocks of a channel in a run of the job. The run is looked through once more for a channel that
+/// acts in it.
+#[tactic(auto, using(crate::proofs::GrantLaws::nothing_remarked))]
 fn remarks_in(
     alloc: Global,
     job: &Job,
@@ -30,6 +44,9 @@ fn remarks_in(
     ensures { IfOk result (λ list. AreEntries (first_board (start_of job.now)) run.now.entries
         → list.items ≡ remarks_in_run job.now run.now channel) }
 {
+    if !acts_in(run.entries.as_slice(), channel) {
+        return Ok(Vec::new(alloc));
+    }
     let start = start_state(job);
     let grants = grants_in(alloc, &start, run.entries.as_slice(), channel)?;
     remarks_with(alloc, job, channel, grants.as_slice())
