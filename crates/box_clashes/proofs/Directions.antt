@@ -3,7 +3,7 @@ use Rattle.std.proofs.Common.{◌≡◌, ◌∙◌, ℕ, ℤ, w32, List, [], ◌
 use Rattle.std.proofs.lemmas.Int.{to_z-of_z}
 use mir.Val.{to_z, of_z, SFits}
 use Rattle.job_types.specs.declared.job.Side.{Side}
-use Rattle.protection_zones.specs.Pieces.{by_direction}
+use Rattle.zone_stretches.specs.Pieces.{by_direction}
 
 -- a signed number that is stored keeps its value
 pub stored : (z v : ℤ) → SFits w32 z → z ≡ v → to_z w32 (of_z w32 z) ≡ v

@@ -1,9 +1,9 @@
 -- The bounds of a side of a zone in a piece of a motion.
 use Rattle.std.proofs.Common.{◌≡◌, ◌∙◌, ℕ, ℤ, ◌+ℤ◌, ◌-ℤ◌, ◌==◌, Bool, true, false, cond, Some, find, refl, sym}
 use Rattle.job_types.specs.declared.job.Side.{Side}
-use Rattle.protection_zones.specs.Pieces.{piece_low, piece_high}
-use Rattle.protection_zones.specs.ZoneBoxes.{carried_bound, carried_low, carried_high, side_low, side_high}
 use Rattle.swept_boxes.specs.Ranges.{RangesView}
+use Rattle.zone_stretches.specs.Pieces.{piece_low, piece_high}
+use Rattle.zone_stretches.specs.ZoneBoxes.{carried_bound, carried_low, carried_high, side_low, side_high}
 
 carried_low_is : (bound : ℤ) (axis : ℕ) (minus : Bool) (low high : ℕ → ℤ) → carried_low (Some (axis, minus)) bound low high ≡ carried_bound bound (cond minus (high axis) (low axis)) minus
 carried_low_is bound axis true low high = refl

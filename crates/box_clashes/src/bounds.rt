@@ -1,9 +1,9 @@
 //! The bounds of a direction of a zone.
 ghost use Rattle.std.specs.Prelude.{◌≡◌, ◌==◌, ◌<◌, ◌≤◌, ◌+ℤ◌, ◌-ℤ◌, if◌then◌else◌, find};
 ghost use Rattle.std.specs.Int.RustNames.{unsigned_abs};
-ghost use Rattle.protection_zones.specs.Pieces.{piece_box, piece_high, piece_low};
-ghost use Rattle.protection_zones.specs.ZoneBoxes as model;
 ghost use Rattle.swept_boxes.specs.Boxes.{low_of, high_of};
+ghost use Rattle.zone_stretches.specs.Pieces.{piece_box, piece_high, piece_low};
+ghost use Rattle.zone_stretches.specs.ZoneBoxes as model;
 
 use axis_sets::AxisId;
 use job_types::Side;
@@ -56,7 +56,7 @@ fn bounds_between(margin: Um, side: &Side, minus: bool, low: Um, high: Um) -> (i
 }
 
 /// The bounds of a direction in a piece of a motion with this cover.
-#[tactic(auto, unfolding(protection_zones::specs::Pieces::piece_low, protection_zones::specs::Pieces::piece_high))]
+#[tactic(auto, unfolding(zone_stretches::specs::Pieces::piece_low, zone_stretches::specs::Pieces::piece_high))]
 fn piece_bounds(
     margin: Um,
     side: &Side,

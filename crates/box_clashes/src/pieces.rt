@@ -3,18 +3,18 @@ ghost use Rattle.std.specs.Prelude.{◌≡◌, ◌≤◌, ◌==◌, [], ◌∷�
 ghost use Rattle.job_lines.specs.declared.limits.TheConstants.{DEPTH_LIMIT};
 ghost use Rattle.box_clashes.specs.Clashes as model;
 ghost use Rattle.path_geometry.specs.Motions.{IsSound};
-ghost use Rattle.protection_zones.specs.Pieces.{boxes_in_pieces, motion_at, piece_box};
-ghost use Rattle.protection_zones.specs.ZoneBoxes.{IsFit};
+ghost use Rattle.zone_stretches.specs.Pieces.{boxes_in_pieces, motion_at, piece_box};
+ghost use Rattle.zone_stretches.specs.ZoneBoxes.{IsFit};
 ghost use Rattle.swept_boxes.specs.Pieces.{pieces_at};
 
 use crate::bounds::piece_box;
 use arrayvec::ArrayVec;
 use job_types::{Job, ZoneLine};
 use path_geometry::Motion;
-use protection_zones::motion_at;
 use swept_boxes::{Box3, pieces_of};
 use sync_types::Run;
 use told_places::Place;
+use zone_stretches::motion_at;
 
 /// The boxes of a zone in the pieces of a motion with this cover, so often halved.
 fn boxes_of_pieces(
@@ -46,7 +46,7 @@ fn one_box(only: Box3) -> ArrayVec<Box3, 80>
 }
 
 /// The boxes of a zone at a depth.
-#[tactic(auto, using(protection_zones::proofs::FitLaws::fit_motion))]
+#[tactic(auto, using(zone_stretches::proofs::FitLaws::fit_motion))]
 fn boxes_of_zone(
     job: &Job,
     run: &Run,

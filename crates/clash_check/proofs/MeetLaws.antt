@@ -11,14 +11,14 @@ use Rattle.clash_check.specs.Meetings.{Names, Case, place_of, touches, compared,
 use Rattle.clash_check.specs.Verdicts.{name_of}
 use Rattle.job_types.specs.Job.{JobView}
 use Rattle.job_types.specs.declared.job.ZoneLine.{ZoneLine}
-use Rattle.protection_zones.specs.InCovers.{IsWithin, IsInCover, AreInCover, IsTimeInCover}
-use Rattle.protection_zones.specs.Overlaps.{BoxPlace, Pair, ZoneTime, may_overlap, share_channel, box_pairs, stretch_pairs, pairs_of_zones, pairs_by_group, zone_times, compared_pairs}
-use Rattle.protection_zones.specs.Pieces.{piece_boxes, pair_meets}
-use Rattle.protection_zones.specs.Stretches.{StretchView, StretchesView}
-use Rattle.protection_zones.specs.declared.stretches.ZoneBox.{ZoneBox}
 use Rattle.swept_boxes.specs.Boxes.{boxes_meet}
 use Rattle.swept_boxes.specs.declared.Box3.{Box3}
 use Rattle.sync_types.specs.Views.{RunView}
+use Rattle.zone_stretches.specs.InCovers.{IsWithin, IsInCover, AreInCover, IsTimeInCover}
+use Rattle.zone_stretches.specs.Overlaps.{BoxPlace, Pair, ZoneTime, may_overlap, share_channel, box_pairs, stretch_pairs, pairs_of_zones, pairs_by_group, zone_times, compared_pairs}
+use Rattle.zone_stretches.specs.Pieces.{piece_boxes, pair_meets}
+use Rattle.zone_stretches.specs.Stretches.{StretchView, StretchesView}
+use Rattle.zone_stretches.specs.declared.stretches.ZoneBox.{ZoneBox}
 
 -- ---- covers first
 

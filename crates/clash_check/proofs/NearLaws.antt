@@ -10,7 +10,7 @@ use Rattle.std.proofs.lemmas.List.Sums.{sum_by-cons}
 use Rattle.clash_check.proofs.AscentLaws.{part_is}
 use Rattle.clash_check.specs.Ascents.{leading, PassFirst, passes, near, IsTimed}
 use Rattle.clash_check.specs.FirstAnswer.{first_some}
-use Rattle.protection_zones.specs.Told.{IsTold}
+use Rattle.zone_stretches.specs.Told.{IsTold}
 use Rattle.clash_check.specs.Meetings.{Case, Names, first_against, first_in_stretches}
 use Rattle.clash_check.specs.PairCounts.{count_against, count_in_stretches}
 use Rattle.job_types.specs.Job.{JobView}
@@ -18,10 +18,10 @@ use Rattle.job_types.specs.Zones.{zones_in_order}
 use Rattle.job_types.specs.declared.job.ZoneLine.{ZoneLine}
 use Rattle.order_clocks.specs.Clocked.{ClocksView, moves_in}
 use Rattle.order_clocks.specs.Tells.{is_before_in}
-use Rattle.protection_zones.proofs.NameLaws.{ends_are_lowest_names}
-use Rattle.protection_zones.specs.Overlaps.{Order, ZoneTime, may_overlap, is_open_at, zone_times}
-use Rattle.protection_zones.specs.SoundStretches.{HasLowNames}
-use Rattle.protection_zones.specs.Stretches.{StretchView, StretchesView, all_stretches}
+use Rattle.zone_stretches.proofs.NameLaws.{ends_are_lowest_names}
+use Rattle.zone_stretches.specs.Overlaps.{Order, ZoneTime, may_overlap, is_open_at, zone_times}
+use Rattle.zone_stretches.specs.SoundStretches.{HasLowNames}
+use Rattle.zone_stretches.specs.Stretches.{StretchView, StretchesView, all_stretches}
 use Rattle.sync_types.specs.Boards.{Board, first_board}
 use Rattle.sync_types.specs.Views.{RunView}
 

@@ -14,8 +14,8 @@ use Rattle.clash_check.specs.declared.numbers.PairNumber.{PairNumber}
 use Rattle.job_types.specs.Job.{JobView}
 use Rattle.job_types.specs.Zones.{zones_in_order}
 use Rattle.job_types.specs.declared.job.ZoneLine.{ZoneLine}
-use Rattle.protection_zones.specs.Overlaps.{Order, ZoneTime, pairs_by_group, pairs_of_zones, zone_times}
-use Rattle.protection_zones.specs.Stretches.{StretchView, StretchesView}
+use Rattle.zone_stretches.specs.Overlaps.{Order, ZoneTime, pairs_by_group, pairs_of_zones, zone_times}
+use Rattle.zone_stretches.specs.Stretches.{StretchView, StretchesView}
 
 -- ---- by groups
 

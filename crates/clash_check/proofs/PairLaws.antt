@@ -11,8 +11,8 @@ use Rattle.clash_check.specs.Times.{lists_in, times_from}
 use Rattle.clash_check.specs.ZonePairs.{first_of_pair, first_of_pairs, pairs_from, pairs_with}
 use Rattle.job_types.specs.Zones.{zones_in_order}
 use Rattle.job_types.specs.declared.job.ZoneLine.{ZoneLine}
-use Rattle.protection_zones.specs.Overlaps.{ZoneTime}
-use Rattle.protection_zones.specs.Stretches.{StretchView}
+use Rattle.zone_stretches.specs.Overlaps.{ZoneTime}
+use Rattle.zone_stretches.specs.Stretches.{StretchView}
 
 module _ (case : Case) (lists : List (List StretchView)) where
   abbrev time_at : ℕ → ZoneLine → ZoneTime

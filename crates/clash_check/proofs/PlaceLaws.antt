@@ -13,9 +13,9 @@ use Rattle.clash_check.specs.FirstAnswer.{first_some}
 use Rattle.clash_check.specs.Meetings.{Case, Names, place_of, names_where_met, first_touched_among}
 use Rattle.clash_check.specs.PlaceRanges.{passes_place, is_by_first, do_boxes_ascend}
 use Rattle.job_types.specs.declared.job.ZoneLine.{ZoneLine}
-use Rattle.protection_zones.specs.Overlaps.{BoxPlace, share_place}
-use Rattle.protection_zones.specs.Stretches.{StretchView}
-use Rattle.protection_zones.specs.declared.stretches.ZoneBox.{ZoneBox}
+use Rattle.zone_stretches.specs.Overlaps.{BoxPlace, share_place}
+use Rattle.zone_stretches.specs.Stretches.{StretchView}
+use Rattle.zone_stretches.specs.declared.stretches.ZoneBox.{ZoneBox}
 
 -- a box past the end
 abbrev pub no_box : ZoneBox

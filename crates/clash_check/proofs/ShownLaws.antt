@@ -6,7 +6,7 @@ use Rattle.clash_check.specs.FirstAnswer.{first_some}
 use Rattle.clash_check.specs.Meetings.{Case, Names, first_in_stretches}
 use Rattle.clash_check.specs.Shown.{is_bare, next_shown}
 use Rattle.job_types.specs.declared.job.ZoneLine.{ZoneLine}
-use Rattle.protection_zones.specs.Stretches.{StretchView}
+use Rattle.zone_stretches.specs.Stretches.{StretchView}
 
 -- ---- the next place
 

@@ -10,9 +10,9 @@ use Rattle.clash_check.specs.Ascents.{leading, passes, do_ascend, place_in, AreA
 use Rattle.clash_check.specs.declared.ascents.Range.{Range}
 use Rattle.clash_check.specs.declared.ascents.Walk.{Walk}
 use Rattle.clash_check.specs.Times.{lists_in}
-use Rattle.protection_zones.specs.Overlaps.{Order}
-use Rattle.protection_zones.specs.SoundStretches.{HasLowNames}
-use Rattle.protection_zones.specs.Stretches.{StretchView}
+use Rattle.zone_stretches.specs.Overlaps.{Order}
+use Rattle.zone_stretches.specs.SoundStretches.{HasLowNames}
+use Rattle.zone_stretches.specs.Stretches.{StretchView}
 
 pub not_not : (b : Bool) → not b ≡ false → b ≡ true
 not_not true off = refl

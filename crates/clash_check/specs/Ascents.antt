@@ -4,12 +4,12 @@ use Rattle.clash_check.specs.declared.ascents.Range.{Range}
 use Rattle.clash_check.specs.declared.ascents.Walk.{Walk}
 use Rattle.order_clocks.specs.Clocked.{IsOrderOf}
 use Rattle.order_clocks.specs.Tells.{is_same_event}
-use Rattle.protection_zones.specs.Overlaps.{Order, is_open_at}
-use Rattle.protection_zones.specs.SoundStretches.{HasLowNames}
-use Rattle.protection_zones.specs.Stretches.{StretchView}
 use Rattle.sync_types.specs.Boards.{Board}
 use Rattle.sync_types.specs.Turns.{Move}
 use Rattle.sync_types.specs.declared.runs.EventId.{EventId}
+use Rattle.zone_stretches.specs.Overlaps.{Order, is_open_at}
+use Rattle.zone_stretches.specs.SoundStretches.{HasLowNames}
+use Rattle.zone_stretches.specs.Stretches.{StretchView}
 
 -- ---- lists of which the first elements pass a test
 

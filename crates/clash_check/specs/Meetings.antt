@@ -8,16 +8,16 @@ use Rattle.clash_check.specs.Verdicts.{name_of}
 use Rattle.job_types.specs.Job.{JobView}
 use Rattle.job_types.specs.Zones.{zones_in_order}
 use Rattle.job_types.specs.declared.job.ZoneLine.{ZoneLine}
-use Rattle.protection_zones.specs.Overlaps.{Order, BoxPlace, ZoneTime, may_overlap, share_channel, share_place}
-use Rattle.protection_zones.specs.Pieces.{piece_boxes}
-use Rattle.protection_zones.specs.Stretches.{StretchView}
-use Rattle.protection_zones.specs.declared.stretches.ZoneBox.{ZoneBox}
 use Rattle.swept_boxes.specs.Boxes.{boxes_meet}
 use Rattle.swept_boxes.specs.declared.Box3.{Box3}
 use Rattle.sync_types.specs.Views.{RunView}
 use Rattle.sync_types.specs.declared.verdicts.PlaceName.{PlaceName}
 use Rattle.sync_types.specs.declared.verdicts.Verdict.{Verdict}
 use Rattle.sync_types.specs.declared.verdicts.Verdict.TheVariants as verdicts
+use Rattle.zone_stretches.specs.Overlaps.{Order, BoxPlace, ZoneTime, may_overlap, share_channel, share_place}
+use Rattle.zone_stretches.specs.Pieces.{piece_boxes}
+use Rattle.zone_stretches.specs.Stretches.{StretchView}
+use Rattle.zone_stretches.specs.declared.stretches.ZoneBox.{ZoneBox}
 
 abbrev pub Names : Type 0
 Names = PlaceName × PlaceName

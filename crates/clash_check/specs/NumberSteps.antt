@@ -9,8 +9,8 @@ use Rattle.clash_check.specs.Times.{times_from}
 use Rattle.clash_check.specs.declared.numbers.PairNumber.{PairNumber}
 use Rattle.job_types.specs.Job.{JobView}
 use Rattle.job_types.specs.Zones.{zones_in_order}
-use Rattle.protection_zones.specs.Overlaps.{Order, ZoneTime}
-use Rattle.protection_zones.specs.Stretches.{StretchView}
+use Rattle.zone_stretches.specs.Overlaps.{Order, ZoneTime}
+use Rattle.zone_stretches.specs.Stretches.{StretchView}
 
 -- the row of two zones, if there is one
 unfoldable pub numbers_with : Order → ZoneTime → ZoneTime → List PairNumber

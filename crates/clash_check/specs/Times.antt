@@ -5,8 +5,8 @@ use Rattle.std.specs.List.{zip}
 use Rattle.job_types.specs.Job.{JobView}
 use Rattle.job_types.specs.Zones.{zones_in_order}
 use Rattle.job_types.specs.declared.job.ZoneLine.{ZoneLine}
-use Rattle.protection_zones.specs.Overlaps.{ZoneTime}
-use Rattle.protection_zones.specs.Stretches.{StretchView}
+use Rattle.zone_stretches.specs.Overlaps.{ZoneTime}
+use Rattle.zone_stretches.specs.Stretches.{StretchView}
 
 -- the stretches of each zone
 abbrev pub lists_in : List (Vec StretchView Global) → List (List StretchView)

@@ -4,7 +4,7 @@ use Rattle.std.specs.Option.{option_and_then}
 use Rattle.clash_check.specs.FirstAnswer.{first_some}
 use Rattle.clash_check.specs.Meetings.{Case, Names, first_with_place}
 use Rattle.job_types.specs.Zones.{zones_in_order}
-use Rattle.protection_zones.specs.Stretches.{StretchView}
+use Rattle.zone_stretches.specs.Stretches.{StretchView}
 
 -- a zone with so many others that stand one after another
 abbrev pub pairs_with : ℕ → ℕ → ℕ → List (ℕ × ℕ)

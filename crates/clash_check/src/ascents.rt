@@ -9,8 +9,8 @@ ghost use Rattle.order_clocks.specs.Tells.{is_before_in};
 use crate::overlaps::{is_open_at, is_upto};
 use axis_sets::ZONE_LIMIT;
 use order_clocks::Clocks;
-use protection_zones::Stretch;
 use sync_types::EventId;
+use zone_stretches::Stretch;
 
 /// Two places among the stretches of a zone: of the first that may overlap a stretch of another zone, and of the first after
 /// these.

@@ -12,10 +12,10 @@ ghost use Rattle.clash_check.specs.Shown.{IsNext};
 ghost use Rattle.clash_check.specs.Verdicts.{name_of};
 ghost use Rattle.job_lines.specs.declared.limits.TheConstants.{DEPTH_LIMIT};
 ghost use Rattle.order_clocks.specs.Tells.{is_before_in};
-ghost use Rattle.protection_zones.specs.Pieces.{piece_boxes};
-ghost use Rattle.protection_zones.specs.ZoneBoxes.{IsFit};
-ghost use Rattle.protection_zones.specs.declared.stretches.ZoneBox.{ZoneBox};
 ghost use Rattle.swept_boxes.specs.Boxes.{boxes_meet};
+ghost use Rattle.zone_stretches.specs.Pieces.{piece_boxes};
+ghost use Rattle.zone_stretches.specs.ZoneBoxes.{IsFit};
+ghost use Rattle.zone_stretches.specs.declared.stretches.ZoneBox.{ZoneBox};
 
 use crate::ascents::{Range, part, range_of, start_walk};
 use crate::nearby::{Kept, Memory, TREE_OTHERS, kept_for, new_memory, next_near, renew};
@@ -26,9 +26,9 @@ use box_tree::PieceTree;
 use job_types::{Job, ZoneLine};
 use order_clocks::Clocks;
 use passed_boxes::PassedBoxes;
-use protection_zones::{Stretch, ZoneBox, boxes_by_pieces, motion_at};
 use std::alloc::Global;
 use sync_types::{PlaceName, Run};
+use zone_stretches::{Stretch, ZoneBox, boxes_by_pieces, motion_at};
 
 /// A job with a run of it and the order of its events.
 #[derive(Clone, Copy)]

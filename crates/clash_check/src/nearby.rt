@@ -2,16 +2,16 @@
 ghost use Rattle.std.specs.Prelude.{◌≡◌, ◌⊎◌, ℕ, ◌<◌, ◌≤◌, [], true, false, None, IfOk, length, map, slice_index_or};
 ghost use Rattle.box_tree.specs.Rows.{IsRowOf};
 ghost use Rattle.clash_check.specs.Keeping as model;
-ghost use Rattle.protection_zones.specs.declared.stretches.ZoneBox.{ZoneBox};
 ghost use Rattle.swept_boxes.specs.Boxes.{boxes_meet};
+ghost use Rattle.zone_stretches.specs.declared.stretches.ZoneBox.{ZoneBox};
 
 use crate::overlaps::share_place;
 use box_tree::{BoxTree, KeptTrees, do_meet};
 use out_of_memory::NoMemory;
 use passed_boxes::PassedBoxes;
-use protection_zones::ZoneBox;
 use std::alloc::Global;
 use swept_boxes::Box3;
+use zone_stretches::ZoneBox;
 
 /// From how many boxes on that are held against others a tree over the covers of these serves.
 const TREE_OWN: usize = 8;

@@ -3,7 +3,7 @@ ghost use Rattle.std.specs.Prelude.{◌≡◌, ◌<◌, true, [], ◌++◌, IfOk
 ghost use Rattle.std.specs.List.{flat_map};
 ghost use Rattle.clash_check.specs.Ascents as orders;
 ghost use Rattle.clash_check.specs.Ascents.{IsTimed};
-ghost use Rattle.protection_zones.specs.Told.{IsTold};
+ghost use Rattle.zone_stretches.specs.Told.{IsTold};
 ghost use Rattle.clash_check.specs.NumberSteps as steps;
 ghost use Rattle.clash_check.specs.PairNumbers as model;
 ghost use Rattle.clash_check.specs.Times.{lists_in, times_from};
@@ -17,8 +17,8 @@ use axis_sets::{ZONE_LIMIT, ZoneId};
 use job_types::{Job, ZoneLine};
 use order_clocks::Clocks;
 use out_of_memory::NoMemory;
-use protection_zones::{Stretch, Stretches, zone_at};
 use std::alloc::{AllocError, Global};
+use zone_stretches::{Stretch, Stretches, zone_at};
 
 /// How many boxes of two zones are compared.
 #[derive(Clone, Copy, PartialEq, Eq)]

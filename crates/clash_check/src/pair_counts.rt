@@ -4,12 +4,12 @@ ghost use Rattle.std.specs.List.{count_by};
 ghost use Rattle.clash_check.specs.Ascents as orders;
 ghost use Rattle.clash_check.specs.Ascents.{IsTimed};
 ghost use Rattle.clash_check.specs.Counts.{count_of};
-ghost use Rattle.protection_zones.specs.Told.{IsTold};
+ghost use Rattle.zone_stretches.specs.Told.{IsTold};
 ghost use Rattle.clash_check.specs.PairCounts as model;
 ghost use Rattle.clash_check.specs.PlaceRanges as places;
 ghost use Rattle.clash_check.specs.Times.{lists_in, times_from};
 ghost use Rattle.order_clocks.specs.Tells.{is_before_in};
-ghost use Rattle.protection_zones.specs.Overlaps.{ZoneTime, share_place};
+ghost use Rattle.zone_stretches.specs.Overlaps.{ZoneTime, share_place};
 ghost use Rattle.sync_types.specs.Views.{RunView};
 
 use crate::ascents::{Range, ascends_at, ascents_of, range_of, start_walk};
@@ -20,7 +20,7 @@ use crate::zone_pairs::lists_of;
 use axis_sets::{CHANNEL_PLACES, ZONE_LIMIT};
 use job_types::{Job, ZoneLine};
 use order_clocks::Clocks;
-use protection_zones::{Stretch, Stretches, ZoneBox, zone_at};
+use zone_stretches::{Stretch, Stretches, ZoneBox, zone_at};
 
 /// With how many of these a box holds a place in common.
 fn count_near(own: &ZoneBox, others: &[ZoneBox]) -> u64

@@ -5,7 +5,7 @@ ghost use Rattle.clash_check.specs.PlaceRanges as model;
 ghost use Rattle.std.specs.Prelude.{◌≡◌, ◌+◌, ◌-◌, ◌<◌, ◌≤◌, not, Bool, true, false, drop, take, length};
 
 use crate::ascents::Range;
-use protection_zones::ZoneBox;
+use zone_stretches::ZoneBox;
 
 /// Whether a box neither begins nor ends after the one of this place, if there is one.
 fn is_by_at(own: &ZoneBox, boxes: &[ZoneBox], place: usize) -> bool

@@ -10,7 +10,7 @@ use crate::ascents::{Range, part};
 use crate::pair_counts::count_against;
 use axis_sets::CHANNEL_PLACES;
 use order_clocks::Clocks;
-use protection_zones::Stretch;
+use zone_stretches::Stretch;
 
 /// How many boxes the stretches before a place have, or the greatest `u64` where they have more.
 #[derive(Clone, Copy)]

@@ -6,17 +6,17 @@ ghost use Rattle.clash_check.specs.FirstAnswer.{first_some};
 ghost use Rattle.clash_check.specs.Times.{lists_in};
 ghost use Rattle.clash_check.specs.ZonePairs.{first_of_pairs};
 ghost use Rattle.order_clocks.specs.Tells.{is_before_in};
-ghost use Rattle.protection_zones.specs.ZoneBoxes.{IsFit};
+ghost use Rattle.zone_stretches.specs.ZoneBoxes.{IsFit};
 
 use crate::meetings::Scene;
 use crate::nearby::KEPT_LIMIT;
 use crate::zone_pairs::first_of_pairs;
 use axis_sets::ZONE_LIMIT;
-use protection_zones::Stretch;
 use std::alloc::{AllocError, Global};
 use std::thread;
 use std::thread::Threads;
 use sync_types::PlaceName;
+use zone_stretches::Stretch;
 
 /// Into how many chunks the pairs are cut at most. There is a thread for each, where one can be made.
 const CHUNK_LIMIT: usize = 16;
@@ -60,7 +60,7 @@ impl Seeks for Zones<'_, '_> {
     ghost use Rattle.clash_check.specs.ZonePairs.{first_of_pairs};
     ghost use Rattle.clash_check.specs.declared.nearby.TheConstants.{KEPT_LIMIT};
     ghost use Rattle.order_clocks.specs.Tells.{is_before_in};
-    ghost use Rattle.protection_zones.specs.ZoneBoxes.{IsFit};
+    ghost use Rattle.zone_stretches.specs.ZoneBoxes.{IsFit};
 
     ghost ready = { λ zones. All (All IsFit) zones.scene.run.now.items
         × IsTimed (is_before_in zones.scene.clocks.now.rows) [] (lists_in zones.lists.now)

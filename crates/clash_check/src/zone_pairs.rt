@@ -4,15 +4,15 @@ ghost use Rattle.clash_check.specs.Ascents.{AreAscents, IsTimed};
 ghost use Rattle.clash_check.specs.Times.{lists_in};
 ghost use Rattle.clash_check.specs.ZonePairs as model;
 ghost use Rattle.order_clocks.specs.Tells.{is_before_in};
-ghost use Rattle.protection_zones.specs.ZoneBoxes.{IsFit};
+ghost use Rattle.zone_stretches.specs.ZoneBoxes.{IsFit};
 
 use crate::ascents::ascends_at;
 use crate::meetings::{Scene, first_of_zones};
 use axis_sets::ZONE_LIMIT;
 use out_of_memory::NoMemory;
-use protection_zones::{Stretch, Stretches, zone_at};
 use std::alloc::Global;
 use sync_types::PlaceName;
+use zone_stretches::{Stretch, Stretches, zone_at};
 
 /// Appends the pairs of the zone of a place with each later one, of so many.
 fn push_pairs(pairs: &mut Vec<(usize, usize)>, place: usize, count: usize) -> Result<(), NoMemory>

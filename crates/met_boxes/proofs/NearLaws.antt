@@ -9,13 +9,13 @@ use Rattle.met_boxes.specs.Ascents.{leading, PassFirst, do_ascend, passes, IsTim
 use Rattle.met_boxes.specs.MeetingSteps.{Case, met_in_boxes, met_in_stretches}
 use Rattle.order_clocks.specs.Clocked.{ClocksView, moves_in}
 use Rattle.order_clocks.specs.Tells.{is_before_in}
-use Rattle.protection_zones.proofs.NameLaws.{ends_are_lowest_names}
-use Rattle.protection_zones.specs.Overlaps.{Order, ZoneTime, may_overlap, is_open_at, box_pairs, stretch_pairs, zone_times}
-use Rattle.protection_zones.specs.SoundStretches.{HasLowNames}
-use Rattle.protection_zones.specs.Stretches.{StretchView, StretchesView}
-use Rattle.protection_zones.specs.Told.{IsTold}
 use Rattle.sync_types.specs.Boards.{first_board}
 use Rattle.sync_types.specs.Views.{RunView}
+use Rattle.zone_stretches.proofs.NameLaws.{ends_are_lowest_names}
+use Rattle.zone_stretches.specs.Overlaps.{Order, ZoneTime, may_overlap, is_open_at, box_pairs, stretch_pairs, zone_times}
+use Rattle.zone_stretches.specs.SoundStretches.{HasLowNames}
+use Rattle.zone_stretches.specs.Stretches.{StretchView, StretchesView}
+use Rattle.zone_stretches.specs.Told.{IsTold}
 
 -- ---- stretches that do not overlap
 

@@ -21,10 +21,10 @@ use Rattle.met_boxes.specs.Nearest.{AreNearest, IsNearest, groups_of, pair_reach
 use Rattle.met_boxes.specs.NearSteps.{AreNearestSoFar, is_as_near, may_be_nearer, may_count, nearer, pair_where, put_near, same_groups}
 use Rattle.met_boxes.specs.Puts.{AreApart}
 use Rattle.met_boxes.specs.declared.nearest.Near.{Near}
-use Rattle.protection_zones.specs.InCovers.{IsInCover}
-use Rattle.protection_zones.specs.Overlaps.{BoxPlace, Pair, are_compared}
-use Rattle.protection_zones.specs.Stretches.{StretchView}
-use Rattle.protection_zones.specs.declared.stretches.ZoneBox.{ZoneBox}
+use Rattle.zone_stretches.specs.InCovers.{IsInCover}
+use Rattle.zone_stretches.specs.Overlaps.{BoxPlace, Pair, are_compared}
+use Rattle.zone_stretches.specs.Stretches.{StretchView}
+use Rattle.zone_stretches.specs.declared.stretches.ZoneBox.{ZoneBox}
 use Rattle.sync_types.specs.Views.{RunView}
 
 -- ---- numbers of two

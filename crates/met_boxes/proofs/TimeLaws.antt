@@ -7,8 +7,8 @@ use Rattle.met_boxes.specs.Times.{lists_in, times_in, times_from}
 use Rattle.job_types.specs.Job.{JobView}
 use Rattle.job_types.specs.Zones.{zones_in_order}
 use Rattle.job_types.specs.declared.job.ZoneLine.{ZoneLine}
-use Rattle.protection_zones.specs.Overlaps.{ZoneTime}
-use Rattle.protection_zones.specs.Stretches.{StretchView}
+use Rattle.zone_stretches.specs.Overlaps.{ZoneTime}
+use Rattle.zone_stretches.specs.Stretches.{StretchView}
 
 abbrev pub time_of : List (List StretchView) → ℕ → ZoneLine → ZoneTime
 time_of lists place zone = record { zone = zone; stretches = get_or lists place [] }

@@ -2,12 +2,12 @@
 use Rattle.std.specs.Prelude.{◌≡◌, ◌&&◌, ◌||◌, not, suc, ℕ, Bool, true, false, if◌then◌else◌, All, List, [], ◌∷◌, Option, Some, None}
 use Rattle.order_clocks.specs.Clocked.{IsOrderOf}
 use Rattle.order_clocks.specs.Tells.{is_same_event}
-use Rattle.protection_zones.specs.Overlaps.{Order, is_open_at}
-use Rattle.protection_zones.specs.SoundStretches.{HasLowNames}
-use Rattle.protection_zones.specs.Stretches.{StretchView}
 use Rattle.sync_types.specs.Boards.{Board}
 use Rattle.sync_types.specs.Turns.{Move}
 use Rattle.sync_types.specs.declared.runs.EventId.{EventId}
+use Rattle.zone_stretches.specs.Overlaps.{Order, is_open_at}
+use Rattle.zone_stretches.specs.SoundStretches.{HasLowNames}
+use Rattle.zone_stretches.specs.Stretches.{StretchView}
 
 -- ---- lists of which the first elements pass a test
 

@@ -5,13 +5,13 @@ use Rattle.job_types.specs.Job.{JobView}
 use Rattle.job_types.specs.declared.job.ZoneLine.{ZoneLine}
 use Rattle.met_boxes.specs.Meetings.{told_pair}
 use Rattle.met_boxes.specs.Rows.{RowView}
-use Rattle.protection_zones.specs.Overlaps.{Order, BoxPlace, are_compared, may_overlap}
-use Rattle.protection_zones.specs.Pieces.{pair_meets}
-use Rattle.protection_zones.specs.Stretches.{StretchView}
-use Rattle.protection_zones.specs.declared.stretches.ZoneBox.{ZoneBox}
 use Rattle.swept_boxes.specs.Boxes.{boxes_meet}
 use Rattle.sync_types.specs.Views.{RunView}
 use Rattle.told_places.specs.declared.place.Meeting.{Meeting}
+use Rattle.zone_stretches.specs.Overlaps.{Order, BoxPlace, are_compared, may_overlap}
+use Rattle.zone_stretches.specs.Pieces.{pair_meets}
+use Rattle.zone_stretches.specs.Stretches.{StretchView}
+use Rattle.zone_stretches.specs.declared.stretches.ZoneBox.{ZoneBox}
 
 -- a job, a run of it, and the order of its events
 pub record Case : Type 0 where

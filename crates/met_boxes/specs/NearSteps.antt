@@ -9,11 +9,11 @@ use Rattle.met_boxes.specs.MeetingSteps.{place_of}
 use Rattle.met_boxes.specs.Nearest.{AreNearest, groups_of}
 use Rattle.met_boxes.specs.Puts.{put_in}
 use Rattle.met_boxes.specs.declared.nearest.Near.{Near}
-use Rattle.protection_zones.specs.InCovers.{ArePairsInCover}
-use Rattle.protection_zones.specs.Overlaps.{BoxPlace, Pair, are_compared}
-use Rattle.protection_zones.specs.Stretches.{StretchView}
-use Rattle.protection_zones.specs.declared.stretches.ZoneBox.{ZoneBox}
 use Rattle.sync_types.specs.Views.{RunView}
+use Rattle.zone_stretches.specs.InCovers.{ArePairsInCover}
+use Rattle.zone_stretches.specs.Overlaps.{BoxPlace, Pair, are_compared}
+use Rattle.zone_stretches.specs.Stretches.{StretchView}
+use Rattle.zone_stretches.specs.declared.stretches.ZoneBox.{ZoneBox}
 
 -- a pair, where it is compared
 unfoldable pub pair_where : BoxPlace → ZoneLine → StretchView → ZoneBox → List Pair

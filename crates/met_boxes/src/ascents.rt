@@ -3,12 +3,12 @@
 ghost use Rattle.std.specs.Prelude.{◌≡◌, ◌≤◌, Bool, true, false, nat_le, drop, filter, take, length};
 ghost use Rattle.met_boxes.specs.Ascents as model;
 ghost use Rattle.order_clocks.specs.Tells.{is_before_in};
-ghost use Rattle.protection_zones.specs.Overlaps.{may_overlap};
+ghost use Rattle.zone_stretches.specs.Overlaps.{may_overlap};
 
 use crate::overlaps::{is_open_at, is_upto};
 use order_clocks::Clocks;
-use protection_zones::Stretch;
 use sync_types::EventId;
+use zone_stretches::Stretch;
 
 /// Two places among the stretches of a zone: of the first that may overlap a stretch of another zone, and of the first after
 /// these.

@@ -10,9 +10,9 @@ ghost use Rattle.met_boxes.specs.Meetings.{meetings_of, told_box, told_pair};
 ghost use Rattle.met_boxes.specs.MeetingSteps as model;
 ghost use Rattle.met_boxes.specs.Rows.{IsRowTimed};
 ghost use Rattle.order_clocks.specs.Tells.{is_before_in};
-ghost use Rattle.protection_zones.specs.Pieces.{piece_boxes};
-ghost use Rattle.protection_zones.specs.Told.{IsTold};
-ghost use Rattle.protection_zones.specs.ZoneBoxes.{IsFit};
+ghost use Rattle.zone_stretches.specs.Pieces.{piece_boxes};
+ghost use Rattle.zone_stretches.specs.Told.{IsTold};
+ghost use Rattle.zone_stretches.specs.ZoneBoxes.{IsFit};
 ghost use Rattle.swept_boxes.specs.Boxes.{boxes_meet};
 
 use crate::ascents::{Range, do_ascend, near_part};
@@ -24,11 +24,11 @@ use box_reach::PartedLot;
 use job_types::{Job, ZoneLine};
 use order_clocks::Clocks;
 use out_of_memory::NoMemory;
-use protection_zones::{Stretch, Stretches, ZoneBox};
 use std::alloc::{AllocError, Global};
 use swept_boxes::Box3;
 use sync_types::{EventId, PlaceName, Run, StretchKind};
 use told_places::{Meeting, Place};
+use zone_stretches::{Stretch, Stretches, ZoneBox};
 
 /// A job with a run of it and the order of its events.
 #[derive(Clone, Copy)]

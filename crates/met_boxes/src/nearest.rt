@@ -13,10 +13,10 @@ ghost use Rattle.met_boxes.specs.NearSteps as steps;
 ghost use Rattle.met_boxes.specs.PassedOwns.{AreLookedAt};
 ghost use Rattle.met_boxes.specs.Rows.{IsRowTimed, pairs_in, row_pairs};
 ghost use Rattle.order_clocks.specs.Tells.{is_before_in};
-ghost use Rattle.protection_zones.specs.Overlaps.{Pair, compared_pairs, stretch_pairs};
-ghost use Rattle.protection_zones.specs.Pieces.{piece_boxes};
-ghost use Rattle.protection_zones.specs.Told.{IsTold};
-ghost use Rattle.protection_zones.specs.ZoneBoxes.{IsFit};
+ghost use Rattle.zone_stretches.specs.Overlaps.{Pair, compared_pairs, stretch_pairs};
+ghost use Rattle.zone_stretches.specs.Pieces.{piece_boxes};
+ghost use Rattle.zone_stretches.specs.Told.{IsTold};
+ghost use Rattle.zone_stretches.specs.ZoneBoxes.{IsFit};
 ghost use Rattle.sync_types.specs.Views.{RunView};
 
 use crate::ascents::{Range, do_ascend, near_part};
@@ -30,11 +30,11 @@ use job_types::{Job, ZoneLine};
 use order_clocks::Clocks;
 use out_of_memory::NoMemory;
 use passed_boxes::PassedBoxes;
-use protection_zones::{Stretch, Stretches, ZoneBox, motion_at};
 use std::alloc::{AllocError, Global};
 use swept_boxes::Box3;
 use sync_types::{EventId, Run, StretchKind};
 use told_places::Place;
+use zone_stretches::{Stretch, Stretches, ZoneBox, motion_at};
 
 /// The two compared boxes of two groups that come nearest to each other.
 #[derive(Clone, Copy)]

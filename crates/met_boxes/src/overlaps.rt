@@ -2,12 +2,12 @@
 ghost use Rattle.std.specs.Prelude.{◌≡◌, ◌||◌, not};
 ghost use Rattle.job_types.specs.Axes.{is_of};
 ghost use Rattle.order_clocks.specs.Tells.{is_before_in, is_same_event};
-ghost use Rattle.protection_zones.specs.Overlaps as model;
+ghost use Rattle.zone_stretches.specs.Overlaps as model;
 
 use axis_sets::ChannelId;
 use order_clocks::Clocks;
-use protection_zones::{Stretch, ZoneBox};
 use sync_types::EventId;
+use zone_stretches::{Stretch, ZoneBox};
 
 /// Whether two names are those of one event.
 fn is_same(a: &EventId, b: &EventId) -> bool
@@ -37,7 +37,7 @@ pub(crate) fn is_open_at(clocks: &Clocks, last: Option<EventId>, first: Option<E
 }
 
 /// Whether two stretches may overlap: neither is over as the other begins.
-#[tactic(auto, unfolding(protection_zones::specs::Overlaps::may_overlap))]
+#[tactic(auto, unfolding(zone_stretches::specs::Overlaps::may_overlap))]
 pub(crate) fn may_overlap(clocks: &Clocks, left: &Stretch, right: &Stretch) -> bool
     ensures { result ≡ model.may_overlap (is_before_in clocks.now.rows) left.now right.now }
 {

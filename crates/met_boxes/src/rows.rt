@@ -3,13 +3,13 @@ ghost use Rattle.std.specs.Prelude.{◌≡◌, ◌≤◌, ◌++◌, IfOk, OnOk, 
 ghost use Rattle.std.specs.List.{flat_map};
 ghost use Rattle.met_boxes.specs.Rows as model;
 ghost use Rattle.met_boxes.specs.Times.{lists_in, times_from};
-ghost use Rattle.protection_zones.specs.Overlaps.{zone_times};
+ghost use Rattle.zone_stretches.specs.Overlaps.{zone_times};
 
 use job_types::{Job, ZoneLine};
 use out_of_memory::NoMemory;
-use protection_zones::{Stretch, Stretches, zone_at};
 use std::alloc::{AllocError, Global};
 use std::marker::Model;
+use zone_stretches::{Stretch, Stretches, zone_at};
 
 /// A zone with its stretches.
 #[derive(Drop)]
@@ -21,7 +21,7 @@ pub(crate) struct Time<'a> {
 }
 
 impl<'a> Model for Time<'a> {
-    ghost use Rattle.protection_zones.specs.Overlaps.{ZoneTime};
+    ghost use Rattle.zone_stretches.specs.Overlaps.{ZoneTime};
 
     ghost Value = { ZoneTime };
 

@@ -16,8 +16,8 @@ use Rattle.path_geometry.specs.declared.motion.Arc.{Arc}
 use Rattle.path_geometry.specs.declared.motion.Motion.{Motion}
 use Rattle.path_geometry.specs.declared.motion.Motion.TheVariants.{Line, Rapid}
 use Rattle.path_geometry.specs.declared.motion.Motion.TheVariants as Kind
-use Rattle.protection_zones.specs.Pieces.{piece_low, piece_high, by_direction, piece_box, boxes_in_pieces}
-use Rattle.protection_zones.specs.ZoneBoxes.{side_low, side_high, zone_box, box_of, low_in, high_in, PlaceBox, cover_during}
+use Rattle.zone_stretches.specs.Pieces.{piece_low, piece_high, by_direction, piece_box, boxes_in_pieces}
+use Rattle.zone_stretches.specs.ZoneBoxes.{side_low, side_high, zone_box, box_of, low_in, high_in, PlaceBox, cover_during}
 use Rattle.speed_laws.proofs.Covers.{Covers, IsCovered, IsNamed}
 use Rattle.speed_laws.specs.Places.{StandsAt, IsAlong}
 use Rattle.swept_boxes.proofs.PieceLaws.{covered, in_cover}

@@ -2,7 +2,7 @@ use Rattle.std.proofs.Common.{rules, ◌≡◌, ℕ, ℤ, refl, w32, get_or}
 use mir.Val.{to_z, of_z, SFits}
 use Rattle.swept_boxes.specs.Boxes.{low_of, high_of}
 use Rattle.job_types.specs.declared.job.Side.{Side}
-use Rattle.protection_zones.specs.Pieces.{piece_box, piece_low, piece_high}
+use Rattle.zone_stretches.specs.Pieces.{piece_box, piece_low, piece_high}
 use Rattle.box_clashes.proofs.Directions.{by_direction-three, stored}
 use Rattle.box_clashes.proofs.bounds.piece_box.Goals as goal
 

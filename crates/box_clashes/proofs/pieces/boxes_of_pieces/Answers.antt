@@ -3,7 +3,7 @@ use Rattle.std.proofs.lemmas.Iterator.Consumers.{YieldsList-from_first, YieldsLi
 use Rattle.std.proofs.lemmas.List.{length-map}
 use Rattle.swept_boxes.specs.Ranges.{RangesView}
 use Rattle.swept_boxes.specs.declared.Box3.{Box3}
-use Rattle.protection_zones.specs.Pieces.{piece_box}
+use Rattle.zone_stretches.specs.Pieces.{piece_box}
 use Rattle.box_clashes.proofs.pieces.boxes_of_pieces.Goals as goal
 
 pub push-requires : goal.push-requires

@@ -1,6 +1,6 @@
 -- The boxes of the pieces so far.
 use Rattle.std.proofs.Common.{◌≡◌, map}
-use Rattle.protection_zones.specs.Pieces.{piece_box}
+use Rattle.zone_stretches.specs.Pieces.{piece_box}
 use Rattle.box_clashes.proofs.pieces.boxes_of_pieces.Given as goal
 
 abbrev pub invariant-loop-piece : goal.invariant-loop-piece

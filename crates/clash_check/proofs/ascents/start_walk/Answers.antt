@@ -3,7 +3,7 @@ use Rattle.order_clocks.specs.Tells.{is_before_in}
 use Rattle.clash_check.proofs.AscentLaws.{passing_at}
 use Rattle.clash_check.proofs.WalkLaws.{places_of, walk_started}
 use Rattle.clash_check.specs.Ascents.{PassFirst, passes}
-use Rattle.protection_zones.specs.Stretches.{StretchView}
+use Rattle.zone_stretches.specs.Stretches.{StretchView}
 use Rattle.clash_check.proofs.ascents.start_walk.Goals as goal
 
 pub range_by_halves-requires : goal.range_by_halves-requires

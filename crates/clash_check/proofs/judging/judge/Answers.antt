@@ -8,8 +8,8 @@ use Rattle.clash_check.specs.Ascents.{IsTimed}
 use Rattle.clash_check.specs.Meetings.{Case, verdict_by_names}
 use Rattle.clash_check.specs.Times.{lists_in}
 use Rattle.clash_check.specs.ZonePairs.{first_of_pairs}
-use Rattle.protection_zones.specs.Overlaps.{zone_times}
-use Rattle.protection_zones.specs.Stretches.{StretchView}
+use Rattle.zone_stretches.specs.Overlaps.{zone_times}
+use Rattle.zone_stretches.specs.Stretches.{StretchView}
 use Rattle.clash_check.proofs.judging.judge.Goals as goal
 
 pub returns-in-Some : goal.returns-in-Some

@@ -9,7 +9,7 @@ use Rattle.clash_check.proofs.WalkLaws.{places_of, walk_on}
 use Rattle.clash_check.specs.Ascents.{IsBetween, PassFirst, passes}
 use Rattle.clash_check.specs.FirstAnswer.{first_some}
 use Rattle.clash_check.specs.Meetings.{Case, Names, first_against}
-use Rattle.protection_zones.specs.Stretches.{StretchView}
+use Rattle.zone_stretches.specs.Stretches.{StretchView}
 use Rattle.clash_check.proofs.meetings.first_of_ascending.Goals as goal
 
 pub range_of-range-requires-clause-known : goal.range_of-range-requires-clause-known

@@ -7,8 +7,8 @@ use Rattle.clash_check.specs.NumberSteps.{numbers_in_times}
 use Rattle.clash_check.specs.PairNumbers.{AreByCount}
 use Rattle.clash_check.specs.Times.{times_from}
 use Rattle.clash_check.specs.declared.numbers.PairNumber.{PairNumber}
-use Rattle.protection_zones.specs.Overlaps.{zone_times}
-use Rattle.protection_zones.specs.Stretches.{StretchView}
+use Rattle.zone_stretches.specs.Overlaps.{zone_times}
+use Rattle.zone_stretches.specs.Stretches.{StretchView}
 use Rattle.clash_check.proofs.numbers.pair_numbers.Goals as goal
 
 pub numbers_in-requires : goal.numbers_in-requires

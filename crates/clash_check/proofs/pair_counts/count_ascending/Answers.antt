@@ -8,7 +8,7 @@ use Rattle.clash_check.proofs.WalkLaws.{places_of, walk_on}
 use Rattle.clash_check.specs.Ascents.{IsBetween, PassFirst, passes}
 use Rattle.clash_check.specs.PairCounts.{count_against}
 use Rattle.clash_check.specs.Running.{IsSum}
-use Rattle.protection_zones.specs.Stretches.{StretchView}
+use Rattle.zone_stretches.specs.Stretches.{StretchView}
 use Rattle.clash_check.proofs.pair_counts.count_ascending.Goals as goal
 
 pub range_of-range-requires-clause-known : goal.range_of-range-requires-clause-known

@@ -5,8 +5,8 @@ use Rattle.clash_check.specs.PairCounts.{capped, count_in_times}
 use Rattle.clash_check.proofs.NearLaws.{timed_by}
 use Rattle.clash_check.specs.Ascents.{IsTimed}
 use Rattle.clash_check.specs.Times.{times_from}
-use Rattle.protection_zones.specs.Overlaps.{zone_times}
-use Rattle.protection_zones.specs.Stretches.{StretchView}
+use Rattle.zone_stretches.specs.Overlaps.{zone_times}
+use Rattle.zone_stretches.specs.Stretches.{StretchView}
 use Rattle.clash_check.proofs.pair_counts.count_up_to.Goals as goal
 
 pub returns : goal.returns

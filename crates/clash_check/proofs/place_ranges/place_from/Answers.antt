@@ -3,7 +3,7 @@ use Rattle.clash_check.proofs.AscentLaws.{leading_from}
 use Rattle.clash_check.proofs.PlaceLaws.{no_box}
 use Rattle.clash_check.specs.Ascents.{leading}
 use Rattle.clash_check.specs.PlaceRanges.{passes_place}
-use Rattle.protection_zones.specs.declared.stretches.ZoneBox.{ZoneBox}
+use Rattle.zone_stretches.specs.declared.stretches.ZoneBox.{ZoneBox}
 use Rattle.clash_check.proofs.place_ranges.place_from.Goals as goal
 
 pub returns-then-passes_place-clause-left : goal.returns-then-passes_place-clause-left

@@ -2,7 +2,7 @@ use Rattle.std.proofs.Common.{◌∙◌, ◌+◌, ◌-◌, ◌/◌, ◌<◌, ◌
 use Rattle.order_clocks.specs.Tells.{is_before_in}
 use Rattle.met_boxes.proofs.AscentLaws.{leading_by, leading_past, leading_within}
 use Rattle.met_boxes.specs.Ascents.{leading, passes}
-use Rattle.protection_zones.specs.Stretches.{StretchView}
+use Rattle.zone_stretches.specs.Stretches.{StretchView}
 use Rattle.met_boxes.proofs.ascents.count_by_halves.Goals as goal
 
 pub loop-low-init : goal.loop-low-init

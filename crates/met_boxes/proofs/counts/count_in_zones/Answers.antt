@@ -4,8 +4,8 @@ use Rattle.met_boxes.proofs.CountLaws.{counted_more, counted_all, sum_is}
 use Rattle.met_boxes.proofs.NearLaws.{passing_at}
 use Rattle.met_boxes.specs.Ascents.{PassFirst, passes}
 use Rattle.order_clocks.specs.Tells.{is_before_in}
-use Rattle.protection_zones.specs.Overlaps.{Pair, stretch_pairs}
-use Rattle.protection_zones.specs.Stretches.{StretchView}
+use Rattle.zone_stretches.specs.Overlaps.{Pair, stretch_pairs}
+use Rattle.zone_stretches.specs.Stretches.{StretchView}
 use Rattle.met_boxes.proofs.counts.count_in_zones.Goals as goal
 
 pub count_beside-requires : goal.count_beside-requires

@@ -1,8 +1,8 @@
 use Rattle.std.proofs.Common.{◌≡◌, ◌∙◌, ◌++◌, [], List, sym, ap, subst}
 use Rattle.std.proofs.lemmas.List.{append-nil}
 use Rattle.order_clocks.specs.Tells.{is_before_in}
-use Rattle.protection_zones.specs.Overlaps.{BoxPlace}
-use Rattle.protection_zones.specs.Pieces.{piece_boxes}
+use Rattle.zone_stretches.specs.Overlaps.{BoxPlace}
+use Rattle.zone_stretches.specs.Pieces.{piece_boxes}
 use Rattle.swept_boxes.specs.declared.Box3.{Box3}
 use Rattle.told_places.specs.declared.place.Meeting.{Meeting}
 use Rattle.met_boxes.specs.KeptBoxes.{IsKeptAt}

@@ -1,8 +1,8 @@
 use Rattle.std.proofs.Common.{◌≡◌, ◌∙◌, All, List, sym, ap, subst, map, filter}
 use Rattle.order_clocks.specs.Tells.{is_before_in}
-use Rattle.protection_zones.specs.InCovers.{ArePairsInCover}
-use Rattle.protection_zones.specs.Overlaps.{Pair, compared_pairs, zone_times}
-use Rattle.protection_zones.specs.Pieces.{pair_meets}
+use Rattle.zone_stretches.specs.InCovers.{ArePairsInCover}
+use Rattle.zone_stretches.specs.Overlaps.{Pair, compared_pairs, zone_times}
+use Rattle.zone_stretches.specs.Pieces.{pair_meets}
 use Rattle.met_boxes.proofs.CoverLaws.{told_in_cover}
 use Rattle.met_boxes.proofs.KeptLaws.{rows_are}
 use Rattle.met_boxes.proofs.NearLaws.{timed_by}

@@ -4,8 +4,8 @@ use Rattle.std.specs.Prelude.{IfSome}
 use Rattle.std.proofs.lemmas.Int.{to_z-of_z}
 use mir.Val.{SFits}
 use Rattle.box_reach.specs.Lots.{IsGreatest, is_over, reaches}
-use Rattle.protection_zones.specs.Overlaps.{Pair}
-use Rattle.protection_zones.specs.Pieces.{piece_boxes}
+use Rattle.zone_stretches.specs.Overlaps.{Pair}
+use Rattle.zone_stretches.specs.Pieces.{piece_boxes}
 use Rattle.swept_boxes.specs.declared.Box3.{Box3}
 use Rattle.met_boxes.proofs.NearestLaws.{IsOne, kept_by_row, nearest_more, parts_are}
 use Rattle.met_boxes.specs.MeetingSteps.{place_of}

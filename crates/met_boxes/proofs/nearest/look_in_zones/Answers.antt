@@ -6,8 +6,8 @@ use Rattle.met_boxes.proofs.NearLaws.{passing_at}
 use Rattle.met_boxes.proofs.SeenLaws.{seen_more, seen_none, seen_all}
 use Rattle.met_boxes.specs.Ascents.{PassFirst, passes}
 use Rattle.met_boxes.specs.NearSteps.{AreNearestSoFar}
-use Rattle.protection_zones.specs.Overlaps.{Order, Pair, stretch_pairs}
-use Rattle.protection_zones.specs.Stretches.{StretchView}
+use Rattle.zone_stretches.specs.Overlaps.{Order, Pair, stretch_pairs}
+use Rattle.zone_stretches.specs.Stretches.{StretchView}
 use Rattle.met_boxes.proofs.nearest.look_in_zones.Goals as goal
 
 abbrev pairs_with : Order → ZoneLine → ZoneLine → List StretchView → StretchView → List Pair

@@ -4,7 +4,7 @@ use Rattle.met_boxes.specs.MeetingSteps.{place_of}
 use Rattle.met_boxes.specs.NearSteps.{pairs_by}
 use Rattle.met_boxes.specs.PassedOwns.{AreLookedAt}
 use Rattle.met_boxes.proofs.SeenLaws.{seen_at, seen_none, seen_all}
-use Rattle.protection_zones.specs.declared.stretches.ZoneBox.{ZoneBox}
+use Rattle.zone_stretches.specs.declared.stretches.ZoneBox.{ZoneBox}
 use Rattle.met_boxes.proofs.nearest.look_owns.Goals as goal
 
 pub loop-own-init : goal.loop-own-init

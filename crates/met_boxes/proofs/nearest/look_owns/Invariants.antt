@@ -4,7 +4,7 @@ use Rattle.met_boxes.specs.KeptBoxes.{AreKept}
 use Rattle.met_boxes.specs.MeetingSteps.{place_of}
 use Rattle.met_boxes.specs.NearSteps.{pairs_by}
 use Rattle.met_boxes.specs.PassedOwns.{AreLookedAt}
-use Rattle.protection_zones.specs.Overlaps.{Pair}
+use Rattle.zone_stretches.specs.Overlaps.{Pair}
 use Rattle.met_boxes.proofs.nearest.look_owns.Given as goal
 
 abbrev pub invariant-loop-own : goal.invariant-loop-own

@@ -1,0 +1,16 @@
+pub mod Directions
+pub mod FitLaws
+pub mod ZoneLaws
+pub mod StretchLaws
+pub mod CoverLaws
+pub mod PieceLaws
+pub mod PiecesInCovers
+pub mod NameLaws
+pub mod CostLaws
+pub mod BoxCounts
+pub mod OneOrder
+pub mod EventLaws
+pub mod HandLaws
+pub mod AscentLaws
+pub mod ToldRuns
+pub mod ShareLaws

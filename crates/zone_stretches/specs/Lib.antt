@@ -1,0 +1,12 @@
+pub mod Occurrences
+pub mod Spans
+pub mod Tenures
+pub mod ZoneBoxes
+pub mod Stretches
+pub mod Told
+pub mod Overlaps
+pub mod Rows
+pub mod Pieces
+pub mod SoundStretches
+pub mod InCovers
+pub mod ActiveParts
