@@ -8,7 +8,8 @@ use Rattle.box_tree.specs.Rows.{IsRowOf}
 use Rattle.clash_check.proofs.KeptLaws.{no_rows}
 use Rattle.clash_check.specs.FirstAnswer.{first_some}
 use Rattle.clash_check.specs.Passing.{ArePassed, IsMemory, meets_none}
-use Rattle.clash_check.specs.Meetings.{Case, Names, compared, names_where_met, place_of, touches}
+use Rattle.clash_check.specs.Meetings.{Names, compared, names_where_met, touches}
+use Rattle.zone_stretches.specs.Cases.{Case, place_of}
 use Rattle.clash_check.specs.Verdicts.{name_of}
 use Rattle.clash_check.specs.declared.nearby.Memory.{Memory}
 use Rattle.job_types.specs.Job.{JobView}

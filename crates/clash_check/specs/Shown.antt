@@ -1,6 +1,6 @@
 -- Steps. Of the stretches of a zone those with boxes, one after another.
 use Rattle.std.specs.Prelude.{◌≡◌, ℕ, ◌+◌, ◌≤◌, ◌==◌, Bool, List, drop, length, slice_index}
-use Rattle.clash_check.specs.Ascents.{leading}
+use Rattle.zone_stretches.specs.Ascents.{leading}
 use Rattle.zone_stretches.specs.Stretches.{StretchView}
 
 -- a stretch with no boxes

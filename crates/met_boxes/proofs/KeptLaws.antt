@@ -13,7 +13,8 @@ use Rattle.zone_stretches.specs.declared.stretches.ZoneBox.{ZoneBox}
 use Rattle.met_boxes.proofs.AddLaws.{flat_map_same}
 use Rattle.met_boxes.proofs.CoverLaws.{covers_meet}
 use Rattle.met_boxes.specs.Meetings.{told_pair}
-use Rattle.met_boxes.specs.MeetingSteps.{Case, place_of, may_meet, met_one, met_by, met_in_boxes, met_in_stretches, met_in_row}
+use Rattle.met_boxes.specs.MeetingSteps.{may_meet, met_one, met_by, met_in_boxes, met_in_stretches, met_in_row}
+use Rattle.zone_stretches.specs.Cases.{Case, place_of}
 use Rattle.met_boxes.specs.Rows.{RowView, pairs_in, row_pairs}
 use Rattle.swept_boxes.specs.Boxes.{boxes_meet}
 use Rattle.swept_boxes.specs.declared.Box3.{Box3}

@@ -16,7 +16,7 @@ use Rattle.met_boxes.proofs.CoverLaws.{pair_within, part_left, part_right}
 use Rattle.met_boxes.proofs.PutLaws.{from_cases, never, put_all, put_apart, put_each}
 use Rattle.met_boxes.proofs.SomeLaws.{pair_has}
 use Rattle.met_boxes.specs.Meetings.{told_place}
-use Rattle.met_boxes.specs.MeetingSteps.{place_of}
+use Rattle.zone_stretches.specs.Cases.{place_of}
 use Rattle.met_boxes.specs.Nearest.{AreNearest, IsNearest, groups_of, pair_reaches}
 use Rattle.met_boxes.specs.NearSteps.{AreNearestSoFar, is_as_near, may_be_nearer, may_count, nearer, pair_where, put_near, same_groups}
 use Rattle.met_boxes.specs.Puts.{AreApart}

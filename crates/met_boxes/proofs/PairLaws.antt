@@ -9,7 +9,6 @@ use Rattle.std.proofs.lemmas.List.Elements.{All-nil, All-cons, All-head, All-tai
 use Rattle.box_reach.proofs.LotLaws.{in_front, le_itself, le_trans}
 use Rattle.box_reach.specs.Lots.{IsGreatest, greater}
 use Rattle.job_types.specs.Job.{JobView}
-use Rattle.job_types.specs.declared.job.ZoneLine.{ZoneLine}
 use Rattle.met_boxes.proofs.AddLaws.{flat_map_append}
 use Rattle.met_boxes.proofs.CoverLaws.{part_left, part_right}
 use Rattle.met_boxes.specs.Groups.{capped}

@@ -12,7 +12,7 @@ use Rattle.job_types.specs.Job.{JobView}
 use Rattle.job_types.specs.declared.job.ZoneLine.{ZoneLine}
 use Rattle.met_boxes.proofs.NearestLaws.{as_near, kept_near, less_trans, only_row, pair_same}
 use Rattle.met_boxes.proofs.SomeLaws.{pair_has}
-use Rattle.met_boxes.specs.MeetingSteps.{place_of}
+use Rattle.zone_stretches.specs.Cases.{place_of}
 use Rattle.met_boxes.specs.Nearest.{AreNearest, IsNearest, groups_of, pair_reaches}
 use Rattle.met_boxes.specs.NearSteps.{is_as_near, pair_where, pairs_by}
 use Rattle.met_boxes.specs.PassedOwns.{ArePassed, reaches_no_further}

@@ -4,7 +4,7 @@ use Rattle.std.specs.List.{list_all, list_any}
 use Rattle.box_reach.specs.Lots.{reaches}
 use Rattle.job_types.specs.Job.{JobView}
 use Rattle.job_types.specs.declared.job.ZoneLine.{ZoneLine}
-use Rattle.met_boxes.specs.MeetingSteps.{place_of}
+use Rattle.zone_stretches.specs.Cases.{place_of}
 use Rattle.met_boxes.specs.Nearest.{AreNearest}
 use Rattle.met_boxes.specs.NearSteps.{is_as_near}
 use Rattle.met_boxes.specs.declared.nearest.Near.{Near}

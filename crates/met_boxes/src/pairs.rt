@@ -14,7 +14,6 @@ ghost use Rattle.zone_stretches.specs.ZoneBoxes.{IsFit};
 use crate::counts::count_in;
 use crate::meetings::Scene;
 use crate::nearest::{Near, nearest_in};
-use crate::overlaps::is_of;
 use crate::rows::{Time, add_zones, rest, times_of};
 use axis_sets::{ChannelId, ZoneId};
 use job_types::Job;
@@ -23,7 +22,7 @@ use out_of_memory::NoMemory;
 use std::alloc::{AllocError, Global};
 use sync_types::Run;
 use zone_pairs::{Absent, Comparison, PairKind, Presence, ZoneFacts, ZonePair};
-use zone_stretches::{Stretch, Stretches};
+use zone_stretches::{Stretch, Stretches, is_of};
 
 /// Whether a zone is on in a stretch.
 fn is_on(stretch: &Stretch) -> bool

@@ -14,3 +14,7 @@ pub mod HandLaws
 pub mod AscentLaws
 pub mod ToldRuns
 pub mod ShareLaws
+pub mod ChainLaws
+pub mod NearLaws
+pub mod TimeLaws
+pub mod WalkLaws

@@ -5,6 +5,9 @@ pub mod ZoneBoxes
 pub mod Stretches
 pub mod Told
 pub mod Overlaps
+pub mod Cases
+pub mod Times
+pub mod Ascents
 pub mod Rows
 pub mod Pieces
 pub mod SoundStretches

@@ -1,4 +1,7 @@
 //! What is told of the time of zones.
+ghost use Rattle.std.specs.Prelude.{◌≡◌};
+ghost use Rattle.zone_stretches.specs.Times.{lists_in};
+
 use std::marker::Model;
 use swept_boxes::Box3;
 use sync_types::{EventId, PlaceName};
@@ -61,4 +64,11 @@ impl Model for Stretches {
     ghost Value = { StretchesView };
 
     ghost view = { λ s. record { zones = map (λ stretches. stretches.items) s.zones.items } };
+}
+
+/// The stretches of all zones.
+pub fn lists_of(stretches: &Stretches) -> &[Vec<Stretch>]
+    ensures { lists_in result.now ≡ stretches.now.zones }
+{
+    stretches.zones.as_slice()
 }

@@ -4,7 +4,8 @@ use Rattle.clash_check.proofs.KeptLaws.{all_far, past_far}
 use Rattle.clash_check.proofs.PassedLaws.{no_names, none_met}
 use Rattle.clash_check.specs.FirstAnswer.{first_some}
 use Rattle.clash_check.specs.Passing.{meets_none}
-use Rattle.clash_check.specs.Meetings.{Case, Names, first_touched_among, names_where_met, place_of}
+use Rattle.clash_check.specs.Meetings.{Names, first_touched_among, names_where_met}
+use Rattle.zone_stretches.specs.Cases.{Case, place_of}
 use Rattle.zone_stretches.specs.Overlaps.{BoxPlace}
 use Rattle.zone_stretches.specs.Pieces.{motion_at}
 use Rattle.zone_stretches.specs.Stretches.{StretchView}

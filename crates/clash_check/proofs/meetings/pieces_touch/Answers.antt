@@ -1,9 +1,9 @@
 use Rattle.std.proofs.Common.{◌≡◌, ◌∙◌, ◌&&◌, Bool, true, List, get_or, ap, refl, sym}
 use Rattle.std.proofs.lemmas.List.{get_or_default}
 use Rattle.std.specs.List.{list_any}
-use Rattle.clash_check.specs.Meetings.{place_of}
 use Rattle.swept_boxes.specs.Boxes.{boxes_meet}
 use Rattle.swept_boxes.specs.declared.Box3.{Box3}
+use Rattle.zone_stretches.specs.Cases.{place_of}
 use Rattle.zone_stretches.specs.Pieces.{piece_boxes}
 use Rattle.zone_stretches.specs.declared.stretches.ZoneBox.{ZoneBox}
 use Rattle.clash_check.proofs.meetings.pieces_touch.Goals as goal

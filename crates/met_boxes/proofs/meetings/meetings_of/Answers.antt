@@ -8,7 +8,7 @@ use Rattle.met_boxes.proofs.KeptLaws.{rows_are}
 use Rattle.met_boxes.proofs.NearLaws.{timed_by}
 use Rattle.met_boxes.proofs.RowLaws.{compared_are, rows_timed}
 use Rattle.met_boxes.specs.Meetings.{meetings_of, told_pair}
-use Rattle.met_boxes.specs.MeetingSteps.{Case}
+use Rattle.zone_stretches.specs.Cases.{Case}
 use Rattle.met_boxes.specs.Rows.{IsRowTimed, pairs_in, rows_by_group}
 use Rattle.met_boxes.proofs.meetings.meetings_of.Goals as goal
 

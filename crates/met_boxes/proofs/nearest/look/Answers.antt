@@ -1,7 +1,7 @@
 use Rattle.std.proofs.Common.{◌≡◌, List, subst}
 use Rattle.met_boxes.specs.KeptBoxes.{IsKeptAt}
-use Rattle.met_boxes.specs.MeetingSteps.{place_of}
 use Rattle.swept_boxes.specs.declared.Box3.{Box3}
+use Rattle.zone_stretches.specs.Cases.{place_of}
 use Rattle.zone_stretches.specs.Pieces.{piece_boxes}
 use Rattle.met_boxes.proofs.nearest.look.Goals as goal
 

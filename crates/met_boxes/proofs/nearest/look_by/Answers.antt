@@ -1,7 +1,7 @@
 use Rattle.std.proofs.Common.{◌≡◌, ◌∙◌, ◌++◌, true, false, List, Option, sym, ap, subst}
 use Rattle.met_boxes.proofs.CoverLaws.{part_left}
 use Rattle.met_boxes.proofs.PassedLaws.{passed_again, passed_now, passed_stay}
-use Rattle.met_boxes.specs.MeetingSteps.{place_of}
+use Rattle.zone_stretches.specs.Cases.{place_of}
 use Rattle.met_boxes.specs.Nearest.{AreNearest}
 use Rattle.met_boxes.specs.NearSteps.{pairs_by}
 use Rattle.met_boxes.specs.PassedOwns.{reaches_no_further}

@@ -8,7 +8,7 @@ use Rattle.zone_stretches.specs.Overlaps.{Pair}
 use Rattle.zone_stretches.specs.Pieces.{piece_boxes}
 use Rattle.swept_boxes.specs.declared.Box3.{Box3}
 use Rattle.met_boxes.proofs.NearestLaws.{IsOne, kept_by_row, nearest_more, parts_are}
-use Rattle.met_boxes.specs.MeetingSteps.{place_of}
+use Rattle.zone_stretches.specs.Cases.{place_of}
 use Rattle.met_boxes.specs.Nearest.{AreNearest, groups_of, pair_reaches}
 use Rattle.met_boxes.specs.NearSteps.{is_as_near}
 use Rattle.met_boxes.specs.declared.nearest.Near.{Near}

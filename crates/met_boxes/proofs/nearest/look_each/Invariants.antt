@@ -1,8 +1,8 @@
 use Rattle.std.proofs.Common.{List, ◌++◌, take}
 use Rattle.std.specs.List.{flat_map}
 use Rattle.met_boxes.specs.KeptBoxes.{AreKept}
-use Rattle.met_boxes.specs.MeetingSteps.{place_of}
 use Rattle.met_boxes.specs.NearSteps.{AreNearestSoFar, pair_where}
+use Rattle.zone_stretches.specs.Cases.{place_of}
 use Rattle.zone_stretches.specs.Overlaps.{Pair}
 use Rattle.met_boxes.proofs.nearest.look_each.Given as goal
 

@@ -1,9 +1,9 @@
 use Rattle.std.proofs.Common.{◌≡◌, ◌∙◌, true, List, ap, subst}
 use Rattle.std.proofs.lemmas.List.Elements.{All-nil}
-use Rattle.met_boxes.specs.MeetingSteps.{place_of}
 use Rattle.met_boxes.specs.NearSteps.{AreNearestSoFar, pairs_by}
 use Rattle.met_boxes.specs.PassedOwns.{ArePassed, reaches_no_further}
 use Rattle.passed_boxes.specs.declared.passed.PassedBox.{PassedBox}
+use Rattle.zone_stretches.specs.Cases.{place_of}
 use Rattle.zone_stretches.specs.Stretches.{StretchView}
 use Rattle.zone_stretches.specs.declared.stretches.ZoneBox.{ZoneBox}
 use Rattle.std.proofs.Common.{◌++◌, sym}

@@ -1,4 +1,4 @@
-use Rattle.std.proofs.Common.{◌≡◌, ◌∙◌, ℕ, List, [], ◌++◌, All, length, min, max, sym, ap, subst}
+use Rattle.std.proofs.Common.{◌≡◌, ◌∙◌, List, [], ◌++◌, All, length, min, max, sym, ap, subst}
 use Rattle.std.proofs.lemmas.Bool.{eqb-true}
 use Rattle.job_types.specs.Job.{JobView}
 use Rattle.met_boxes.proofs.PairLaws.{none_found, one_found, some_there, two_are, two_groups}
