@@ -125,7 +125,7 @@ pub fn boxes_in_pieces(
 ) -> ArrayVec<Box3, 80>
     requires sound { IfSome (option_copied motion) IsSound }
     requires deep { depth ≤ DEPTH_LIMIT }
-    ensures { result.items ≡ boxes_in_pieces margin depth zone.now.sides cover.now (option_copied motion) }
+    ensures { result.items ≡ boxes_in_pieces margin depth zone.now.sides cover.now (option_copied motion.entry) }
 {
     match motion {
         None => one_box(*cover),
@@ -135,7 +135,7 @@ pub fn boxes_in_pieces(
 
 /// The boxes by which a box of a stretch of a zone is compared, in a run of a job: those of the pieces of its motion at the depth of
 /// the job, or where it stands the box itself. It takes no memory.
-#[tactic(auto, unfolding(crate::specs::Pieces::piece_boxes), using(crate::proofs::FitLaws::fit_motions))]
+#[tactic(auto, unfolding(crate::specs::Pieces::piece_boxes))]
 pub fn boxes_by_pieces(
     job: &Job,
     run: &Run,

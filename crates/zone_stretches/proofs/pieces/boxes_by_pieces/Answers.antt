@@ -6,4 +6,4 @@ use Rattle.zone_stretches.proofs.pieces.boxes_by_pieces.Goals as goal
 
 pub boxes_in_pieces-requires-clause-sound : goal.boxes_in_pieces-requires-clause-sound
 boxes_in_pieces-requires-clause-sound c =
-    subst (λ (motion : Option Motion). IfSome motion IsSound) (sym c.motion_at-motion.ensures) (fit_motions _ _ _ c.requires.fit)
+    subst (λ (motion : Option Motion). IfSome motion IsSound) (sym c.motion_at-motion.ensures) (fit_motions c.args.run.now _ _ c.requires.fit)
