@@ -1,5 +1,5 @@
 //! How many boxes of each two zones are compared.
-ghost use Rattle.std.specs.Prelude.{◌≡◌, ◌<◌, true, ◌++◌, IfOk, OnOk, length};
+ghost use Rattle.std.specs.Prelude.{◌≡◌, ◌<◌, ◌∷◌, true, ◌++◌, IfOk, OnOk, length};
 ghost use Rattle.std.specs.List.{flat_map};
 ghost use Rattle.clash_check.specs.NumberSteps as steps;
 ghost use Rattle.clash_check.specs.PairNumbers as model;
